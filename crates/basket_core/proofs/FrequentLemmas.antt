@@ -1,0 +1,83 @@
+-- The list of the frequent sets has exactly the nonempty sets that meet the minimum, and is the only such list in report order.
+use Rattle.std.proofs.Common.{◌≡◌, ◌≢◌, ℕ, Bool, true, false, List, [], ◌∷◌, length, map, refl, sym, ap, ◌∙◌, subst, arith}
+use Rattle.std.specs.List.{AllByRecursion, Contains, filter, flat_map}
+use Rattle.std.specs.List.Sorted.{IsStrictlySortedBy}
+use Rattle.std.proofs.lemmas.List.Elements.{All-from_recursion, recursion_from_All}
+use Rattle.std.proofs.lemmas.List.Kept.{IsStrictlySortedBy-filter}
+use Rattle.basket_core.specs.declared.weighted.Weighted.{Weighted}
+use Rattle.basket_core.specs.declared.counted.Counted.{Counted}
+use Rattle.basket_core.specs.declared.minimum.Minimum.{Minimum}
+use Rattle.basket_core.specs.Itemset.{IsRising}
+use Rattle.basket_core.specs.Order.{report_order, report_order_total}
+use Rattle.basket_core.specs.Subsets.{subsets_of}
+use Rattle.basket_core.specs.Support.{support_of, items_of}
+use Rattle.basket_core.specs.Frequent.{is_frequent, counted, frequent_of, IsNonemptySet, ListsFrequent, FrequentIsUnique}
+use Rattle.basket_core.proofs.Members.{Member, All-from_Member, at_Member, Member-filter, Member-from_filter, Member-map, Member-from_map, Member-from_Contains, Contains-from_Member, same_members}
+use Rattle.basket_core.proofs.Rising.{rising-rises}
+use Rattle.basket_core.proofs.SubsetLemmas.{subsets_sorted, subset_from_Member, Member-subsets}
+use Rattle.basket_core.proofs.SupportLemmas.{frequent_items}
+
+module _ (baskets : List Weighted) (minimum : Minimum) where
+  -- the frequent sets without their supports
+  abbrev frequent_sets : List (List ℕ)
+  frequent_sets = filter (is_frequent baskets minimum) (subsets_of (items_of baskets))
+
+  -- a nonempty set that meets the minimum, with its support
+  abbrev IsSound : Counted → Type 0
+  IsSound c = IsNonemptySet c.set × (is_frequent baskets minimum c.set ≡ true) × (c.count ≡ support_of baskets c.set)
+
+  items_rise : IsRising (items_of baskets)
+  items_rise = rising-rises (flat_map (λ place. place.basket) baskets)
+
+  frequent_sets_sorted : IsStrictlySortedBy report_order frequent_sets
+  frequent_sets_sorted = IsStrictlySortedBy-filter report_order (is_frequent baskets minimum) (subsets_of (items_of baskets)) (subsets_sorted (items_of baskets) items_rise)
+
+  from_frequent : (set : List ℕ) → Member set frequent_sets → IsNonemptySet set × (is_frequent baskets minimum set ≡ true)
+  from_frequent set m =
+      let k = Member-filter (is_frequent baskets minimum) set (subsets_of (items_of baskets)) m in
+      let s = subset_from_Member (items_of baskets) set items_rise k.0 in
+      ((s.0, s.1), k.1)
+
+  into_frequent : (set : List ℕ) → IsNonemptySet set → is_frequent baskets minimum set ≡ true → Member set frequent_sets
+  into_frequent set n h =
+      Member-from_filter (is_frequent baskets minimum) set (subsets_of (items_of baskets))
+        (Member-subsets (items_of baskets) set items_rise n.0 n.1 (frequent_items baskets minimum set h)) h
+
+  sets_of_counted : (sets : List (List ℕ)) → map (λ (c : Counted). c.set) (map (counted baskets) sets) ≡ sets
+  sets_of_counted [] = refl
+  sets_of_counted (set ∷ sets) = ap (λ rest. set ∷ rest) (sets_of_counted sets)
+
+  lists_frequent : ListsFrequent baskets minimum (frequent_of baskets minimum)
+  lists_frequent = record {
+      in_order = subst (IsStrictlySortedBy report_order) (sym (sets_of_counted frequent_sets)) frequent_sets_sorted;
+      sound = All-from_recursion _ (frequent_of baskets minimum) (All-from_Member _ (frequent_of baskets minimum) sound);
+      complete = λ set n h. Contains-from_Member (counted baskets set) (frequent_of baskets minimum) (Member-map (counted baskets) set frequent_sets (into_frequent set n h));
+    }
+    where
+      sound : (c : Counted) → Member c (map (counted baskets) frequent_sets) → IsSound c
+      sound c m =
+          let p = Member-from_map (counted baskets) c frequent_sets m in
+          let f = from_frequent p.0 p.1 in
+          subst IsSound p.2 (f.0, f.1, refl)
+
+  recounted : (list : List Counted) → AllByRecursion (λ c. c.count ≡ support_of baskets c.set) list → list ≡ map (counted baskets) (map (λ c. c.set) list)
+  recounted [] h = refl
+  recounted (c ∷ list) h = let rest = recounted list h.1 in λ i. record { set = c.set; count = h.0 i } ∷ rest i
+
+  unique : (list : List Counted) → ListsFrequent baskets minimum list → list ≡ frequent_of baskets minimum
+  unique list l = recounted list (counts list (recursion_from_All IsSound list l.sound)) ∙ ap (map (counted baskets)) same
+    where
+      counts : (cs : List Counted) → AllByRecursion IsSound cs → AllByRecursion (λ c. c.count ≡ support_of baskets c.set) cs
+      counts cs all = All-from_Member _ cs (λ c m. (at_Member IsSound c cs all m).2)
+      same : map (λ (c : Counted). c.set) list ≡ frequent_sets
+      same = same_members report_order_total (map (λ (c : Counted). c.set) list) frequent_sets l.in_order frequent_sets_sorted
+          (λ z m. let p = Member-from_map (λ (c : Counted). c.set) z list m in
+            let s = at_Member IsSound p.0 list (recursion_from_All IsSound list l.sound) p.1 in
+            subst (λ w. Member w frequent_sets) p.2 (into_frequent p.0.set s.0 s.1))
+          (λ z m. let f = from_frequent z m in
+            Member-map (λ (c : Counted). c.set) (counted baskets z) list (Member-from_Contains (counted baskets z) list (l.complete z f.0 f.1)))
+
+pub frequent_is_unique : FrequentIsUnique
+frequent_is_unique baskets minimum list = (
+    unique baskets minimum list,
+    λ e. subst (ListsFrequent baskets minimum) (sym e) (lists_frequent baskets minimum))

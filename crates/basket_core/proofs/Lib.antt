@@ -1,0 +1,5 @@
+pub mod Members
+pub mod Rising
+pub mod SubsetLemmas
+pub mod SupportLemmas
+pub mod FrequentLemmas

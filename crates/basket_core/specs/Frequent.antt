@@ -1,0 +1,46 @@
+use Rattle.std.specs.Prelude.{◌≡◌, ◌≢◌, ◌↔◌, ℕ, Bool, IsTrue, List, [], map, filter, All}
+use Rattle.std.specs.List.{Contains}
+use Rattle.basket_core.specs.declared.weighted.Weighted.{Weighted}
+use Rattle.basket_core.specs.declared.counted.Counted.{Counted}
+use Rattle.basket_core.specs.declared.minimum.Minimum.{Minimum}
+use Rattle.basket_core.specs.Itemset.{IsRising, contains}
+use Rattle.basket_core.specs.Minimum.{meets}
+use Rattle.basket_core.specs.Order.{IsInReportOrder}
+use Rattle.basket_core.specs.Subsets.{subsets_of}
+use Rattle.basket_core.specs.Support.{support_of, total_of, items_of}
+
+-- whether the set's support meets the minimum
+abbrev pub is_frequent : List Weighted → Minimum → List ℕ → Bool
+is_frequent baskets minimum set = meets minimum (support_of baskets set) (total_of baskets)
+
+-- the set with its support
+abbrev pub counted : List Weighted → List ℕ → Counted
+counted baskets set = record { set = set; count = support_of baskets set }
+
+-- the frequent sets: the sets of items that meet the minimum, each with its support, in report order
+abbrev pub frequent_of : List Weighted → Minimum → List Counted
+frequent_of baskets minimum = map (counted baskets) (filter (is_frequent baskets minimum) (subsets_of (items_of baskets)))
+
+-- each nonempty subset of a set that meets the minimum meets it
+abbrev pub SubsetsAreFrequent : Type 0
+SubsetsAreFrequent = (baskets : List Weighted) (minimum : Minimum) (set subset : List ℕ) →
+    IsTrue (contains set subset) → IsTrue (is_frequent baskets minimum set) → IsTrue (is_frequent baskets minimum subset)
+
+-- a set that meets a minimum has only items of the database
+abbrev pub FrequentSetsHaveItems : Type 0
+FrequentSetsHaveItems = (baskets : List Weighted) (minimum : Minimum) (set : List ℕ) →
+    IsTrue (is_frequent baskets minimum set) → IsTrue (contains (items_of baskets) set)
+
+-- a set that may be asked for: it has an item, and its items rise
+abbrev pub IsNonemptySet : List ℕ → Type 0
+IsNonemptySet set = IsRising set × (set ≢ [])
+
+-- the list has exactly the nonempty sets that meet the minimum, each with its support, in report order
+pub record ListsFrequent (baskets : List Weighted) (minimum : Minimum) (list : List Counted) : Type 0 where
+  pub in_order : IsInReportOrder (map (λ c. c.set) list)
+  pub sound : All (λ c. IsNonemptySet c.set × IsTrue (is_frequent baskets minimum c.set) × (c.count ≡ support_of baskets c.set)) list
+  pub complete : (set : List ℕ) → IsNonemptySet set → IsTrue (is_frequent baskets minimum set) → Contains list (counted baskets set)
+
+-- the list of the frequent sets is the only such list
+abbrev pub FrequentIsUnique : Type 0
+FrequentIsUnique = (baskets : List Weighted) (minimum : Minimum) (list : List Counted) → ListsFrequent baskets minimum list ↔ (list ≡ frequent_of baskets minimum)

@@ -1,0 +1,26 @@
+use Rattle.std.specs.Prelude.{ℕ, Bool, List, [], ◌∷◌, ◌==◌, nat_lt, if◌then◌else◌}
+use Rattle.std.specs.List.{list_any, list_all}
+use Rattle.std.specs.List.Sorted.{IsStrictlySortedBy}
+use Rattle.std.specs.Ordering.{nat_cmp}
+
+-- strictly rising: each item is below every later one
+abbrev pub IsRising : List ℕ → Type 0
+IsRising items = IsStrictlySortedBy nat_cmp items
+
+-- whether the item is in the list
+abbrev pub has : List ℕ → ℕ → Bool
+has items item = list_any (λ other. other == item) items
+
+-- whether the basket contains the set: each item of the set is in the basket
+abbrev pub contains : List ℕ → List ℕ → Bool
+contains basket set = list_all (has basket) set
+
+-- a rising list with the item at its place, once
+abbrev pub with_item : ℕ → List ℕ → List ℕ
+with_item item [] = item ∷ []
+with_item item (first ∷ others) = if nat_lt item first then item ∷ first ∷ others else (if item == first then first ∷ others else first ∷ with_item item others)
+
+-- the rising list of the numbers of a list, each once
+abbrev pub rising : List ℕ → List ℕ
+rising [] = []
+rising (number ∷ numbers) = with_item number (rising numbers)

@@ -1,0 +1,24 @@
+//! Itemsets, databases of weighted baskets, and what it means that a set is frequent.
+#![tactic(auto)]
+
+mod counted;
+mod fault;
+pub mod frequent;
+mod itemset;
+mod minimum;
+mod order;
+mod sink;
+mod source;
+pub mod subsets;
+pub mod support;
+mod weighted;
+pub mod worked;
+
+pub use counted::Counted;
+pub use fault::{Failed, MineFault};
+pub use itemset::{INLINE_ITEMS, Itemset};
+pub use minimum::{Minimum, parse_minimum, parse_share};
+pub use order::{report_order, same_sets_are_same_lists};
+pub use sink::{Sink, StdSink};
+pub use source::{Source, StdSource};
+pub use weighted::Weighted;
