@@ -3,3 +3,5 @@ pub mod Rising
 pub mod SubsetLemmas
 pub mod SupportLemmas
 pub mod FrequentLemmas
+pub mod Numbers
+pub mod MergeLemmas

@@ -2,6 +2,7 @@
 #![tactic(auto)]
 
 mod counted;
+pub mod database;
 mod fault;
 pub mod frequent;
 mod itemset;
@@ -15,6 +16,7 @@ mod weighted;
 pub mod worked;
 
 pub use counted::Counted;
+pub use database::Database;
 pub use fault::{Failed, MineFault};
 pub use itemset::{INLINE_ITEMS, Itemset};
 pub use minimum::{Minimum, parse_minimum, parse_share};

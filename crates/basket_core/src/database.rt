@@ -1,0 +1,103 @@
+ghost use Rattle.std.specs.Prelude.{◌≡◌, ◌≢◌, ◌<◌, ◌≤◌, ◌+◌, ◌↔◌, [], ◌∷◌, ◌++◌, length, IsTrue, IfOk, IfErr, OnOk, OnErr};
+ghost use Rattle.basket_core.specs.Database.{IsDatabase, weighted, MOST_BASKETS, MOST_WEIGHT, merged_of, MergingKeepsSupports};
+ghost use Rattle.basket_core.specs.Support.{support_of, total_of};
+
+use crate::itemset::Itemset;
+use crate::weighted::Weighted;
+use std::alloc::{AllocFailed, Global};
+use std::marker::Model;
+
+/// A list of nonempty baskets, each with its weight. Equal baskets may stand at several places.
+#[derive(Debug, Drop)]
+pub struct Database {
+    baskets: Vec<Weighted>,
+    total: u64,
+}
+
+impl Model for Database {
+    ghost use Rattle.std.specs.Prelude.{List, ◌≡◌};
+    ghost use Rattle.basket_core.specs.declared.weighted.Weighted.{Weighted as Place};
+    ghost use Rattle.basket_core.specs.Database.{IsDatabase};
+    ghost use Rattle.basket_core.specs.Support.{total_of};
+
+    ghost Value = { List Place };
+
+    ghost view = { λ d. d.baskets.items };
+
+    ghost invariant = { λ d. IsDatabase d.baskets.items × (d.total ≡ total_of d.baskets.items) };
+}
+
+impl Database {
+    /// How many baskets a database has at most.
+    pub const MAX_BASKETS: usize = 4_294_967_294;
+
+    /// How much the baskets of a database weigh together at most.
+    pub const MAX_WEIGHT: u64 = 1_099_511_627_775;
+
+    /// The database without a basket.
+    pub fn new(alloc: Global) -> Self
+        ensures { result ≡ [] }
+    {
+        Database {
+            baskets: Vec::new(alloc),
+            total: 0,
+        }
+    }
+
+    /// Adds a basket at the end. Where there is no memory the basket comes back.
+    pub fn push(&mut self, basket: Itemset, weight: u64) -> Result<(), Itemset>
+        requires nonempty { basket ≢ [] }
+        requires weighs { 1 ≤ weight }
+        requires few { length self.old < MOST_BASKETS }
+        requires light { total_of self.old + weight ≤ MOST_WEIGHT }
+        ensures ok { OnOk result (self.new ≡ self.old ++ weighted basket weight ∷ []) }
+        ensures err { OnErr result (self.new ≡ self.old) }
+        ensures given_back { IfErr result (λ b. b ≡ basket) }
+    {
+        let _items = basket.items();
+        match self.baskets.push(Weighted { basket, weight }) {
+            Ok(()) => {
+                self.total += weight;
+                Ok(())
+            }
+            Err(AllocFailed { value }) => {
+                let Weighted { basket, weight: _ } = value;
+                Err(basket)
+            }
+        }
+    }
+
+    /// The baskets in the order in which they were added.
+    pub fn baskets(&self) -> &[Weighted]
+        ensures baskets { result.now ≡ self.now }
+        ensures database { IsDatabase self.now }
+    {
+        &self.baskets
+    }
+
+    /// The number of baskets.
+    pub fn len(&self) -> usize
+        ensures { result ≡ length self.now }
+    {
+        self.baskets.len()
+    }
+
+    pub fn is_empty(&self) -> bool
+        ensures { IsTrue result ↔ (self.now ≡ []) }
+    {
+        self.baskets.is_empty()
+    }
+
+    /// The weight of all baskets together.
+    pub fn total(&self) -> u64
+        ensures { result ≡ total_of self.now }
+    {
+        self.total
+    }
+}
+
+/// Merging changes no support.
+pub fn merging_keeps_supports()
+    ensures { MergingKeepsSupports }
+{
+}
