@@ -5,3 +5,4 @@ pub mod SupportLemmas
 pub mod FrequentLemmas
 pub mod Numbers
 pub mod MergeLemmas
+pub mod CountLemmas

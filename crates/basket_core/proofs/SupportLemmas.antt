@@ -35,7 +35,7 @@ supports_add_up (part ∷ parts) set =
     ∙ sym (sum_by-cons (λ p. support_of p set) part parts)
 
 -- a set of some support stands in some basket, whose items are the database's
-in_items : (baskets : List Weighted) (set : List ℕ) → 1 ≤ support_of baskets set → (item : ℕ) → Member item set → Member item (flat_map (λ place. place.basket) baskets)
+pub in_items : (baskets : List Weighted) (set : List ℕ) → 1 ≤ support_of baskets set → (item : ℕ) → Member item set → Member item (flat_map (λ place. place.basket) baskets)
 in_items [] set some item m = absurd (omega arith)
 in_items (place ∷ baskets) set some item m = elim (cases_Bool (contains place.basket set)) [
     inl e ↦ Member-append_left item place.basket (flat_map (λ p. p.basket) baskets) (has_each place.basket set e item m)

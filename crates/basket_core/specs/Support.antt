@@ -15,9 +15,13 @@ support_of baskets set = sum_by (weight_at set) baskets
 abbrev pub total_of : List Weighted → ℕ
 total_of baskets = support_of baskets []
 
+-- the items of all baskets, one basket after another
+abbrev pub all_items : List Weighted → List ℕ
+all_items baskets = flat_map (λ place. place.basket) baskets
+
 -- the items of a database: the rising list of the numbers that are in some basket
 abbrev pub items_of : List Weighted → List ℕ
-items_of baskets = rising (flat_map (λ place. place.basket) baskets)
+items_of baskets = rising (all_items baskets)
 
 -- the support of a set is at most that of each of its subsets
 abbrev pub SupportFalls : Type 0

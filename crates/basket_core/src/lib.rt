@@ -2,6 +2,7 @@
 #![tactic(auto)]
 
 mod counted;
+mod counts;
 pub mod database;
 mod fault;
 pub mod frequent;
@@ -17,6 +18,7 @@ mod weighted;
 pub mod worked;
 
 pub use counted::Counted;
+pub use counts::count_items;
 pub use database::Database;
 pub use fault::{Failed, MineFault};
 pub use itemset::{INLINE_ITEMS, Itemset};

@@ -1,0 +1,76 @@
+ghost use Rattle.std.specs.Prelude.{◌≡◌, ◌<◌, ◌≤◌, ◌+◌, ◌^◌, ℕ, None, IfOk, IsTrue, if◌then◌else◌, length, unwrap_or, slice_index_or};
+ghost use Rattle.basket_core.specs.Counts.{item_supports, tally, IsTable, slot_with, AllBelow, entries_of};
+ghost use Rattle.basket_core.specs.Database.{MOST_WEIGHT};
+ghost use Rattle.basket_core.specs.Itemset.{has};
+ghost use Rattle.basket_core.specs.Support.{total_of, all_items};
+
+use crate::weighted::Weighted;
+use std::alloc::{AllocError, Global};
+
+/// The items of the baskets in rising order, each with its support.
+pub fn count_items(alloc: Global, baskets: &[Weighted]) -> Result<Vec<(u32, u64)>, AllocError>
+    requires { total_of baskets.now ≤ MOST_WEIGHT }
+    ensures { IfOk result (λ counts. counts.items ≡ item_supports baskets.now) }
+{
+    count_by_table(alloc, baskets, greatest_item(baskets))
+}
+
+/// The greatest item of any basket, or 0.
+fn greatest_item(baskets: &[Weighted]) -> u32
+    ensures { AllBelow (result + 1) (all_items baskets.now) }
+{
+    let mut greatest = 0u32;
+    for place in baskets {
+        if let Some(last) = place.basket.items().last() {
+            greatest = greatest.max(*last);
+        }
+    }
+    greatest
+}
+
+/// Counts in a table that has a slot for each number up to the greatest item.
+fn count_by_table(
+    alloc: Global,
+    baskets: &[Weighted],
+    greatest: u32,
+) -> Result<Vec<(u32, u64)>, AllocError>
+    requires light { total_of baskets.now ≤ MOST_WEIGHT }
+    requires within { AllBelow (greatest + 1) (all_items baskets.now) }
+    ensures { IfOk result (λ counts. counts.items ≡ item_supports baskets.now) }
+{
+    let mut table = vec![in alloc; None; greatest as usize + 1]?;
+    for place in baskets {
+        add_to_table(&mut table, place);
+    }
+    listed(alloc, &table)
+}
+
+/// Adds the weight of a place at each of its items.
+fn add_to_table(table: &mut [Option<u64>], place: &Weighted)
+    requires within { AllBelow (length table.old) place.now.basket }
+    requires fits { (item : ℕ) → IsTrue (has place.now.basket item)
+        → unwrap_or (slice_index_or table.old item None) 0 + place.now.weight < 2 ^ 64 }
+    ensures { (item : ℕ) → slice_index_or table.new item None
+        ≡ (if has place.now.basket item
+            then slot_with place.now.weight (slice_index_or table.old item None)
+            else slice_index_or table.old item None) }
+{
+    for item in place.basket.items() {
+        let slot = &mut table[*item as usize];
+        *slot = Some(slot.unwrap_or(0) + place.weight);
+    }
+}
+
+/// The numbers of the slots that have something.
+fn listed(alloc: Global, table: &[Option<u64>]) -> Result<Vec<(u32, u64)>, AllocError>
+    requires { length table.now ≤ 2 ^ 32 }
+    ensures { IfOk result (λ entries. entries.items ≡ entries_of table.now) }
+{
+    let mut entries = Vec::new(alloc);
+    for (item, slot) in table.iter().enumerate() {
+        if let Some(support) = slot {
+            entries.push((item as u32, *support))?;
+        }
+    }
+    Ok(entries)
+}
