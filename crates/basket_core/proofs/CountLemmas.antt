@@ -1,10 +1,10 @@
 -- Counting items in a table: its slots while the places are added, and the entries that it gives in the end.
 use Rattle.std.proofs.Common.{◌≡◌, ◌≢◌, ℕ, ◌+◌, ◌<◌, ◌≤◌, ◌^◌, Bool, true, false, ◌&&◌, ◌||◌, List, [], ◌∷◌, ◌++◌, length, take, get_or, set, map, cond, eqb, Option, Some, None, unwrap_or, refl, sym, ap, ◌∙◌, subst, inl, inr, arith, add-zero, ◌-◌, zero, suc}
-use Rattle.std.specs.List.{flat_map, slice_get}
+use Rattle.std.specs.List.{flat_map, zip}
 use Rattle.std.proofs.lemmas.List.{append-nil, length-take, take_more, get_or-set_same, get_or-set_other, get_or-take, get_or_default}
 use Rattle.std.proofs.lemmas.List.Concat.{flat_map-append}
 use Rattle.std.proofs.lemmas.List.Sums.{sum_by_more, sum_by_more_le}
-use Rattle.std.proofs.lemmas.Bool.{cases_Bool, cases_eq, cases_lt, or_cases, cond-true, cond-false, eq-eqb, ne_eqb, false_from_ne_true, false≢true}
+use Rattle.std.proofs.lemmas.Bool.{cases_Bool, cases_eq, cases_lt, cases_order, or_cases, cond-true, cond-false, eq-eqb, ne_eqb, false_from_ne_true, false≢true}
 use Rattle.std.proofs.lemmas.Map.Keys.{below_from_sorted}
 use Rattle.basket_core.specs.declared.weighted.Weighted.{Weighted}
 use Rattle.basket_core.specs.Itemset.{IsRising, has, contains, rising}
@@ -250,3 +250,64 @@ item_of_place (first ∷ baskets) zero place below is x h =
     has-append first.basket (all_items baskets) x ∙ ap (λ t. t || has (all_items baskets) x) (ap (λ (p : Weighted). has p.basket x) (sym is) ∙ h)
 item_of_place (first ∷ baskets) (suc i) place below is x h =
     has-append first.basket (all_items baskets) x ∙ ap (λ t. has first.basket x || t) (item_of_place baskets i place (omega arith) is x h) ∙ or_true (has first.basket x)
+
+-- ---- supports beside a rising list of items
+
+-- after a part of the items of a place
+abbrev pub HasFound : List ℕ → List ℕ → ℕ → List ℕ → List ℕ → Type 0
+HasFound items old weight part supports =
+    (k : ℕ) → k < length items → get_or supports k 0 ≡ get_or old k 0 + cond (has part (get_or items k 0)) weight 0
+
+-- after so many places
+abbrev pub HasSupports : List ℕ → List Weighted → List ℕ → Type 0
+HasSupports items baskets supports = (k : ℕ) → k < length items → get_or supports k 0 ≡ support_of baskets (get_or items k 0 ∷ [])
+
+-- places of a rising list with one item are one place
+same_place : (items : List ℕ) (j k : ℕ) → IsRising items → j < length items → k < length items → get_or items j 0 ≡ get_or items k 0 → j ≡ k
+same_place items j k up below here e = elim (cases_order j k) [
+    inl same ↦ same
+    | inr (inl less) ↦ absurd (let b = below_from_sorted items j k 0 up less here in omega arith)
+    | inr (inr more) ↦ absurd (let b = below_from_sorted items k j 0 up more below in omega arith) ]
+
+-- the item at place j of the basket was found at a place of the items
+pub found_more : (items basket old supports : List ℕ) (j weight found : ℕ) → IsRising items → IsRising basket → length supports ≡ length items → j < length basket
+    → found < length items → get_or items found 0 ≡ get_or basket j 0 → HasFound items old weight (take j basket) supports
+    → HasFound items old weight (take (j + 1) basket) (set supports found (get_or supports found 0 + weight))
+found_more items basket old supports j weight found up over long below here is before k within = elim (cases_eq k found) [
+    inl same ↦ subst At (sym same)
+      (get_or-set_same supports found (get_or supports found 0 + weight) 0 (omega arith)
+      ∙ ap (λ n. n + weight) (before found here ∙ ap (λ b. get_or old found 0 + cond b weight 0) (ap (has (take j basket)) is ∙ not_before basket j over below) ∙ add-zero (get_or old found 0))
+      ∙ ap (λ b. get_or old found 0 + cond b weight 0) (sym now_here))
+    | inr apart ↦ get_or-set_other supports found k (get_or supports found 0 + weight) 0 apart
+      ∙ before k within
+      ∙ ap (λ b. get_or old k 0 + cond b weight 0) (sym (other k within (λ e. apart (same_place items k found up within here (sym e ∙ sym is))))) ]
+  where
+    At : ℕ → Type 0
+    At n = get_or (set supports found (get_or supports found 0 + weight)) n 0 ≡ get_or old n 0 + cond (has (take (j + 1) basket) (get_or items n 0)) weight 0
+    now_here : has (take (j + 1) basket) (get_or items found 0) ≡ true
+    now_here = has_more basket j (get_or items found 0) below ∙ ap (λ t. has (take j basket) (get_or items found 0) || t) (eq-eqb _ _ (sym is)) ∙ or_true (has (take j basket) (get_or items found 0))
+    other : (n : ℕ) → n < length items → (get_or basket j 0 ≡ get_or items n 0 → ⊥) → has (take (j + 1) basket) (get_or items n 0) ≡ has (take j basket) (get_or items n 0)
+    other n w ne = has_more basket j (get_or items n 0) below ∙ ap (λ t. has (take j basket) (get_or items n 0) || t) (ne_eqb _ _ ne) ∙ or_nothing (has (take j basket) (get_or items n 0))
+
+-- it is at none
+pub missed_more : (items basket old supports : List ℕ) (j weight : ℕ) → j < length basket → ((k : ℕ) → k < length items → get_or items k 0 ≢ get_or basket j 0)
+    → HasFound items old weight (take j basket) supports → HasFound items old weight (take (j + 1) basket) supports
+missed_more items basket old supports j weight below none before k within =
+    before k within ∙ ap (λ b. get_or old k 0 + cond b weight 0)
+      (sym (has_more basket j (get_or items k 0) below ∙ ap (λ t. has (take j basket) (get_or items k 0) || t) (ne_eqb _ _ (λ e. none k within (sym e))) ∙ or_nothing (has (take j basket) (get_or items k 0))))
+
+pub support_more : (baskets : List Weighted) (i : ℕ) (place : Weighted) (item : ℕ) → i < length baskets → place ≡ get_or baskets i place
+    → support_of (take (i + 1) baskets) (item ∷ []) ≡ support_of (take i baskets) (item ∷ []) + cond (has place.basket item) place.weight 0
+support_more baskets i place item below is =
+    sum_by_more (weight_at (item ∷ [])) baskets i place below
+    ∙ ap (λ p. support_of (take i baskets) (item ∷ []) + weight_at (item ∷ []) p) (sym is)
+    ∙ ap (λ n. support_of (take i baskets) (item ∷ []) + n) (weight_of_item place item)
+
+pub supports_paired : (items supports : List ℕ) (f : ℕ → ℕ) → length supports ≡ length items → ((k : ℕ) → k < length items → get_or supports k 0 ≡ f (get_or items k 0))
+    → zip items supports ≡ map (λ x. (x, f x)) items
+supports_paired [] supports f long h = refl
+supports_paired (x ∷ items) [] f long h = absurd (omega arith)
+supports_paired (x ∷ items) (s ∷ supports) f long h =
+    let first = h 0 (omega arith) in
+    let rest = supports_paired items supports f (omega arith) (λ k below. h (suc k) (omega arith)) in
+    λ i. (x, first i) ∷ rest i

@@ -194,3 +194,12 @@ rising-dedup numbers sorted moved up = sym (rising_is numbers (dedup eqb sorted)
     (sorted_from_strictly_increasing (dedup eqb sorted) (IsStrictlyIncreasing-dedup sorted up))
     (λ z m. Member-from_Contains z (dedup eqb sorted) (Contains-dedup_nat sorted z (Contains-permutation numbers sorted z moved (Contains-from_Member z numbers m))))
     (λ z m. Member-from_Contains z numbers (Contains-permutation sorted numbers z (IsPermutation-sym numbers sorted moved) (Contains-from_dedup eqb sorted z (Contains-from_Member z (dedup eqb sorted) m)))))
+
+-- what a search answers: a place of the item, or that no place has it
+pub found_at : (items : List ℕ) (item found : ℕ) → IsRising items → IsBinarySearchResult (λ y. nat_cmp y item) items (Ok found) → (found < length items) × (get_or items found 0 ≡ item)
+found_at items item found up is = searched items item (Ok found) is (rises_by_places items up)
+
+pub found_nowhere : (items : List ℕ) (item place : ℕ) → IsRising items → IsBinarySearchResult (λ y. nat_cmp y item) items (Err place) → (k : ℕ) → k < length items → get_or items k 0 ≢ item
+found_nowhere items item place up is k below e =
+    let s = searched items item (Err place) is (rises_by_places items up) in
+    elim (cases_lt k place) [ inl less ↦ (let b = s.1 k less in omega arith) | inr more ↦ (let b = s.2 k more below in omega arith) ]

@@ -1,18 +1,36 @@
-ghost use Rattle.std.specs.Prelude.{◌≡◌, ◌<◌, ◌≤◌, ◌+◌, ◌^◌, ℕ, None, IfOk, IsTrue, if◌then◌else◌, length, unwrap_or, slice_index_or};
+ghost use Rattle.std.specs.Prelude.{◌≡◌, ◌<◌, ◌≤◌, ◌+◌, ◌^◌, ℕ, None, IfOk, IsTrue, if◌then◌else◌, length, unwrap_or, slice_index, slice_index_or};
+ghost use Rattle.std.specs.List.{zip};
 ghost use Rattle.basket_core.specs.Counts.{item_supports, tally, IsTable, slot_with, AllBelow, entries_of};
 ghost use Rattle.basket_core.specs.Database.{MOST_WEIGHT};
-ghost use Rattle.basket_core.specs.Itemset.{has};
-ghost use Rattle.basket_core.specs.Support.{total_of, all_items};
+ghost use Rattle.basket_core.specs.Itemset.{IsRising, has};
+ghost use Rattle.basket_core.specs.Support.{total_of, all_items, items_of};
 
 use crate::weighted::Weighted;
 use std::alloc::{AllocError, Global};
+
+/// A table of so many slots is made for any baskets, however few items they have.
+const SMALL_TABLE: usize = 65_536;
 
 /// The items of the baskets in rising order, each with its support.
 pub fn count_items(alloc: Global, baskets: &[Weighted]) -> Result<Vec<(u32, u64)>, AllocError>
     requires { total_of baskets.now ≤ MOST_WEIGHT }
     ensures { IfOk result (λ counts. counts.items ≡ item_supports baskets.now) }
 {
-    count_by_table(alloc, baskets, greatest_item(baskets))
+    let greatest = greatest_item(baskets);
+    if greatest as usize <= occurrences(baskets).max(SMALL_TABLE) {
+        count_by_table(alloc, baskets, greatest)
+    } else {
+        count_by_search(alloc, baskets)
+    }
+}
+
+/// How many items the baskets have together, or `usize::MAX` where they have more.
+fn occurrences(baskets: &[Weighted]) -> usize {
+    let mut occurrences = 0usize;
+    for place in baskets {
+        occurrences = occurrences.saturating_add(place.basket.len());
+    }
+    occurrences
 }
 
 /// The greatest item of any basket, or 0.
@@ -73,4 +91,56 @@ fn listed(alloc: Global, table: &[Option<u64>]) -> Result<Vec<(u32, u64)>, Alloc
         }
     }
     Ok(entries)
+}
+
+/// Counts beside the rising list of the items, where a table would have far more slots than items.
+fn count_by_search(alloc: Global, baskets: &[Weighted]) -> Result<Vec<(u32, u64)>, AllocError>
+    requires { total_of baskets.now ≤ MOST_WEIGHT }
+    ensures { IfOk result (λ counts. counts.items ≡ item_supports baskets.now) }
+{
+    let items = distinct_items(alloc, baskets)?;
+    let mut supports = vec![in alloc; 0; items.len()]?;
+    for place in baskets {
+        add_to_found(&items, &mut supports, place);
+    }
+    paired(alloc, &items, &supports)
+}
+
+/// The items of the baskets in rising order.
+fn distinct_items(alloc: Global, baskets: &[Weighted]) -> Result<Vec<u32>, AllocError>
+    ensures { IfOk result (λ items. items.items ≡ items_of baskets.now) }
+{
+    let mut items = Vec::new(alloc);
+    for place in baskets {
+        items.extend_from_slice(place.basket.items())?;
+    }
+    items.sort_unstable();
+    items.dedup();
+    Ok(items)
+}
+
+/// Adds the weight of a place at each of the items that it has.
+fn add_to_found(items: &[u32], supports: &mut [u64], place: &Weighted)
+    requires rising { IsRising items.now }
+    requires long { length supports.old ≡ length items.now }
+    requires fits { (k : ℕ) → k < length items.now → IsTrue (has place.now.basket (slice_index items.now k))
+        → slice_index supports.old k + place.now.weight < 2 ^ 64 }
+    ensures { (k : ℕ) → k < length items.now → slice_index supports.new k
+        ≡ slice_index supports.old k + (if has place.now.basket (slice_index items.now k) then place.now.weight else 0) }
+{
+    for item in place.basket.items() {
+        if let Ok(found) = items.binary_search(item) {
+            supports[found] += place.weight;
+        }
+    }
+}
+
+fn paired(alloc: Global, items: &[u32], supports: &[u64]) -> Result<Vec<(u32, u64)>, AllocError>
+    ensures { IfOk result (λ pairs. pairs.items ≡ zip items.now supports.now) }
+{
+    items
+        .iter()
+        .copied()
+        .zip(supports.iter().copied())
+        .collect(alloc)
 }
