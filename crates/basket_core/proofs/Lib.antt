@@ -6,3 +6,4 @@ pub mod FrequentLemmas
 pub mod Numbers
 pub mod MergeLemmas
 pub mod CountLemmas
+pub mod PlaceLemmas

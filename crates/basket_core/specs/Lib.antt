@@ -3,6 +3,7 @@ pub mod Order
 pub mod Support
 pub mod Counts
 pub mod Database
+pub mod Merge
 pub mod Subsets
 pub mod Minimum
 pub mod Frequent

@@ -8,6 +8,7 @@ mod fault;
 pub mod frequent;
 mod itemset;
 mod memory;
+mod merge;
 mod minimum;
 mod order;
 mod sink;

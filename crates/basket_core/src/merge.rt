@@ -1,0 +1,87 @@
+//! Equal baskets of a list, found by a sort.
+ghost use Rattle.std.specs.Prelude.{◌≡◌, ◌≤◌, IfOk};
+ghost use Rattle.std.specs.List.Sorted.{IsPermutation, IsSorted};
+ghost use Rattle.basket_core.specs.Database.{MOST_WEIGHT};
+ghost use Rattle.basket_core.specs.Merge.{digest_of, seen, places_from, seen_places, is_before, has_same_basket, first_weights};
+ghost use Rattle.basket_core.specs.Support.{total_of};
+
+use crate::itemset::Itemset;
+use crate::weighted::Weighted;
+use std::alloc::{AllocError, Global};
+
+/// A place of a list of baskets. Places are ordered by the basket's digest, which most often
+/// settles it, then by the basket, then by the place itself.
+#[derive(PartialEq, Eq, PartialOrd, Ord, Drop)]
+pub struct Place<'a> {
+    digest: u64,
+    basket: &'a Itemset,
+    place: usize,
+    weight: u64,
+}
+
+impl Place<'_> {
+    /// Whether both places have one basket.
+    fn same_basket(&self, other: &Self) -> bool
+        ensures { result ≡ has_same_basket (seen self.now) (seen other.now) }
+    {
+        self.digest == other.digest && self.basket == other.basket
+    }
+}
+
+/// A number that depends on the items alone, and tells most sets apart.
+fn digest(basket: &Itemset) -> u64
+    ensures { result ≡ digest_of basket.now }
+{
+    let mut digest = 0u64;
+    for item in basket.items() {
+        digest = digest
+            .wrapping_add(u64::from(*item) + 1)
+            .wrapping_mul(MULTIPLIER);
+    }
+    digest
+}
+
+const MULTIPLIER: u64 = 0x9e37_79b9_7f4a_7c15;
+
+/// The places of the baskets, equal baskets side by side in the order of their places.
+pub fn sorted_places<'a>(
+    alloc: Global,
+    baskets: &'a [Weighted],
+) -> Result<Vec<Place<'a>>, AllocError>
+    ensures permutation { IfOk result (λ places. IsPermutation (places_from 0 baskets.now) (seen_places places.items)) }
+    ensures sorted { IfOk result (λ places. IsSorted is_before (seen_places places.items)) }
+{
+    let mut places = Vec::with_capacity(alloc, baskets.len())?;
+    for (place, weighted) in baskets.iter().enumerate() {
+        places.push(Place {
+            digest: digest(&weighted.basket),
+            basket: &weighted.basket,
+            place,
+            weight: weighted.weight,
+        })?;
+    }
+    places.sort_unstable();
+    Ok(places)
+}
+
+/// At the first place of each basket the weight of all places that have it, and 0 elsewhere.
+pub fn weights_at_firsts(
+    alloc: Global,
+    baskets: &[Weighted],
+    places: &[Place<'_>],
+) -> Result<Vec<u64>, AllocError>
+    requires light { total_of baskets.now ≤ MOST_WEIGHT }
+    requires permutation { IsPermutation (places_from 0 baskets.now) (seen_places places.now) }
+    requires sorted { IsSorted is_before (seen_places places.now) }
+    ensures { IfOk result (λ weights. weights.items ≡ first_weights baskets.now) }
+{
+    let mut weights = vec![in alloc; 0; baskets.len()]?;
+    let mut first = 0;
+    for (index, place) in places.iter().enumerate() {
+        if index == 0 || !place.same_basket(&places[index - 1]) {
+            first = place.place;
+        }
+        weights[first] += place.weight;
+    }
+    Ok(weights)
+}
