@@ -9,18 +9,19 @@ use Rattle.std.specs.Cmp.Lexicographic.{pointwise, bytes_decides}
 use Rattle.std.specs.List.{sum_by, list_any}
 use Rattle.std.specs.List.Sorted.{IsPermutation, IsSorted}
 use Rattle.std.proofs.lemmas.Cmp.{then_total, on_total, ranked, by_ranked, tied_itself}
-use Rattle.std.proofs.lemmas.List.{take_more, get_or-map, get_or_default, get_or-set_same, get_or-set_other, length-map, length-take, ext_get_or, append-nil, append_assoc}
+use Rattle.std.proofs.lemmas.List.{take_more, drop_more, get_or-map, get_or_default, get_or-set_same, get_or-set_other, length-map, length-take, ext_get_or, append-nil, append_assoc}
 use Rattle.std.proofs.lemmas.List.Sums.{sum_by-cons, sum_by_push, sum_by-le-sum_by, sum_by_more_le, sum_by-take-drop}
 use Rattle.std.proofs.lemmas.List.Sorted.{ranks_by, sorted_far, Contains-permutation, IsPermutation-sym, sum_by-IsPermutation}
-use Rattle.std.proofs.lemmas.Bool.{cases_Bool, cases_lt, cases_order, cases_eq, or_cases, or_parts, and_from, eq-eqb, cond-false, false≢true, false_from_ne_true}
+use Rattle.std.proofs.lemmas.Bool.{cases_Bool, cases_lt, cases_order, cases_eq, or_cases, or_parts, and_from, and_parts, eq-eqb, cond-false, false≢true, false_from_ne_true}
 use Rattle.basket_core.specs.declared.merge.Place.{Place}
 use Rattle.basket_core.specs.declared.weighted.Weighted.{Weighted}
-use Rattle.basket_core.specs.Database.{is_of, weight_of}
-use Rattle.basket_core.specs.Merge.{digest_of, Seen, seen, seen_places, placed, places_from, is_before, has_same_basket, first_weights_after, first_weights}
+use Rattle.basket_core.specs.Database.{is_of, weight_of, weighted, merged_after, merged_of}
+use Rattle.basket_core.specs.Merge.{digest_of, Seen, seen, seen_places, placed, places_from, is_before, has_same_basket, ArePlaces, Leads, LeadsAt, first_weights_after, first_weights}
 use Rattle.basket_core.specs.Support.{weight_at, total_of}
 use Rattle.basket_core.specs.Order.{report_order, report_order_total, report_order_ties}
 use Rattle.basket_core.proofs.Members.{Member, Member-from_Contains, Contains-from_Member}
-use Rattle.basket_core.proofs.MergeLemmas.{same_basket, of_itself}
+use Rattle.basket_core.proofs.MergeLemmas.{same_basket, of_itself, merging_keeps_supports}
+use Rattle.basket_core.proofs.SupportLemmas.{support-append}
 use Rattle.basket_core.proofs.Rising.{Less-from_lt}
 
 -- ---- the places, one after another
@@ -116,12 +117,6 @@ any_from f (w ∷ baskets) (suc n) (suc p) d below within h = or_right (f w) (an
     or_right : (b : Bool) {c : Bool} → c ≡ true → (b || c) ≡ true
     or_right true e = refl
     or_right false e = e
-
--- the place has the basket, and no place before it has
-pub record Leads (baskets : List Weighted) (place : ℕ) (basket : List ℕ) : Type 0 where
-  pub within : place < length baskets
-  pub has : (d : Weighted) → (get_or baskets place d).basket ≡ basket
-  pub first : list_any (is_of basket) (take place baskets) ≡ false
 
 -- of the sorted places, one whose basket differs from the one before it leads its basket
 pub new_run_leads : (baskets : List Weighted) (places : List Seen) → IsPermutation (places_from 0 baskets) places → IsSorted is_before places
@@ -267,7 +262,7 @@ first_weight_at before (w ∷ places) (suc p) d below =
     first_weight_at (before ++ w ∷ []) places p d (omega arith)
     ∙ ap (λ l. cond (list_any (is_of (get_or places p d).basket) l) 0 (weight_of (get_or places p d).basket (drop p places))) (append_assoc before (w ∷ []) (take p places))
 
-length-first_weights : (before places : List Weighted) → length (first_weights_after before places) ≡ length places
+pub length-first_weights : (before places : List Weighted) → length (first_weights_after before places) ≡ length places
 length-first_weights before [] = refl
 length-first_weights before (w ∷ places) = ap suc (length-first_weights (before ++ w ∷ []) places)
 
@@ -291,3 +286,82 @@ first_weights_are baskets places weights moved long are =
             let cut = sum_by-take-drop (λ q. cond (is_of basket q) q.weight 0) baskets p in
             let nothing = unseen_weight basket (take p baskets) f in
             run_weight-all basket baskets places moved ∙ omega arith
+
+-- ---- for the code
+
+-- a place of the slice, as it is seen
+pub seen_at : (places : List Place) (i : ℕ) (p : Place) → i < length places → p ≡ get_or places i p → (d : Seen) → seen p ≡ get_or (seen_places places) i d
+seen_at places i p below is d = ap seen is ∙ sym (get_or-map seen places i p d below)
+
+pub leader_of : (baskets : List Weighted) (places : List Seen) (i first : ℕ) (s : Seen) → ((d : Seen) → s ≡ get_or places i d) → LeadsAt baskets places i first → Leads baskets first s.basket
+leader_of baskets places i first s is leads = subst (λ (q : Seen). Leads baskets first q.basket) (sym (is s)) (leads s)
+
+pub leads_at : (baskets : List Weighted) (places : List Seen) (i first : ℕ) (s : Seen) → ((d : Seen) → s ≡ get_or places i d) → Leads baskets first s.basket → LeadsAt baskets places i first
+leads_at baskets places i first s is leads d = subst (λ (q : Seen). Leads baskets first q.basket) (is d) leads
+
+-- the place leads its basket if it is the first, or the one before has another basket
+pub new_leader : (baskets : List Weighted) (places : List Place) (i : ℕ) (p : Place) → ArePlaces baskets (seen_places places) → i < length places → p ≡ get_or places i p
+    → (i ≡ 0) ⊎ ((0 < i) × ((q : Place) × (q ≡ get_or places (i - 1) q) × (has_same_basket (seen p) (seen q) ≡ false))) → LeadsAt baskets (seen_places places) i p.place
+new_leader baskets places i p are below is new =
+    leads_at baskets (seen_places places) i p.place (seen p) (seen_at places i p below is)
+      (new_run_leads baskets (seen_places places) are.permutation are.sorted i (seen p) (omega (arith, length-map places seen)) (seen_at places i p below is) (seen_before new))
+  where
+    seen_before : (i ≡ 0) ⊎ ((0 < i) × ((q : Place) × (q ≡ get_or places (i - 1) q) × (has_same_basket (seen p) (seen q) ≡ false)))
+        → (i ≡ 0) ⊎ ((0 < i) × ((r : Seen) × ((d : Seen) → r ≡ get_or (seen_places places) (i - 1) d) × (has_same_basket (seen p) r ≡ false)))
+    seen_before (inl e) = inl e
+    seen_before (inr n) = inr (n.0, (seen n.1.0, seen_at places (i - 1) n.1.0 (omega (arith, below)) n.1.1, n.1.2))
+
+-- the place before has the same basket, and so the same leader
+pub same_leader_at : (baskets : List Weighted) (places : List Place) (i first : ℕ) (p q : Place) → i < length places → p ≡ get_or places i p → q ≡ get_or places (i - 1) q
+    → has_same_basket (seen p) (seen q) ≡ true → LeadsAt baskets (seen_places places) (i - 1) first → LeadsAt baskets (seen_places places) i first
+same_leader_at baskets places i first p q below is before same leads =
+    let one = (bytes_decides p.basket.now q.basket.now).0 (and_parts (eqb p.digest q.digest) (pointwise nat_eq p.basket.now q.basket.now) same).1 in
+    leads_at baskets (seen_places places) i first (seen p) (seen_at places i p below is)
+      (subst (Leads baskets first) (sym one) (leader_of baskets (seen_places places) (i - 1) first (seen q) (seen_at places (i - 1) q (omega (arith, below)) before) leads))
+
+-- ---- the merged list, place by place
+
+-- the entry of the next place, if it is the first with its basket, and what comes after it
+pub merged_next : (baskets : List Weighted) (i : ℕ) (w : Weighted) (n : ℕ) (out all : List Weighted) → i < length baskets → w ≡ get_or baskets i w → n ≡ get_or (first_weights baskets) i 0 → 1 ≤ w.weight
+    → out ++ merged_after (take i baskets) (drop i baskets) ≡ all
+    → (0 < n → (out ++ weighted w.basket n ∷ []) ++ merged_after (take (i + 1) baskets) (drop (i + 1) baskets) ≡ all)
+      × (n ≡ 0 → out ++ merged_after (take (i + 1) baskets) (drop (i + 1) baskets) ≡ all)
+merged_next baskets i w n out all below is weight some so_far = at (list_any (is_of w.basket) (take i baskets)) refl
+  where
+    rest : List Weighted
+    rest = drop (i + 1) baskets
+    later : List Weighted
+    later = merged_after (take (i + 1) baskets) rest
+    cut : drop i baskets ≡ w ∷ rest
+    cut = drop_more baskets i w below ∙ ap (λ q. q ∷ rest) (sym is)
+    taken : take (i + 1) baskets ≡ take i baskets ++ w ∷ []
+    taken = take_more baskets i w below ∙ ap (λ q. take i baskets ++ q ∷ []) (sym is)
+    merged_now : merged_after (take i baskets) (drop i baskets)
+        ≡ cond (list_any (is_of w.basket) (take i baskets)) later (weighted w.basket (weight_of w.basket (drop i baskets)) ∷ later)
+    merged_now =
+        ap (merged_after (take i baskets)) cut
+        ∙ ap (λ l. cond (list_any (is_of w.basket) (take i baskets)) (merged_after l rest) (weighted w.basket (weight_of w.basket (w ∷ rest)) ∷ merged_after l rest)) (sym taken)
+        ∙ ap (λ l. cond (list_any (is_of w.basket) (take i baskets)) later (weighted w.basket (weight_of w.basket l) ∷ later)) (sym cut)
+    n_is : n ≡ cond (list_any (is_of w.basket) (take i baskets)) 0 (weight_of w.basket (drop i baskets))
+    n_is = weight ∙ first_weight_at [] baskets i w below ∙ ap (λ q. cond (list_any (is_of q.basket) (take i baskets)) 0 (weight_of q.basket (drop i baskets))) (sym is)
+    heavy : 1 ≤ weight_of w.basket (drop i baskets)
+    heavy =
+        let c = ap (weight_of w.basket) cut ∙ sum_by-cons (λ q. cond (is_of w.basket q) q.weight 0) w rest in
+        let own = ap (λ b. cond b w.weight 0) (of_itself w) in
+        omega arith
+    at : (b : Bool) → list_any (is_of w.basket) (take i baskets) ≡ b → (0 < n → (out ++ weighted w.basket n ∷ []) ++ later ≡ all) × (n ≡ 0 → out ++ later ≡ all)
+    at true e = (
+        λ more. absurd (let z = n_is ∙ ap (λ b. cond b 0 (weight_of w.basket (drop i baskets))) e in omega arith),
+        λ none. ap (λ l. out ++ l) (sym (merged_now ∙ ap (λ b. cond b later (weighted w.basket (weight_of w.basket (drop i baskets)) ∷ later)) e)) ∙ so_far)
+    at false e =
+        let z : n ≡ weight_of w.basket (drop i baskets) = n_is ∙ ap (λ b. cond b 0 (weight_of w.basket (drop i baskets))) e in (
+        λ more. append_assoc out (weighted w.basket n ∷ []) later ∙ ap (λ k. out ++ weighted w.basket k ∷ later) z
+          ∙ ap (λ l. out ++ l) (sym (merged_now ∙ ap (λ b. cond b later (weighted w.basket (weight_of w.basket (drop i baskets)) ∷ later)) e)) ∙ so_far,
+        λ none. absurd (omega (arith, heavy)))
+
+-- so far the merged list weighs no more than all baskets
+pub merged_light : (baskets out rest : List Weighted) (w : Weighted) → (out ++ w ∷ []) ++ rest ≡ merged_of baskets → total_of out + w.weight ≤ total_of baskets
+merged_light baskets out rest w is =
+    let whole = sym (merging_keeps_supports baskets []) ∙ ap total_of (sym is) ∙ support-append (out ++ w ∷ []) rest [] in
+    let front = support-append out (w ∷ []) [] in
+    omega arith

@@ -1,6 +1,7 @@
 -- Equal baskets of a list, found by a sort.
-use Rattle.std.specs.Prelude.{ℕ, ◌+◌, ◌*◌, ◌%◌, ◌^◌, Bool, ◌&&◌, ◌==◌, nat_eq, if◌then◌else◌, List, [], ◌∷◌, ◌++◌, map, fold}
+use Rattle.std.specs.Prelude.{◌≡◌, ◌<◌, false, length, take, slice_index_or, ℕ, ◌+◌, ◌*◌, ◌%◌, ◌^◌, Bool, ◌&&◌, ◌==◌, nat_eq, if◌then◌else◌, List, [], ◌∷◌, ◌++◌, map, fold}
 use Rattle.std.specs.List.{list_any}
+use Rattle.std.specs.List.Sorted.{IsPermutation, IsSorted}
 use Rattle.std.specs.Cmp.Lexicographic.{pointwise}
 use Rattle.std.specs.declared.cmp.Ordering.{Ordering}
 use Rattle.std.specs.Ordering.{nat_cmp, ordering_then}
@@ -40,6 +41,21 @@ places_from place (weighted ∷ baskets) = placed place weighted ∷ places_from
 abbrev pub is_before : Seen → Seen → Ordering
 is_before a b =
     ordering_then (nat_cmp a.digest b.digest) (ordering_then (report_order a.basket b.basket) (ordering_then (nat_cmp a.place b.place) (nat_cmp a.weight b.weight)))
+
+-- all places of the baskets, in order
+pub record ArePlaces (baskets : List Weighted) (places : List Seen) : Type 0 where
+  pub permutation : IsPermutation (places_from 0 baskets) places
+  pub sorted : IsSorted is_before places
+
+-- the place has the basket, and no place before it has
+pub record Leads (baskets : List Weighted) (place : ℕ) (basket : List ℕ) : Type 0 where
+  pub within : place < length baskets
+  pub has : (d : Weighted) → (slice_index_or baskets place d).basket ≡ basket
+  pub first : list_any (is_of basket) (take place baskets) ≡ false
+
+-- `first` is the first place with the basket of the place at the index
+abbrev pub LeadsAt : List Weighted → List Seen → ℕ → ℕ → Type 0
+LeadsAt baskets places index first = (d : Seen) → Leads baskets first (slice_index_or places index d).basket
 
 -- whether two places have one basket
 abbrev pub has_same_basket : Seen → Seen → Bool

@@ -3,8 +3,9 @@ ghost use Rattle.basket_core.specs.Database.{IsDatabase, weighted, MOST_BASKETS,
 ghost use Rattle.basket_core.specs.Support.{support_of, total_of};
 
 use crate::itemset::Itemset;
+use crate::merge::{sorted_places, weights_at_firsts};
 use crate::weighted::Weighted;
-use std::alloc::{AllocFailed, Global};
+use std::alloc::{AllocError, AllocFailed, Global};
 use std::marker::Model;
 
 /// A list of nonempty baskets, each with its weight. Equal baskets may stand at several places.
@@ -86,6 +87,24 @@ impl Database {
         ensures { IsTrue result ↔ (self.now ≡ []) }
     {
         self.baskets.is_empty()
+    }
+
+    /// Each distinct basket once, at its first place, with the sum of its weights. Baskets are
+    /// compared as often as a sort of the places asks for, whatever they are.
+    pub fn merged(&self, alloc: Global) -> Result<Database, AllocError>
+        ensures { IfOk result (λ merged. merged ≡ merged_of self.now) }
+    {
+        let baskets = self.baskets();
+        let weights = weights_at_firsts(alloc, baskets, &sorted_places(alloc, baskets)?)?;
+        let mut merged = Database::new(alloc);
+        for (place, weighted) in baskets.iter().enumerate() {
+            let weight = weights[place];
+            if weight > 0 {
+                let basket = weighted.basket.copied(alloc)?;
+                merged.push(basket, weight).map_err(|_| AllocError)?;
+            }
+        }
+        Ok(merged)
     }
 
     /// The weight of all baskets together.

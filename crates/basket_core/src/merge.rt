@@ -1,8 +1,8 @@
 //! Equal baskets of a list, found by a sort.
-ghost use Rattle.std.specs.Prelude.{◌≡◌, ◌≤◌, IfOk};
-ghost use Rattle.std.specs.List.Sorted.{IsPermutation, IsSorted};
+ghost use Rattle.std.specs.Prelude.{◌≡◌, ◌<◌, ◌≤◌, ◌-◌, List, IfOk, length};
+ghost use Rattle.basket_core.specs.declared.weighted.Weighted.{Weighted as Basket};
 ghost use Rattle.basket_core.specs.Database.{MOST_WEIGHT};
-ghost use Rattle.basket_core.specs.Merge.{digest_of, seen, places_from, seen_places, is_before, has_same_basket, first_weights};
+ghost use Rattle.basket_core.specs.Merge.{digest_of, seen, seen_places, ArePlaces, LeadsAt, has_same_basket, first_weights};
 ghost use Rattle.basket_core.specs.Support.{total_of};
 
 use crate::itemset::Itemset;
@@ -48,8 +48,7 @@ pub fn sorted_places<'a>(
     alloc: Global,
     baskets: &'a [Weighted],
 ) -> Result<Vec<Place<'a>>, AllocError>
-    ensures permutation { IfOk result (λ places. IsPermutation (places_from 0 baskets.now) (seen_places places.items)) }
-    ensures sorted { IfOk result (λ places. IsSorted is_before (seen_places places.items)) }
+    ensures { IfOk result (λ places. ArePlaces baskets.now (seen_places places.items)) }
 {
     let mut places = Vec::with_capacity(alloc, baskets.len())?;
     for (place, weighted) in baskets.iter().enumerate() {
@@ -64,6 +63,24 @@ pub fn sorted_places<'a>(
     Ok(places)
 }
 
+/// The first place with the basket of the place at the index, where `first` is that of the place
+/// before it.
+fn leader(places: &[Place<'_>], index: usize, first: usize) -> usize
+    requires { index < length places.now }
+    ensures { (baskets : List Basket) → ArePlaces baskets (seen_places places.now)
+        → (0 < index → LeadsAt baskets (seen_places places.now) (index - 1) first)
+        → LeadsAt baskets (seen_places places.now) index result }
+{
+    let place = &places[index];
+    if index == 0 {
+        return place.place;
+    }
+    if place.same_basket(&places[index - 1]) {
+        return first;
+    }
+    place.place
+}
+
 /// At the first place of each basket the weight of all places that have it, and 0 elsewhere.
 pub fn weights_at_firsts(
     alloc: Global,
@@ -71,16 +88,13 @@ pub fn weights_at_firsts(
     places: &[Place<'_>],
 ) -> Result<Vec<u64>, AllocError>
     requires light { total_of baskets.now ≤ MOST_WEIGHT }
-    requires permutation { IsPermutation (places_from 0 baskets.now) (seen_places places.now) }
-    requires sorted { IsSorted is_before (seen_places places.now) }
+    requires places { ArePlaces baskets.now (seen_places places.now) }
     ensures { IfOk result (λ weights. weights.items ≡ first_weights baskets.now) }
 {
     let mut weights = vec![in alloc; 0; baskets.len()]?;
     let mut first = 0;
     for (index, place) in places.iter().enumerate() {
-        if index == 0 || !place.same_basket(&places[index - 1]) {
-            first = place.place;
-        }
+        first = leader(places, index, first);
         weights[first] += place.weight;
     }
     Ok(weights)

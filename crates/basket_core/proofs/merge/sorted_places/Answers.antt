@@ -17,10 +17,10 @@ loop-place-preserved c =
     ∙ ap (λ e. places_from 0 (take i c.args.baskets.now) ++ e ∷ []) (digested ∙ ap (placed i) c.index-baskets-place.is)
     ∙ sym (places_more c.args.baskets.now i w c.loop-place-test.true)
 
-pub returns-clause-permutation : goal.returns-clause-permutation
-returns-clause-permutation c =
+pub returns : goal.returns
+returns c =
     let whole = c.loop-place.invariant ∙ ap (places_from 0) (take_all c.loop-place.place c.args.baskets.now c.loop-place-test.false) in
-    subst (λ l. IsPermutation l (seen_places c.sort_unstable.new.self.items)) whole (IsPermutation-map seen _ _ c.sort_unstable.ensures.permutation)
-
-pub returns-clause-sorted : goal.returns-clause-sorted
-returns-clause-sorted c = sorted_images _ is_before seen (λ a b. refl) c.sort_unstable.new.self.items c.sort_unstable.ensures.sorted
+    record {
+      permutation = subst (λ l. IsPermutation l (seen_places c.sort_unstable.new.self.items)) whole (IsPermutation-map seen _ _ c.sort_unstable.ensures.permutation);
+      sorted = sorted_images _ is_before seen (λ a b. refl) c.sort_unstable.new.self.items c.sort_unstable.ensures.sorted;
+    }
