@@ -62,14 +62,16 @@ last_is_greatest items up x h =
     let c = Contains-from_Member x items (Member-from_has items x h) in
     let at : get_or items c.0 0 ≡ x = get_or_default items c.0 0 x c.1 ∙ c.2 in
     elim (cases_lt c.0 (length items - 1)) [
-      inl less ↦ (let b = below_from_sorted items c.0 (length items - 1) 0 up less (omega (arith, c.1)) in omega arith)
-      | inr same ↦ (let e : c.0 ≡ length items - 1 = omega (arith, c.1) in let f = ap (λ k. get_or items k 0) e in omega arith) ]
+      | inl less ↦ (let b = below_from_sorted items c.0 (length items - 1) 0 up less (omega (arith, c.1)) in omega arith)
+      | inr same ↦ (let e : c.0 ≡ length items - 1 = omega (arith, c.1) in let f = ap (λ k. get_or items k 0) e in omega arith)
+    ]
 
 -- one more basket, whose greatest item is `last`, or which has none
 pub below_more : (a b : List ℕ) (before greatest : ℕ) → AllBelow (before + 1) a → ((x : ℕ) → has b x ≡ true → x ≤ greatest) → before ≤ greatest → AllBelow (greatest + 1) (a ++ b)
 below_more a b before greatest old new more x h = elim (or_cases (has a x) (has b x) (sym (has-append a b x) ∙ h)) [
-    inl e ↦ (let k = old x e in omega arith)
-    | inr e ↦ (let k = new x e in omega arith) ]
+  | inl e ↦ (let k = old x e in omega arith)
+  | inr e ↦ (let k = new x e in omega arith)
+]
 
 -- ---- a place is added to the table
 
@@ -86,14 +88,15 @@ pub added_more : (items : List ℕ) (old table : List (Option ℕ)) (i weight su
     → sum ≡ unwrap_or (get_or table (get_or items i 0) None) 0 → HasAdded old weight (take i items) table
     → HasAdded old weight (take (i + 1) items) (set table (get_or items i 0) (Some (sum + weight)))
 added_more items old table i weight sum up below within is added number = elim (cases_eq (get_or items i 0) number) [
-    inl same ↦ subst At same
+  | inl same ↦ subst At same
       (get_or-set_same table (get_or items i 0) (Some (sum + weight)) None within
       ∙ ap (λ n. Some (n + weight)) (is ∙ ap (λ s. unwrap_or s 0) (slot_before items old table i weight up below added))
       ∙ sym (cond-true _ _ _ (has_more items i (get_or items i 0) below ∙ ap (λ t. has (take i items) (get_or items i 0) || t) (eq-eqb _ _ refl) ∙ or_true (has (take i items) (get_or items i 0)))))
-    | inr apart ↦ get_or-set_other table (get_or items i 0) number (Some (sum + weight)) None (λ e. apart (sym e))
+  | inr apart ↦ get_or-set_other table (get_or items i 0) number (Some (sum + weight)) None (λ e. apart (sym e))
       ∙ added number
       ∙ ap (λ t. cond t (slot_with weight (get_or old number None)) (get_or old number None))
-        (sym (has_more items i number below ∙ ap (λ t. has (take i items) number || t) (ne_eqb _ _ apart) ∙ or_nothing (has (take i items) number))) ]
+      (sym (has_more items i number below ∙ ap (λ t. has (take i items) number || t) (ne_eqb _ _ apart) ∙ or_nothing (has (take i items) number)))
+]
   where
     At : ℕ → Type 0
     At n = get_or (set table (get_or items i 0) (Some (sum + weight))) n None ≡ cond (has (take (i + 1) items) n) (slot_with weight (get_or old n None)) (get_or old n None)
@@ -102,8 +105,9 @@ added_more items old table i weight sum up below within is added number = elim (
 
 pub support_absent : (baskets : List Weighted) (item : ℕ) → has (all_items baskets) item ≡ false → support_of baskets (item ∷ []) ≡ 0
 support_absent baskets item h = elim (cases_lt 0 (support_of baskets (item ∷ []))) [
-    inl some ↦ absurd (false≢true (sym h ∙ has-from_Member (all_items baskets) item (in_items baskets (item ∷ []) some item (inl refl))))
-    | inr none ↦ omega arith ]
+  | inl some ↦ absurd (false≢true (sym h ∙ has-from_Member (all_items baskets) item (in_items baskets (item ∷ []) some item (inl refl))))
+  | inr none ↦ omega arith
+]
 
 pub tally_at_most : (baskets : List Weighted) (item : ℕ) → unwrap_or (tally baskets item) 0 ≤ support_of baskets (item ∷ [])
 tally_at_most baskets item = at (has (all_items baskets) item)
@@ -138,20 +142,24 @@ table_more baskets i place old table below is long added before item within =
     items_now =
         ap (λ l. has l item) (all_items_more baskets i place below) ∙ has-append (all_items (take i baskets)) (get_or baskets i place).basket item
         ∙ ap (λ p. has (all_items (take i baskets)) item || has p.basket item) (sym is)
+
     support_now : support_of (take (i + 1) baskets) (item ∷ []) ≡ support_of (take i baskets) (item ∷ []) + cond (has place.basket item) place.weight 0
     support_now =
         sum_by_more (weight_at (item ∷ [])) baskets i place below
         ∙ ap (λ p. support_of (take i baskets) (item ∷ []) + weight_at (item ∷ []) p) (sym is)
         ∙ ap (λ n. support_of (take i baskets) (item ∷ []) + n) (weight_of_item place item)
+
     now : (g h : Bool) (n : ℕ) → has (all_items (take (i + 1) baskets)) item ≡ (g || h) → support_of (take (i + 1) baskets) (item ∷ []) ≡ n → tally (take (i + 1) baskets) item ≡ cond (g || h) (Some n) None
     now g h n e f = ap (λ t. cond t (Some (support_of (take (i + 1) baskets) (item ∷ []))) None) e ∙ ap (λ m. cond (g || h) (Some m) None) f
+
     at : (h g : Bool) → has place.basket item ≡ h → has (all_items (take i baskets)) item ≡ g
         → cond h (slot_with place.weight (cond g (Some (support_of (take i baskets) (item ∷ []))) None)) (cond g (Some (support_of (take i baskets) (item ∷ []))) None)
-          ≡ tally (take (i + 1) baskets) item
+        ≡ tally (take (i + 1) baskets) item
     at h g e f = cases h g e f ∙ sym (now g h _ (items_now ∙ ap (λ t. t || has place.basket item) f ∙ ap (λ t. g || t) e) support_now)
       where
         s : ℕ
         s = support_of (take i baskets) (item ∷ [])
+
         cases : (h g : Bool) → has place.basket item ≡ h → has (all_items (take i baskets)) item ≡ g
             → cond h (slot_with place.weight (cond g (Some s) None)) (cond g (Some s) None) ≡ cond (g || h) (Some (s + cond (has place.basket item) place.weight 0)) None
         cases true true e f = ap (λ t. Some (s + cond t place.weight 0)) (sym e)
@@ -226,21 +234,24 @@ table_entries baskets table is within =
         at : (b : Bool) → cond b (Some (support_of baskets (j ∷ []))) None ≡ Some s → s ≡ support_of baskets ((0 + j) ∷ [])
         at true q = let r : support_of baskets (j ∷ []) ≡ s = cc in sym r ∙ ap (λ n. support_of baskets (n ∷ [])) (omega arith)
         at false q = cc
+
     some_item : (x : ℕ) → x < length table → get_or table x None ≢ None → Member x (all_items baskets)
     some_item x below some = at (has (all_items baskets) x) refl
       where
         at : (b : Bool) → has (all_items baskets) x ≡ b → Member x (all_items baskets)
         at true h = Member-from_has (all_items baskets) x h
         at false h = absurd (some (is x below ∙ ap (λ b. cond b (Some (support_of baskets (x ∷ []))) None) h))
+
     item_some : (x : ℕ) → Member x (all_items baskets) → get_or table x None ≢ None
     item_some x m nothing =
         let h = has-from_Member (all_items baskets) x m in
         let e : Some (support_of baskets (x ∷ [])) ≡ None = sym (is x (within x h) ∙ ap (λ b. cond b (Some (support_of baskets (x ∷ []))) None) h) ∙ nothing in cc
+
     numbers : numbers_from 0 table ≡ items_of baskets
     numbers = same_rising (numbers_from 0 table) (items_of baskets) (numbers_rise 0 table) (rising-rises (all_items baskets))
-      (λ z m. let r = number_is 0 table z m in let e : r.0 ≡ z = omega (arith, r.2) in
+        (λ z m. let r = number_is 0 table z m in let e : r.0 ≡ z = omega (arith, r.2) in
         Member-into_rising (all_items baskets) z (subst (λ n. Member n (all_items baskets)) e (some_item r.0 r.1 r.3)))
-      (λ z m. let n = Member-rising (all_items baskets) z m in
+        (λ z m. let n = Member-rising (all_items baskets) z m in
         subst (λ k. Member k (numbers_from 0 table)) (omega arith) (is_number 0 table z (within z (has-from_Member (all_items baskets) z n)) (item_some z n)))
 
 -- an item of a basket is among all items
@@ -265,27 +276,31 @@ HasSupports items baskets supports = (k : ℕ) → k < length items → get_or s
 -- places of a rising list with one item are one place
 same_place : (items : List ℕ) (j k : ℕ) → IsRising items → j < length items → k < length items → get_or items j 0 ≡ get_or items k 0 → j ≡ k
 same_place items j k up below here e = elim (cases_order j k) [
-    inl same ↦ same
-    | inr (inl less) ↦ absurd (let b = below_from_sorted items j k 0 up less here in omega arith)
-    | inr (inr more) ↦ absurd (let b = below_from_sorted items k j 0 up more below in omega arith) ]
+  | inl same ↦ same
+  | inr (inl less) ↦ absurd (let b = below_from_sorted items j k 0 up less here in omega arith)
+  | inr (inr more) ↦ absurd (let b = below_from_sorted items k j 0 up more below in omega arith)
+]
 
 -- the item at place j of the basket was found at a place of the items
 pub found_more : (items basket old supports : List ℕ) (j weight found : ℕ) → IsRising items → IsRising basket → length supports ≡ length items → j < length basket
     → found < length items → get_or items found 0 ≡ get_or basket j 0 → HasFound items old weight (take j basket) supports
     → HasFound items old weight (take (j + 1) basket) (set supports found (get_or supports found 0 + weight))
 found_more items basket old supports j weight found up over long below here is before k within = elim (cases_eq k found) [
-    inl same ↦ subst At (sym same)
+  | inl same ↦ subst At (sym same)
       (get_or-set_same supports found (get_or supports found 0 + weight) 0 (omega arith)
       ∙ ap (λ n. n + weight) (before found here ∙ ap (λ b. get_or old found 0 + cond b weight 0) (ap (has (take j basket)) is ∙ not_before basket j over below) ∙ add-zero (get_or old found 0))
       ∙ ap (λ b. get_or old found 0 + cond b weight 0) (sym now_here))
-    | inr apart ↦ get_or-set_other supports found k (get_or supports found 0 + weight) 0 apart
+  | inr apart ↦ get_or-set_other supports found k (get_or supports found 0 + weight) 0 apart
       ∙ before k within
-      ∙ ap (λ b. get_or old k 0 + cond b weight 0) (sym (other k within (λ e. apart (same_place items k found up within here (sym e ∙ sym is))))) ]
+      ∙ ap (λ b. get_or old k 0 + cond b weight 0) (sym (other k within (λ e. apart (same_place items k found up within here (sym e ∙ sym is)))))
+]
   where
     At : ℕ → Type 0
     At n = get_or (set supports found (get_or supports found 0 + weight)) n 0 ≡ get_or old n 0 + cond (has (take (j + 1) basket) (get_or items n 0)) weight 0
+
     now_here : has (take (j + 1) basket) (get_or items found 0) ≡ true
     now_here = has_more basket j (get_or items found 0) below ∙ ap (λ t. has (take j basket) (get_or items found 0) || t) (eq-eqb _ _ (sym is)) ∙ or_true (has (take j basket) (get_or items found 0))
+
     other : (n : ℕ) → n < length items → (get_or basket j 0 ≡ get_or items n 0 → ⊥) → has (take (j + 1) basket) (get_or items n 0) ≡ has (take j basket) (get_or items n 0)
     other n w ne = has_more basket j (get_or items n 0) below ∙ ap (λ t. has (take j basket) (get_or items n 0) || t) (ne_eqb _ _ ne) ∙ or_nothing (has (take j basket) (get_or items n 0))
 
@@ -294,7 +309,7 @@ pub missed_more : (items basket old supports : List ℕ) (j weight : ℕ) → j 
     → HasFound items old weight (take j basket) supports → HasFound items old weight (take (j + 1) basket) supports
 missed_more items basket old supports j weight below none before k within =
     before k within ∙ ap (λ b. get_or old k 0 + cond b weight 0)
-      (sym (has_more basket j (get_or items k 0) below ∙ ap (λ t. has (take j basket) (get_or items k 0) || t) (ne_eqb _ _ (λ e. none k within (sym e))) ∙ or_nothing (has (take j basket) (get_or items k 0))))
+    (sym (has_more basket j (get_or items k 0) below ∙ ap (λ t. has (take j basket) (get_or items k 0) || t) (ne_eqb _ _ (λ e. none k within (sym e))) ∙ or_nothing (has (take j basket) (get_or items k 0))))
 
 pub support_more : (baskets : List Weighted) (i : ℕ) (place : Weighted) (item : ℕ) → i < length baskets → place ≡ get_or baskets i place
     → support_of (take (i + 1) baskets) (item ∷ []) ≡ support_of (take i baskets) (item ∷ []) + cond (has place.basket item) place.weight 0

@@ -41,7 +41,7 @@ module _ (baskets : List Weighted) (minimum : Minimum) where
   into_frequent : (set : List ℕ) → IsNonemptySet set → is_frequent baskets minimum set ≡ true → Member set frequent_sets
   into_frequent set n h =
       Member-from_filter (is_frequent baskets minimum) set (subsets_of (items_of baskets))
-        (Member-subsets (items_of baskets) set items_rise n.0 n.1 (frequent_items baskets minimum set h)) h
+      (Member-subsets (items_of baskets) set items_rise n.0 n.1 (frequent_items baskets minimum set h)) h
 
   sets_of_counted : (sets : List (List ℕ)) → map (λ (c : Counted). c.set) (map (counted baskets) sets) ≡ sets
   sets_of_counted [] = refl
@@ -49,10 +49,10 @@ module _ (baskets : List Weighted) (minimum : Minimum) where
 
   lists_frequent : ListsFrequent baskets minimum (frequent_of baskets minimum)
   lists_frequent = record {
-      in_order = subst (IsStrictlySortedBy report_order) (sym (sets_of_counted frequent_sets)) frequent_sets_sorted;
-      sound = All-from_recursion _ (frequent_of baskets minimum) (All-from_Member _ (frequent_of baskets minimum) sound);
-      complete = λ set n h. Contains-from_Member (counted baskets set) (frequent_of baskets minimum) (Member-map (counted baskets) set frequent_sets (into_frequent set n h));
-    }
+    in_order = subst (IsStrictlySortedBy report_order) (sym (sets_of_counted frequent_sets)) frequent_sets_sorted;
+    sound = All-from_recursion _ (frequent_of baskets minimum) (All-from_Member _ (frequent_of baskets minimum) sound);
+    complete = λ set n h. Contains-from_Member (counted baskets set) (frequent_of baskets minimum) (Member-map (counted baskets) set frequent_sets (into_frequent set n h));
+  }
     where
       sound : (c : Counted) → Member c (map (counted baskets) frequent_sets) → IsSound c
       sound c m =
@@ -69,15 +69,17 @@ module _ (baskets : List Weighted) (minimum : Minimum) where
     where
       counts : (cs : List Counted) → AllByRecursion IsSound cs → AllByRecursion (λ c. c.count ≡ support_of baskets c.set) cs
       counts cs all = All-from_Member _ cs (λ c m. (at_Member IsSound c cs all m).2)
+
       same : map (λ (c : Counted). c.set) list ≡ frequent_sets
       same = same_members report_order_total (map (λ (c : Counted). c.set) list) frequent_sets l.in_order frequent_sets_sorted
           (λ z m. let p = Member-from_map (λ (c : Counted). c.set) z list m in
-            let s = at_Member IsSound p.0 list (recursion_from_All IsSound list l.sound) p.1 in
-            subst (λ w. Member w frequent_sets) p.2 (into_frequent p.0.set s.0 s.1))
+          let s = at_Member IsSound p.0 list (recursion_from_All IsSound list l.sound) p.1 in
+          subst (λ w. Member w frequent_sets) p.2 (into_frequent p.0.set s.0 s.1))
           (λ z m. let f = from_frequent z m in
-            Member-map (λ (c : Counted). c.set) (counted baskets z) list (Member-from_Contains (counted baskets z) list (l.complete z f.0 f.1)))
+          Member-map (λ (c : Counted). c.set) (counted baskets z) list (Member-from_Contains (counted baskets z) list (l.complete z f.0 f.1)))
 
 pub frequent_is_unique : FrequentIsUnique
 frequent_is_unique baskets minimum list = (
-    unique baskets minimum list,
-    λ e. subst (ListsFrequent baskets minimum) (sym e) (lists_frequent baskets minimum))
+  unique baskets minimum list,
+  λ e. subst (ListsFrequent baskets minimum) (sym e) (lists_frequent baskets minimum),
+)

@@ -101,14 +101,15 @@ module _ {K : Type 0} {R : K → K → Ordering} (o : IsTotalOrder R) where
   same_members (x ∷ xs) (y ∷ ys) s t into back =
       let same : x ≡ y = heads (into x (inl refl)) (back y (inl refl)) in
       let rest = same_members xs ys (rest_is_sorted x xs s) (rest_is_sorted y ys t)
-        (λ z m. later z y ys (sym same) (first_is_less x z xs s m) (into z (inr m)))
-        (λ z m. later z x xs same (first_is_less y z ys t m) (back z (inr m))) in
+      (λ z m. later z y ys (sym same) (first_is_less x z xs s m) (into z (inr m)))
+      (λ z m. later z x xs same (first_is_less y z ys t m) (back z (inr m))) in
       cc
     where
       heads : Member x (y ∷ ys) → Member y (x ∷ xs) → x ≡ y
       heads (inl e) q = sym e
       heads (inr m) (inl e) = e
       heads (inr m) (inr n) = absurd (not_both_less y x (first_is_less y x ys t m) (first_is_less x y xs s n))
+
       later : (z a : K) (bs : List K) → {b : K} → a ≡ b → R b z ≡ Less → Member z (a ∷ bs) → Member z bs
       later z a bs e less (inl is) = absurd (not_both_less z z (subst (λ w. R w z ≡ Less) (sym e ∙ is) less) (subst (λ w. R w z ≡ Less) (sym e ∙ is) less))
       later z a bs e less (inr m) = m
@@ -119,26 +120,29 @@ module _ {K : Type 0} where
       → ((x y : K) → Member x xs → Member y ys → R x y ≡ Less) → IsStrictlySortedBy R (xs ++ ys)
   unfolding IsStrictlySortedBy
   sorted_append R [] ys s t across = t
-  sorted_append R (x ∷ xs) ys s t across =
-      (All-from_Member (λ z. R x z ≡ Less) (xs ++ ys)
+  sorted_append R (x ∷ xs) ys s t across = (
+    All-from_Member (λ z. R x z ≡ Less) (xs ++ ys)
         (λ z m. elim (Member-append z xs ys m) [ inl n ↦ at_Member (λ w. R x w ≡ Less) z xs s.0 n | inr n ↦ across x z (inl refl) n ]),
-      sorted_append R xs ys s.1 t (λ a b m n. across a b (inr m) n))
+    sorted_append R xs ys s.1 t (λ a b m n. across a b (inr m) n),
+  )
 
   -- a list sorted by one order is sorted by another that agrees on its members
   pub sorted_along : (R S : K → K → Ordering) (xs : List K) → ((x y : K) → Member x xs → Member y xs → R x y ≡ Less → S x y ≡ Less)
       → IsStrictlySortedBy R xs → IsStrictlySortedBy S xs
   unfolding IsStrictlySortedBy
   sorted_along R S [] agree s = tt
-  sorted_along R S (x ∷ xs) agree s =
-      (All-from_Member (λ z. S x z ≡ Less) xs (λ z m. agree x z (inl refl) (inr m) (at_Member (λ w. R x w ≡ Less) z xs s.0 m)),
-      sorted_along R S xs (λ a b m n. agree a b (inr m) (inr n)) s.1)
+  sorted_along R S (x ∷ xs) agree s = (
+    All-from_Member (λ z. S x z ≡ Less) xs (λ z m. agree x z (inl refl) (inr m) (at_Member (λ w. R x w ≡ Less) z xs s.0 m)),
+    sorted_along R S xs (λ a b m n. agree a b (inr m) (inr n)) s.1,
+  )
 
 -- a list of images is sorted where the order of the images is that of the elements
 pub sorted_map : {K J : Type 0} (R : K → K → Ordering) (S : J → J → Ordering) (f : K → J) (xs : List K)
     → ((x y : K) → R x y ≡ Less → S (f x) (f y) ≡ Less) → IsStrictlySortedBy R xs → IsStrictlySortedBy S (map f xs)
 unfolding IsStrictlySortedBy
 sorted_map R S f [] agree s = tt
-sorted_map R S f (x ∷ xs) agree s =
-    (All-from_Member (λ z. S (f x) z ≡ Less) (map f xs)
+sorted_map R S f (x ∷ xs) agree s = (
+  All-from_Member (λ z. S (f x) z ≡ Less) (map f xs)
       (λ z m. let p = Member-from_map f z xs m in subst (λ w. S (f x) w ≡ Less) p.2 (agree x p.0 (at_Member (λ w. R x w ≡ Less) p.0 xs s.0 p.1))),
-    sorted_map R S f xs agree s.1)
+  sorted_map R S f xs agree s.1,
+)

@@ -104,8 +104,8 @@ module _ (set : List ℕ) where
   kept_at : (before : List Weighted) (place : Weighted) (places : List Weighted) (b : Bool) → seen before place ≡ b
       → support_of (merged_after (before ++ place ∷ []) places) set ≡ sum_by (added (before ++ place ∷ [])) places
       → support_of (cond b (merged_after (before ++ place ∷ []) places)
-          (weighted place.basket (weight_of place.basket (place ∷ places)) ∷ merged_after (before ++ place ∷ []) places)) set
-        ≡ cond b 0 (weight_at set place) + sum_by (added before) places
+      (weighted place.basket (weight_of place.basket (place ∷ places)) ∷ merged_after (before ++ place ∷ []) places)) set
+      ≡ cond b 0 (weight_at set place) + sum_by (added before) places
   kept_at before place places true old later =
       later ∙ sum_by-same (added (before ++ place ∷ [])) (added before) places (step_seen before place old) ∙ sym (zero-add (sum_by (added before) places))
   kept_at before place places false new later =

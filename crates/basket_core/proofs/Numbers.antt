@@ -13,8 +13,8 @@ grows value (byte ∷ digits) = let rest = grows (value * 10 + (byte - 48)) digi
 front_value : (text : List ℕ) (n : ℕ) → value_of (take n text) ≤ value_of text
 front_value text n =
     subst (λ l. value_of (take n text) ≤ value_of l) (take-append-drop n text)
-      (subst (λ v. value_of (take n text) ≤ v) (sym (fold-append (λ v byte. v * 10 + (byte - 48)) 0 (take n text) (drop n text)))
-        (grows (value_of (take n text)) (drop n text)))
+    (subst (λ v. value_of (take n text) ≤ v) (sym (fold-append (λ v byte. v * 10 + (byte - 48)) 0 (take n text) (drop n text)))
+    (grows (value_of (take n text)) (drop n text)))
 
 -- the value so far with one more digit
 value_more : (text : List ℕ) (i : ℕ) → i < length text → value_of (take (i + 1) text) ≡ value_of (take i text) * 10 + (get_or text i 0 - 48)

@@ -55,8 +55,8 @@ sorted_images R S f same (x ∷ xs) up k d low high =
 is_before_total : IsTotalOrder is_before
 is_before_total =
     then_total (on_total (λ (s : Seen). s.digest) nat_cmp_total)
-      (then_total (on_total (λ (s : Seen). s.basket) report_order_total)
-        (then_total (on_total (λ (s : Seen). s.place) nat_cmp_total) (on_total (λ (s : Seen). s.weight) nat_cmp_total)))
+    (then_total (on_total (λ (s : Seen). s.basket) report_order_total)
+    (then_total (on_total (λ (s : Seen). s.place) nat_cmp_total) (on_total (λ (s : Seen). s.weight) nat_cmp_total)))
 
 -- of places in sorted order, the earlier is not after the later
 not_after : (places : List Seen) → IsSorted is_before places → (i j : ℕ) (d : Seen) → i ≤ j → j < length places → is_lt (is_before (get_or places j d) (get_or places i d)) ≡ false
@@ -80,14 +80,16 @@ placed_is n (w ∷ baskets) (suc j) d below =
 between : (a x e : Seen) → a.digest ≡ e.digest → a.basket ≡ e.basket → is_lt (is_before x a) ≡ false → is_lt (is_before e x) ≡ false → has_same_basket e x ≡ true
 between a x e digests baskets xa ex =
     by_ranked _ _ _ (nat_cmp x.digest a.digest) (ranked x.digest a.digest _ refl)
-      (λ less _. absurd (false≢true (sym xa ∙ ap (λ o. is_lt (ordering_then o (after x a))) less)))
-      (λ same here. at (report_order x.basket a.basket) refl same here)
-      (λ _ above. absurd (false≢true (sym ex ∙ ap (λ o. is_lt (ordering_then o (after e x))) (Less-from_lt e.digest x.digest (omega arith)))))
+    (λ less _. absurd (false≢true (sym xa ∙ ap (λ o. is_lt (ordering_then o (after x a))) less)))
+    (λ same here. at (report_order x.basket a.basket) refl same here)
+    (λ _ above. absurd (false≢true (sym ex ∙ ap (λ o. is_lt (ordering_then o (after e x))) (Less-from_lt e.digest x.digest (omega arith)))))
   where
     after : Seen → Seen → Ordering
     after p q = ordering_then (report_order p.basket q.basket) (ordering_then (nat_cmp p.place q.place) (nat_cmp p.weight q.weight))
+
     later : Seen → Seen → Ordering
     later p q = ordering_then (nat_cmp p.place q.place) (nat_cmp p.weight q.weight)
+
     at : (r : Ordering) → report_order x.basket a.basket ≡ r → nat_cmp x.digest a.digest ≡ Equal → x.digest ≡ a.digest → has_same_basket e x ≡ true
     at Less r same here = absurd (false≢true (sym xa ∙ ap (λ o. is_lt (ordering_then o (after x a))) same ∙ ap (λ o. is_lt (ordering_then o (later x a))) r))
     at Greater r same here =
@@ -105,8 +107,9 @@ any_at f [] zero h = absurd (false≢true h)
 any_at f [] (suc n) h = absurd (false≢true h)
 any_at f (w ∷ baskets) zero h = absurd (false≢true h)
 any_at f (w ∷ baskets) (suc n) h = elim (or_cases (f w) (list_any f (take n baskets)) h) [
-    inl e ↦ (0, omega arith, omega arith, λ d. e)
-    | inr e ↦ (let r = any_at f baskets n e in (suc r.0, omega (arith, r.1), omega (arith, r.2), r.3)) ]
+  | inl e ↦ (0, omega arith, omega arith, λ d. e)
+  | inr e ↦ (let r = any_at f baskets n e in (suc r.0, omega (arith, r.1), omega (arith, r.2), r.3))
+]
 
 any_from : (f : Weighted → Bool) (baskets : List Weighted) (n p : ℕ) (d : Weighted) → p < n → p < length baskets → f (get_or baskets p d) ≡ true → list_any f (take n baskets) ≡ true
 any_from f [] n p d below within h = absurd (omega arith)
@@ -127,43 +130,53 @@ new_run_leads baskets places moved up i s below is new =
   where
     at : (j : ℕ) × (j < length baskets) × ((d : Weighted) → s ≡ placed (0 + j) (get_or baskets j d))
     at = is_placed 0 baskets s (Member-from_Contains s (places_from 0 baskets)
-      (Contains-permutation places (places_from 0 baskets) s (IsPermutation-sym (places_from 0 baskets) places moved) (i, below, sym (is s))))
+        (Contains-permutation places (places_from 0 baskets) s (IsPermutation-sym (places_from 0 baskets) places moved) (i, below, sym (is s))))
+
     none : Weighted
     none = record { basket = []; weight = 0 }
+
     number : s.place ≡ at.0
     number = ap (λ q. q.place) (at.2 none) ∙ omega arith
+
     earlier : list_any (is_of s.basket) (take s.place baskets) ≡ true → ⊥
     earlier h = elim (cases_order k.0 i) [
-        inl same ↦ absurd (let e : s.place ≡ 0 + p.0 = ap (λ q. q.place) (is t ∙ ap (λ n. get_or places n t) (sym same) ∙ k.2) in omega (arith, p.1))
-        | inr (inl before) ↦ between_case before new
-        | inr (inr after) ↦ absurd (false≢true (sym (not_after places up i k.0 t (omega arith) k.1)
-            ∙ ap (λ q. is_lt (is_before q (get_or places i t))) k.2 ∙ ap (λ q. is_lt (is_before t q)) (sym (is t)) ∙ ap is_lt t_before_s)) ]
+      | inl same ↦ absurd (let e : s.place ≡ 0 + p.0 = ap (λ q. q.place) (is t ∙ ap (λ n. get_or places n t) (sym same) ∙ k.2) in omega (arith, p.1))
+      | inr (inl before) ↦ between_case before new
+      | inr (inr after) ↦ absurd (false≢true (sym (not_after places up i k.0 t (omega arith) k.1)
+          ∙ ap (λ q. is_lt (is_before q (get_or places i t))) k.2 ∙ ap (λ q. is_lt (is_before t q)) (sym (is t)) ∙ ap is_lt t_before_s))
+    ]
       where
         p : (p : ℕ) × (p < s.place) × (p < length baskets) × ((d : Weighted) → is_of s.basket (get_or baskets p d) ≡ true)
         p = any_at (is_of s.basket) baskets s.place h
+
         t : Seen
         t = placed (0 + p.0) (get_or baskets p.0 none)
+
         alike : t.basket ≡ s.basket
         alike = same_basket s.basket (get_or baskets p.0 none) (p.3 none)
+
         digests : t.digest ≡ s.digest
         digests = ap digest_of (alike ∙ ap (λ q. q.basket) (at.2 none)) ∙ sym (ap (λ q. q.digest) (at.2 none))
+
         k : (k : ℕ) × (k < length places) × (get_or places k t ≡ t)
         k = Contains-permutation (places_from 0 baskets) places t moved (Contains-from_Member t (places_from 0 baskets) (placed_is 0 baskets p.0 none p.2))
+
         t_before_s : is_before t s ≡ Less
         t_before_s =
             ap (λ o. ordering_then o (ordering_then (report_order t.basket s.basket) (ordering_then (nat_cmp t.place s.place) (nat_cmp t.weight s.weight))))
-              (ap (λ n. nat_cmp n s.digest) digests ∙ tied_itself nat_cmp_total s.digest)
+            (ap (λ n. nat_cmp n s.digest) digests ∙ tied_itself nat_cmp_total s.digest)
             ∙ ap (λ o. ordering_then o (ordering_then (nat_cmp t.place s.place) (nat_cmp t.weight s.weight)))
-              (ap (λ l. report_order l s.basket) alike ∙ tied_itself report_order_total s.basket)
+            (ap (λ l. report_order l s.basket) alike ∙ tied_itself report_order_total s.basket)
             ∙ ap (λ o. ordering_then o (nat_cmp t.weight s.weight)) (Less-from_lt t.place s.place (let b = p.1 in omega arith))
+
         between_case : k.0 < i → (i ≡ 0) ⊎ ((0 < i) × ((r : Seen) × ((d : Seen) → r ≡ get_or places (i - 1) d) × (has_same_basket s r ≡ false))) → ⊥
         between_case before (inl zero_i) = omega arith
         between_case before (inr n) =
             let r = n.1.0 in
             let one : is_lt (is_before r t) ≡ false =
-              ap (λ q. is_lt (is_before q t)) (n.1.1 t) ∙ ap (λ q. is_lt (is_before (get_or places (i - 1) t) q)) (sym k.2) ∙ not_after places up k.0 (i - 1) t (omega (arith, n.0)) (omega (arith, n.0)) in
+            ap (λ q. is_lt (is_before q t)) (n.1.1 t) ∙ ap (λ q. is_lt (is_before (get_or places (i - 1) t) q)) (sym k.2) ∙ not_after places up k.0 (i - 1) t (omega (arith, n.0)) (omega (arith, n.0)) in
             let two : is_lt (is_before s r) ≡ false =
-              ap (λ q. is_lt (is_before q r)) (is t) ∙ ap (λ q. is_lt (is_before (get_or places i t) q)) (n.1.1 t) ∙ not_after places up (i - 1) i t (omega (arith, n.0)) below in
+            ap (λ q. is_lt (is_before q r)) (is t) ∙ ap (λ q. is_lt (is_before (get_or places i t) q)) (n.1.1 t) ∙ not_after places up (i - 1) i t (omega (arith, n.0)) below in
             false≢true (sym n.1.2 ∙ between t r s digests alike one two)
 
 -- ---- the weights at the first places
@@ -183,29 +196,33 @@ run_weight-push basket places s = sum_by_push (λ q. cond (pointwise nat_eq q.ba
 -- two places that lead one basket are one place
 same_leader : (baskets : List Weighted) (p q : ℕ) (basket : List ℕ) → Leads baskets p basket → Leads baskets q basket → p ≡ q
 same_leader baskets p q basket l m = elim (cases_order p q) [
-    inl same ↦ same
-    | inr (inl less) ↦ absurd (false≢true (sym m.first ∙ any_from (is_of basket) baskets q p none less l.within (is l)))
-    | inr (inr more) ↦ absurd (false≢true (sym l.first ∙ any_from (is_of basket) baskets p q none more m.within (is m))) ]
+  | inl same ↦ same
+  | inr (inl less) ↦ absurd (false≢true (sym m.first ∙ any_from (is_of basket) baskets q p none less l.within (is l)))
+  | inr (inr more) ↦ absurd (false≢true (sym l.first ∙ any_from (is_of basket) baskets p q none more m.within (is m)))
+]
   where
     none : Weighted
     none = record { basket = []; weight = 0 }
+
     is : {k : ℕ} → Leads baskets k basket → is_of basket (get_or baskets k none) ≡ true
     is {k} n = (bytes_decides (get_or baskets k none).basket basket).1 (n.has none)
 
 pub weights_more : (baskets : List Weighted) (places : List Seen) (weights : List ℕ) (first : ℕ) (s : Seen) → length weights ≡ length baskets → Leads baskets first s.basket
     → AreWeights baskets places weights → AreWeights baskets (places ++ s ∷ []) (set weights first (get_or weights first 0 + s.weight))
 weights_more baskets places weights first s long leads before p within d = elim (cases_eq p first) [
-    inl same ↦ subst At (sym same)
+  | inl same ↦ subst At (sym same)
       (get_or-set_same weights first (get_or weights first 0 + s.weight) 0 (let w = leads.within in omega arith)
       ∙ ap (λ n. n + s.weight) (before first leads.within d ∙ ap (λ l. cond (list_any (is_of l) (take first baskets)) 0 (run_weight l places)) (leads.has d) ∙ cond-false _ 0 (run_weight s.basket places) leads.first)
       ∙ sym (cond-false _ 0 (run_weight s.basket (places ++ s ∷ [])) leads.first
-        ∙ run_weight-push s.basket places s ∙ ap (λ b. run_weight s.basket places + cond b s.weight 0) ((bytes_decides s.basket s.basket).1 refl))
+      ∙ run_weight-push s.basket places s ∙ ap (λ b. run_weight s.basket places + cond b s.weight 0) ((bytes_decides s.basket s.basket).1 refl))
       ∙ ap (λ l. cond (list_any (is_of l) (take first baskets)) 0 (run_weight l (places ++ s ∷ []))) (sym (leads.has d)))
-    | inr apart ↦ get_or-set_other weights first p (get_or weights first 0 + s.weight) 0 apart ∙ before p within d
-      ∙ other apart (list_any (is_of (get_or baskets p d).basket) (take p baskets)) refl (pointwise nat_eq s.basket (get_or baskets p d).basket) refl ]
+  | inr apart ↦ get_or-set_other weights first p (get_or weights first 0 + s.weight) 0 apart ∙ before p within d
+      ∙ other apart (list_any (is_of (get_or baskets p d).basket) (take p baskets)) refl (pointwise nat_eq s.basket (get_or baskets p d).basket) refl
+]
   where
     At : ℕ → Type 0
     At q = get_or (set weights first (get_or weights first 0 + s.weight)) q 0 ≡ cond (list_any (is_of (get_or baskets q d).basket) (take q baskets)) 0 (run_weight (get_or baskets q d).basket (places ++ s ∷ []))
+
     other : (p ≢ first) → (b : Bool) → list_any (is_of (get_or baskets p d).basket) (take p baskets) ≡ b → (k : Bool) → pointwise nat_eq s.basket (get_or baskets p d).basket ≡ k
         → cond b 0 (run_weight (get_or baskets p d).basket places) ≡ cond b 0 (run_weight (get_or baskets p d).basket (places ++ s ∷ []))
     other apart true e k f = refl
@@ -213,7 +230,7 @@ weights_more baskets places weights first s long leads before p within d = elim 
     other apart false e true f =
         let basket = (bytes_decides s.basket (get_or baskets p d).basket).0 f in
         absurd (apart (same_leader baskets p first s.basket
-          (record { within = within; has = λ d2. ap (λ w. w.basket) (get_or_default baskets p d2 d within) ∙ sym basket; first = ap (λ l. list_any (is_of l) (take p baskets)) basket ∙ e }) leads))
+        (record { within = within; has = λ d2. ap (λ w. w.basket) (get_or_default baskets p d2 d within) ∙ sym basket; first = ap (λ l. list_any (is_of l) (take p baskets)) basket ∙ e }) leads))
 
 run_weight-places : (basket : List ℕ) (n : ℕ) (baskets : List Weighted) → run_weight basket (places_from n baskets) ≡ weight_of basket baskets
 run_weight-places basket n [] = refl
@@ -238,10 +255,10 @@ pub weight_fits : (baskets : List Weighted) (places : List Seen) (weights : List
 weight_fits baskets places weights i first s moved below is leads before =
     let none : Weighted = record { basket = []; weight = 0 } in
     let here : get_or weights first 0 ≡ run_weight s.basket (take i places) =
-      before first leads.within none ∙ ap (λ l. cond (list_any (is_of l) (take first baskets)) 0 (run_weight l (take i places))) (leads.has none) ∙ cond-false _ 0 (run_weight s.basket (take i places)) leads.first in
+    before first leads.within none ∙ ap (λ l. cond (list_any (is_of l) (take first baskets)) 0 (run_weight l (take i places))) (leads.has none) ∙ cond-false _ 0 (run_weight s.basket (take i places)) leads.first in
     let more = sum_by_more_le (λ q. cond (pointwise nat_eq q.basket s.basket) q.weight 0) places i s below in
     let its : cond (pointwise nat_eq (get_or places i s).basket s.basket) (get_or places i s).weight 0 ≡ s.weight =
-      ap (λ q. cond (pointwise nat_eq q.basket s.basket) q.weight 0) (sym (is s)) ∙ ap (λ b. cond b s.weight 0) ((bytes_decides s.basket s.basket).1 refl) in
+    ap (λ q. cond (pointwise nat_eq q.basket s.basket) q.weight 0) (sym (is s)) ∙ ap (λ b. cond b s.weight 0) ((bytes_decides s.basket s.basket).1 refl) in
     let all = run_weight-all s.basket baskets places moved in
     let le = weight_of-le-total s.basket baskets in
     omega arith
@@ -273,6 +290,7 @@ first_weights_are baskets places weights moved long are =
   where
     none : Weighted
     none = record { basket = []; weight = 0 }
+
     at : (p : ℕ) → p < length baskets → (b : Bool) → list_any (is_of (get_or baskets p none).basket) (take p baskets) ≡ b → get_or weights p 0 ≡ get_or (first_weights baskets) p 0
     at p within b e =
         are p within none ∙ ap (λ t. cond t 0 (run_weight (get_or baskets p none).basket places)) e ∙ both b e
@@ -304,7 +322,7 @@ pub new_leader : (baskets : List Weighted) (places : List Place) (i : ℕ) (p : 
     → (i ≡ 0) ⊎ ((0 < i) × ((q : Place) × (q ≡ get_or places (i - 1) q) × (has_same_basket (seen p) (seen q) ≡ false))) → LeadsAt baskets (seen_places places) i p.place
 new_leader baskets places i p are below is new =
     leads_at baskets (seen_places places) i p.place (seen p) (seen_at places i p below is)
-      (new_run_leads baskets (seen_places places) are.permutation are.sorted i (seen p) (omega (arith, length-map places seen)) (seen_at places i p below is) (seen_before new))
+    (new_run_leads baskets (seen_places places) are.permutation are.sorted i (seen p) (omega (arith, length-map places seen)) (seen_at places i p below is) (seen_before new))
   where
     seen_before : (i ≡ 0) ⊎ ((0 < i) × ((q : Place) × (q ≡ get_or places (i - 1) q) × (has_same_basket (seen p) (seen q) ≡ false)))
         → (i ≡ 0) ⊎ ((0 < i) × ((r : Seen) × ((d : Seen) → r ≡ get_or (seen_places places) (i - 1) d) × (has_same_basket (seen p) r ≡ false)))
@@ -317,7 +335,7 @@ pub same_leader_at : (baskets : List Weighted) (places : List Place) (i first : 
 same_leader_at baskets places i first p q below is before same leads =
     let one = (bytes_decides p.basket.now q.basket.now).0 (and_parts (eqb p.digest q.digest) (pointwise nat_eq p.basket.now q.basket.now) same).1 in
     leads_at baskets (seen_places places) i first (seen p) (seen_at places i p below is)
-      (subst (Leads baskets first) (sym one) (leader_of baskets (seen_places places) (i - 1) first (seen q) (seen_at places (i - 1) q (omega (arith, below)) before) leads))
+    (subst (Leads baskets first) (sym one) (leader_of baskets (seen_places places) (i - 1) first (seen q) (seen_at places (i - 1) q (omega (arith, below)) before) leads))
 
 -- ---- the merged list, place by place
 
@@ -325,39 +343,48 @@ same_leader_at baskets places i first p q below is before same leads =
 pub merged_next : (baskets : List Weighted) (i : ℕ) (w : Weighted) (n : ℕ) (out all : List Weighted) → i < length baskets → w ≡ get_or baskets i w → n ≡ get_or (first_weights baskets) i 0 → 1 ≤ w.weight
     → out ++ merged_after (take i baskets) (drop i baskets) ≡ all
     → (0 < n → (out ++ weighted w.basket n ∷ []) ++ merged_after (take (i + 1) baskets) (drop (i + 1) baskets) ≡ all)
-      × (n ≡ 0 → out ++ merged_after (take (i + 1) baskets) (drop (i + 1) baskets) ≡ all)
+    × (n ≡ 0 → out ++ merged_after (take (i + 1) baskets) (drop (i + 1) baskets) ≡ all)
 merged_next baskets i w n out all below is weight some so_far = at (list_any (is_of w.basket) (take i baskets)) refl
   where
     rest : List Weighted
     rest = drop (i + 1) baskets
+
     later : List Weighted
     later = merged_after (take (i + 1) baskets) rest
+
     cut : drop i baskets ≡ w ∷ rest
     cut = drop_more baskets i w below ∙ ap (λ q. q ∷ rest) (sym is)
+
     taken : take (i + 1) baskets ≡ take i baskets ++ w ∷ []
     taken = take_more baskets i w below ∙ ap (λ q. take i baskets ++ q ∷ []) (sym is)
+
     merged_now : merged_after (take i baskets) (drop i baskets)
         ≡ cond (list_any (is_of w.basket) (take i baskets)) later (weighted w.basket (weight_of w.basket (drop i baskets)) ∷ later)
     merged_now =
         ap (merged_after (take i baskets)) cut
         ∙ ap (λ l. cond (list_any (is_of w.basket) (take i baskets)) (merged_after l rest) (weighted w.basket (weight_of w.basket (w ∷ rest)) ∷ merged_after l rest)) (sym taken)
         ∙ ap (λ l. cond (list_any (is_of w.basket) (take i baskets)) later (weighted w.basket (weight_of w.basket l) ∷ later)) (sym cut)
+
     n_is : n ≡ cond (list_any (is_of w.basket) (take i baskets)) 0 (weight_of w.basket (drop i baskets))
     n_is = weight ∙ first_weight_at [] baskets i w below ∙ ap (λ q. cond (list_any (is_of q.basket) (take i baskets)) 0 (weight_of q.basket (drop i baskets))) (sym is)
+
     heavy : 1 ≤ weight_of w.basket (drop i baskets)
     heavy =
         let c = ap (weight_of w.basket) cut ∙ sum_by-cons (λ q. cond (is_of w.basket q) q.weight 0) w rest in
         let own = ap (λ b. cond b w.weight 0) (of_itself w) in
         omega arith
+
     at : (b : Bool) → list_any (is_of w.basket) (take i baskets) ≡ b → (0 < n → (out ++ weighted w.basket n ∷ []) ++ later ≡ all) × (n ≡ 0 → out ++ later ≡ all)
     at true e = (
-        λ more. absurd (let z = n_is ∙ ap (λ b. cond b 0 (weight_of w.basket (drop i baskets))) e in omega arith),
-        λ none. ap (λ l. out ++ l) (sym (merged_now ∙ ap (λ b. cond b later (weighted w.basket (weight_of w.basket (drop i baskets)) ∷ later)) e)) ∙ so_far)
+      λ more. absurd (let z = n_is ∙ ap (λ b. cond b 0 (weight_of w.basket (drop i baskets))) e in omega arith),
+      λ none. ap (λ l. out ++ l) (sym (merged_now ∙ ap (λ b. cond b later (weighted w.basket (weight_of w.basket (drop i baskets)) ∷ later)) e)) ∙ so_far,
+    )
     at false e =
         let z : n ≡ weight_of w.basket (drop i baskets) = n_is ∙ ap (λ b. cond b 0 (weight_of w.basket (drop i baskets))) e in (
-        λ more. append_assoc out (weighted w.basket n ∷ []) later ∙ ap (λ k. out ++ weighted w.basket k ∷ later) z
-          ∙ ap (λ l. out ++ l) (sym (merged_now ∙ ap (λ b. cond b later (weighted w.basket (weight_of w.basket (drop i baskets)) ∷ later)) e)) ∙ so_far,
-        λ none. absurd (omega (arith, heavy)))
+          λ more. append_assoc out (weighted w.basket n ∷ []) later ∙ ap (λ k. out ++ weighted w.basket k ∷ later) z
+              ∙ ap (λ l. out ++ l) (sym (merged_now ∙ ap (λ b. cond b later (weighted w.basket (weight_of w.basket (drop i baskets)) ∷ later)) e)) ∙ so_far,
+          λ none. absurd (omega (arith, heavy)),
+        )
 
 -- so far the merged list weighs no more than all baskets
 pub merged_light : (baskets out rest : List Weighted) (w : Weighted) → (out ++ w ∷ []) ++ rest ≡ merged_of baskets → total_of out + w.weight ≤ total_of baskets

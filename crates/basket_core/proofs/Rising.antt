@@ -35,8 +35,9 @@ pub has-from_Member : (items : List ℕ) (item : ℕ) → Member item items → 
 has-from_Member [] item m = absurd m
 has-from_Member (x ∷ xs) item (inl e) = ap (λ b. b || has xs item) (eq-eqb x item e)
 has-from_Member (x ∷ xs) item (inr m) = elim (cases_Bool (eqb x item)) [
-    inl e ↦ ap (λ b. b || has xs item) e
-    | inr e ↦ ap (λ b. b || has xs item) e ∙ has-from_Member xs item m ]
+  | inl e ↦ ap (λ b. b || has xs item) e
+  | inr e ↦ ap (λ b. b || has xs item) e ∙ has-from_Member xs item m
+]
 
 -- ---- contains
 
@@ -118,8 +119,9 @@ rises_at a x xs rest false false less is up later from = cons_rises x rest below
   where
     below : (y : ℕ) → Member y rest → x < y
     below y m = elim (from y m) [
-        inl e ↦ let le = ltb-false a x less in let ne = eqb-false a x is in omega arith
-        | inr n ↦ first_below x xs up y n ]
+      | inl e ↦ let le = ltb-false a x less in let ne = eqb-false a x is in omega arith
+      | inr n ↦ first_below x xs up y n
+    ]
 
 pub with_item-rises : (a : ℕ) (xs : List ℕ) → IsRising xs → IsRising (with_item a xs)
 with_item-rises a [] up = cons_rises a [] (λ y m. absurd m) up
@@ -152,10 +154,11 @@ pub length-le-contains : (set items : List ℕ) → IsRising set → IsRising it
 length-le-contains [] items up over into = omega arith
 length-le-contains (x ∷ set) [] up over into = absurd (into x (inl refl))
 length-le-contains (x ∷ set) (y ∷ items) up over into = elim (into x (inl refl)) [
-    inl same ↦ let n = length-le-contains set items (rest_rises x set up) (rest_rises y items over)
-        (λ z m. elim (into z (inr m)) [ inl e ↦ absurd (let b = first_below x set up z m in omega arith) | inr k ↦ k ]) in omega arith
-    | inr later ↦ let n = length-le-contains (x ∷ set) items up (rest_rises y items over)
-        (λ z m. elim (into z m) [ inl e ↦ absurd (let b = first_below y items over x later in let c = heads z m in omega arith) | inr k ↦ k ]) in omega arith ]
+  | inl same ↦ let n = length-le-contains set items (rest_rises x set up) (rest_rises y items over)
+      (λ z m. elim (into z (inr m)) [ inl e ↦ absurd (let b = first_below x set up z m in omega arith) | inr k ↦ k ]) in omega arith
+  | inr later ↦ let n = length-le-contains (x ∷ set) items up (rest_rises y items over)
+      (λ z m. elim (into z m) [ inl e ↦ absurd (let b = first_below y items over x later in let c = heads z m in omega arith) | inr k ↦ k ]) in omega arith
+]
   where
     heads : (z : ℕ) → Member z (x ∷ set) → x ≤ z
     heads z (inl e) = omega arith
@@ -171,8 +174,9 @@ search_is_has items item (Ok i) up found =
     let s = searched items item (Ok i) found (rises_by_places items up) in
     sym (has-from_Member items item (Member-from_Contains item items (i, s.0, ap (λ d. d) (get_or_default items i item 0 s.0 ∙ s.1))))
 search_is_has items item (Err i) up found = elim (cases_Bool (has items item)) [
-    inl e ↦ absurd (missing (Contains-from_Member item items (Member-from_has items item e)))
-    | inr e ↦ sym e ]
+  | inl e ↦ absurd (missing (Contains-from_Member item items (Member-from_has items item e)))
+  | inr e ↦ sym e
+]
   where
     missing : Contains items item → ⊥
     missing c =
@@ -185,8 +189,9 @@ search_is_has items item (Err i) up found = elim (cases_Bool (has items item)) [
 pub rising_test : (numbers : List ℕ) (r : Bool) → IsAllAdjacentAnswer (λ x y b. b ≡ ltb x y) numbers r → (r ≡ true → IsRising numbers) × (IsRising numbers → r ≡ true)
 rising_test numbers true h = (λ e. sorted_from_strictly_increasing numbers (λ k below. ltb-true _ _ (sym (h k 0 below))), λ up. refl)
 rising_test numbers false h = (
-    λ e. absurd (true≢false (sym e)),
-    λ up. absurd (let b = below_from_sorted numbers h.0 (h.0 + 1) 0 up (omega arith) h.1 in let f = ltb-false _ _ (sym (h.2 0)) in omega arith))
+  λ e. absurd (true≢false (sym e)),
+  λ up. absurd (let b = below_from_sorted numbers h.0 (h.0 + 1) 0 up (omega arith) h.1 in let f = ltb-false _ _ (sym (h.2 0)) in omega arith),
+)
 
 -- a sorted permutation with no repeats is the rising list of the numbers
 pub rising-dedup : (numbers sorted : List ℕ) → IsPermutation numbers sorted → IsSorted nat_cmp sorted → dedup eqb sorted ≡ rising numbers

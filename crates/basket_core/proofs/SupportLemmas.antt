@@ -15,9 +15,10 @@ use Rattle.basket_core.proofs.Rising.{has_each, contains_each, contains-trans, M
 
 weight_at-contains : (place : Weighted) (set subset : List ℕ) → contains set subset ≡ true → weight_at set place ≤ weight_at subset place
 weight_at-contains place set subset h = elim (cases_Bool (contains place.basket set)) [
-    inl e ↦ let k = contains-trans place.basket set subset e h in let P = λ (b : Bool). cond (contains place.basket set) place.weight 0 ≤ cond b place.weight 0 in
+  | inl e ↦ let k = contains-trans place.basket set subset e h in let P = λ (b : Bool). cond (contains place.basket set) place.weight 0 ≤ cond b place.weight 0 in
       subst P (sym k) (subst (λ b. cond b place.weight 0 ≤ place.weight) (sym e) (omega arith))
-    | inr e ↦ subst (λ b. cond b place.weight 0 ≤ weight_at subset place) (sym e) (omega arith) ]
+  | inr e ↦ subst (λ b. cond b place.weight 0 ≤ weight_at subset place) (sym e) (omega arith)
+]
 
 pub support_falls : SupportFalls
 support_falls baskets set subset h = sum_by-le-sum_by (weight_at set) (weight_at subset) baskets (λ place. weight_at-contains place set subset h)
@@ -38,9 +39,10 @@ supports_add_up (part ∷ parts) set =
 pub in_items : (baskets : List Weighted) (set : List ℕ) → 1 ≤ support_of baskets set → (item : ℕ) → Member item set → Member item (flat_map (λ place. place.basket) baskets)
 in_items [] set some item m = absurd (omega arith)
 in_items (place ∷ baskets) set some item m = elim (cases_Bool (contains place.basket set)) [
-    inl e ↦ Member-append_left item place.basket (flat_map (λ p. p.basket) baskets) (has_each place.basket set e item m)
-    | inr e ↦ Member-append_right item place.basket (flat_map (λ p. p.basket) baskets)
-      (in_items baskets set (let z = cond-false (contains place.basket set) place.weight 0 e in let c = support-cons place baskets set in omega arith) item m) ]
+  | inl e ↦ Member-append_left item place.basket (flat_map (λ p. p.basket) baskets) (has_each place.basket set e item m)
+  | inr e ↦ Member-append_right item place.basket (flat_map (λ p. p.basket) baskets)
+      (in_items baskets set (let z = cond-false (contains place.basket set) place.weight 0 e in let c = support-cons place baskets set in omega arith) item m)
+]
 
 -- ---- minimums
 
@@ -68,7 +70,7 @@ at_least_one (Share n d) support total h = leb-true 1 support (and_parts (leb 1 
 pub frequent_items : (baskets : List Weighted) (minimum : Minimum) (set : List ℕ) → is_frequent baskets minimum set ≡ true → (item : ℕ) → Member item set → Member item (items_of baskets)
 frequent_items baskets minimum set h item m =
     Member-into_rising (flat_map (λ place. place.basket) baskets) item
-      (in_items baskets set (at_least_one minimum (support_of baskets set) (total_of baskets) h) item m)
+    (in_items baskets set (at_least_one minimum (support_of baskets set) (total_of baskets) h) item m)
 
 pub frequent_sets_have_items : FrequentSetsHaveItems
 frequent_sets_have_items baskets minimum set h = contains_each (items_of baskets) set (frequent_items baskets minimum set h)

@@ -16,6 +16,7 @@ IsPlace place = IsRising place.basket × (place.basket ≢ []) × (1 ≤ place.w
 -- how many baskets a database has at most, and how much they weigh together at most
 abbrev pub MOST_BASKETS : ℕ
 MOST_BASKETS = 4294967294
+
 abbrev pub MOST_WEIGHT : ℕ
 MOST_WEIGHT = 1099511627775
 

@@ -11,14 +11,17 @@ meets (Share numerator denominator) support total = nat_le 1 support && nat_le (
 -- the bytes of `/`, `%`, and the digits from `0` to `9`
 abbrev pub SLASH : ℕ
 SLASH = 47
+
 abbrev pub PERCENT : ℕ
 PERCENT = 37
+
 abbrev pub is_digit : ℕ → Bool
 is_digit byte = nat_le 48 byte && nat_le byte 57
 
 -- the greatest count of a minimum, and the greatest number of a share
 abbrev pub GREATEST_COUNT : ℕ
 GREATEST_COUNT = 1099511627775
+
 abbrev pub GREATEST_PART : ℕ
 GREATEST_PART = 4294967295
 
@@ -44,6 +47,7 @@ has_byte byte text = nat_lt (position_or_len (λ other. other == byte) text) (le
 -- the text before the byte's first place, and the text after it
 abbrev pub text_before : ℕ → List ℕ → List ℕ
 text_before byte text = before_first (λ other. other == byte) text
+
 abbrev pub text_after : ℕ → List ℕ → List ℕ
 text_after byte text = after_first (λ other. other == byte) text
 

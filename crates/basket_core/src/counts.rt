@@ -70,8 +70,8 @@ fn add_to_table(table: &mut [Option<u64>], place: &Weighted)
         → unwrap_or (slice_index_or table.old item None) 0 + place.now.weight < 2 ^ 64 }
     ensures { (item : ℕ) → slice_index_or table.new item None
         ≡ (if has place.now.basket item
-            then slot_with place.now.weight (slice_index_or table.old item None)
-            else slice_index_or table.old item None) }
+        then slot_with place.now.weight (slice_index_or table.old item None)
+        else slice_index_or table.old item None) }
 {
     for item in place.basket.items() {
         let slot = &mut table[*item as usize];

@@ -1,5 +1,5 @@
 ghost use Rattle.std.specs.Prelude.{◌≡◌, ◌≢◌, ◌<◌, ◌≤◌, ◌+◌, ◌↔◌, [], ◌∷◌, ◌++◌, length, IsTrue, IfOk, IfErr, OnOk, OnErr};
-ghost use Rattle.basket_core.specs.Database.{IsDatabase, weighted, MOST_BASKETS, MOST_WEIGHT, merged_of, MergingKeepsSupports};
+ghost use Rattle.basket_core.specs.Database.{IsDatabase, weighted, MOST_BASKETS, MOST_WEIGHT, merged_of};
 ghost use Rattle.basket_core.specs.Support.{support_of, total_of};
 
 use crate::itemset::Itemset;
@@ -115,8 +115,15 @@ impl Database {
     }
 }
 
-/// Merging changes no support.
-pub fn merging_keeps_supports()
-    ensures { MergingKeepsSupports }
+/// The support of a set, by a scan of all baskets (Agrawal and Srikant 1994).
+pub fn support(database: &Database, set: &Itemset) -> u64
+    ensures { result ≡ support_of database.now set.now }
 {
+    let mut support = 0;
+    for place in database.baskets() {
+        if place.basket.holds(set) {
+            support += place.weight;
+        }
+    }
+    support
 }

@@ -1,6 +1,5 @@
 ghost use Rattle.std.specs.Prelude.{◌≡◌};
 ghost use Rattle.basket_core.specs.Order as order;
-ghost use Rattle.basket_core.specs.Order.{SameSetsAreSameLists};
 
 use crate::itemset::Itemset;
 use std::cmp::Ordering;
@@ -10,10 +9,4 @@ pub fn report_order(a: &Itemset, b: &Itemset) -> Ordering
     ensures { result ≡ order.report_order a.now b.now }
 {
     a.cmp(b)
-}
-
-/// Two lists of sets that are in report order and have the same sets are equal.
-pub fn same_sets_are_same_lists()
-    ensures { SameSetsAreSameLists }
-{
 }

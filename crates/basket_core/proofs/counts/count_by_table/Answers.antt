@@ -18,7 +18,7 @@ add_to_table-requires-clause-fits c = λ item h.
     let before = take c.loop-place.place-index c.args.baskets.now in
     let k = c.requires.within item (item_of_place c.args.baskets.now c.loop-place.place-index c.place-item.result c.loop-place-test.true c.place-item.is item h) in
     let is = subst (IsTable before) (sym c.deref_mut.ensures.value) c.loop-place.invariant.table item
-      (omega (arith, ap length c.deref_mut.ensures.value, c.loop-place.invariant.long)) in
+    (omega (arith, ap length c.deref_mut.ensures.value, c.loop-place.invariant.long)) in
     let small : unwrap_or (get_or table item None) 0 ≤ support_of before (item ∷ []) = subst (λ s. unwrap_or s 0 ≤ support_of before (item ∷ [])) (sym is) (tally_at_most before item) in
     fits_more c.args.baskets.now c.loop-place.place-index c.place-item.result item (unwrap_or (get_or table item None) 0) c.loop-place-test.true c.place-item.is c.requires.light h small
 
@@ -33,7 +33,7 @@ loop-place-preserved c =
     record {
       long = ap length written ∙ same ∙ ap length c.deref_mut.ensures.value ∙ c.loop-place.invariant.long;
       table = subst (IsTable (take (i + 1) c.args.baskets.now)) (sym written)
-        (table_more c.args.baskets.now i c.place-item.result old new c.loop-place-test.true c.place-item.is same c.add_to_table.ensures before);
+          (table_more c.args.baskets.now i c.place-item.result old new c.loop-place-test.true c.place-item.is same c.add_to_table.ensures before);
     }
 
 pub returns : goal.returns
@@ -43,4 +43,4 @@ returns c =
     let is = subst (IsTable c.args.baskets.now) (sym c.deref.ensures.value) whole in
     let long = ap length c.deref.ensures.value ∙ c.loop-place.invariant.long in
     IfOk-weaker c.listed.result (λ entries. entries.items ≡ entries_of table) (λ counts. counts.items ≡ item_supports c.args.baskets.now)
-      (λ entries e. e ∙ table_entries c.args.baskets.now table is (subst (λ n. AllBelow n (all_items c.args.baskets.now)) (sym long) c.requires.within)) c.listed.ensures
+    (λ entries e. e ∙ table_entries c.args.baskets.now table is (subst (λ n. AllBelow n (all_items c.args.baskets.now)) (sym long) c.requires.within)) c.listed.ensures

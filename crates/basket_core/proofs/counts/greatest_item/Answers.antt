@@ -19,18 +19,19 @@ loop-place-preserved c =
     let basket = c.place-item.result.basket in
     let up = subst IsRising (sym c.items.ensures.items) c.items.ensures.rising in
     let more = all_items_more c.args.baskets.now c.loop-place.place-index c.place-item.result c.loop-place-test.true
-      ∙ ap (λ p. so_far ++ p.basket) (sym c.place-item.is) in
+    ∙ ap (λ p. so_far ++ p.basket) (sym c.place-item.is) in
     subst (λ l. AllBelow (c.match-last.greatest + 1) l) (sym more)
-      (elim c.match-last.branch [
-        in-Some w ↦
+    (elim c.match-last.branch [
+      | in-Some w ↦
           (let last = w.in-Some.ensures.item.1 in
           let top : (x : ℕ) → has basket x ≡ true → x ≤ c.match-last.greatest = λ x h.
-            let k = last_is_greatest items up x (ap (λ l. has l x) c.items.ensures.items ∙ h) in
-            let e = get_or_default items (length items - 1) w.in-Some.last.now 0 (let b = w.in-Some.ensures.item.3.0 in omega arith) in
-            omega (arith, w.max-greatest.ensures, w.greatest-is) in
+          let k = last_is_greatest items up x (ap (λ l. has l x) c.items.ensures.items ∙ h) in
+          let e = get_or_default items (length items - 1) w.in-Some.last.now 0 (let b = w.in-Some.ensures.item.3.0 in omega arith) in
+          omega (arith, w.max-greatest.ensures, w.greatest-is) in
           below_more so_far basket c.loop-place.greatest c.match-last.greatest c.loop-place.invariant top (omega (arith, w.max-greatest.ensures, w.greatest-is)))
-        | in_default w ↦
+      | in_default w ↦
           (let top : (x : ℕ) → has basket x ≡ true → x ≤ c.match-last.greatest = λ x h.
-            let place = Contains-from_Member x items (Member-from_has items x (ap (λ l. has l x) c.items.ensures.items ∙ h)) in
-            absurd (omega (arith, place.1, w.in_default.ensures.item.3)) in
-          below_more so_far basket c.loop-place.greatest c.match-last.greatest c.loop-place.invariant top (omega (arith, w.greatest-is))) ])
+          let place = Contains-from_Member x items (Member-from_has items x (ap (λ l. has l x) c.items.ensures.items ∙ h)) in
+          absurd (omega (arith, place.1, w.in_default.ensures.item.3)) in
+          below_more so_far basket c.loop-place.greatest c.match-last.greatest c.loop-place.invariant top (omega (arith, w.greatest-is)))
+    ])

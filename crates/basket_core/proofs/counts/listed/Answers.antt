@@ -9,10 +9,11 @@ loop-item-preserved c =
     let before = entries_of (take c.loop-item.item c.args.table.now) in
     let more = entries_more c.args.table.now c.loop-item.item c.loop-item-test.true in
     elim c.match-slot.branch [
-      in-Some+in_ok-push w ↦
-        (ap (λ v. v.items) w.entries-is ∙ w.in_ok-push.ensures.items
-        ∙ ap (λ l. l ++ (c.loop-item.item, w.in-Some.support) ∷ []) c.loop-item.invariant
-        ∙ sym (more ∙ ap (λ s. before ++ entry_at c.loop-item.item s) w.in-Some.is))
+      | in-Some+in_ok-push w ↦
+          (ap (λ v. v.items) w.entries-is ∙ w.in_ok-push.ensures.items
+          ∙ ap (λ l. l ++ (c.loop-item.item, w.in-Some.support) ∷ []) c.loop-item.invariant
+          ∙ sym (more ∙ ap (λ s. before ++ entry_at c.loop-item.item s) w.in-Some.is))
       | in_default w ↦
-        (ap (λ v. v.items) w.entries-is ∙ c.loop-item.invariant
-        ∙ sym (more ∙ ap (λ s. before ++ entry_at c.loop-item.item s) w.in_default.is ∙ append-nil before)) ]
+          (ap (λ v. v.items) w.entries-is ∙ c.loop-item.invariant
+          ∙ sym (more ∙ ap (λ s. before ++ entry_at c.loop-item.item s) w.in_default.is ∙ append-nil before))
+    ]

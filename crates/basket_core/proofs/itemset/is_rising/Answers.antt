@@ -6,4 +6,4 @@ use Rattle.basket_core.proofs.itemset.is_rising.Goals as goal
 pub returns : goal.returns
 returns c =
     rising_test c.args.numbers.now c.is_sorted_by.result
-      (c.is_sorted_by.ensures.cases ltb (answers_always _ _ _ (λ f a r g h. search rules)))
+    (c.is_sorted_by.ensures.cases ltb (answers_always _ _ _ (λ f a r g h. search rules)))

@@ -42,7 +42,7 @@ loop-index-preserved c =
     record {
       long = length-set weights first (c.index_mut.result.now + s.weight) ∙ c.loop-index.invariant.long;
       weights = subst (λ n. AreWeights baskets (take (i + 1) places) (set weights first (n + s.weight))) (sym here)
-        (subst (λ l. AreWeights baskets l (set weights first (get_or weights first 0 + s.weight))) (sym more) added);
+          (subst (λ l. AreWeights baskets l (set weights first (get_or weights first 0 + s.weight))) (sym more) added);
       leader = λ _. subst (λ k. LeadsAt baskets places k first) (omega arith) at;
     }
 
@@ -50,5 +50,5 @@ pub returns : goal.returns
 returns c =
     let places = seen_places c.args.places.now in
     let whole = subst (λ l. AreWeights c.args.baskets.now l c.loop-index.weights.items)
-      (take_all c.loop-index.index places (omega (arith, length-map c.args.places.now seen, c.loop-index-test.false))) c.loop-index.invariant.weights in
+    (take_all c.loop-index.index places (omega (arith, length-map c.args.places.now seen, c.loop-index-test.false))) c.loop-index.invariant.weights in
     first_weights_are c.args.baskets.now places c.loop-index.weights.items c.requires.places.permutation c.loop-index.invariant.long whole

@@ -27,7 +27,7 @@ push-requires-clause-light c =
     let are = subst IsDatabase (sym c.baskets-baskets.ensures.baskets) c.baskets-baskets.ensures.database in
     let place = subst IsPlace (sym c.index-baskets-place.is) (are.places i w c.loop-place-test.true) in
     let weight = c.index-weight.ensures ∙ get_or_default weights i n 0 (omega (arith, ap length c.in_ok-weights.ensures, length-first_weights [] baskets))
-      ∙ ap (λ l. get_or l i 0) c.in_ok-weights.ensures in
+    ∙ ap (λ l. get_or l i 0) c.in_ok-weights.ensures in
     let next = (merged_next baskets i w n c.loop-place.merged (merged_of baskets) c.loop-place-test.true c.index-baskets-place.is weight place.2 c.loop-place.invariant.so_far).0 c.if-weight-gt0.true in
     omega (arith, merged_light baskets c.loop-place.merged _ (weighted w.basket n) next, are.light)
 
@@ -41,21 +41,22 @@ loop-place-preserved c =
     let are = subst IsDatabase (sym c.baskets-baskets.ensures.baskets) c.baskets-baskets.ensures.database in
     let place = subst IsPlace (sym c.index-baskets-place.is) (are.places i w c.loop-place-test.true) in
     let weight = c.index-weight.ensures ∙ get_or_default weights i n 0 (omega (arith, ap length c.in_ok-weights.ensures, length-first_weights [] baskets))
-      ∙ ap (λ l. get_or l i 0) c.in_ok-weights.ensures in
+    ∙ ap (λ l. get_or l i 0) c.in_ok-weights.ensures in
     let next = merged_next baskets i w n c.loop-place.merged (merged_of baskets) c.loop-place-test.true c.index-baskets-place.is weight place.2 c.loop-place.invariant.so_far in
     elim c.if-weight-gt0.branch [
-      then-weight-gt0+in_ok-basket+in_ok-map_err b ↦
-        (let pushed : b.push.new.self ≡ c.loop-place.merged ++ weighted w.basket n ∷ [] =
+      | then-weight-gt0+in_ok-basket+in_ok-map_err b ↦
+          (let pushed : b.push.new.self ≡ c.loop-place.merged ++ weighted w.basket n ∷ [] =
           on_ok b.push.result (sym b.map_err.ensures.variant ∙ ap is_ok b.in_ok-map_err.was) b.push.ensures.ok
           ∙ ap (λ l. c.loop-place.merged ++ weighted l n ∷ []) b.in_ok-basket.ensures.same in
-        let now = b.merged-is ∙ pushed in
-        record {
-          so_far = ap (λ l. l ++ merged_after (take (i + 1) baskets) (drop (i + 1) baskets)) now ∙ next.0 b.if-weight-gt0.true;
-          few = omega (arith, ap length now, length_push c.loop-place.merged (weighted w.basket n), c.loop-place.invariant.few);
-        })
+          let now = b.merged-is ∙ pushed in
+          record {
+            so_far = ap (λ l. l ++ merged_after (take (i + 1) baskets) (drop (i + 1) baskets)) now ∙ next.0 b.if-weight-gt0.true;
+            few = omega (arith, ap length now, length_push c.loop-place.merged (weighted w.basket n), c.loop-place.invariant.few);
+          })
       | else-weight-gt0 b ↦
-        (let none : n ≡ 0 = omega (arith, b.if-weight-gt0.false) in
-        record {
-          so_far = ap (λ l. l ++ merged_after (take (i + 1) baskets) (drop (i + 1) baskets)) b.merged-is ∙ next.1 none;
-          few = omega (arith, ap length b.merged-is, c.loop-place.invariant.few);
-        }) ]
+          (let none : n ≡ 0 = omega (arith, b.if-weight-gt0.false) in
+          record {
+            so_far = ap (λ l. l ++ merged_after (take (i + 1) baskets) (drop (i + 1) baskets)) b.merged-is ∙ next.1 none;
+            few = omega (arith, ap length b.merged-is, c.loop-place.invariant.few);
+          })
+    ]

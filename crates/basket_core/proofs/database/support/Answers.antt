@@ -3,7 +3,7 @@ use Rattle.std.proofs.lemmas.List.Sums.{sum_by_more_le}
 use Rattle.basket_core.specs.Database.{MOST_WEIGHT}
 use Rattle.basket_core.specs.Support.{weight_at, total_of}
 use Rattle.basket_core.proofs.SupportLemmas.{support_falls}
-use Rattle.basket_core.proofs.support.support.Goals as goal
+use Rattle.basket_core.proofs.database.support.Goals as goal
 
 pub overflow_add-support : goal.overflow_add-support
 overflow_add-support c =
@@ -14,6 +14,6 @@ overflow_add-support c =
     let more = sum_by_more_le (weight_at set) items i place (omega arith) in
     let falls = support_falls items set [] refl in
     let adds : weight_at set (get_or items i place) ≡ place.weight =
-      ap (weight_at set) (sym c.place-item.is) ∙ ap (λ b. cond b place.weight 0) (sym c.if-holds.ensures) in
+    ap (weight_at set) (sym c.place-item.is) ∙ ap (λ b. cond b place.weight 0) (sym c.if-holds.ensures) in
     let light : total_of items ≤ MOST_WEIGHT = subst (λ l. total_of l ≤ MOST_WEIGHT) (sym c.baskets-place-items.ensures.baskets) c.baskets-place-items.ensures.database.light in
     omega (arith, c.loop-place.invariant)
