@@ -23,7 +23,7 @@ module _ (baskets : List Weighted) (minimum : Minimum) where
   frequent_sets = filter (is_frequent baskets minimum) (subsets_of (items_of baskets))
 
   -- a nonempty set that meets the minimum, with its support
-  abbrev IsSound : Counted → Type 0
+  abbrev pub IsSound : Counted → Type 0
   IsSound c = IsNonemptySet c.set × (is_frequent baskets minimum c.set ≡ true) × (c.count ≡ support_of baskets c.set)
 
   items_rise : IsRising (items_of baskets)

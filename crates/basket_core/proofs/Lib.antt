@@ -7,3 +7,4 @@ pub mod Numbers
 pub mod MergeLemmas
 pub mod CountLemmas
 pub mod PlaceLemmas
+pub mod ItemLemmas

@@ -1,8 +1,10 @@
-use Rattle.std.specs.Prelude.{◌≡◌, ◌≢◌, ◌↔◌, ℕ, Bool, IsTrue, List, [], map, filter, All}
+use Rattle.std.specs.Prelude.{◌≡◌, ◌≢◌, ◌↔◌, ℕ, Bool, IsTrue, List, [], ◌∷◌, length, ◌==◌, map, filter, All}
 use Rattle.std.specs.List.{Contains}
 use Rattle.basket_core.specs.declared.weighted.Weighted.{Weighted}
 use Rattle.basket_core.specs.declared.counted.Counted.{Counted}
 use Rattle.basket_core.specs.declared.minimum.Minimum.{Minimum}
+use Rattle.basket_core.specs.Counts.{item_supports}
+use Rattle.basket_core.specs.Database.{merged_of}
 use Rattle.basket_core.specs.Itemset.{IsRising, contains}
 use Rattle.basket_core.specs.Minimum.{meets}
 use Rattle.basket_core.specs.Order.{IsInReportOrder}
@@ -44,3 +46,20 @@ pub record ListsFrequent (baskets : List Weighted) (minimum : Minimum) (list : L
 -- the list of the frequent sets is the only such list
 abbrev pub FrequentIsUnique : Type 0
 FrequentIsUnique = (baskets : List Weighted) (minimum : Minimum) (list : List Counted) → ListsFrequent baskets minimum list ↔ (list ≡ frequent_of baskets minimum)
+
+-- the frequent items: the frequent sets of one item
+abbrev pub frequent_items_of : List Weighted → Minimum → List Counted
+frequent_items_of baskets minimum = filter (λ c. length c.set == 1) (frequent_of baskets minimum)
+
+-- an item and its support, as a set with its count
+abbrev pub item_counted : ℕ × ℕ → Counted
+item_counted entry = record { set = entry.0 ∷ []; count = entry.1 }
+
+-- the frequent items are the items whose supports meet the minimum
+abbrev pub FrequentItemsAreCounted : Type 0
+FrequentItemsAreCounted = (baskets : List Weighted) (minimum : Minimum) →
+    frequent_items_of baskets minimum ≡ map item_counted (filter (λ entry. meets minimum entry.1 (total_of baskets)) (item_supports baskets))
+
+-- merging equal baskets keeps the frequent sets
+abbrev pub MergingKeepsFrequent : Type 0
+MergingKeepsFrequent = (baskets : List Weighted) (minimum : Minimum) → frequent_of (merged_of baskets) minimum ≡ frequent_of baskets minimum

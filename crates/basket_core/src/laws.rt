@@ -1,7 +1,7 @@
 //! Laws on the definitions, for whoever proves a miner. Each is a function that does nothing: its
 //! contract is the law.
 ghost use Rattle.basket_core.specs.Database.{MergingKeepsSupports};
-ghost use Rattle.basket_core.specs.Frequent.{SubsetsAreFrequent, FrequentSetsHaveItems, FrequentIsUnique};
+ghost use Rattle.basket_core.specs.Frequent.{SubsetsAreFrequent, FrequentSetsHaveItems, FrequentIsUnique, FrequentItemsAreCounted, MergingKeepsFrequent};
 ghost use Rattle.basket_core.specs.Order.{SameSetsAreSameLists};
 ghost use Rattle.basket_core.specs.Subsets.{SubsetsAreInReportOrder, SubsetsAreExact};
 ghost use Rattle.basket_core.specs.Support.{SupportFalls, SupportsAddUp};
@@ -50,4 +50,14 @@ pub fn frequent_sets_have_items()
 /// sets that meet the minimum, each with its support.
 pub fn frequent_is_unique()
     ensures { FrequentIsUnique }
+{}
+
+/// The frequent sets of one item are the items whose supports meet the minimum.
+pub fn frequent_items_are_counted()
+    ensures { FrequentItemsAreCounted }
+{}
+
+/// Merging equal baskets keeps the frequent sets.
+pub fn merging_keeps_frequent()
+    ensures { MergingKeepsFrequent }
 {}
