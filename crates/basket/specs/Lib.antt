@@ -1,1 +1,5 @@
+pub mod Question
 pub mod Report
+pub mod Status
+pub mod Outcome
+pub mod Run

@@ -1,4 +1,4 @@
-use Rattle.std.specs.Prelude.{ℕ, ◌+◌, ◌*◌, ◌-◌, Bool, ◌&&◌, not, nat_le, nat_lt, ◌==◌, if◌then◌else◌, List, length, fold, Option, Some, None}
+use Rattle.std.specs.Prelude.{◌≤◌, ℕ, ◌+◌, ◌*◌, ◌-◌, Bool, ◌&&◌, not, nat_le, nat_lt, ◌==◌, if◌then◌else◌, List, length, fold, Option, Some, None}
 use Rattle.std.specs.List.{list_all, position_or_len, before_first, after_first}
 use Rattle.basket_core.specs.declared.minimum.Minimum.{Minimum}
 use Rattle.basket_core.specs.declared.minimum.Minimum.TheVariants.{Count, Share}
@@ -69,3 +69,12 @@ count_minimum None other = other
 -- the minimum that a text writes: a count of at least 1 as digits alone, or a share
 abbrev pub minimum_of : List ℕ → Option Minimum
 minimum_of text = count_minimum (number_of GREATEST_COUNT text) (share_minimum (share_of text))
+
+-- a numerator and a denominator that a share may have
+abbrev pub IsShare : ℕ × ℕ → Type 0
+IsShare share = (1 ≤ share.1) × (share.0 ≤ share.1)
+
+-- a minimum that may be asked for
+abbrev pub IsMinimum : Minimum → Type 0
+IsMinimum (Count least) = (1 ≤ least) × (least ≤ GREATEST_COUNT)
+IsMinimum (Share numerator denominator) = IsShare (numerator, denominator)

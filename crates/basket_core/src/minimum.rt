@@ -1,5 +1,5 @@
-ghost use Rattle.std.specs.Prelude.{◌≡◌, ◌≤◌};
-ghost use Rattle.basket_core.specs.Minimum.{meets, number_of, ratio_of, share_of, minimum_of, GREATEST_COUNT};
+ghost use Rattle.std.specs.Prelude.{◌≡◌, ◌≤◌, IfSome};
+ghost use Rattle.basket_core.specs.Minimum.{meets, number_of, ratio_of, share_of, minimum_of, IsShare, IsMinimum, GREATEST_COUNT};
 
 /// The greatest count of a minimum.
 const MAX_COUNT: u64 = 1_099_511_627_775;
@@ -31,7 +31,8 @@ impl Minimum {
 
 /// Reads a count, as `2`, or a share, as `2/9` or `22%`. There are no signs and no blanks.
 pub fn parse_minimum(text: &str) -> Option<Minimum>
-    ensures { result ≡ minimum_of text.now }
+    ensures read { result ≡ minimum_of text.now }
+    ensures in_range { IfSome result IsMinimum }
 {
     match number(text.as_bytes(), MAX_COUNT) {
         Some(0) => None,
@@ -45,7 +46,8 @@ pub fn parse_minimum(text: &str) -> Option<Minimum>
 
 /// Reads a share as numerator and denominator: `2/9`, or `22%` as 22 and 100.
 pub fn parse_share(text: &str) -> Option<(u32, u32)>
-    ensures { result ≡ share_of text.now }
+    ensures read { result ≡ share_of text.now }
+    ensures in_range { IfSome result IsShare }
 {
     if let Some((numerator, denominator)) = text.split_once('/') {
         return ratio(part(numerator)?, part(denominator)?);
@@ -59,7 +61,8 @@ pub fn parse_share(text: &str) -> Option<(u32, u32)>
 }
 
 fn ratio(numerator: u32, denominator: u32) -> Option<(u32, u32)>
-    ensures { result ≡ ratio_of (Some numerator) (Some denominator) }
+    ensures value { result ≡ ratio_of (Some numerator) (Some denominator) }
+    ensures in_range { IfSome result IsShare }
 {
     (denominator >= 1 && numerator <= denominator).then_some((numerator, denominator))
 }
@@ -73,7 +76,8 @@ fn part(text: &str) -> Option<u32>
 /// The number that one or more digits write, where it is at most the bound.
 fn number(text: &[u8], bound: u64) -> Option<u64>
     requires { bound ≤ GREATEST_COUNT }
-    ensures { result ≡ number_of bound text.now }
+    ensures value { result ≡ number_of bound text.now }
+    ensures within { IfSome result (λ value. value ≤ bound) }
 {
     let mut value = 0;
     for byte in text {

@@ -1,4 +1,5 @@
 use Rattle.std.proofs.Common.{◌∙◌, arith}
+use Rattle.basket_core.specs.declared.fault.Failed.{Failed}
 use Rattle.basket.proofs.Fronts.{some_taken, count_within, written_more}
 use Rattle.basket.proofs.write.write_all.Goals as goal
 
@@ -8,7 +9,7 @@ loop-written-preserved g c =
     let k = c.loop-written.written in
     let n = c.in_ok-count.count in
     record {
-      working = c.in_ok-count.ensures.failed ∙ some_taken _ n _ c.if-count-eq0.false;
+      working = c.in_ok-count.ensures.failed ∙ some_taken Failed n _ c.if-count-eq0.false;
       within = count_within bytes k n c.loop-written.invariant.within c.in_ok-count.ensures.bound;
       taken = written_more _ _ _ bytes k n c.loop-written.invariant.taken c.in_ok-count.ensures.bytes;
     }

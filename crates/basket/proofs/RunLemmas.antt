@@ -1,0 +1,63 @@
+-- From what reading, mining and writing ensure to what a run ensures.
+use Rattle.std.proofs.Common.{◌≡◌, ◌≤◌, ℕ, List, Option, Some, None, Result, Ok, Err, Bool, true, false, length, take, refl, sym, ap, subst, ◌∙◌}
+use Rattle.std.proofs.lemmas.Bool.{false≢true}
+use Rattle.std.specs.Prelude.{IfSome, OnOk, OnErr, IsErr}
+use Rattle.std.specs.Result.{MatchResult}
+use Rattle.std.specs.Io.KnownBytes.{Appends}
+use Rattle.basket_core.specs.declared.fault.Failed.{Failed}
+use Rattle.basket_core.specs.declared.minimum.Minimum.{Minimum}
+use Rattle.basket_core.specs.declared.weighted.Weighted.{Weighted}
+use Rattle.basket_core.specs.Frequent.{frequent_items_of}
+use Rattle.basket_read.specs.declared.fault.ReadFault.{ReadFault}
+use Rattle.basket_read.specs.Fimi.{fimi_of}
+use Rattle.basket_read.specs.Read.{FailsAfter}
+use Rattle.basket_read.specs.Text.{Answers}
+use Rattle.basket.specs.declared.fault.RunFault.{RunFault}
+use Rattle.basket.specs.declared.fault.RunFault.TheVariants.{Input, Mine, Write}
+use Rattle.basket.specs.declared.plan.Ask.{Ask}
+use Rattle.basket.specs.declared.plan.Ask.TheVariants.{Items}
+use Rattle.basket.specs.Outcome.{outcome, outcome_of, asked}
+use Rattle.basket.specs.Question.{Question}
+use Rattle.basket.specs.Report.{report_of}
+use Rattle.basket.specs.Run.{WritesReport, WritesFront}
+
+abbrev input_fault : ReadFault → Result Unit RunFault → ReadFault
+input_fault other (Err (Input fault)) = fault
+input_fault other (Err (Mine fault)) = other
+input_fault other (Err Write) = other
+input_fault other (Ok x) = other
+
+abbrev pub refusal : ReadFault → Result Unit RunFault
+refusal fault = Err (Input fault)
+
+pub failed_by : (fault other : ReadFault) (left after : Option (List ℕ)) → refusal fault ≡ refusal other
+    → IfSome left (λ bytes. FailsAfter bytes after (Err fault)) → IfSome left (λ bytes. FailsAfter bytes after (Err other))
+failed_by fault other left after same fails =
+    let e : fault ≡ other = ap (input_fault fault) same in
+    subst (λ f. IfSome left (λ bytes. FailsAfter bytes after (Err f))) e fails
+
+-- a reader from which a database was read has not failed
+pub not_failed : {X : Type 0} (failed : Bool) (x : X) → (failed ≡ true → IsErr {E = ReadFault} (Ok x)) → failed ≡ false
+not_failed true x err = absurd (false≢true (err refl))
+not_failed false x err = refl
+
+-- the report of the frequent items is the one that is asked for
+pub items_asked : (question : Question) (minimum : Minimum) (baskets : List Weighted) (text : List ℕ)
+    → minimum ≡ question.minimum → text ≡ report_of (frequent_items_of baskets minimum) → text ≡ report_of (asked question.ask baskets question.minimum)
+items_asked question minimum baskets text same made = made ∙ ap (λ m. report_of (frequent_items_of baskets m)) same ∙ ap report_of (sym (is_items question.ask))
+  where
+    is_items : (ask : Ask) → asked ask baskets question.minimum ≡ frequent_items_of baskets question.minimum
+    is_items Items = refl
+
+pub writes_report : (left : Option (List ℕ)) (question : Question) (before after : Option (List ℕ)) (baskets : List Weighted) (text : List ℕ)
+    → IfSome left (λ bytes. Answers (Ok baskets) (fimi_of bytes)) → text ≡ report_of (asked question.ask baskets question.minimum)
+    → Appends before after text → WritesReport left question before after
+writes_report None question before after baskets text read made taken = tt
+writes_report (Some bytes) question before after baskets text read made taken = (text, ap (λ a. outcome_of a question) read ∙ ap Ok (sym made), taken)
+
+pub writes_front : (left : Option (List ℕ)) (question : Question) (before after : Option (List ℕ)) (baskets : List Weighted) (text : List ℕ)
+    → IfSome left (λ bytes. Answers (Ok baskets) (fimi_of bytes)) → text ≡ report_of (asked question.ask baskets question.minimum)
+    → ((n : ℕ) × (n ≤ length text) × Appends before after (take n text)) → WritesFront left question before after
+writes_front None question before after baskets text read made taken = tt
+writes_front (Some bytes) question before after baskets text read made (n, small, front) =
+    (text, n, ap (λ a. outcome_of a question) read ∙ ap Ok (sym made), small, front)

@@ -1,0 +1,21 @@
+-- What a run does to its reader and its writer.
+use Rattle.std.specs.Prelude.{◌≡◌, ◌≢◌, ◌≤◌, ℕ, List, Option, IfSome, Result, Ok, Err, length, take}
+use Rattle.std.specs.Io.KnownBytes.{Appends}
+use Rattle.basket_read.specs.declared.fault.ReadFault.{ReadFault}
+use Rattle.basket_read.specs.declared.fault.ReadFault.TheVariants.{Memory}
+use Rattle.basket.specs.declared.fault.RunFault.TheVariants.{Input}
+use Rattle.basket.specs.Outcome.{outcome}
+use Rattle.basket.specs.Question.{Question}
+
+-- the writer took the report of what the reader had left, and nothing else
+abbrev pub WritesReport : Option (List ℕ) → Question → Option (List ℕ) → Option (List ℕ) → Type 0
+WritesReport left question before after = IfSome left (λ bytes. (text : List ℕ) × (outcome bytes question ≡ Ok text) × Appends before after text)
+
+-- the writer took a front of that report, which may be all of it
+abbrev pub WritesFront : Option (List ℕ) → Question → Option (List ℕ) → Option (List ℕ) → Type 0
+WritesFront left question before after =
+    IfSome left (λ bytes. (text : List ℕ) × (count : ℕ) × (outcome bytes question ≡ Ok text) × (count ≤ length text) × Appends before after (take count text))
+
+-- but for want of memory, the outcome is that fault of the input
+abbrev pub RefusesInput : Option (List ℕ) → Question → ReadFault → Type 0
+RefusesInput left question fault = IfSome left (λ bytes. fault ≢ Memory → outcome bytes question ≡ Err (Input fault))

@@ -1,0 +1,116 @@
+//! The command line.
+ghost use Rattle.std.specs.Prelude.{◌≡◌};
+ghost use Rattle.basket.specs.declared.command.PlanFault.TheVariants.{Memory};
+ghost use Rattle.basket.specs.Status.{plan_status_of};
+
+use crate::plan::{Ask, Plan};
+use basket_core::parse_minimum;
+use clap::error::ErrorKind;
+use clap::{Arg, ArgAction, ArgMatches, Command, Error};
+use std::alloc::{AllocError, Global};
+
+/// Why words of a command line make no plan.
+#[derive(Debug, Drop)]
+pub enum PlanFault {
+    Memory,
+    /// A mistake in the words, with the text to print on standard error.
+    Usage(String),
+    /// Help was asked for, with the text to print on standard output.
+    Help(String),
+}
+
+impl From<AllocError> for PlanFault {
+    ghost from_gives = { λ _ fault. fault ≡ Memory };
+
+    fn from(_error: AllocError) -> Self {
+        PlanFault::Memory
+    }
+}
+
+/// The exit status of a program that can't go on for the fault.
+pub fn plan_status(fault: &PlanFault) -> u8
+    ensures { result ≡ plan_status_of fault.now }
+{
+    match fault {
+        PlanFault::Memory => 6,
+        PlanFault::Usage(_) => 2,
+        PlanFault::Help(_) => 0,
+    }
+}
+
+const ABOUT: &str = "Lists the items that are often bought, with exact counts.";
+
+const INPUT: &str = "\
+Standard input has one basket a line: the numbers of its items with blanks between.
+A line may begin with a weight, as `3x 1 2` for three baskets of the items 1 and 2.";
+
+const ITEMS_ABOUT: &str = "Writes each item that is in enough baskets, with the number of those baskets";
+
+const ITEMS_EXAMPLE: &str = "\
+Standard input has one basket a line: the numbers of its items with blanks between.
+A line may begin with a weight, as `3x 1 2` for three baskets of the items 1 and 2.
+Standard output gets one line for each item, in the order of their numbers: the item
+and, in parentheses, its count.
+
+Example:
+  printf '1 2\\n2 3\\n2\\n' | basket items --min 2
+  2 (3)";
+
+const MIN_HELP: &str = "The least count of an item to be listed: a number, as 20, \
+or a share of all baskets, as 5% or 1/200";
+
+/// The plan that the words ask for. The program's name is not among them.
+pub fn plan_of<'a>(alloc: Global, words: &'a [&'a str]) -> Result<Plan, PlanFault> {
+    match command(alloc)?.try_get_matches_from(words) {
+        Ok(matches) => plan_from(alloc, &matches),
+        Err(error) => Err(fault_of(alloc, &error)?),
+    }
+}
+
+fn command<'a>(alloc: Global) -> Result<Command<'a>, AllocError> {
+    let minimum = Arg::new(alloc, "min")
+        .long("min")
+        .value_name("M")
+        .help(MIN_HELP)
+        .required(true)
+        .action(ArgAction::Set);
+    let items = Command::new(alloc, "items")
+        .about(ITEMS_ABOUT)
+        .after_help(ITEMS_EXAMPLE)
+        .arg(minimum)?;
+    Command::new(alloc, "basket")
+        .no_binary_name(true)
+        .about(ABOUT)
+        .after_help(INPUT)
+        .subcommand_required(true)
+        .disable_help_subcommand(true)
+        .subcommand(items)
+}
+
+/// The plan of words that clap has accepted.
+fn plan_from(alloc: Global, matches: &ArgMatches<'_>) -> Result<Plan, PlanFault> {
+    let (ask, options) = match matches.subcommand() {
+        Some(("items", options)) => (Ask::Items, options),
+        _ => return Err(usage(alloc, "basket: no command")?),
+    };
+    match options.get_str("min").and_then(|text| parse_minimum(text)) {
+        Some(minimum) => Ok(Plan::of(ask, minimum)),
+        None => Err(usage(alloc, "basket: bad value for --min\n")?),
+    }
+}
+
+fn usage(alloc: Global, text: &str) -> Result<PlanFault, AllocError> {
+    Ok(PlanFault::Usage(String::from_str(alloc, text)?))
+}
+
+fn fault_of(alloc: Global, error: &Error) -> Result<PlanFault, AllocError> {
+    if let ErrorKind::OutOfMemory = error.kind() {
+        return Ok(PlanFault::Memory);
+    }
+    let text = error.to_string(alloc)?;
+    if error.use_stderr() {
+        Ok(PlanFault::Usage(text))
+    } else {
+        Ok(PlanFault::Help(text))
+    }
+}

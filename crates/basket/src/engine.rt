@@ -1,0 +1,52 @@
+ghost use Rattle.std.specs.Prelude.{◌≡◌, ◌≢◌, ◌↔◌, true, false, Ok, Err, IfSome, OnOk, IfErr, Result};
+ghost use Rattle.std.specs.Io.KnownBytes.{Keeps};
+ghost use Rattle.basket_core.specs.declared.fault.MineFault.{MineFault as MiningFault};
+ghost use Rattle.basket_read.specs.declared.fault.ReadFault.{ReadFault as InputFault};
+ghost use Rattle.basket_read.specs.Read.{FailsAfter};
+ghost use Rattle.basket.specs.Run.{WritesReport, WritesFront, RefusesInput};
+
+use crate::fault::RunFault;
+use crate::items::items_report;
+use crate::plan::{Ask, Plan};
+use crate::write::write_all;
+use basket_core::{MineFault, Sink, Source};
+use basket_read::{ReadFault, read_fimi};
+use std::alloc::Global;
+
+/// Reads the input to its end and writes the report that the plan asks for. The whole report is
+/// made before its first byte is written, and a flush ends the run.
+pub fn run<R, S: Source, W: Sink>(
+    _rt: &R,
+    alloc: Global,
+    plan: &Plan,
+    reader: &mut S,
+    writer: &mut W,
+) -> Result<(), RunFault>
+    requires reader { S.has_failed reader.old ≡ false }
+    requires writer { W.has_failed writer.old ≡ false }
+
+    // What is written, for a reader and a writer that tell their bytes.
+    ensures report { OnOk result (WritesReport (S.left reader.old) plan.now (W.taken writer.old) (W.taken writer.new)) }
+    ensures front { result ≡ Err RunFault.Write → WritesFront (S.left reader.old) plan.now (W.taken writer.old) (W.taken writer.new) }
+    ensures nothing { IfErr result (λ fault. fault ≢ RunFault.Write → Keeps (W.taken writer.old) (W.taken writer.new)) }
+
+    // When each fault comes.
+    ensures input { (fault : InputFault) → result ≡ Err (RunFault.Input fault) → S.has_failed reader.new ≡ false
+        → RefusesInput (S.left reader.old) plan.now fault }
+    ensures failed_input { (fault : InputFault) → result ≡ Err (RunFault.Input fault) → S.has_failed reader.new ≡ true
+        → IfSome (S.left reader.old) (λ bytes. FailsAfter bytes (S.left reader.new) (Err fault)) }
+    ensures reader_failed { S.has_failed reader.new ≡ true → (fault : InputFault) × (result ≡ Err (RunFault.Input fault)) }
+    ensures read { result ≡ Err (RunFault.Input ReadFault.Read) → S.has_failed reader.new ≡ true }
+    ensures mine { (fault : MiningFault) → result ≡ Err (RunFault.Mine fault) → fault ≡ MineFault.Memory }
+    ensures write { (result ≡ Err RunFault.Write) ↔ (W.has_failed writer.new ≡ true) }
+{
+    let database = match read_fimi(alloc, reader) {
+        Ok(database) => database,
+        Err(fault) => return Err(RunFault::Input(fault)),
+    };
+    let report = match plan.ask() {
+        Ask::Items => items_report(alloc, database, plan.minimum())?,
+    };
+    write_all(writer, &report)?;
+    Ok(())
+}

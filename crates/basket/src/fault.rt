@@ -1,0 +1,51 @@
+ghost use Rattle.std.specs.Prelude.{◌≡◌};
+ghost use Rattle.basket_core.specs.declared.fault.MineFault.TheVariants.{Memory};
+ghost use Rattle.basket.specs.declared.fault.RunFault.TheVariants.{Mine, Write};
+ghost use Rattle.basket.specs.Status.{status_after};
+
+use basket_core::{Failed, MineFault};
+use basket_read::ReadFault;
+use std::alloc::AllocError;
+use thiserror::Error;
+
+/// Why a run wrote no whole report.
+#[derive(Clone, Copy, Debug, PartialEq, Eq, Error)]
+pub enum RunFault {
+    /// The input was not read.
+    #[error(transparent)]
+    Input(ReadFault),
+    /// What was asked for was not found out.
+    #[error(transparent)]
+    Mine(MineFault),
+    /// The writer failed, or took nothing of what was left.
+    #[error("cannot write the report")]
+    Write,
+}
+
+impl From<AllocError> for RunFault {
+    ghost from_gives = { λ _ fault. fault ≡ Mine Memory };
+
+    fn from(_error: AllocError) -> Self {
+        RunFault::Mine(MineFault::Memory)
+    }
+}
+
+impl From<Failed> for RunFault {
+    ghost from_gives = { λ _ fault. fault ≡ Write };
+
+    fn from(_error: Failed) -> Self {
+        RunFault::Write
+    }
+}
+
+/// The exit status of a program that ends with the fault.
+pub fn status_of(fault: &RunFault) -> u8
+    ensures { result ≡ status_after fault.now }
+{
+    match fault {
+        RunFault::Input(ReadFault::Read) | RunFault::Write => 4,
+        RunFault::Input(ReadFault::Memory) | RunFault::Mine(MineFault::Memory) => 6,
+        RunFault::Mine(MineFault::TooMany { .. }) => 5,
+        RunFault::Input(_) => 3,
+    }
+}

@@ -1,0 +1,90 @@
+-- An input of few bytes has few lines and few baskets.
+use Rattle.std.proofs.Common.{◌≡◌, ◌≢◌, ℕ, ◌+◌, ◌*◌, ◌<◌, ◌≤◌, ◌^◌, Bool, true, false, List, [], ◌∷◌, ◌++◌, length, cond, fold, zero, suc, ltb, eqb, refl, sym, ap, ◌∙◌, subst, inl, inr, arith, append_assoc}
+use Rattle.std.specs.List.{flat_map}
+use Rattle.std.proofs.lemmas.Bool.{cases_lt}
+use Rattle.std.proofs.lemmas.Grind.{not_there, flat_map-append}
+use Rattle.std.proofs.lemmas.List.{append-nil, length-append}
+use Rattle.std.proofs.Math.Logic.{∥∥₁_map}
+use Rattle.basket_core.specs.Itemset.{rising, with_item}
+use Rattle.basket_core.specs.Database.{MOST_BASKETS}
+use Rattle.basket_read.specs.declared.text.Text.{Text}
+use Rattle.basket_read.specs.Cut.{Cut, cut_more, cut_at}
+use Rattle.basket_read.specs.Fimi.{is_line_feed, is_times, basket_of, basket_of_numbers, numbers_of, weight_before, MOST_BYTES}
+use Rattle.basket_read.specs.Text.{HasBaskets, IsTextSoFar, HasRoom}
+use Rattle.basket_read.proofs.CutLemmas.{cut}
+
+-- a bound that follows from what is there
+merely_below : {A : Type 0} (a b : ℕ) → ∥ A ∥₁ → (A → a < b) → a < b
+merely_below a b h f = elim (cases_lt a b) [
+  | inl lt ↦ lt
+  | inr le ↦ absurd (not_there h (λ w. let lt = f w in absurd (omega arith)))
+]
+
+-- a separator for each part that has ended
+ended_after : (p : ℕ → Bool) (c : Cut) (xs : List ℕ) → length (fold (cut_more p) c xs).ended ≤ length c.ended + length xs
+ended_after p c [] = omega arith
+ended_after p c (x ∷ xs) = at (p x) (ended_after p (cut (c.ended ++ c.last ∷ []) []) xs) (ended_after p (cut c.ended (c.last ++ x ∷ [])) xs)
+  where
+    at : (b : Bool) → length (fold (cut_more p) (cut (c.ended ++ c.last ∷ []) []) xs).ended ≤ length (c.ended ++ c.last ∷ []) + length xs
+        → length (fold (cut_more p) (cut c.ended (c.last ++ x ∷ [])) xs).ended ≤ length c.ended + length xs
+        → length (fold (cut_more p) (cond b (cut (c.ended ++ c.last ∷ []) []) (cut c.ended (c.last ++ x ∷ []))) xs).ended ≤ length c.ended + suc (length xs)
+    at true ended joined = let one = length-append c.ended (c.last ∷ []) in omega arith
+    at false ended joined = omega arith
+
+pub few_lines : (text : Text) (more : ℕ) → HasRoom text (more + 1) → text.lines + 1 < 2 ^ 32
+few_lines text more room =
+    merely_below (text.lines + 1) (2 ^ 32) room (λ w. let t = w.1.lines in let e = ended_after is_line_feed (cut [] []) w.0 in let small = w.2 in omega arith)
+
+-- a basket has a number, and so its line a byte
+basket_size : (line : List ℕ) → 2 * length (basket_of line) ≤ length line + 1
+basket_size [] = omega arith
+basket_size (byte ∷ line) = let one = at (numbers_of (cut_at is_times (byte ∷ line)).last) (weight_before (cut_at is_times (byte ∷ line)).ended) in omega arith
+  where
+    at : (numbers : List ℕ) (weight : ℕ) → length (basket_of_numbers numbers weight) ≤ 1
+    at [] weight = omega arith
+    at (number ∷ numbers) weight = omega arith
+
+-- two bytes for each basket, and those of the last line
+abbrev bytes_of : Cut → ℕ
+bytes_of k = 2 * length (flat_map basket_of k.ended) + length k.last
+
+-- a basket and its line feed take two bytes
+baskets_after : (c : Cut) (xs : List ℕ) →
+    2 * length (flat_map basket_of (fold (cut_more is_line_feed) c xs).ended) + length (fold (cut_more is_line_feed) c xs).last ≤ 2 * length (flat_map basket_of c.ended) + length c.last + length xs
+baskets_after c [] = omega arith
+baskets_after c (x ∷ xs) = at (is_line_feed x) (baskets_after (cut (c.ended ++ c.last ∷ []) []) xs) (baskets_after (cut c.ended (c.last ++ x ∷ [])) xs)
+  where
+    at : (b : Bool) → bytes_of (fold (cut_more is_line_feed) (cut (c.ended ++ c.last ∷ []) []) xs) ≤ bytes_of (cut (c.ended ++ c.last ∷ []) []) + length xs
+        → bytes_of (fold (cut_more is_line_feed) (cut c.ended (c.last ++ x ∷ [])) xs) ≤ bytes_of (cut c.ended (c.last ++ x ∷ [])) + length xs
+        → bytes_of (fold (cut_more is_line_feed) (cond b (cut (c.ended ++ c.last ∷ []) []) (cut c.ended (c.last ++ x ∷ []))) xs) ≤ bytes_of c + suc (length xs)
+    at true ended joined =
+        let split = ap length (flat_map-append basket_of c.ended (c.last ∷ []) ∙ ap (λ l. flat_map basket_of c.ended ++ l) (append-nil (basket_of c.last))) in
+        let size = basket_size c.last in let sum = length-append (flat_map basket_of c.ended) (basket_of c.last) in
+        omega arith
+    at false ended joined = let one = length-append c.last (x ∷ []) in omega arith
+
+pub few_baskets : (text : Text) (more : ℕ) → HasRoom text more → text.heavy ≡ false → length text.baskets < MOST_BASKETS
+few_baskets text more room light =
+    merely_below (length text.baskets) MOST_BASKETS room
+    (λ w. let same = subst (λ b. HasBaskets b text.baskets (flat_map basket_of (cut_at is_line_feed w.0).ended)) light w.1.baskets in
+    let few = baskets_after (cut [] []) w.0 in let small = w.2 in let length_same = ap length same.0 in omega arith)
+
+-- after a part of a piece there is room for its rest
+pub room_after : (text new : Text) (before : List ℕ) (more : ℕ) (all : ℕ) → length before + more ≤ all → HasRoom text all
+    → ((bytes : List ℕ) → IsTextSoFar text bytes → IsTextSoFar new (bytes ++ before)) → HasRoom new more
+room_after text new before more all few room step =
+    ∥∥₁_map room (λ w. (w.0 ++ before, step w.0 w.1, let sum = length-append w.0 before in let small = w.2 in omega arith))
+
+-- a set of some numbers is not empty
+pub rising_nonempty : (numbers : List ℕ) → numbers ≢ [] → rising numbers ≢ []
+rising_nonempty [] some e = some refl
+rising_nonempty (number ∷ numbers) some e = with_nonempty number (rising numbers) e
+  where
+    with_nonempty : (item : ℕ) (items : List ℕ) → with_item item items ≢ []
+    with_nonempty item [] e = absurd cc
+    with_nonempty item (first ∷ others) e = at (ltb item first) (eqb item first) e
+      where
+        at : (below same : Bool) → cond below (item ∷ first ∷ others) (cond same (first ∷ others) (first ∷ with_item item others)) ≢ []
+        at true same e = absurd cc
+        at false true e = absurd cc
+        at false false e = absurd cc

@@ -1,0 +1,8 @@
+use Rattle.basket_read.proofs.PartsLemmas.{fault_told, answer_told}
+use Rattle.basket_read.proofs.parts.FimiParts.finish.Goals as goal
+
+pub returns-in-Some-clause-exact : goal.returns-in-Some-clause-exact
+returns-in-Some-clause-exact c = λ bytes fed _. answer_told bytes c.in-Some.fault (fault_told c.args.self bytes fed c.in-Some.fault c.in-Some.is)
+
+pub finish-requires : goal.finish-requires
+finish-requires c = c.args.self.some c.in_default.is

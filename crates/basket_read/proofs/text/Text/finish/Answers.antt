@@ -1,0 +1,10 @@
+use Rattle.std.proofs.Common.{◌≡◌}
+use Rattle.basket_read.proofs.RoomLemmas.{few_baskets}
+use Rattle.basket_read.proofs.TextLemmas.{has_all, light_answer}
+use Rattle.basket_read.proofs.text.Text.finish.Goals as goal
+
+pub end_line-requires : goal.end_line-requires
+end_line-requires c = few_baskets c.args.self 0 c.requires
+
+pub returns : goal.returns
+returns c = λ bytes t. light_answer c.end_line.new.self.heavy c.end_line.new.self.baskets _ c.if-self.false (has_all c.args.self bytes t c.end_line.new.self c.in_ok-end_line.ensures.baskets)

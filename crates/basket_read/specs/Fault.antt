@@ -1,0 +1,12 @@
+use Rattle.std.specs.Prelude.{ℕ}
+use Rattle.basket_read.specs.declared.fault.ReadFault.{ReadFault}
+use Rattle.basket_read.specs.declared.fault.ReadFault.TheVariants.{Memory, Read, TooLong, Byte, Number, Heavy}
+
+-- the number by which programs tell the faults apart
+abbrev pub number_of_fault : ReadFault → ℕ
+number_of_fault Memory = 1
+number_of_fault Read = 2
+number_of_fault TooLong = 3
+number_of_fault (Byte line byte) = 4
+number_of_fault (Number line) = 5
+number_of_fault Heavy = 8

@@ -1,0 +1,37 @@
+-- What an input that comes in pieces stands for.
+use Rattle.std.specs.Prelude.{◌≡◌, ◌≤◌, ℕ, Bool, true, false, not, List, [], ◌∷◌, length}
+use Rattle.basket_read.specs.declared.input.Front.{Front}
+use Rattle.basket_read.specs.declared.input.Front.TheVariants.{Empty, OneByte, TwoBytes, Decided}
+use Rattle.basket_read.specs.declared.input.Input.{Input}
+use Rattle.basket_read.specs.Fimi.{text_of, may_be_mark, MOST_BYTES}
+use Rattle.basket_read.specs.Text.{IsTextSoFar}
+
+-- whether the bytes settle if the mark stands at their front
+abbrev pub is_decided : List ℕ → Bool
+is_decided [] = false
+is_decided (byte ∷ bytes) = not (may_be_mark (byte ∷ bytes))
+
+-- what stands at the front of the bytes
+abbrev pub IsFront : Front → List ℕ → Type 0
+IsFront Empty bytes = bytes ≡ []
+IsFront OneByte bytes = bytes ≡ 239 ∷ []
+IsFront TwoBytes bytes = bytes ≡ 239 ∷ 187 ∷ []
+IsFront Decided bytes = is_decided bytes ≡ true
+
+-- the text behind the front
+abbrev pub text_behind : Front → List ℕ → List ℕ
+text_behind Empty bytes = []
+text_behind OneByte bytes = []
+text_behind TwoBytes bytes = []
+text_behind Decided bytes = text_of bytes
+
+-- the input that was read is of these bytes, and has no fault that is settled
+pub record IsInputSoFar (input : Input) (bytes : List ℕ) : Type 0 where
+  pub front : IsFront input.front bytes
+  pub taken : input.taken ≡ length bytes
+  pub few : length bytes ≤ MOST_BYTES
+  pub text : IsTextSoFar input.text (text_behind input.front bytes)
+
+-- the input that was read is of some bytes
+abbrev pub IsSomeInput : Input → Type 0
+IsSomeInput input = ∥ ((bytes : List ℕ) × IsInputSoFar input bytes) ∥₁

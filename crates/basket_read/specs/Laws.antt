@@ -1,0 +1,35 @@
+-- Laws on the grammar and on faults.
+use Rattle.std.specs.Prelude.{◌≡◌, ◌↔◌, ℕ, true, false, List, [], ◌∷◌, ◌++◌, Some, None}
+
+use Rattle.basket_read.specs.declared.fault.ReadFault.{ReadFault}
+use Rattle.basket_read.specs.Fimi.{is_good, fault_at, first_fault, fault_in, settled_fault}
+
+-- each front of a good text is good
+abbrev pub FrontsAreGood : Type 0
+FrontsAreGood = (front rest : List ℕ) → is_good (front ++ rest) ≡ true → is_good front ≡ true
+
+-- a text is good, or it has a first fault, and not both
+abbrev pub GoodIsFaultless : Type 0
+GoodIsFaultless = (text : List ℕ) → (is_good text ≡ true) ↔ (first_fault text ≡ None)
+
+-- the text has this fault at a byte: what stands before the byte is good, and with the byte it is not
+pub record HasFault (text : List ℕ) (fault : ReadFault) : Type 0 where
+  pub before : List ℕ
+  pub byte : ℕ
+  pub rest : List ℕ
+  pub whole : text ≡ before ++ byte ∷ rest
+  pub good : is_good before ≡ true
+  pub bad : is_good (before ++ byte ∷ []) ≡ false
+  pub told : fault ≡ fault_at before byte
+
+-- the first fault is that of the one byte that ends a good text badly
+abbrev pub FirstFaultIsExact : Type 0
+FirstFaultIsExact = (text : List ℕ) (fault : ReadFault) → (first_fault text ≡ Some fault) ↔ HasFault text fault
+
+-- bytes with a settled fault have it whatever follows
+abbrev pub SettledFaultsStay : Type 0
+SettledFaultsStay = (bytes more : List ℕ) (fault : ReadFault) → settled_fault bytes ≡ Some fault → fault_in (bytes ++ more) ≡ Some fault
+
+-- bytes without a settled fault may go on so that they have none
+abbrev pub UnsettledMayBeGood : Type 0
+UnsettledMayBeGood = (bytes : List ℕ) → settled_fault bytes ≡ None → (more : List ℕ) × (fault_in (bytes ++ more) ≡ None)

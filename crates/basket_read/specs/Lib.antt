@@ -1,0 +1,11 @@
+pub mod Fault
+pub mod Cut
+pub mod Fimi
+pub mod Number
+pub mod Line
+pub mod Text
+pub mod Input
+pub mod Parts
+pub mod Read
+pub mod Laws
+pub mod Worked

@@ -1,0 +1,37 @@
+-- What a text that is being read stands for.
+use Rattle.std.specs.Prelude.{◌≡◌, ◌≢◌, ◌<◌, ◌≤◌, ◌+◌, ℕ, Bool, true, false, List, length, Option, Some, None, Result, Ok, Err}
+use Rattle.std.specs.List.{flat_map}
+use Rattle.basket_core.specs.declared.weighted.Weighted.{Weighted}
+use Rattle.basket_core.specs.Support.{total_of}
+use Rattle.basket_core.specs.Database.{MOST_WEIGHT}
+use Rattle.basket_read.specs.declared.fault.ReadFault.{ReadFault}
+use Rattle.basket_read.specs.declared.fault.ReadFault.TheVariants.{Memory}
+use Rattle.basket_read.specs.declared.text.Text.{Text}
+use Rattle.basket_read.specs.Cut.{cut_at}
+use Rattle.basket_read.specs.Fimi.{is_line_feed, basket_of, first_fault, MOST_BYTES}
+use Rattle.basket_read.specs.Line.{line_state, line_at}
+
+-- a database has the baskets, which don't weigh too much, or they are known to weigh too much
+abbrev pub HasBaskets : Bool → List Weighted → List Weighted → Type 0
+HasBaskets true database baskets = MOST_WEIGHT < total_of baskets
+HasBaskets false database baskets = (database ≡ baskets) × (total_of baskets ≤ MOST_WEIGHT)
+
+-- the text that was read is of these bytes, and has no fault
+pub record IsTextSoFar (text : Text) (bytes : List ℕ) : Type 0 where
+  pub faultless : first_fault bytes ≡ None
+  pub lines : text.lines ≡ length (cut_at is_line_feed bytes).ended
+  pub baskets : HasBaskets text.heavy text.baskets (flat_map basket_of (cut_at is_line_feed bytes).ended)
+  pub line : line_state text.line ≡ line_at (cut_at is_line_feed bytes).last
+
+-- the text that was read is of so few bytes that an input may have so many more
+abbrev pub HasRoom : Text → ℕ → Type 0
+HasRoom text more = ∥ ((bytes : List ℕ) × IsTextSoFar text bytes × (length bytes + more ≤ MOST_BYTES)) ∥₁
+
+-- but for want of memory, the fault is the one that was found
+abbrev pub Tells : ReadFault → Option ReadFault → Type 0
+Tells fault found = fault ≢ Memory → found ≡ Some fault
+
+-- but for want of memory, the answer is the one that is defined
+abbrev pub Answers : Result (List Weighted) ReadFault → Result (List Weighted) ReadFault → Type 0
+Answers (Ok baskets) answer = answer ≡ Ok baskets
+Answers (Err fault) answer = fault ≢ Memory → answer ≡ Err fault

@@ -1,0 +1,27 @@
+//! What a byte can be in a FIMI text.
+ghost use Rattle.basket_read.specs.Line.{IsClass};
+
+/// What a byte can be in a FIMI text.
+#[derive(Clone, Copy, Debug)]
+pub enum Class {
+    /// A digit, by its value.
+    Digit(u8),
+    Blank,
+    /// The `x` behind a weight.
+    Times,
+    LineFeed,
+    Other,
+}
+
+#[inline(always)]
+pub fn class_of(byte: u8) -> Class
+    ensures { IsClass result byte }
+{
+    match byte {
+        b'0'..=b'9' => Class::Digit(byte - b'0'),
+        b' ' | b'\t' | b'\r' => Class::Blank,
+        b'x' => Class::Times,
+        b'\n' => Class::LineFeed,
+        _ => Class::Other,
+    }
+}

@@ -1,0 +1,145 @@
+//! An input of which not all has been read.
+ghost use Rattle.std.specs.Prelude.{◌≡◌, ◌≢◌, ◌+◌, ◌≤◌, ℕ, List, [], ◌∷◌, ◌++◌, length, MatchResult};
+ghost use Rattle.basket_read.specs.Fimi.{settled_fault, fault_in, fimi_of};
+ghost use Rattle.basket_read.specs.Text.{Tells, Answers};
+ghost use Rattle.basket_read.specs.Input.{IsInputSoFar, IsSomeInput};
+
+use crate::fault::ReadFault;
+use crate::text::Text;
+use basket_core::Database;
+use std::alloc::Global;
+
+/// The greatest number of bytes of an input.
+const MAX_BYTES: u32 = 4_294_967_295;
+
+/// The bytes of the byte order mark.
+const MARK: [u8; 3] = [0xEF, 0xBB, 0xBF];
+
+/// The fault of bytes that begin as the mark does and don't go on so.
+const HALF_A_MARK: ReadFault = ReadFault::Byte {
+    line: 1,
+    byte: MARK[0],
+};
+
+/// What stands at the front of the input.
+#[derive(Clone, Copy, Debug)]
+pub enum Front {
+    /// Nothing yet.
+    Empty,
+    /// One byte that may begin the mark.
+    OneByte,
+    /// Two bytes that may begin the mark.
+    TwoBytes,
+    /// The mark, or something else.
+    Decided,
+}
+
+/// What has been read of an input: what stands at its front, how many bytes, and the text behind
+/// the front.
+#[derive(Debug, Drop)]
+pub struct Input {
+    front: Front,
+    taken: u32,
+    text: Text,
+}
+
+impl Input {
+    pub fn new(alloc: Global) -> Self
+        ensures { IsInputSoFar result [] }
+    {
+        Input {
+            front: Front::Empty,
+            taken: 0,
+            text: Text::new(alloc),
+        }
+    }
+
+    /// Takes more of the input, up to its first fault.
+    pub fn take(&mut self, piece: &[u8]) -> Result<(), ReadFault>
+        requires { IsSomeInput self.old }
+        ensures { (bytes : List ℕ) → IsInputSoFar self.old bytes →
+            MatchResult result (λ _. IsInputSoFar self.new (bytes ++ piece.now)) (λ fault. Tells fault (settled_fault (bytes ++ piece.now))) }
+    {
+        for (place, byte) in piece.iter().enumerate() {
+            if let Front::Decided = self.front {
+                return self.take_text(&piece[place..]);
+            }
+            self.take_byte(*byte)?;
+        }
+        Ok(())
+    }
+
+    /// Takes a byte, behind the mark or where it may stand.
+    fn take_byte(&mut self, byte: u8) -> Result<(), ReadFault>
+        requires { IsSomeInput self.old }
+        ensures { (bytes : List ℕ) → IsInputSoFar self.old bytes →
+            MatchResult result (λ _. IsInputSoFar self.new (bytes ++ byte ∷ [])) (λ fault. Tells fault (settled_fault (bytes ++ byte ∷ []))) }
+    {
+        match self.front {
+            Front::Empty => {
+                if byte == MARK[0] {
+                    self.front = Front::OneByte;
+                } else {
+                    self.text.feed(&[byte])?;
+                    self.front = Front::Decided;
+                }
+                self.taken = 1;
+            }
+            Front::OneByte => {
+                if byte != MARK[1] {
+                    return Err(HALF_A_MARK);
+                }
+                self.front = Front::TwoBytes;
+                self.taken = 2;
+            }
+            Front::TwoBytes => {
+                if byte != MARK[2] {
+                    return Err(HALF_A_MARK);
+                }
+                self.front = Front::Decided;
+                self.taken = 3;
+            }
+            Front::Decided => return self.take_text(&[byte]),
+        }
+        Ok(())
+    }
+
+    /// Takes bytes behind the front, as many as an input may have.
+    fn take_text(&mut self, piece: &[u8]) -> Result<(), ReadFault>
+        requires some { IsSomeInput self.old }
+        requires decided { self.old.front ≡ Front.Decided }
+        ensures { (bytes : List ℕ) → IsInputSoFar self.old bytes →
+            MatchResult result (λ _. IsInputSoFar self.new (bytes ++ piece.now)) (λ fault. Tells fault (settled_fault (bytes ++ piece.now))) }
+    {
+        let room = (MAX_BYTES - self.taken) as usize;
+        if piece.len() > room {
+            self.text.feed(&piece[..room])?;
+            return Err(ReadFault::TooLong);
+        }
+        self.text.feed(piece)?;
+        self.taken += piece.len() as u32;
+        Ok(())
+    }
+
+    /// The fault of the bytes so far if none follow.
+    pub fn fault_so_far(&self) -> Option<ReadFault>
+        ensures { (bytes : List ℕ) → IsInputSoFar self.now bytes → result ≡ fault_in bytes }
+    {
+        match self.front {
+            Front::OneByte | Front::TwoBytes => Some(HALF_A_MARK),
+            Front::Empty | Front::Decided => None,
+        }
+    }
+
+    /// The baskets of the whole input.
+    pub fn finish(self) -> Result<Database, ReadFault>
+        requires { IsSomeInput self }
+        ensures { (bytes : List ℕ) → IsInputSoFar self bytes → Answers result (fimi_of bytes) }
+    {
+        if let Some(fault) = self.fault_so_far() {
+            return Err(fault);
+        }
+        let Input { text, .. } = self;
+        text.finish()
+    }
+}

@@ -1,0 +1,81 @@
+//! A FIMI input that comes in pieces.
+ghost use Rattle.std.specs.Prelude.{◌≡◌, ◌≢◌, ℕ, List, [], ◌++◌, None, Some, IfSome, Ok, Err, MatchResult, OnOk, IfErr};
+ghost use Rattle.std.specs.Option.{ForNone};
+ghost use Rattle.basket_read.specs.declared.fault.ReadFault.TheVariants.{Memory};
+ghost use Rattle.basket_read.specs.Fimi.{settled_fault, fault_in, fimi_of};
+ghost use Rattle.basket_read.specs.Text.{Tells, Answers};
+ghost use Rattle.basket_read.specs.Input.{IsSomeInput};
+
+use crate::fault::ReadFault;
+use crate::input::Input;
+use basket_core::Database;
+use std::alloc::Global;
+
+/// What has been read of a FIMI input that comes in pieces.
+#[derive(Debug, Drop)]
+pub struct FimiParts {
+    input: Input,
+    refusal: Option<ReadFault>,
+    ghost some: { ForNone refusal (IsSomeInput input) },
+}
+
+impl FimiParts {
+    ghost use Rattle.basket_read.specs.Parts.{IsFed, refusal_of};
+
+    /// The parts of an input of which nothing has come.
+    pub fn new(alloc: Global) -> Self
+        ensures fed { IsFed result [] }
+        ensures refusal { refusal_of result ≡ None }
+    {
+        FimiParts {
+            input: Input::new(alloc),
+            refusal: None,
+        }
+    }
+
+    /// Takes the next piece. After an `Err` the parts answer the same fault for ever.
+    pub fn feed(&mut self, piece: &[u8]) -> Result<(), ReadFault>
+        // It refuses exactly the bytes that have a fault whatever follows, and tells that fault.
+        ensures exact { (bytes : List ℕ) → IsFed self.old bytes →
+            MatchResult result (λ _. settled_fault (bytes ++ piece.now) ≡ None) (λ fault. Tells fault (settled_fault (bytes ++ piece.now))) }
+        // The bytes so far are those of all pieces.
+        ensures fed { (bytes : List ℕ) → IsFed self.old bytes → result ≢ Err Memory → IsFed self.new (bytes ++ piece.now) }
+        // A fault is told for ever.
+        ensures ok { OnOk result (refusal_of self.new ≡ None) }
+        ensures refused { IfErr result (λ fault. refusal_of self.new ≡ Some fault) }
+        ensures again { IfSome (refusal_of self.old) (λ fault. result ≡ Err fault) }
+    {
+        if let Some(fault) = self.refusal {
+            return Err(fault);
+        }
+        match self.input.take(piece) {
+            Ok(()) => Ok(()),
+            Err(fault) => {
+                self.refusal = Some(fault);
+                Err(fault)
+            }
+        }
+    }
+
+    /// The baskets of all pieces together, or their first fault.
+    pub fn finish(self) -> Result<Database, ReadFault>
+        ensures exact { (bytes : List ℕ) → IsFed self bytes → Answers result (fimi_of bytes) }
+        ensures again { IfSome (refusal_of self) (λ fault. result ≡ Err fault) }
+    {
+        if let Some(fault) = self.refusal {
+            return Err(fault);
+        }
+        let FimiParts { input, .. } = self;
+        input.finish()
+    }
+
+    /// The fault of the bytes so far if none follow.
+    pub(crate) fn fault_so_far(&self) -> Option<ReadFault>
+        ensures { (bytes : List ℕ) → IsFed self.now bytes → result ≡ fault_in bytes }
+    {
+        match self.refusal {
+            Some(fault) => Some(fault),
+            None => self.input.fault_so_far(),
+        }
+    }
+}

@@ -1,0 +1,74 @@
+//! Reading a FIMI input block by block.
+ghost use Rattle.std.specs.Prelude.{◌≡◌, ◌<◌, ◌≤◌, true, false, length, IfSome, IsErr, Err};
+ghost use Rattle.basket_read.specs.declared.fault.ReadFault.TheVariants.{Read};
+ghost use Rattle.basket_read.specs.Fimi.{fimi_of};
+ghost use Rattle.basket_read.specs.Text.{Answers};
+ghost use Rattle.basket_read.specs.Read.{FailsAfter};
+
+use crate::fault::ReadFault;
+use crate::parts::FimiParts;
+use basket_core::{Database, Source};
+use std::alloc::Global;
+
+/// The greatest block.
+pub const MAX_BLOCK: usize = 1_048_576;
+
+/// The block of `read_fimi`.
+const BLOCK: usize = 65_536;
+
+/// Reads a FIMI input to its end, in blocks of 65,536 bytes.
+pub fn read_fimi<S: Source>(alloc: Global, reader: &mut S) -> Result<Database, ReadFault>
+    requires { S.has_failed reader.old ≡ false }
+    // Where the reader doesn't fail, the answer is that of all its bytes.
+    ensures exact { S.has_failed reader.new ≡ false → IfSome (S.left reader.old) (λ bytes. Answers result (fimi_of bytes)) }
+    // Where it fails, the answer is the fault in the bytes that it gave, else `Read`.
+    ensures failed { S.has_failed reader.new ≡ true → IfSome (S.left reader.old) (λ bytes. FailsAfter bytes (S.left reader.new) result) }
+    // So far as the reader doesn't tell its bytes too.
+    ensures failed_is_err { S.has_failed reader.new ≡ true → IsErr result }
+    ensures read_is_failed { result ≡ Err Read → S.has_failed reader.new ≡ true }
+{
+    read_fimi_by(alloc, reader, BLOCK)
+}
+
+/// Reads a FIMI input to its end, a block at a time.
+pub fn read_fimi_by<S: Source>(
+    alloc: Global,
+    reader: &mut S,
+    block: usize,
+) -> Result<Database, ReadFault>
+    requires fresh { S.has_failed reader.old ≡ false }
+    requires some { 1 ≤ block }
+    requires few { block ≤ MAX_BLOCK }
+    // Where the reader doesn't fail, the answer is that of all its bytes.
+    ensures exact { S.has_failed reader.new ≡ false → IfSome (S.left reader.old) (λ bytes. Answers result (fimi_of bytes)) }
+    // Where it fails, the answer is the fault in the bytes that it gave, else `Read`.
+    ensures failed { S.has_failed reader.new ≡ true → IfSome (S.left reader.old) (λ bytes. FailsAfter bytes (S.left reader.new) result) }
+    // So far as the reader doesn't tell its bytes too.
+    ensures failed_is_err { S.has_failed reader.new ≡ true → IsErr result }
+    ensures read_is_failed { result ≡ Err Read → S.has_failed reader.new ≡ true }
+{
+    let mut buffer = vec![in alloc; 0u8; block]?;
+    read_blocks(alloc, reader, &mut buffer)
+}
+
+fn read_blocks<S: Source>(
+    alloc: Global,
+    reader: &mut S,
+    buffer: &mut [u8],
+) -> Result<Database, ReadFault>
+    requires fresh { S.has_failed reader.old ≡ false }
+    requires some { 0 < length buffer.old }
+    ensures exact { S.has_failed reader.new ≡ false → IfSome (S.left reader.old) (λ bytes. Answers result (fimi_of bytes)) }
+    ensures failed { S.has_failed reader.new ≡ true → IfSome (S.left reader.old) (λ bytes. FailsAfter bytes (S.left reader.new) result) }
+    ensures failed_is_err { S.has_failed reader.new ≡ true → IsErr result }
+    ensures read_is_failed { result ≡ Err Read → S.has_failed reader.new ≡ true }
+{
+    let mut parts = FimiParts::new(alloc);
+    'reading: loop {
+        match reader.read(buffer) {
+            Ok(0) => return parts.finish(),
+            Ok(count) => parts.feed(&buffer[..count])?,
+            Err(_) => return Err(parts.fault_so_far().unwrap_or(ReadFault::Read)),
+        }
+    }
+}

@@ -1,0 +1,129 @@
+//! A text of which not all has been read.
+ghost use Rattle.std.specs.Prelude.{◌≡◌, ◌≢◌, ◌<◌, ◌≤◌, ◌+◌, ℕ, List, [], ◌∷◌, ◌++◌, length, false, OnOk, IfErr, MatchResult};
+ghost use Rattle.basket_core.specs.declared.weighted.Weighted.{Weighted};
+ghost use Rattle.basket_core.specs.Database.{MOST_BASKETS};
+ghost use Rattle.basket_read.specs.Fimi.{first_fault, basket_of_numbers, baskets_of, if_light};
+ghost use Rattle.basket_read.specs.Line.{line_state, line_at, blank_added};
+ghost use Rattle.basket_read.specs.Text.{HasBaskets, IsTextSoFar, HasRoom, Tells, Answers};
+
+use crate::class::{Class, class_of};
+use crate::fault::ReadFault;
+use crate::line::Line;
+use basket_core::{Database, Itemset};
+use std::alloc::Global;
+
+/// What has been read of a text: how many lines have ended, their baskets, and the line after them.
+#[derive(Debug, Drop)]
+pub struct Text {
+    alloc: Global,
+    lines: u32,
+    baskets: Database,
+    /// Whether the baskets weigh too much for a database, which then has not all of them.
+    heavy: bool,
+    line: Line,
+}
+
+impl Text {
+    pub fn new(alloc: Global) -> Self
+        ensures { IsTextSoFar result [] }
+    {
+        Text {
+            alloc,
+            lines: 0,
+            baskets: Database::new(alloc),
+            heavy: false,
+            line: Line::new(alloc),
+        }
+    }
+
+    /// Takes more of the text, up to its first fault.
+    pub fn feed(&mut self, piece: &[u8]) -> Result<(), ReadFault>
+        requires { HasRoom self.old (length piece.now) }
+        ensures { (bytes : List ℕ) → IsTextSoFar self.old bytes →
+            MatchResult result (λ _. IsTextSoFar self.new (bytes ++ piece.now)) (λ fault. Tells fault (first_fault (bytes ++ piece.now))) }
+    {
+        for byte in piece {
+            self.take(*byte)?;
+        }
+        Ok(())
+    }
+
+    #[inline(always)]
+    fn take(&mut self, byte: u8) -> Result<(), ReadFault>
+        requires { HasRoom self.old 1 }
+        ensures { (bytes : List ℕ) → IsTextSoFar self.old bytes →
+            MatchResult result (λ _. IsTextSoFar self.new (bytes ++ byte ∷ [])) (λ fault. Tells fault (first_fault (bytes ++ byte ∷ []))) }
+    {
+        match class_of(byte) {
+            Class::Digit(digit) => {
+                if !self.line.add_digit(digit) {
+                    return Err(ReadFault::Number {
+                        line: self.lines + 1,
+                    });
+                }
+            }
+            Class::Blank => self.line.add_blank()?,
+            Class::Times => {
+                if !self.line.add_times() {
+                    return Err(ReadFault::Byte {
+                        line: self.lines + 1,
+                        byte,
+                    });
+                }
+            }
+            Class::LineFeed => {
+                self.end_line()?;
+                self.lines += 1;
+            }
+            Class::Other => {
+                return Err(ReadFault::Byte {
+                    line: self.lines + 1,
+                    byte,
+                });
+            }
+        }
+        Ok(())
+    }
+
+    /// Adds the line's basket, if it has a number, and begins a new line.
+    #[inline]
+    fn end_line(&mut self) -> Result<(), ReadFault>
+        requires { self.old.heavy ≡ false → length self.old.baskets < MOST_BASKETS }
+        ensures line { OnOk result (line_state self.new.line ≡ line_at []) }
+        ensures lines { self.new.lines ≡ self.old.lines }
+        ensures baskets { (baskets : List Weighted) → HasBaskets self.old.heavy self.old.baskets baskets →
+            let line = blank_added (line_state self.old.line) in
+            OnOk result (HasBaskets self.new.heavy self.new.baskets (baskets ++ basket_of_numbers line.numbers line.weight)) }
+        ensures err { IfErr result (λ fault. fault ≡ ReadFault.Memory) }
+    {
+        self.line.add_blank()?;
+        let numbers = self.line.numbers();
+        if !numbers.is_empty() {
+            let weight = u64::from(self.line.weight());
+            if weight > Database::MAX_WEIGHT.saturating_sub(self.baskets.total()) {
+                self.heavy = true;
+            }
+            if !self.heavy {
+                let basket = Itemset::from_items(self.alloc, numbers)?;
+                if self.baskets.push(basket, weight).is_err() {
+                    return Err(ReadFault::Memory);
+                }
+            }
+        }
+        self.line.clear();
+        Ok(())
+    }
+
+    /// The baskets of the whole text, if they don't weigh too much.
+    pub fn finish(mut self) -> Result<Database, ReadFault>
+        requires { HasRoom self 0 }
+        ensures { (bytes : List ℕ) → IsTextSoFar self bytes → Answers result (if_light (baskets_of bytes)) }
+    {
+        self.end_line()?;
+        if self.heavy {
+            return Err(ReadFault::Heavy);
+        }
+        let Text { baskets, .. } = self;
+        Ok(baskets)
+    }
+}
