@@ -1,5 +1,23 @@
-.PHONY: test
+.PHONY: demo test install bench
+
+PREFIX ?= $(HOME)/.local
+CLI := crates/basket_cli
+PROGRAM := $(CLI)/out/basket_cli
+
+# Proves and builds the program, and lists what is bought in two baskets of the small shop or more.
+demo:
+	cd $(CLI) && rt run > out/run.log 2>&1 || { tail -20 out/run.log; exit 1; }
+	$(PROGRAM) items --min 2 < examples/shop.dat
 
 # The gate: proves every crate and its tests from nothing, tries the must-fail edits, and runs the tests and programs.
 test:
 	rt ci
+
+# Puts the program that `make demo` built into PREFIX/bin.
+install:
+	test -x $(PROGRAM) || $(MAKE) demo
+	install -D -m 755 $(PROGRAM) $(DESTDIR)$(PREFIX)/bin/basket
+
+# Times the program that `make demo` built on a million baskets.
+bench:
+	bench/items.sh $(PROGRAM)

@@ -44,7 +44,8 @@ const INPUT: &str = "\
 Standard input has one basket a line: the numbers of its items with blanks between.
 A line may begin with a weight, as `3x 1 2` for three baskets of the items 1 and 2.";
 
-const ITEMS_ABOUT: &str = "Writes each item that is in enough baskets, with the number of those baskets";
+const ITEMS_ABOUT: &str =
+    "Writes each item that is in enough baskets, with the number of those baskets";
 
 const ITEMS_EXAMPLE: &str = "\
 Standard input has one basket a line: the numbers of its items with blanks between.
@@ -80,6 +81,7 @@ fn command<'a>(alloc: Global) -> Result<Command<'a>, AllocError> {
         .arg(minimum)?;
     Command::new(alloc, "basket")
         .no_binary_name(true)
+        .bin_name("basket")?
         .about(ABOUT)
         .after_help(INPUT)
         .subcommand_required(true)

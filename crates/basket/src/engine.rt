@@ -45,7 +45,7 @@ pub fn run<R, S: Source, W: Sink>(
         Err(fault) => return Err(RunFault::Input(fault)),
     };
     let report = match plan.ask() {
-        Ask::Items => items_report(alloc, database, plan.minimum())?,
+        Ask::Items => items_report(alloc, &database, plan.minimum())?,
     };
     write_all(writer, &report)?;
     Ok(())

@@ -10,16 +10,13 @@ use std::alloc::{AllocError, Global};
 /// The report of the items that meet the minimum.
 pub fn items_report(
     alloc: Global,
-    database: Database,
+    database: &Database,
     minimum: Minimum,
 ) -> Result<Vec<u8>, AllocError>
-    ensures { IfOk result (λ report. report.items ≡ report_of (frequent_items_of database minimum)) }
+    ensures { IfOk result (λ report. report.items ≡ report_of (frequent_items_of database.now minimum)) }
 {
-    let merged = database.merged(alloc)?;
-    drop(database);
-    let total = merged.total();
-    let counts = count_items(alloc, merged.baskets())?;
-    drop(merged);
+    let total = database.total();
+    let counts = count_items(alloc, database.baskets())?;
     let mut report = Vec::new(alloc);
     for (item, support) in &counts {
         if minimum.met(*support, total) {

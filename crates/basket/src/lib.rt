@@ -7,6 +7,8 @@ mod fault;
 mod items;
 mod plan;
 mod report;
+#[cfg(test)]
+mod tests;
 mod write;
 
 pub use command::{PlanFault, plan_of, plan_status};

@@ -1,5 +1,5 @@
 -- How a cut list goes on with one more element.
-use Rattle.std.proofs.Common.{◌≡◌, ℕ, Bool, true, false, List, [], ◌∷◌, ◌++◌, cond, refl, ap, ◌∙◌}
+use Rattle.std.proofs.Common.{◌≡◌, ℕ, Bool, true, false, List, [], ◌∷◌, ◌++◌, cond, ap, ◌∙◌}
 use Rattle.std.proofs.lemmas.List.Sums.{fold_push}
 use Rattle.basket_read.specs.Cut.{Cut, cut_more, cut_at}
 

@@ -1,5 +1,5 @@
 -- Fronts of good texts are good, and the first fault is that of the byte that ends one badly.
-use Rattle.std.proofs.Common.{◌≡◌, ◌≢◌, ℕ, ◌+◌, ◌*◌, ◌-◌, ◌≤◌, Bool, true, false, ◌&&◌, leb, List, [], ◌∷◌, ◌++◌, cond, Option, Some, None, refl, sym, ap, ◌∙◌, subst, inl, inr, append_assoc, arith, length, nat_eq}
+use Rattle.std.proofs.Common.{◌≡◌, ℕ, Bool, true, false, ◌&&◌, leb, List, [], ◌∷◌, ◌++◌, cond, Some, None, refl, sym, ap, ◌∙◌, subst, inl, inr, append_assoc, arith, nat_eq}
 use Rattle.std.specs.List.{list_all}
 use Rattle.std.specs.Cmp.Lexicographic.{pointwise, bytes_decides}
 use Rattle.std.proofs.lemmas.Bool.{cases_Bool, and_parts, and_from, leb-true, le-leb, or_cases}
@@ -7,7 +7,7 @@ use Rattle.std.proofs.lemmas.List.{append-nil}
 use Rattle.basket_core.specs.Minimum.{is_digit, value_of}
 use Rattle.basket_read.specs.declared.fault.ReadFault.{ReadFault}
 use Rattle.basket_read.specs.Cut.{Cut, cut_at}
-use Rattle.basket_read.specs.Fimi.{is_blank, is_times, is_line_feed, is_nil, is_number, is_weight, is_line, is_good, fault_at, fault_after, first_fault, fault_in, may_be_mark, settled_fault, MOST_NUMBER}
+use Rattle.basket_read.specs.Fimi.{is_blank, is_times, is_line_feed, is_nil, is_number, is_weight, is_line, is_good, fault_at, fault_after, first_fault, fault_in, may_be_mark, MOST_NUMBER}
 use Rattle.basket_read.specs.Laws.{FrontsAreGood, GoodIsFaultless, HasFault, FirstFaultIsExact, SettledFaultsStay, UnsettledMayBeGood}
 use Rattle.basket_read.proofs.CutLemmas.{cut, cut_ended, cut_joined}
 use Rattle.basket_read.proofs.LineLemmas.{all_push, value_push, all_numbers, goes, is_line-goes, goes_on}
@@ -60,13 +60,15 @@ line_front line byte h =
     let k = cut_at is_times line in
     let c = cut_at is_blank k.last in
     is_line-goes k.ended k.last ∙ elim (cases_Bool (is_times byte)) [
-      inl e ↦ before_times k.ended k.last (sym (ap (λ (j : Cut). goes j.ended (cut_at is_blank j.last)) (cut_ended is_times line byte e))
-        ∙ sym (is_line-goes (cut_at is_times (line ++ byte ∷ [])).ended (cut_at is_times (line ++ byte ∷ [])).last) ∙ h)
+      | inl e ↦ before_times k.ended k.last (sym (ap (λ (j : Cut). goes j.ended (cut_at is_blank j.last)) (cut_ended is_times line byte e))
+          ∙ sym (is_line-goes (cut_at is_times (line ++ byte ∷ [])).ended (cut_at is_times (line ++ byte ∷ [])).last) ∙ h)
       | inr e ↦ elim (cases_Bool (is_blank byte)) [
-        inl b ↦ let more = cut (c.ended ++ c.last ∷ []) [] in
-          goes_front k.ended c more (numbers_before_blank c) (sym (goes_on line byte more e (cut_ended is_blank k.last byte b)).1 ∙ h)
+        | inl b ↦ let more = cut (c.ended ++ c.last ∷ []) [] in
+            goes_front k.ended c more (numbers_before_blank c) (sym (goes_on line byte more e (cut_ended is_blank k.last byte b)).1 ∙ h)
         | inr b ↦ let more = cut c.ended (c.last ++ byte ∷ []) in
-          goes_front k.ended c more (numbers_front c byte) (sym (goes_on line byte more e (cut_joined is_blank k.last byte b)).1 ∙ h) ] ]
+            goes_front k.ended c more (numbers_front c byte) (sym (goes_on line byte more e (cut_joined is_blank k.last byte b)).1 ∙ h)
+      ]
+    ]
 
 -- ---- a text
 
@@ -74,11 +76,12 @@ text_front : (text : List ℕ) (byte : ℕ) → is_good (text ++ byte ∷ []) �
 text_front text byte h =
     let k = cut_at is_line_feed text in
     elim (cases_Bool (is_line_feed byte)) [
-      inl e ↦ (and_parts (is_good text) (is_line []) (sym (all_push is_line (k.ended ++ k.last ∷ []) [])
-        ∙ sym (ap (λ (j : Cut). list_all is_line (j.ended ++ j.last ∷ [])) (cut_ended is_line_feed text byte e)) ∙ h)).0
+      | inl e ↦ (and_parts (is_good text) (is_line []) (sym (all_push is_line (k.ended ++ k.last ∷ []) [])
+          ∙ sym (ap (λ (j : Cut). list_all is_line (j.ended ++ j.last ∷ [])) (cut_ended is_line_feed text byte e)) ∙ h)).0
       | inr e ↦ let p = and_parts (list_all is_line k.ended) (is_line (k.last ++ byte ∷ [])) (sym (all_push is_line k.ended (k.last ++ byte ∷ []))
-        ∙ sym (ap (λ (j : Cut). list_all is_line (j.ended ++ j.last ∷ [])) (cut_joined is_line_feed text byte e)) ∙ h) in
-        all_push is_line k.ended k.last ∙ and_from (list_all is_line k.ended) (is_line k.last) p.0 (line_front k.last byte p.1) ]
+          ∙ sym (ap (λ (j : Cut). list_all is_line (j.ended ++ j.last ∷ [])) (cut_joined is_line_feed text byte e)) ∙ h) in
+          all_push is_line k.ended k.last ∙ and_from (list_all is_line k.ended) (is_line k.last) p.0 (line_front k.last byte p.1)
+    ]
 
 pub fronts_are_good : FrontsAreGood
 fronts_are_good front [] h = ap is_good (sym (append-nil front)) ∙ h
@@ -109,9 +112,10 @@ fault_stands before (byte ∷ text) fault h e = at (is_good (before ++ byte ∷ 
 
 pub first_fault_is_exact : FirstFaultIsExact
 first_fault_is_exact text fault = (
-    fault_stands [] text fault refl,
-    λ f. ap first_fault f.whole ∙ first_fault_behind f.before (f.byte ∷ f.rest) (faultless_behind [] f.before f.good)
-      ∙ ap (λ b. found b (fault_after (f.before ++ f.byte ∷ []) f.rest) (fault_at f.before f.byte)) f.bad ∙ ap Some (sym f.told))
+  fault_stands [] text fault refl,
+  λ f. ap first_fault f.whole ∙ first_fault_behind f.before (f.byte ∷ f.rest) (faultless_behind [] f.before f.good)
+      ∙ ap (λ b. found b (fault_after (f.before ++ f.byte ∷ []) f.rest) (fault_at f.before f.byte)) f.bad ∙ ap Some (sym f.told),
+)
 
 -- ---- whatever follows
 
@@ -123,8 +127,10 @@ unsettled_may_be_good bytes e = at (may_be_mark bytes) refl e
   where
     same : (mark : List ℕ) → pointwise nat_eq bytes mark ≡ true → bytes ≡ mark
     same mark h = (bytes_decides bytes mark).0 h
+
     at : (b : Bool) → may_be_mark bytes ≡ b → cond b None (fault_in bytes) ≡ None → (more : List ℕ) × (fault_in (bytes ++ more) ≡ None)
     at true m n = elim (or_cases (pointwise nat_eq bytes (239 ∷ [])) (pointwise nat_eq bytes (239 ∷ 187 ∷ [])) m) [
-        inl h ↦ (187 ∷ 191 ∷ [], ap (λ l. fault_in (l ++ 187 ∷ 191 ∷ [])) (same (239 ∷ []) h))
-        | inr h ↦ (191 ∷ [], ap (λ l. fault_in (l ++ 191 ∷ [])) (same (239 ∷ 187 ∷ []) h)) ]
+      | inl h ↦ (187 ∷ 191 ∷ [], ap (λ l. fault_in (l ++ 187 ∷ 191 ∷ [])) (same (239 ∷ []) h))
+      | inr h ↦ (191 ∷ [], ap (λ l. fault_in (l ++ 191 ∷ [])) (same (239 ∷ 187 ∷ []) h))
+    ]
     at false m n = ([], ap fault_in (append-nil bytes) ∙ n)

@@ -1,9 +1,9 @@
 -- What stands at the front of an input, and the faults of an input that goes on.
-use Rattle.std.proofs.Common.{◌≡◌, ◌≢◌, ℕ, ◌+◌, ◌-◌, ◌<◌, ◌≤◌, Bool, true, false, ◌&&◌, ◌||◌, not, eqb, ltb, List, [], ◌∷◌, ◌++◌, length, take, drop, cond, Option, Some, None, Ok, Err, refl, sym, ap, ◌∙◌, subst, inl, inr, append_assoc, arith, suc, nat_eq, ◌⊎◌, get_or}
+use Rattle.std.proofs.Common.{◌≡◌, ◌≢◌, ℕ, ◌+◌, ◌-◌, ◌<◌, ◌≤◌, Bool, true, false, ◌&&◌, ◌||◌, not, eqb, ltb, List, [], ◌∷◌, ◌++◌, length, take, drop, cond, Option, Some, None, refl, sym, ap, ◌∙◌, subst, inl, inr, arith, suc, nat_eq, ◌⊎◌, get_or}
 use Rattle.std.specs.Cmp.Lexicographic.{pointwise}
 use Rattle.std.specs.List.{starts_with}
 use Rattle.std.proofs.lemmas.Bool.{cases_lt, ne_eqb, eqb-false, lt-ltb, le-ltb}
-use Rattle.std.proofs.lemmas.List.{append-nil, length-append, length-drop, length-take, take_all, take-append-le, take-append-drop}
+use Rattle.std.proofs.lemmas.List.{length-append, length-drop, take_all, take-append-le}
 use Rattle.std.proofs.Math.Logic.{∥∥₁_map}
 use Rattle.basket_read.specs.declared.fault.ReadFault.{ReadFault}
 use Rattle.basket_read.specs.declared.fault.ReadFault.TheVariants.{Byte, TooLong}
@@ -11,7 +11,7 @@ use Rattle.basket_read.specs.declared.input.Front.{Front}
 use Rattle.basket_read.specs.declared.input.Front.TheVariants.{Empty, OneByte, TwoBytes, Decided}
 use Rattle.basket_read.specs.declared.input.Input.{Input}
 use Rattle.basket_read.specs.declared.text.Text.{Text}
-use Rattle.basket_read.specs.Fimi.{MARK, text_of, MOST_BYTES, first_fault, or_else, fault_in, may_be_mark, settled_fault, baskets_of, if_light, fimi_of, answer_of}
+use Rattle.basket_read.specs.Fimi.{MARK, text_of, MOST_BYTES, first_fault, or_else, fault_in, may_be_mark, settled_fault}
 use Rattle.basket_read.specs.Text.{IsTextSoFar, HasRoom, Tells}
 use Rattle.basket_read.specs.Input.{is_decided, IsFront, text_behind, IsInputSoFar, IsSomeInput}
 use Rattle.basket_read.proofs.TextLemmas.{first_fault_stays, take_rest, take_next}

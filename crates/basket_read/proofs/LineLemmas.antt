@@ -1,17 +1,16 @@
 -- How a line goes on with one more byte.
-use Rattle.std.proofs.Common.{◌≡◌, ℕ, ◌+◌, ◌*◌, ◌-◌, ◌<◌, ◌≤◌, Bool, true, false, ◌&&◌, ◌||◌, not, leb, eqb, List, [], ◌∷◌, ◌++◌, length, map, filter, cond, Option, Some, None, refl, sym, ap, ◌∙◌, subst, inl, inr, arith}
+use Rattle.std.proofs.Common.{◌≡◌, ℕ, ◌+◌, ◌*◌, ◌-◌, ◌<◌, Bool, true, false, ◌&&◌, ◌||◌, not, leb, eqb, List, [], ◌∷◌, ◌++◌, map, filter, cond, Some, None, refl, sym, ap, ◌∙◌, subst, inl, inr, arith}
 use Rattle.std.specs.List.{list_all}
 use Rattle.std.specs.Option.{option_map}
-use Rattle.std.proofs.lemmas.Bool.{cases_Bool, and_parts, and_from, leb-true, le-leb, eqb-true, ne_eqb, or_cases, cases_lt, and_right, lt-leb}
+use Rattle.std.proofs.lemmas.Bool.{and_parts, and_from, leb-true, le-leb, eqb-true, ne_eqb, or_cases, and_right}
 use Rattle.std.proofs.lemmas.List.{append-nil, map-append}
 use Rattle.std.proofs.lemmas.List.Elements.{filter-append}
 use Rattle.std.proofs.lemmas.List.Folds.{list_all-append}
 use Rattle.std.proofs.lemmas.List.Sums.{fold_push}
 use Rattle.basket_core.specs.Minimum.{is_digit, value_of}
-use Rattle.basket_read.specs.declared.line.Place.{Place}
 use Rattle.basket_read.specs.declared.line.Place.TheVariants.{Head, First, Between, Number}
-use Rattle.basket_read.specs.Cut.{Cut, cut_at, parts_of}
-use Rattle.basket_read.specs.Fimi.{is_blank, is_times, is_nil, is_number, are_numbers, numbers_of, is_weight, is_line_of, is_line, weight_before, MOST_NUMBER}
+use Rattle.basket_read.specs.Cut.{Cut, cut_at}
+use Rattle.basket_read.specs.Fimi.{is_blank, is_times, is_nil, is_number, numbers_of, is_weight, is_line_of, is_line, weight_before, MOST_NUMBER}
 use Rattle.basket_read.specs.Line.{LineState, line_at, is_first, place_of, place_with, digit_added, blank_added, blank_after, times_added, times_after}
 use Rattle.basket_read.proofs.CutLemmas.{cut, cut_ended, cut_joined}
 

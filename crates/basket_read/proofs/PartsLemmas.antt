@@ -1,10 +1,10 @@
 -- What parts that have refused, and parts that have not, stand for.
-use Rattle.std.proofs.Common.{◌≡◌, ℕ, List, ◌++◌, Option, Some, None, Err, ap, sym, ◌∙◌, subst}
+use Rattle.std.proofs.Common.{◌≡◌, ℕ, List, Option, Some, None, Err, ap, sym, subst}
 use Rattle.std.specs.Prelude.{MatchOption}
 use Rattle.basket_read.specs.declared.fault.ReadFault.{ReadFault}
 use Rattle.basket_read.specs.declared.input.Input.{Input}
 use Rattle.basket_read.specs.declared.parts.FimiParts.{FimiParts}
-use Rattle.basket_read.specs.Fimi.{settled_fault, fault_in, fimi_of, answer_of, baskets_of, text_of}
+use Rattle.basket_read.specs.Fimi.{settled_fault, fimi_of, answer_of, baskets_of, text_of}
 use Rattle.basket_read.specs.Input.{IsInputSoFar}
 use Rattle.basket_read.specs.Parts.{IsFed}
 use Rattle.basket_read.proofs.InputLemmas.{fault-settled}

@@ -8,7 +8,7 @@ use Rattle.basket_core.specs.Support.{total_of}
 use Rattle.basket_core.specs.Database.{MOST_WEIGHT}
 use Rattle.basket_read.specs.declared.fault.ReadFault.{ReadFault}
 use Rattle.basket_read.specs.declared.fault.ReadFault.TheVariants.{Memory, Read, TooLong, Byte, Number, Heavy}
-use Rattle.basket_read.specs.Fimi.{is_good, line_after, fault_at, fault_after, first_fault, or_else, fault_in, text_of, settled_fault, baskets_of, if_light, answer_of, fimi_of, MOST_BYTES}
+use Rattle.basket_read.specs.Fimi.{is_good, line_after, fault_after, first_fault, or_else, fault_in, text_of, settled_fault, baskets_of, answer_of, fimi_of, MOST_BYTES}
 use Rattle.basket_read.specs.Text.{Tells, Answers}
 use Rattle.basket_read.proofs.InputLemmas.{settled_stays, fault-settled}
 use Rattle.basket_read.proofs.PartsLemmas.{answer_told}

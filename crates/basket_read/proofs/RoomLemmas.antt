@@ -1,5 +1,5 @@
 -- An input of few bytes has few lines and few baskets.
-use Rattle.std.proofs.Common.{◌≡◌, ◌≢◌, ℕ, ◌+◌, ◌*◌, ◌<◌, ◌≤◌, ◌^◌, Bool, true, false, List, [], ◌∷◌, ◌++◌, length, cond, fold, zero, suc, ltb, eqb, refl, sym, ap, ◌∙◌, subst, inl, inr, arith, append_assoc}
+use Rattle.std.proofs.Common.{◌≡◌, ◌≢◌, ℕ, ◌+◌, ◌*◌, ◌<◌, ◌≤◌, ◌^◌, Bool, true, false, List, [], ◌∷◌, ◌++◌, length, cond, fold, suc, ltb, eqb, refl, ap, ◌∙◌, subst, inl, inr, arith}
 use Rattle.std.specs.List.{flat_map}
 use Rattle.std.proofs.lemmas.Bool.{cases_lt}
 use Rattle.std.proofs.lemmas.Grind.{not_there, flat_map-append}
@@ -9,7 +9,7 @@ use Rattle.basket_core.specs.Itemset.{rising, with_item}
 use Rattle.basket_core.specs.Database.{MOST_BASKETS}
 use Rattle.basket_read.specs.declared.text.Text.{Text}
 use Rattle.basket_read.specs.Cut.{Cut, cut_more, cut_at}
-use Rattle.basket_read.specs.Fimi.{is_line_feed, is_times, basket_of, basket_of_numbers, numbers_of, weight_before, MOST_BYTES}
+use Rattle.basket_read.specs.Fimi.{is_line_feed, is_times, basket_of, basket_of_numbers, numbers_of, weight_before}
 use Rattle.basket_read.specs.Text.{HasBaskets, IsTextSoFar, HasRoom}
 use Rattle.basket_read.proofs.CutLemmas.{cut}
 

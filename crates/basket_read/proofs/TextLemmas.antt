@@ -1,9 +1,8 @@
 -- How a text goes on with one more byte, and what its first fault is.
-use Rattle.std.proofs.Common.{◌≡◌, ◌≢◌, ℕ, ◌+◌, ◌*◌, ◌-◌, ◌<◌, ◌≤◌, Bool, true, false, ◌&&◌, eqb, List, [], ◌∷◌, ◌++◌, length, cond, Option, Some, None, Ok, Err, refl, sym, ap, ◌∙◌, subst, inl, inr, append_assoc, arith, take, drop, get_or}
+use Rattle.std.proofs.Common.{◌≡◌, ℕ, ◌+◌, ◌<◌, Bool, true, false, ◌&&◌, List, [], ◌∷◌, ◌++◌, length, cond, Option, Some, None, Ok, Err, refl, sym, ap, ◌∙◌, subst, append_assoc, take, drop, get_or}
 use Rattle.std.specs.List.{list_all, flat_map}
 use Rattle.std.proofs.lemmas.Bool.{and_parts, le-leb, lt-leb}
 use Rattle.std.proofs.lemmas.List.{append-nil, length-append, take_more, take-append-drop}
-use Rattle.std.proofs.lemmas.List.Concat.{flat_map-cons}
 use Rattle.std.proofs.lemmas.Grind.{flat_map-append}
 use Rattle.basket_core.specs.declared.weighted.Weighted.{Weighted}
 use Rattle.basket_core.specs.Minimum.{is_digit}
@@ -13,11 +12,11 @@ use Rattle.basket_read.specs.declared.fault.ReadFault.{ReadFault}
 use Rattle.basket_read.specs.declared.fault.ReadFault.TheVariants.{Byte, Number, Heavy}
 use Rattle.basket_read.specs.declared.line.Line.{Line}
 use Rattle.basket_read.specs.declared.text.Text.{Text}
-use Rattle.basket_read.specs.Cut.{Cut, cut_at, parts_of}
-use Rattle.basket_read.specs.Fimi.{is_blank, is_times, is_line_feed, is_line, is_good, basket_of, basket_of_numbers, baskets_of, numbers_of, weight_before, line_after, fault_at, fault_after, first_fault, or_else, if_light}
-use Rattle.basket_read.specs.Line.{LineState, line_state, line_at, digit_added, blank_added, times_added}
+use Rattle.basket_read.specs.Cut.{Cut, cut_at}
+use Rattle.basket_read.specs.Fimi.{is_blank, is_times, is_line_feed, is_line, is_good, basket_of, basket_of_numbers, baskets_of, line_after, fault_at, fault_after, first_fault, or_else, if_light}
+use Rattle.basket_read.specs.Line.{line_state, line_at, digit_added, blank_added, times_added}
 use Rattle.basket_read.specs.Text.{HasBaskets, IsTextSoFar, Tells}
-use Rattle.basket_read.proofs.CutLemmas.{cut, cut_ended, cut_joined}
+use Rattle.basket_read.proofs.CutLemmas.{cut_ended, cut_joined}
 use Rattle.basket_read.proofs.LineLemmas.{all_push, digit_is_no_other, blank_is_no_other, times_is_no_other, line_digit, line_blank, line_times, line_other, line_numbers, line_weight}
 
 -- ---- the first fault

@@ -27,6 +27,7 @@ is_times byte = byte == 120
 abbrev pub MOST_NUMBER : ℕ
 MOST_NUMBER = 4294967295
 
+-- whether a list is empty
 abbrev pub is_nil : List ℕ → Bool
 is_nil [] = true
 is_nil (x ∷ xs) = false

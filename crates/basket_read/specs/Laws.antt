@@ -1,6 +1,5 @@
 -- Laws on the grammar and on faults.
 use Rattle.std.specs.Prelude.{◌≡◌, ◌↔◌, ℕ, true, false, List, [], ◌∷◌, ◌++◌, Some, None}
-
 use Rattle.basket_read.specs.declared.fault.ReadFault.{ReadFault}
 use Rattle.basket_read.specs.Fimi.{is_good, fault_at, first_fault, fault_in, settled_fault}
 

@@ -1,5 +1,5 @@
 -- What has been read of a line, and how it goes on byte by byte.
-use Rattle.std.specs.Prelude.{◌≡◌, ℕ, ◌+◌, ◌*◌, Bool, true, false, ◌&&◌, not, nat_le, if◌then◌else◌, List, [], ◌∷◌, ◌++◌, map, filter, Option, Some, None}
+use Rattle.std.specs.Prelude.{◌≡◌, ℕ, ◌+◌, Bool, true, false, not, nat_le, if◌then◌else◌, List, [], ◌∷◌, ◌++◌, map, filter, Option, Some, None}
 use Rattle.std.specs.List.{list_all}
 use Rattle.std.specs.Option.{option_map}
 use Rattle.basket_core.specs.Minimum.{is_digit, value_of}
@@ -10,7 +10,7 @@ use Rattle.basket_read.specs.declared.line.Place.TheVariants.{Head, First, Betwe
 use Rattle.basket_read.specs.declared.line.Line.{Line}
 use Rattle.basket_read.specs.Cut.{cut_at}
 use Rattle.basket_read.specs.Number.{number_with}
-use Rattle.basket_read.specs.Fimi.{is_blank, is_times, is_line_feed, is_nil, weight_before, MOST_NUMBER}
+use Rattle.basket_read.specs.Fimi.{is_blank, is_times, is_line_feed, is_nil, weight_before}
 
 -- what a byte can be in a text
 abbrev pub IsClass : Class → ℕ → Type 0

@@ -4,29 +4,24 @@ ghost use Rattle.basket_read.specs.Laws.{FrontsAreGood, GoodIsFaultless, FirstFa
 /// Each front of a good text is good.
 pub fn fronts_are_good()
     ensures { FrontsAreGood }
-{
-}
+{}
 
 /// A text is good, or it has a first fault, and not both.
 pub fn good_is_faultless()
     ensures { GoodIsFaultless }
-{
-}
+{}
 
 /// The first fault is that of the one byte that ends a good text badly.
 pub fn first_fault_is_exact()
     ensures { FirstFaultIsExact }
-{
-}
+{}
 
 /// Bytes with a settled fault have it whatever follows.
 pub fn settled_faults_stay()
     ensures { SettledFaultsStay }
-{
-}
+{}
 
 /// Bytes without a settled fault may go on so that they have none.
 pub fn unsettled_may_be_good()
     ensures { UnsettledMayBeGood }
-{
-}
+{}

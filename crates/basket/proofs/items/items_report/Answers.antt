@@ -3,18 +3,17 @@ use Rattle.std.proofs.lemmas.List.{take_all}
 use Rattle.basket_core.specs.Frequent.{item_counted, frequent_items_of}
 use Rattle.basket_core.specs.Counts.{item_supports}
 use Rattle.basket_core.specs.Minimum.{meets}
-use Rattle.basket_core.proofs.ItemLemmas.{frequent_items_are_counted, merging_keeps_frequent}
+use Rattle.basket_core.proofs.ItemLemmas.{frequent_items_are_counted}
 use Rattle.basket.specs.Report.{report_of}
 use Rattle.basket.proofs.items.items_report.Goals as goal
 
 pub returns : goal.returns
 returns c =
     let minimum = c.args.minimum in
-    let merged = c.in_ok-merged.merged in
+    let database = c.args.database.now in
     let all = take_all c.loop-item.item-index c.deref-item-items.result.now c.loop-item-test.false
-      ∙ c.deref-item-items.ensures.value ∙ c.in_ok-counts.ensures ∙ ap item_supports c.baskets.ensures.baskets in
+    ∙ c.deref-item-items.ensures.value ∙ c.in_ok-counts.ensures ∙ ap item_supports c.baskets.ensures.baskets in
     c.loop-item.invariant
     ∙ ap (λ entries. report_of (map item_counted (filter (λ entry. meets minimum entry.1 c.total-total.result) entries))) all
-    ∙ ap (λ total. report_of (map item_counted (filter (λ entry. meets minimum entry.1 total) (item_supports merged)))) c.total-total.ensures
-    ∙ ap report_of (sym (frequent_items_are_counted merged minimum) ∙ ap (λ l. frequent_items_of l minimum) c.in_ok-merged.ensures
-      ∙ ap (filter (λ c. length c.set == 1)) (merging_keeps_frequent c.args.database minimum))
+    ∙ ap (λ total. report_of (map item_counted (filter (λ entry. meets minimum entry.1 total) (item_supports database)))) c.total-total.ensures
+    ∙ ap report_of (sym (frequent_items_are_counted database minimum))

@@ -1,8 +1,8 @@
-use Rattle.std.proofs.Common.{◌≡◌, ◌++◌, ℕ, List, take, Err, ap, sym, ◌∙◌, subst}
+use Rattle.std.proofs.Common.{◌≡◌, ◌++◌, take, Err, ap, ◌∙◌, subst}
 use Rattle.std.proofs.lemmas.Result.{err_from_is_err_and}
 use Rattle.basket_read.specs.Fimi.{fimi_of, settled_fault}
 use Rattle.basket_read.specs.Text.{Answers, Tells}
-use Rattle.basket_read.specs.declared.fault.ReadFault.TheVariants.{Memory, Read}
+use Rattle.basket_read.specs.declared.fault.ReadFault.TheVariants.{Read}
 use Rattle.basket_read.proofs.ReadLemmas.{not_settled, not_answered, consumes_more, refused_answer}
 use Rattle.basket_read.proofs.read.read_blocks.Goals as goal
 

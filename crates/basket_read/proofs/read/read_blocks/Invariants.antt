@@ -1,4 +1,4 @@
-use Rattle.std.proofs.Common.{◌≡◌, ◌<◌, ◌-◌, ℕ, List, false, None, length}
+use Rattle.std.proofs.Common.{◌≡◌, ◌-◌, ℕ, List, false, None}
 use Rattle.std.specs.Io.KnownBytes.{Consumes}
 use Rattle.basket_read.specs.Parts.{IsFed}
 use Rattle.basket_read.proofs.read.read_blocks.Given as goal

@@ -1,4 +1,4 @@
-use Rattle.std.proofs.Common.{◌≡◌, sym, ap, ◌∙◌, inl, inr}
+use Rattle.std.proofs.Common.{sym, ap, ◌∙◌, inl, inr}
 use Rattle.basket_read.specs.Fimi.{fault_in}
 use Rattle.basket_read.specs.declared.input.Front.TheVariants.{Empty, Decided}
 use Rattle.basket_read.proofs.InputLemmas.{at_front, fault_few}

@@ -1,8 +1,8 @@
-use Rattle.std.proofs.Common.{◌≡◌, ◌+◌, ◌-◌, ◌≤◌, length, take, ◌++◌, ap, sym, subst, ◌∙◌, arith, Some}
+use Rattle.std.proofs.Common.{◌-◌, length, take, ap, ◌∙◌, arith, Some}
 use Rattle.std.proofs.lemmas.List.{length-take}
 use Rattle.std.proofs.lemmas.Result.{err_from_is_err_and}
 use Rattle.basket_read.specs.declared.fault.ReadFault.TheVariants.{TooLong}
-use Rattle.basket_read.specs.Fimi.{text_of, or_else, first_fault, MOST_BYTES}
+use Rattle.basket_read.specs.Fimi.{text_of, or_else}
 use Rattle.basket_read.specs.declared.input.Front.TheVariants.{Decided}
 use Rattle.basket_read.proofs.InputLemmas.{has_room, at_front, with_text, text_fault, long_fault}
 use Rattle.basket_read.proofs.input.Input.take_text.Goals as goal

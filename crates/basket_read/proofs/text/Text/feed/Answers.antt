@@ -1,4 +1,4 @@
-use Rattle.std.proofs.Common.{◌≡◌, ℕ, List, [], ◌∷◌, ◌++◌, take, drop, length, get_or, sym, ap, ◌∙◌, subst, refl, arith}
+use Rattle.std.proofs.Common.{◌++◌, take, length, sym, subst, arith}
 use Rattle.std.proofs.lemmas.List.{append-nil, length-take, take_all}
 use Rattle.std.proofs.lemmas.Result.{err_from_is_err_and}
 use Rattle.basket_read.specs.Text.{IsTextSoFar}

@@ -1,4 +1,3 @@
-use Rattle.std.proofs.Common.{◌≡◌}
 use Rattle.basket_read.proofs.RoomLemmas.{few_baskets}
 use Rattle.basket_read.proofs.TextLemmas.{has_all, light_answer}
 use Rattle.basket_read.proofs.text.Text.finish.Goals as goal

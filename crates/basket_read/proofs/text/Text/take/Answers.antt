@@ -1,4 +1,4 @@
-use Rattle.std.proofs.Common.{◌+◌, arith, refl, ap, ◌∙◌, cond, Some, None, sym}
+use Rattle.std.proofs.Common.{◌+◌, arith, ap, ◌∙◌, cond, Some, None, sym}
 use Rattle.basket_read.specs.Line.{line_state}
 use Rattle.basket_read.proofs.RoomLemmas.{few_lines, few_baskets}
 use Rattle.basket_read.proofs.TextLemmas.{takes_digit, refuses_digit, takes_blank, takes_times, refuses_times, refuses_other, takes_line_feed}

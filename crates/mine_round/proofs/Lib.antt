@@ -1,0 +1,11 @@
+pub mod Records
+pub mod Places
+pub mod Steps
+pub mod Claims
+pub mod Seats
+pub mod Runs
+pub mod Counting
+pub mod Rule
+pub mod Gathering
+pub mod Vacancies
+pub mod Permuted

@@ -1,0 +1,10 @@
+pub mod Record
+pub mod Machine
+pub mod Lawful
+pub mod Words
+pub mod SeatView
+pub mod Seat
+pub mod RoundView
+pub mod Round
+pub mod Totals
+pub mod Collector

@@ -1,0 +1,18 @@
+//! Threads share numbered pieces of work and sums over atomic words: each piece goes to one seat, and nothing that was added is lost.
+#![tactic(auto)]
+
+mod collector;
+pub mod laws;
+mod round;
+mod seat;
+pub mod state;
+mod totals;
+mod words;
+
+pub use collector::{Collector, Missing, Refused};
+pub use round::Round;
+pub use seat::RoundSeat;
+pub use totals::{Outstanding, Totals};
+
+#[cfg(test)]
+mod tests;
