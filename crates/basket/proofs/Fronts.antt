@@ -1,7 +1,7 @@
 -- The front of some bytes, as it is written.
-use Rattle.std.proofs.Common.{◌≡◌, ◌≢◌, ◌≤◌, ◌+◌, ◌-◌, ◌&&◌, ℕ, List, [], ◌∷◌, ◌++◌, Option, Ok, false, length, take, drop, nat_lt, refl, sym, ap, subst, ◌∙◌, arith, zero, suc, zero-add, add-zero}
+use Rattle.std.proofs.Common.{◌≡◌, ◌≢◌, ◌≤◌, ◌+◌, ◌-◌, ◌&&◌, ℕ, List, [], ◌∷◌, ◌++◌, Option, Ok, false, length, take, drop, nat_lt, refl, ap, subst, ◌∙◌, arith, zero, suc}
 use Rattle.std.proofs.lemmas.Bool.{ne_eqb}
-use Rattle.std.proofs.lemmas.List.{take_rest, length-take, length-drop, append-nil}
+use Rattle.std.proofs.lemmas.List.{take_rest, length-take, length-drop}
 use Rattle.std.proofs.KnownBytes.{Appends-trans}
 use Rattle.std.specs.Io.KnownBytes.{Appends}
 use Rattle.basket_core.specs.Stream.{write_fails}

@@ -1,10 +1,8 @@
 -- From what reading, mining and writing ensure to what a run ensures.
 use Rattle.std.proofs.Common.{◌≡◌, ◌≤◌, ℕ, List, Option, Some, None, Result, Ok, Err, Bool, true, false, length, take, refl, sym, ap, subst, ◌∙◌}
 use Rattle.std.proofs.lemmas.Bool.{false≢true}
-use Rattle.std.specs.Prelude.{IfSome, OnOk, OnErr, IsErr}
-use Rattle.std.specs.Result.{MatchResult}
+use Rattle.std.specs.Prelude.{IfSome, IsErr}
 use Rattle.std.specs.Io.KnownBytes.{Appends}
-use Rattle.basket_core.specs.declared.fault.Failed.{Failed}
 use Rattle.basket_core.specs.declared.minimum.Minimum.{Minimum}
 use Rattle.basket_core.specs.declared.weighted.Weighted.{Weighted}
 use Rattle.basket_core.specs.Frequent.{frequent_items_of}
@@ -16,7 +14,7 @@ use Rattle.basket.specs.declared.fault.RunFault.{RunFault}
 use Rattle.basket.specs.declared.fault.RunFault.TheVariants.{Input, Mine, Write}
 use Rattle.basket.specs.declared.plan.Ask.{Ask}
 use Rattle.basket.specs.declared.plan.Ask.TheVariants.{Items}
-use Rattle.basket.specs.Outcome.{outcome, outcome_of, asked}
+use Rattle.basket.specs.Outcome.{outcome_of, asked}
 use Rattle.basket.specs.Question.{Question}
 use Rattle.basket.specs.Report.{report_of}
 use Rattle.basket.specs.Run.{WritesReport, WritesFront}

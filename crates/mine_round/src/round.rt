@@ -77,7 +77,7 @@ impl Round {
     }
 
     /// A piece that no other call on this round gets, or `None` where each piece was claimed.
-    /// A seat's pieces rise, so it is answered `None` after so many claims as there are pieces at the latest.
+    /// A seat's pieces rise, so after as many as there are pieces it is answered `None`.
     /// Once a seat was answered `None`, it is answered `None` from then on.
     pub fn claim(&self, seat: &mut RoundSeat) -> Option<u32>
         requires own { seat.old.round ≡ self.now.id }

@@ -1,6 +1,6 @@
-use Rattle.std.proofs.Common.{◌≡◌, ◌==◌, length, map, filter, sym, ap, ◌∙◌, arith}
+use Rattle.std.proofs.Common.{map, filter, sym, ap, ◌∙◌}
 use Rattle.std.proofs.lemmas.List.{take_all}
-use Rattle.basket_core.specs.Frequent.{item_counted, frequent_items_of}
+use Rattle.basket_core.specs.Frequent.{item_counted}
 use Rattle.basket_core.specs.Counts.{item_supports}
 use Rattle.basket_core.specs.Minimum.{meets}
 use Rattle.basket_core.proofs.ItemLemmas.{frequent_items_are_counted}

@@ -1,4 +1,4 @@
-use Rattle.std.proofs.Common.{◌∙◌, arith}
+use Rattle.std.proofs.Common.{◌∙◌}
 use Rattle.basket_core.specs.declared.fault.Failed.{Failed}
 use Rattle.basket.proofs.Fronts.{some_taken, count_within, written_more}
 use Rattle.basket.proofs.write.write_all.Goals as goal
