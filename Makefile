@@ -6,7 +6,7 @@ PROGRAM := $(CLI)/out/basket_cli
 
 # Proves and builds the program, and lists what is bought in two baskets of the small shop or more.
 demo:
-	cd $(CLI) && rt run > out/run.log 2>&1 || { tail -20 out/run.log; exit 1; }
+	cd $(CLI) && mkdir -p out && { rt run -- --help > out/demo.log 2>&1 || { tail -20 out/demo.log; exit 1; }; }
 	$(PROGRAM) items --min 2 < examples/shop.dat
 
 # The gate: proves every crate and its tests from nothing, tries the must-fail edits, and runs the tests and programs.
