@@ -1,2 +1,2 @@
 pub mod Fronts
-pub mod RunLemmas
+pub mod EngineLemmas

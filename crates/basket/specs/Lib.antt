@@ -1,5 +1,5 @@
-pub mod Question
+pub mod Plan
 pub mod Report
 pub mod Status
 pub mod Outcome
-pub mod Run
+pub mod Engine

@@ -10,7 +10,7 @@ use Rattle.basket.specs.declared.fault.RunFault.{RunFault}
 use Rattle.basket.specs.declared.fault.RunFault.TheVariants.{Input}
 use Rattle.basket.specs.declared.plan.Ask.{Ask}
 use Rattle.basket.specs.declared.plan.Ask.TheVariants.{Items}
-use Rattle.basket.specs.Question.{Question}
+use Rattle.basket.specs.Plan.{Question}
 use Rattle.basket.specs.Report.{report_of}
 
 -- the sets that are asked for, in the order in which they are listed

@@ -93,7 +93,7 @@ fn command<'a>(alloc: Global) -> Result<Command<'a>, AllocError> {
 fn plan_from(alloc: Global, matches: &ArgMatches<'_>) -> Result<Plan, PlanFault> {
     let (ask, options) = match matches.subcommand() {
         Some(("items", options)) => (Ask::Items, options),
-        _ => return Err(usage(alloc, "basket: no command")?),
+        _ => return Err(usage(alloc, "basket: no command\n")?),
     };
     match options.get_str("min").and_then(|text| parse_minimum(text)) {
         Some(minimum) => Ok(Plan::of(ask, minimum)),

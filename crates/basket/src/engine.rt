@@ -3,7 +3,7 @@ ghost use Rattle.std.specs.Io.KnownBytes.{Keeps};
 ghost use Rattle.basket_core.specs.declared.fault.MineFault.{MineFault as MiningFault};
 ghost use Rattle.basket_read.specs.declared.fault.ReadFault.{ReadFault as InputFault};
 ghost use Rattle.basket_read.specs.Read.{FailsAfter};
-ghost use Rattle.basket.specs.Run.{WritesReport, WritesFront, RefusesInput};
+ghost use Rattle.basket.specs.Engine.{WritesReport, WritesFront, RefusesInput};
 
 use crate::fault::RunFault;
 use crate::items::items_report;

@@ -19,7 +19,7 @@ pub struct Plan {
 }
 
 impl Model for Plan {
-    ghost use Rattle.basket.specs.Question.{Question};
+    ghost use Rattle.basket.specs.Plan.{Question};
     ghost use Rattle.basket_core.specs.Minimum.{IsMinimum};
 
     ghost Value = { Question };

@@ -1,5 +1,5 @@
 use Rattle.std.proofs.Common.{◌∙◌}
-use Rattle.basket.proofs.RunLemmas.{failed_by, not_failed, items_asked, writes_report, writes_front}
+use Rattle.basket.proofs.EngineLemmas.{failed_by, not_failed, items_asked, writes_report, writes_front}
 use Rattle.basket.proofs.engine.run.Goals as goal
 
 pub returns-in-Err-clause-failed_input : goal.returns-in-Err-clause-failed_input

@@ -5,7 +5,7 @@ use Rattle.basket_read.specs.declared.fault.ReadFault.{ReadFault}
 use Rattle.basket_read.specs.declared.fault.ReadFault.TheVariants.{Memory}
 use Rattle.basket.specs.declared.fault.RunFault.TheVariants.{Input}
 use Rattle.basket.specs.Outcome.{outcome}
-use Rattle.basket.specs.Question.{Question}
+use Rattle.basket.specs.Plan.{Question}
 
 -- the writer took the report of what the reader had left, and nothing else
 abbrev pub WritesReport : Option (List ℕ) → Question → Option (List ℕ) → Option (List ℕ) → Type 0

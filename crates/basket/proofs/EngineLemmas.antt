@@ -15,9 +15,9 @@ use Rattle.basket.specs.declared.fault.RunFault.TheVariants.{Input, Mine, Write}
 use Rattle.basket.specs.declared.plan.Ask.{Ask}
 use Rattle.basket.specs.declared.plan.Ask.TheVariants.{Items}
 use Rattle.basket.specs.Outcome.{outcome_of, asked}
-use Rattle.basket.specs.Question.{Question}
+use Rattle.basket.specs.Plan.{Question}
 use Rattle.basket.specs.Report.{report_of}
-use Rattle.basket.specs.Run.{WritesReport, WritesFront}
+use Rattle.basket.specs.Engine.{WritesReport, WritesFront}
 
 abbrev input_fault : ReadFault → Result Unit RunFault → ReadFault
 input_fault other (Err (Input fault)) = fault
