@@ -1,13 +1,13 @@
 -- Counting items in a table: its slots while the places are added, and the entries that it gives in the end.
 use Rattle.std.proofs.Common.{◌≡◌, ◌≢◌, ℕ, ◌+◌, ◌<◌, ◌≤◌, ◌^◌, Bool, true, false, ◌&&◌, ◌||◌, List, [], ◌∷◌, ◌++◌, length, take, get_or, set, map, cond, eqb, Option, Some, None, unwrap_or, refl, sym, ap, ◌∙◌, subst, inl, inr, arith, add-zero, ◌-◌, zero, suc}
-use Rattle.std.specs.List.{flat_map, zip}
+use Rattle.std.specs.List.{zip}
 use Rattle.std.proofs.lemmas.List.{append-nil, length-take, take_more, get_or-set_same, get_or-set_other, get_or-take, get_or_default}
 use Rattle.std.proofs.lemmas.List.Concat.{flat_map-append}
 use Rattle.std.proofs.lemmas.List.Sums.{sum_by_more, sum_by_more_le}
-use Rattle.std.proofs.lemmas.Bool.{cases_Bool, cases_eq, cases_lt, cases_order, or_cases, cond-true, cond-false, eq-eqb, ne_eqb, false_from_ne_true, false≢true}
+use Rattle.std.proofs.lemmas.Bool.{cases_eq, cases_lt, cases_order, or_cases, cond-true, cond-false, eq-eqb, ne_eqb, false_from_ne_true, false≢true}
 use Rattle.std.proofs.lemmas.Map.Keys.{below_from_sorted}
 use Rattle.basket_core.specs.declared.weighted.Weighted.{Weighted}
-use Rattle.basket_core.specs.Itemset.{IsRising, has, contains, rising}
+use Rattle.basket_core.specs.Itemset.{IsRising, has}
 use Rattle.basket_core.specs.Counts.{item_supports, tally, IsTable, slot_with, AllBelow, entries_from, entries_of}
 use Rattle.basket_core.specs.Database.{MOST_WEIGHT}
 use Rattle.basket_core.specs.Support.{weight_at, support_of, total_of, all_items, items_of}

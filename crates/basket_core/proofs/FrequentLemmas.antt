@@ -1,19 +1,28 @@
 -- The list of the frequent sets has exactly the nonempty sets that meet the minimum, and is the only such list in report order.
-use Rattle.std.proofs.Common.{◌≡◌, ◌≢◌, ℕ, Bool, true, false, List, [], ◌∷◌, length, map, refl, sym, ap, ◌∙◌, subst, arith}
-use Rattle.std.specs.List.{AllByRecursion, Contains, filter, flat_map}
-use Rattle.std.specs.List.Sorted.{IsStrictlySortedBy}
+use Rattle.std.proofs.Common.{◌≡◌, ℕ, ◌+◌, true, false, List, [], ◌∷◌, get_or, map, refl, sym, ap, ◌∙◌, subst, arith}
+use Rattle.std.specs.declared.cmp.Ordering.{Ordering}
+use Rattle.std.specs.declared.cmp.Ordering.TheVariants.{Less, Equal, Greater}
+use Rattle.std.specs.Ordering.{nat_cmp, ordering_then, is_lt, eq_by_cmp}
+use Rattle.std.specs.Prelude.{nat_eq}
+use Rattle.std.specs.Cmp.Lexicographic.{pointwise}
+use Rattle.std.specs.List.{AllByRecursion, IsDistinct, filter, flat_map}
+use Rattle.std.specs.List.Sorted.{IsPermutation, IsSorted, IsStrictlySortedBy}
+use Rattle.std.proofs.lemmas.List.{length-map, get_or-map}
+use Rattle.std.proofs.lemmas.List.Sorted.{All-permutation, Contains-permutation, IsPermutation-map}
+use Rattle.std.proofs.lemmas.Map.Keys.{IsDistinct-from_sorted}
 use Rattle.std.proofs.lemmas.List.Elements.{All-from_recursion, recursion_from_All}
 use Rattle.std.proofs.lemmas.List.Kept.{IsStrictlySortedBy-filter}
 use Rattle.basket_core.specs.declared.weighted.Weighted.{Weighted}
 use Rattle.basket_core.specs.declared.counted.Counted.{Counted}
 use Rattle.basket_core.specs.declared.minimum.Minimum.{Minimum}
 use Rattle.basket_core.specs.Itemset.{IsRising}
-use Rattle.basket_core.specs.Order.{report_order, report_order_total}
+use Rattle.basket_core.specs.Order.{report_order, report_order_total, report_order_ties}
 use Rattle.basket_core.specs.Subsets.{subsets_of}
 use Rattle.basket_core.specs.Support.{support_of, items_of}
-use Rattle.basket_core.specs.Frequent.{is_frequent, counted, frequent_of, IsNonemptySet, ListsFrequent, FrequentIsUnique}
+use Rattle.basket_core.specs.Frequent.{is_frequent, counted, frequent_of, IsNonemptySet, ListsFrequent, ListsOnce, FrequentIsUnique}
 use Rattle.basket_core.proofs.Members.{Member, All-from_Member, at_Member, Member-filter, Member-from_filter, Member-map, Member-from_map, Member-from_Contains, Contains-from_Member, same_members}
 use Rattle.basket_core.proofs.Rising.{rising-rises}
+use Rattle.basket_core.proofs.Sorting.{strictly_sorted}
 use Rattle.basket_core.proofs.SubsetLemmas.{subsets_sorted, subset_from_Member, Member-subsets}
 use Rattle.basket_core.proofs.SupportLemmas.{frequent_items}
 
@@ -47,7 +56,7 @@ module _ (baskets : List Weighted) (minimum : Minimum) where
   sets_of_counted [] = refl
   sets_of_counted (set ∷ sets) = ap (λ rest. set ∷ rest) (sets_of_counted sets)
 
-  lists_frequent : ListsFrequent baskets minimum (frequent_of baskets minimum)
+  pub lists_frequent : ListsFrequent baskets minimum (frequent_of baskets minimum)
   lists_frequent = record {
     in_order = subst (IsStrictlySortedBy report_order) (sym (sets_of_counted frequent_sets)) frequent_sets_sorted;
     sound = All-from_recursion _ (frequent_of baskets minimum) (All-from_Member _ (frequent_of baskets minimum) sound);
@@ -83,3 +92,63 @@ frequent_is_unique baskets minimum list = (
   unique baskets minimum list,
   λ e. subst (ListsFrequent baskets minimum) (sym e) (lists_frequent baskets minimum),
 )
+
+-- ---- lists in any order
+
+-- the order in which counted sets are sorted
+abbrev pub counted_order : Counted → Counted → Ordering
+counted_order a b = ordering_then (report_order a.set b.set) (nat_cmp a.count b.count)
+
+not_before : (r s : Ordering) → is_lt (ordering_then r s) ≡ false → is_lt r ≡ false
+not_before Less s e = e
+not_before Equal s e = refl
+not_before Greater s e = refl
+
+sets_sorted : (list : List Counted) → IsSorted counted_order list → IsSorted report_order (map (λ c. c.set) list)
+sets_sorted [] up k d low high = absurd (omega arith)
+sets_sorted (c ∷ list) up k d low high =
+    let long = length-map (c ∷ list) (λ (x : Counted). x.set) in
+    let here = get_or-map (λ (x : Counted). x.set) (c ∷ list) k c d (omega arith) in
+    let next = get_or-map (λ (x : Counted). x.set) (c ∷ list) (k + 1) c d (omega arith) in
+    ap (λ b. is_lt (report_order (get_or (map (λ (x : Counted). x.set) (c ∷ list)) (k + 1) d) b)) here
+    ∙ ap (λ a. is_lt (report_order a (get_or (c ∷ list) k c).set)) next
+    ∙ not_before (report_order (get_or (c ∷ list) (k + 1) c).set (get_or (c ∷ list) k c).set)
+    (nat_cmp (get_or (c ∷ list) (k + 1) c).count (get_or (c ∷ list) k c).count) (up k c low (omega arith))
+
+distinct_by_order : (sets : List (List ℕ)) → IsDistinct (pointwise nat_eq) sets → IsDistinct (eq_by_cmp report_order) sets
+unfolding IsDistinct
+distinct_by_order [] apart = tt
+distinct_by_order (set ∷ sets) apart = (
+  All-from_Member (λ other. eq_by_cmp report_order set other ≡ false) sets
+      (λ other m. sym (report_order_ties set other) ∙ at_Member (λ y. pointwise nat_eq set y ≡ false) other sets apart.0 m),
+  distinct_by_order sets apart.1,
+)
+
+distinct_by_tests : (sets : List (List ℕ)) → IsDistinct (eq_by_cmp report_order) sets → IsDistinct (pointwise nat_eq) sets
+unfolding IsDistinct
+distinct_by_tests [] apart = tt
+distinct_by_tests (set ∷ sets) apart = (
+  All-from_Member (λ other. pointwise nat_eq set other ≡ false) sets
+      (λ other m. report_order_ties set other ∙ at_Member (λ y. eq_by_cmp report_order set y ≡ false) other sets apart.0 m),
+  distinct_by_tests sets apart.1,
+)
+
+-- a list that has each frequent set once is, sorted, the list of the frequent sets
+pub sorted_is_frequent : (baskets : List Weighted) (minimum : Minimum) (list sorted : List Counted) → ListsOnce baskets minimum list → IsPermutation list sorted → IsSorted counted_order sorted
+    → sorted ≡ frequent_of baskets minimum
+sorted_is_frequent baskets minimum list sorted lists moved up = (frequent_is_unique baskets minimum sorted).0 (record {
+  in_order = strictly_sorted report_order_total (map (λ c. c.set) list) (map (λ c. c.set) sorted) (distinct_by_order (map (λ c. c.set) list) lists.distinct)
+      (IsPermutation-map (λ (c : Counted). c.set) list sorted moved) (sets_sorted sorted up);
+  sound = All-permutation (IsSound baskets minimum) list sorted moved lists.sound;
+  complete = λ set n h. Contains-permutation list sorted (counted baskets set) moved (lists.complete set n h);
+})
+
+-- the list of the frequent sets has each once
+pub frequent_once : (baskets : List Weighted) (minimum : Minimum) → ListsOnce baskets minimum (frequent_of baskets minimum)
+frequent_once baskets minimum =
+    let lists = lists_frequent baskets minimum in
+    record {
+      distinct = distinct_by_tests (map (λ c. c.set) (frequent_of baskets minimum)) (IsDistinct-from_sorted report_order (map (λ c. c.set) (frequent_of baskets minimum)) lists.in_order);
+      sound = lists.sound;
+      complete = lists.complete;
+    }

@@ -1,18 +1,14 @@
 -- The frequent items are counted, and merging keeps the frequent sets.
-use Rattle.std.proofs.Common.{◌≡◌, ◌<◌, ◌≤◌, ℕ, Bool, true, false, ◌&&◌, List, [], ◌∷◌, ◌++◌, length, map, cond, eqb, refl, sym, ap, ◌∙◌, subst, inl, inr, arith, zero, suc}
+use Rattle.std.proofs.Common.{◌≡◌, ℕ, Bool, true, false, List, [], ◌∷◌, ◌++◌, length, map, cond, eqb, refl, sym, ap, ◌∙◌, subst, arith, zero, suc}
 use Rattle.std.specs.List.{AllByRecursion, Contains, filter}
 use Rattle.std.proofs.lemmas.Bool.{eq-eqb, ne_eqb}
 use Rattle.std.proofs.lemmas.List.{append-nil}
 use Rattle.std.proofs.lemmas.List.Elements.{filter-append, All-weaker}
-use Rattle.basket_core.specs.declared.weighted.Weighted.{Weighted}
-use Rattle.basket_core.specs.declared.counted.Counted.{Counted}
-use Rattle.basket_core.specs.declared.minimum.Minimum.{Minimum}
-use Rattle.basket_core.specs.Counts.{item_supports}
 use Rattle.basket_core.specs.Database.{merged_of}
 use Rattle.basket_core.specs.Minimum.{meets}
 use Rattle.basket_core.specs.Subsets.{subsets_of_size, subsets_up_to, subsets_of}
 use Rattle.basket_core.specs.Support.{support_of, total_of, items_of}
-use Rattle.basket_core.specs.Frequent.{is_frequent, counted, frequent_of, item_counted, IsNonemptySet, ListsFrequent, FrequentItemsAreCounted, MergingKeepsFrequent}
+use Rattle.basket_core.specs.Frequent.{is_frequent, counted, frequent_of, item_counted, ListsFrequent, FrequentItemsAreCounted, MergingKeepsFrequent}
 use Rattle.basket_core.proofs.FrequentLemmas.{IsSound, frequent_is_unique}
 use Rattle.basket_core.proofs.MergeLemmas.{merging_keeps_supports}
 

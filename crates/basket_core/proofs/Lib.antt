@@ -8,3 +8,8 @@ pub mod MergeLemmas
 pub mod CountLemmas
 pub mod PlaceLemmas
 pub mod ItemLemmas
+pub mod Sorting
+pub mod RankLemmas
+pub mod CodeLemmas
+pub mod DecodeLemmas
+pub mod DepthLemmas

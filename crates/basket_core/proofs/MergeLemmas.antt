@@ -1,14 +1,13 @@
 -- Merging equal baskets changes no support.
-use Rattle.std.proofs.Common.{◌≡◌, ℕ, ◌+◌, Bool, true, false, ◌||◌, List, [], ◌∷◌, ◌++◌, cond, refl, sym, ap, ◌∙◌, subst, arith, zero-add}
-use Rattle.std.specs.Prelude.{nat_eq}
+use Rattle.std.proofs.Common.{◌≡◌, ℕ, ◌+◌, Bool, true, false, ◌||◌, List, [], ◌∷◌, ◌++◌, cond, refl, sym, ap, ◌∙◌, arith, zero-add}
 use Rattle.std.specs.List.{sum_by, list_any}
-use Rattle.std.specs.Cmp.Lexicographic.{pointwise, bytes_decides}
+use Rattle.std.specs.Cmp.Lexicographic.{bytes_decides}
 use Rattle.std.proofs.lemmas.List.Sums.{sum_by-cons}
 use Rattle.std.proofs.lemmas.Bool.{false≢true}
 use Rattle.basket_core.specs.declared.weighted.Weighted.{Weighted}
 use Rattle.basket_core.specs.Itemset.{contains}
 use Rattle.basket_core.specs.Support.{weight_at, support_of}
-use Rattle.basket_core.specs.Database.{weighted, is_of, weight_of, merged_after, merged_of, MergingKeepsSupports}
+use Rattle.basket_core.specs.Database.{weighted, is_of, weight_of, merged_after, MergingKeepsSupports}
 
 -- ---- sums
 

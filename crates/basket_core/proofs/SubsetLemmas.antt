@@ -1,15 +1,13 @@
 -- The subsets of a rising list are in report order, and are exactly its nonempty rising sublists.
-use Rattle.std.proofs.Common.{◌≡◌, ◌≢◌, ℕ, ◌+◌, ◌<◌, ◌≤◌, Bool, true, false, List, [], ◌∷◌, ◌++◌, length, map, cond, eqb, ltb, refl, sym, ap, ◌∙◌, subst, inl, inr, ◌⊎◌, arith, zero, suc}
-use Rattle.std.specs.declared.cmp.Ordering.{Ordering}
-use Rattle.std.specs.declared.cmp.Ordering.TheVariants.{Less, Equal, Greater}
+use Rattle.std.proofs.Common.{◌≡◌, ◌≢◌, ℕ, ◌<◌, List, [], ◌∷◌, length, map, refl, sym, ap, ◌∙◌, subst, inl, inr, arith, zero, suc}
+use Rattle.std.specs.declared.cmp.Ordering.TheVariants.{Less, Equal}
 use Rattle.std.specs.Ordering.{nat_cmp, ordering_then}
 use Rattle.std.specs.Cmp.{nat_cmp_total}
 use Rattle.std.specs.Cmp.Lexicographic.{slice_cmp}
-use Rattle.std.specs.List.{AllByRecursion}
 use Rattle.std.specs.List.Sorted.{IsStrictlySortedBy}
 use Rattle.std.proofs.lemmas.Cmp.{tied_itself}
 use Rattle.std.proofs.lemmas.Bool.{cases_lt}
-use Rattle.basket_core.specs.Itemset.{IsRising, contains}
+use Rattle.basket_core.specs.Itemset.{IsRising}
 use Rattle.basket_core.specs.Order.{report_order, report_order_total, SameSetsAreSameLists}
 use Rattle.basket_core.specs.Subsets.{subsets_of_size, subsets_up_to, subsets_of, SubsetsAreInReportOrder, SubsetsAreExact}
 use Rattle.basket_core.proofs.Members.{Member, Member-append, Member-append_left, Member-append_right, Member-map, Member-from_map, sorted_append, sorted_along, sorted_map, same_members, Member-from_Contains, Contains-from_Member}

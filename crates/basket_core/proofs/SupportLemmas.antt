@@ -1,12 +1,12 @@
 -- Support falls as a set grows, adds up over parts, and is above nothing only for sets of the database's items.
-use Rattle.std.proofs.Common.{◌≡◌, ◌≢◌, ℕ, ◌+◌, ◌*◌, ◌<◌, ◌≤◌, Bool, true, false, ◌&&◌, List, [], ◌∷◌, ◌++◌, length, map, cond, leb, refl, sym, ap, ◌∙◌, subst, inl, inr, ◌⊎◌, arith, zero, suc}
-use Rattle.std.specs.List.{sum_by, flat_map}
+use Rattle.std.proofs.Common.{◌≡◌, ℕ, ◌+◌, ◌*◌, ◌≤◌, Bool, true, List, [], ◌∷◌, ◌++◌, cond, leb, refl, sym, ap, ◌∙◌, subst, inl, inr, arith}
+use Rattle.std.specs.List.{flat_map}
 use Rattle.std.proofs.lemmas.List.Sums.{sum_by-append, sum_by-cons, sum_by-le-sum_by}
 use Rattle.std.proofs.lemmas.Bool.{cases_Bool, and_parts, and_from, leb-true, le-leb, cond-false}
 use Rattle.basket_core.specs.declared.weighted.Weighted.{Weighted}
 use Rattle.basket_core.specs.declared.minimum.Minimum.{Minimum}
 use Rattle.basket_core.specs.declared.minimum.Minimum.TheVariants.{Count, Share}
-use Rattle.basket_core.specs.Itemset.{IsRising, contains, rising}
+use Rattle.basket_core.specs.Itemset.{contains}
 use Rattle.basket_core.specs.Minimum.{meets}
 use Rattle.basket_core.specs.Support.{weight_at, support_of, total_of, items_of, SupportFalls, SupportsAddUp}
 use Rattle.basket_core.specs.Frequent.{is_frequent, SubsetsAreFrequent, FrequentSetsHaveItems}
@@ -63,7 +63,7 @@ pub subsets_are_frequent : SubsetsAreFrequent
 subsets_are_frequent baskets minimum set subset h k =
     meets_more minimum (support_of baskets set) (support_of baskets subset) (total_of baskets) (support_falls baskets set subset h) k
 
-at_least_one : (minimum : Minimum) (support total : ℕ) → meets minimum support total ≡ true → 1 ≤ support
+pub at_least_one : (minimum : Minimum) (support total : ℕ) → meets minimum support total ≡ true → 1 ≤ support
 at_least_one (Count least) support total h = leb-true 1 support (and_parts (leb 1 support) (leb least support) h).0
 at_least_one (Share n d) support total h = leb-true 1 support (and_parts (leb 1 support) (leb (n * total) (support * d)) h).0
 

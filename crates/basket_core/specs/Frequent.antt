@@ -1,5 +1,6 @@
-use Rattle.std.specs.Prelude.{◌≡◌, ◌≢◌, ◌↔◌, ℕ, Bool, IsTrue, List, [], ◌∷◌, length, ◌==◌, map, filter, All}
-use Rattle.std.specs.List.{Contains}
+use Rattle.std.specs.Prelude.{◌≡◌, ◌≢◌, ◌↔◌, ℕ, Bool, IsTrue, List, [], ◌∷◌, length, ◌==◌, map, filter, All, nat_eq}
+use Rattle.std.specs.Cmp.Lexicographic.{pointwise}
+use Rattle.std.specs.List.{Contains, IsDistinct}
 use Rattle.basket_core.specs.declared.weighted.Weighted.{Weighted}
 use Rattle.basket_core.specs.declared.counted.Counted.{Counted}
 use Rattle.basket_core.specs.declared.minimum.Minimum.{Minimum}
@@ -40,6 +41,12 @@ IsNonemptySet set = IsRising set × (set ≢ [])
 -- the list has exactly the nonempty sets that meet the minimum, each with its support, in report order
 pub record ListsFrequent (baskets : List Weighted) (minimum : Minimum) (list : List Counted) : Type 0 where
   pub in_order : IsInReportOrder (map (λ c. c.set) list)
+  pub sound : All (λ c. IsNonemptySet c.set × IsTrue (is_frequent baskets minimum c.set) × (c.count ≡ support_of baskets c.set)) list
+  pub complete : (set : List ℕ) → IsNonemptySet set → IsTrue (is_frequent baskets minimum set) → Contains list (counted baskets set)
+
+-- the list has each nonempty set that meets the minimum once, with its support, in any order
+pub record ListsOnce (baskets : List Weighted) (minimum : Minimum) (list : List Counted) : Type 0 where
+  pub distinct : IsDistinct (pointwise nat_eq) (map (λ c. c.set) list)
   pub sound : All (λ c. IsNonemptySet c.set × IsTrue (is_frequent baskets minimum c.set) × (c.count ≡ support_of baskets c.set)) list
   pub complete : (set : List ℕ) → IsNonemptySet set → IsTrue (is_frequent baskets minimum set) → Contains list (counted baskets set)
 

@@ -7,5 +7,10 @@ pub mod Merge
 pub mod Subsets
 pub mod Minimum
 pub mod Frequent
+pub mod Codes
+pub mod Ranks
+pub mod Listing
+pub mod Tally
+pub mod Depth
 pub mod Worked
 pub mod Stream

@@ -1,6 +1,8 @@
 //! Laws on the definitions, for whoever proves a miner. Each is a function that does nothing: its
 //! contract is the law.
+ghost use Rattle.basket_core.specs.Codes.{CodingKeepsFrequent, DecodingKeepsFrequent};
 ghost use Rattle.basket_core.specs.Database.{MergingKeepsSupports};
+ghost use Rattle.basket_core.specs.Depth.{DeepSetsAreMany};
 ghost use Rattle.basket_core.specs.Frequent.{SubsetsAreFrequent, FrequentSetsHaveItems, FrequentIsUnique, FrequentItemsAreCounted, MergingKeepsFrequent};
 ghost use Rattle.basket_core.specs.Order.{SameSetsAreSameLists};
 ghost use Rattle.basket_core.specs.Subsets.{SubsetsAreInReportOrder, SubsetsAreExact};
@@ -60,4 +62,20 @@ pub fn frequent_items_are_counted()
 /// Merging equal baskets keeps the frequent sets.
 pub fn merging_keeps_frequent()
     ensures { MergingKeepsFrequent }
+{}
+
+/// Coding the baskets keeps the frequent sets.
+pub fn coding_keeps_frequent()
+    ensures { CodingKeepsFrequent }
+{}
+
+/// A list that has each frequent set of ranks once has, with the ranks decoded, each frequent set
+/// once. So supports over coded baskets are supports over the items.
+pub fn decoding_keeps_frequent()
+    ensures { DecodingKeepsFrequent }
+{}
+
+/// Where a set of so many items is frequent, so are all its nonempty subsets.
+pub fn deep_sets_are_many()
+    ensures { DeepSetsAreMany }
 {}

@@ -1,4 +1,4 @@
-use Rattle.std.proofs.Common.{◌≡◌, ◌+◌, ℕ, get_or, length, true, cond, sym, subst, ap, ◌∙◌, arith, take}
+use Rattle.std.proofs.Common.{◌+◌, get_or, cond, sym, subst, ap, ◌∙◌, arith, take}
 use Rattle.basket_core.specs.Itemset.{IsRising, has}
 use Rattle.basket_core.proofs.CountLemmas.{HasFound, has_place, not_before, found_more, missed_more}
 use Rattle.basket_core.proofs.Rising.{found_at, found_nowhere}

@@ -1,5 +1,4 @@
 use Rattle.std.proofs.Common.{◌≡◌, ◌<◌, ℕ, List, length, get_or, true, sym, subst, ap, ◌∙◌, arith, unwrap_or}
-use Rattle.basket_core.specs.Counts.{AllBelow}
 use Rattle.basket_core.specs.Itemset.{IsRising, has}
 use Rattle.basket_core.proofs.CountLemmas.{has_place, slot_before, added_more}
 use Rattle.basket_core.proofs.counts.add_to_table.Goals as goal

@@ -1,10 +1,10 @@
-use Rattle.std.proofs.Common.{◌≡◌, ◌≤◌, ◌+◌, ℕ, [], ◌∷◌, get_or, length, take, map, sym, subst, ap, ◌∙◌, arith}
+use Rattle.std.proofs.Common.{◌≡◌, ◌≤◌, ℕ, [], ◌∷◌, get_or, length, take, map, sym, subst, ap, ◌∙◌, arith}
 use Rattle.std.specs.List.{zip}
 use Rattle.std.proofs.lemmas.List.{take_all}
 use Rattle.std.proofs.lemmas.Result.{IfOk-weaker}
 use Rattle.basket_core.specs.Counts.{item_supports}
 use Rattle.basket_core.specs.Itemset.{IsRising}
-use Rattle.basket_core.specs.Support.{support_of, all_items, items_of}
+use Rattle.basket_core.specs.Support.{support_of, all_items}
 use Rattle.basket_core.proofs.CountLemmas.{HasSupports, fits_more, supports_paired}
 use Rattle.basket_core.proofs.Rising.{rising-rises}
 use Rattle.basket_core.proofs.counts.count_by_search.Goals as goal

@@ -1,8 +1,6 @@
-use Rattle.std.proofs.Common.{◌≡◌, ◌≤◌, ◌<◌, ◌+◌, ◌++◌, ◌∷◌, [], take, length, set, get_or, sym, subst, ap, ◌∙◌, arith}
+use Rattle.std.proofs.Common.{◌+◌, ◌++◌, ◌∷◌, [], take, set, get_or, sym, subst, ap, ◌∙◌, arith}
 use Rattle.std.proofs.lemmas.List.{take_all, take_more, length-map, length-set, get_or_default}
-use Rattle.basket_core.specs.Database.{MOST_WEIGHT}
-use Rattle.basket_core.specs.Support.{total_of}
-use Rattle.basket_core.specs.Merge.{seen, seen_places, Leads, LeadsAt}
+use Rattle.basket_core.specs.Merge.{seen, seen_places, LeadsAt}
 use Rattle.basket_core.proofs.PlaceLemmas.{AreWeights, weights_more, weight_fits, first_weights_are, seen_at, leader_of}
 use Rattle.basket_core.proofs.merge.weights_at_firsts.Goals as goal
 

@@ -1,9 +1,8 @@
 use Rattle.std.specs.Result.{OnOk}
 use Rattle.std.proofs.lemmas.Bool.{false≢true}
-use Rattle.std.proofs.Common.{Result, Ok, Err, is_ok, true, take, ◌≡◌, ◌≤◌, ◌<◌, ◌++◌, ◌∷◌, [], length, get_or, drop, ◌+◌, sym, subst, ap, ◌∙◌, arith}
+use Rattle.std.proofs.Common.{Result, Ok, Err, is_ok, true, take, ◌≡◌, ◌++◌, ◌∷◌, [], length, get_or, drop, ◌+◌, sym, subst, ap, ◌∙◌, arith}
 use Rattle.std.proofs.lemmas.List.{get_or_default, length_push}
 use Rattle.basket_core.specs.Database.{IsDatabase, IsPlace, weighted, merged_of, merged_after}
-use Rattle.basket_core.specs.Merge.{first_weights}
 use Rattle.basket_core.proofs.PlaceLemmas.{length-first_weights, merged_next, merged_light}
 use Rattle.basket_core.proofs.database.Database.merged.Goals as goal
 use Rattle.basket_core.proofs.database.Database.merged.Goals.{then-weight-gt0+in_ok-basket+in_ok-map_err, else-weight-gt0}

@@ -1,8 +1,8 @@
-use Rattle.std.proofs.Common.{◌≡◌, length, ltb, ◌∙◌, sym, subst, ap, eqb}
+use Rattle.std.proofs.Common.{length, ◌∙◌, sym, subst, ap, eqb}
 use Rattle.std.specs.List.{dedup}
 use Rattle.std.specs.List.Sorted.{IsPermutation}
 use Rattle.std.proofs.lemmas.List.{take_at}
-use Rattle.basket_core.specs.Itemset.{IsRising, rising}
+use Rattle.basket_core.specs.Itemset.{IsRising}
 use Rattle.basket_core.proofs.Rising.{rising-rises, rising-rising, rising-dedup}
 use Rattle.basket_core.proofs.itemset.Itemset.from_items.Goals as goal
 use Rattle.basket_core.proofs.itemset.Itemset.from_items.Goals.{then-not-is_rising, else-not-is_rising}

@@ -1,0 +1,6 @@
+use Rattle.std.proofs.Common.{◌≡◌, take}
+use Rattle.basket_core.specs.Depth.{narrowed}
+use Rattle.basket_core.proofs.depth.narrowed_to.Given as goal
+
+abbrev pub invariant-loop-place : goal.invariant-loop-place
+invariant-loop-place l = l.rest.items ≡ narrowed l.rank (take l.place-index l.baskets)

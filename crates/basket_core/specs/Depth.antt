@@ -1,0 +1,29 @@
+-- Frequent sets of many items.
+use Rattle.std.specs.Prelude.{◌≡◌, ◌≤◌, ℕ, ◌+◌, ◌^◌, List, [], ◌∷◌, length, filter, nat_lt, if◌then◌else◌}
+use Rattle.std.specs.List.{Contains, flat_map}
+use Rattle.basket_core.specs.declared.weighted.Weighted.{Weighted}
+use Rattle.basket_core.specs.declared.counted.Counted.{Counted}
+use Rattle.basket_core.specs.declared.minimum.Minimum.{Minimum}
+use Rattle.basket_core.specs.Database.{weighted}
+use Rattle.basket_core.specs.Frequent.{frequent_of}
+use Rattle.basket_core.specs.Itemset.{has}
+
+-- some set of so many items is in the list
+abbrev pub HasSetOfSize : List Counted → ℕ → Type 0
+HasSetOfSize list size = (counted : Counted) × Contains list counted × (length counted.set ≡ size)
+
+-- where a set of so many items is frequent, so are all its nonempty subsets
+abbrev pub DeepSetsAreMany : Type 0
+DeepSetsAreMany = (baskets : List Weighted) (minimum : Minimum) (size : ℕ) → HasSetOfSize (frequent_of baskets minimum) size → 2 ^ size ≤ length (frequent_of baskets minimum) + 1
+
+-- a basket kept to the ranks above a rank
+abbrev pub above : ℕ → List ℕ → List ℕ
+above rank basket = filter (λ other. nat_lt rank other) basket
+
+-- a basket that has the rank, kept to the ranks above it
+abbrev pub narrowed_place : ℕ → Weighted → List Weighted
+narrowed_place rank place = if has place.basket rank then weighted (above rank place.basket) place.weight ∷ [] else []
+
+-- the baskets that have a rank, kept to the ranks above it
+abbrev pub narrowed : ℕ → List Weighted → List Weighted
+narrowed rank baskets = flat_map (narrowed_place rank) baskets

@@ -1,0 +1,165 @@
+//! The frequent items by rank, and baskets as lists of ranks.
+ghost use Rattle.std.specs.Prelude.{◌≡◌, List, ℕ, IfOk, length, map, slice_index_or};
+ghost use Rattle.basket_core.specs.Counts.{AllBelow};
+ghost use Rattle.basket_core.specs.Codes.{IsCoding, coded_place, coding_of, decoded, ranking_of, ranks_of_counts};
+ghost use Rattle.basket_core.specs.Itemset.{IsRising};
+ghost use Rattle.basket_core.specs.Ranks.{IsRankTable};
+ghost use Rattle.basket_core.specs.Support.{total_of};
+
+use crate::database::Database;
+use crate::itemset::Itemset;
+use crate::minimum::Minimum;
+use crate::ranks::{RankTable, ranked_items};
+use crate::weighted::Weighted;
+use std::alloc::{AllocError, Global};
+use std::marker::Model;
+
+/// The frequent items by rank: rank 0 is the item of the greatest support, and of items of one
+/// support the least number has the least rank.
+#[derive(Debug, Drop)]
+pub struct Codes {
+    items: Vec<u32>,
+    ranks: RankTable,
+    minimum: Minimum,
+    total: u64,
+}
+
+impl Model for Codes {
+    ghost use Rattle.std.specs.Prelude.{nat_eq, length, ◌<◌};
+    ghost use Rattle.std.specs.List.{IsDistinct};
+    ghost use Rattle.basket_core.specs.Codes.{Ranking, MOST_RANKS};
+    ghost use Rattle.basket_core.specs.Ranks.{IsRankTable};
+
+    ghost Value = { Ranking };
+
+    ghost view = { λ codes. record { items = codes.items.items; minimum = codes.minimum; total = codes.total } };
+
+    ghost invariant = { λ codes. IsDistinct nat_eq codes.items.items × (length codes.items.items < MOST_RANKS) × IsRankTable codes.items.items codes.ranks };
+}
+
+impl Codes {
+    /// The codes for the counts of items in a database of that total weight.
+    pub fn of(
+        alloc: Global,
+        counts: &[(u32, u64)],
+        total: u64,
+        minimum: Minimum,
+    ) -> Result<Self, AllocError>
+        requires { IsRising (map (λ entry. entry.0) counts.now) }
+        ensures { IfOk result (λ codes. codes ≡ record { items = ranks_of_counts counts.now total minimum; minimum = minimum; total = total }) }
+    {
+        let items = ranked_items(alloc, counts, total, minimum)?;
+        let ranks = RankTable::of(alloc, &items)?;
+        Ok(Codes {
+            items,
+            ranks,
+            minimum,
+            total,
+        })
+    }
+
+    /// The baskets of the database as ranks.
+    pub fn code(self, alloc: Global, database: &Database) -> Result<Coded, AllocError>
+        requires { self ≡ ranking_of database.now self.minimum }
+        ensures { IfOk result (λ coded. coded ≡ coding_of database.now self.minimum) }
+    {
+        let baskets = coded_baskets(alloc, &self.ranks, database.baskets())?;
+        Ok(Coded {
+            items: self.items,
+            minimum: self.minimum,
+            baskets,
+            total: self.total,
+        })
+    }
+}
+
+/// The baskets of a database as ranks of their frequent items, one for each place. A basket
+/// without a frequent item is empty.
+#[derive(Debug, Drop)]
+pub struct Coded {
+    items: Vec<u32>,
+    minimum: Minimum,
+    baskets: Vec<Weighted>,
+    total: u64,
+}
+
+impl Model for Coded {
+    ghost use Rattle.std.specs.Prelude.{◌≡◌};
+    ghost use Rattle.basket_core.specs.Codes.{Coding, IsCoding};
+    ghost use Rattle.basket_core.specs.Support.{total_of};
+
+    ghost Value = { Coding };
+
+    ghost view = { λ coded. record { items = coded.items.items; minimum = coded.minimum; baskets = coded.baskets.items } };
+
+    ghost invariant = { λ coded. IsCoding (record { items = coded.items.items; minimum = coded.minimum; baskets = coded.baskets.items }) × (coded.total ≡ total_of coded.baskets.items) };
+}
+
+impl Coded {
+    /// The baskets as ranks, in the order of the database.
+    pub fn baskets(&self) -> &[Weighted]
+        ensures baskets { result.now ≡ self.now.baskets }
+        ensures coding { IsCoding self.now }
+    {
+        &self.baskets
+    }
+
+    /// How many ranks there are.
+    pub fn ranks(&self) -> u32
+        ensures { result ≡ length self.now.items }
+    {
+        self.items.len() as u32
+    }
+
+    pub fn minimum(&self) -> Minimum
+        ensures { result ≡ self.now.minimum }
+    {
+        self.minimum
+    }
+
+    /// The weight of all baskets together.
+    pub fn total(&self) -> u64
+        ensures { result ≡ total_of self.now.baskets }
+    {
+        self.total
+    }
+
+    /// The set of the items of the ranks.
+    pub fn decode(&self, alloc: Global, ranks: &[u32]) -> Result<Itemset, AllocError>
+        requires { AllBelow (length self.now.items) ranks.now }
+        ensures { IfOk result (λ set. set ≡ decoded self.now.items ranks.now) }
+    {
+        Itemset::from_items(alloc, &items_at(alloc, &self.items, ranks)?)
+    }
+}
+
+fn coded_baskets(
+    alloc: Global,
+    table: &RankTable,
+    baskets: &[Weighted],
+) -> Result<Vec<Weighted>, AllocError>
+    ensures { IfOk result (λ coded. (ranked : List ℕ) → IsRankTable ranked table.now → coded.items ≡ map (coded_place ranked) baskets.now) }
+{
+    let mut coded = Vec::with_capacity(alloc, baskets.len())?;
+    let mut ranks = Vec::new(alloc);
+    for place in baskets {
+        table.put_ranks(&mut ranks, &place.basket)?;
+        coded.push(Weighted {
+            basket: Itemset::from_items(alloc, &ranks)?,
+            weight: place.weight,
+        })?;
+    }
+    Ok(coded)
+}
+
+/// The items of the ranks, in the order of the ranks.
+fn items_at(alloc: Global, items: &[u32], ranks: &[u32]) -> Result<Vec<u32>, AllocError>
+    requires { AllBelow (length items.now) ranks.now }
+    ensures { IfOk result (λ found. found.items ≡ map (λ rank. slice_index_or items.now rank 0) ranks.now) }
+{
+    let mut found = Vec::with_capacity(alloc, ranks.len())?;
+    for rank in ranks {
+        found.push(items[*rank as usize])?;
+    }
+    Ok(found)
+}
