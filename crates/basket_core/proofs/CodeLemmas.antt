@@ -13,11 +13,11 @@ use Rattle.basket_core.specs.Database.{MOST_WEIGHT}
 use Rattle.basket_core.specs.Frequent.{is_frequent, frequent_of, ListsFrequent}
 use Rattle.basket_core.specs.Itemset.{IsRising, has, contains, rising}
 use Rattle.basket_core.specs.Minimum.{meets}
-use Rattle.basket_core.specs.Support.{weight_at, support_of, total_of, items_of}
+use Rattle.basket_core.specs.Support.{weight_at, support_of, total_of, items_of, all_items}
 use Rattle.basket_core.proofs.FrequentLemmas.{IsSound, frequent_is_unique}
 use Rattle.basket_core.proofs.Members.{Member, Member-append, Member-map, Member-from_map, Member-filter, Member-from_filter}
 use Rattle.basket_core.proofs.RankLemmas.{Member-ranked, Member-into_ranked, rank_at, rank_from_is}
-use Rattle.basket_core.proofs.Rising.{nil_rises, cons_rises, rising_is, Member-rising, Member-into_rising, Member-from_has, has-from_Member, has_each, contains_each}
+use Rattle.basket_core.proofs.Rising.{nil_rises, cons_rises, rising_is, Member-rising, Member-into_rising, Member-from_has, has-from_Member, has_each, contains_each, rising-rises}
 use Rattle.basket_core.proofs.SupportLemmas.{subsets_are_frequent, frequent_items, in_items, at_least_one}
 
 -- ---- a basket as ranks
@@ -249,3 +249,11 @@ coding_keeps_frequent baskets minimum =
           subst (Contains list) (λ i. record { set = set; count = (frequent_from_kept baskets minimum set k).1 i }) (lists.complete set n k);
     } in
     (frequent_is_unique baskets minimum list).0 all
+
+-- the items of counted supports rise
+pub supports_rise : (baskets : List Weighted) → IsRising (map (λ entry. entry.0) (item_supports baskets))
+supports_rise baskets = subst IsRising (sym (items_back (items_of baskets))) (rising-rises (all_items baskets))
+  where
+    items_back : (items : List ℕ) → map (λ (entry : ℕ × ℕ). entry.0) (map (λ x. (x, support_of baskets (x ∷ []))) items) ≡ items
+    items_back [] = refl
+    items_back (x ∷ items) = ap (λ l. x ∷ l) (items_back items)

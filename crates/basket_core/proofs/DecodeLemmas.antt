@@ -4,20 +4,20 @@ use Rattle.std.specs.Prelude.{nat_eq}
 use Rattle.std.specs.Cmp.Lexicographic.{pointwise, bytes_decides}
 use Rattle.std.specs.List.{AllByRecursion, IsDistinct, Contains, flat_map}
 use Rattle.std.proofs.lemmas.Bool.{cases_Bool, cases_order, eq-eqb, true≢false}
-use Rattle.std.proofs.lemmas.List.{get_or_default}
+use Rattle.std.proofs.lemmas.List.{get_or_default, length-map}
 use Rattle.std.proofs.lemmas.List.Elements.{All-map, All-weaker, recursion_from_All}
 use Rattle.std.proofs.lemmas.List.Sums.{sum_by-cons}
 use Rattle.std.proofs.lemmas.Map.Keys.{apart_from_distinct}
 use Rattle.basket_core.specs.declared.weighted.Weighted.{Weighted}
 use Rattle.basket_core.specs.declared.counted.Counted.{Counted}
-use Rattle.basket_core.specs.Codes.{coded, decoded, decoded_place, decoded_set, Coding, IsCoding, IsCodedPlace, baskets_of, DecodingKeepsFrequent}
+use Rattle.basket_core.specs.Codes.{frequent_of_coding, coded, decoded, decoded_place, decoded_set, Coding, IsCoding, IsCodedPlace, baskets_of, DecodingKeepsFrequent}
 use Rattle.basket_core.specs.Counts.{AllBelow}
-use Rattle.basket_core.specs.Frequent.{is_frequent, counted}
+use Rattle.basket_core.specs.Frequent.{frequent_of, is_frequent, counted}
 use Rattle.basket_core.specs.Itemset.{IsRising, contains}
 use Rattle.basket_core.specs.Minimum.{meets}
 use Rattle.basket_core.specs.Support.{weight_at, support_of, total_of}
 use Rattle.basket_core.proofs.CodeLemmas.{from_ranks, into_ranks, ranks_rise, from_decoded, into_decoded, same_test}
-use Rattle.basket_core.proofs.FrequentLemmas.{IsSound}
+use Rattle.basket_core.proofs.FrequentLemmas.{IsSound, frequent_once, once_is_as_long}
 use Rattle.basket_core.proofs.Members.{Member, All-from_Member, at_Member, Member-append, Member-map, Member-from_map, Member-from_Contains, Contains-from_Member}
 use Rattle.basket_core.proofs.Rising.{rising-rises, rising_is, Member-from_has, has-from_Member, has_each, contains_each, same_rising}
 use Rattle.basket_core.proofs.SupportLemmas.{in_items, at_least_one}
@@ -166,3 +166,10 @@ decoding_keeps_frequent coding list is lists = record {
       subst (Contains (map (decoded_set coding.items) list)) same
       (Contains-from_Member _ (map (decoded_set coding.items) list) (Member-map (decoded_set coding.items) (counted coding.baskets ranks) list (Member-from_Contains _ list m)));
 }
+
+-- there are as many frequent sets of items as of ranks
+pub as_many : (coding : Coding) → IsCoding coding → length (frequent_of_coding coding) ≡ length (frequent_of coding.baskets coding.minimum)
+as_many coding is =
+    let list = map (decoded_set coding.items) (frequent_of coding.baskets coding.minimum) in
+    let lists = decoding_keeps_frequent coding (frequent_of coding.baskets coding.minimum) is (frequent_once coding.baskets coding.minimum) in
+    sym (once_is_as_long (baskets_of coding) coding.minimum list lists) ∙ length-map (frequent_of coding.baskets coding.minimum) (decoded_set coding.items)

@@ -1,15 +1,17 @@
 -- The list of the frequent sets has exactly the nonempty sets that meet the minimum, and is the only such list in report order.
-use Rattle.std.proofs.Common.{◌≡◌, ℕ, ◌+◌, true, false, List, [], ◌∷◌, get_or, map, refl, sym, ap, ◌∙◌, subst, arith}
+use Rattle.std.proofs.Common.{length, Bool, false, ◌≡◌, ℕ, ◌+◌, true, List, [], ◌∷◌, get_or, map, refl, sym, ap, ◌∙◌, subst, arith}
 use Rattle.std.specs.declared.cmp.Ordering.{Ordering}
 use Rattle.std.specs.declared.cmp.Ordering.TheVariants.{Less, Equal, Greater}
 use Rattle.std.specs.Ordering.{nat_cmp, ordering_then, is_lt, eq_by_cmp}
 use Rattle.std.specs.Prelude.{nat_eq}
-use Rattle.std.specs.Cmp.Lexicographic.{pointwise}
-use Rattle.std.specs.List.{AllByRecursion, IsDistinct, filter, flat_map}
+use Rattle.std.specs.Cmp.Lexicographic.{pointwise, bytes_decides, nat_list_eq_equiv}
+use Rattle.std.specs.List.{AllByRecursion, IsDistinct, filter, flat_map, list_any}
 use Rattle.std.specs.List.Sorted.{IsPermutation, IsSorted, IsStrictlySortedBy}
 use Rattle.std.proofs.lemmas.List.{length-map, get_or-map}
 use Rattle.std.proofs.lemmas.List.Sorted.{All-permutation, Contains-permutation, IsPermutation-map}
 use Rattle.std.proofs.lemmas.Map.Keys.{IsDistinct-from_sorted}
+use Rattle.std.proofs.lemmas.Map.Made.{length-from_same_keys}
+use Rattle.std.proofs.lemmas.Map.Views.{list_any-from_Contains, Contains-from_any}
 use Rattle.std.proofs.lemmas.List.Elements.{All-from_recursion, recursion_from_All}
 use Rattle.std.proofs.lemmas.List.Kept.{IsStrictlySortedBy-filter}
 use Rattle.basket_core.specs.declared.weighted.Weighted.{Weighted}
@@ -152,3 +154,27 @@ frequent_once baskets minimum =
       sound = lists.sound;
       complete = lists.complete;
     }
+
+-- it is as long as that list
+pub once_is_as_long : (baskets : List Weighted) (minimum : Minimum) (list : List Counted) → ListsOnce baskets minimum list → length list ≡ length (frequent_of baskets minimum)
+once_is_as_long baskets minimum list lists =
+    let all = frequent_once baskets minimum in
+    sym (length-map list (λ (c : Counted). c.set))
+    ∙ length-from_same_keys nat_list_eq_equiv (map (λ (c : Counted). c.set) list) (map (λ (c : Counted). c.set) (frequent_of baskets minimum)) lists.distinct all.distinct
+    (λ set. same_tests _ _ (member_of list (frequent_of baskets minimum) lists all set) (member_of (frequent_of baskets minimum) list all lists set))
+    ∙ length-map (frequent_of baskets minimum) (λ (c : Counted). c.set)
+  where
+    same_tests : (a b : Bool) → (a ≡ true → b ≡ true) → (b ≡ true → a ≡ true) → a ≡ b
+    same_tests true b f g = sym (f refl)
+    same_tests false true f g = g refl
+    same_tests false false f g = refl
+
+    member_of : (one other : List Counted) → ListsOnce baskets minimum one → ListsOnce baskets minimum other → (set : List ℕ)
+        → list_any (pointwise nat_eq set) (map (λ (c : Counted). c.set) one) ≡ true → list_any (pointwise nat_eq set) (map (λ (c : Counted). c.set) other) ≡ true
+    member_of one other a b set h =
+        let m = Member-from_Contains set (map (λ (c : Counted). c.set) one) (Contains-from_any (λ x y e. (bytes_decides x y).0 e) set (map (λ (c : Counted). c.set) one) h) in
+        let c = Member-from_map (λ (c : Counted). c.set) set one m in
+        let s = at_Member (IsSound baskets minimum) c.0 one (recursion_from_All (IsSound baskets minimum) one a.sound) c.1 in
+        let n = Member-map (λ (c : Counted). c.set) (counted baskets c.0.set) other (Member-from_Contains (counted baskets c.0.set) other (b.complete c.0.set s.0 s.1)) in
+        list_any-from_Contains nat_list_eq_equiv set (map (λ (c : Counted). c.set) other)
+        (Contains-from_Member set (map (λ (c : Counted). c.set) other) (subst (λ z. Member z (map (λ (c : Counted). c.set) other)) c.2 n))

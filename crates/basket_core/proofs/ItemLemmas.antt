@@ -14,7 +14,7 @@ use Rattle.basket_core.proofs.MergeLemmas.{merging_keeps_supports}
 
 -- ---- filters
 
-filter-map : {X Y : Type 0} (f : X → Y) (p : Y → Bool) (xs : List X) → filter p (map f xs) ≡ map f (filter (λ x. p (f x)) xs)
+pub filter-map : {X Y : Type 0} (f : X → Y) (p : Y → Bool) (xs : List X) → filter p (map f xs) ≡ map f (filter (λ x. p (f x)) xs)
 filter-map f p [] = refl
 filter-map f p (x ∷ xs) = at (p (f x)) (filter-map f p xs)
   where
@@ -63,7 +63,7 @@ sized (suc size) (x ∷ items) =
     (all_map (λ set. x ∷ set) _ (subsets_of_size size items) (all_weaker _ _ (λ set e. ap suc e) (subsets_of_size size items) (sized size items)))
     (sized (suc size) items)
 
-one_item : (items : List ℕ) → subsets_of_size 1 items ≡ map (λ x. x ∷ []) items
+pub one_item : (items : List ℕ) → subsets_of_size 1 items ≡ map (λ x. x ∷ []) items
 one_item [] = refl
 one_item (x ∷ items) = ap (λ l. (x ∷ []) ∷ l) (one_item items)
 
@@ -81,7 +81,7 @@ single_subsets : (items : List ℕ) → filter (λ set. eqb (length set) 1) (sub
 single_subsets [] = refl
 single_subsets (x ∷ items) = singles_up_to (length items) (x ∷ items)
 
-map-map : {X Y Z : Type 0} (g : Y → Z) (f : X → Y) (xs : List X) → map g (map f xs) ≡ map (λ x. g (f x)) xs
+pub map-map : {X Y Z : Type 0} (g : Y → Z) (f : X → Y) (xs : List X) → map g (map f xs) ≡ map (λ x. g (f x)) xs
 map-map g f [] = refl
 map-map g f (x ∷ xs) = ap (λ l. g (f x) ∷ l) (map-map g f xs)
 

@@ -104,7 +104,7 @@ first_less : (x y : ℕ) (a b : List ℕ) → x < y → slice_cmp nat_cmp (x ∷
 first_less x y a b h = ap (λ o. ordering_then o (slice_cmp nat_cmp a b)) (Less-from_lt x y h)
 
 -- the subsets of one size are sorted lexicographically
-of_size_sorted : (size : ℕ) (items : List ℕ) → IsRising items → IsStrictlySortedBy (slice_cmp nat_cmp) (subsets_of_size size items)
+pub of_size_sorted : (size : ℕ) (items : List ℕ) → IsRising items → IsStrictlySortedBy (slice_cmp nat_cmp) (subsets_of_size size items)
 unfolding IsStrictlySortedBy
 of_size_sorted zero items up = (tt, tt)
 of_size_sorted (suc size) [] up = tt
@@ -121,7 +121,7 @@ of_size_sorted (suc size) (x ∷ items) up =
 shorter_first : (a b : List ℕ) → length a < length b → report_order a b ≡ Less
 shorter_first a b h = ap (λ o. ordering_then o (slice_cmp nat_cmp a b)) (Less-from_lt (length a) (length b) h)
 
-same_length : (a b : List ℕ) → length a ≡ length b → slice_cmp nat_cmp a b ≡ Less → report_order a b ≡ Less
+pub same_length : (a b : List ℕ) → length a ≡ length b → slice_cmp nat_cmp a b ≡ Less → report_order a b ≡ Less
 same_length a b e h = ap (λ n. ordering_then (nat_cmp n (length b)) (slice_cmp nat_cmp a b)) e ∙ ap (λ o. ordering_then o (slice_cmp nat_cmp a b)) (nat_cmp_same (length b)) ∙ h
 
 up_to_sorted : (most : ℕ) (items : List ℕ) → IsRising items → IsStrictlySortedBy report_order (subsets_up_to most items)

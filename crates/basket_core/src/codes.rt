@@ -6,6 +6,7 @@ ghost use Rattle.basket_core.specs.Itemset.{IsRising};
 ghost use Rattle.basket_core.specs.Ranks.{IsRankTable};
 ghost use Rattle.basket_core.specs.Support.{total_of};
 
+use crate::counts::count_items;
 use crate::database::Database;
 use crate::itemset::Itemset;
 use crate::minimum::Minimum;
@@ -96,6 +97,14 @@ impl Model for Coded {
 }
 
 impl Coded {
+    /// The baskets of the database as ranks of the items that are frequent in it.
+    pub fn of(alloc: Global, database: &Database, minimum: Minimum) -> Result<Self, AllocError>
+        ensures { IfOk result (λ coded. coded ≡ coding_of database.now minimum) }
+    {
+        let counts = count_items(alloc, database.baskets())?;
+        Codes::of(alloc, &counts, database.total(), minimum)?.code(alloc, database)
+    }
+
     /// The baskets as ranks, in the order of the database.
     pub fn baskets(&self) -> &[Weighted]
         ensures baskets { result.now ≡ self.now.baskets }
