@@ -1,0 +1,105 @@
+-- What the candidates of sets of one size are.
+use Rattle.std.proofs.Common.{◌≡◌, ℕ, true, List, [], ◌∷◌, ◌++◌, length, get_or, flat_map, refl, sym, ap, ◌∙◌, subst, inl, inr, ◌⊎◌, arith, zero, suc}
+use Rattle.std.specs.List.Sorted.{IsStrictlySortedBy}
+use Rattle.std.specs.Ordering.{nat_cmp}
+use Rattle.std.specs.Cmp.Lexicographic.{slice_cmp}
+use Rattle.std.proofs.lemmas.List.{get_or_default}
+use Rattle.std.proofs.lemmas.List.Kept.{IsStrictlySortedBy-filter}
+use Rattle.basket_core.specs.Itemset.{IsRising}
+use Rattle.basket_core.specs.Order.{report_order}
+use Rattle.basket_core.specs.Subsets.{subsets_of_size}
+use Rattle.basket_core.proofs.Members.{Member, Member-append, Member-append_right, Member-filter, Member-from_filter, sorted_along, Member-from_Contains, Contains-from_Member}
+use Rattle.basket_core.proofs.Rising.{rising-rises, has_each, contains_each}
+use Rattle.basket_core.proofs.SubsetLemmas.{IsSubset, IsSubset-from_Member, Member-from_IsSubset, of_size_sorted, same_length}
+use Rattle.mine_apriori.specs.Candidates.{items_in, is_one_of, has_subsets, candidates_of, IsCandidate, CandidatesAreExact, CandidatesAreInReportOrder, CandidatesAreOneLarger}
+use Rattle.mine_apriori.specs.Join.{without}
+use Rattle.mine_apriori.specs.Sizes.{AreOfSize}
+use Rattle.mine_apriori.proofs.JoinLemmas.{ends_of, without_second, without_first}
+use Rattle.mine_apriori.proofs.PruneLemmas.{each_passes, all_pass, Member-from_is_one_of, is_one_of-from_Member, Member-without}
+use Rattle.mine_apriori.proofs.CandidateLemmas.{of_size_is, in_items}
+
+items_rise : (sets : List (List ℕ)) → IsRising (items_in sets)
+items_rise sets = rising-rises (flat_map (λ s. s) sets)
+
+pub size_at : (size : ℕ) (sets : List (List ℕ)) → AreOfSize size sets → (set : List ℕ) → Member set sets → length set ≡ size
+size_at size sets sized set m = let c = Contains-from_Member set sets m in ap length (sym c.2) ∙ sized c.0 set c.1
+
+pub subset_of_size : (size : ℕ) (sets : List (List ℕ)) (set : List ℕ) → AreOfSize size sets → Member set (candidates_of sets) → IsSubset (suc size) (items_in sets) set × (has_subsets size sets set ≡ true)
+subset_of_size size [] set sized m = absurd m
+subset_of_size size (first ∷ others) set sized m =
+    let sets = first ∷ others in
+    let is = of_size_is size first others (size_at size sets sized first (inl refl)) in
+    let k = Member-filter (has_subsets size sets) set (subsets_of_size (suc size) (items_in sets)) (subst (Member set) is m) in
+    (IsSubset-from_Member (suc size) (items_in sets) set (items_rise sets) k.0, k.1)
+
+pub candidates_are_one_larger : CandidatesAreOneLarger
+candidates_are_one_larger size sets sized k d below =
+    let list = candidates_of sets in
+    let m = Member-from_Contains (get_or list k d) list (k, below, get_or_default list k (get_or list k d) d below) in
+    let s = subset_of_size size sets (get_or list k d) sized m in
+    omega (arith, s.0.sized)
+
+pub candidates_are_in_report_order : CandidatesAreInReportOrder
+unfolding IsStrictlySortedBy
+candidates_are_in_report_order [] = tt
+candidates_are_in_report_order (first ∷ others) =
+    let sets = first ∷ others in
+    let size = length first in
+    IsStrictlySortedBy-filter report_order (has_subsets size sets) (subsets_of_size (suc size) (items_in sets))
+    (sorted_along (slice_cmp nat_cmp) report_order (subsets_of_size (suc size) (items_in sets))
+    (λ a b m n h. let s = IsSubset-from_Member (suc size) (items_in sets) a (items_rise sets) m in
+    let t = IsSubset-from_Member (suc size) (items_in sets) b (items_rise sets) n in same_length a b (s.sized ∙ sym t.sized) h)
+    (of_size_sorted (suc size) (items_in sets) (items_rise sets)))
+
+-- each item of a set is in the set without its last item, or in that without the item before
+item_is_left : (last : ℕ) (set : List ℕ) (item : ℕ) → length set ≡ suc (suc last) → Member item set → Member item (without (suc last) set) ⊎ Member item (without last set)
+item_is_left last set item long m =
+    let r = ends_of last set long in
+    let first = r.front ++ r.first ∷ [] in
+    let a : without (suc last) set ≡ first = (λ i. without (suc (sym r.long i)) (r.is i)) ∙ without_second r.front r.first r.second in
+    let b : without last set ≡ r.front ++ r.second ∷ [] = (λ i. without (sym r.long i) (r.is i)) ∙ without_first r.front r.first r.second in
+    elim (Member-append item first (r.second ∷ []) (subst (Member item) r.is m)) [
+      | inl n ↦ inl (subst (Member item) (sym a) n)
+      | inr n ↦ inr (subst (Member item) (sym b) (Member-append_right item r.front (r.second ∷ []) n))
+    ]
+
+pub candidate_from : (size : ℕ) (sets : List (List ℕ)) (set : List ℕ) → AreOfSize size sets → Member set (candidates_of sets) → IsCandidate size sets set
+candidate_from size sets set sized m =
+    let s = subset_of_size size sets set sized m in
+    record {
+      rises = s.0.rises;
+      sized = omega (arith, s.0.sized);
+      subsets = λ subset up long within. Contains-from_Member subset sets (Member-from_is_one_of sets subset
+          (each_passes (is_one_of sets) (subsets_of_size size set) s.1 subset
+          (Member-from_IsSubset size set subset s.0.rises (record { rises = up; sized = long; within = has_each set subset within }))));
+    }
+
+from_subsets : (last : ℕ) (sets : List (List ℕ)) (set : List ℕ) → AreOfSize (suc last) sets → IsRising set → length set ≡ suc (suc last)
+    → ((subset : List ℕ) → Member subset (subsets_of_size (suc last) set) → Member subset sets) → Member set (candidates_of sets)
+from_subsets last [] set sized up long has = has (without last set) (Member-without (suc last) last set long (omega arith))
+from_subsets last (first ∷ others) set sized up long has =
+    let sets = first ∷ others in
+    let all = all_pass (is_one_of sets) (subsets_of_size (suc last) set) (λ subset m. is_one_of-from_Member sets subset (has subset m)) in
+    let within : (item : ℕ) → Member item set → Member item (items_in sets) = λ item m.
+    elim (item_is_left last set item long m) [
+      | inl n ↦ in_items sets (without (suc last) set) item (has (without (suc last) set) (Member-without (suc last) (suc last) set long (omega arith))) n
+      | inr n ↦ in_items sets (without last set) item (has (without last set) (Member-without (suc last) last set long (omega arith))) n
+    ] in
+    subst (Member set) (sym (of_size_is (suc last) first others (size_at (suc last) sets sized first (inl refl))))
+    (Member-from_filter (has_subsets (suc last) sets) set (subsets_of_size (suc (suc last)) (items_in sets))
+    (Member-from_IsSubset (suc (suc last)) (items_in sets) set (items_rise sets) (record { rises = up; sized = long; within = within })) all)
+
+pub Member-from_candidate : (last : ℕ) (sets : List (List ℕ)) (set : List ℕ) → AreOfSize (suc last) sets → IsCandidate (suc last) sets set → Member set (candidates_of sets)
+Member-from_candidate last sets set sized is = from_subsets last sets set sized is.rises long
+    (λ subset m. let s = IsSubset-from_Member (suc last) set subset is.rises m in
+    Member-from_Contains subset sets (is.subsets subset s.rises s.sized (contains_each set subset s.within)))
+  where
+    long : length set ≡ suc (suc last)
+    long = omega (arith, is.sized)
+
+pub candidates_are_exact : CandidatesAreExact
+candidates_are_exact zero sets set some sized = absurd (omega arith)
+candidates_are_exact (suc last) sets set some sized = (
+  λ c. candidate_from (suc last) sets set sized (Member-from_Contains set (candidates_of sets) c),
+  λ is. Contains-from_Member set (candidates_of sets) (Member-from_candidate last sets set sized is),
+)

@@ -1,0 +1,255 @@
+-- The frequent sets by levels: each level is what is frequent among the candidates of the one before.
+use Rattle.std.proofs.Common.{◌≡◌, ◌≢◌, ℕ, ◌+◌, ◌-◌, ◌<◌, ◌≤◌, Bool, true, false, List, [], ◌∷◌, ◌++◌, Some, Result, Ok, Err, length, take, drop, get_or, map, cond, refl, sym, ap, ◌∙◌, subst, inl, inr, arith, zero, suc}
+use Rattle.std.specs.Prelude.{nat_eq}
+use Rattle.std.specs.Cmp.Lexicographic.{pointwise, slice_cmp, nat_list_eq_equiv}
+use Rattle.std.specs.Ordering.{nat_cmp}
+use Rattle.std.specs.List.{All, Contains, filter, flat_map, slice_get}
+use Rattle.std.specs.List.Sorted.{IsStrictlySortedBy}
+use Rattle.std.proofs.Math.Seq.{drop-append_seam}
+use Rattle.std.proofs.lemmas.List.{append-nil, length-append, length-map, map-append, get_or_default}
+use Rattle.std.proofs.lemmas.Option.{slice_get_within, get_or_from_slice_get}
+use Rattle.std.proofs.lemmas.List.Elements.{filter-append, All-map}
+use Rattle.std.proofs.lemmas.List.Kept.{IsStrictlySortedBy-filter}
+use Rattle.basket_core.specs.declared.counted.Counted.{Counted}
+use Rattle.basket_core.specs.declared.fault.MineFault.{MineFault}
+use Rattle.basket_core.specs.declared.fault.MineFault.TheVariants.{Memory, TooMany}
+use Rattle.basket_core.specs.Codes.{Coding, IsCoding, baskets_of, frequent_of_coding, decoded_set}
+use Rattle.basket_core.specs.Counts.{item_supports, AllBelow}
+use Rattle.basket_core.specs.Frequent.{is_frequent, counted, frequent_of, ListsOnce}
+use Rattle.basket_core.specs.Itemset.{IsRising, rising, contains}
+use Rattle.basket_core.specs.Minimum.{meets}
+use Rattle.basket_core.specs.Order.{report_order, report_order_total, IsInReportOrder}
+use Rattle.basket_core.specs.Subsets.{subsets_of_size, subsets_up_to, subsets_of}
+use Rattle.basket_core.specs.Support.{support_of, total_of, items_of, all_items}
+use Rattle.basket_core.proofs.DecodeLemmas.{decoding_keeps_frequent, ranks_below, as_many}
+use Rattle.basket_core.proofs.FrequentLemmas.{frequent_once}
+use Rattle.basket_core.proofs.ItemLemmas.{filter-map, map-map, one_item}
+use Rattle.basket_core.proofs.Members.{Member, Member-append, Member-filter, Member-from_filter, Member-from_Contains, Contains-from_Member, sorted_along, same_members}
+use Rattle.basket_core.proofs.Rising.{rising-rises, Member-rising, length-le-contains}
+use Rattle.basket_core.proofs.SubsetLemmas.{IsSubset, IsSubset-from_Member, Member-from_IsSubset, of_size_sorted, same_length}
+use Rattle.basket_core.proofs.SupportLemmas.{frequent_items, subsets_are_frequent}
+use Rattle.mine_apriori.specs.declared.levels.Found.{Found}
+use Rattle.mine_apriori.specs.Candidates.{candidates_of, IsCandidate}
+use Rattle.mine_apriori.specs.Levels.{level_of, levels_up_to, asked_of, AreFound, AreTooMany}
+use Rattle.mine_apriori.specs.Sizes.{AreOfSize, AreOfOneSize}
+use Rattle.mine_apriori.proofs.LawLemmas.{subset_of_size, candidates_are_exact, candidates_are_in_report_order, candidates_are_one_larger}
+
+-- what is larger than a list has no subset of it
+none_larger : (size : ℕ) (items : List ℕ) → length items < size → subsets_of_size size items ≡ []
+none_larger zero items h = absurd (omega arith)
+none_larger (suc size) [] h = refl
+none_larger (suc size) (x ∷ items) h = both (none_larger size items (omega arith)) (none_larger (suc size) items (omega arith))
+  where
+    both : subsets_of_size size items ≡ [] → subsets_of_size (suc size) items ≡ [] → map (λ s. x ∷ s) (subsets_of_size size items) ++ subsets_of_size (suc size) items ≡ []
+    both a b = ap (λ l. map (λ s. x ∷ s) l ++ subsets_of_size (suc size) items) a ∙ b
+
+module _ (coding : Coding) where
+  abbrev items : List ℕ
+  items = items_of coding.baskets
+
+  abbrev passes : List ℕ → Bool
+  passes set = is_frequent coding.baskets coding.minimum set
+
+  items_rise : IsRising items
+  items_rise = rising-rises (all_items coding.baskets)
+
+  -- ---- the sets of a level
+
+  pub from_level : (size : ℕ) (set : List ℕ) → Member set (level_of coding size) → IsSubset size items set × (passes set ≡ true)
+  from_level size set m = let k = Member-filter passes set (subsets_of_size size items) m in (IsSubset-from_Member size items set items_rise k.0, k.1)
+
+  pub into_level : (size : ℕ) (set : List ℕ) → IsRising set → length set ≡ size → passes set ≡ true → Member set (level_of coding size)
+  into_level size set up sized h =
+      Member-from_filter passes set (subsets_of_size size items)
+      (Member-from_IsSubset size items set items_rise (record { rises = up; sized = sized; within = frequent_items coding.baskets coding.minimum set h })) h
+
+  pub level_sized : (size : ℕ) → AreOfSize size (level_of coding size)
+  level_sized size k d below =
+      let list = level_of coding size in
+      let m = Member-from_Contains (get_or list k d) list (k, below, get_or_default list k (get_or list k d) d below) in
+      (from_level size (get_or list k d) m).0.sized
+
+  pub level_in_order : (size : ℕ) → IsInReportOrder (level_of coding size)
+  level_in_order size =
+      IsStrictlySortedBy-filter report_order passes (subsets_of_size size items)
+      (sorted_along (slice_cmp nat_cmp) report_order (subsets_of_size size items)
+      (λ a b m n h. let s = IsSubset-from_Member size items a items_rise m in let t = IsSubset-from_Member size items b items_rise n in
+      same_length a b (s.sized ∙ sym t.sized) h)
+      (of_size_sorted size items items_rise))
+
+  -- ---- the next level
+
+  pub next_level : (size : ℕ) → 1 ≤ size → filter passes (asked_of coding size) ≡ level_of coding (size + 1)
+  next_level size some = same_members report_order_total (filter passes (asked_of coding size)) (level_of coding (size + 1))
+      (IsStrictlySortedBy-filter report_order passes (asked_of coding size) (candidates_are_in_report_order (level_of coding size)))
+      (level_in_order (size + 1))
+      (λ set m. let k = Member-filter passes set (asked_of coding size) m in
+      let c = (candidates_are_exact size (level_of coding size) set some (level_sized size)).0 (Contains-from_Member set (asked_of coding size) k.0) in
+      into_level (size + 1) set c.rises c.sized k.1)
+      (λ set m. let s = from_level (size + 1) set m in
+      Member-from_filter passes set (asked_of coding size)
+      (Member-from_Contains set (asked_of coding size) ((candidates_are_exact size (level_of coding size) set some (level_sized size)).1 (record {
+        rises = s.0.rises;
+        sized = s.0.sized;
+        subsets = λ subset up sized within.
+            Contains-from_Member subset (level_of coding size) (into_level size subset up sized (subsets_are_frequent coding.baskets coding.minimum set subset within s.1));
+      }))) s.1)
+
+  pub up_to_next : (size : ℕ) → levels_up_to coding (size + 1) ≡ levels_up_to coding size ++ level_of coding (size + 1)
+  up_to_next size =
+      let one : size + 1 ≡ suc size = omega arith in
+      ap (levels_up_to coding) one ∙ filter-append passes (subsets_up_to size items) (subsets_of_size (suc size) items)
+      ∙ ap (λ n. levels_up_to coding size ++ level_of coding n) (sym one)
+
+  -- ---- the last level
+
+  empty_after : (size : ℕ) → 1 ≤ size → level_of coding size ≡ [] → level_of coding (size + 1) ≡ []
+  empty_after size some none = sym (next_level size some) ∙ ap (λ l. filter passes (candidates_of l)) none
+
+  empty_later : (size more : ℕ) → 1 ≤ size → level_of coding size ≡ [] → level_of coding (size + more) ≡ []
+  empty_later size zero some none = ap (level_of coding) (let e : size + 0 ≡ size = omega arith in e) ∙ none
+  empty_later size (suc more) some none =
+      ap (level_of coding) (let e : size + suc more ≡ size + more + 1 = omega arith in e)
+      ∙ empty_after (size + more) (omega arith) (empty_later size more some none)
+
+  up_to_later : (size more : ℕ) → ((k : ℕ) → level_of coding (size + 1 + k) ≡ []) → levels_up_to coding (size + more) ≡ levels_up_to coding size
+  up_to_later size zero none = ap (levels_up_to coding) (let e : size + 0 ≡ size = omega arith in e)
+  up_to_later size (suc more) none =
+      ap (levels_up_to coding) (let e : size + suc more ≡ size + more + 1 = omega arith in e) ∙ up_to_next (size + more)
+      ∙ ap (λ l. levels_up_to coding (size + more) ++ l) (ap (level_of coding) (let e : size + more + 1 ≡ size + 1 + more = omega arith in e) ∙ none more)
+      ∙ append-nil (levels_up_to coding (size + more)) ∙ up_to_later size more none
+
+  -- the sets up to the number of items are all there are
+  beyond_all : (size : ℕ) → levels_up_to coding (length items + size) ≡ levels_up_to coding (length items)
+  beyond_all size = up_to_later (length items) size (λ k. ap (filter passes) (none_larger (length items + 1 + k) items (omega arith)))
+
+  pub all_found : (size : ℕ) → 1 ≤ size → asked_of coding size ≡ [] → levels_up_to coding size ≡ levels_up_to coding (length items)
+  all_found size some none =
+      let next : level_of coding (size + 1) ≡ [] = sym (next_level size some) ∙ ap (filter passes) none in
+      sym (up_to_later size (length items) (λ k. empty_later (size + 1) k (omega arith) next))
+      ∙ ap (levels_up_to coding) (let e : size + length items ≡ length items + size = omega arith in e) ∙ beyond_all size
+
+  -- what is found is no more than there is
+  grows : (size more : ℕ) → length (levels_up_to coding size) ≤ length (levels_up_to coding (size + more))
+  grows size zero = let same = ap (λ n. length (levels_up_to coding n)) (let e : size + 0 ≡ size = omega arith in e) in omega (arith, same)
+  grows size (suc more) =
+      let same = ap (λ n. length (levels_up_to coding n)) (let e : size + suc more ≡ size + more + 1 = omega arith in e) in
+      let long = ap length (up_to_next (size + more)) ∙ length-append (levels_up_to coding (size + more)) (level_of coding (size + more + 1)) in
+      let rest = grows size more in
+      omega (arith, same, long, rest)
+
+  pub found_at_most : IsCoding coding → (size : ℕ) → length (levels_up_to coding size) ≤ length (frequent_of_coding coding)
+  found_at_most is size =
+      let all = as_many coding is in
+      let long = length-map (levels_up_to coding (length items)) (counted coding.baskets) in
+      let most = grows size (length items) in
+      let same = ap (λ n. length (levels_up_to coding n)) (let e : size + length items ≡ length items + size = omega arith in e) ∙ ap length (beyond_all size) in
+      omega (arith, all, long, most, same)
+
+  pub too_many : IsCoding coding → (size limit : ℕ) → limit < length (levels_up_to coding size) → AreTooMany coding limit
+  too_many is size limit more = let most = found_at_most is size in omega arith
+
+  -- the sets are ranks of items
+  pub found_below : IsCoding coding → (size : ℕ) → All (AllBelow (length coding.items)) (levels_up_to coding size)
+  found_below is size k d below =
+      let list = levels_up_to coding size in
+      let m = Member-from_Contains (get_or list k d) list (k, below, get_or_default list k (get_or list k d) d below) in
+      ranks_below coding is (get_or list k d) (Member-filter passes (get_or list k d) (subsets_up_to size items) m).1
+
+  -- all of them, as items, are each frequent set once
+  pub found_once : IsCoding coding → (size : ℕ) → 1 ≤ size → asked_of coding size ≡ [] →
+      ListsOnce (baskets_of coding) coding.minimum (map (λ set. decoded_set coding.items (counted coding.baskets set)) (levels_up_to coding size))
+  found_once is size some none =
+      subst (ListsOnce (baskets_of coding) coding.minimum)
+      (map-map (decoded_set coding.items) (counted coding.baskets) (levels_up_to coding (length items))
+      ∙ ap (map (λ set. decoded_set coding.items (counted coding.baskets set))) (sym (all_found size some none)))
+      (decoding_keeps_frequent coding (frequent_of coding.baskets coding.minimum) is (frequent_once coding.baskets coding.minimum))
+
+  pub found_is_all : IsCoding coding → (size : ℕ) → 1 ≤ size → asked_of coding size ≡ [] → length (frequent_of_coding coding) ≡ length (levels_up_to coding size)
+  found_is_all is size some none =
+      as_many coding is ∙ length-map (levels_up_to coding (length items)) (counted coding.baskets) ∙ ap length (sym (all_found size some none))
+
+  from_sets : (sets : List (List ℕ)) (item : ℕ) → ((set : List ℕ) → Member set sets → Member item set → Member item items) → Member item (flat_map (λ set. set) sets) → Member item items
+  from_sets [] item h m = absurd m
+  from_sets (set ∷ sets) item h m = elim (Member-append item set (flat_map (λ s. s) sets) m) [
+    | inl here ↦ h set (inl refl) here
+    | inr there ↦ from_sets sets item (λ s n k. h s (inr n) k) there
+  ]
+
+  -- a candidate has items of the baskets
+  candidate_within : (size : ℕ) (set : List ℕ) → Member set (asked_of coding size) → size + 1 ≤ length items
+  candidate_within size set m =
+      let s = subset_of_size size (level_of coding size) set (level_sized size) m in
+      let le = length-le-contains set items s.0.rises items_rise
+      (λ item n. from_sets (level_of coding size) item (λ other k j. (from_level size other k).0.within item j) (Member-rising (flat_map (λ set. set) (level_of coding size)) item (s.0.within item n))) in
+      omega (arith, le, s.0.sized)
+
+  -- a level that asks is not yet that of all items
+  pub asks_more : (size : ℕ) → 1 ≤ size → asked_of coding size ≢ [] → size + 1 ≤ length items
+  asks_more size some asks = at (asked_of coding size) refl
+    where
+      at : (list : List (List ℕ)) → asked_of coding size ≡ list → size + 1 ≤ length items
+      at [] e = absurd (asks e)
+      at (set ∷ sets) e = candidate_within size set (subst (Member set) (sym e) (inl refl))
+
+  -- ---- the first level
+
+  abbrev pub met : ℕ × ℕ → Bool
+  met entry = meets coding.minimum entry.1 (total_of coding.baskets)
+
+  pub first_sets : map (λ entry. entry.0 ∷ []) (filter met (item_supports coding.baskets)) ≡ level_of coding 1
+  first_sets =
+      ap (map (λ (entry : ℕ × ℕ). entry.0 ∷ [])) (filter-map (λ x. (x, support_of coding.baskets (x ∷ []))) met items)
+      ∙ map-map (λ (entry : ℕ × ℕ). entry.0 ∷ []) (λ x. (x, support_of coding.baskets (x ∷ []))) (filter (λ x. passes (x ∷ [])) items)
+      ∙ sym (ap (filter passes) (one_item items) ∙ filter-map (λ x. x ∷ []) passes items)
+
+  pub first_counts : map (λ entry. entry.1) (filter met (item_supports coding.baskets)) ≡ map (support_of coding.baskets) (level_of coding 1)
+  first_counts =
+      ap (map (λ (entry : ℕ × ℕ). entry.1)) (filter-map (λ x. (x, support_of coding.baskets (x ∷ []))) met items)
+      ∙ map-map (λ (entry : ℕ × ℕ). entry.1) (λ x. (x, support_of coding.baskets (x ∷ []))) (filter (λ x. passes (x ∷ [])) items)
+      ∙ sym (ap (map (support_of coding.baskets)) (ap (filter passes) (one_item items) ∙ filter-map (λ x. x ∷ []) passes items)
+      ∙ map-map (support_of coding.baskets) (λ x. x ∷ []) (filter (λ x. passes (x ∷ [])) items))
+
+-- ---- faults
+
+abbrev pub refused : {X : Type 0} → ℕ → Result X MineFault
+refused limit = Err (TooMany limit)
+
+abbrev limit_in : {X : Type 0} → Result X MineFault → ℕ
+limit_in (Ok x) = 0
+limit_in (Err Memory) = 0
+limit_in (Err (TooMany limit)) = limit
+
+pub same_limit : {X : Type 0} (a b : ℕ) → refused {X = X} a ≡ refused b → b ≡ a
+same_limit a b e = sym (ap limit_in e)
+
+-- ---- an answer
+
+module _ (coding : Coding) (size : ℕ) (some : 1 ≤ size) where
+  -- the first set that is asked has one rank more
+  pub asked_size : (set : List ℕ) → Contains (asked_of coding size) set → length set ≡ size + 1
+  asked_size set c = ap length (sym c.2) ∙ candidates_are_one_larger size (level_of coding size) (level_sized coding size) c.0 set c.1
+
+  -- what is frequent of what was asked is the next level
+  pub found_next : (old new : Found) → AreFound coding size old
+      → new.sets.items ≡ old.sets.items ++ filter (is_frequent coding.baskets coding.minimum) (asked_of coding size)
+      → new.counts.items ≡ old.counts.items ++ map (support_of coding.baskets) (filter (is_frequent coding.baskets coding.minimum) (asked_of coding size))
+      → AreFound coding (size + 1) new
+  found_next old new is sets counts =
+      let next = next_level coding size some in
+      record {
+        sets = sets ∙ ap (λ l. l ++ filter (is_frequent coding.baskets coding.minimum) (asked_of coding size)) is.sets
+            ∙ ap (λ l. levels_up_to coding size ++ l) next ∙ sym (up_to_next coding size);
+        counts = counts ∙ ap (λ l. l ++ map (support_of coding.baskets) (filter (is_frequent coding.baskets coding.minimum) (asked_of coding size))) is.counts
+            ∙ sym (map-append (support_of coding.baskets) old.sets.items (filter (is_frequent coding.baskets coding.minimum) (asked_of coding size)))
+            ∙ ap (map (support_of coding.baskets)) (sym sets);
+      }
+
+  pub last_next : (old new : Found)
+      → new.sets.items ≡ old.sets.items ++ filter (is_frequent coding.baskets coding.minimum) (asked_of coding size)
+      → drop (length old.sets.items) new.sets.items ≡ level_of coding (size + 1)
+  last_next old new sets = ap (drop (length old.sets.items)) sets ∙ drop-append_seam old.sets.items (filter (is_frequent coding.baskets coding.minimum) (asked_of coding size)) ∙ next_level coding size some
+
+-- the first of a list is in it
+pub first_is_there : (list other : List (List ℕ)) (set : List ℕ) → Some set ≡ slice_get list 0 → list ≡ other → Contains other set
+first_is_there list other set is same = subst (λ l. Contains l set) same (0, slice_get_within list 0 set (sym is), get_or_from_slice_get list 0 set set (sym is))

@@ -1,0 +1,15 @@
+pub mod JoinLemmas
+pub mod FrontLemmas
+pub mod PruneLemmas
+pub mod CandidateLemmas
+pub mod LawLemmas
+pub mod SearchLemmas
+pub mod PassingLemmas
+pub mod RunLemmas
+pub mod NodeLemmas
+pub mod LevelLemmas
+pub mod ContainLemmas
+pub mod TreeLemmas
+pub mod SupportLemmas
+pub mod RegularLemmas
+pub mod LevelsLemmas

@@ -1,0 +1,119 @@
+-- The subsets of a set with one item less are the set without one of its places.
+use Rattle.std.proofs.Common.{◌≡◌, ℕ, ◌<◌, ◌≤◌, Bool, true, false, ◌||◌, List, [], ◌∷◌, ◌++◌, length, take, drop, map, refl, sym, ap, ◌∙◌, subst, inl, inr, arith, zero, suc}
+use Rattle.std.specs.Cmp.Lexicographic.{pointwise, bytes_decides}
+use Rattle.std.specs.Prelude.{nat_eq}
+use Rattle.std.specs.List.{list_all}
+use Rattle.std.proofs.lemmas.Bool.{and_parts, and_from, or_cases, cases_Bool, cases_lt, true≢false}
+use Rattle.basket_core.specs.Subsets.{subsets_of_size}
+use Rattle.basket_core.proofs.Members.{Member, Member-append, Member-append_left, Member-append_right, Member-map, Member-from_map}
+use Rattle.mine_apriori.specs.Candidates.{is_one_of, has_subsets}
+use Rattle.mine_apriori.specs.Join.{without, IsJoin}
+
+-- ---- tests of lists
+
+pub each_passes : {X : Type 0} (p : X → Bool) (xs : List X) → list_all p xs ≡ true → (x : X) → Member x xs → p x ≡ true
+each_passes p [] h x m = absurd m
+each_passes p (y ∷ ys) h x (inl e) = subst (λ z. p z ≡ true) e (and_parts (p y) (list_all p ys) h).0
+each_passes p (y ∷ ys) h x (inr m) = each_passes p ys (and_parts (p y) (list_all p ys) h).1 x m
+
+pub all_pass : {X : Type 0} (p : X → Bool) (xs : List X) → ((x : X) → Member x xs → p x ≡ true) → list_all p xs ≡ true
+all_pass p [] h = refl
+all_pass p (y ∷ ys) h = and_from (p y) (list_all p ys) (h y (inl refl)) (all_pass p ys (λ x m. h x (inr m)))
+
+pub Member-from_is_one_of : (sets : List (List ℕ)) (set : List ℕ) → is_one_of sets set ≡ true → Member set sets
+Member-from_is_one_of [] set h = absurd (true≢false (sym h))
+Member-from_is_one_of (other ∷ sets) set h = elim (or_cases (pointwise nat_eq set other) (is_one_of sets set) h) [
+  | inl e ↦ inl (sym ((bytes_decides set other).0 e))
+  | inr e ↦ inr (Member-from_is_one_of sets set e)
+]
+
+pub is_one_of-from_Member : (sets : List (List ℕ)) (set : List ℕ) → Member set sets → is_one_of sets set ≡ true
+is_one_of-from_Member [] set m = absurd m
+is_one_of-from_Member (other ∷ sets) set (inl e) = ap (λ b. b || is_one_of sets set) ((bytes_decides set other).1 (sym e))
+is_one_of-from_Member (other ∷ sets) set (inr m) = elim (cases_Bool (pointwise nat_eq set other)) [
+  | inl e ↦ ap (λ b. b || is_one_of sets set) e
+  | inr e ↦ ap (λ b. b || is_one_of sets set) e ∙ is_one_of-from_Member sets set m
+]
+
+-- ---- places and subsets
+
+whole : (items : List ℕ) → Member items (subsets_of_size (length items) items)
+whole [] = inl refl
+whole (x ∷ items) = Member-append_left (x ∷ items) (map (λ s. x ∷ s) (subsets_of_size (length items) items)) (subsets_of_size (suc (length items)) items)
+    (Member-map (λ s. x ∷ s) items (subsets_of_size (length items) items) (whole items))
+
+size_at_most : (size : ℕ) (items set : List ℕ) → Member set (subsets_of_size size items) → size ≤ length items
+size_at_most zero items set m = omega arith
+size_at_most (suc size) [] set m = absurd m
+size_at_most (suc size) (x ∷ items) set m = elim (Member-append set (map (λ s. x ∷ s) (subsets_of_size size items)) (subsets_of_size (suc size) items) m) [
+  | inl n ↦ (let p = Member-from_map (λ s. x ∷ s) set (subsets_of_size size items) n in let b = size_at_most size items p.0 p.1 in omega arith)
+  | inr n ↦ (let b = size_at_most (suc size) items set n in omega arith)
+]
+
+only_whole : (size : ℕ) (items set : List ℕ) → length items ≡ size → Member set (subsets_of_size size items) → items ≡ set
+only_whole zero [] set e (inl is) = is
+only_whole zero [] set e (inr m) = absurd m
+only_whole zero (x ∷ items) set e m = absurd (omega (arith, e))
+only_whole (suc size) [] set e m = absurd (omega (arith, e))
+only_whole (suc size) (x ∷ items) set e m = elim (Member-append set (map (λ s. x ∷ s) (subsets_of_size size items)) (subsets_of_size (suc size) items) m) [
+  | inl n ↦ (let p = Member-from_map (λ s. x ∷ s) set (subsets_of_size size items) n in
+      ap (λ l. x ∷ l) (only_whole size items p.0 (omega (arith, e)) p.1) ∙ p.2)
+  | inr n ↦ absurd (let b = size_at_most (suc size) items set n in omega (arith, e))
+]
+
+pub Member-without : (size place : ℕ) (items : List ℕ) → length items ≡ suc size → place < suc size → Member (without place items) (subsets_of_size size items)
+Member-without size place [] e below = absurd (omega (arith, e))
+Member-without zero zero (x ∷ []) e below = inl refl
+Member-without zero zero (x ∷ y ∷ items) e below = absurd (omega (arith, e))
+Member-without zero (suc place) (x ∷ items) e below = absurd (omega arith)
+Member-without (suc size) zero (x ∷ items) e below =
+    Member-append_right items (map (λ s. x ∷ s) (subsets_of_size size items)) (subsets_of_size (suc size) items)
+    (let same : length items ≡ suc size = omega (arith, e) in subst (λ n. Member items (subsets_of_size n items)) same (whole items))
+Member-without (suc size) (suc place) (x ∷ items) e below =
+    Member-append_left (x ∷ without place items) (map (λ s. x ∷ s) (subsets_of_size size items)) (subsets_of_size (suc size) items)
+    (Member-map (λ s. x ∷ s) (without place items) (subsets_of_size size items) (Member-without size place items (omega (arith, e)) (omega arith)))
+
+pub place_of_Member : (size : ℕ) (items set : List ℕ) → length items ≡ suc size → Member set (subsets_of_size size items)
+    → (place : ℕ) × (place < suc size) × (without place items ≡ set)
+place_of_Member size [] set e m = absurd (omega (arith, e))
+place_of_Member zero (x ∷ []) set e (inl is) = (0, omega arith, is)
+place_of_Member zero (x ∷ []) set e (inr m) = absurd m
+place_of_Member zero (x ∷ y ∷ items) set e m = absurd (omega (arith, e))
+place_of_Member (suc size) (x ∷ items) set e m = elim (Member-append set (map (λ s. x ∷ s) (subsets_of_size size items)) (subsets_of_size (suc size) items) m) [
+  | inl n ↦ (let p = Member-from_map (λ s. x ∷ s) set (subsets_of_size size items) n in
+      let q = place_of_Member size items p.0 (omega (arith, e)) p.1 in
+      (suc q.0, omega (arith, q.1), ap (λ l. x ∷ l) q.2 ∙ p.2))
+  | inr n ↦ (0, omega arith, only_whole (suc size) items set (omega (arith, e)) n)
+]
+
+-- ---- the prune
+
+-- each place before the last two was looked up, and the last two are given
+pub has_all : (last : ℕ) (sets : List (List ℕ)) (set : List ℕ) → IsJoin last sets set
+    → ((place : ℕ) → place < last → is_one_of sets (without place set) ≡ true) → has_subsets (suc last) sets set ≡ true
+has_all last sets set is each = all_pass (is_one_of sets) (subsets_of_size (suc last) set)
+    (λ subset m. let p = place_of_Member (suc last) set subset is.long m in subst (λ s. is_one_of sets s ≡ true) p.2 (at p.0 p.1))
+  where
+    at : (place : ℕ) → place < suc (suc last) → is_one_of sets (without place set) ≡ true
+    at place below = elim (cases_lt place last) [
+      | inl less ↦ each place less
+      | inr more ↦ elim (cases_lt place (suc last)) [
+        | inl less ↦ (let e : last ≡ place = omega arith in subst (λ p. is_one_of sets (without p set) ≡ true) e is.second)
+        | inr most ↦ (let e : suc last ≡ place = omega arith in subst (λ p. is_one_of sets (without p set) ≡ true) e is.first)
+      ]
+    ]
+
+-- one that is missing settles it
+pub lacks_one : (size place : ℕ) (sets : List (List ℕ)) (set : List ℕ) → length set ≡ suc size → place < suc size
+    → is_one_of sets (without place set) ≡ false → has_subsets size sets set ≡ false
+lacks_one size place sets set long below missing = elim (cases_Bool (has_subsets size sets set)) [
+  | inl e ↦ absurd (true≢false (sym (each_passes (is_one_of sets) (subsets_of_size size set) e (without place set) (Member-without size place set long below)) ∙ missing))
+  | inr e ↦ e
+]
+
+-- the items before a place and those after it
+pub without_is : (place : ℕ) (items : List ℕ) → without place items ≡ take place items ++ drop (suc place) items
+without_is zero [] = refl
+without_is (suc place) [] = refl
+without_is zero (x ∷ items) = refl
+without_is (suc place) (x ∷ items) = ap (λ l. x ∷ l) (without_is place items)

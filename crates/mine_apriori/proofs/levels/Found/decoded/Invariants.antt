@@ -1,0 +1,7 @@
+use Rattle.std.proofs.Common.{◌≡◌, map, take}
+use Rattle.basket_core.specs.Codes.{decoded_set}
+use Rattle.basket_core.specs.Frequent.{counted}
+use Rattle.mine_apriori.proofs.levels.Found.decoded.Given as goal
+
+abbrev pub invariant-loop-place : goal.invariant-loop-place
+invariant-loop-place l = l.decoded.items ≡ map (λ set. decoded_set l.coded.items (counted l.coded.baskets set)) (take l.place l.set-items)

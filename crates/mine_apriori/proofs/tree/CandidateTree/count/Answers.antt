@@ -1,0 +1,35 @@
+use Rattle.std.proofs.Common.{◌≡◌, ◌+◌, length, take, subst, sym, ap, ◌∙◌, suc, arith}
+use Rattle.mine_apriori.specs.Level.{first_leaf}
+use Rattle.mine_apriori.specs.Tree.{IsTree, IsRun, leaf_depth}
+use Rattle.mine_apriori.proofs.NodeLemmas.{root_run, first_leaf_end}
+use Rattle.mine_apriori.proofs.TreeLemmas.{are_full}
+use Rattle.mine_apriori.proofs.SupportLemmas.{AreSupports, supports_fit, supports_more, lent_back, all_supports}
+use Rattle.mine_apriori.proofs.tree.CandidateTree.count.Goals as goal
+
+pub walk-requires-clause-run : goal.walk-requires-clause-run
+walk-requires-clause-run c =
+    let sets = c.args.self.now in
+    let tree = subst (λ s. IsTree s c.self.inside.levels.items c.self.inside.leaves.items) c.self.view_is c.self.invariant in
+    subst (IsRun sets 0 0) (sym c.roots-roots.ensures) (root_run sets (suc (leaf_depth sets)) (are_full sets tree.sized) tree.in_order (omega arith))
+
+pub walk-requires-clause-fits : goal.walk-requires-clause-fits
+walk-requires-clause-fits c =
+    supports_fit c.args.self.now c.args.baskets.now c.loop-place.place-index c.place-item.result c.loop-place.counts.items c.deref_mut.result.now
+    (first_leaf c.args.self.now 0 0) (first_leaf c.args.self.now 0 c.roots-roots.result) c.loop-place-test.true c.place-item.is c.requires.light
+    (ap (first_leaf c.args.self.now 0) c.roots-roots.ensures ∙ first_leaf_end c.args.self.now 0) c.loop-place.invariant.long c.deref_mut.ensures.value c.loop-place.invariant.supports
+
+pub loop-place-preserved : goal.loop-place-preserved
+loop-place-preserved c =
+    let sets = c.args.self.now in
+    let new = c.walk.new.counts in
+    let same : length new ≡ c.loop-place.counts.len = c.walk.auto.counts ∙ c.deref_mut.ensures.len in
+    let back = lent_back c.loop-place.counts.len c.loop-place.counts.items new same in
+    record {
+      long = ap length back ∙ c.walk.auto.counts ∙ ap length c.deref_mut.ensures.value ∙ c.loop-place.invariant.long;
+      supports = subst (AreSupports sets (take (c.loop-place.place-index + 1) c.args.baskets.now)) (sym back)
+          (supports_more sets c.args.baskets.now c.loop-place.place-index c.place-item.result c.items.result.now c.roots-roots.result c.loop-place.counts.items c.deref_mut.result.now new
+          c.loop-place-test.true c.place-item.is c.items.ensures.items c.roots-roots.ensures c.deref_mut.ensures.value c.walk.ensures c.loop-place.invariant.supports);
+    }
+
+pub returns : goal.returns
+returns c = all_supports c.args.self.now c.args.baskets.now c.loop-place.place-index c.loop-place.counts.items c.loop-place-test.false c.loop-place.invariant.long c.loop-place.invariant.supports

@@ -1,0 +1,25 @@
+use Rattle.std.proofs.Common.{◌≡◌, ℕ, List, [], length, map, get_or, suc, sym, ap, ◌∙◌, arith}
+use Rattle.std.proofs.lemmas.List.{nil_from_length}
+use Rattle.mine_apriori.specs.Tree.{leaf_depth}
+use Rattle.mine_apriori.proofs.LevelLemmas.{leaf_items}
+use Rattle.mine_apriori.proofs.TreeLemmas.{are_full}
+use Rattle.mine_apriori.proofs.tree.CandidateTree.of.Goals as goal
+use Rattle.mine_apriori.proofs.tree.CandidateTree.of.Goals.{in-Some, in-None}
+
+pub invariant_of-result : goal.invariant_of-result
+invariant_of-result c =
+    let sets = c.args.sets.now in
+    let last : c.match-first.last ≡ leaf_depth sets = elim c.match-first.branch [
+      | in-Some w ↦ (let first : w.in-Some.set.now ≡ get_or sets 0 [] = w.in-Some.ensures.item.4 (omega arith) [] in let long = ap length first in w.last-is ∙ omega (arith, w.len.ensures))
+      | in-None w ↦ (let none = nil_from_length sets (let past = w.in-None.ensures.item.3 in omega arith) in w.last-is ∙ sym (ap leaf_depth none))
+    ] in
+    let all : c.loop-depth.depth ≡ leaf_depth sets = omega arith in
+    record {
+      sized = c.requires.sized;
+      in_order = c.requires.in_order;
+      rising = c.in_ok-items_at.ensures.rising;
+      deep = c.loop-depth.invariant.count ∙ all;
+      each = c.loop-depth.invariant.each;
+      last = c.in_ok-items_at.ensures.items ∙ ap (λ n. map (λ (set : List ℕ). get_or set n 0) sets) last
+          ∙ leaf_items sets (suc (leaf_depth sets)) (are_full sets c.requires.sized) c.requires.in_order (leaf_depth sets) (omega arith);
+    }

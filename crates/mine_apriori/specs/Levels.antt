@@ -1,0 +1,46 @@
+-- The frequent sets by levels: those of one item, those of two, and so on.
+use Rattle.std.specs.Prelude.{◌≡◌, ◌<◌, ◌≤◌, ℕ, List, length, filter, map}
+use Rattle.basket_core.specs.Codes.{Coding, frequent_of_coding}
+use Rattle.basket_core.specs.Frequent.{is_frequent}
+use Rattle.basket_core.specs.Subsets.{subsets_of_size, subsets_up_to}
+use Rattle.basket_core.specs.Support.{support_of, items_of}
+use Rattle.mine_apriori.specs.declared.levels.Found.{Found}
+use Rattle.mine_apriori.specs.Candidates.{candidates_of}
+
+-- the frequent sets of so many ranks
+abbrev pub level_of : Coding → ℕ → List (List ℕ)
+level_of coding size = filter (is_frequent coding.baskets coding.minimum) (subsets_of_size size (items_of coding.baskets))
+
+-- the frequent sets of at most so many ranks
+abbrev pub levels_up_to : Coding → ℕ → List (List ℕ)
+levels_up_to coding size = filter (is_frequent coding.baskets coding.minimum) (subsets_up_to size (items_of coding.baskets))
+
+-- the sets of one more rank whose supports are asked: those all of whose subsets of the size are frequent
+abbrev pub asked_of : Coding → ℕ → List (List ℕ)
+asked_of coding size = candidates_of (level_of coding size)
+
+-- what a search is: of the baskets of a coding the frequent sets of at most so many ranks are found, and there may be as many frequent sets as the limit
+pub record Search : Type 0 where
+  pub coding : Coding
+  pub limit : ℕ
+  pub size : ℕ
+
+-- the supports of the sets that are asked
+abbrev pub wanted : Search → List ℕ
+wanted search = map (support_of search.coding.baskets) (asked_of search.coding search.size)
+
+-- there are more frequent sets than the limit
+abbrev pub AreTooMany : Coding → ℕ → Type 0
+AreTooMany coding limit = limit < length (frequent_of_coding coding)
+
+-- the frequent sets of at most so many ranks, smaller sets first, and their supports
+pub record AreFound (coding : Coding) (size : ℕ) (found : Found) : Type 0 where
+  pub sets : found.sets.items ≡ levels_up_to coding size
+  pub counts : found.counts.items ≡ map (support_of coding.baskets) found.sets.items
+
+-- what a search has found, and what it asks
+pub record Knows (search : Search) (found : Found) (candidates : List (List ℕ)) : Type 0 where
+  pub some : 1 ≤ search.size
+  pub found_all : AreFound search.coding search.size found
+  pub few : length found.sets.items ≤ search.limit
+  pub asked : candidates ≡ asked_of search.coding search.size

@@ -1,0 +1,8 @@
+pub mod Sizes
+pub mod Candidates
+pub mod Join
+pub mod Level
+pub mod Run
+pub mod Tree
+pub mod Shard
+pub mod Levels

@@ -1,0 +1,30 @@
+use Rattle.std.specs.Prelude.{◌≡◌, ◌<◌, ◌≤◌, ℕ, ◌-◌, List, [], length, All, slice_index_or}
+use Rattle.basket_core.specs.Itemset.{IsRising}
+use Rattle.basket_core.specs.Order.{IsInReportOrder}
+use Rattle.mine_apriori.specs.declared.level.Level.{Level}
+use Rattle.mine_apriori.specs.Level.{starts_of, node_items, IsLevel}
+use Rattle.mine_apriori.specs.Run.{RisesWithin}
+use Rattle.mine_apriori.specs.Sizes.{AreOfOneSize}
+
+-- the number of items of the first set, or 0
+abbrev pub size_of : List (List ℕ) → ℕ
+size_of sets = length (slice_index_or sets 0 [])
+
+-- the depth of the leaves
+abbrev pub leaf_depth : List (List ℕ) → ℕ
+leaf_depth sets = size_of sets - 1
+
+-- a tree of the sets: its levels above the leaves, from the root down, and the items of its leaves
+pub record IsTree (sets : List (List ℕ)) (levels : List Level) (leaves : List ℕ) : Type 0 where
+  pub sized : AreOfOneSize sets
+  pub in_order : IsInReportOrder sets
+  pub rising : All IsRising sets
+  pub deep : length levels ≡ leaf_depth sets
+  pub each : (depth : ℕ) (d : Level) → depth < length levels → IsLevel sets depth (slice_index_or levels depth d)
+  pub last : leaves ≡ node_items sets (leaf_depth sets)
+
+-- nodes of a depth that lie side by side, and whose items rise
+pub record IsRun (sets : List (List ℕ)) (depth start end : ℕ) : Type 0 where
+  pub ordered : start ≤ end
+  pub within : end ≤ length (starts_of sets depth)
+  pub rising : RisesWithin (node_items sets depth) start end

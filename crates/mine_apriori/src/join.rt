@@ -1,0 +1,103 @@
+//! Apriori's candidates, made by join and prune.
+ghost use Rattle.std.specs.Prelude.{◌≡◌, ◌<◌, ◌+◌, ◌-◌, ◌++◌, ◌∷◌, [], IfOk, OnOk, drop, length, slice_index_or};
+ghost use Rattle.std.specs.Cmp.Lexicographic.{slice_cmp};
+ghost use Rattle.std.specs.Ordering.{nat_cmp};
+ghost use Rattle.basket_core.specs.Itemset.{IsRising};
+ghost use Rattle.basket_core.specs.Order.{IsInReportOrder};
+ghost use Rattle.mine_apriori.specs.Candidates.{is_one_of, has_subsets, candidates_of};
+ghost use Rattle.mine_apriori.specs.Join.{IsSortedLevel, IsJoin, without, joined_with};
+ghost use Rattle.mine_apriori.specs.Sizes.{AreOfOneSize};
+
+use basket_core::Itemset;
+use std::alloc::{AllocError, Global};
+use std::cmp::Ordering;
+
+/// The sets of one more item all of whose subsets of the sets' size are in the list, in report
+/// order (Agrawal and Srikant 1994).
+pub fn candidates(alloc: Global, sets: &[Itemset]) -> Result<Vec<Itemset>, AllocError>
+    requires sized { AreOfOneSize sets.now }
+    requires in_order { IsInReportOrder sets.now }
+    ensures { IfOk result (λ found. found.items ≡ candidates_of sets.now) }
+{
+    let mut found = Vec::new(alloc);
+    let mut joined = Vec::new(alloc);
+    for place in 0..sets.len() {
+        join_later(alloc, sets, place, &mut joined, &mut found)?;
+    }
+    Ok(found)
+}
+
+/// Joins the set at the place to each later one of its run.
+fn join_later(
+    alloc: Global,
+    sets: &[Itemset],
+    place: usize,
+    joined: &mut Vec<u32>,
+    found: &mut Vec<Itemset>,
+) -> Result<(), AllocError>
+    requires within { place < length sets.now }
+    requires level { IsSortedLevel (length (slice_index_or sets.now place []) - 1) sets.now }
+    ensures joins { let set = slice_index_or sets.now place [] in
+        OnOk result (found.new.items ≡ found.old.items ++ joined_with (length set - 1) sets.now set (drop (place + 1) sets.now)) }
+    ensures rises { IsRising (slice_index_or sets.now place []) }
+{
+    let set = sets[place].items();
+    let later = &sets[place + 1..];
+    let last = set.len() - 1;
+    for other in later {
+        let other = other.items();
+        if other[..last] != set[..last] {
+            return Ok(());
+        }
+        fill(joined, set, other[last])?;
+        if has_all_subsets(sets, joined) {
+            found.push(Itemset::from_items(alloc, joined)?)?;
+        }
+    }
+    Ok(())
+}
+
+/// Makes `joined` the items of a set with one more behind them.
+fn fill(joined: &mut Vec<u32>, set: &[u32], item: u32) -> Result<(), AllocError>
+    ensures { OnOk result (joined.new.items ≡ set.now ++ item ∷ []) }
+{
+    joined.clear();
+    joined.extend_from_slice(set)?;
+    joined.push(item)?;
+    Ok(())
+}
+
+/// Whether all subsets of a joined set that lack one item are in the list. Those that lack one of
+/// the last two items are the sets that were joined.
+fn has_all_subsets(sets: &[Itemset], joined: &[u32]) -> bool
+    requires level { IsSortedLevel (length joined.now - 2) sets.now }
+    requires is_join { IsJoin (length joined.now - 2) sets.now joined.now }
+    ensures { result ≡ has_subsets (length joined.now - 1) sets.now joined.now }
+{
+    for place in 0..joined.len() - 2 {
+        if !has_without(sets, joined, place) {
+            return false;
+        }
+    }
+    true
+}
+
+/// Whether the items without the one at the place are a set of the list.
+fn has_without(sets: &[Itemset], items: &[u32], place: usize) -> bool
+    requires within { place < length items.now }
+    requires level { IsSortedLevel (length items.now - 2) sets.now }
+    ensures { result ≡ is_one_of sets.now (without place items.now) }
+{
+    let front = &items[..place];
+    let rest = &items[place + 1..];
+    sets.binary_search_by(|set| compare(set, front, rest))
+        .is_ok()
+}
+
+/// Compares a set with the one that has the items of `front` and then those of `rest`.
+fn compare(set: &Itemset, front: &[u32], rest: &[u32]) -> Ordering
+    ensures { result ≡ slice_cmp nat_cmp set.now (front.now ++ rest.now) }
+{
+    let (start, end) = set.items().split_at(front.len().min(set.len()));
+    start.cmp(&front).then_with(|| end.cmp(&rest))
+}

@@ -1,0 +1,19 @@
+//! Laws on the definitions, for whoever proves a miner. Each is a function that does nothing: its
+//! contract is the law.
+ghost use Rattle.mine_apriori.specs.Candidates.{CandidatesAreExact, CandidatesAreInReportOrder, CandidatesAreOneLarger};
+
+/// The candidates of sets of one size are exactly the sets of one more item all of whose subsets
+/// of that size are in the list.
+pub fn candidates_are_exact()
+    ensures { CandidatesAreExact }
+{}
+
+/// The candidates of any sets are in report order.
+pub fn candidates_are_in_report_order()
+    ensures { CandidatesAreInReportOrder }
+{}
+
+/// The candidates of sets of one size have one item more.
+pub fn candidates_are_one_larger()
+    ensures { CandidatesAreOneLarger }
+{}

@@ -1,0 +1,84 @@
+//! Levels of a tree of candidates.
+ghost use Rattle.std.specs.Prelude.{◌≡◌, ◌<◌, ◌+◌, ◌^◌, [], ◌∷◌, ◌++◌, IfOk, OnOk, length, slice_index, take, All, map};
+ghost use Rattle.basket_core.specs.Itemset.{IsRising};
+ghost use Rattle.mine_apriori.specs.Level.{begins, AreDeep, IsLevel};
+
+use basket_core::Itemset;
+use std::alloc::{AllocError, Global};
+
+/// The nodes of one depth above the leaves. Each is a run of sets that agree up to that depth.
+#[derive(Debug, Drop)]
+pub struct Level {
+    /// The item of each node.
+    pub items: Vec<u32>,
+    /// The first child of each node in the next level, and behind them where the last node's
+    /// children end.
+    pub firsts: Vec<usize>,
+}
+
+impl Level {
+    /// Adds a node.
+    fn push(&mut self, item: u32, first: usize) -> Result<(), AllocError>
+        ensures items { OnOk result (self.new.items.items ≡ self.old.items.items ++ item ∷ []) }
+        ensures firsts { OnOk result (self.new.firsts.items ≡ self.old.firsts.items ++ first ∷ []) }
+    {
+        self.items.push(item)?;
+        self.firsts.push(first)?;
+        Ok(())
+    }
+}
+
+/// The items of a set up to the depth.
+fn front(set: &Itemset, depth: usize) -> &[u32]
+    requires { depth < length set.now }
+    ensures { result.now ≡ take (depth + 1) set.now }
+{
+    let items = set.items();
+    &items[..depth + 1]
+}
+
+/// Whether a set begins a node of the depth: it is the first, or differs up to there from the one
+/// before it.
+fn begins(sets: &[Itemset], depth: usize, number: usize) -> bool
+    requires deep { AreDeep sets.now depth }
+    requires within { number < length sets.now }
+    ensures { result ≡ begins sets.now depth number }
+{
+    number == 0 || front(&sets[number - 1], depth) != front(&sets[number], depth)
+}
+
+/// The level of a depth, by one pass over the sets.
+pub fn level_of(alloc: Global, sets: &[Itemset], depth: usize) -> Result<Level, AllocError>
+    requires deep { AreDeep sets.now (depth + 1) }
+    requires small { depth + 1 < 2 ^ 64 }
+    ensures { IfOk result (IsLevel sets.now depth) }
+{
+    let mut level = Level {
+        items: Vec::new(alloc),
+        firsts: Vec::new(alloc),
+    };
+    let mut children = 0;
+    for (number, set) in sets.iter().enumerate() {
+        if begins(sets, depth, number) {
+            level.push(set.items()[depth], children)?;
+        }
+        if begins(sets, depth + 1, number) {
+            children += 1;
+        }
+    }
+    level.firsts.push(children)?;
+    Ok(level)
+}
+
+/// The item of each set at the depth.
+pub fn items_at(alloc: Global, sets: &[Itemset], depth: usize) -> Result<Vec<u32>, AllocError>
+    requires { AreDeep sets.now depth }
+    ensures items { IfOk result (λ items. items.items ≡ map (λ set. slice_index set depth) sets.now) }
+    ensures rising { OnOk result (All IsRising sets.now) }
+{
+    let mut items = Vec::with_capacity(alloc, sets.len())?;
+    for set in sets {
+        items.push(set.items()[depth])?;
+    }
+    Ok(items)
+}

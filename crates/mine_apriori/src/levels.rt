@@ -1,0 +1,214 @@
+//! Apriori, level by level.
+ghost use Rattle.std.specs.Prelude.{◌≡◌, ◌≢◌, ◌≤◌, ◌+◌, ◌++◌, [], ◌∷◌, ℕ, List, Err, IfOk, IfErr, OnOk, drop, filter, length, map, All};
+ghost use Rattle.basket_core.specs.declared.fault.MineFault.TheVariants.{Memory, TooMany};
+ghost use Rattle.basket_core.specs.Codes.{IsCoding, decoded_set};
+ghost use Rattle.basket_core.specs.Counts.{AllBelow};
+ghost use Rattle.basket_core.specs.Frequent.{counted, is_frequent};
+ghost use Rattle.basket_core.specs.Listing.{listing_of};
+ghost use Rattle.basket_core.specs.Support.{support_of};
+ghost use Rattle.mine_apriori.specs.Levels.{AreFound, AreTooMany, asked_of, level_of, levels_up_to, wanted};
+
+use crate::join::candidates;
+use crate::shard::count_shard;
+use basket_core::{Coded, Counted, Frequent, Itemset, MineFault, count_items};
+use std::alloc::{AllocError, Global};
+use std::marker::Model;
+
+/// Frequent sets as ranks, and their supports at the same places.
+#[derive(Debug, Drop)]
+struct Found {
+    sets: Vec<Itemset>,
+    counts: Vec<u64>,
+}
+
+impl Found {
+    fn push(&mut self, set: Itemset, count: u64) -> Result<(), AllocError>
+        ensures sets { OnOk result (self.new.sets.items ≡ self.old.sets.items ++ set ∷ []) }
+        ensures counts { OnOk result (self.new.counts.items ≡ self.old.counts.items ++ count ∷ []) }
+    {
+        self.sets.push(set)?;
+        self.counts.push(count)?;
+        Ok(())
+    }
+
+    /// Adds those of the sets that are frequent.
+    fn add_frequent(
+        &mut self,
+        alloc: Global,
+        coded: &Coded,
+        sets: &[Itemset],
+        counts: &[u64],
+    ) -> Result<(), AllocError>
+        requires counts { counts.now ≡ map (support_of coded.now.baskets) sets.now }
+        ensures sets { OnOk result (self.new.sets.items ≡ self.old.sets.items ++ filter (is_frequent coded.now.baskets coded.now.minimum) sets.now) }
+        ensures counts { OnOk result (self.new.counts.items
+            ≡ self.old.counts.items ++ map (support_of coded.now.baskets) (filter (is_frequent coded.now.baskets coded.now.minimum) sets.now)) }
+    {
+        let minimum = coded.minimum();
+        let total = coded.total();
+        for (place, set) in sets.iter().enumerate() {
+            if minimum.met(counts[place], total) {
+                self.push(set.copied(alloc)?, counts[place])?;
+            }
+        }
+        Ok(())
+    }
+
+    /// The sets as items, with their supports.
+    fn decoded(&self, alloc: Global, coded: &Coded) -> Result<Vec<Counted>, AllocError>
+        requires below { All (AllBelow (length coded.now.items)) self.now.sets.items }
+        requires counts { self.now.counts.items ≡ map (support_of coded.now.baskets) self.now.sets.items }
+        ensures { IfOk result (λ decoded. decoded.items ≡ map (λ set. decoded_set coded.now.items (counted coded.now.baskets set)) self.now.sets.items) }
+    {
+        let mut decoded = Vec::with_capacity(alloc, self.sets.len())?;
+        for (place, set) in self.sets.iter().enumerate() {
+            decoded.push(Counted {
+                set: coded.decode(alloc, set.items())?,
+                count: self.counts[place],
+            })?;
+        }
+        Ok(decoded)
+    }
+}
+
+/// The frequent sets of one rank.
+fn frequent_ranks(alloc: Global, coded: &Coded) -> Result<Found, AllocError>
+    ensures sets { IfOk result (λ found. found.sets.items ≡ level_of coded.now 1) }
+    ensures counts { IfOk result (λ found. found.counts.items ≡ map (support_of coded.now.baskets) (level_of coded.now 1)) }
+    ensures coding { OnOk result (IsCoding coded.now) }
+{
+    let minimum = coded.minimum();
+    let total = coded.total();
+    let mut found = Found {
+        sets: Vec::new(alloc),
+        counts: Vec::new(alloc),
+    };
+    for (rank, count) in &count_items(alloc, coded.baskets())? {
+        if minimum.met(*count, total) {
+            found.push(Itemset::from_items(alloc, &[*rank])?, *count)?;
+        }
+    }
+    Ok(found)
+}
+
+/// A search for the frequent sets, level by level (Agrawal and Srikant 1994). All frequent sets up
+/// to some size are found, and the supports of the candidates of one more item are asked.
+#[derive(Debug, Drop)]
+pub struct Levels<'a> {
+    coded: &'a Coded,
+    limit: u32,
+    size: usize,
+    found: Found,
+    asked: Vec<Itemset>,
+}
+
+impl<'a> Model for Levels<'a> {
+    ghost use Rattle.basket_core.specs.Codes.{IsCoding};
+    ghost use Rattle.mine_apriori.specs.Levels.{Search, Knows};
+
+    ghost Value = { Search };
+
+    ghost view = { λ levels. record { coding = levels.coded.now; limit = levels.limit; size = levels.size } };
+
+    ghost invariant = { λ levels. IsCoding levels.coded.now
+        × Knows (record { coding = levels.coded.now; limit = levels.limit; size = levels.size }) levels.found levels.asked.items };
+}
+
+impl<'a> Levels<'a> {
+    /// The search that has found the frequent items.
+    pub fn start(alloc: Global, coded: &'a Coded, limit: u32) -> Result<Self, MineFault>
+        ensures ok { IfOk result (λ levels. levels ≡ record { coding = coded.now; limit = limit; size = 1 }) }
+        ensures too_many { (most : ℕ) → result ≡ Err (TooMany most) → (most ≡ limit) × AreTooMany coded.now limit }
+    {
+        let found = frequent_ranks(alloc, coded)?;
+        Levels::ask(alloc, coded, limit, 1, found, 0)
+    }
+
+    /// The search with all frequent sets up to a size found, of which those from `last` on have
+    /// that size.
+    fn ask(
+        alloc: Global,
+        coded: &'a Coded,
+        limit: u32,
+        size: usize,
+        found: Found,
+        last: usize,
+    ) -> Result<Self, MineFault>
+        requires coding { IsCoding coded.now }
+        requires some { 1 ≤ size }
+        requires found { AreFound coded.now size found }
+        requires within { last ≤ length found.sets.items }
+        requires last { drop last found.sets.items ≡ level_of coded.now size }
+        ensures ok { IfOk result (λ levels. levels ≡ record { coding = coded.now; limit = limit; size = size }) }
+        ensures too_many { (most : ℕ) → result ≡ Err (TooMany most) → (most ≡ limit) × AreTooMany coded.now limit }
+    {
+        if found.sets.len() > limit as usize {
+            return Err(MineFault::TooMany { limit });
+        }
+        let asked = candidates(alloc, &found.sets[last..])?;
+        Ok(Levels {
+            coded,
+            limit,
+            size,
+            found,
+            asked,
+        })
+    }
+
+    /// The candidates whose supports are asked, as ranks. There are none when all frequent sets are
+    /// found.
+    pub fn asked(&self) -> &[Itemset]
+        ensures { result.now ≡ asked_of self.now.coding self.now.size }
+    {
+        &self.asked
+    }
+
+    /// The search that goes on with the supports of what is asked, in order.
+    pub fn answer(self, alloc: Global, counts: &[u64]) -> Result<Self, MineFault>
+        requires counts { counts.now ≡ wanted self }
+        ensures next { asked_of self.entry.coding self.entry.size ≢ [] → IfOk result (λ levels. levels ≡ record { coding = self.entry.coding; limit = self.entry.limit; size = self.entry.size + 1 }) }
+        ensures done { asked_of self.entry.coding self.entry.size ≡ [] → IfOk result (λ levels. levels ≡ self.entry) }
+        ensures too_many { (most : ℕ) → result ≡ Err (TooMany most) → (most ≡ self.entry.limit) × AreTooMany self.entry.coding self.entry.limit }
+    {
+        let size = match self.asked.first() {
+            Some(set) => set.len(),
+            None => return Ok(self),
+        };
+        let Levels {
+            coded,
+            limit,
+            mut found,
+            asked,
+            ..
+        } = self;
+        let last = found.sets.len();
+        found.add_frequent(alloc, coded, &asked, counts)?;
+        Levels::ask(alloc, coded, limit, size, found, last)
+    }
+
+    /// The list of all frequent sets. There are at most as many as the limit.
+    pub fn finish(self, alloc: Global) -> Result<Frequent, MineFault>
+        requires { asked_of self.coding self.size ≡ [] }
+        ensures ok { IfOk result (λ frequent. frequent ≡ listing_of self.entry.coding) }
+        ensures within { IfOk result (λ frequent. length frequent.sets ≤ self.entry.limit) }
+        ensures err { IfErr result (λ fault. fault ≡ Memory) }
+    {
+        let mut classes = Vec::with_capacity(alloc, 1)?;
+        classes.push(self.found.decoded(alloc, self.coded)?)?;
+        Ok(Frequent::of_classes(alloc, self.coded, classes)?)
+    }
+}
+
+/// The list of the frequent sets, where it is no longer than the limit (Agrawal and Srikant 1994).
+pub fn apriori(alloc: Global, coded: &Coded, limit: u32) -> Result<Frequent, MineFault>
+    ensures ok { IfOk result (λ frequent. frequent ≡ listing_of coded.now) }
+    ensures within { IfOk result (λ frequent. length frequent.sets ≤ limit) }
+    ensures too_many { (most : ℕ) → result ≡ Err (TooMany most) → (most ≡ limit) × AreTooMany coded.now limit }
+{
+    let mut levels = Levels::start(alloc, coded, limit)?;
+    while !levels.asked().is_empty() {
+        let counts = count_shard(alloc, coded.baskets(), levels.asked())?;
+        levels = levels.answer(alloc, &counts)?;
+    }
+    levels.finish(alloc)
+}

@@ -1,0 +1,68 @@
+//! The supports of any sets.
+ghost use Rattle.std.specs.Prelude.{◌≡◌, ◌≤◌, ◌↔◌, IfOk, IsTrue, map};
+ghost use Rattle.basket_core.specs.Database.{MOST_WEIGHT};
+ghost use Rattle.basket_core.specs.Support.{support_of, total_of};
+ghost use Rattle.mine_apriori.specs.Shard.{IsRegular};
+
+use crate::tree::CandidateTree;
+use basket_core::{Itemset, Weighted};
+use std::alloc::{AllocError, Global};
+
+/// The support of each set in the baskets. Sets of one size in report order are counted by a tree
+/// of candidates, and other lists of sets by a scan of the baskets for each set.
+pub fn count_shard(
+    alloc: Global,
+    baskets: &[Weighted],
+    sets: &[Itemset],
+) -> Result<Vec<u64>, AllocError>
+    requires light { total_of baskets.now ≤ MOST_WEIGHT }
+    ensures { IfOk result (λ counts. counts.items ≡ map (support_of baskets.now) sets.now) }
+{
+    if is_regular(sets) {
+        CandidateTree::of(alloc, sets)?.count(alloc, baskets)
+    } else {
+        count_by_scans(alloc, baskets, sets)
+    }
+}
+
+/// Whether the sets make a tree.
+fn is_regular(sets: &[Itemset]) -> bool
+    ensures { IsTrue result ↔ IsRegular sets.now }
+{
+    match sets.first() {
+        Some(first) => {
+            !first.is_empty()
+                && sets.is_sorted_by(|set, next| set.len() == next.len() && set < next)
+        }
+        None => true,
+    }
+}
+
+fn count_by_scans(
+    alloc: Global,
+    baskets: &[Weighted],
+    sets: &[Itemset],
+) -> Result<Vec<u64>, AllocError>
+    requires light { total_of baskets.now ≤ MOST_WEIGHT }
+    ensures { IfOk result (λ counts. counts.items ≡ map (support_of baskets.now) sets.now) }
+{
+    let mut counts = Vec::with_capacity(alloc, sets.len())?;
+    for set in sets {
+        counts.push(scan(baskets, set))?;
+    }
+    Ok(counts)
+}
+
+/// The support of a set, by a scan of the baskets.
+fn scan(baskets: &[Weighted], set: &Itemset) -> u64
+    requires light { total_of baskets.now ≤ MOST_WEIGHT }
+    ensures { result ≡ support_of baskets.now set.now }
+{
+    let mut support = 0;
+    for place in baskets {
+        if place.basket.holds(set) {
+            support += place.weight;
+        }
+    }
+    support
+}

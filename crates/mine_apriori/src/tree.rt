@@ -1,0 +1,134 @@
+//! The candidates of one size as a prefix tree, which baskets walk.
+ghost use Rattle.std.specs.Prelude.{◌≡◌, ◌<◌, ◌≤◌, ◌+◌, ◌^◌, [], IfOk, map, length, drop, slice_index_or};
+ghost use Rattle.std.specs.List.{AllWithin};
+ghost use Rattle.basket_core.specs.Database.{MOST_WEIGHT};
+ghost use Rattle.basket_core.specs.Itemset.{IsRising, contains};
+ghost use Rattle.basket_core.specs.Order.{IsInReportOrder};
+ghost use Rattle.basket_core.specs.Support.{support_of, total_of};
+ghost use Rattle.mine_apriori.specs.Level.{first_leaf, starts_of};
+ghost use Rattle.mine_apriori.specs.Run.{AddsWithin};
+ghost use Rattle.mine_apriori.specs.Tree.{IsRun, leaf_depth};
+ghost use Rattle.mine_apriori.specs.Sizes.{AreOfOneSize};
+
+use crate::level::{Level, items_at, level_of};
+use crate::run::{count_leaves, find};
+use basket_core::{Itemset, Weighted};
+use std::alloc::{AllocError, Global};
+use std::marker::Model;
+
+/// Sets of one size in report order as a prefix tree. It is built once, and any number of baskets
+/// may walk it at once.
+#[derive(Debug, Drop)]
+pub struct CandidateTree<'a> {
+    sets: &'a [Itemset],
+    /// The levels above the leaves, from the root down.
+    levels: Vec<Level>,
+    /// The last item of each set. A leaf's number is that of its set.
+    leaves: Vec<u32>,
+}
+
+impl<'a> Model for CandidateTree<'a> {
+    ghost use Rattle.std.specs.Prelude.{ℕ, List};
+    ghost use Rattle.mine_apriori.specs.Tree.{IsTree};
+
+    ghost Value = { List (List ℕ) };
+
+    ghost view = { λ t. t.sets.now };
+
+    ghost invariant = { λ t. IsTree t.sets.now t.levels.items t.leaves.items };
+}
+
+impl<'a> CandidateTree<'a> {
+    /// The tree of the sets, by one pass over them for each level.
+    pub fn of(alloc: Global, sets: &'a [Itemset]) -> Result<Self, AllocError>
+        requires sized { AreOfOneSize sets.now }
+        requires in_order { IsInReportOrder sets.now }
+        ensures { IfOk result (λ tree. tree ≡ sets.now) }
+    {
+        let last = match sets.first() {
+            Some(set) => set.len() - 1,
+            None => 0,
+        };
+        let mut levels = Vec::with_capacity(alloc, last)?;
+        for depth in 0..last {
+            levels.push(level_of(alloc, sets, depth)?)?;
+        }
+        Ok(CandidateTree {
+            sets,
+            levels,
+            leaves: items_at(alloc, sets, last)?,
+        })
+    }
+
+    /// The support of each set in the baskets, by one walk of each basket.
+    pub fn count(&self, alloc: Global, baskets: &[Weighted]) -> Result<Vec<u64>, AllocError>
+        requires light { total_of baskets.now ≤ MOST_WEIGHT }
+        ensures { IfOk result (λ counts. counts.items ≡ map (support_of baskets.now) self.now) }
+    {
+        let mut counts = vec![in alloc; 0; self.sets.len()]?;
+        let roots = self.roots();
+        for place in baskets {
+            self.walk(0, 0, roots, place.basket.items(), place.weight, &mut counts);
+        }
+        Ok(counts)
+    }
+
+    /// The number of nodes of the first level.
+    fn roots(&self) -> usize
+        ensures { result ≡ length (starts_of self.now 0) }
+    {
+        match self.levels.first() {
+            Some(level) => level.items.len(),
+            None => self.leaves.len(),
+        }
+    }
+
+    /// Adds the weight at each leaf below a run of nodes whose items from the depth on are among
+    /// the items. An item is looked for behind the last that was found.
+    fn walk(
+        &self,
+        depth: usize,
+        start: usize,
+        end: usize,
+        items: &[u32],
+        weight: u64,
+        counts: &mut [u64],
+    )
+        requires deep { depth ≤ leaf_depth self.now }
+        requires run { IsRun self.now depth start end }
+        requires rising { IsRising items.now }
+        requires long { length counts.old ≡ length self.now }
+        requires fits { AllWithin (λ count. count + weight < 2 ^ 64) counts.old (first_leaf self.now depth start) (first_leaf self.now depth end) }
+        ensures { AddsWithin (λ leaf. contains items.now (drop depth (slice_index_or self.now leaf []))) weight
+            (first_leaf self.now depth start) (first_leaf self.now depth end) counts.old counts.new }
+    {
+        let Some(level) = self.levels.get(depth) else {
+            count_leaves(&self.leaves, start, end, items, weight, counts);
+            return;
+        };
+        // An item with fewer behind it than there are levels below can't begin a set.
+        let most = items.len().saturating_sub(self.levels.len() - depth);
+        let mut from = start;
+        for (place, item) in items[..most].iter().enumerate() {
+            if from == end {
+                return;
+            }
+            match find(&level.items[from..end], *item) {
+                Ok(found) => {
+                    let node = from + found;
+                    let (first, behind) = (level.firsts[node], level.firsts[node + 1]);
+                    self.walk(
+                        depth + 1,
+                        first,
+                        behind,
+                        &items[place + 1..],
+                        weight,
+                        counts,
+                    );
+                    from = node + 1;
+                }
+                Err(passed) => from += passed,
+            }
+        }
+    }
+}
