@@ -1,11 +1,13 @@
 -- From what reading, mining and writing ensure to what a run ensures.
-use Rattle.std.proofs.Common.{◌≡◌, ◌≤◌, ℕ, List, Option, Some, None, Result, Ok, Err, Bool, true, false, length, take, refl, sym, ap, subst, ◌∙◌}
-use Rattle.std.proofs.lemmas.Bool.{false≢true}
-use Rattle.std.specs.Prelude.{IfSome, IsErr}
+use Rattle.std.proofs.Common.{◌≡◌, ◌≢◌, ◌≤◌, ◌<◌, ℕ, List, Option, Some, None, Result, Ok, Err, Bool, true, false, cond, length, take, refl, sym, ap, subst, ◌∙◌, inl, inr, arith}
+use Rattle.std.proofs.lemmas.Bool.{false≢true, cases_Bool, lt-ltb, ltb-true}
+use Rattle.std.specs.Prelude.{IfSome, IsErr, nat_lt}
 use Rattle.std.specs.Io.KnownBytes.{Appends}
+use Rattle.basket_core.specs.declared.fault.MineFault.{MineFault}
+use Rattle.basket_core.specs.declared.fault.MineFault.TheVariants.{Memory, TooMany}
 use Rattle.basket_core.specs.declared.minimum.Minimum.{Minimum}
 use Rattle.basket_core.specs.declared.weighted.Weighted.{Weighted}
-use Rattle.basket_core.specs.Frequent.{frequent_items_of}
+use Rattle.basket_core.specs.Frequent.{frequent_items_of, frequent_of}
 use Rattle.basket_read.specs.declared.fault.ReadFault.{ReadFault}
 use Rattle.basket_read.specs.Fimi.{fimi_of}
 use Rattle.basket_read.specs.Read.{FailsAfter}
@@ -13,11 +15,11 @@ use Rattle.basket_read.specs.Text.{Answers}
 use Rattle.basket.specs.declared.fault.RunFault.{RunFault}
 use Rattle.basket.specs.declared.fault.RunFault.TheVariants.{Input, Mine, Write}
 use Rattle.basket.specs.declared.plan.Ask.{Ask}
-use Rattle.basket.specs.declared.plan.Ask.TheVariants.{Items}
-use Rattle.basket.specs.Outcome.{outcome_of, asked}
+use Rattle.basket.specs.declared.plan.Ask.TheVariants.{Items, Sets}
+use Rattle.basket.specs.Outcome.{outcome_of, outcome_for, asked, are_too_many, of_mining}
 use Rattle.basket.specs.Plan.{Question}
 use Rattle.basket.specs.Report.{report_of}
-use Rattle.basket.specs.Engine.{WritesReport, WritesFront}
+use Rattle.basket.specs.Engine.{WritesReport, WritesFront, RefusesSets}
 
 abbrev input_fault : ReadFault → Result Unit RunFault → ReadFault
 input_fault other (Err (Input fault)) = fault
@@ -34,28 +36,65 @@ failed_by fault other left after same fails =
     let e : fault ≡ other = ap (input_fault fault) same in
     subst (λ f. IfSome left (λ bytes. FailsAfter bytes after (Err f))) e fails
 
+abbrev mine_fault : MineFault → Result Unit RunFault → MineFault
+mine_fault other (Err (Input fault)) = other
+mine_fault other (Err (Mine fault)) = fault
+mine_fault other (Err Write) = other
+mine_fault other (Ok x) = other
+
+abbrev pub mining : MineFault → Result Unit RunFault
+mining fault = Err (Mine fault)
+
+pub same_fault : (fault other : MineFault) → mining fault ≡ mining other → fault ≡ other
+same_fault fault other same = ap (mine_fault fault) same
+
 -- a reader from which a database was read has not failed
 pub not_failed : {X : Type 0} (failed : Bool) (x : X) → (failed ≡ true → IsErr {E = ReadFault} (Ok x)) → failed ≡ false
 not_failed true x err = absurd (false≢true (err refl))
 not_failed false x err = refl
 
--- the report of the frequent items is the one that is asked for
-pub items_asked : (question : Question) (minimum : Minimum) (baskets : List Weighted) (text : List ℕ)
-    → minimum ≡ question.minimum → text ≡ report_of (frequent_items_of baskets minimum) → text ≡ report_of (asked question.ask baskets question.minimum)
-items_asked question minimum baskets text same made = made ∙ ap (λ m. report_of (frequent_items_of baskets m)) same ∙ ap report_of (sym (is_items question.ask))
-  where
-    is_items : (ask : Ask) → asked ask baskets question.minimum ≡ frequent_items_of baskets question.minimum
-    is_items Items = refl
+-- ---- the outcome for baskets
+
+-- what is asked, with a limit, of baskets
+abbrev outcome_at : Ask → List Weighted → Minimum → ℕ → Result (List ℕ) MineFault
+outcome_at ask baskets minimum limit = cond (are_too_many ask baskets minimum limit) (Err (TooMany limit)) (Ok (report_of (asked ask baskets minimum)))
+
+pub items_outcome : (question : Question) (baskets : List Weighted) (text : List ℕ) → question.ask ≡ Items → text ≡ report_of (frequent_items_of baskets question.minimum)
+    → outcome_for baskets question ≡ Ok text
+items_outcome question baskets text same made = ap (λ ask. outcome_at ask baskets question.minimum question.limit) same ∙ ap Ok (sym made)
+
+few : (limit count : ℕ) → count ≤ limit → nat_lt limit count ≡ false
+few limit count le = elim (cases_Bool (nat_lt limit count)) [ inl e ↦ absurd (let b = ltb-true limit count e in omega arith) | inr e ↦ e ]
+
+pub sets_outcome : (question : Question) (baskets : List Weighted) (text : List ℕ) → question.ask ≡ Sets → text ≡ report_of (frequent_of baskets question.minimum)
+    → length (frequent_of baskets question.minimum) ≤ question.limit → outcome_for baskets question ≡ Ok text
+sets_outcome question baskets text same made within =
+    ap (λ ask. outcome_at ask baskets question.minimum question.limit) same
+    ∙ ap (λ b. cond b (Err (TooMany question.limit)) (Ok (report_of (frequent_of baskets question.minimum)))) (few question.limit (length (frequent_of baskets question.minimum)) within)
+    ∙ ap Ok (sym made)
+
+pub sets_refused : (question : Question) (baskets : List Weighted) → question.ask ≡ Sets → question.limit < length (frequent_of baskets question.minimum)
+    → outcome_for baskets question ≡ Err (TooMany question.limit)
+sets_refused question baskets same more =
+    ap (λ ask. outcome_at ask baskets question.minimum question.limit) same
+    ∙ ap (λ b. cond b (Err (TooMany question.limit)) (Ok (report_of (frequent_of baskets question.minimum)))) (lt-ltb question.limit (length (frequent_of baskets question.minimum)) more)
+
+-- ---- the outcome for an input
 
 pub writes_report : (left : Option (List ℕ)) (question : Question) (before after : Option (List ℕ)) (baskets : List Weighted) (text : List ℕ)
-    → IfSome left (λ bytes. Answers (Ok baskets) (fimi_of bytes)) → text ≡ report_of (asked question.ask baskets question.minimum)
+    → IfSome left (λ bytes. Answers (Ok baskets) (fimi_of bytes)) → outcome_for baskets question ≡ Ok text
     → Appends before after text → WritesReport left question before after
 writes_report None question before after baskets text read made taken = tt
-writes_report (Some bytes) question before after baskets text read made taken = (text, ap (λ a. outcome_of a question) read ∙ ap Ok (sym made), taken)
+writes_report (Some bytes) question before after baskets text read made taken = (text, ap (λ a. outcome_of a question) read ∙ ap of_mining made, taken)
 
 pub writes_front : (left : Option (List ℕ)) (question : Question) (before after : Option (List ℕ)) (baskets : List Weighted) (text : List ℕ)
-    → IfSome left (λ bytes. Answers (Ok baskets) (fimi_of bytes)) → text ≡ report_of (asked question.ask baskets question.minimum)
+    → IfSome left (λ bytes. Answers (Ok baskets) (fimi_of bytes)) → outcome_for baskets question ≡ Ok text
     → ((n : ℕ) × (n ≤ length text) × Appends before after (take n text)) → WritesFront left question before after
 writes_front None question before after baskets text read made taken = tt
 writes_front (Some bytes) question before after baskets text read made (n, small, front) =
-    (text, n, ap (λ a. outcome_of a question) read ∙ ap Ok (sym made), small, front)
+    (text, n, ap (λ a. outcome_of a question) read ∙ ap of_mining made, small, front)
+
+pub refuses_sets : (left : Option (List ℕ)) (question : Question) (baskets : List Weighted) (fault : MineFault)
+    → IfSome left (λ bytes. Answers (Ok baskets) (fimi_of bytes)) → (fault ≢ Memory → outcome_for baskets question ≡ Err fault) → RefusesSets left question fault
+refuses_sets None question baskets fault read refused = tt
+refuses_sets (Some bytes) question baskets fault read refused = λ other. ap (λ a. outcome_of a question) read ∙ ap of_mining (refused other)

@@ -3,7 +3,9 @@ use Rattle.std.specs.Prelude.{◌≡◌, ◌≢◌, ◌≤◌, ℕ, List, Option
 use Rattle.std.specs.Io.KnownBytes.{Appends}
 use Rattle.basket_read.specs.declared.fault.ReadFault.{ReadFault}
 use Rattle.basket_read.specs.declared.fault.ReadFault.TheVariants.{Memory}
-use Rattle.basket.specs.declared.fault.RunFault.TheVariants.{Input}
+use Rattle.basket_core.specs.declared.fault.MineFault.{MineFault}
+use Rattle.basket_core.specs.declared.fault.MineFault.TheVariants as mine
+use Rattle.basket.specs.declared.fault.RunFault.TheVariants.{Input, Mine}
 use Rattle.basket.specs.Outcome.{outcome}
 use Rattle.basket.specs.Plan.{Question}
 
@@ -19,3 +21,7 @@ WritesFront left question before after =
 -- but for want of memory, the outcome is that fault of the input
 abbrev pub RefusesInput : Option (List ℕ) → Question → ReadFault → Type 0
 RefusesInput left question fault = IfSome left (λ bytes. fault ≢ Memory → outcome bytes question ≡ Err (Input fault))
+
+-- but for want of memory, the outcome is that fault of mining
+abbrev pub RefusesSets : Option (List ℕ) → Question → MineFault → Type 0
+RefusesSets left question fault = IfSome left (λ bytes. fault ≢ mine.Memory → outcome bytes question ≡ Err (Mine fault))

@@ -1,27 +1,45 @@
 -- What a run over an input is to write, or why it writes nothing.
-use Rattle.std.specs.Prelude.{ℕ, List, Result, Ok, Err}
+use Rattle.std.specs.Prelude.{ℕ, Bool, false, List, Result, Ok, Err, length, nat_lt, if◌then◌else◌}
 use Rattle.basket_core.specs.declared.counted.Counted.{Counted}
+use Rattle.basket_core.specs.declared.fault.MineFault.{MineFault}
+use Rattle.basket_core.specs.declared.fault.MineFault.TheVariants.{TooMany}
 use Rattle.basket_core.specs.declared.minimum.Minimum.{Minimum}
 use Rattle.basket_core.specs.declared.weighted.Weighted.{Weighted}
-use Rattle.basket_core.specs.Frequent.{frequent_items_of}
+use Rattle.basket_core.specs.Frequent.{frequent_items_of, frequent_of}
 use Rattle.basket_read.specs.declared.fault.ReadFault.{ReadFault}
 use Rattle.basket_read.specs.Fimi.{fimi_of}
 use Rattle.basket.specs.declared.fault.RunFault.{RunFault}
-use Rattle.basket.specs.declared.fault.RunFault.TheVariants.{Input}
+use Rattle.basket.specs.declared.fault.RunFault.TheVariants.{Input, Mine}
 use Rattle.basket.specs.declared.plan.Ask.{Ask}
-use Rattle.basket.specs.declared.plan.Ask.TheVariants.{Items}
+use Rattle.basket.specs.declared.plan.Ask.TheVariants.{Items, Sets}
 use Rattle.basket.specs.Plan.{Question}
 use Rattle.basket.specs.Report.{report_of}
 
 -- the sets that are asked for, in the order in which they are listed
 abbrev pub asked : Ask → List Weighted → Minimum → List Counted
 asked Items baskets minimum = frequent_items_of baskets minimum
+asked Sets baskets minimum = frequent_of baskets minimum
+
+-- whether there are more frequent sets than the limit, which isn't asked for items
+abbrev pub are_too_many : Ask → List Weighted → Minimum → ℕ → Bool
+are_too_many Items baskets minimum limit = false
+are_too_many Sets baskets minimum limit = nat_lt limit (length (frequent_of baskets minimum))
+
+-- the outcome for baskets: the text of what is asked for, unless there are more frequent sets than the limit
+abbrev pub outcome_for : List Weighted → Question → Result (List ℕ) MineFault
+outcome_for baskets question =
+    if are_too_many question.ask baskets question.minimum question.limit then Err (TooMany question.limit)
+    else Ok (report_of (asked question.ask baskets question.minimum))
+
+abbrev pub of_mining : Result (List ℕ) MineFault → Result (List ℕ) RunFault
+of_mining (Ok text) = Ok text
+of_mining (Err fault) = Err (Mine fault)
 
 -- the outcome for the baskets of an input, or for its fault
 abbrev pub outcome_of : Result (List Weighted) ReadFault → Question → Result (List ℕ) RunFault
-outcome_of (Ok baskets) question = Ok (report_of (asked question.ask baskets question.minimum))
+outcome_of (Ok baskets) question = of_mining (outcome_for baskets question)
 outcome_of (Err fault) question = Err (Input fault)
 
--- the outcome for an input: the text of what is asked for, or the input's fault
+-- the outcome for an input: the text of what is asked for, or a fault
 abbrev pub outcome : List ℕ → Question → Result (List ℕ) RunFault
 outcome bytes question = outcome_of (fimi_of bytes) question

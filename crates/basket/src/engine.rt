@@ -1,15 +1,18 @@
-ghost use Rattle.std.specs.Prelude.{◌≡◌, ◌≢◌, ◌↔◌, true, false, Ok, Err, IfSome, OnOk, IfErr, Result};
+ghost use Rattle.std.specs.Prelude.{◌≡◌, ◌≢◌, ◌↔◌, true, false, Ok, Err, IfSome, IfOk, OnOk, IfErr, Result};
 ghost use Rattle.std.specs.Io.KnownBytes.{Keeps};
 ghost use Rattle.basket_core.specs.declared.fault.MineFault.{MineFault as MiningFault};
 ghost use Rattle.basket_read.specs.declared.fault.ReadFault.{ReadFault as InputFault};
 ghost use Rattle.basket_read.specs.Read.{FailsAfter};
-ghost use Rattle.basket.specs.Engine.{WritesReport, WritesFront, RefusesInput};
+ghost use Rattle.basket.specs.Engine.{WritesReport, WritesFront, RefusesInput, RefusesSets};
+ghost use Rattle.basket.specs.Outcome.{outcome_for};
 
 use crate::fault::RunFault;
 use crate::items::items_report;
+use crate::mining::mine;
 use crate::plan::{Ask, Plan};
+use crate::report::sets_report;
 use crate::write::write_all;
-use basket_core::{MineFault, Sink, Source};
+use basket_core::{Database, MineFault, Sink, Source};
 use basket_read::{ReadFault, read_fimi};
 use std::alloc::Global;
 
@@ -26,27 +29,39 @@ pub fn run<R, S: Source, W: Sink>(
     requires writer { W.has_failed writer.old ≡ false }
 
     // What is written, for a reader and a writer that tell their bytes.
-    ensures report { OnOk result (WritesReport (S.left reader.old) plan.now (W.taken writer.old) (W.taken writer.new)) }
-    ensures front { result ≡ Err RunFault.Write → WritesFront (S.left reader.old) plan.now (W.taken writer.old) (W.taken writer.new) }
+    ensures report { OnOk result (WritesReport (S.left reader.old) plan.now.question (W.taken writer.old) (W.taken writer.new)) }
+    ensures front { result ≡ Err RunFault.Write → WritesFront (S.left reader.old) plan.now.question (W.taken writer.old) (W.taken writer.new) }
     ensures nothing { IfErr result (λ fault. fault ≢ RunFault.Write → Keeps (W.taken writer.old) (W.taken writer.new)) }
 
     // When each fault comes.
     ensures input { (fault : InputFault) → result ≡ Err (RunFault.Input fault) → S.has_failed reader.new ≡ false
-        → RefusesInput (S.left reader.old) plan.now fault }
+        → RefusesInput (S.left reader.old) plan.now.question fault }
     ensures failed_input { (fault : InputFault) → result ≡ Err (RunFault.Input fault) → S.has_failed reader.new ≡ true
         → IfSome (S.left reader.old) (λ bytes. FailsAfter bytes (S.left reader.new) (Err fault)) }
     ensures reader_failed { S.has_failed reader.new ≡ true → (fault : InputFault) × (result ≡ Err (RunFault.Input fault)) }
     ensures read { result ≡ Err (RunFault.Input ReadFault.Read) → S.has_failed reader.new ≡ true }
-    ensures mine { (fault : MiningFault) → result ≡ Err (RunFault.Mine fault) → fault ≡ MineFault.Memory }
+    ensures mine { (fault : MiningFault) → result ≡ Err (RunFault.Mine fault) → RefusesSets (S.left reader.old) plan.now.question fault }
     ensures write { (result ≡ Err RunFault.Write) ↔ (W.has_failed writer.new ≡ true) }
 {
     let database = match read_fimi(alloc, reader) {
         Ok(database) => database,
         Err(fault) => return Err(RunFault::Input(fault)),
     };
-    let report = match plan.ask() {
-        Ask::Items => items_report(alloc, &database, plan.minimum())?,
+    let report = match report(alloc, &database, plan) {
+        Ok(report) => report,
+        Err(fault) => return Err(RunFault::Mine(fault)),
     };
     write_all(writer, &report)?;
     Ok(())
+}
+
+/// The report that the plan asks for over the baskets.
+fn report(alloc: Global, database: &Database, plan: &Plan) -> Result<Vec<u8>, MineFault>
+    ensures ok { IfOk result (λ report. outcome_for database.now plan.now.question ≡ Ok report.items) }
+    ensures err { (fault : MiningFault) → result ≡ Err fault → fault ≢ MineFault.Memory → outcome_for database.now plan.now.question ≡ Err fault }
+{
+    match plan.ask() {
+        Ask::Items => Ok(items_report(alloc, database, plan.minimum())?),
+        Ask::Sets => Ok(sets_report(alloc, mine(alloc, database, plan)?.sets())?),
+    }
 }

@@ -5,6 +5,7 @@ mod command;
 mod engine;
 mod fault;
 mod items;
+mod mining;
 mod plan;
 mod report;
 #[cfg(test)]
@@ -14,4 +15,5 @@ mod write;
 pub use command::{PlanFault, plan_of, plan_status};
 pub use engine::run;
 pub use fault::{RunFault, status_of};
-pub use plan::{Ask, Plan};
+pub use mining::mine;
+pub use plan::{Ask, Miner, Plan};

@@ -1,4 +1,5 @@
-ghost use Rattle.std.specs.Prelude.{◌≡◌};
+ghost use Rattle.std.specs.Prelude.{◌≡◌, ◌≤◌};
+ghost use Rattle.basket.specs.Plan.{GREATEST_LIMIT};
 ghost use Rattle.basket_core.specs.Minimum.{IsMinimum};
 
 use basket_core::Minimum;
@@ -9,46 +10,91 @@ use std::marker::Model;
 pub enum Ask {
     /// The frequent items.
     Items,
+    /// The frequent sets.
+    Sets,
 }
 
-/// What is asked of an input, with every number in its range.
+/// How the frequent sets are found. No report depends on it.
+#[derive(Clone, Copy, Debug, PartialEq, Eq)]
+pub enum Miner {
+    /// Level by level (Agrawal and Srikant 1994).
+    Apriori,
+}
+
+/// What is asked of an input, with every number in its range, and how it is to be found.
 #[derive(Clone, Copy, Debug, PartialEq, Eq)]
 pub struct Plan {
     ask: Ask,
     minimum: Minimum,
+    limit: u32,
+    miner: Miner,
 }
 
 impl Model for Plan {
-    ghost use Rattle.basket.specs.Plan.{Question};
+    ghost use Rattle.std.specs.Prelude.{◌≤◌};
+    ghost use Rattle.basket.specs.Plan.{Planned};
     ghost use Rattle.basket_core.specs.Minimum.{IsMinimum};
 
-    ghost Value = { Question };
+    ghost Value = { Planned };
 
-    ghost view = { λ plan. record { ask = plan.ask; minimum = plan.minimum } };
+    ghost view = { λ plan. record { question = record { ask = plan.ask; minimum = plan.minimum; limit = plan.limit }; miner = plan.miner } };
 
-    ghost invariant = { λ plan. IsMinimum plan.minimum };
+    ghost invariant = { λ plan. IsMinimum plan.minimum × (1 ≤ plan.limit) };
 
-    ghost inverse = { λ question. record { ask = question.ask; minimum = question.minimum } };
+    ghost inverse = { λ plan. record { ask = plan.question.ask; minimum = plan.question.minimum; limit = plan.question.limit; miner = plan.miner } };
 }
 
 impl Plan {
-    /// A plan with the defaults of the command line.
+    /// A plan with the defaults of the command line: Apriori, and the greatest limit.
     pub fn of(ask: Ask, minimum: Minimum) -> Self
         requires { IsMinimum minimum }
-        ensures { result ≡ record { ask = ask; minimum = minimum } }
+        ensures { result ≡ record { question = record { ask = ask; minimum = minimum; limit = GREATEST_LIMIT }; miner = Miner.Apriori } }
     {
-        Plan { ask, minimum }
+        Plan {
+            ask,
+            minimum,
+            limit: u32::MAX,
+            miner: Miner::Apriori,
+        }
     }
 
     pub fn ask(&self) -> Ask
-        ensures { result ≡ self.now.ask }
+        ensures { result ≡ self.now.question.ask }
     {
         self.ask
     }
 
     pub fn minimum(&self) -> Minimum
-        ensures { result ≡ self.now.minimum }
+        ensures { result ≡ self.now.question.minimum }
     {
         self.minimum
+    }
+
+    /// How many frequent sets there may be. It doesn't count where items are asked for.
+    pub fn limit(&self) -> u32
+        ensures { result ≡ self.now.question.limit }
+    {
+        self.limit
+    }
+
+    /// The plan with another limit.
+    pub fn with_limit(self, limit: u32) -> Self
+        requires { 1 ≤ limit }
+        ensures { result ≡ record self { question = record self.question { limit = limit } } }
+    {
+        Plan { limit, ..self }
+    }
+
+    pub fn miner(&self) -> Miner
+        ensures { result ≡ self.now.miner }
+    {
+        self.miner
+    }
+
+    /// The plan with another miner.
+    pub fn with_miner(self, miner: Miner) -> Self
+        ensures { result ≡ record self { miner = miner } }
+    {
+        Plan { miner, ..self }
     }
 }

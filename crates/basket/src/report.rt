@@ -1,9 +1,21 @@
 //! The text of a report.
-ghost use Rattle.std.specs.Prelude.{◌≡◌, ◌++◌, decimal, OnOk};
-ghost use Rattle.basket.specs.Report.{items_text, set_line, set_of};
+ghost use Rattle.std.specs.Prelude.{◌≡◌, ◌++◌, decimal, IfOk, OnOk};
+ghost use Rattle.basket.specs.Report.{items_text, report_of, set_line, set_of};
 
+use basket_core::Counted;
 use itoa::Buffer;
-use std::alloc::AllocError;
+use std::alloc::{AllocError, Global};
+
+/// The report of the sets, a line each.
+pub fn sets_report(alloc: Global, sets: &[Counted]) -> Result<Vec<u8>, AllocError>
+    ensures { IfOk result (λ report. report.items ≡ report_of sets.now) }
+{
+    let mut report = Vec::new(alloc);
+    for counted in sets {
+        put_set(&mut report, counted.set.items(), counted.count)?;
+    }
+    Ok(report)
+}
 
 /// Adds the line of a set with its count.
 pub fn put_set(report: &mut Vec<u8>, items: &[u32], count: u64) -> Result<(), AllocError>
