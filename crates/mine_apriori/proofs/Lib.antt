@@ -6,6 +6,7 @@ pub mod LawLemmas
 pub mod SearchLemmas
 pub mod PassingLemmas
 pub mod RunLemmas
+pub mod DenseLemmas
 pub mod NodeLemmas
 pub mod LevelLemmas
 pub mod ContainLemmas

@@ -1,8 +1,8 @@
 //! Runs of rising items.
-ghost use Rattle.std.specs.Prelude.{◌≡◌, ◌<◌, ◌≤◌, ◌+◌, ◌^◌, MatchResult, length, slice_index};
+ghost use Rattle.std.specs.Prelude.{◌≡◌, ◌<◌, ◌≤◌, ◌+◌, ◌-◌, ◌^◌, IsTrue, MatchResult, length, slice_index};
 ghost use Rattle.std.specs.List.{AllWithin};
 ghost use Rattle.basket_core.specs.Itemset.{IsRising, has};
-ghost use Rattle.mine_apriori.specs.Run.{IsMissingAt, RisesWithin, AddsWithin};
+ghost use Rattle.mine_apriori.specs.Run.{IsDenseWithin, IsMissingAt, RisesWithin, AddsWithin};
 
 /// The place of an item in a rising run, or the place before which it is missing. In a run with no
 /// gaps the item is as far behind the first as it is greater, so that place is tried first. It
@@ -27,6 +27,62 @@ pub fn find(run: &[u32], item: u32) -> Result<usize, usize>
 
 /// Adds the weight at each leaf of a run whose item is among the items.
 pub fn count_leaves(
+    leaves: &[u32],
+    start: usize,
+    end: usize,
+    items: &[u32],
+    weight: u64,
+    counts: &mut [u64],
+)
+    requires ordered { start ≤ end }
+    requires within { end ≤ length leaves.now }
+    requires run { RisesWithin leaves.now start end }
+    requires rising { IsRising items.now }
+    requires long { length counts.old ≡ length leaves.now }
+    requires fits { AllWithin (λ count. count + weight < 2 ^ 64) counts.old start end }
+    ensures { AddsWithin (λ leaf. has items.now (slice_index leaves.now leaf)) weight start end counts.old counts.new }
+{
+    if is_dense(leaves, start, end) {
+        count_dense(leaves[start], start, end, items, weight, counts);
+    } else {
+        count_sparse(leaves, start, end, items, weight, counts);
+    }
+}
+
+/// Whether a run has an item and no gaps.
+fn is_dense(leaves: &[u32], start: usize, end: usize) -> bool
+    requires within { end ≤ length leaves.now }
+    requires run { RisesWithin leaves.now start end }
+    ensures some { IsTrue result → start < end }
+    ensures dense { IsTrue result → IsDenseWithin leaves.now start end }
+{
+    start < end && leaves[start] as usize + (end - 1 - start) == leaves[end - 1] as usize
+}
+
+/// The same for a run with no gaps: the place of an item is as far behind the start as the item is
+/// greater than the first, so that no leaf has to be read.
+fn count_dense(
+    first: u32,
+    start: usize,
+    end: usize,
+    items: &[u32],
+    weight: u64,
+    counts: &mut [u64],
+)
+    requires within { end ≤ length counts.old }
+    requires rising { IsRising items.now }
+    requires fits { AllWithin (λ count. count + weight < 2 ^ 64) counts.old start end }
+    ensures { AddsWithin (λ leaf. has items.now (first + (leaf - start))) weight start end counts.old counts.new }
+{
+    for item in items {
+        if *item >= first && ((*item - first) as usize) < end.saturating_sub(start) {
+            counts[start + (*item - first) as usize] += weight;
+        }
+    }
+}
+
+/// The same for any run.
+fn count_sparse(
     leaves: &[u32],
     start: usize,
     end: usize,

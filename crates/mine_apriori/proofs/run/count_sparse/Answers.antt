@@ -1,7 +1,7 @@
 use Rattle.std.proofs.Common.{◌+◌, set, ◌∙◌, get_or, subst, sym}
 use Rattle.mine_apriori.proofs.RunLemmas.{LeafWalk, leaf_walk_begins, leaf_fits, leaf_found, leaf_missing, leaf_walk_ends, leaf_walk_is_over, part_rises}
-use Rattle.mine_apriori.proofs.run.count_leaves.Goals as goal
-use Rattle.mine_apriori.proofs.run.count_leaves.Goals.{in-Ok, in-Err}
+use Rattle.mine_apriori.proofs.run.count_sparse.Goals as goal
+use Rattle.mine_apriori.proofs.run.count_sparse.Goals.{in-Ok, in-Err}
 
 pub loop-item-init : goal.loop-item-init
 loop-item-init c =
