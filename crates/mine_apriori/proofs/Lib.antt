@@ -11,6 +11,7 @@ pub mod NodeLemmas
 pub mod LevelLemmas
 pub mod ContainLemmas
 pub mod TreeLemmas
+pub mod UsedLemmas
 pub mod SupportLemmas
 pub mod RegularLemmas
 pub mod LevelsLemmas

@@ -35,7 +35,7 @@ supports_fit sets baskets i place counts seen low high below is light all long s
     omega arith
 
 -- a vector whose counts were lent
-pub lent_back : (count : ℕ) (old new : List ℕ) → length new ≡ count → take count (new ++ drop (length new) old) ≡ new
+pub lent_back : {X : Type 0} (count : ℕ) (old new : List X) → length new ≡ count → take count (new ++ drop (length new) old) ≡ new
 lent_back count old new e = take_at new (drop (length new) old) count e
 
 -- one basket more

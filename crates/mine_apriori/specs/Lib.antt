@@ -3,6 +3,7 @@ pub mod Candidates
 pub mod Join
 pub mod Level
 pub mod Run
+pub mod Used
 pub mod Tree
 pub mod Shard
 pub mod Levels

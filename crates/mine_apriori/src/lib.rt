@@ -8,6 +8,7 @@ mod levels;
 mod run;
 mod shard;
 mod tree;
+mod used;
 pub mod worked;
 
 pub use join::candidates;

@@ -12,6 +12,7 @@ ghost use Rattle.mine_apriori.specs.Sizes.{AreOfOneSize};
 
 use crate::level::{Level, items_at, level_of};
 use crate::run::{count_leaves, find};
+use crate::used::{keep_used, used_items};
 use basket_core::{Itemset, Weighted};
 use std::alloc::{AllocError, Global};
 use std::marker::Model;
@@ -25,17 +26,19 @@ pub struct CandidateTree<'a> {
     levels: Vec<Level>,
     /// The last item of each set. A leaf's number is that of its set.
     leaves: Vec<u32>,
+    used: Vec<bool>,
 }
 
 impl<'a> Model for CandidateTree<'a> {
     ghost use Rattle.std.specs.Prelude.{ℕ, List};
     ghost use Rattle.mine_apriori.specs.Tree.{IsTree};
+    ghost use Rattle.mine_apriori.specs.Used.{AreMarked};
 
     ghost Value = { List (List ℕ) };
 
     ghost view = { λ t. t.sets.now };
 
-    ghost invariant = { λ t. IsTree t.sets.now t.levels.items t.leaves.items };
+    ghost invariant = { λ t. IsTree t.sets.now t.levels.items t.leaves.items × AreMarked t.sets.now t.used.items };
 }
 
 impl<'a> CandidateTree<'a> {
@@ -57,6 +60,7 @@ impl<'a> CandidateTree<'a> {
             sets,
             levels,
             leaves: items_at(alloc, sets, last)?,
+            used: used_items(alloc, sets)?,
         })
     }
 
@@ -67,8 +71,11 @@ impl<'a> CandidateTree<'a> {
     {
         let mut counts = vec![in alloc; 0; self.sets.len()]?;
         let roots = self.roots();
+        let mut items = Vec::new(alloc);
         for place in baskets {
-            self.walk(0, 0, roots, place.basket.items(), place.weight, &mut counts);
+            // Most baskets are left with few items where the candidates are large.
+            keep_used(&self.used, place.basket.items(), &mut items)?;
+            self.walk(0, 0, roots, &items, place.weight, &mut counts);
         }
         Ok(counts)
     }

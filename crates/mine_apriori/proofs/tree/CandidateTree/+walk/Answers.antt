@@ -12,7 +12,7 @@ use Rattle.mine_apriori.proofs.tree.CandidateTree.+walk.Goals.{in-Ok, in-Err, In
 
 at_leaves : (t : ℕ) (c : In_default t) → c.args.depth ≡ leaf_depth c.args.self.now
 at_leaves t c =
-    let tree = subst (λ s. IsTree s c.self.inside.levels.items c.self.inside.leaves.items) c.self.view_is c.self.invariant in
+    let tree = subst (λ s. IsTree s c.self.inside.levels.items c.self.inside.leaves.items) c.self.view_is c.self.invariant.0 in
     let deep = tree.deep in
     let all = ap length c.deref.ensures.value in
     let past = c.in_default.ensures.lookup.3 in
@@ -21,21 +21,21 @@ at_leaves t c =
 pub count_leaves-requires-clause-long : goal.count_leaves-requires-clause-long
 count_leaves-requires-clause-long t c =
     let sets = c.args.self.now in
-    let tree = subst (λ s. IsTree s c.self.inside.levels.items c.self.inside.leaves.items) c.self.view_is c.self.invariant in
+    let tree = subst (λ s. IsTree s c.self.inside.levels.items c.self.inside.leaves.items) c.self.view_is c.self.invariant.0 in
     let count = leaf_count sets (are_full sets tree.sized) tree.in_order tree.rising in
     c.requires.long ∙ sym (ap length (c.deref-in_default.ensures.value ∙ tree.last) ∙ long_items sets (leaf_depth sets) ∙ count)
 
 pub count_leaves-requires-clause-fits : goal.count_leaves-requires-clause-fits
 count_leaves-requires-clause-fits t c =
     let sets = c.args.self.now in
-    let tree = subst (λ s. IsTree s c.self.inside.levels.items c.self.inside.leaves.items) c.self.view_is c.self.invariant in
+    let tree = subst (λ s. IsTree s c.self.inside.levels.items c.self.inside.leaves.items) c.self.view_is c.self.invariant.0 in
     room_at_leaves sets (are_full sets tree.sized) tree.in_order tree.rising c.args.depth c.args.start c.args.end c.args.weight c.args.counts.now
     (at_leaves t (goal.at.count_leaves-requires-clause-fits t c).In_default) c.requires.run c.requires.fits
 
 pub returns-in_default : goal.returns-in_default
 returns-in_default t c =
     let sets = c.args.self.now in
-    let tree = subst (λ s. IsTree s c.self.inside.levels.items c.self.inside.leaves.items) c.self.view_is c.self.invariant in
+    let tree = subst (λ s. IsTree s c.self.inside.levels.items c.self.inside.leaves.items) c.self.view_is c.self.invariant.0 in
     counted_at_leaves sets (are_full sets tree.sized) tree.in_order tree.rising c.args.depth c.args.start c.args.end c.args.items.now c.args.weight c.args.counts.now c.count_leaves.new.counts
     (at_leaves t (goal.at.returns-in_default t c).In_default) c.requires.run
     (subst (λ l. AddsWithin (λ leaf. has c.args.items.now (get_or l leaf 0)) c.args.weight c.args.start c.args.end c.args.counts.now c.count_leaves.new.counts)
@@ -46,7 +46,7 @@ returns-in_default t c =
 at_level : (t : ℕ) (c : After-saturating_sub-most t) → AtLevel c.args.self.now c.args.depth c.args.start c.args.end c.args.items.now c.saturating_sub-most.result c.in-Some.level.now
 at_level t c =
     let sets = c.args.self.now in
-    let tree = subst (λ s. IsTree s c.self.inside.levels.items c.self.inside.leaves.items) c.self.view_is c.self.invariant in
+    let tree = subst (λ s. IsTree s c.self.inside.levels.items c.self.inside.leaves.items) c.self.view_is c.self.invariant.0 in
     let deep = tree.deep in
     let all = ap length c.deref.ensures.value in
     let below = c.in-Some.ensures.lookup.3.0 in

@@ -14,7 +14,7 @@ invariant_of-result c =
       | in-None w ↦ (let none = nil_from_length sets (let past = w.in-None.ensures.item.3 in omega arith) in w.last-is ∙ sym (ap leaf_depth none))
     ] in
     let all : c.loop-depth.depth ≡ leaf_depth sets = omega arith in
-    record {
+    (record {
       sized = c.requires.sized;
       in_order = c.requires.in_order;
       rising = c.in_ok-items_at.ensures.rising;
@@ -22,4 +22,4 @@ invariant_of-result c =
       each = c.loop-depth.invariant.each;
       last = c.in_ok-items_at.ensures.items ∙ ap (λ n. map (λ (set : List ℕ). get_or set n 0) sets) last
           ∙ leaf_items sets (suc (leaf_depth sets)) (are_full sets c.requires.sized) c.requires.in_order (leaf_depth sets) (omega arith);
-    }
+    }, c.in_ok-used_items.ensures)
