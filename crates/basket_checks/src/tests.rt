@@ -49,7 +49,7 @@ fn database(alloc: Global, baskets: &[Row]) -> Result<Database, Fail> {
     for (numbers, weight) in baskets {
         let basket = Itemset::from_items(alloc, numbers)?;
         let room = database.len() < Database::MAX_BASKETS
-            && *weight <= Database::MAX_WEIGHT.saturating_sub(database.total());
+            && *weight <= Database::MAX_WEIGHT - database.total();
         if !basket.is_empty() && *weight > 0 && room {
             database.push(basket, *weight).map_err(|_| AllocError)?;
         }
