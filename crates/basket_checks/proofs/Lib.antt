@@ -1,0 +1,2 @@
+mod PlainLemmas
+mod SubsetLemmas
