@@ -1,0 +1,117 @@
+//! Each miner beside the plain one.
+use super::{NINE_BASKETS, Row, database};
+use crate::plain_sets;
+use basket::{Ask, Plan, mine};
+use basket_core::{Coded, Database, Itemset, MineFault, parse_minimum};
+use mine_apriori::apriori;
+use std::alloc::{AllocError, Global};
+use std::test::Fail;
+
+const MINIMUMS: [&str; 8] = ["1", "2", "3", "7", "22%", "2/9", "50%", "1/1"];
+
+const INPUTS: [&[Row]; 6] = [
+    NINE_BASKETS,
+    &[],
+    &[(&[0], 1), (&[4_294_967_295], 2), (&[0, 4_294_967_295], 3)],
+    // The three pairs are frequent at 2 and the triple is not.
+    &[(&[1, 2], 1), (&[1, 3], 1), (&[2, 3], 1), (&[1, 2, 3], 1)],
+    &[
+        (&[1, 2, 3, 4, 5, 6, 7, 8, 9, 10], 2),
+        (&[1, 3, 5, 7, 9], 3),
+        (&[2, 4, 6, 8, 10], 1),
+        (&[1, 2, 3, 4, 5, 6, 7, 8, 9], 1),
+    ],
+    &[
+        (&[70_000, 80_000, 90_000], 2),
+        (&[70_000, 90_000, 4_000_000_000], 2),
+        (&[1, 70_000, 4_000_000_000], 1),
+        (&[1, 80_000], 1_000_000),
+    ],
+];
+
+/// A plan for the frequent sets.
+fn plan(text: &str) -> Result<Plan, Fail> {
+    match parse_minimum(text) {
+        Some(minimum) => Ok(Plan::of(Ask::Sets, minimum)),
+        None => Err(Fail::new("the text is a minimum")),
+    }
+}
+
+/// Baskets of up to ten of sixteen items, which a simple generator of numbers chooses.
+fn mixed(alloc: Global, seed: u64) -> Result<Database, Fail> {
+    let mut database = Database::new(alloc);
+    let mut state = seed;
+    for _ in 0..40 {
+        let mut numbers = Vec::new(alloc);
+        for _ in 0..10 {
+            state = state.wrapping_mul(6_364_136_223_846_793_005).wrapping_add(1);
+            // Small numbers come more often.
+            let number = (state >> 60) & (state >> 40) & 15;
+            numbers.push(number as u32)?;
+        }
+        let basket = Itemset::from_items(alloc, &numbers)?;
+        let room = database.len() < Database::MAX_BASKETS
+            && database.total() < Database::MAX_WEIGHT;
+        if !basket.is_empty() && room {
+            database.push(basket, 1).map_err(|_| AllocError)?;
+        }
+    }
+    Ok(database)
+}
+
+/// Compares `mine` and Apriori with the plain miner.
+fn compare(alloc: Global, database: &Database, text: &str) -> Result<(), Fail> {
+    let plan = plan(text)?;
+    let plain = plain_sets(alloc, database, plan.minimum())?;
+    let mined = mine(alloc, database, &plan)?;
+    let coded = Coded::of(alloc, database, plan.minimum())?;
+    let levels = apriori(alloc, &coded, plan.limit())?;
+    if mined.sets() != plain.as_slice() || levels.sets() != plain.as_slice() {
+        return Err(Fail::new("the lists are the same"));
+    }
+    if mined.total() != database.total() || levels.total() != database.total() {
+        return Err(Fail::new("the weights are the same"));
+    }
+    Ok(())
+}
+
+#[test]
+fn small_inputs(rt: HostRuntime) -> Result<(), Fail> {
+    for rows in INPUTS {
+        let database = database(rt.alloc(), rows)?;
+        for text in MINIMUMS {
+            compare(rt.alloc(), &database, text)?;
+        }
+    }
+    Ok(())
+}
+
+#[test]
+fn mixed_inputs(rt: HostRuntime) -> Result<(), Fail> {
+    for seed in [1, 2, 3] {
+        let database = mixed(rt.alloc(), seed)?;
+        for text in ["2", "5", "20%", "50%"] {
+            compare(rt.alloc(), &database, text)?;
+        }
+    }
+    Ok(())
+}
+
+#[test]
+fn limits(rt: HostRuntime) -> Result<(), Fail> {
+    let database = database(rt.alloc(), NINE_BASKETS)?;
+    let plan = plan("2")?;
+    for limit in [1, 4, 5, 6, 11, 12] {
+        match mine(rt.alloc(), &database, &plan.with_limit(limit)) {
+            Err(MineFault::TooMany { limit: told }) => assert_eq!(rt; told, limit),
+            _ => return Err(Fail::new("thirteen sets are too many")),
+        }
+    }
+    for limit in [13, 14] {
+        assert_eq!(rt;
+            mine(rt.alloc(), &database, &plan.with_limit(limit))?.sets().len(),
+            13
+        );
+    }
+    Ok(())
+}
