@@ -2,6 +2,7 @@ use crate::{Database, Itemset};
 use std::alloc::{AllocError, Global};
 use std::test::Fail;
 
+mod buckets;
 mod codes;
 mod database;
 mod depth;
