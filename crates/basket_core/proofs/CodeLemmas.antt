@@ -1,14 +1,15 @@
 -- Coding is a renaming: the supports of ranks are those of their items.
-use Rattle.std.proofs.Common.{◌≡◌, ℕ, ◌+◌, ◌<◌, ◌≤◌, Bool, true, false, List, [], ◌∷◌, ◌++◌, length, take, get_or, map, cond, Option, Some, None, refl, sym, ap, ◌∙◌, subst, inl, inr, arith, zero, suc, zero-add}
+use Rattle.std.proofs.Common.{◌≡◌, ℕ, ◌+◌, ◌<◌, ◌≤◌, Bool, true, false, List, [], ◌∷◌, ◌++◌, length, take, get_or, map, cond, ltb, Option, Some, None, refl, sym, ap, ◌∙◌, subst, inl, inr, arith, zero, suc, zero-add}
 use Rattle.std.specs.Prelude.{nat_eq}
-use Rattle.std.specs.List.{All, cons_option, IsDistinct, Contains, filter, filter_map, flat_map}
+use Rattle.std.specs.List.{All, cons_option, IsDistinct, Contains, filter, filter_map, flat_map, list_all}
+use Rattle.std.proofs.lemmas.Bool.{and_parts, ltb-true}
 use Rattle.std.proofs.lemmas.List.{take_more, map_push}
 use Rattle.std.proofs.lemmas.List.Elements.{All-map, filter_map-append, All-weaker}
 use Rattle.std.proofs.lemmas.List.Sums.{sum_by-cons}
 use Rattle.basket_core.specs.declared.weighted.Weighted.{Weighted}
 use Rattle.basket_core.specs.declared.minimum.Minimum.{Minimum}
 use Rattle.basket_core.specs.Codes.{MOST_RANKS, ranked, rank_of, ranks_from, coded, decoded, coded_place, decoded_place, ranks_of, coding_of, IsCoding, IsCodedPlace, baskets_of, CodingKeepsFrequent}
-use Rattle.basket_core.specs.Counts.{item_supports}
+use Rattle.basket_core.specs.Counts.{item_supports, AllBelow}
 use Rattle.basket_core.specs.Database.{MOST_WEIGHT}
 use Rattle.basket_core.specs.Frequent.{is_frequent, frequent_of, ListsFrequent}
 use Rattle.basket_core.specs.Itemset.{IsRising, has, contains, rising}
@@ -17,7 +18,7 @@ use Rattle.basket_core.specs.Support.{weight_at, support_of, total_of, items_of,
 use Rattle.basket_core.proofs.FrequentLemmas.{IsSound, frequent_is_unique}
 use Rattle.basket_core.proofs.Members.{Member, Member-append, Member-map, Member-from_map, Member-filter, Member-from_filter}
 use Rattle.basket_core.proofs.RankLemmas.{Member-ranked, Member-into_ranked, rank_at, rank_from_is}
-use Rattle.basket_core.proofs.Rising.{nil_rises, cons_rises, rising_is, Member-rising, Member-into_rising, Member-from_has, has-from_Member, has_each, contains_each, rising-rises}
+use Rattle.basket_core.proofs.Rising.{nil_rises, cons_rises, rising_is, rising-rises, Member-rising, Member-into_rising, Member-from_has, has-from_Member, has_each, contains_each}
 use Rattle.basket_core.proofs.SupportLemmas.{subsets_are_frequent, frequent_items, in_items, at_least_one}
 
 -- ---- a basket as ranks
@@ -109,6 +110,23 @@ pub coded_more : (ranked : List ℕ) (baskets : List Weighted) (i : ℕ) (place 
     → map (coded_place ranked) (take (i + 1) baskets) ≡ map (coded_place ranked) (take i baskets) ++ coded_place ranked place ∷ []
 coded_more ranked baskets i place below is =
     ap (map (coded_place ranked)) (take_more baskets i place below ∙ ap (λ p. take i baskets ++ p ∷ []) (sym is)) ∙ map_push (coded_place ranked) (take i baskets) place
+
+-- counted items rise
+items_of_pairs : (count : ℕ → ℕ) (items : List ℕ) → map (λ (entry : ℕ × ℕ). entry.0) (map (λ item. (item, count item)) items) ≡ items
+items_of_pairs count [] = refl
+items_of_pairs count (item ∷ items) = ap (λ rest. item ∷ rest) (items_of_pairs count items)
+
+pub counts_rise : (baskets : List Weighted) → IsRising (map (λ (entry : ℕ × ℕ). entry.0) (item_supports baskets))
+counts_rise baskets = subst IsRising (sym (items_of_pairs (λ item. support_of baskets (item ∷ [])) (items_of baskets))) (rising-rises (flat_map (λ place. place.basket) baskets))
+
+-- ranks that pass a test are below the bound
+pub all_below : (bound : ℕ) (ranks : List ℕ) → list_all (λ rank. ltb rank bound) ranks ≡ true → AllBelow bound ranks
+all_below bound ranks passed rank here = below ranks passed (Member-from_has ranks rank here)
+  where
+    below : (rest : List ℕ) → list_all (λ r. ltb r bound) rest ≡ true → Member rank rest → rank < bound
+    below [] h m = absurd m
+    below (first ∷ rest) h (inl e) = subst (λ r. r < bound) e (ltb-true first bound (and_parts (ltb first bound) (list_all (λ r. ltb r bound) rest) h).0)
+    below (first ∷ rest) h (inr m) = below rest (and_parts (ltb first bound) (list_all (λ r. ltb r bound) rest) h).1 m
 
 -- coding keeps the total weight
 pub coded_total : (items : List ℕ) (baskets : List Weighted) → total_of (map (coded_place items) baskets) ≡ total_of baskets
@@ -249,11 +267,3 @@ coding_keeps_frequent baskets minimum =
           subst (Contains list) (λ i. record { set = set; count = (frequent_from_kept baskets minimum set k).1 i }) (lists.complete set n k);
     } in
     (frequent_is_unique baskets minimum list).0 all
-
--- the items of counted supports rise
-pub supports_rise : (baskets : List Weighted) → IsRising (map (λ entry. entry.0) (item_supports baskets))
-supports_rise baskets = subst IsRising (sym (items_back (items_of baskets))) (rising-rises (all_items baskets))
-  where
-    items_back : (items : List ℕ) → map (λ (entry : ℕ × ℕ). entry.0) (map (λ x. (x, support_of baskets (x ∷ []))) items) ≡ items
-    items_back [] = refl
-    items_back (x ∷ items) = ap (λ l. x ∷ l) (items_back items)

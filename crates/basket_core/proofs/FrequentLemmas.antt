@@ -106,7 +106,7 @@ not_before Less s e = e
 not_before Equal s e = refl
 not_before Greater s e = refl
 
-sets_sorted : (list : List Counted) → IsSorted counted_order list → IsSorted report_order (map (λ c. c.set) list)
+pub sets_sorted : (list : List Counted) → IsSorted counted_order list → IsSorted report_order (map (λ c. c.set) list)
 sets_sorted [] up k d low high = absurd (omega arith)
 sets_sorted (c ∷ list) up k d low high =
     let long = length-map (c ∷ list) (λ (x : Counted). x.set) in
@@ -136,11 +136,11 @@ distinct_by_tests (set ∷ sets) apart = (
 )
 
 -- a list that has each frequent set once is, sorted, the list of the frequent sets
-pub sorted_is_frequent : (baskets : List Weighted) (minimum : Minimum) (list sorted : List Counted) → ListsOnce baskets minimum list → IsPermutation list sorted → IsSorted counted_order sorted
+pub sorted_is_frequent : (baskets : List Weighted) (minimum : Minimum) (list sorted : List Counted) → ListsOnce baskets minimum list → IsPermutation list sorted → IsSorted report_order (map (λ c. c.set) sorted)
     → sorted ≡ frequent_of baskets minimum
 sorted_is_frequent baskets minimum list sorted lists moved up = (frequent_is_unique baskets minimum sorted).0 (record {
   in_order = strictly_sorted report_order_total (map (λ c. c.set) list) (map (λ c. c.set) sorted) (distinct_by_order (map (λ c. c.set) list) lists.distinct)
-      (IsPermutation-map (λ (c : Counted). c.set) list sorted moved) (sets_sorted sorted up);
+      (IsPermutation-map (λ (c : Counted). c.set) list sorted moved) up;
   sound = All-permutation (IsSound baskets minimum) list sorted moved lists.sound;
   complete = λ set n h. Contains-permutation list sorted (counted baskets set) moved (lists.complete set n h);
 })

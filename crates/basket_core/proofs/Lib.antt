@@ -9,6 +9,7 @@ pub mod CountLemmas
 pub mod PlaceLemmas
 pub mod ItemLemmas
 pub mod Sorting
+pub mod BucketLemmas
 pub mod RankLemmas
 pub mod CodeLemmas
 pub mod DecodeLemmas

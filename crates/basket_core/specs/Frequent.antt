@@ -24,7 +24,7 @@ counted baskets set = record { set = set; count = support_of baskets set }
 abbrev pub frequent_of : List Weighted → Minimum → List Counted
 frequent_of baskets minimum = map (counted baskets) (filter (is_frequent baskets minimum) (subsets_of (items_of baskets)))
 
--- each nonempty subset of a set that meets the minimum meets it
+-- each subset of a set that meets the minimum meets it
 abbrev pub SubsetsAreFrequent : Type 0
 SubsetsAreFrequent = (baskets : List Weighted) (minimum : Minimum) (set subset : List ℕ) →
     IsTrue (contains set subset) → IsTrue (is_frequent baskets minimum set) → IsTrue (is_frequent baskets minimum subset)

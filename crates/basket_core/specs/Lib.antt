@@ -9,6 +9,7 @@ pub mod Minimum
 pub mod Frequent
 pub mod Codes
 pub mod Ranks
+pub mod Buckets
 pub mod Listing
 pub mod Tally
 pub mod Depth

@@ -55,6 +55,7 @@ impl Database {
         ensures err { OnErr result (self.new ≡ self.old) }
         ensures given_back { IfErr result (λ b. b ≡ basket) }
     {
+        // For its contract, which says that the items rise.
         let _items = basket.items();
         match self.baskets.push(Weighted { basket, weight }) {
             Ok(()) => {

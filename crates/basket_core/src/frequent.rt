@@ -4,6 +4,7 @@ ghost use Rattle.basket_core.specs.Codes.{baskets_of};
 ghost use Rattle.basket_core.specs.Frequent.{ListsOnce};
 ghost use Rattle.basket_core.specs.Listing.{listing_of};
 
+use crate::buckets::{buckets_by_size, in_report_order};
 use crate::codes::Coded;
 use crate::counted::Counted;
 use std::alloc::{AllocError, Global};
@@ -34,10 +35,9 @@ impl Frequent {
         requires { ListsOnce (baskets_of coded.now) coded.now.minimum (flat_map (λ class. class.items) classes.items) }
         ensures { IfOk result (λ frequent. frequent ≡ listing_of coded.now) }
     {
-        let mut sets = gathered(alloc, classes)?;
-        sets.sort_unstable();
+        let buckets = buckets_by_size(alloc, gathered(alloc, classes)?)?;
         Ok(Frequent {
-            sets,
+            sets: in_report_order(alloc, buckets)?,
             total: coded.total(),
         })
     }

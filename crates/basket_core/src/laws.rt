@@ -38,7 +38,7 @@ pub fn merging_keeps_supports()
     ensures { MergingKeepsSupports }
 {}
 
-/// Each nonempty subset of a set that meets the minimum meets it (Agrawal and Srikant 1994).
+/// Each subset of a set that meets the minimum meets it (Agrawal and Srikant 1994).
 pub fn subsets_are_frequent()
     ensures { SubsetsAreFrequent }
 {}

@@ -1,6 +1,7 @@
 //! Itemsets, databases of weighted baskets, and what it means that a set is frequent.
 #![tactic(auto)]
 
+mod buckets;
 mod codes;
 mod counted;
 mod counts;

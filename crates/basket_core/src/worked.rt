@@ -1,5 +1,6 @@
 //! Worked examples of the definitions, proved by computing them.
-ghost use Rattle.std.specs.Prelude.{◌≡◌, []};
+ghost use Rattle.std.specs.Prelude.{◌≡◌, [], ◌∷◌};
+ghost use Rattle.basket_core.specs.Codes.{coded, decoded, ranks_of};
 ghost use Rattle.basket_core.specs.Frequent.{frequent_of};
 ghost use Rattle.basket_core.specs.declared.minimum.Minimum.TheVariants.{Count, Share};
 ghost use Rattle.basket_core.specs.Worked.{nine_baskets, thirteen_sets, six_sets, weighted_baskets, weighted_sets};
@@ -28,4 +29,12 @@ pub fn a_weight_counts()
 /// The empty database has no frequent set.
 pub fn no_basket_has_no_set()
     ensures { frequent_of [] (Count 1) ≡ [] }
+{}
+
+/// Item 2 has the greatest support. Items 1 and 3 have one support, and so have 4 and 5.
+pub fn nine_baskets_by_rank()
+    ensures ranks { ranks_of nine_baskets (Count 2) ≡ 2 ∷ 1 ∷ 3 ∷ 4 ∷ 5 ∷ [] }
+    ensures frequent { ranks_of nine_baskets (Count 3) ≡ 2 ∷ 1 ∷ 3 ∷ [] }
+    ensures coded { coded (2 ∷ 1 ∷ 3 ∷ 4 ∷ 5 ∷ []) (1 ∷ 2 ∷ 5 ∷ []) ≡ 0 ∷ 1 ∷ 4 ∷ [] }
+    ensures decoded { decoded (2 ∷ 1 ∷ 3 ∷ 4 ∷ 5 ∷ []) (0 ∷ 1 ∷ 4 ∷ []) ≡ 1 ∷ 2 ∷ 5 ∷ [] }
 {}
