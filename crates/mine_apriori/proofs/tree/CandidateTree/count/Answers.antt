@@ -1,5 +1,5 @@
 use Rattle.std.proofs.Common.{◌≡◌, ◌+◌, length, take, subst, sym, ap, ◌∙◌, suc, arith}
-use Rattle.mine_apriori.specs.Level.{first_leaf}
+use Rattle.mine_apriori.specs.Nodes.{first_leaf}
 use Rattle.mine_apriori.specs.Tree.{IsTree, IsRun, leaf_depth}
 use Rattle.mine_apriori.proofs.NodeLemmas.{root_run, first_leaf_end}
 use Rattle.mine_apriori.proofs.TreeLemmas.{are_full}
@@ -9,7 +9,7 @@ use Rattle.mine_apriori.proofs.tree.CandidateTree.count.Goals as goal
 pub walk-requires-clause-run : goal.walk-requires-clause-run
 walk-requires-clause-run c =
     let sets = c.args.self.now in
-    let tree = subst (λ s. IsTree s c.self.inside.levels.items c.self.inside.leaves.items) c.self.view_is c.self.invariant in
+    let tree = subst (λ s. IsTree s c.self.inside.inner.items c.self.inside.leaves.items) c.self.view_is c.self.invariant in
     subst (IsRun sets 0 0) (sym c.roots-roots.ensures) (root_run sets (suc (leaf_depth sets)) (are_full sets tree.sized) tree.in_order (omega arith))
 
 pub walk-requires-clause-fits : goal.walk-requires-clause-fits
