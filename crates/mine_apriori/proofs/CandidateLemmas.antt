@@ -1,5 +1,5 @@
 -- The joins of a list of sets are its candidates, and what the candidates are.
-use Rattle.std.proofs.Common.{◌≡◌, ℕ, ◌<◌, Bool, true, false, List, [], ◌∷◌, ◌++◌, length, take, get_or, filter, cond, flat_map, refl, sym, ap, ◌∙◌, subst, inl, inr, arith, zero, suc}
+use Rattle.std.proofs.Common.{◌≡◌, ℕ, ◌<◌, Bool, true, false, List, [], ◌∷◌, ◌++◌, length, take, get_or, filter, cond, flat_map, refl, sym, ap, ◌∙◌, subst, inl, inr, arith, suc}
 use Rattle.std.specs.declared.cmp.Ordering.TheVariants.{Less}
 use Rattle.std.specs.Ordering.{nat_cmp}
 use Rattle.std.specs.Cmp.Lexicographic.{slice_cmp, nat_list_cmp_total, bytes_decides}
@@ -14,10 +14,10 @@ use Rattle.basket_core.proofs.Rising.{rising-rises, Member-into_rising}
 use Rattle.basket_core.proofs.SubsetLemmas.{IsSubset, IsSubset-from_Member, Member-from_IsSubset, of_size_sorted}
 use Rattle.mine_apriori.specs.Candidates.{items_in, is_one_of, has_subsets, candidates_of}
 use Rattle.mine_apriori.specs.Join.{without, share_front, join, joined_with, joined_from}
-use Rattle.mine_apriori.proofs.JoinLemmas.{ends_of, parted, without_second, without_first, shares, joins, shared, less_last, last_less, less_longer, between, rises_behind, rising_ends}
+use Rattle.mine_apriori.proofs.JoinLemmas.{ends_of, parted, length_front, without_second, without_first, shares, joins, shared, less_last, last_less, less_longer, between, rises_behind, rising_ends}
 use Rattle.mine_apriori.proofs.PruneLemmas.{each_passes, Member-from_is_one_of, Member-without}
 
--- each set has so many items
+-- each member of the list has so many items
 abbrev pub Sized : ℕ → List (List ℕ) → Type 0
 Sized size sets = (set : List ℕ) → Member set sets → length set ≡ size
 
@@ -112,7 +112,7 @@ sorted_from last sets (set ∷ others) sized up =
     (first_is_less nat_list_cmp_total set k.set others up k.member) in
     (λ i. slice_cmp nat_cmp (j.is i) (k.is i)) ∙ less)
 
--- ---- each pair of a run is joined
+-- ---- each pair that shares its front is joined
 
 kept_at : (joined : List ℕ) (rest : List (List ℕ)) (s k : Bool) → s ≡ true → Member joined rest → (first : List ℕ) → Member joined (cond s (cond k (first ∷ rest) rest) [])
 kept_at joined rest false k e m first = absurd (true≢false (sym e))
@@ -125,16 +125,11 @@ shares_between last set other middle long long' between_long same low high =
     let front = take last set in
     let p = parted last set long in
     let q = shared last set other long' same in
-    let n : length front ≡ last = grows last set long in
+    let n : length front ≡ last = length_front last set long in
     let low' = subst (λ s. slice_cmp nat_cmp s middle ≡ Less) p low in
     let high' = subst (λ s. slice_cmp nat_cmp middle s ≡ Less) q high in
     let is = between front (get_or set last 0) (get_or other last 0) middle (between_long ∙ ap suc (sym n)) low' high' in
     (bytes_decides (take last middle) front).1 (ap (λ k. take k middle) (sym n) ∙ is)
-  where
-    grows : (n : ℕ) (l : List ℕ) → length l ≡ suc n → length (take n l) ≡ n
-    grows n [] e = absurd (omega (arith, e))
-    grows zero (x ∷ l) e = refl
-    grows (suc n) (x ∷ l) e = ap suc (grows n l (omega (arith, e)))
 
 found_at : (joined : List ℕ) (rest : List (List ℕ)) (s k : Bool) → s ≡ true → k ≡ true → Member joined (cond s (cond k (joined ∷ rest) rest) [])
 found_at joined rest false k e f = absurd (true≢false (sym e))

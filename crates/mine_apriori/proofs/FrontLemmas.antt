@@ -1,28 +1,21 @@
--- A step of the join of one set to the later ones of its run.
-use Rattle.std.proofs.Common.{◌≡◌, ℕ, ◌+◌, ◌-◌, ◌<◌, ◌≤◌, Bool, true, false, List, [], ◌∷◌, ◌++◌, length, take, drop, get_or, get_or-drop, length-drop, append_assoc, append-nil, cond, refl, sym, ap, ◌∙◌, subst, inl, inr, arith, zero, suc}
+-- A step of the join of one set to the later ones with the same front.
+use Rattle.std.proofs.Common.{◌≡◌, ℕ, ◌+◌, ◌-◌, ◌<◌, ◌≤◌, Bool, true, false, List, [], ◌∷◌, ◌++◌, length, take, drop, get_or, get_or-drop, length-drop, append_assoc, append-nil, cond, sym, ap, ◌∙◌, subst, inl, inr, arith, suc}
 use Rattle.std.specs.declared.cmp.Ordering.TheVariants.{Less}
-use Rattle.std.specs.Ordering.{nat_cmp, ordering_then}
-use Rattle.std.specs.Cmp.{nat_cmp_total}
+use Rattle.std.specs.Ordering.{nat_cmp}
 use Rattle.std.specs.Cmp.Lexicographic.{slice_cmp}
 use Rattle.std.proofs.lemmas.List.{get_or_default, drop_more, drop_all}
 use Rattle.std.proofs.lemmas.Bool.{cases_lt}
-use Rattle.std.proofs.lemmas.Cmp.{tied_itself}
 use Rattle.std.proofs.lemmas.Map.Keys.{Less-from_sorted}
 use Rattle.basket_core.specs.Itemset.{IsRising}
 use Rattle.basket_core.specs.Order.{report_order, IsInReportOrder}
 use Rattle.basket_core.proofs.Members.{Member-from_Contains, Contains-from_Member, sorted_along}
 use Rattle.mine_apriori.specs.Candidates.{is_one_of, has_subsets, candidates_of}
-use Rattle.mine_apriori.specs.Join.{IsSortedLevel, IsJoin, without, share_front, join, joined_with, joined_from}
+use Rattle.mine_apriori.specs.Join.{AreJoinable, IsJoin, without, share_front, join, joined_with, joined_from}
 use Rattle.mine_apriori.specs.Sizes.{AreOfSize}
-use Rattle.mine_apriori.proofs.JoinLemmas.{parted, shared, without_second, without_first}
+use Rattle.mine_apriori.proofs.JoinLemmas.{parted, length_front, same_order, shared, without_second, without_first}
 use Rattle.mine_apriori.proofs.PruneLemmas.{is_one_of-from_Member}
 use Rattle.mine_apriori.proofs.CandidateLemmas.{join_rises, length_behind, joins_are_candidates}
 use Rattle.mine_apriori.proofs.LawLemmas.{size_at}
-
-length_front : (n : ℕ) (l : List ℕ) → length l ≡ suc n → length (take n l) ≡ n
-length_front n [] e = absurd (omega (arith, e))
-length_front zero (x ∷ l) e = refl
-length_front (suc n) (x ∷ l) e = ap suc (length_front n l (omega (arith, e)))
 
 -- where a later set stands
 pub stands_at : (sets : List (List ℕ)) (place index : ℕ) (other : List ℕ) → index < length (drop (place + 1) sets) → other ≡ get_or (drop (place + 1) sets) index other
@@ -32,11 +25,11 @@ stands_at sets place index other below is =
     (omega arith, sym (get_or-drop (place + 1) sets index other) ∙ sym is)
 
 -- two sets that share their front make a join
-pub join_of_pair : (last : ℕ) (sets : List (List ℕ)) (place later : ℕ) (set other : List ℕ) → IsSortedLevel last sets → place < later → later < length sets
+pub join_of_pair : (last : ℕ) (sets : List (List ℕ)) (place later : ℕ) (set other : List ℕ) → AreJoinable last sets → place < later → later < length sets
     → get_or sets place set ≡ set → get_or sets later other ≡ other → share_front last set other ≡ true → IsJoin last sets (join last set other)
-join_of_pair last sets place later set other level less below is is' same =
-    let long : length set ≡ suc last = ap length (sym is) ∙ level.sized place set (omega arith) in
-    let long' : length other ≡ suc last = ap length (sym is') ∙ level.sized later other below in
+join_of_pair last sets place later set other joinable less below is is' same =
+    let long : length set ≡ suc last = ap length (sym is) ∙ joinable.sized place set (omega arith) in
+    let long' : length other ≡ suc last = ap length (sym is') ∙ joinable.sized later other below in
     let front = take last set in
     let x = get_or set last 0 in
     let y = get_or other last 0 in
@@ -52,13 +45,13 @@ join_of_pair last sets place later set other level less below is is' same =
       second = ap (is_one_of sets) second ∙ is_one_of-from_Member sets other (Member-from_Contains other sets (later, below, is'));
     }
 
-pub pair_rises : (last : ℕ) (sets : List (List ℕ)) (place later : ℕ) (set other : List ℕ) → IsSortedLevel last sets → place < later → later < length sets
+pub pair_rises : (last : ℕ) (sets : List (List ℕ)) (place later : ℕ) (set other : List ℕ) → AreJoinable last sets → place < later → later < length sets
     → get_or sets place set ≡ set → get_or sets later other ≡ other → share_front last set other ≡ true → IsRising set → IsRising (join last set other)
-pair_rises last sets place later set other level less below is is' same rises =
-    let long : length set ≡ suc last = ap length (sym is) ∙ level.sized place set (omega arith) in
-    let long' : length other ≡ suc last = ap length (sym is') ∙ level.sized later other below in
+pair_rises last sets place later set other joinable less below is is' same rises =
+    let long : length set ≡ suc last = ap length (sym is) ∙ joinable.sized place set (omega arith) in
+    let long' : length other ≡ suc last = ap length (sym is') ∙ joinable.sized later other below in
     let e : get_or sets place other ≡ set = get_or_default sets place other set (omega arith) ∙ is in
-    let ordered : slice_cmp nat_cmp set other ≡ Less = sym (λ i. slice_cmp nat_cmp (e i) (is' i)) ∙ Less-from_sorted (slice_cmp nat_cmp) sets place later other level.sorted less below in
+    let ordered : slice_cmp nat_cmp set other ≡ Less = sym (λ i. slice_cmp nat_cmp (e i) (is' i)) ∙ Less-from_sorted (slice_cmp nat_cmp) sets place later other joinable.sorted less below in
     join_rises last set other long long' same ordered rises
 
 -- one set more is joined, and kept or not
@@ -87,16 +80,13 @@ step_dropped last sets set later index other found below is same lacks =
 
 -- ---- the whole list
 
--- sets of one size in report order are a level
-pub level_of : (last : ℕ) (sets : List (List ℕ)) → AreOfSize (suc last) sets → IsInReportOrder sets → IsSortedLevel last sets
-level_of last sets sized up = record {
+-- sets of one size in report order can be joined
+pub are_joinable : (last : ℕ) (sets : List (List ℕ)) → AreOfSize (suc last) sets → IsInReportOrder sets → AreJoinable last sets
+are_joinable last sets sized up = record {
   sized = sized;
   sorted = sorted_along report_order (slice_cmp nat_cmp) sets
-      (λ a b m n less. sym (alike a b (size_at (suc last) sets sized a m ∙ sym (size_at (suc last) sets sized b n))) ∙ less) up;
+      (λ a b m n less. sym (same_order a b (size_at (suc last) sets sized a m ∙ sym (size_at (suc last) sets sized b n))) ∙ less) up;
 }
-  where
-    alike : (a b : List ℕ) → length a ≡ length b → report_order a b ≡ slice_cmp nat_cmp a b
-    alike a b e = ap (λ n. ordering_then (nat_cmp n (length b)) (slice_cmp nat_cmp a b)) e ∙ ap (λ o. ordering_then o (slice_cmp nat_cmp a b)) (tied_itself nat_cmp_total (length b))
 
 -- one set more is joined to the later ones
 pub set_more : (last : ℕ) (sets : List (List ℕ)) (place : ℕ) (found more : List (List ℕ)) → AreOfSize (suc last) sets → place < length sets
@@ -120,6 +110,6 @@ pub whole_list : (last : ℕ) (sets : List (List ℕ)) (place : ℕ) (found : Li
     → ((k : ℕ) → k < place → IsRising (get_or sets k [])) → found ++ joined_from last sets (drop place sets) ≡ joined_from last sets sets → found ≡ candidates_of sets
 whole_list last sets place found sized up end rises is =
     sym (append-nil found) ∙ ap (λ l. found ++ joined_from last sets l) (sym (drop_all place sets end)) ∙ is
-    ∙ joins_are_candidates last sets (size_at (suc last) sets sized) (level_of last sets sized up).sorted
+    ∙ joins_are_candidates last sets (size_at (suc last) sets sized) (are_joinable last sets sized up).sorted
     (λ set m. let c = Contains-from_Member set sets m in
     subst IsRising (get_or_default sets c.0 [] set c.1 ∙ c.2) (rises c.0 (omega (arith, c.1))))

@@ -8,6 +8,7 @@ use Rattle.std.specs.Cmp.Lexicographic.{slice_cmp, bytes_decides}
 use Rattle.std.proofs.lemmas.Bool.Decides.{nat_tests}
 use Rattle.std.proofs.lemmas.Cmp.{tied_itself}
 use Rattle.basket_core.specs.Itemset.{IsRising}
+use Rattle.basket_core.specs.Order.{report_order}
 use Rattle.basket_core.proofs.Members.{Member, Member-append}
 use Rattle.basket_core.proofs.Rising.{Less-from_lt, lt-from_Less, nil_rises, cons_rises, first_below, rest_rises}
 use Rattle.mine_apriori.specs.Join.{without, share_front, join}
@@ -19,6 +20,11 @@ parted last [] e = absurd (omega (arith, e))
 parted zero (x ∷ []) e = refl
 parted zero (x ∷ y ∷ set) e = absurd (omega (arith, e))
 parted (suc last) (x ∷ set) e = ap (λ l. x ∷ l) (parted last set (omega (arith, e)))
+
+pub length_front : (last : ℕ) (set : List ℕ) → length set ≡ suc last → length (take last set) ≡ last
+length_front last [] e = absurd (omega (arith, e))
+length_front zero (x ∷ set) e = refl
+length_front (suc last) (x ∷ set) e = ap suc (length_front last set (omega (arith, e)))
 
 -- a set of two items or more: its front and its last two items
 pub record Ends (last : ℕ) (set : List ℕ) : Type 0 where
@@ -64,6 +70,10 @@ pub shared : (last : ℕ) (set other : List ℕ) → length other ≡ suc last �
 shared last set other long same = parted last other long ∙ ap (λ front. front ++ get_or other last 0 ∷ []) ((bytes_decides (take last other) (take last set)).0 same)
 
 -- ---- order
+
+-- sets of one size are in report order as they are in lexicographic order
+pub same_order : (a b : List ℕ) → length a ≡ length b → report_order a b ≡ slice_cmp nat_cmp a b
+same_order a b e = ap (λ n. ordering_then (nat_cmp n (length b)) (slice_cmp nat_cmp a b)) e ∙ ap (λ o. ordering_then o (slice_cmp nat_cmp a b)) (tied_itself nat_cmp_total (length b))
 
 same_head : (z : ℕ) (a b : List ℕ) → slice_cmp nat_cmp (z ∷ a) (z ∷ b) ≡ slice_cmp nat_cmp a b
 same_head z a b = ap (λ o. ordering_then o (slice_cmp nat_cmp a b)) (tied_itself nat_cmp_total z)

@@ -1,25 +1,22 @@
 -- The frequent sets by levels: each level is what is frequent among the candidates of the one before.
-use Rattle.std.proofs.Common.{◌≡◌, ◌≢◌, ℕ, ◌+◌, ◌-◌, ◌<◌, ◌≤◌, Bool, true, false, List, [], ◌∷◌, ◌++◌, Some, Result, Ok, Err, length, take, drop, get_or, map, cond, refl, sym, ap, ◌∙◌, subst, inl, inr, arith, zero, suc}
-use Rattle.std.specs.Prelude.{nat_eq}
-use Rattle.std.specs.Cmp.Lexicographic.{pointwise, slice_cmp, nat_list_eq_equiv}
+use Rattle.std.proofs.Common.{◌≡◌, ◌≢◌, ℕ, ◌+◌, ◌<◌, ◌≤◌, Bool, true, List, [], ◌∷◌, ◌++◌, Some, Result, Ok, Err, length, drop, get_or, map, refl, sym, ap, ◌∙◌, subst, inl, inr, arith, zero, suc}
+use Rattle.std.specs.Cmp.Lexicographic.{slice_cmp}
 use Rattle.std.specs.Ordering.{nat_cmp}
 use Rattle.std.specs.List.{All, Contains, filter, flat_map, slice_get}
-use Rattle.std.specs.List.Sorted.{IsStrictlySortedBy}
 use Rattle.std.proofs.Math.Seq.{drop-append_seam}
 use Rattle.std.proofs.lemmas.List.{append-nil, length-append, length-map, map-append, get_or_default}
 use Rattle.std.proofs.lemmas.Option.{slice_get_within, get_or_from_slice_get}
-use Rattle.std.proofs.lemmas.List.Elements.{filter-append, All-map}
+use Rattle.std.proofs.lemmas.List.Elements.{filter-append}
 use Rattle.std.proofs.lemmas.List.Kept.{IsStrictlySortedBy-filter}
-use Rattle.basket_core.specs.declared.counted.Counted.{Counted}
 use Rattle.basket_core.specs.declared.fault.MineFault.{MineFault}
 use Rattle.basket_core.specs.declared.fault.MineFault.TheVariants.{Memory, TooMany}
 use Rattle.basket_core.specs.Codes.{Coding, IsCoding, baskets_of, frequent_of_coding, decoded_set}
 use Rattle.basket_core.specs.Counts.{item_supports, AllBelow}
 use Rattle.basket_core.specs.Frequent.{is_frequent, counted, frequent_of, ListsOnce}
-use Rattle.basket_core.specs.Itemset.{IsRising, rising, contains}
+use Rattle.basket_core.specs.Itemset.{IsRising}
 use Rattle.basket_core.specs.Minimum.{meets}
 use Rattle.basket_core.specs.Order.{report_order, report_order_total, IsInReportOrder}
-use Rattle.basket_core.specs.Subsets.{subsets_of_size, subsets_up_to, subsets_of}
+use Rattle.basket_core.specs.Subsets.{subsets_of_size, subsets_up_to}
 use Rattle.basket_core.specs.Support.{support_of, total_of, items_of, all_items}
 use Rattle.basket_core.proofs.DecodeLemmas.{decoding_keeps_frequent, ranks_below, as_many}
 use Rattle.basket_core.proofs.FrequentLemmas.{frequent_once}
@@ -29,9 +26,9 @@ use Rattle.basket_core.proofs.Rising.{rising-rises, Member-rising, length-le-con
 use Rattle.basket_core.proofs.SubsetLemmas.{IsSubset, IsSubset-from_Member, Member-from_IsSubset, of_size_sorted, same_length}
 use Rattle.basket_core.proofs.SupportLemmas.{frequent_items, subsets_are_frequent}
 use Rattle.mine_apriori.specs.declared.levels.Found.{Found}
-use Rattle.mine_apriori.specs.Candidates.{candidates_of, IsCandidate}
+use Rattle.mine_apriori.specs.Candidates.{candidates_of}
 use Rattle.mine_apriori.specs.Levels.{level_of, levels_up_to, asked_of, AreFound, AreTooMany}
-use Rattle.mine_apriori.specs.Sizes.{AreOfSize, AreOfOneSize}
+use Rattle.mine_apriori.specs.Sizes.{AreOfSize}
 use Rattle.mine_apriori.proofs.LawLemmas.{subset_of_size, candidates_are_exact, candidates_are_in_report_order, candidates_are_one_larger}
 
 -- what is larger than a list has no subset of it
@@ -225,31 +222,35 @@ same_limit a b e = sym (ap limit_in e)
 
 -- ---- an answer
 
-module _ (coding : Coding) (size : ℕ) (some : 1 ≤ size) where
-  -- the first set that is asked has one rank more
-  pub asked_size : (set : List ℕ) → Contains (asked_of coding size) set → length set ≡ size + 1
-  asked_size set c = ap length (sym c.2) ∙ candidates_are_one_larger size (level_of coding size) (level_sized coding size) c.0 set c.1
-
-  -- what is frequent of what was asked is the next level
-  pub found_next : (old new : Found) → AreFound coding size old
-      → new.sets.items ≡ old.sets.items ++ filter (is_frequent coding.baskets coding.minimum) (asked_of coding size)
-      → new.counts.items ≡ old.counts.items ++ map (support_of coding.baskets) (filter (is_frequent coding.baskets coding.minimum) (asked_of coding size))
-      → AreFound coding (size + 1) new
-  found_next old new is sets counts =
-      let next = next_level coding size some in
-      record {
-        sets = sets ∙ ap (λ l. l ++ filter (is_frequent coding.baskets coding.minimum) (asked_of coding size)) is.sets
-            ∙ ap (λ l. levels_up_to coding size ++ l) next ∙ sym (up_to_next coding size);
-        counts = counts ∙ ap (λ l. l ++ map (support_of coding.baskets) (filter (is_frequent coding.baskets coding.minimum) (asked_of coding size))) is.counts
-            ∙ sym (map-append (support_of coding.baskets) old.sets.items (filter (is_frequent coding.baskets coding.minimum) (asked_of coding size)))
-            ∙ ap (map (support_of coding.baskets)) (sym sets);
-      }
-
-  pub last_next : (old new : Found)
-      → new.sets.items ≡ old.sets.items ++ filter (is_frequent coding.baskets coding.minimum) (asked_of coding size)
-      → drop (length old.sets.items) new.sets.items ≡ level_of coding (size + 1)
-  last_next old new sets = ap (drop (length old.sets.items)) sets ∙ drop-append_seam old.sets.items (filter (is_frequent coding.baskets coding.minimum) (asked_of coding size)) ∙ next_level coding size some
-
 -- the first of a list is in it
-pub first_is_there : (list other : List (List ℕ)) (set : List ℕ) → Some set ≡ slice_get list 0 → list ≡ other → Contains other set
+first_is_there : (list other : List (List ℕ)) (set : List ℕ) → Some set ≡ slice_get list 0 → list ≡ other → Contains other set
 first_is_there list other set is same = subst (λ l. Contains l set) same (0, slice_get_within list 0 set (sym is), get_or_from_slice_get list 0 set set (sym is))
+
+-- `asked` are the candidates of a level
+module _ (coding : Coding) (size : ℕ) (some : 1 ≤ size) (asked : List (List ℕ)) (is_asked : asked ≡ asked_of coding size) where
+  -- the first of them has one rank more
+  pub asked_size : (set : List ℕ) → Some set ≡ slice_get asked 0 → length set ≡ size + 1
+  asked_size set first =
+      let c = first_is_there asked (asked_of coding size) set first is_asked in
+      ap length (sym c.2) ∙ candidates_are_one_larger size (level_of coding size) (level_sized coding size) c.0 set c.1
+
+  next : filter (is_frequent coding.baskets coding.minimum) asked ≡ level_of coding (size + 1)
+  next = ap (filter (is_frequent coding.baskets coding.minimum)) is_asked ∙ next_level coding size some
+
+  -- what is frequent of them is the next level
+  pub found_next : (old new : Found) → AreFound coding size old
+      → new.sets.items ≡ old.sets.items ++ filter (is_frequent coding.baskets coding.minimum) asked
+      → new.counts.items ≡ old.counts.items ++ map (support_of coding.baskets) (filter (is_frequent coding.baskets coding.minimum) asked)
+      → AreFound coding (size + 1) new
+  found_next old new is sets counts = record {
+    sets = sets ∙ ap (λ l. l ++ filter (is_frequent coding.baskets coding.minimum) asked) is.sets
+        ∙ ap (λ l. levels_up_to coding size ++ l) next ∙ sym (up_to_next coding size);
+    counts = counts ∙ ap (λ l. l ++ map (support_of coding.baskets) (filter (is_frequent coding.baskets coding.minimum) asked)) is.counts
+        ∙ sym (map-append (support_of coding.baskets) old.sets.items (filter (is_frequent coding.baskets coding.minimum) asked))
+        ∙ ap (map (support_of coding.baskets)) (sym sets);
+  }
+
+  -- and stands behind what was found before
+  pub last_next : (old new : Found) → new.sets.items ≡ old.sets.items ++ filter (is_frequent coding.baskets coding.minimum) asked
+      → drop (length old.sets.items) new.sets.items ≡ level_of coding (size + 1)
+  last_next old new sets = ap (drop (length old.sets.items)) sets ∙ drop-append_seam old.sets.items (filter (is_frequent coding.baskets coding.minimum) asked) ∙ next

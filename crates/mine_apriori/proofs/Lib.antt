@@ -3,12 +3,12 @@ pub mod FrontLemmas
 pub mod PruneLemmas
 pub mod CandidateLemmas
 pub mod LawLemmas
-pub mod SearchLemmas
+pub mod LookUpLemmas
 pub mod PassingLemmas
 pub mod RunLemmas
 pub mod DenseLemmas
 pub mod NodeLemmas
-pub mod LevelLemmas
+pub mod BuildLemmas
 pub mod ContainLemmas
 pub mod TreeLemmas
 pub mod UsedLemmas

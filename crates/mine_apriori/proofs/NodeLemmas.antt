@@ -11,17 +11,14 @@ use Rattle.std.proofs.lemmas.Cmp.{tied_itself}
 use Rattle.std.proofs.lemmas.List.{get_or-map, get_or_past, get_or-take, take-take, take_all}
 use Rattle.std.proofs.lemmas.Map.Keys.{Less-from_sorted}
 use Rattle.basket_core.specs.Order.{report_order, IsInReportOrder}
-use Rattle.mine_apriori.specs.Level.{begins, starts_of, first_leaf, item_of, node_items, children_before}
+use Rattle.mine_apriori.specs.Nodes.{begins, starts_of, first_leaf, item_of, node_items, children_before}
 use Rattle.mine_apriori.specs.Run.{RisesWithin}
 use Rattle.mine_apriori.specs.Tree.{IsRun}
-use Rattle.mine_apriori.proofs.PassingLemmas.{passing_is, place_within, places_rise, places_do_not_fall, place_of, passing_do_not_fall, none_between, all_pass, own_place, between_places}
+use Rattle.mine_apriori.proofs.JoinLemmas.{same_order}
+use Rattle.mine_apriori.proofs.PassingLemmas.{passing_is, place_within, places_rise, places_do_not_fall, place_of, passing_do_not_fall, none_between, as_many_pass, own_place, between_places}
 use Rattle.mine_apriori.proofs.RunLemmas.{IsCut}
 
 -- ---- two neighbours
-
-one_size : (a b : List ℕ) → length a ≡ length b → report_order a b ≡ Less → slice_cmp nat_cmp a b ≡ Less
-one_size a b same less =
-    sym (ap (λ o. ordering_then o (slice_cmp nat_cmp a b)) (ap (λ n. nat_cmp n (length b)) same ∙ tied_itself nat_cmp_total (length b))) ∙ less
 
 -- of two lists of which one is less, and which agree up to a depth, the item there is less, or the same
 abbrev Follows : ℕ → List ℕ → List ℕ → Type 0
@@ -126,8 +123,8 @@ node_heads sets depth node leaf below from to =
 module _ (sets : List (List ℕ)) (size : ℕ) (sized : All (λ set. length set ≡ size) sets) (order : IsInReportOrder sets) where
   neighbours : (k : ℕ) → suc k < length sets → slice_cmp nat_cmp (get_or sets k []) (get_or sets (suc k) []) ≡ Less
   neighbours k below =
-      one_size (get_or sets k []) (get_or sets (suc k) []) (sized k [] (omega arith) ∙ sym (sized (suc k) [] below))
-      (Less-from_sorted report_order sets k (suc k) [] order (omega arith) below)
+      sym (same_order (get_or sets k []) (get_or sets (suc k) []) (sized k [] (omega arith) ∙ sym (sized (suc k) [] below)))
+      ∙ Less-from_sorted report_order sets k (suc k) [] order (omega arith) below
 
   next_item : (depth k : ℕ) → depth < size → suc k < length sets → take depth (get_or sets k []) ≡ take depth (get_or sets (suc k) [])
       → (item_of sets depth k ≤ item_of sets depth (suc k)) × (begins sets depth (suc k) ≡ true → item_of sets depth k < item_of sets depth (suc k))
@@ -212,7 +209,7 @@ module _ (sets : List (List ℕ)) (size : ℕ) (sized : All (λ set. length set 
       let no : Equal ≡ Less = sym (ap (λ x. slice_cmp nat_cmp x b) same ∙ tied_itself nat_list_cmp_total b) ∙ neighbours k below in cc)
 
   pub leaf_starts : (depth : ℕ) → size ≡ suc depth → length (starts_of sets depth) ≡ length sets
-  leaf_starts depth is = all_pass (begins sets depth) (length sets) (λ j below. leaf_begins depth j is below)
+  leaf_starts depth is = as_many_pass (begins sets depth) (length sets) (λ j below. leaf_begins depth j is below)
 
   pub leaf_is : (depth node : ℕ) → size ≡ suc depth → node ≤ length sets → first_leaf sets depth node ≡ node
   leaf_is depth node is le = own_place (begins sets depth) (length sets) node (λ j below. leaf_begins depth j is below) le

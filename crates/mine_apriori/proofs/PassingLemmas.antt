@@ -2,7 +2,7 @@
 use Rattle.std.proofs.Common.{◌≡◌, ℕ, ◌+◌, ◌<◌, ◌≤◌, Bool, true, false, List, [], ◌∷◌, ◌++◌, length, get_or, refl, sym, ap, ◌∙◌, subst, inl, inr, arith, zero, suc}
 use Rattle.std.proofs.lemmas.Bool.{cases_Bool, cases_lt, cases_eq, cond-true, cond-false, false_from_ne_true}
 use Rattle.std.proofs.lemmas.List.{get_or_append_left, get_or_push, get_or_past, length_push}
-use Rattle.mine_apriori.specs.Level.{passing_below}
+use Rattle.mine_apriori.specs.Nodes.{passing_below}
 
 passing_yes : (p : ℕ → Bool) (m : ℕ) → p m ≡ true → passing_below p (suc m) ≡ passing_below p m ++ m ∷ []
 passing_yes p m h = cond-true (p m) (passing_below p m ++ m ∷ []) (passing_below p m) h
@@ -107,12 +107,12 @@ passing_do_not_fall p j (suc m) le = elim (cases_eq j (suc m)) [
 abbrev StandsAt : (ℕ → Bool) → ℕ → ℕ → List ℕ → Type 0
 StandsAt p j d xs = (length (passing_below p j) < length xs) × (get_or xs (length (passing_below p j)) d ≡ j)
 
-stands_at : (p : ℕ → Bool) (m j d : ℕ) → j < m → p j ≡ true → StandsAt p j d (passing_below p m)
-stands_at p zero j d below h = absurd (omega arith)
-stands_at p (suc m) j d below h = elim (cases_eq j m) [
+number_stands_at : (p : ℕ → Bool) (m j d : ℕ) → j < m → p j ≡ true → StandsAt p j d (passing_below p m)
+number_stands_at p zero j d below h = absurd (omega arith)
+number_stands_at p (suc m) j d below h = elim (cases_eq j m) [
   | inl same ↦ subst (λ k. StandsAt p k d (passing_below p (suc m))) (sym same) (subst (StandsAt p m d) (sym (passing_yes p m (ap p (sym same) ∙ h)))
       (let l = length_push (passing_below p m) m in omega arith, get_or_push (passing_below p m) m d (length (passing_below p m)) refl))
-  | inr apart ↦ (let before = stands_at p m j d (omega arith) h in
+  | inr apart ↦ (let before = number_stands_at p m j d (omega arith) h in
       elim (cases_Bool (p m)) [
         | inl e ↦ subst (StandsAt p j d) (sym (passing_yes p m e)) (
           let l = length_push (passing_below p m) m in omega (arith, before.0),
@@ -124,7 +124,7 @@ stands_at p (suc m) j d below h = elim (cases_eq j m) [
 
 pub place_of : (p : ℕ → Bool) (m j : ℕ) → j ≤ m → (j < m → p j ≡ true) → at_place p m (length (passing_below p j)) ≡ j
 place_of p m j le h = elim (cases_lt j m) [
-  | inl less ↦ (stands_at p m j m less (h less)).1
+  | inl less ↦ (number_stands_at p m j m less (h less)).1
   | inr more ↦ (let same : j ≡ m = omega arith in
       get_or_past (passing_below p m) (length (passing_below p j)) m (let f = ap (λ k. length (passing_below p k)) same in omega arith) ∙ sym same)
 ]
@@ -140,16 +140,16 @@ none_between p m n j below more less = false_from_ne_true (p j) (λ h.
       | inr before ↦ (let b = places_do_not_fall p m r n before in omega arith)
     ])
 
--- where all pass, each stands at its own place
-pub all_pass : (p : ℕ → Bool) (m : ℕ) → ((j : ℕ) → j < m → p j ≡ true) → length (passing_below p m) ≡ m
-all_pass p zero h = refl
-all_pass p (suc m) h =
+-- where all pass, there are as many as numbers, and each stands at its own place
+pub as_many_pass : (p : ℕ → Bool) (m : ℕ) → ((j : ℕ) → j < m → p j ≡ true) → length (passing_below p m) ≡ m
+as_many_pass p zero h = refl
+as_many_pass p (suc m) h =
     ap length (passing_yes p m (h m (omega arith))) ∙ length_push (passing_below p m) m
-    ∙ (let e = all_pass p m (λ j below. h j (omega arith)) in omega arith)
+    ∙ (let e = as_many_pass p m (λ j below. h j (omega arith)) in omega arith)
 
 pub own_place : (p : ℕ → Bool) (m n : ℕ) → ((j : ℕ) → j < m → p j ≡ true) → n ≤ m → at_place p m n ≡ n
 own_place p m n h le =
-    ap (at_place p m) (sym (all_pass p n (λ j below. h j (omega arith)))) ∙ place_of p m n le (λ below. h n below)
+    ap (at_place p m) (sym (as_many_pass p n (λ j below. h j (omega arith)))) ∙ place_of p m n le (λ below. h n below)
 
 -- the neighbours between which a number lies
 pub between_places : (f : ℕ → ℕ) (low high j : ℕ) → low ≤ high → f low ≤ j → j < f high → (n : ℕ) × (low ≤ n) × (n < high) × (f n ≤ j) × (j < f (suc n))

@@ -145,7 +145,7 @@ or_false : (b : Bool) → (b || false) ≡ b
 or_false true = refl
 or_false false = refl
 
-and_true : (b : Bool) → (b && true) ≡ b
+pub and_true : (b : Bool) → (b && true) ≡ b
 and_true true = refl
 and_true false = refl
 
@@ -332,11 +332,11 @@ module _ (leaves : List ℕ) (start end : ℕ) (items : List ℕ) (weight : ℕ)
   leaf_walk_begins = walk_begins (λ leaf. leaf) leaves (λ leaf. get_or leaves leaf 0) (λ leaf. true) start end items weight old (leaves_are_cut leaves start end run) up
 
   -- what a search of the nodes that are left says of them all
-  abbrev Found : ℕ → ℕ → ℕ → Type 0
-  Found from item found = (found < length (take (end - from) (drop from leaves))) × (get_or (take (end - from) (drop from leaves)) found 0 ≡ item)
+  abbrev IsFoundAt : ℕ → ℕ → ℕ → Type 0
+  IsFoundAt from item found = (found < length (take (end - from) (drop from leaves))) × (get_or (take (end - from) (drop from leaves)) found 0 ≡ item)
 
   pub leaf_fits : (place from found : ℕ) (counts : List ℕ) → LeafWalk leaves start end items weight old place from counts → place < length items
-      → Found from (get_or items place 0) found → AllWithin (λ count. count + weight < 2 ^ 64) old start end → length counts ≡ length leaves
+      → IsFoundAt from (get_or items place 0) found → AllWithin (λ count. count + weight < 2 ^ 64) old start end → length counts ≡ length leaves
       → get_or counts (from + found) 0 + weight < 2 ^ 64
   leaf_fits place from found counts walked below is fits long =
       let at = found_in_part leaves end from (get_or items place 0) found walked.inside within is in
@@ -345,7 +345,7 @@ module _ (leaves : List ℕ) (start end : ℕ) (items : List ℕ) (weight : ℕ)
       place from counts (from + found) walked below (omega arith) at.0 at.1 fits (omega arith) (from + found) 0 (omega arith) (omega arith)
 
   pub leaf_found : (place from found : ℕ) (counts : List ℕ) → LeafWalk leaves start end items weight old place from counts → place < length items
-      → Found from (get_or items place 0) found → length counts ≡ length leaves
+      → IsFoundAt from (get_or items place 0) found → length counts ≡ length leaves
       → LeafWalk leaves start end items weight old (place + 1) (from + (found + 1)) (set counts (from + found) (get_or counts (from + found) 0 + weight))
   leaf_found place from found counts walked below is long =
       let at = found_in_part leaves end from (get_or items place 0) found walked.inside within is in

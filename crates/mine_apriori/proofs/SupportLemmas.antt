@@ -8,7 +8,7 @@ use Rattle.basket_core.specs.Database.{MOST_WEIGHT}
 use Rattle.basket_core.specs.Itemset.{contains}
 use Rattle.basket_core.specs.Support.{weight_at, support_of, total_of}
 use Rattle.basket_core.proofs.SupportLemmas.{support_falls}
-use Rattle.mine_apriori.specs.Level.{starts_of, first_leaf}
+use Rattle.mine_apriori.specs.Nodes.{starts_of, first_leaf}
 use Rattle.mine_apriori.specs.Run.{AddsWithin}
 use Rattle.mine_apriori.proofs.NodeLemmas.{first_leaf_zero, first_leaf_end}
 use Rattle.mine_apriori.proofs.TreeLemmas.{rest_in}

@@ -1,24 +1,20 @@
 -- A basket's walk over a tree of sets.
-use Rattle.std.proofs.Common.{◌≡◌, ℕ, ◌+◌, ◌-◌, ◌<◌, ◌≤◌, ◌^◌, Bool, true, false, ◌&&◌, List, [], ◌∷◌, length, take, drop, get_or, map, refl, sym, ap, ◌∙◌, subst, inl, inr, arith, suc}
+use Rattle.std.proofs.Common.{◌≡◌, ℕ, ◌+◌, ◌-◌, ◌<◌, ◌≤◌, ◌^◌, Bool, ◌&&◌, List, [], ◌∷◌, length, take, drop, get_or, map, refl, sym, ap, ◌∙◌, subst, inl, inr, arith, suc}
 use Rattle.std.specs.List.{All, AllWithin}
 use Rattle.std.proofs.lemmas.Bool.{cases_lt}
 use Rattle.std.proofs.lemmas.List.{drop_more, get_or-map, get_or_append_left, get_or_push, length-map, length_push, length-drop, length-take, get_or-take, take_all, take_rest, nil_from_length, get_or_read}
 use Rattle.basket_core.specs.Itemset.{IsRising, has, contains}
 use Rattle.basket_core.specs.Order.{IsInReportOrder}
-use Rattle.mine_apriori.specs.declared.level.Level.{Level}
-use Rattle.mine_apriori.specs.Level.{starts_of, first_leaf, item_of, node_items, children_before, node_firsts, IsLevel}
+use Rattle.mine_apriori.specs.declared.nodes.Nodes.{Nodes}
+use Rattle.mine_apriori.specs.Nodes.{starts_of, first_leaf, item_of, node_items, children_before, node_firsts, AreNodes}
 use Rattle.mine_apriori.specs.Run.{AddsWithin, IsMissingAt}
 use Rattle.mine_apriori.specs.Tree.{IsTree, IsRun, leaf_depth}
 use Rattle.mine_apriori.specs.Sizes.{AreOfOneSize}
 use Rattle.mine_apriori.proofs.ContainLemmas.{drop_rises, take_rises, contains_at, begins_early}
 use Rattle.mine_apriori.proofs.NodeLemmas.{child_run, children_of, leaf_starts, leaf_is, first_leaf_within, first_leaf_end, run_is_cut}
-use Rattle.mine_apriori.proofs.RunLemmas.{IsCut, IsWalked, adds_agree, walk_finds, walk_misses, walk_is_over, fits_at, found_in_part, missing_in_part, part_rises}
+use Rattle.mine_apriori.proofs.RunLemmas.{IsCut, IsWalked, and_true, adds_agree, walk_finds, walk_misses, walk_is_over, fits_at, found_in_part, missing_in_part, part_rises}
 
-and_true : (b : Bool) → (b && true) ≡ b
-and_true true = refl
-and_true false = refl
-
--- each set has as many items as the tree has levels, its leaves among them
+-- each set has as many items as the tree has depths, that of the leaves among them
 abbrev pub AreFull : List (List ℕ) → Type 0
 AreFull sets = All (λ set. length set ≡ suc (leaf_depth sets)) sets
 
@@ -171,43 +167,43 @@ module _ (sets : List (List ℕ)) (full : AreFull sets) (order : IsInReportOrder
 
 -- ---- what the vectors of a tree have
 
-pub level_is : (sets : List (List ℕ)) (levels : List Level) (leaves : List ℕ) (depth : ℕ) (seen : List Level) (level : Level) → IsTree sets levels leaves → seen ≡ levels → depth < length seen
-    → level ≡ get_or seen depth level → IsLevel sets depth level
-level_is sets levels leaves depth seen level tree same below is =
-    subst (IsLevel sets depth) (sym (is ∙ ap (λ l. get_or l depth level) same)) (tree.each depth level (let e = ap length same in omega arith))
+pub nodes_read : (sets : List (List ℕ)) (inner : List Nodes) (leaves : List ℕ) (depth : ℕ) (seen : List Nodes) (nodes : Nodes) → IsTree sets inner leaves → seen ≡ inner → depth < length seen
+    → nodes ≡ get_or seen depth nodes → AreNodes sets depth nodes
+nodes_read sets inner leaves depth seen nodes tree same below is =
+    subst (AreNodes sets depth) (sym (is ∙ ap (λ l. get_or l depth nodes) same)) (tree.each depth nodes (let e = ap length same in omega arith))
 
-first_read : (sets : List (List ℕ)) (depth : ℕ) (level : Level) (node first : ℕ) → IsLevel sets depth level → node ≤ length (starts_of sets depth) → first ≡ get_or level.firsts.items node first
+first_read : (sets : List (List ℕ)) (depth : ℕ) (nodes : Nodes) (node first : ℕ) → AreNodes sets depth nodes → node ≤ length (starts_of sets depth) → first ≡ get_or nodes.firsts.items node first
     → first ≡ get_or (node_firsts sets depth) node 0
-first_read sets depth level node first is le read =
+first_read sets depth nodes node first is le read =
     let long = ap length is.firsts ∙ long_firsts sets depth in
-    get_or_read level.firsts.items node first (omega arith) read 0 ∙ ap (λ l. get_or l node 0) is.firsts
+    get_or_read nodes.firsts.items node first (omega arith) read 0 ∙ ap (λ l. get_or l node 0) is.firsts
 
--- ---- a walk at a level above the leaves
+-- ---- a walk above the leaves
 
--- what is known there: `most` items have enough behind them, and `level` has the nodes of the depth
-pub record AtLevel (sets : List (List ℕ)) (depth start end : ℕ) (items : List ℕ) (most : ℕ) (level : Level) : Type 0 where
+-- what is known there: `most` items have enough behind them, and `nodes` are those of the depth
+pub record AtInner (sets : List (List ℕ)) (depth start end : ℕ) (items : List ℕ) (most : ℕ) (nodes : Nodes) : Type 0 where
   pub full : AreFull sets
   pub in_order : IsInReportOrder sets
   pub rising : All IsRising sets
   pub inner : depth < leaf_depth sets
-  pub nodes : IsLevel sets depth level
+  pub are_nodes : AreNodes sets depth nodes
   pub run : IsRun sets depth start end
   pub up : IsRising items
   pub enough : most ≡ length items - (leaf_depth sets - depth)
 
 -- a node that was found for the item at a place
-pub record IsNodeAt (sets : List (List ℕ)) (depth end : ℕ) (front : List ℕ) (level : Level) (place from node : ℕ) : Type 0 where
+pub record IsNodeAt (sets : List (List ℕ)) (depth end : ℕ) (front : List ℕ) (nodes : Nodes) (place from node : ℕ) : Type 0 where
   pub behind : from ≤ node
   pub inside : node < end
   pub is : get_or (node_items sets depth) node 0 ≡ get_or front place 0
   pub below : node < length (starts_of sets depth)
-  pub children : node + 1 < length level.firsts.items
+  pub children : node + 1 < length nodes.firsts.items
 
 -- what a search of the nodes that are left may answer
-abbrev pub FoundIn : List ℕ → ℕ → ℕ → ℕ → ℕ → Type 0
-FoundIn seen from end item found = (found < length (take (end - from) (drop from seen))) × (get_or (take (end - from) (drop from seen)) found 0 ≡ item)
+abbrev pub IsFoundIn : List ℕ → ℕ → ℕ → ℕ → ℕ → Type 0
+IsFoundIn seen from end item found = (found < length (take (end - from) (drop from seen))) × (get_or (take (end - from) (drop from seen)) found 0 ≡ item)
 
-module _ (sets : List (List ℕ)) (depth start end : ℕ) (items : List ℕ) (most : ℕ) (level : Level) (at : AtLevel sets depth start end items most level) where
+module _ (sets : List (List ℕ)) (depth start end : ℕ) (items : List ℕ) (most : ℕ) (nodes : Nodes) (at : AtInner sets depth start end items most nodes) where
   cut_here : IsCut (first_leaf sets depth) (node_items sets depth) (item_of sets depth) start end
   cut_here = run_is_cut sets depth start end at.run
 
@@ -218,22 +214,22 @@ module _ (sets : List (List ℕ)) (depth start end : ℕ) (items : List ℕ) (mo
   end_within = let l = long_items sets depth in let w = at.run.within in omega arith
 
   -- the nodes that are left are a run
-  pub rest_of_run : (from : ℕ) (seen : List ℕ) → seen ≡ level.items.items → start ≤ from → from ≤ end → IsRising (take (end - from) (drop from seen))
+  pub rest_of_run : (from : ℕ) (seen : List ℕ) → seen ≡ nodes.items.items → start ≤ from → from ≤ end → IsRising (take (end - from) (drop from seen))
   rest_of_run from seen same behind inside =
-      subst (λ l. IsRising (take (end - from) (drop from l))) (sym (same ∙ at.nodes.items)) (part_rises (node_items sets depth) start end from at.run.rising behind inside end_within)
+      subst (λ l. IsRising (take (end - from) (drop from l))) (sym (same ∙ at.are_nodes.items)) (part_rises (node_items sets depth) start end from at.run.rising behind inside end_within)
 
   module _ (weight : ℕ) (old : List ℕ) where
     -- the state of the walk
     abbrev pub Here : ℕ → ℕ → List ℕ → Type 0
     Here place from counts = TreeWalk sets depth start end items (take most items) weight old place from counts
 
-    pub node_found : (place from found : ℕ) (counts seen : List ℕ) → Here place from counts → seen ≡ level.items.items → FoundIn seen from end (get_or (take most items) place 0) found
-        → IsNodeAt sets depth end (take most items) level place from (from + found)
+    pub node_found : (place from found : ℕ) (counts seen : List ℕ) → Here place from counts → seen ≡ nodes.items.items → IsFoundIn seen from end (get_or (take most items) place 0) found
+        → IsNodeAt sets depth end (take most items) nodes place from (from + found)
     node_found place from found counts seen walked same is =
         let r = found_in_part (node_items sets depth) end from (get_or (take most items) place 0) found walked.inside end_within
-        (subst (λ l. FoundIn l from end (get_or (take most items) place 0) found) (same ∙ at.nodes.items) is) in
+        (subst (λ l. IsFoundIn l from end (get_or (take most items) place 0) found) (same ∙ at.are_nodes.items) is) in
         let w = at.run.within in
-        let long = ap length at.nodes.firsts ∙ long_firsts sets depth in
+        let long = ap length at.are_nodes.firsts ∙ long_firsts sets depth in
         record {
           behind = omega arith;
           inside = r.0;
@@ -242,19 +238,19 @@ module _ (sets : List (List ℕ)) (depth start end : ℕ) (items : List ℕ) (mo
           children = omega (arith, r.0);
         }
 
-    pub children_fit : (place from node first behind : ℕ) (counts : List ℕ) → Here place from counts → place < length (take most items) → IsNodeAt sets depth end (take most items) level place from node
-        → first ≡ get_or level.firsts.items node first → behind ≡ get_or level.firsts.items (node + 1) behind
+    pub children_fit : (place from node first behind : ℕ) (counts : List ℕ) → Here place from counts → place < length (take most items) → IsNodeAt sets depth end (take most items) nodes place from node
+        → first ≡ get_or nodes.firsts.items node first → behind ≡ get_or nodes.firsts.items (node + 1) behind
         → AllWithin (λ count. count + weight < 2 ^ 64) old (first_leaf sets depth start) (first_leaf sets depth end) → length counts ≡ length sets
         → AllWithin (λ count. count + weight < 2 ^ 64) counts (first_leaf sets (depth + 1) first) (first_leaf sets (depth + 1) behind)
     children_fit place from node first behind counts walked below found a b fits long =
         let w = first_leaf_within sets depth end in let s = walked.behind in let f = found.behind in
         room_below sets at.full at.in_order at.rising depth node first behind weight counts found.below
-        (first_read sets depth level node first at.nodes (let n = found.below in omega arith) a) (first_read sets depth level (node + 1) behind at.nodes (let n = found.below in omega arith) b)
+        (first_read sets depth nodes node first at.are_nodes (let n = found.below in omega arith) a) (first_read sets depth nodes (node + 1) behind at.are_nodes (let n = found.below in omega arith) b)
         (fits_at (first_leaf sets depth) (node_items sets depth) (item_of sets depth) (rest_in sets depth items) start end (take most items) weight old
         cut_here front_rises place from counts node walked below (omega arith) found.inside found.is fits (omega arith))
 
-    pub tree_finds : (place from node first behind : ℕ) (counts new : List ℕ) → Here place from counts → place < length (take most items) → IsNodeAt sets depth end (take most items) level place from node
-        → first ≡ get_or level.firsts.items node first → behind ≡ get_or level.firsts.items (node + 1) behind
+    pub tree_finds : (place from node first behind : ℕ) (counts new : List ℕ) → Here place from counts → place < length (take most items) → IsNodeAt sets depth end (take most items) nodes place from node
+        → first ≡ get_or nodes.firsts.items node first → behind ≡ get_or nodes.firsts.items (node + 1) behind
         → AddsWithin (rest_in sets (depth + 1) (take (length items - (place + 1)) (drop (place + 1) items))) weight (first_leaf sets (depth + 1) first) (first_leaf sets (depth + 1) behind) counts new
         → Here (place + 1) (node + 1) new
     tree_finds place from node first behind counts new walked below found a b adds =
@@ -263,18 +259,18 @@ module _ (sets : List (List ℕ)) (depth start end : ℕ) (items : List ℕ) (mo
         let front = get_or-take most items place 0 (omega arith) in
         let w = first_leaf_within sets depth (suc node) in
         let down = went_down sets at.full at.in_order at.rising depth node first behind items place weight counts new n
-        (first_read sets depth level node first at.nodes (omega arith) a) (first_read sets depth level (node + 1) behind at.nodes (omega arith) b) adds in
+        (first_read sets depth nodes node first at.are_nodes (omega arith) a) (first_read sets depth nodes (node + 1) behind at.are_nodes (omega arith) b) adds in
         walk_finds (first_leaf sets depth) (node_items sets depth) (item_of sets depth) (rest_in sets depth items) start end (take most items) weight old
         cut_here front_rises place from counts new node (rest_in sets (depth + 1) (drop (place + 1) items)) walked below f found.inside found.is
         (λ leaf p q. goes_down sets at.full at.in_order at.rising depth leaf items place (omega arith) (omega arith) at.up (omega arith) (cut_here.heads node leaf (omega arith) found.inside p q ∙ found.is ∙ front)) down
 
-    pub tree_misses : (place from passed : ℕ) (counts seen : List ℕ) → Here place from counts → place < length (take most items) → seen ≡ level.items.items
+    pub tree_misses : (place from passed : ℕ) (counts seen : List ℕ) → Here place from counts → place < length (take most items) → seen ≡ nodes.items.items
         → IsMissingAt (take (end - from) (drop from seen)) (get_or (take most items) place 0) passed → Here (place + 1) (from + passed) counts
     tree_misses place from passed counts seen walked below same is =
         walk_misses (first_leaf sets depth) (node_items sets depth) (item_of sets depth) (rest_in sets depth items) start end (take most items) weight old
         cut_here front_rises place from counts (from + passed) walked below
         (missing_in_part (node_items sets depth) end from (get_or (take most items) place 0) passed walked.inside end_within
-        (subst (λ l. IsMissingAt (take (end - from) (drop from l)) (get_or (take most items) place 0) passed) (same ∙ at.nodes.items) is))
+        (subst (λ l. IsMissingAt (take (end - from) (drop from l)) (get_or (take most items) place 0) passed) (same ∙ at.are_nodes.items) is))
 
     pub tree_walk_is_over : (place from : ℕ) (counts : List ℕ) → Here place from counts → from ≡ end
         → AddsWithin (rest_in sets depth items) weight (first_leaf sets depth start) (first_leaf sets depth end) old counts
@@ -291,10 +287,10 @@ module _ (sets : List (List ℕ)) (depth start end : ℕ) (items : List ℕ) (mo
         adds_agree (λ leaf p q. ap (λ front. has front (item_of sets depth leaf) && rest_in sets depth items leaf) (take_all place (take most items) all)
         ∙ short_end sets at.full at.in_order at.rising depth leaf items most (omega arith) (omega arith) at.up at.enough) walked.counted
 
-  pub children_run : (place from node first behind : ℕ) → IsNodeAt sets depth end (take most items) level place from node
-      → first ≡ get_or level.firsts.items node first → behind ≡ get_or level.firsts.items (node + 1) behind → IsRun sets (depth + 1) first behind
+  pub children_run : (place from node first behind : ℕ) → IsNodeAt sets depth end (take most items) nodes place from node
+      → first ≡ get_or nodes.firsts.items node first → behind ≡ get_or nodes.firsts.items (node + 1) behind → IsRun sets (depth + 1) first behind
   children_run place from node first behind found a b =
       let n = found.below in
-      subst (λ low. IsRun sets (depth + 1) low behind) (sym (first_read sets depth level node first at.nodes (omega arith) a))
-      (subst (λ high. IsRun sets (depth + 1) (get_or (node_firsts sets depth) node 0) high) (sym (first_read sets depth level (node + 1) behind at.nodes (omega arith) b))
+      subst (λ low. IsRun sets (depth + 1) low behind) (sym (first_read sets depth nodes node first at.are_nodes (omega arith) a))
+      (subst (λ high. IsRun sets (depth + 1) (get_or (node_firsts sets depth) node 0) high) (sym (first_read sets depth nodes (node + 1) behind at.are_nodes (omega arith) b))
       (tree_children sets at.full at.in_order at.rising depth node at.inner n))

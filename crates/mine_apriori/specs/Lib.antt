@@ -1,7 +1,7 @@
 pub mod Sizes
 pub mod Candidates
 pub mod Join
-pub mod Level
+pub mod Nodes
 pub mod Run
 pub mod Used
 pub mod Tree

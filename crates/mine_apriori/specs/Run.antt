@@ -14,7 +14,7 @@ pub record AddsWithin (test : ℕ → Bool) (weight low high : ℕ) (old new : L
   pub below : (k : ℕ) → k < low → slice_index new k ≡ slice_index old k
   pub above : (k : ℕ) → high ≤ k → slice_index new k ≡ slice_index old k
 
--- the item is missing: those before the place are below it, and the others above
+-- the item is missing from the list: those before the place are below it, and the others above
 abbrev pub IsMissingAt : List ℕ → ℕ → ℕ → Type 0
 IsMissingAt items item place =
     (place ≤ length items) × ((k : ℕ) → k < place → slice_index items k < item) × ((k : ℕ) → place ≤ k → k < length items → item < slice_index items k)

@@ -1,8 +1,8 @@
 use Rattle.std.specs.Prelude.{◌≡◌, ◌<◌, ◌≤◌, ℕ, ◌-◌, List, [], length, All, slice_index_or}
 use Rattle.basket_core.specs.Itemset.{IsRising}
 use Rattle.basket_core.specs.Order.{IsInReportOrder}
-use Rattle.mine_apriori.specs.declared.level.Level.{Level}
-use Rattle.mine_apriori.specs.Level.{starts_of, node_items, IsLevel}
+use Rattle.mine_apriori.specs.declared.nodes.Nodes.{Nodes}
+use Rattle.mine_apriori.specs.Nodes.{starts_of, node_items, AreNodes}
 use Rattle.mine_apriori.specs.Run.{RisesWithin}
 use Rattle.mine_apriori.specs.Sizes.{AreOfOneSize}
 
@@ -14,13 +14,13 @@ size_of sets = length (slice_index_or sets 0 [])
 abbrev pub leaf_depth : List (List ℕ) → ℕ
 leaf_depth sets = size_of sets - 1
 
--- a tree of the sets: its levels above the leaves, from the root down, and the items of its leaves
-pub record IsTree (sets : List (List ℕ)) (levels : List Level) (leaves : List ℕ) : Type 0 where
+-- a tree of the sets: its nodes of each depth above the leaves, from the root down, and the items of its leaves
+pub record IsTree (sets : List (List ℕ)) (inner : List Nodes) (leaves : List ℕ) : Type 0 where
   pub sized : AreOfOneSize sets
   pub in_order : IsInReportOrder sets
   pub rising : All IsRising sets
-  pub deep : length levels ≡ leaf_depth sets
-  pub each : (depth : ℕ) (d : Level) → depth < length levels → IsLevel sets depth (slice_index_or levels depth d)
+  pub deep : length inner ≡ leaf_depth sets
+  pub each : (depth : ℕ) (d : Nodes) → depth < length inner → AreNodes sets depth (slice_index_or inner depth d)
   pub last : leaves ≡ node_items sets (leaf_depth sets)
 
 -- nodes of a depth that lie side by side, and whose items rise

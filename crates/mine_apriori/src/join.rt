@@ -5,7 +5,7 @@ ghost use Rattle.std.specs.Ordering.{nat_cmp};
 ghost use Rattle.basket_core.specs.Itemset.{IsRising};
 ghost use Rattle.basket_core.specs.Order.{IsInReportOrder};
 ghost use Rattle.mine_apriori.specs.Candidates.{is_one_of, has_subsets, candidates_of};
-ghost use Rattle.mine_apriori.specs.Join.{IsSortedLevel, IsJoin, without, joined_with};
+ghost use Rattle.mine_apriori.specs.Join.{AreJoinable, IsJoin, without, joined_with};
 ghost use Rattle.mine_apriori.specs.Sizes.{AreOfOneSize};
 
 use basket_core::Itemset;
@@ -27,7 +27,8 @@ pub fn candidates(alloc: Global, sets: &[Itemset]) -> Result<Vec<Itemset>, Alloc
     Ok(found)
 }
 
-/// Joins the set at the place to each later one of its run.
+/// Adds the candidates that are joins of the set at the place with a later one. The sets that it
+/// can be joined to have the same items before the last, so they stand right behind it.
 fn join_later(
     alloc: Global,
     sets: &[Itemset],
@@ -36,7 +37,7 @@ fn join_later(
     found: &mut Vec<Itemset>,
 ) -> Result<(), AllocError>
     requires within { place < length sets.now }
-    requires level { IsSortedLevel (length (slice_index_or sets.now place []) - 1) sets.now }
+    requires joinable { AreJoinable (length (slice_index_or sets.now place []) - 1) sets.now }
     ensures joins { let set = slice_index_or sets.now place [] in
         OnOk result (found.new.items ≡ found.old.items ++ joined_with (length set - 1) sets.now set (drop (place + 1) sets.now)) }
     ensures rises { IsRising (slice_index_or sets.now place []) }
@@ -57,7 +58,7 @@ fn join_later(
     Ok(())
 }
 
-/// Makes `joined` the items of a set with one more behind them.
+/// Makes `joined` the items of a set with one more behind them. Its room is used again.
 fn fill(joined: &mut Vec<u32>, set: &[u32], item: u32) -> Result<(), AllocError>
     ensures { OnOk result (joined.new.items ≡ set.now ++ item ∷ []) }
 {
@@ -70,7 +71,7 @@ fn fill(joined: &mut Vec<u32>, set: &[u32], item: u32) -> Result<(), AllocError>
 /// Whether all subsets of a joined set that lack one item are in the list. Those that lack one of
 /// the last two items are the sets that were joined.
 fn has_all_subsets(sets: &[Itemset], joined: &[u32]) -> bool
-    requires level { IsSortedLevel (length joined.now - 2) sets.now }
+    requires joinable { AreJoinable (length joined.now - 2) sets.now }
     requires is_join { IsJoin (length joined.now - 2) sets.now joined.now }
     ensures { result ≡ has_subsets (length joined.now - 1) sets.now joined.now }
 {
@@ -85,7 +86,7 @@ fn has_all_subsets(sets: &[Itemset], joined: &[u32]) -> bool
 /// Whether the items without the one at the place are a set of the list.
 fn has_without(sets: &[Itemset], items: &[u32], place: usize) -> bool
     requires within { place < length items.now }
-    requires level { IsSortedLevel (length items.now - 2) sets.now }
+    requires joinable { AreJoinable (length items.now - 2) sets.now }
     ensures { result ≡ is_one_of sets.now (without place items.now) }
 {
     let front = &items[..place];

@@ -14,7 +14,7 @@ use basket_core::{Coded, Counted, Frequent, Itemset, MineFault, count_items};
 use std::alloc::{AllocError, Global};
 use std::marker::Model;
 
-/// Frequent sets as ranks, and their supports at the same places.
+/// Sets of ranks that are frequent, and their supports at the same places.
 #[derive(Debug, Drop)]
 struct Found {
     sets: Vec<Itemset>,
@@ -91,8 +91,9 @@ fn frequent_ranks(alloc: Global, coded: &Coded) -> Result<Found, AllocError>
     Ok(found)
 }
 
-/// A search for the frequent sets, level by level (Agrawal and Srikant 1994). All frequent sets up
-/// to some size are found, and the supports of the candidates of one more item are asked.
+/// A search for the frequent sets, level by level (Agrawal and Srikant 1994): a level is those of
+/// one size. All frequent sets up to some size are found, and the supports of the candidates of one
+/// more item are asked.
 #[derive(Debug, Drop)]
 pub struct Levels<'a> {
     coded: &'a Coded,
@@ -115,7 +116,8 @@ impl<'a> Model for Levels<'a> {
 }
 
 impl<'a> Levels<'a> {
-    /// The search that has found the frequent items.
+    /// The search that has found the frequent items. It ends in a fault once it has found more sets
+    /// than the limit.
     pub fn start(alloc: Global, coded: &'a Coded, limit: u32) -> Result<Self, MineFault>
         ensures ok { IfOk result (λ levels. levels ≡ record { coding = coded.now; limit = limit; size = 1 }) }
         ensures too_many { (most : ℕ) → result ≡ Err (TooMany most) → (most ≡ limit) × AreTooMany coded.now limit }
@@ -155,8 +157,8 @@ impl<'a> Levels<'a> {
         })
     }
 
-    /// The candidates whose supports are asked, as ranks. There are none when all frequent sets are
-    /// found.
+    /// The candidates whose supports are asked, as ranks. Where there are none, all frequent sets
+    /// are found.
     pub fn asked(&self) -> &[Itemset]
         ensures { result.now ≡ asked_of self.now.coding self.now.size }
     {

@@ -1,12 +1,12 @@
-//! Runs of rising items.
+//! Runs of a tree: nodes or leaves that stand side by side, whose items rise.
 ghost use Rattle.std.specs.Prelude.{◌≡◌, ◌<◌, ◌≤◌, ◌+◌, ◌-◌, ◌^◌, IsTrue, MatchResult, length, slice_index};
 ghost use Rattle.std.specs.List.{AllWithin};
 ghost use Rattle.basket_core.specs.Itemset.{IsRising, has};
 ghost use Rattle.mine_apriori.specs.Run.{IsDenseWithin, IsMissingAt, RisesWithin, AddsWithin};
 
 /// The place of an item in a rising run, or the place before which it is missing. In a run with no
-/// gaps the item is as far behind the first as it is greater, so that place is tried first. It
-/// can't be behind that.
+/// gaps the item stands as far behind the first as it is greater, so that place is tried first. In
+/// any run it stands there or before.
 #[inline]
 pub fn find(run: &[u32], item: u32) -> Result<usize, usize>
     requires { IsRising run.now }

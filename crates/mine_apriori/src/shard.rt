@@ -1,4 +1,4 @@
-//! The supports of any sets.
+//! The supports of any sets in a shard: the baskets of a database, or some of them.
 ghost use Rattle.std.specs.Prelude.{◌≡◌, ◌≤◌, ◌↔◌, IfOk, IsTrue, map};
 ghost use Rattle.basket_core.specs.Database.{MOST_WEIGHT};
 ghost use Rattle.basket_core.specs.Support.{support_of, total_of};
@@ -25,7 +25,7 @@ pub fn count_shard(
     }
 }
 
-/// Whether the sets make a tree.
+/// Whether a tree can be made of the sets.
 fn is_regular(sets: &[Itemset]) -> bool
     ensures { IsTrue result ↔ IsRegular sets.now }
 {
@@ -38,6 +38,7 @@ fn is_regular(sets: &[Itemset]) -> bool
     }
 }
 
+/// The support of each set, by a scan of the baskets for each.
 fn count_by_scans(
     alloc: Global,
     baskets: &[Weighted],

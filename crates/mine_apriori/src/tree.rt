@@ -5,12 +5,12 @@ ghost use Rattle.basket_core.specs.Database.{MOST_WEIGHT};
 ghost use Rattle.basket_core.specs.Itemset.{IsRising, contains};
 ghost use Rattle.basket_core.specs.Order.{IsInReportOrder};
 ghost use Rattle.basket_core.specs.Support.{support_of, total_of};
-ghost use Rattle.mine_apriori.specs.Level.{first_leaf, starts_of};
+ghost use Rattle.mine_apriori.specs.Nodes.{first_leaf, starts_of};
 ghost use Rattle.mine_apriori.specs.Run.{AddsWithin};
 ghost use Rattle.mine_apriori.specs.Tree.{IsRun, leaf_depth};
 ghost use Rattle.mine_apriori.specs.Sizes.{AreOfOneSize};
 
-use crate::level::{Level, items_at, level_of};
+use crate::nodes::{Nodes, items_at, nodes_at};
 use crate::run::{count_leaves, find};
 use crate::used::{keep_used, used_items};
 use basket_core::{Itemset, Weighted};
@@ -22,8 +22,8 @@ use std::marker::Model;
 #[derive(Debug, Drop)]
 pub struct CandidateTree<'a> {
     sets: &'a [Itemset],
-    /// The levels above the leaves, from the root down.
-    levels: Vec<Level>,
+    /// The nodes of each depth above the leaves, from the root down.
+    inner: Vec<Nodes>,
     /// The last item of each set. A leaf's number is that of its set.
     leaves: Vec<u32>,
     used: Vec<bool>,
@@ -38,11 +38,11 @@ impl<'a> Model for CandidateTree<'a> {
 
     ghost view = { λ t. t.sets.now };
 
-    ghost invariant = { λ t. IsTree t.sets.now t.levels.items t.leaves.items × AreMarked t.sets.now t.used.items };
+    ghost invariant = { λ t. IsTree t.sets.now t.inner.items t.leaves.items × AreMarked t.sets.now t.used.items };
 }
 
 impl<'a> CandidateTree<'a> {
-    /// The tree of the sets, by one pass over them for each level.
+    /// The tree of the sets, by one pass over them for each depth.
     pub fn of(alloc: Global, sets: &'a [Itemset]) -> Result<Self, AllocError>
         requires sized { AreOfOneSize sets.now }
         requires in_order { IsInReportOrder sets.now }
@@ -52,13 +52,13 @@ impl<'a> CandidateTree<'a> {
             Some(set) => set.len() - 1,
             None => 0,
         };
-        let mut levels = Vec::with_capacity(alloc, last)?;
+        let mut inner = Vec::with_capacity(alloc, last)?;
         for depth in 0..last {
-            levels.push(level_of(alloc, sets, depth)?)?;
+            inner.push(nodes_at(alloc, sets, depth)?)?;
         }
         Ok(CandidateTree {
             sets,
-            levels,
+            inner,
             leaves: items_at(alloc, sets, last)?,
             used: used_items(alloc, sets)?,
         })
@@ -80,18 +80,18 @@ impl<'a> CandidateTree<'a> {
         Ok(counts)
     }
 
-    /// The number of nodes of the first level.
+    /// How many nodes the first depth has.
     fn roots(&self) -> usize
         ensures { result ≡ length (starts_of self.now 0) }
     {
-        match self.levels.first() {
-            Some(level) => level.items.len(),
+        match self.inner.first() {
+            Some(nodes) => nodes.items.len(),
             None => self.leaves.len(),
         }
     }
 
-    /// Adds the weight at each leaf below a run of nodes whose items from the depth on are among
-    /// the items. An item is looked for behind the last that was found.
+    /// Adds the weight at each leaf below a run of nodes whose set has its items from the depth on
+    /// among the items. An item is looked for behind the last that was found.
     fn walk(
         &self,
         depth: usize,
@@ -109,21 +109,21 @@ impl<'a> CandidateTree<'a> {
         ensures { AddsWithin (λ leaf. contains items.now (drop depth (slice_index_or self.now leaf []))) weight
             (first_leaf self.now depth start) (first_leaf self.now depth end) counts.old counts.new }
     {
-        let Some(level) = self.levels.get(depth) else {
+        let Some(nodes) = self.inner.get(depth) else {
             count_leaves(&self.leaves, start, end, items, weight, counts);
             return;
         };
-        // An item with fewer behind it than there are levels below can't begin a set.
-        let most = items.len().saturating_sub(self.levels.len() - depth);
+        // An item with fewer behind it than a set has below the depth can't begin the rest of one.
+        let most = items.len().saturating_sub(self.inner.len() - depth);
         let mut from = start;
         for (place, item) in items[..most].iter().enumerate() {
             if from == end {
                 return;
             }
-            match find(&level.items[from..end], *item) {
+            match find(&nodes.items[from..end], *item) {
                 Ok(found) => {
                     let node = from + found;
-                    let (first, behind) = (level.firsts[node], level.firsts[node + 1]);
+                    let (first, behind) = (nodes.firsts[node], nodes.firsts[node + 1]);
                     self.walk(
                         depth + 1,
                         first,

@@ -2,6 +2,7 @@ ghost use Rattle.std.specs.Prelude.{IsTrue};
 ghost use Rattle.basket_core.specs.Order.{IsInReportOrder};
 ghost use Rattle.mine_apriori.specs.Sizes.{AreOfSize};
 
+use super::sets_of;
 use crate::candidates;
 use basket_core::{Itemset, report_order};
 use std::alloc::{AllocError, Global};
@@ -37,14 +38,6 @@ fn candidates_from(alloc: Global, sets: &[Itemset], size: usize) -> Result<Vec<I
         return Err(Fail::new("the sets are of one size and in report order"));
     }
     Ok(candidates(alloc, sets)?)
-}
-
-fn sets_of(alloc: Global, rows: &[&[u32]]) -> Result<Vec<Itemset>, AllocError> {
-    let mut sets = Vec::new(alloc);
-    for row in rows {
-        sets.push(Itemset::from_items(alloc, row)?)?;
-    }
-    Ok(sets)
 }
 
 /// The sets of the items from 1 to `last` without one, in report order.

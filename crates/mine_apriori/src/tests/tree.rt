@@ -1,41 +1,12 @@
+use super::{NINE_BASKETS, database, sets_of};
 use crate::count_shard;
-use basket_core::{Database, Itemset};
-use std::alloc::{AllocError, Global};
+use std::alloc::Global;
 use std::test::Fail;
-
-const NINE_BASKETS: [(&[u32], u64); 9] = [
-    (&[1, 2, 5], 1),
-    (&[2, 4], 1),
-    (&[2, 3], 1),
-    (&[1, 2, 4], 1),
-    (&[1, 3], 1),
-    (&[2, 3], 1),
-    (&[1, 3], 1),
-    (&[1, 2, 3, 5], 1),
-    (&[1, 2, 3], 1),
-];
-
-/// A database of the baskets and weights, where it can hold them.
-fn database(alloc: Global, baskets: &[(&[u32], u64)]) -> Result<Database, Fail> {
-    let mut database = Database::new(alloc);
-    for (numbers, weight) in baskets {
-        let basket = Itemset::from_items(alloc, numbers)?;
-        let room = database.len() < Database::MAX_BASKETS
-            && *weight <= Database::MAX_WEIGHT - database.total().min(Database::MAX_WEIGHT);
-        if !basket.is_empty() && *weight > 0 && room {
-            database.push(basket, *weight).map_err(|_| AllocError)?;
-        }
-    }
-    Ok(database)
-}
 
 /// The supports of the sets in the baskets.
 fn supports(alloc: Global, baskets: &[(&[u32], u64)], lists: &[&[u32]]) -> Result<Vec<u64>, Fail> {
     let database = database(alloc, baskets)?;
-    let mut sets = Vec::new(alloc);
-    for numbers in lists {
-        sets.push(Itemset::from_items(alloc, numbers)?)?;
-    }
+    let sets = sets_of(alloc, lists)?;
     Ok(count_shard(alloc, database.baskets(), &sets)?)
 }
 

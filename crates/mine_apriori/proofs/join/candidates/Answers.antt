@@ -1,15 +1,15 @@
 use Rattle.std.proofs.Common.{◌≡◌, ◌-◌, [], suc, length, get_or, subst, ◌∙◌, arith}
 use Rattle.mine_apriori.specs.Sizes.{AreOfSize}
-use Rattle.mine_apriori.proofs.FrontLemmas.{level_of, set_more, rises_more, whole_list}
+use Rattle.mine_apriori.proofs.FrontLemmas.{are_joinable, set_more, rises_more, whole_list}
 use Rattle.mine_apriori.proofs.join.candidates.Goals as goal
 
-pub join_later-requires-clause-level : goal.join_later-requires-clause-level
-join_later-requires-clause-level c =
+pub join_later-requires-clause-joinable : goal.join_later-requires-clause-joinable
+join_later-requires-clause-joinable c =
     let sets = c.args.sets.now in
     let sized = c.requires.sized in
     let last = length (get_or sets c.loop-place.place []) - 1 in
     let n : sized.0 ≡ suc last = omega (arith, sized.1, sized.2 c.loop-place.place [] c.loop-place-test.true) in
-    level_of last sets (subst (λ k. AreOfSize k sets) n sized.2) c.requires.in_order
+    are_joinable last sets (subst (λ k. AreOfSize k sets) n sized.2) c.requires.in_order
 
 pub loop-place-preserved : goal.loop-place-preserved
 loop-place-preserved c =

@@ -4,7 +4,7 @@ use Rattle.std.proofs.lemmas.List.{get_or_default, take_rest}
 use Rattle.basket_core.specs.Itemset.{IsRising, rising}
 use Rattle.basket_core.proofs.Rising.{rising-rising}
 use Rattle.mine_apriori.specs.Candidates.{has_subsets}
-use Rattle.mine_apriori.specs.Join.{IsSortedLevel, IsJoin, share_front, join, joined_with}
+use Rattle.mine_apriori.specs.Join.{AreJoinable, IsJoin, share_front, join, joined_with}
 use Rattle.mine_apriori.proofs.FrontLemmas.{stands_at, join_of_pair, pair_rises, step_kept, step_dropped}
 use Rattle.mine_apriori.proofs.join.join_later.Goals as goal
 use Rattle.mine_apriori.proofs.join.join_later.Goals.{then-has_all_subsets+in_ok-from_items+in_ok-push, else-has_all_subsets}
@@ -20,13 +20,13 @@ has_all_subsets-requires-clause-is_join c =
     let rest = take_rest sets (place + 1) in
     let set_is : get_or sets place set ≡ set = ap (get_or sets place) c.items-set.ensures.items ∙ sym c.index-sets-place.is ∙ sym c.items-set.ensures.items in
     let at : get_or sets place [] ≡ set = get_or_default sets place [] set c.requires.within ∙ set_is in
-    let level : IsSortedLevel last sets = subst (λ s. IsSortedLevel (length s - 1) sets) at c.requires.level in
+    let joinable : AreJoinable last sets = subst (λ s. AreJoinable (length s - 1) sets) at c.requires.joinable in
     let below : index < length (drop (place + 1) sets) = omega (arith, c.loop-other-test.true, ap length rest) in
     let other_is : other ≡ get_or (drop (place + 1) sets) index other = c.items-other.ensures.items ∙ c.other-item.is ∙ (λ i. get_or (rest i) index (sym c.items-other.ensures.items i)) in
     let stands = stands_at sets place index other below other_is in
     let same : share_front last set other ≡ true = not-false (share_front last set other) (let e : c.ne.result ≡ not (share_front last set other) = c.ne.ensures in sym e ∙ c.if-ne.false) in
     let joined : c.deref.result.now ≡ join last set other = c.deref.ensures.value ∙ c.in_ok-fill.ensures in
-    let is = join_of_pair last sets place (place + 1 + index) set other level (omega arith) stands.0 set_is stands.1 same in
+    let is = join_of_pair last sets place (place + 1 + index) set other joinable (omega arith) stands.0 set_is stands.1 same in
     subst (λ d. IsJoin (length d - 2) sets d) (sym joined) (subst (λ n. IsJoin n sets (join last set other)) (omega (arith, is.long)) is)
 
 pub loop-other-preserved : goal.loop-other-preserved
@@ -40,13 +40,13 @@ loop-other-preserved c =
     let rest = take_rest sets (place + 1) in
     let set_is : get_or sets place set ≡ set = ap (get_or sets place) c.items-set.ensures.items ∙ sym c.index-sets-place.is ∙ sym c.items-set.ensures.items in
     let at : get_or sets place [] ≡ set = get_or_default sets place [] set c.requires.within ∙ set_is in
-    let level : IsSortedLevel last sets = subst (λ s. IsSortedLevel (length s - 1) sets) at c.requires.level in
+    let joinable : AreJoinable last sets = subst (λ s. AreJoinable (length s - 1) sets) at c.requires.joinable in
     let below : index < length (drop (place + 1) sets) = omega (arith, c.loop-other-test.true, ap length rest) in
     let other_is : other ≡ get_or (drop (place + 1) sets) index other = c.items-other.ensures.items ∙ c.other-item.is ∙ (λ i. get_or (rest i) index (sym c.items-other.ensures.items i)) in
     let stands = stands_at sets place index other below other_is in
     let same : share_front last set other ≡ true = not-false (share_front last set other) (let e : c.ne.result ≡ not (share_front last set other) = c.ne.ensures in sym e ∙ c.if-ne.false) in
     let joined : c.deref.result.now ≡ join last set other = c.deref.ensures.value ∙ c.in_ok-fill.ensures in
-    let is = join_of_pair last sets place (place + 1 + index) set other level (omega arith) stands.0 set_is stands.1 same in
+    let is = join_of_pair last sets place (place + 1 + index) set other joinable (omega arith) stands.0 set_is stands.1 same in
     let later = take (length sets - (place + 1)) (drop (place + 1) sets) in
     let found = c.loop-other.found.items in
     let other_at : other ≡ get_or later index other = c.items-other.ensures.items ∙ c.other-item.is ∙ ap (get_or later index) (sym c.items-other.ensures.items) in
@@ -54,7 +54,7 @@ loop-other-preserved c =
     let tested : has_subsets (suc last) sets (join last set other) ≡ c.has_all_subsets.result = (λ i. has_subsets (n i) sets (sym joined i)) ∙ sym c.has_all_subsets.ensures in
     elim c.if-has_all_subsets.branch [
       | then-has_all_subsets+in_ok-from_items+in_ok-push w ↦
-          (let up = pair_rises last sets place (place + 1 + index) set other level (omega arith) stands.0 set_is stands.1 same (subst IsRising (sym c.items-set.ensures.items) c.items-set.ensures.rising) in
+          (let up = pair_rises last sets place (place + 1 + index) set other joinable (omega arith) stands.0 set_is stands.1 same (subst IsRising (sym c.items-set.ensures.items) c.items-set.ensures.rising) in
           let made : w.in_ok-from_items.field-0 ≡ join last set other = w.in_ok-from_items.ensures.ok ∙ ap rising (w.deref-then-has_all_subsets.ensures.value ∙ c.in_ok-fill.ensures) ∙ rising-rising (join last set other) up in
           let pushed : c.if-has_all_subsets.found.items ≡ found ++ join last set other ∷ [] = ap (λ v. v.items) w.found-is ∙ w.in_ok-push.ensures.items ∙ ap (λ s. found ++ s ∷ []) made in
           ap (λ l. l ++ joined_with last sets set (drop (index + 1) later)) pushed

@@ -1,8 +1,7 @@
-use Rattle.std.proofs.Common.{◌≡◌, ◌-◌, length, take, drop, sym, ap, subst, ◌∙◌, arith}
+use Rattle.std.proofs.Common.{length, drop, sym, ap, subst, ◌∙◌, arith}
 use Rattle.std.proofs.lemmas.List.{take_rest}
 use Rattle.basket_core.specs.Order.{IsInReportOrder}
 use Rattle.mine_apriori.specs.Candidates.{candidates_of}
-use Rattle.mine_apriori.specs.Levels.{level_of}
 use Rattle.mine_apriori.specs.Sizes.{AreOfSize}
 use Rattle.mine_apriori.proofs.LevelsLemmas.{level_sized, level_in_order, too_many, same_limit}
 use Rattle.mine_apriori.proofs.levels.Levels.ask.Goals as goal
@@ -24,8 +23,7 @@ candidates-requires-clause-in_order c =
 
 pub invariant_of-result : goal.invariant_of-result
 invariant_of-result c =
-    let last = take_rest c.deref.result.now c.args.last ∙ ap (drop c.args.last) c.deref.ensures.value ∙ c.requires.last in
-    (
+    let last = take_rest c.deref.result.now c.args.last ∙ ap (drop c.args.last) c.deref.ensures.value ∙ c.requires.last in (
       c.requires.coding,
       record {
         some = c.requires.some;

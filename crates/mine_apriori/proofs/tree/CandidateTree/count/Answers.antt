@@ -2,7 +2,7 @@ use Rattle.std.proofs.Common.{◌≡◌, ◌+◌, length, take, filter, refl, su
 use Rattle.std.specs.Ordering.{nat_cmp}
 use Rattle.std.proofs.lemmas.List.Kept.{IsStrictlySortedBy-filter}
 use Rattle.basket_core.specs.Itemset.{IsRising}
-use Rattle.mine_apriori.specs.Level.{first_leaf}
+use Rattle.mine_apriori.specs.Nodes.{first_leaf}
 use Rattle.mine_apriori.specs.Used.{AreMarked, may_be_used}
 use Rattle.mine_apriori.specs.Tree.{IsTree, IsRun, leaf_depth}
 use Rattle.mine_apriori.proofs.NodeLemmas.{root_run, first_leaf_end}
@@ -15,7 +15,7 @@ use Rattle.mine_apriori.proofs.tree.CandidateTree.count.Goals as goal
 pub walk-requires-clause-run : goal.walk-requires-clause-run
 walk-requires-clause-run c =
     let sets = c.args.self.now in
-    let tree = subst (λ s. IsTree s c.self.inside.levels.items c.self.inside.leaves.items) c.self.view_is c.self.invariant.0 in
+    let tree = subst (λ s. IsTree s c.self.inside.inner.items c.self.inside.leaves.items) c.self.view_is c.self.invariant.0 in
     subst (IsRun sets 0 0) (sym c.roots-roots.ensures) (root_run sets (suc (leaf_depth sets)) (are_full sets tree.sized) tree.in_order (omega arith))
 
 pub walk-requires-clause-fits : goal.walk-requires-clause-fits

@@ -1,7 +1,7 @@
 use Rattle.std.proofs.Common.{◌≡◌, ℕ, List, [], length, map, get_or, suc, sym, ap, ◌∙◌, arith}
 use Rattle.std.proofs.lemmas.List.{nil_from_length}
 use Rattle.mine_apriori.specs.Tree.{leaf_depth}
-use Rattle.mine_apriori.proofs.LevelLemmas.{leaf_items}
+use Rattle.mine_apriori.proofs.BuildLemmas.{leaf_items}
 use Rattle.mine_apriori.proofs.TreeLemmas.{are_full}
 use Rattle.mine_apriori.proofs.tree.CandidateTree.of.Goals as goal
 use Rattle.mine_apriori.proofs.tree.CandidateTree.of.Goals.{in-Some, in-None}

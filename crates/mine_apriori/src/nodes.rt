@@ -1,22 +1,23 @@
-//! Levels of a tree of candidates.
+//! The inner nodes of a tree of candidates.
 ghost use Rattle.std.specs.Prelude.{◌≡◌, ◌<◌, ◌+◌, ◌^◌, [], ◌∷◌, ◌++◌, IfOk, OnOk, length, slice_index, take, All, map};
 ghost use Rattle.basket_core.specs.Itemset.{IsRising};
-ghost use Rattle.mine_apriori.specs.Level.{begins, AreDeep, IsLevel};
+ghost use Rattle.mine_apriori.specs.Nodes.{begins, AreDeep, AreNodes};
 
 use basket_core::Itemset;
 use std::alloc::{AllocError, Global};
 
-/// The nodes of one depth above the leaves. Each is a run of sets that agree up to that depth.
+/// The nodes of one depth above the leaves, in the order of the sets. The sets below a node have
+/// the same items up to its depth, and stand side by side.
 #[derive(Debug, Drop)]
-pub struct Level {
+pub struct Nodes {
     /// The item of each node.
     pub items: Vec<u32>,
-    /// The first child of each node in the next level, and behind them where the last node's
-    /// children end.
+    /// The number of each node's first child among the nodes of the next depth, and behind them
+    /// how many those are.
     pub firsts: Vec<usize>,
 }
 
-impl Level {
+impl Nodes {
     /// Adds a node.
     fn push(&mut self, item: u32, first: usize) -> Result<(), AllocError>
         ensures items { OnOk result (self.new.items.items ≡ self.old.items.items ++ item ∷ []) }
@@ -28,7 +29,7 @@ impl Level {
     }
 }
 
-/// The items of a set up to the depth.
+/// The items of a set up to the depth, with the one at it.
 fn front(set: &Itemset, depth: usize) -> &[u32]
     requires { depth < length set.now }
     ensures { result.now ≡ take (depth + 1) set.now }
@@ -47,27 +48,27 @@ fn begins(sets: &[Itemset], depth: usize, number: usize) -> bool
     number == 0 || front(&sets[number - 1], depth) != front(&sets[number], depth)
 }
 
-/// The level of a depth, by one pass over the sets.
-pub fn level_of(alloc: Global, sets: &[Itemset], depth: usize) -> Result<Level, AllocError>
+/// The nodes of a depth, by one pass over the sets.
+pub fn nodes_at(alloc: Global, sets: &[Itemset], depth: usize) -> Result<Nodes, AllocError>
     requires deep { AreDeep sets.now (depth + 1) }
     requires small { depth + 1 < 2 ^ 64 }
-    ensures { IfOk result (IsLevel sets.now depth) }
+    ensures { IfOk result (AreNodes sets.now depth) }
 {
-    let mut level = Level {
+    let mut nodes = Nodes {
         items: Vec::new(alloc),
         firsts: Vec::new(alloc),
     };
     let mut children = 0;
     for (number, set) in sets.iter().enumerate() {
         if begins(sets, depth, number) {
-            level.push(set.items()[depth], children)?;
+            nodes.push(set.items()[depth], children)?;
         }
         if begins(sets, depth + 1, number) {
             children += 1;
         }
     }
-    level.firsts.push(children)?;
-    Ok(level)
+    nodes.firsts.push(children)?;
+    Ok(nodes)
 }
 
 /// The item of each set at the depth.

@@ -1,6 +1,6 @@
 use Rattle.std.specs.Prelude.{◌≡◌, ◌<◌, ℕ, zero, suc, ◌+◌, ◌-◌, ◌==◌, nat_eq, Bool, not, ◌||◌, List, [], ◌∷◌, ◌++◌, length, map, take, All, slice_index, slice_index_or, if◌then◌else◌}
 use Rattle.std.specs.Cmp.Lexicographic.{pointwise}
-use Rattle.mine_apriori.specs.declared.level.Level.{Level}
+use Rattle.mine_apriori.specs.declared.nodes.Nodes.{Nodes}
 
 -- whether a node of the depth begins at this set of a list: the set before it has other items up to there
 abbrev pub begins : List (List ℕ) → ℕ → ℕ → Bool
@@ -36,10 +36,10 @@ children_before sets depth number = length (passing_below (begins sets (depth + 
 abbrev pub node_firsts : List (List ℕ) → ℕ → List ℕ
 node_firsts sets depth = map (children_before sets depth) (starts_of sets depth) ++ children_before sets depth (length sets) ∷ []
 
--- what a level is
-pub record IsLevel (sets : List (List ℕ)) (depth : ℕ) (level : Level) : Type 0 where
-  pub items : level.items.items ≡ node_items sets depth
-  pub firsts : level.firsts.items ≡ node_firsts sets depth
+-- the nodes of the depth in the tree of the sets
+pub record AreNodes (sets : List (List ℕ)) (depth : ℕ) (nodes : Nodes) : Type 0 where
+  pub items : nodes.items.items ≡ node_items sets depth
+  pub firsts : nodes.firsts.items ≡ node_firsts sets depth
 
 -- each set has an item at the depth
 abbrev pub AreDeep : List (List ℕ) → ℕ → Type 0

@@ -1,9 +1,9 @@
 use Rattle.std.proofs.Common.{◌≡◌, ◌+◌, [], ◌∷◌, ◌++◌, length, map, get_or, ap, ◌∙◌, arith}
-use Rattle.mine_apriori.specs.Level.{begins, passing_below, item_of, children_before, starts_of}
+use Rattle.mine_apriori.specs.Nodes.{begins, passing_below, item_of, children_before, starts_of}
 use Rattle.mine_apriori.proofs.PassingLemmas.{passing_few}
-use Rattle.mine_apriori.proofs.LevelLemmas.{node_more, node_same, children_more, children_same, item_read}
-use Rattle.mine_apriori.proofs.level.level_of.Goals as goal
-use Rattle.mine_apriori.proofs.level.level_of.Goals.{then-begins+in_ok-push, else-begins, then-begins-2, else-begins-2}
+use Rattle.mine_apriori.proofs.BuildLemmas.{node_more, node_same, children_more, children_same, item_read}
+use Rattle.mine_apriori.proofs.nodes.nodes_at.Goals as goal
+use Rattle.mine_apriori.proofs.nodes.nodes_at.Goals.{then-begins+in_ok-push, else-begins, then-begins-2, else-begins-2}
 
 pub overflow_add-children : goal.overflow_add-children
 overflow_add-children c =
@@ -18,16 +18,16 @@ loop-number-preserved c =
     let below = begins sets (c.args.depth + 1) in
     record {
       items = elim c.if-begins.branch [
-        | then-begins+in_ok-push w ↦ ap (λ l. l.items.items) w.level-is
-            ∙ node_more (item_of sets c.args.depth) nodes number c.loop-number.level.items.items w.push.new.self.items.items (get_or w.items.result.now c.args.depth 0) w.if-begins.ensures c.loop-number.invariant.items
+        | then-begins+in_ok-push w ↦ ap (λ l. l.items.items) w.nodes-is
+            ∙ node_more (item_of sets c.args.depth) nodes number c.loop-number.nodes.items.items w.push.new.self.items.items (get_or w.items.result.now c.args.depth 0) w.if-begins.ensures c.loop-number.invariant.items
             (item_read sets c.args.depth number c.index-sets-number.result w.items.result.now c.loop-number-test.true c.index-sets-number.is w.items.ensures.items) w.in_ok-push.ensures.items
-        | else-begins w ↦ ap (λ l. l.items.items) w.level-is ∙ node_same (item_of sets c.args.depth) nodes number c.loop-number.level.items.items w.if-begins.ensures c.loop-number.invariant.items
+        | else-begins w ↦ ap (λ l. l.items.items) w.nodes-is ∙ node_same (item_of sets c.args.depth) nodes number c.loop-number.nodes.items.items w.if-begins.ensures c.loop-number.invariant.items
       ];
       firsts = elim c.if-begins.branch [
-        | then-begins+in_ok-push w ↦ ap (λ l. l.firsts.items) w.level-is
-            ∙ node_more (children_before sets c.args.depth) nodes number c.loop-number.level.firsts.items w.push.new.self.firsts.items c.loop-number.children w.if-begins.ensures c.loop-number.invariant.firsts
+        | then-begins+in_ok-push w ↦ ap (λ l. l.firsts.items) w.nodes-is
+            ∙ node_more (children_before sets c.args.depth) nodes number c.loop-number.nodes.firsts.items w.push.new.self.firsts.items c.loop-number.children w.if-begins.ensures c.loop-number.invariant.firsts
             c.loop-number.invariant.children w.in_ok-push.ensures.firsts
-        | else-begins w ↦ ap (λ l. l.firsts.items) w.level-is ∙ node_same (children_before sets c.args.depth) nodes number c.loop-number.level.firsts.items w.if-begins.ensures c.loop-number.invariant.firsts
+        | else-begins w ↦ ap (λ l. l.firsts.items) w.nodes-is ∙ node_same (children_before sets c.args.depth) nodes number c.loop-number.nodes.firsts.items w.if-begins.ensures c.loop-number.invariant.firsts
       ];
       children = elim c.if-begins-2.branch [
         | then-begins-2 w ↦ w.children-is ∙ ap (λ n. n + 1) c.loop-number.invariant.children ∙ children_more below number w.if-begins-2.ensures
