@@ -16,7 +16,7 @@ use std::hash::{Hash, Hasher};
 use std::marker::Model;
 
 /// How many items a set keeps without an allocation of its own.
-pub const INLINE_ITEMS: usize = 8;
+pub const INLINE_ITEMS: usize = 12;
 
 /// Whether each number is below the next, as they are in most files.
 fn is_rising(numbers: &[u32]) -> bool
