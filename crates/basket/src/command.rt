@@ -5,8 +5,8 @@ ghost use Rattle.basket.specs.Status.{plan_status_of};
 
 use crate::plan::{Ask, Miner, Plan};
 use basket_core::parse_minimum;
-use clap::error::ErrorKind;
 use clap::builder::ValueParser;
+use clap::error::ErrorKind;
 use clap::{Arg, ArgAction, ArgMatches, Command, Error};
 use std::alloc::{AllocError, Global};
 

@@ -1,0 +1,130 @@
+//! Words that make a plan, and words that make none.
+use super::*;
+
+const HELP_OF_SETS: &str = "\
+Writes each set of items that is in enough baskets, with the number of those baskets
+
+Usage: basket sets [OPTIONS] --min <M>
+
+Options:
+      --min <M>    The least count of a set to be listed: a number, as 20, or a share of all baskets, as 5% or 1/200
+      --miner <A>  How the sets are found; the report doesn't depend on it [default: apriori] [possible values: apriori]
+      --limit <L>  How many sets there may be, from 1 to 4294967295; it doesn't count for items [default: 4294967295]
+  -h, --help       Print help
+
+Standard input has one basket a line: the numbers of its items with blanks between.
+A line may begin with a weight, as `3x 1 2` for three baskets of the items 1 and 2.
+Standard output gets one line for each set: its items and, in parentheses, its count.
+Sets of one item come first, then those of two, and so on.
+
+Example:
+  printf '1 2\\n2 1 3\\n2\\n' | basket sets --min 2
+  1 (2)
+  2 (3)
+  1 2 (2)
+";
+
+#[test]
+fn bad_minimums(rt: HostRuntime) -> Result<(), Fail> {
+    let minimums = [
+        "0",
+        "3/2",
+        "101%",
+        "1/0",
+        "",
+        "1099511627776",
+        "1/4294967296",
+        "+1",
+        " 1",
+        "1.5",
+    ];
+    for minimum in minimums {
+        for ask in ["items", "sets"] {
+            let fault = refused(rt.alloc(), &[ask, "--min", minimum])?;
+            assert_eq!(rt;
+                usage_text(&fault),
+                "basket: bad value for --min\n",
+                "{ask} {minimum}"
+            );
+            assert_eq!(rt; plan_status(&fault), 2);
+        }
+    }
+    Ok(())
+}
+
+#[test]
+fn bad_words(rt: HostRuntime) -> Result<(), Fail> {
+    let cases: [(&[&str], &str); 9] = [
+        (&[], "Usage: basket <COMMAND>\n"),
+        (&["things"], "'things'"),
+        (&["items"], "--min <M>"),
+        (&["items", "--min"], "--min <M>"),
+        (&["items", "--min", "1", "more"], "'more'"),
+        (&["sets", "--min", "1", "--miner", "eclat"], "'eclat'"),
+        (&["sets", "--min", "1", "--limit", "0"], "'0'"),
+        (
+            &["sets", "--min", "1", "--limit", "4294967296"],
+            "'4294967296'",
+        ),
+        (&["sets", "--min", "1", "--limit", "x"], "'x'"),
+    ];
+    for (words, part) in cases {
+        let fault = refused(rt.alloc(), words)?;
+        assert!(rt; usage_text(&fault).contains(part), "no {part}");
+        assert_eq!(rt; plan_status(&fault), 2);
+    }
+    Ok(())
+}
+
+#[test]
+fn help(rt: HostRuntime) -> Result<(), Fail> {
+    let cases: [(&[&str], &str); 3] = [
+        (&["--help"], "Lists the items"),
+        (
+            &["items", "--help"],
+            "Usage: basket items [OPTIONS] --min <M>\n",
+        ),
+        (
+            &["items", "--help"],
+            "printf '1 2\\n2 3\\n2\\n' | basket items --min 2\n",
+        ),
+    ];
+    for (words, part) in cases {
+        let fault = refused(rt.alloc(), words)?;
+        assert!(rt; help_text(&fault).contains(part), "no {part}");
+        assert_eq!(rt; plan_status(&fault), 0);
+    }
+    Ok(())
+}
+
+#[test]
+fn help_of_sets(rt: HostRuntime) -> Result<(), Fail> {
+    let fault = refused(rt.alloc(), &["sets", "--help"])?;
+    assert_eq!(rt; help_text(&fault), HELP_OF_SETS);
+    assert_eq!(rt; plan_status(&fault), 0);
+    Ok(())
+}
+
+#[test]
+fn limits(rt: HostRuntime) -> Result<(), Fail> {
+    let cases = [
+        ("1", 1),
+        ("+5", 5),
+        ("0005", 5),
+        ("00000000004294967295", 4294967295),
+    ];
+    for (text, limit) in cases {
+        let plan = plan_of(rt.alloc(), &["sets", "--min", "2", "--limit", text])?;
+        assert_eq!(rt; plan.limit(), limit, "{text}");
+    }
+    Ok(())
+}
+
+#[test]
+fn plan_of_sets(rt: HostRuntime) -> Result<(), Fail> {
+    let plan = plan_of(rt.alloc(), &["sets", "--miner", "apriori", "--min", "5%"])?;
+    assert_eq!(rt; plan.ask(), Ask::Sets);
+    assert_eq!(rt; plan.miner(), Miner::Apriori);
+    assert_eq!(rt; plan.limit(), 4294967295);
+    Ok(())
+}
