@@ -9,13 +9,14 @@ Usage: basket sets [OPTIONS] --min <M>
 Options:
       --min <M>    The least count of a set to be listed: a number, as 20, or a share of all baskets, as 5% or 1/200
       --miner <A>  How the sets are found; the report doesn't depend on it [default: apriori] [possible values: apriori]
-      --limit <L>  How many sets there may be, from 1 to 4294967295; it doesn't count for items [default: 4294967295]
+      --limit <L>  How many sets there may be, from 1 to 4294967295; where there are more, none is written (`items` has no limit) [default: 4294967295]
   -h, --help       Print help
 
 Standard input has one basket a line: the numbers of its items with blanks between.
 A line may begin with a weight, as `3x 1 2` for three baskets of the items 1 and 2.
 Standard output gets one line for each set: its items and, in parentheses, its count.
-Sets of one item come first, then those of two, and so on.
+Sets of one item come first, then those of two, and so on, each size in the order of
+the items' numbers.
 
 Example:
   printf '1 2\\n2 1 3\\n2\\n' | basket sets --min 2
