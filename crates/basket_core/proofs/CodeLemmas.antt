@@ -14,7 +14,7 @@ use Rattle.basket_core.specs.Database.{MOST_WEIGHT}
 use Rattle.basket_core.specs.Frequent.{is_frequent, frequent_of, ListsFrequent}
 use Rattle.basket_core.specs.Itemset.{IsRising, has, contains, rising}
 use Rattle.basket_core.specs.Minimum.{meets}
-use Rattle.basket_core.specs.Support.{weight_at, support_of, total_of, items_of, all_items}
+use Rattle.basket_core.specs.Support.{weight_at, support_of, total_of, items_of}
 use Rattle.basket_core.proofs.FrequentLemmas.{IsSound, frequent_is_unique}
 use Rattle.basket_core.proofs.Members.{Member, Member-append, Member-map, Member-from_map, Member-filter, Member-from_filter}
 use Rattle.basket_core.proofs.RankLemmas.{Member-ranked, Member-into_ranked, rank_at, rank_from_is}

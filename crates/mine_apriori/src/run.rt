@@ -61,14 +61,7 @@ fn is_dense(leaves: &[u32], start: usize, end: usize) -> bool
 
 /// The same for a run with no gaps: the place of an item is as far behind the start as the item is
 /// greater than the first, so that no leaf has to be read.
-fn count_dense(
-    first: u32,
-    start: usize,
-    end: usize,
-    items: &[u32],
-    weight: u64,
-    counts: &mut [u64],
-)
+fn count_dense(first: u32, start: usize, end: usize, items: &[u32], weight: u64, counts: &mut [u64])
     requires within { end ≤ length counts.old }
     requires rising { IsRising items.now }
     requires fits { AllWithin (λ count. count + weight < 2 ^ 64) counts.old start end }

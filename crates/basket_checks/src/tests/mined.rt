@@ -44,7 +44,9 @@ fn mixed(alloc: Global, seed: u64) -> Result<Database, Fail> {
     for _ in 0..40 {
         let mut numbers = Vec::new(alloc);
         for _ in 0..10 {
-            state = state.wrapping_mul(6_364_136_223_846_793_005).wrapping_add(1);
+            state = state
+                .wrapping_mul(6_364_136_223_846_793_005)
+                .wrapping_add(1);
             // Small numbers come more often.
             let number = (state >> 60) & (state >> 40) & 15;
             numbers.push(number as u32)?;
@@ -109,7 +111,9 @@ fn limits(rt: HostRuntime) -> Result<(), Fail> {
     }
     for limit in [13, 14] {
         assert_eq!(rt;
-            mine(rt.alloc(), &database, &plan.with_limit(limit))?.sets().len(),
+            mine(rt.alloc(), &database, &plan.with_limit(limit))?
+                .sets()
+                .len(),
             13
         );
     }

@@ -1,4 +1,4 @@
-use Rattle.std.proofs.Common.{◌≡◌, ◌≢◌, ◌+◌, ◌-◌, ◌<◌, ◌≤◌, ◌^◌, ℕ, get_or, set, subst, sym, arith}
+use Rattle.std.proofs.Common.{◌+◌, ◌-◌, ◌<◌, get_or, subst, sym, arith}
 use Rattle.mine_apriori.specs.Run.{AddsWithin}
 use Rattle.mine_apriori.proofs.DenseLemmas.{counted, dense_fits, dense_adds, dense_skips}
 use Rattle.mine_apriori.proofs.run.count_dense.Goals as goal

@@ -1,5 +1,4 @@
 use Rattle.mine_apriori.specs.Run.{AddsWithin}
-use Rattle.mine_apriori.proofs.DenseLemmas.{counted}
 use Rattle.std.proofs.Common.{◌+◌, ◌-◌, take}
 use Rattle.basket_core.specs.Itemset.{has}
 use Rattle.mine_apriori.proofs.run.count_dense.Given as goal

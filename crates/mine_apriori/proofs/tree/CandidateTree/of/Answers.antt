@@ -13,13 +13,15 @@ invariant_of-result c =
       | in-Some w ↦ (let first : w.in-Some.set.now ≡ get_or sets 0 [] = w.in-Some.ensures.item.4 (omega arith) [] in let long = ap length first in w.last-is ∙ omega (arith, w.len.ensures))
       | in-None w ↦ (let none = nil_from_length sets (let past = w.in-None.ensures.item.3 in omega arith) in w.last-is ∙ sym (ap leaf_depth none))
     ] in
-    let all : c.loop-depth.depth ≡ leaf_depth sets = omega arith in
-    (record {
-      sized = c.requires.sized;
-      in_order = c.requires.in_order;
-      rising = c.in_ok-items_at.ensures.rising;
-      deep = c.loop-depth.invariant.count ∙ all;
-      each = c.loop-depth.invariant.each;
-      last = c.in_ok-items_at.ensures.items ∙ ap (λ n. map (λ (set : List ℕ). get_or set n 0) sets) last
-          ∙ leaf_items sets (suc (leaf_depth sets)) (are_full sets c.requires.sized) c.requires.in_order (leaf_depth sets) (omega arith);
-    }, c.in_ok-used_items.ensures)
+    let all : c.loop-depth.depth ≡ leaf_depth sets = omega arith in (
+      record {
+        sized = c.requires.sized;
+        in_order = c.requires.in_order;
+        rising = c.in_ok-items_at.ensures.rising;
+        deep = c.loop-depth.invariant.count ∙ all;
+        each = c.loop-depth.invariant.each;
+        last = c.in_ok-items_at.ensures.items ∙ ap (λ n. map (λ (set : List ℕ). get_or set n 0) sets) last
+            ∙ leaf_items sets (suc (leaf_depth sets)) (are_full sets c.requires.sized) c.requires.in_order (leaf_depth sets) (omega arith);
+      },
+      c.in_ok-used_items.ensures,
+    )
