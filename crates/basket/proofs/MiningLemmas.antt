@@ -1,26 +1,22 @@
 -- From the frequent sets of coded baskets to those of a database.
-use Rattle.std.proofs.Common.{◌≡◌, ◌+◌, ◌^◌, ◌<◌, ℕ, List, [], Result, Ok, Err, length, sym, ap, ◌∙◌, arith}
+use Rattle.std.proofs.Common.{◌≡◌, ◌+◌, ◌^◌, ◌<◌, ℕ, List, Result, Ok, Err, length, sym, ap, ◌∙◌, arith}
 use Rattle.basket_core.specs.declared.fault.MineFault.{MineFault}
 use Rattle.basket_core.specs.declared.fault.MineFault.TheVariants.{Memory, TooMany}
 use Rattle.basket_core.specs.declared.minimum.Minimum.{Minimum}
 use Rattle.basket_core.specs.declared.weighted.Weighted.{Weighted}
-use Rattle.basket_core.specs.Codes.{Coding, coding_of, baskets_of, frequent_of_coding, ranks_of}
-use Rattle.basket_core.specs.Database.{merged_of}
+use Rattle.basket_core.specs.Codes.{Coding, coding_of, merged_coding, baskets_of, frequent_of_coding, ranks_of}
 use Rattle.basket_core.specs.Depth.{HasSetOfSize}
 use Rattle.basket_core.specs.Frequent.{frequent_of}
 use Rattle.basket_core.specs.Support.{total_of}
-use Rattle.basket_core.proofs.CodeLemmas.{coding_keeps_frequent, coded_total}
+use Rattle.basket_core.proofs.CodeLemmas.{coding_keeps_frequent, coded_total, merging_keeps_coded}
 use Rattle.basket_core.proofs.DepthLemmas.{deep_sets_are_many}
-use Rattle.basket_core.proofs.ItemLemmas.{merging_keeps_frequent}
-use Rattle.basket_core.proofs.MergeLemmas.{merging_keeps_supports}
 
-module _ (database : List Weighted) (minimum : Minimum) (coding : Coding) (made : coding ≡ coding_of (merged_of database) minimum) where
+module _ (database : List Weighted) (minimum : Minimum) (coding : Coding) (made : coding ≡ merged_coding (coding_of database minimum)) where
   pub list_is : frequent_of_coding coding ≡ frequent_of database minimum
-  list_is = ap frequent_of_coding made ∙ coding_keeps_frequent (merged_of database) minimum ∙ merging_keeps_frequent database minimum
+  list_is = ap frequent_of_coding made ∙ (merging_keeps_coded (coding_of database minimum)).0 ∙ coding_keeps_frequent database minimum
 
   pub total_is : total_of coding.baskets ≡ total_of database
-  total_is =
-      ap (λ c. total_of c.baskets) made ∙ coded_total (ranks_of (merged_of database) minimum) (merged_of database) ∙ merging_keeps_supports database []
+  total_is = ap (λ c. total_of c.baskets) made ∙ (merging_keeps_coded (coding_of database minimum)).1 ∙ coded_total (ranks_of database minimum) database
 
   -- a frequent set of enough items settles that there are more sets than the limit
   pub settled : (size limit : ℕ) → limit + 1 < 2 ^ size → HasSetOfSize (frequent_of_coding coding) size → limit < length (frequent_of database minimum)

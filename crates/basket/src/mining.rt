@@ -1,15 +1,13 @@
 //! The frequent sets of a database.
 ghost use Rattle.std.specs.Prelude.{◌≡◌, ◌<◌, ◌≤◌, ◌+◌, ◌^◌, ℕ, Err, IfOk, length};
 ghost use Rattle.basket_core.specs.declared.fault.MineFault.TheVariants.{TooMany};
-ghost use Rattle.basket_core.specs.Codes.{coding_of};
-ghost use Rattle.basket_core.specs.Database.{merged_of};
 ghost use Rattle.basket_core.specs.Frequent.{frequent_of};
 ghost use Rattle.basket_core.specs.Support.{total_of};
 
 use crate::plan::{Miner, Plan};
-use basket_core::{Coded, Database, Frequent, MineFault, Minimum, deep};
+use basket_core::{Coded, Database, Frequent, MineFault, deep};
 use mine_apriori::apriori;
-use std::alloc::{AllocError, Global};
+use std::alloc::Global;
 
 /// The list of the frequent sets, where it is no longer than the plan's limit.
 pub fn mine(alloc: Global, database: &Database, plan: &Plan) -> Result<Frequent, MineFault>
@@ -20,24 +18,13 @@ pub fn mine(alloc: Global, database: &Database, plan: &Plan) -> Result<Frequent,
         → (most ≡ plan.now.question.limit) × (plan.now.question.limit < length (frequent_of database.now plan.now.question.minimum)) }
 {
     let limit = plan.limit();
-    let coded = merged_and_coded(alloc, database, plan.minimum())?;
+    let coded = Coded::of(alloc, database, plan.minimum())?.merged(alloc)?;
     if deep(alloc, &coded, settling_size(limit))? {
         return Err(MineFault::TooMany { limit });
     }
     match plan.miner() {
         Miner::Apriori => apriori(alloc, &coded, limit),
     }
-}
-
-/// The distinct baskets as ranks.
-fn merged_and_coded(
-    alloc: Global,
-    database: &Database,
-    minimum: Minimum,
-) -> Result<Coded, AllocError>
-    ensures { IfOk result (λ coded. coded ≡ coding_of (merged_of database.now) minimum) }
-{
-    Coded::of(alloc, &database.merged(alloc)?, minimum)
 }
 
 /// The least number of items of a set that has more nonempty subsets than the limit.

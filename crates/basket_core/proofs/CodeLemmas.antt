@@ -1,16 +1,16 @@
 -- Coding is a renaming: the supports of ranks are those of their items.
 use Rattle.std.proofs.Common.{◌≡◌, ℕ, ◌+◌, ◌<◌, ◌≤◌, Bool, true, false, List, [], ◌∷◌, ◌++◌, length, take, get_or, map, cond, ltb, Option, Some, None, refl, sym, ap, ◌∙◌, subst, inl, inr, arith, zero, suc, zero-add}
 use Rattle.std.specs.Prelude.{nat_eq}
-use Rattle.std.specs.List.{All, cons_option, IsDistinct, Contains, filter, filter_map, flat_map, list_all}
+use Rattle.std.specs.List.{All, cons_option, IsDistinct, Contains, filter, filter_map, flat_map, list_all, sum_by}
 use Rattle.std.proofs.lemmas.Bool.{and_parts, ltb-true}
 use Rattle.std.proofs.lemmas.List.{take_more, map_push}
-use Rattle.std.proofs.lemmas.List.Elements.{All-map, filter_map-append, All-weaker}
+use Rattle.std.proofs.lemmas.List.Elements.{All-map, filter_map-append, All-weaker, All-from_recursion, recursion_from_All}
 use Rattle.std.proofs.lemmas.List.Sums.{sum_by-cons}
 use Rattle.basket_core.specs.declared.weighted.Weighted.{Weighted}
 use Rattle.basket_core.specs.declared.minimum.Minimum.{Minimum}
-use Rattle.basket_core.specs.Codes.{MOST_RANKS, ranked, rank_of, ranks_from, coded, decoded, coded_place, decoded_place, ranks_of, coding_of, IsCoding, IsCodedPlace, baskets_of, CodingKeepsFrequent}
+use Rattle.basket_core.specs.Codes.{MOST_RANKS, ranked, rank_of, ranks_from, coded, decoded, coded_place, decoded_place, ranks_of, coding_of, IsCoding, IsCodedPlace, baskets_of, CodingKeepsFrequent, Coding, merged_coding, MergingKeepsCoded}
 use Rattle.basket_core.specs.Counts.{item_supports, AllBelow}
-use Rattle.basket_core.specs.Database.{MOST_WEIGHT}
+use Rattle.basket_core.specs.Database.{MOST_WEIGHT, HasWeight, merged_of}
 use Rattle.basket_core.specs.Frequent.{is_frequent, frequent_of, ListsFrequent}
 use Rattle.basket_core.specs.Itemset.{IsRising, has, contains, rising}
 use Rattle.basket_core.specs.Minimum.{meets}
@@ -20,6 +20,8 @@ use Rattle.basket_core.proofs.Members.{Member, Member-append, Member-map, Member
 use Rattle.basket_core.proofs.RankLemmas.{Member-ranked, Member-into_ranked, rank_at, rank_from_is}
 use Rattle.basket_core.proofs.Rising.{nil_rises, cons_rises, rising_is, rising-rises, Member-rising, Member-into_rising, Member-from_has, has-from_Member, has_each, contains_each}
 use Rattle.basket_core.proofs.SupportLemmas.{subsets_are_frequent, frequent_items, in_items, at_least_one}
+use Rattle.basket_core.proofs.MergeLemmas.{merged_baskets, merged_weights, merging_keeps_supports, merging_keeps_weights}
+use Rattle.basket_core.proofs.ItemLemmas.{same_supports}
 
 -- ---- a basket as ranks
 
@@ -137,12 +139,24 @@ coded_total items (place ∷ baskets) =
 
 -- what is made of codes and a database is a coding
 pub coding_is : (items : List ℕ) (minimum : Minimum) (database coded : List Weighted) → IsDistinct nat_eq items → length items < MOST_RANKS → total_of database ≤ MOST_WEIGHT
-    → coded ≡ map (coded_place items) database → IsCoding (record { items = items; minimum = minimum; baskets = coded })
-coding_is items minimum database coded apart few light same = record {
+    → All HasWeight database → coded ≡ map (coded_place items) database → IsCoding (record { items = items; minimum = minimum; baskets = coded })
+coding_is items minimum database coded apart few light heavy same = record {
   distinct = apart;
   few = few;
   places = subst (All (IsCodedPlace items)) (sym same) (All-map (IsCodedPlace items) (coded_place items) database (λ k d below. coded_place_is items (get_or database k d)));
+  weights = subst (All HasWeight) (sym same) (All-map HasWeight (coded_place items) database heavy);
   light = subst (λ n. n ≤ MOST_WEIGHT) (sym (ap total_of same ∙ coded_total items database)) light;
+}
+
+-- a coding with equal baskets of ranks merged is a coding
+pub merged_is_coding : (coding : Coding) → IsCoding coding → IsCoding (merged_coding coding)
+merged_is_coding coding is = record {
+  distinct = is.distinct;
+  few = is.few;
+  places = All-from_recursion (IsCodedPlace coding.items) (merged_of coding.baskets)
+      (merged_baskets (λ basket. IsRising basket × AllBelow (length coding.items) basket) [] coding.baskets (recursion_from_All (IsCodedPlace coding.items) coding.baskets is.places));
+  weights = All-from_recursion HasWeight (merged_of coding.baskets) (merged_weights [] coding.baskets (recursion_from_All HasWeight coding.baskets is.weights));
+  light = subst (λ n. n ≤ MOST_WEIGHT) (sym (merging_keeps_supports coding.baskets [])) is.light;
 }
 
 -- ---- ranks as items
@@ -267,3 +281,21 @@ coding_keeps_frequent baskets minimum =
           subst (Contains list) (λ i. record { set = set; count = (frequent_from_kept baskets minimum set k).1 i }) (lists.complete set n k);
     } in
     (frequent_is_unique baskets minimum list).0 all
+
+-- ---- merging equal baskets of ranks
+
+-- the support of a set over the baskets as items, told over the baskets of ranks
+decoded_support : (items : List ℕ) (baskets : List Weighted) (set : List ℕ)
+    → support_of (map (decoded_place items) baskets) set ≡ sum_by (λ place. cond (contains (decoded items place.basket) set) place.weight 0) baskets
+decoded_support items [] set = refl
+decoded_support items (place ∷ baskets) set =
+    sum_by-cons (weight_at set) (decoded_place items place) (map (decoded_place items) baskets)
+    ∙ ap (λ n. weight_at set (decoded_place items place) + n) (decoded_support items baskets set)
+    ∙ sym (sum_by-cons (λ other. cond (contains (decoded items other.basket) set) other.weight 0) place baskets)
+
+pub merging_keeps_coded : MergingKeepsCoded
+merging_keeps_coded coding =
+    let same : (set : List ℕ) → support_of (baskets_of (merged_coding coding)) set ≡ support_of (baskets_of coding) set = λ set.
+    decoded_support coding.items (merged_of coding.baskets) set ∙ merging_keeps_weights (λ basket. contains (decoded coding.items basket) set) coding.baskets
+    ∙ sym (decoded_support coding.items coding.baskets set) in
+    (same_supports (baskets_of (merged_coding coding)) (baskets_of coding) same coding.minimum, merging_keeps_supports coding.baskets [])

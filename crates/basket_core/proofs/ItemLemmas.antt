@@ -11,6 +11,8 @@ use Rattle.basket_core.specs.Support.{support_of, total_of, items_of}
 use Rattle.basket_core.specs.Frequent.{is_frequent, counted, frequent_of, item_counted, ListsFrequent, FrequentItemsAreCounted, MergingKeepsFrequent}
 use Rattle.basket_core.proofs.FrequentLemmas.{IsSound, frequent_is_unique}
 use Rattle.basket_core.proofs.MergeLemmas.{merging_keeps_supports}
+use Rattle.basket_core.specs.declared.weighted.Weighted.{Weighted}
+use Rattle.basket_core.specs.declared.minimum.Minimum.{Minimum}
 
 -- ---- filters
 
@@ -98,16 +100,19 @@ frequent_items_are_counted baskets minimum =
 
 -- ---- merging
 
-pub merging_keeps_frequent : MergingKeepsFrequent
-merging_keeps_frequent baskets minimum =
-    let merged = merged_of baskets in
-    let list = frequent_of merged minimum in
-    let lists = (frequent_is_unique merged minimum list).1 refl in
-    let same : (set : List ℕ) → is_frequent merged minimum set ≡ is_frequent baskets minimum set = λ set.
-    ap (λ s. meets minimum s (total_of merged)) (merging_keeps_supports baskets set) ∙ ap (meets minimum (support_of baskets set)) (merging_keeps_supports baskets []) in
-    let all : ListsFrequent baskets minimum list = record {
+-- baskets over which each set has the same support have the same frequent sets
+pub same_supports : (one other : List Weighted) → ((set : List ℕ) → support_of one set ≡ support_of other set) → (minimum : Minimum) → frequent_of one minimum ≡ frequent_of other minimum
+same_supports one other supports minimum =
+    let list = frequent_of one minimum in
+    let lists = (frequent_is_unique one minimum list).1 refl in
+    let same : (set : List ℕ) → is_frequent one minimum set ≡ is_frequent other minimum set = λ set.
+    ap (λ s. meets minimum s (total_of one)) (supports set) ∙ ap (meets minimum (support_of other set)) (supports []) in
+    let all : ListsFrequent other minimum list = record {
       in_order = lists.in_order;
-      sound = All-weaker (IsSound merged minimum) (IsSound baskets minimum) (λ c s. (s.0, sym (same c.set) ∙ s.1, s.2 ∙ merging_keeps_supports baskets c.set)) list lists.sound;
-      complete = λ set n h. subst (Contains list) (λ i. record { set = set; count = merging_keeps_supports baskets set i }) (lists.complete set n (same set ∙ h));
+      sound = All-weaker (IsSound one minimum) (IsSound other minimum) (λ c s. (s.0, sym (same c.set) ∙ s.1, s.2 ∙ supports c.set)) list lists.sound;
+      complete = λ set n h. subst (Contains list) (λ i. record { set = set; count = supports set i }) (lists.complete set n (same set ∙ h));
     } in
-    (frequent_is_unique baskets minimum list).0 all
+    (frequent_is_unique other minimum list).0 all
+
+pub merging_keeps_frequent : MergingKeepsFrequent
+merging_keeps_frequent baskets minimum = same_supports (merged_of baskets) baskets (merging_keeps_supports baskets) minimum

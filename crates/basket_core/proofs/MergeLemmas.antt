@@ -1,13 +1,13 @@
 -- Merging equal baskets changes no support.
-use Rattle.std.proofs.Common.{◌≡◌, ℕ, ◌+◌, Bool, true, false, ◌||◌, List, [], ◌∷◌, ◌++◌, cond, refl, sym, ap, ◌∙◌, arith, zero-add}
-use Rattle.std.specs.List.{sum_by, list_any}
+use Rattle.std.proofs.Common.{◌≡◌, ℕ, ◌+◌, Bool, true, false, ◌||◌, List, [], ◌∷◌, ◌++◌, cond, refl, sym, ap, ◌∙◌, arith, zero-add, ◌<◌, ◌≤◌, length, take, set, get_or, ltb, zero, suc}
+use Rattle.std.specs.List.{sum_by, list_any, AllByRecursion, filter}
 use Rattle.std.specs.Cmp.Lexicographic.{bytes_decides}
 use Rattle.std.proofs.lemmas.List.Sums.{sum_by-cons}
-use Rattle.std.proofs.lemmas.Bool.{false≢true}
+use Rattle.std.proofs.lemmas.Bool.{false≢true, lt-ltb}
 use Rattle.basket_core.specs.declared.weighted.Weighted.{Weighted}
 use Rattle.basket_core.specs.Itemset.{contains}
-use Rattle.basket_core.specs.Support.{weight_at, support_of}
-use Rattle.basket_core.specs.Database.{weighted, is_of, weight_of, merged_after, MergingKeepsSupports}
+use Rattle.basket_core.specs.Database.{weighted, is_of, weight_of, merged_after, MergingKeepsSupports, HasWeight, merged_of}
+use Rattle.basket_core.specs.Merge.{with_weights, first_weights_after}
 
 -- ---- sums
 
@@ -46,32 +46,36 @@ seen_push (first ∷ before) place other = at (is_of other.basket first) (seen_p
     at true e = refl
     at false e = e
 
-module _ (set : List ℕ) where
-  -- what a place adds to the support of the set, if no earlier place has its basket
+module _ (chosen : List ℕ → Bool) where
+  -- what a place weighs, if its basket is chosen
+  abbrev weight_if : Weighted → ℕ
+  weight_if place = cond (chosen place.basket) place.weight 0
+
+  -- what a place adds to the sum, if no earlier place has its basket
   abbrev added : List Weighted → Weighted → ℕ
-  added before place = cond (seen before place) 0 (weight_at set place)
+  added before place = cond (seen before place) 0 (weight_if place)
 
   -- what a place adds to it, if it has the basket
   abbrev added_of : List ℕ → Weighted → ℕ
-  added_of basket place = cond (is_of basket place) (weight_at set place) 0
+  added_of basket place = cond (is_of basket place) (weight_if place) 0
 
   -- one place for all that have the basket adds what they add
-  one_for_all : (basket : List ℕ) (places : List Weighted) → weight_at set (weighted basket (weight_of basket places)) ≡ sum_by (added_of basket) places
-  one_for_all basket [] = at (contains basket set)
+  one_for_all : (basket : List ℕ) (places : List Weighted) → weight_if (weighted basket (weight_of basket places)) ≡ sum_by (added_of basket) places
+  one_for_all basket [] = at (chosen basket)
     where
       at : (b : Bool) → ◌≡◌ {A = ℕ} (cond b 0 0) 0
       at true = refl
       at false = refl
   one_for_all basket (place ∷ places) =
-      ap (λ n. cond (contains basket set) n 0) (sum_by-cons (λ p. cond (is_of basket p) p.weight 0) place places)
-      ∙ at (is_of basket place) (contains basket set) refl refl
+      ap (λ n. cond (chosen basket) n 0) (sum_by-cons (λ p. cond (is_of basket p) p.weight 0) place places)
+      ∙ at (is_of basket place) (chosen basket) refl refl
       ∙ ap (λ n. added_of basket place + n) (one_for_all basket places)
       ∙ sym (sum_by-cons (added_of basket) place places)
     where
-      at : (b k : Bool) → is_of basket place ≡ b → contains basket set ≡ k
-          → cond k (cond b place.weight 0 + weight_of basket places) 0 ≡ cond b (weight_at set place) 0 + cond k (weight_of basket places) 0
-      at true true e f = ap (λ n. n + weight_of basket places) (sym (ap (λ c. cond c place.weight 0) (ap (λ l. contains l set) (same_basket basket place e) ∙ f)))
-      at true false e f = sym (ap (λ c. cond c place.weight 0 + 0) (ap (λ l. contains l set) (same_basket basket place e) ∙ f))
+      at : (b k : Bool) → is_of basket place ≡ b → chosen basket ≡ k
+          → cond k (cond b place.weight 0 + weight_of basket places) 0 ≡ cond b (weight_if place) 0 + cond k (weight_of basket places) 0
+      at true true e f = ap (λ n. n + weight_of basket places) (sym (ap (λ c. cond c place.weight 0) (ap chosen (same_basket basket place e) ∙ f)))
+      at true false e f = sym (ap (λ c. cond c place.weight 0 + 0) (ap chosen (same_basket basket place e) ∙ f))
       at false true e f = refl
       at false false e f = refl
 
@@ -79,11 +83,11 @@ module _ (set : List ℕ) where
   step : (before : List Weighted) (place : Weighted) → seen before place ≡ false → (other : Weighted)
       → added_of place.basket other + added (before ++ place ∷ []) other ≡ added before other
   step before place new other =
-      ap (λ b. added_of place.basket other + cond b 0 (weight_at set other)) (seen_push before place other)
+      ap (λ b. added_of place.basket other + cond b 0 (weight_if other)) (seen_push before place other)
       ∙ at (is_of place.basket other) (is_of other.basket place) (seen before other) refl refl refl
     where
       at : (a b s : Bool) → is_of place.basket other ≡ a → is_of other.basket place ≡ b → seen before other ≡ s
-          → cond a (weight_at set other) 0 + cond (s || b) 0 (weight_at set other) ≡ cond s 0 (weight_at set other)
+          → cond a (weight_if other) 0 + cond (s || b) 0 (weight_if other) ≡ cond s 0 (weight_if other)
       at true b true e f g = absurd (false≢true (sym new ∙ ap (λ l. list_any (is_of l) before) (sym (same_basket place.basket other e)) ∙ g))
       at true false false e f g = absurd (false≢true (sym f ∙ ap (λ l. is_of l place) (same_basket place.basket other e) ∙ of_itself place))
       at true true false e f g = omega arith
@@ -93,33 +97,107 @@ module _ (set : List ℕ) where
 
   -- a place whose basket was seen leaves what the later places add
   step_seen : (before : List Weighted) (place : Weighted) → seen before place ≡ true → (other : Weighted) → added (before ++ place ∷ []) other ≡ added before other
-  step_seen before place old other = ap (λ b. cond b 0 (weight_at set other)) (seen_push before place other) ∙ at (is_of other.basket place) (seen before other) refl refl
+  step_seen before place old other = ap (λ b. cond b 0 (weight_if other)) (seen_push before place other) ∙ at (is_of other.basket place) (seen before other) refl refl
     where
-      at : (b s : Bool) → is_of other.basket place ≡ b → seen before other ≡ s → cond (s || b) 0 (weight_at set other) ≡ cond s 0 (weight_at set other)
+      at : (b s : Bool) → is_of other.basket place ≡ b → seen before other ≡ s → cond (s || b) 0 (weight_if other) ≡ cond s 0 (weight_if other)
       at b true f g = refl
       at false false f g = refl
       at true false f g = absurd (false≢true (sym g ∙ ap (λ l. list_any (is_of l) before) (sym (same_basket other.basket place f)) ∙ old))
 
   kept_at : (before : List Weighted) (place : Weighted) (places : List Weighted) (b : Bool) → seen before place ≡ b
-      → support_of (merged_after (before ++ place ∷ []) places) set ≡ sum_by (added (before ++ place ∷ [])) places
-      → support_of (cond b (merged_after (before ++ place ∷ []) places)
-      (weighted place.basket (weight_of place.basket (place ∷ places)) ∷ merged_after (before ++ place ∷ []) places)) set
-      ≡ cond b 0 (weight_at set place) + sum_by (added before) places
+      → sum_by weight_if (merged_after (before ++ place ∷ []) places) ≡ sum_by (added (before ++ place ∷ [])) places
+      → sum_by weight_if (cond b (merged_after (before ++ place ∷ []) places)
+      (weighted place.basket (weight_of place.basket (place ∷ places)) ∷ merged_after (before ++ place ∷ []) places))
+      ≡ cond b 0 (weight_if place) + sum_by (added before) places
   kept_at before place places true old later =
       later ∙ sum_by-same (added (before ++ place ∷ [])) (added before) places (step_seen before place old) ∙ sym (zero-add (sum_by (added before) places))
   kept_at before place places false new later =
       let one = weighted place.basket (weight_of place.basket (place ∷ places)) in
       let rest = merged_after (before ++ place ∷ []) places in
-      let first = sum_by-cons (weight_at set) one rest in
+      let first = sum_by-cons (weight_if) one rest in
       let all = one_for_all place.basket (place ∷ places) ∙ sum_by-cons (added_of place.basket) place places in
-      let its_own = ap (λ c. cond c (weight_at set place) 0) (of_itself place) in
+      let its_own = ap (λ c. cond c (weight_if place) 0) (of_itself place) in
       let joined = sum_by-add (added_of place.basket) (added (before ++ place ∷ [])) places ∙ sum_by-same _ (added before) places (step before place new) in
       omega arith
 
-  kept_after : (before places : List Weighted) → support_of (merged_after before places) set ≡ sum_by (added before) places
+  kept_after : (before places : List Weighted) → sum_by weight_if (merged_after before places) ≡ sum_by (added before) places
   kept_after before [] = refl
   kept_after before (place ∷ places) =
       kept_at before place places (seen before place) refl (kept_after (before ++ place ∷ []) places) ∙ sym (sum_by-cons (added before) place places)
 
+-- merging keeps the weight of the places whose baskets are chosen
+pub merging_keeps_weights : (chosen : List ℕ → Bool) (baskets : List Weighted)
+    → sum_by (λ place. cond (chosen place.basket) place.weight 0) (merged_of baskets) ≡ sum_by (λ place. cond (chosen place.basket) place.weight 0) baskets
+merging_keeps_weights chosen baskets = kept_after chosen [] baskets ∙ sum_by-same (added chosen []) (weight_if chosen) baskets (λ place. refl)
+
 pub merging_keeps_supports : MergingKeepsSupports
-merging_keeps_supports baskets set = kept_after set [] baskets ∙ sum_by-same (added set []) (weight_at set) baskets (λ place. refl)
+merging_keeps_supports baskets set = merging_keeps_weights (λ basket. contains basket set) baskets
+
+-- what holds of each basket holds of each merged one
+pub merged_baskets : (P : List ℕ → Type 0) (before places : List Weighted) → AllByRecursion (λ place. P place.basket) places
+    → AllByRecursion (λ place. P place.basket) (merged_after before places)
+merged_baskets P before [] h = tt
+merged_baskets P before (place ∷ places) h = at (seen before place) (merged_baskets P (before ++ place ∷ []) places h.1)
+  where
+    at : (b : Bool) → AllByRecursion (λ other. P other.basket) (merged_after (before ++ place ∷ []) places)
+        → AllByRecursion (λ other. P other.basket)
+        (cond b (merged_after (before ++ place ∷ []) places) (weighted place.basket (weight_of place.basket (place ∷ places)) ∷ merged_after (before ++ place ∷ []) places))
+    at true later = later
+    at false later = (h.0, later)
+
+its_weight : (place : Weighted) (places : List Weighted) → HasWeight place → 1 ≤ weight_of place.basket (place ∷ places)
+its_weight place places h =
+    let its = sum_by-cons (λ p. cond (is_of place.basket p) p.weight 0) place places ∙ ap (λ b. cond b place.weight 0 + weight_of place.basket places) (of_itself place) in
+    omega (arith, its, h)
+
+pub merged_weights : (before places : List Weighted) → AllByRecursion HasWeight places → AllByRecursion HasWeight (merged_after before places)
+merged_weights before [] h = tt
+merged_weights before (place ∷ places) h = at (seen before place) (merged_weights (before ++ place ∷ []) places h.1)
+  where
+    at : (b : Bool) → AllByRecursion HasWeight (merged_after (before ++ place ∷ []) places)
+        → AllByRecursion HasWeight
+        (cond b (merged_after (before ++ place ∷ []) places) (weighted place.basket (weight_of place.basket (place ∷ places)) ∷ merged_after (before ++ place ∷ []) places))
+    at true later = later
+    at false later = (its_weight place places h.0, later)
+
+-- the first weights, where they are not 0, are those of the merged baskets
+pub merged_by_weights : (before places : List Weighted) → AllByRecursion HasWeight places
+    → filter (λ place. ltb 0 place.weight) (with_weights places (first_weights_after before places)) ≡ merged_after before places
+merged_by_weights before [] h = refl
+merged_by_weights before (place ∷ places) h = at (seen before place) (merged_by_weights (before ++ place ∷ []) places h.1)
+  where
+    rest : List Weighted
+    rest = with_weights places (first_weights_after (before ++ place ∷ []) places)
+
+    at : (b : Bool) → filter (λ other. ltb 0 other.weight) rest ≡ merged_after (before ++ place ∷ []) places
+        → filter (λ other. ltb 0 other.weight) (weighted place.basket (cond b 0 (weight_of place.basket (place ∷ places))) ∷ rest)
+        ≡ cond b (merged_after (before ++ place ∷ []) places) (weighted place.basket (weight_of place.basket (place ∷ places)) ∷ merged_after (before ++ place ∷ []) places)
+    at true same = same
+    at false same =
+        let n = weight_of place.basket (place ∷ places) in
+        ap (λ b. cond b (weighted place.basket n ∷ filter (λ other. ltb 0 other.weight) rest) (filter (λ other. ltb 0 other.weight) rest)) (lt-ltb 0 n (omega (arith, its_weight place places h.0)))
+        ∙ ap (λ l. weighted place.basket n ∷ l) same
+
+-- ---- other weights
+
+pub length-with_weights : (places : List Weighted) (weights : List ℕ) → length (with_weights places weights) ≡ length places
+length-with_weights [] weights = refl
+length-with_weights (place ∷ places) [] = refl
+length-with_weights (place ∷ places) (weight ∷ weights) = ap suc (length-with_weights places weights)
+
+pub with_no_weights : (places : List Weighted) → with_weights places [] ≡ places
+with_no_weights [] = refl
+with_no_weights (place ∷ places) = refl
+
+-- a place behind the weights is as it was, and its weight is the next
+pub with_weights_more : (places : List Weighted) (weights : List ℕ) (i : ℕ) (d : Weighted) → i < length weights → length weights ≡ length places
+    → set (with_weights places (take i weights)) i (weighted (get_or (with_weights places (take i weights)) i d).basket (get_or weights i 0)) ≡ with_weights places (take (i + 1) weights)
+with_weights_more places [] i d below long = absurd (omega arith)
+with_weights_more [] (weight ∷ weights) i d below long = absurd (omega arith)
+with_weights_more (place ∷ places) (weight ∷ weights) zero d below long = ap (λ l. weighted place.basket weight ∷ l) (sym (with_no_weights places))
+with_weights_more (place ∷ places) (weight ∷ weights) (suc i) d below long =
+    ap (λ l. weighted place.basket weight ∷ l) (with_weights_more places weights i d (omega arith) (omega (arith, long)))
+    ∙ ap (λ n. with_weights (place ∷ places) (take n (weight ∷ weights))) (one_more i)
+  where
+    one_more : (i : ℕ) → suc (i + 1) ≡ suc i + 1
+    one_more i = omega arith

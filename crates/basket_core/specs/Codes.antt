@@ -7,7 +7,7 @@ use Rattle.basket_core.specs.declared.weighted.Weighted.{Weighted}
 use Rattle.basket_core.specs.declared.counted.Counted.{Counted}
 use Rattle.basket_core.specs.declared.minimum.Minimum.{Minimum}
 use Rattle.basket_core.specs.Counts.{item_supports, AllBelow}
-use Rattle.basket_core.specs.Database.{weighted, MOST_WEIGHT}
+use Rattle.basket_core.specs.Database.{weighted, HasWeight, merged_of, MOST_WEIGHT}
 use Rattle.basket_core.specs.Frequent.{frequent_of, ListsOnce}
 use Rattle.basket_core.specs.Itemset.{IsRising, has, rising}
 use Rattle.basket_core.specs.Minimum.{meets}
@@ -91,6 +91,7 @@ pub record IsCoding (coding : Coding) : Type 0 where
   pub distinct : IsDistinct nat_eq coding.items
   pub few : length coding.items < MOST_RANKS
   pub places : All (IsCodedPlace coding.items) coding.baskets
+  pub weights : All HasWeight coding.baskets
   pub light : total_of coding.baskets ≤ MOST_WEIGHT
 
 -- the baskets of a coding as items, kept to the items that have ranks
@@ -100,6 +101,10 @@ decoded_place items place = weighted (decoded items place.basket) place.weight
 abbrev pub baskets_of : Coding → List Weighted
 baskets_of coding = map (decoded_place coding.items) coding.baskets
 
+-- the same with each distinct basket of ranks once
+abbrev pub merged_coding : Coding → Coding
+merged_coding coding = record { items = coding.items; minimum = coding.minimum; baskets = merged_of coding.baskets }
+
 -- the frequent sets of the baskets of a coding
 abbrev pub frequent_of_coding : Coding → List Counted
 frequent_of_coding coding = frequent_of (baskets_of coding) coding.minimum
@@ -107,6 +112,11 @@ frequent_of_coding coding = frequent_of (baskets_of coding) coding.minimum
 -- coding keeps the frequent sets
 abbrev pub CodingKeepsFrequent : Type 0
 CodingKeepsFrequent = (baskets : List Weighted) (minimum : Minimum) → frequent_of_coding (coding_of baskets minimum) ≡ frequent_of baskets minimum
+
+-- merging equal baskets of ranks keeps the frequent sets and the weight of all baskets together
+abbrev pub MergingKeepsCoded : Type 0
+MergingKeepsCoded = (coding : Coding)
+    → (frequent_of_coding (merged_coding coding) ≡ frequent_of_coding coding) × (total_of (merged_of coding.baskets) ≡ total_of coding.baskets)
 
 -- a set of ranks with its count, as a set of items
 abbrev pub decoded_set : List ℕ → Counted → Counted

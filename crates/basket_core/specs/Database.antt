@@ -9,6 +9,10 @@ use Rattle.basket_core.specs.Support.{support_of, total_of}
 abbrev pub weighted : List ℕ → ℕ → Weighted
 weighted basket weight = record { basket = basket; weight = weight }
 
+-- a place whose weight is at least 1
+abbrev pub HasWeight : Weighted → Type 0
+HasWeight place = 1 ≤ place.weight
+
 -- a place of a database: its basket is a nonempty set, and its weight is at least 1
 abbrev pub IsPlace : Weighted → Type 0
 IsPlace place = IsRising place.basket × (place.basket ≢ []) × (1 ≤ place.weight)

@@ -8,7 +8,7 @@ use Rattle.std.specs.Ordering.{nat_cmp, ordering_then}
 use Rattle.basket_core.specs.declared.merge.Place.{Place}
 use Rattle.basket_core.specs.declared.merge.TheConstants.{MULTIPLIER}
 use Rattle.basket_core.specs.declared.weighted.Weighted.{Weighted}
-use Rattle.basket_core.specs.Database.{is_of, weight_of}
+use Rattle.basket_core.specs.Database.{is_of, weight_of, weighted}
 use Rattle.basket_core.specs.Order.{report_order}
 
 -- a number that depends on the items alone
@@ -69,3 +69,9 @@ first_weights_after before (place ∷ places) =
 
 abbrev pub first_weights : List Weighted → List ℕ
 first_weights baskets = first_weights_after [] baskets
+
+-- the baskets with other weights
+abbrev pub with_weights : List Weighted → List ℕ → List Weighted
+with_weights [] weights = []
+with_weights (place ∷ places) [] = place ∷ places
+with_weights (place ∷ places) (weight ∷ weights) = weighted place.basket weight ∷ with_weights places weights

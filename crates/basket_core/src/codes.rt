@@ -1,7 +1,7 @@
 //! The frequent items by rank, and baskets as lists of ranks.
 ghost use Rattle.std.specs.Prelude.{◌≡◌, List, ℕ, IfOk, length, map, slice_index_or};
 ghost use Rattle.basket_core.specs.Counts.{AllBelow};
-ghost use Rattle.basket_core.specs.Codes.{IsCoding, coded_place, coding_of, decoded, ranking_of, ranks_of_counts};
+ghost use Rattle.basket_core.specs.Codes.{IsCoding, coded_place, coding_of, decoded, merged_coding, ranking_of, ranks_of_counts};
 ghost use Rattle.basket_core.specs.Itemset.{IsRising};
 ghost use Rattle.basket_core.specs.Ranks.{IsRankTable};
 ghost use Rattle.basket_core.specs.Support.{total_of};
@@ -9,6 +9,7 @@ ghost use Rattle.basket_core.specs.Support.{total_of};
 use crate::counts::count_items;
 use crate::database::Database;
 use crate::itemset::Itemset;
+use crate::merge::merge;
 use crate::minimum::Minimum;
 use crate::ranks::{RankTable, ranked_items};
 use crate::weighted::Weighted;
@@ -103,6 +104,26 @@ impl Coded {
     {
         let counts = count_items(alloc, database.baskets())?;
         Codes::of(alloc, &counts, database.total(), minimum)?.code(alloc, database)
+    }
+
+    /// The same with each distinct basket of ranks once, at its first place, with the sum of its
+    /// weights. Baskets that differ only in items that are not frequent become one.
+    pub fn merged(self, alloc: Global) -> Result<Self, AllocError>
+        ensures { IfOk result (λ coded. coded ≡ merged_coding self) }
+    {
+        let Coded {
+            items,
+            minimum,
+            mut baskets,
+            total,
+        } = self;
+        merge(alloc, &mut baskets)?;
+        Ok(Coded {
+            items,
+            minimum,
+            baskets,
+            total,
+        })
     }
 
     /// The baskets as ranks, in the order of the database.

@@ -1,6 +1,6 @@
 //! Laws on the definitions, for whoever proves a miner. Each is a function that does nothing: its
 //! contract is the law.
-ghost use Rattle.basket_core.specs.Codes.{CodingKeepsFrequent, DecodingKeepsFrequent};
+ghost use Rattle.basket_core.specs.Codes.{CodingKeepsFrequent, DecodingKeepsFrequent, MergingKeepsCoded};
 ghost use Rattle.basket_core.specs.Database.{MergingKeepsSupports};
 ghost use Rattle.basket_core.specs.Depth.{DeepSetsAreMany};
 ghost use Rattle.basket_core.specs.Frequent.{SubsetsAreFrequent, FrequentSetsHaveItems, FrequentIsUnique, FrequentItemsAreCounted, MergingKeepsFrequent};
@@ -67,6 +67,11 @@ pub fn merging_keeps_frequent()
 /// Coding the baskets keeps the frequent sets.
 pub fn coding_keeps_frequent()
     ensures { CodingKeepsFrequent }
+{}
+
+/// Merging equal baskets of ranks keeps the frequent sets and the weight of all baskets together.
+pub fn merging_keeps_coded()
+    ensures { MergingKeepsCoded }
 {}
 
 /// A list that has each frequent set of ranks once has, with the ranks decoded, each frequent set

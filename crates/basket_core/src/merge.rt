@@ -1,8 +1,8 @@
 //! Equal baskets of a list, found by a sort.
-ghost use Rattle.std.specs.Prelude.{◌≡◌, ◌<◌, ◌≤◌, ◌-◌, List, IfOk, length};
+ghost use Rattle.std.specs.Prelude.{◌≡◌, ◌<◌, ◌≤◌, ◌-◌, List, All, IfOk, OnOk, length};
 ghost use Rattle.basket_core.specs.declared.weighted.Weighted.{Weighted as Basket};
-ghost use Rattle.basket_core.specs.Database.{MOST_WEIGHT};
-ghost use Rattle.basket_core.specs.Merge.{digest_of, seen, seen_places, ArePlaces, LeadsAt, has_same_basket, first_weights};
+ghost use Rattle.basket_core.specs.Database.{MOST_WEIGHT, HasWeight, merged_of};
+ghost use Rattle.basket_core.specs.Merge.{digest_of, seen, seen_places, ArePlaces, LeadsAt, has_same_basket, first_weights, with_weights};
 ghost use Rattle.basket_core.specs.Support.{total_of};
 
 use crate::itemset::Itemset;
@@ -98,4 +98,25 @@ pub fn weights_at_firsts(
         weights[first] += place.weight;
     }
     Ok(weights)
+}
+
+/// Leaves each distinct basket once, at its first place, with the sum of its weights.
+pub fn merge(alloc: Global, baskets: &mut Vec<Weighted>) -> Result<(), AllocError>
+    requires light { total_of baskets.old.items ≤ MOST_WEIGHT }
+    requires weights { All HasWeight baskets.old.items }
+    ensures { OnOk result (baskets.new.items ≡ merged_of baskets.old.items) }
+{
+    let weights = weights_at_firsts(alloc, baskets, &sorted_places(alloc, baskets)?)?;
+    set_weights(baskets, &weights);
+    baskets.retain(|place| place.weight > 0);
+    Ok(())
+}
+
+fn set_weights(baskets: &mut [Weighted], weights: &[u64])
+    requires { length weights.now ≡ length baskets.old }
+    ensures { baskets.new ≡ with_weights baskets.old weights.now }
+{
+    for (place, weight) in weights.iter().enumerate() {
+        baskets[place].weight = *weight;
+    }
 }

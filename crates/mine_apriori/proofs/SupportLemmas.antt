@@ -1,5 +1,5 @@
 -- Counts that are the supports of sets in the baskets so far.
-use Rattle.std.proofs.Common.{◌≡◌, ℕ, ◌+◌, ◌<◌, ◌≤◌, ◌^◌, List, [], ◌++◌, length, take, drop, map, get_or, cond, refl, sym, ap, ◌∙◌, arith}
+use Rattle.std.proofs.Common.{◌≡◌, ℕ, ◌+◌, ◌<◌, ◌≤◌, ◌^◌, List, [], ◌++◌, length, take, drop, map, get_or, cond, refl, sym, subst, ap, ◌∙◌, arith}
 use Rattle.std.specs.List.{AllWithin}
 use Rattle.std.proofs.lemmas.List.{get_or-map, length-map, same_lists, get_or_default, take_all, take_at}
 use Rattle.std.proofs.lemmas.List.Sums.{sum_by_more, sum_by_more_le}
@@ -11,6 +11,7 @@ use Rattle.basket_core.proofs.SupportLemmas.{support_falls}
 use Rattle.mine_apriori.specs.Nodes.{starts_of, first_leaf}
 use Rattle.mine_apriori.specs.Run.{AddsWithin}
 use Rattle.mine_apriori.proofs.NodeLemmas.{first_leaf_zero, first_leaf_end}
+use Rattle.mine_apriori.proofs.RunLemmas.{adds_agree}
 use Rattle.mine_apriori.proofs.TreeLemmas.{rest_in}
 
 -- the counts of the sets are their supports
@@ -38,18 +39,26 @@ supports_fit sets baskets i place counts seen low high below is light all long s
 pub lent_back : {X : Type 0} (count : ℕ) (old new : List X) → length new ≡ count → take count (new ++ drop (length new) old) ≡ new
 lent_back count old new e = take_at new (drop (length new) old) count e
 
--- one basket more
-pub supports_more : (sets : List (List ℕ)) (baskets : List Weighted) (i : ℕ) (place : Weighted) (items : List ℕ) (roots : ℕ) (counts seen new : List ℕ) → i < length baskets → place ≡ get_or baskets i place
-    → items ≡ place.basket → roots ≡ length (starts_of sets 0) → seen ≡ counts
-    → AddsWithin (rest_in sets 0 items) place.weight (first_leaf sets 0 0) (first_leaf sets 0 roots) seen new
-    → AreSupports sets (take i baskets) counts → AreSupports sets (take (i + 1) baskets) new
-supports_more sets baskets i place items roots counts seen new below is basket all same adds supports leaf inside =
-    let low = first_leaf_zero sets 0 in
+-- a walk from the roots counts the basket whose items, as far as the sets go, are walked
+pub walked_from_roots : (sets : List (List ℕ)) (items basket : List ℕ) (roots weight : ℕ) (old new : List ℕ) → roots ≡ length (starts_of sets 0)
+    → ((k : ℕ) → k < length sets → contains items (get_or sets k []) ≡ contains basket (get_or sets k []))
+    → AddsWithin (rest_in sets 0 items) weight (first_leaf sets 0 0) (first_leaf sets 0 roots) old new
+    → AddsWithin (λ leaf. contains basket (get_or sets leaf [])) weight 0 (length sets) old new
+walked_from_roots sets items basket roots weight old new all same adds =
     let high = ap (first_leaf sets 0) all ∙ first_leaf_end sets 0 in
-    adds.within leaf (omega arith) (omega arith)
-    ∙ ap (λ l. get_or l leaf 0 + cond (rest_in sets 0 items leaf) place.weight 0) same
-    ∙ ap (λ n. n + cond (rest_in sets 0 items leaf) place.weight 0) (supports leaf inside)
-    ∙ ap (λ b. support_of (take i baskets) (get_or sets leaf []) + cond (contains b (get_or sets leaf [])) place.weight 0) basket
+    adds_agree (λ k from to. same k to)
+    (subst (λ low. AddsWithin (rest_in sets 0 items) weight low (length sets) old new) (first_leaf_zero sets 0)
+    (subst (λ n. AddsWithin (rest_in sets 0 items) weight (first_leaf sets 0 0) n old new) high adds))
+
+-- one basket more
+pub supports_more : (sets : List (List ℕ)) (baskets : List Weighted) (i : ℕ) (place : Weighted) (counts seen new : List ℕ) → i < length baskets → place ≡ get_or baskets i place
+    → seen ≡ counts → AddsWithin (λ leaf. contains place.basket (get_or sets leaf [])) place.weight 0 (length sets) seen new
+    → AreSupports sets (take i baskets) counts → AreSupports sets (take (i + 1) baskets) new
+supports_more sets baskets i place counts seen new below is same adds supports leaf inside =
+    let has_set = contains place.basket (get_or sets leaf []) in
+    adds.within leaf (omega arith) inside
+    ∙ ap (λ l. get_or l leaf 0 + cond has_set place.weight 0) same
+    ∙ ap (λ n. n + cond has_set place.weight 0) (supports leaf inside)
     ∙ sym (sum_by_more (weight_at (get_or sets leaf [])) baskets i place below ∙ ap (λ p. support_of (take i baskets) (get_or sets leaf []) + weight_at (get_or sets leaf []) p) (sym is))
 
 -- when all baskets have been counted

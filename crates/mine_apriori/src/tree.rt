@@ -1,5 +1,5 @@
 //! The candidates of one size as a prefix tree, which baskets walk.
-ghost use Rattle.std.specs.Prelude.{◌≡◌, ◌<◌, ◌≤◌, ◌+◌, ◌^◌, [], IfOk, map, length, drop, slice_index_or};
+ghost use Rattle.std.specs.Prelude.{◌≡◌, ◌<◌, ◌≤◌, ◌+◌, ◌^◌, [], IfOk, OnOk, map, length, drop, slice_index_or};
 ghost use Rattle.std.specs.List.{AllWithin};
 ghost use Rattle.basket_core.specs.Database.{MOST_WEIGHT};
 ghost use Rattle.basket_core.specs.Itemset.{IsRising, contains};
@@ -70,14 +70,34 @@ impl<'a> CandidateTree<'a> {
         ensures { IfOk result (λ counts. counts.items ≡ map (support_of baskets.now) self.now) }
     {
         let mut counts = vec![in alloc; 0; self.sets.len()]?;
-        let roots = self.roots();
-        let mut items = Vec::new(alloc);
+        let mut kept = Vec::new(alloc);
         for place in baskets {
-            // Most baskets are left with few items where the candidates are large.
-            keep_used(&self.used, place.basket.items(), &mut items)?;
-            self.walk(0, 0, roots, &items, place.weight, &mut counts);
+            self.count_basket(place, &mut kept, &mut counts)?;
         }
         Ok(counts)
+    }
+
+    /// Adds the weight of a place at each set that its basket has. The list is for its use.
+    fn count_basket(
+        &self,
+        place: &Weighted,
+        kept: &mut Vec<u32>,
+        counts: &mut [u64],
+    ) -> Result<(), AllocError>
+        requires long { length counts.old ≡ length self.now }
+        requires fits { AllWithin (λ count. count + place.now.weight < 2 ^ 64) counts.old 0 (length self.now) }
+        ensures { OnOk result (AddsWithin (λ leaf. contains place.now.basket (slice_index_or self.now leaf [])) place.now.weight
+            0 (length self.now) counts.old counts.new) }
+    {
+        let roots = self.roots();
+        if self.inner.len() > 1 {
+            // Most baskets are left with few items where the candidates are large.
+            keep_used(&self.used, place.basket.items(), kept)?;
+            self.walk(0, 0, roots, kept, place.weight, counts);
+        } else {
+            self.walk(0, 0, roots, place.basket.items(), place.weight, counts);
+        }
+        Ok(())
     }
 
     /// How many nodes the first depth has.

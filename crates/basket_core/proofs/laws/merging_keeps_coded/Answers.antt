@@ -1,0 +1,5 @@
+use Rattle.basket_core.proofs.CodeLemmas as lemmas
+use Rattle.basket_core.proofs.laws.merging_keeps_coded.Goals as goal
+
+pub returns : goal.returns
+returns c = lemmas.merging_keeps_coded
