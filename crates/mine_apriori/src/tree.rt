@@ -1,5 +1,5 @@
 //! The candidates of one size as a prefix tree, which baskets walk.
-ghost use Rattle.std.specs.Prelude.{◌≡◌, ◌<◌, ◌≤◌, ◌+◌, ◌^◌, [], IfOk, OnOk, map, length, drop, slice_index_or};
+ghost use Rattle.std.specs.Prelude.{◌≡◌, ◌<◌, ◌≤◌, ◌+◌, ◌^◌, [], IfOk, map, length, drop, slice_index_or};
 ghost use Rattle.std.specs.List.{AllWithin};
 ghost use Rattle.basket_core.specs.Database.{MOST_WEIGHT};
 ghost use Rattle.basket_core.specs.Itemset.{IsRising, contains};
@@ -12,7 +12,7 @@ ghost use Rattle.mine_apriori.specs.Sizes.{AreOfOneSize};
 
 use crate::nodes::{Nodes, items_at, nodes_at};
 use crate::run::{count_leaves, find};
-use crate::used::{keep_used, used_items};
+use crate::used::{keep_used, longest, used_items};
 use basket_core::{Itemset, Weighted};
 use std::alloc::{AllocError, Global};
 use std::marker::Model;
@@ -70,34 +70,30 @@ impl<'a> CandidateTree<'a> {
         ensures { IfOk result (λ counts. counts.items ≡ map (support_of baskets.now) self.now) }
     {
         let mut counts = vec![in alloc; 0; self.sets.len()]?;
-        let mut kept = Vec::new(alloc);
+        let mut kept = vec![in alloc; 0; longest(baskets)]?;
         for place in baskets {
-            self.count_basket(place, &mut kept, &mut counts)?;
+            self.count_basket(place, &mut kept, &mut counts);
         }
         Ok(counts)
     }
 
     /// Adds the weight of a place at each set that its basket has. The list is for its use.
-    fn count_basket(
-        &self,
-        place: &Weighted,
-        kept: &mut Vec<u32>,
-        counts: &mut [u64],
-    ) -> Result<(), AllocError>
+    fn count_basket(&self, place: &Weighted, kept: &mut [u32], counts: &mut [u64])
+        requires room { length place.now.basket ≤ length kept.old }
         requires long { length counts.old ≡ length self.now }
         requires fits { AllWithin (λ count. count + place.now.weight < 2 ^ 64) counts.old 0 (length self.now) }
-        ensures { OnOk result (AddsWithin (λ leaf. contains place.now.basket (slice_index_or self.now leaf [])) place.now.weight
-            0 (length self.now) counts.old counts.new) }
+        ensures { AddsWithin (λ leaf. contains place.now.basket (slice_index_or self.now leaf [])) place.now.weight
+            0 (length self.now) counts.old counts.new }
     {
+        let items = place.basket.items();
         let roots = self.roots();
         if self.inner.len() > 1 {
             // Most baskets are left with few items where the candidates are large.
-            keep_used(&self.used, place.basket.items(), kept)?;
-            self.walk(0, 0, roots, kept, place.weight, counts);
+            let len = keep_used(&self.used, items, kept);
+            self.walk(0, 0, roots, &kept[..len], place.weight, counts);
         } else {
-            self.walk(0, 0, roots, place.basket.items(), place.weight, counts);
+            self.walk(0, 0, roots, items, place.weight, counts);
         }
-        Ok(())
     }
 
     /// How many nodes the first depth has.

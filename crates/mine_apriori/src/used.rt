@@ -1,9 +1,9 @@
 //! Which items the candidates have.
-ghost use Rattle.std.specs.Prelude.{◌≡◌, ◌||◌, ℕ, IfOk, OnOk, filter};
+ghost use Rattle.std.specs.Prelude.{◌≡◌, ◌≤◌, ◌||◌, ℕ, All, IfOk, filter, length, take};
 ghost use Rattle.basket_core.specs.Itemset.{has};
 ghost use Rattle.mine_apriori.specs.Used.{AreMarked, may_be_used};
 
-use basket_core::Itemset;
+use basket_core::{Itemset, Weighted};
 use std::alloc::{AllocError, Global};
 
 /// How many items a table knows. Greater items count as used.
@@ -31,15 +31,37 @@ fn mark(table: &mut [bool], items: &[u32])
     }
 }
 
-/// Puts those of the items that may be in a set in the place of what the list had.
-pub fn keep_used(table: &[bool], items: &[u32], kept: &mut Vec<u32>) -> Result<(), AllocError>
-    ensures { OnOk result (kept.new.items ≡ filter (may_be_used table.now) items.now) }
+/// Whether an item may be in a set.
+#[inline]
+fn may_be_used(table: &[bool], item: u32) -> bool
+    ensures { result ≡ may_be_used table.now item }
 {
-    kept.clear();
+    item as usize >= table.len() || table[item as usize]
+}
+
+/// Puts those of the items that may be in a set at the front of a list, and answers how many they
+/// are. Each item is written, and the next one over it if it is not kept: no processor foretells
+/// which are, so a branch would cost more.
+pub fn keep_used(table: &[bool], items: &[u32], kept: &mut [u32]) -> usize
+    requires room { length items.now ≤ length kept.old }
+    ensures kept { take result kept.new ≡ filter (may_be_used table.now) items.now }
+    ensures within { result ≤ length kept.new }
+{
+    let mut len = 0;
     for item in items {
-        if *item as usize >= table.len() || table[*item as usize] {
-            kept.push(*item)?;
-        }
+        kept[len] = *item;
+        len += usize::from(may_be_used(table, *item));
     }
-    Ok(())
+    len
+}
+
+/// How many items the longest basket has, or 0.
+pub fn longest(baskets: &[Weighted]) -> usize
+    ensures { All (λ place. length place.basket ≤ result) baskets.now }
+{
+    let mut longest = 0usize;
+    for place in baskets {
+        longest = longest.max(place.basket.len());
+    }
+    longest
 }

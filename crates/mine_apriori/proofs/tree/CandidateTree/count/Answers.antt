@@ -1,23 +1,27 @@
-use Rattle.std.proofs.Common.{◌≡◌, ◌+◌, length, take, refl, subst, sym, ap, ◌∙◌}
+use Rattle.std.proofs.Common.{◌≡◌, ◌≤◌, All, ◌+◌, length, take, refl, subst, sym, ap, ◌∙◌}
 use Rattle.mine_apriori.proofs.SupportLemmas.{AreSupports, supports_fit, supports_more, lent_back, all_supports}
 use Rattle.mine_apriori.proofs.tree.CandidateTree.count.Goals as goal
 
 pub count_basket-requires-clause-fits : goal.count_basket-requires-clause-fits
 count_basket-requires-clause-fits c =
-    supports_fit c.args.self.now c.args.baskets.now c.loop-place.place-index c.place-item.result c.loop-place.counts.items c.deref_mut.result.now
-    0 (length c.args.self.now) c.loop-place-test.true c.place-item.is c.requires.light refl c.loop-place.invariant.long c.deref_mut.ensures.value c.loop-place.invariant.supports
+    supports_fit c.args.self.now c.args.baskets.now c.loop-place.place-index c.place-item.result c.loop-place.counts.items c.deref_mut-in-loop-place.result.now
+    0 (length c.args.self.now) c.loop-place-test.true c.place-item.is c.requires.light refl c.loop-place.invariant.long c.deref_mut-in-loop-place.ensures.value c.loop-place.invariant.supports
 
 pub loop-place-preserved : goal.loop-place-preserved
 loop-place-preserved c =
     let sets = c.args.self.now in
     let new = c.count_basket.new.counts in
-    let same : length new ≡ c.loop-place.counts.len = c.count_basket.auto.counts ∙ c.deref_mut.ensures.len in
+    let same : length new ≡ c.loop-place.counts.len = c.count_basket.auto.counts ∙ c.deref_mut-in-loop-place.ensures.len in
     let back = lent_back c.loop-place.counts.len c.loop-place.counts.items new same in
+    let lent = c.count_basket.new.kept in
+    let still : length lent ≡ c.loop-place.kept.len = c.count_basket.auto.kept ∙ c.deref_mut.ensures.len in
+    let room = ap length (lent_back c.loop-place.kept.len c.loop-place.kept.items lent still) ∙ c.count_basket.auto.kept ∙ ap length c.deref_mut.ensures.value in
     record {
-      long = ap length back ∙ c.count_basket.auto.counts ∙ ap length c.deref_mut.ensures.value ∙ c.loop-place.invariant.long;
+      room = subst (λ n. All (λ place. length place.basket ≤ n) c.args.baskets.now) (sym room) c.loop-place.invariant.room;
+      long = ap length back ∙ c.count_basket.auto.counts ∙ ap length c.deref_mut-in-loop-place.ensures.value ∙ c.loop-place.invariant.long;
       supports = subst (AreSupports sets (take (c.loop-place.place-index + 1) c.args.baskets.now)) (sym back)
-          (supports_more sets c.args.baskets.now c.loop-place.place-index c.place-item.result c.loop-place.counts.items c.deref_mut.result.now new
-          c.loop-place-test.true c.place-item.is c.deref_mut.ensures.value c.in_ok-count_basket.ensures c.loop-place.invariant.supports);
+          (supports_more sets c.args.baskets.now c.loop-place.place-index c.place-item.result c.loop-place.counts.items c.deref_mut-in-loop-place.result.now new
+          c.loop-place-test.true c.place-item.is c.deref_mut-in-loop-place.ensures.value c.count_basket.ensures c.loop-place.invariant.supports);
     }
 
 pub returns : goal.returns
