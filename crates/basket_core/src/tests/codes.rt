@@ -134,3 +134,28 @@ fn no_frequent_item(rt: HostRuntime) -> Result<(), Fail> {
     assert_eq!(rt; coded.total(), 9);
     Ok(())
 }
+
+/// Items 6, 7 and 8 have no rank.
+#[test]
+fn merged_baskets(rt: HostRuntime) -> Result<(), Fail> {
+    let database = database_of(
+        rt.alloc(),
+        &[
+            (&[1, 2], 2),
+            (&[3, 6], 1),
+            (&[1, 2, 6], 1),
+            (&[7], 1),
+            (&[3], 3),
+            (&[8], 1),
+        ],
+    )?;
+    let coded = Coded::of(rt.alloc(), &database, Minimum::Count(3))?;
+    assert_ranks(&rt, rt.alloc(), &coded, &[3, 1, 2])?;
+    let merged = coded.merged(rt.alloc())?;
+    assert_ranks(&rt, rt.alloc(), &merged, &[3, 1, 2])?;
+    let want: [(&[u32], u64); 3] = [(&[1, 2], 3), (&[0], 4), (&[], 2)];
+    assert_baskets(&rt, &merged, &want);
+    assert_eq!(rt; merged.total(), 9);
+    assert_eq!(rt; merged.minimum(), Minimum::Count(3));
+    Ok(())
+}

@@ -1,16 +1,34 @@
-use crate::{Itemset, report_order};
+use crate::{INLINE_ITEMS, Itemset, report_order};
 use std::cmp::Ordering;
 use std::test::Fail;
 
 #[test]
 fn sets(rt: HostRuntime) -> Result<(), Fail> {
-    let numbers = [7, 7, 3, 4_294_967_295, 0, 9, 3, 10, 2, 11, 12, 13];
+    let numbers = [
+        7,
+        7,
+        3,
+        4_294_967_295,
+        0,
+        9,
+        3,
+        10,
+        2,
+        11,
+        12,
+        13,
+        17,
+        16,
+        15,
+        14,
+    ];
     let set = Itemset::from_items(rt.alloc(), &numbers)?;
-    let rising = [0, 2, 3, 7, 9, 10, 11, 12, 13, 4_294_967_295];
+    let rising = [0, 2, 3, 7, 9, 10, 11, 12, 13, 14, 15, 16, 17, 4_294_967_295];
+    assert!(rt; set.len() > INLINE_ITEMS);
     assert_eq!(rt; set.items(), rising.as_slice());
     assert_eq!(rt;
         set.to_string(rt.alloc())?.as_str(),
-        "0 2 3 7 9 10 11 12 13 4294967295"
+        "0 2 3 7 9 10 11 12 13 14 15 16 17 4294967295"
     );
     assert!(rt; set.contains(4_294_967_295) && !set.contains(1));
     let part = Itemset::from_items(rt.alloc(), &[13, 0])?;

@@ -79,7 +79,7 @@ fn small_sets(rt: HostRuntime) -> Result<(), Fail> {
 
 #[test]
 fn sets_beyond_the_inline_items(rt: HostRuntime) -> Result<(), Fail> {
-    for (size, last) in [(7, 8), (8, 9), (9, 10), (10, 11)] {
+    for (size, last) in [(10, 11), (11, 12), (12, 13), (13, 14)] {
         let mut sets = all_but_one(rt.alloc(), last)?;
         let found = candidates_from(rt.alloc(), &sets, size)?;
         assert_eq!(rt; found.len(), 1, "of size {size}");
