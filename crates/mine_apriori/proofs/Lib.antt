@@ -4,6 +4,7 @@ pub mod PruneLemmas
 pub mod CandidateLemmas
 pub mod LawLemmas
 pub mod LookUpLemmas
+pub mod SearchLemmas
 pub mod PassingLemmas
 pub mod RunLemmas
 pub mod DenseLemmas

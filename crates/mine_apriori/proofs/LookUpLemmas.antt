@@ -43,7 +43,7 @@ index_rises a b set Less less e = let below = ap ordering_index (nat_list_cmp_to
 index_rises a b set Equal less e = let below = ap ordering_index (ap (slice_cmp nat_cmp a) (sym (equal_sets b set e)) ∙ less) in omega arith
 index_rises a b set Greater less e = at_most_greater (slice_cmp nat_cmp a set)
 
-answers_rise : (sets : List (List ℕ)) (set : List ℕ) → IsStrictlySortedBy (slice_cmp nat_cmp) sets → IsNonDecreasingBy (λ y. ordering_index (slice_cmp nat_cmp y set)) sets
+pub answers_rise : (sets : List (List ℕ)) (set : List ℕ) → IsStrictlySortedBy (slice_cmp nat_cmp) sets → IsNonDecreasingBy (λ y. ordering_index (slice_cmp nat_cmp y set)) sets
 answers_rise sets set up i j d le below = elim (cases_lt i j) [
   | inl less ↦ index_rises (get_or sets i d) (get_or sets j d) set _ (Less-from_sorted (slice_cmp nat_cmp) sets i j d up less below) refl
   | inr more ↦ (let e : i ≡ j = omega arith in let same = ap (λ k. ordering_index (slice_cmp nat_cmp (get_or sets k d) set)) e in omega arith)

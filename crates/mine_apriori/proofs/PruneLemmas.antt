@@ -1,9 +1,10 @@
 -- The subsets of a set with one item less are the set without one of its places.
-use Rattle.std.proofs.Common.{◌≡◌, ℕ, ◌<◌, ◌≤◌, Bool, true, false, ◌||◌, List, [], ◌∷◌, ◌++◌, length, take, drop, map, refl, sym, ap, ◌∙◌, subst, inl, inr, arith, zero, suc}
+use Rattle.std.proofs.Common.{◌≡◌, ℕ, ◌<◌, ◌≤◌, Bool, true, false, ◌||◌, List, [], ◌∷◌, ◌++◌, length, take, drop, map, refl, sym, ap, ◌∙◌, subst, inl, inr, arith, zero, suc, ◌+◌, ◌-◌, add-one}
 use Rattle.std.specs.Cmp.Lexicographic.{pointwise, bytes_decides}
 use Rattle.std.specs.Prelude.{nat_eq}
 use Rattle.std.specs.List.{list_all}
 use Rattle.std.proofs.lemmas.Bool.{and_parts, and_from, or_cases, cases_Bool, cases_lt, true≢false}
+use Rattle.std.proofs.lemmas.List.{take_rest}
 use Rattle.basket_core.specs.Subsets.{subsets_of_size}
 use Rattle.basket_core.proofs.Members.{Member, Member-append, Member-append_left, Member-append_right, Member-map, Member-from_map}
 use Rattle.mine_apriori.specs.Candidates.{is_one_of, has_subsets}
@@ -117,3 +118,7 @@ without_is zero [] = refl
 without_is (suc place) [] = refl
 without_is zero (x ∷ items) = refl
 without_is (suc place) (x ∷ items) = ap (λ l. x ∷ l) (without_is place items)
+
+-- the same of slices
+pub around_is : (place : ℕ) (items : List ℕ) → take place items ++ take (length items - (place + 1)) (drop (place + 1) items) ≡ without place items
+around_is place items = ap (λ l. take place items ++ l) (take_rest items (place + 1) ∙ ap (λ n. drop n items) (add-one place)) ∙ sym (without_is place items)

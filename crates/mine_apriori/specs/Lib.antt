@@ -1,6 +1,7 @@
 pub mod Sizes
 pub mod Candidates
 pub mod Join
+pub mod Search
 pub mod Nodes
 pub mod Run
 pub mod Used

@@ -1,16 +1,14 @@
 //! Apriori's candidates, made by join and prune.
-ghost use Rattle.std.specs.Prelude.{◌≡◌, ◌<◌, ◌+◌, ◌-◌, ◌++◌, ◌∷◌, [], IfOk, OnOk, drop, length, slice_index_or};
-ghost use Rattle.std.specs.Cmp.Lexicographic.{slice_cmp};
-ghost use Rattle.std.specs.Ordering.{nat_cmp};
+ghost use Rattle.std.specs.Prelude.{◌≡◌, ◌<◌, ◌≤◌, ◌+◌, ◌-◌, ◌++◌, ◌∷◌, [], IfOk, OnOk, drop, length, slice_index_or};
 ghost use Rattle.basket_core.specs.Itemset.{IsRising};
 ghost use Rattle.basket_core.specs.Order.{IsInReportOrder};
 ghost use Rattle.mine_apriori.specs.Candidates.{is_one_of, has_subsets, candidates_of};
 ghost use Rattle.mine_apriori.specs.Join.{AreJoinable, IsJoin, without, joined_with};
 ghost use Rattle.mine_apriori.specs.Sizes.{AreOfOneSize};
 
+use crate::search::find_near;
 use basket_core::Itemset;
 use std::alloc::{AllocError, Global};
-use std::cmp::Ordering;
 
 /// The sets of one more item all of whose subsets of the sets' size are in the list, in report
 /// order (Agrawal and Srikant 1994).
@@ -21,22 +19,27 @@ pub fn candidates(alloc: Global, sets: &[Itemset]) -> Result<Vec<Itemset>, Alloc
 {
     let mut found = Vec::new(alloc);
     let mut joined = Vec::new(alloc);
+    let size = sets.first().map_or(0, |set| set.len());
+    let mut hints = vec![in alloc; 0; size]?;
     for place in 0..sets.len() {
-        join_later(alloc, sets, place, &mut joined, &mut found)?;
+        join_later(alloc, sets, place, &mut joined, &mut hints, &mut found)?;
     }
     Ok(found)
 }
 
 /// Adds the candidates that are joins of the set at the place with a later one. The sets that it
-/// can be joined to have the same items before the last, so they stand right behind it.
+/// can be joined to have the same items before the last, so they stand right behind it. The hints
+/// are for `has_all_subsets`, and stay from set to set.
 fn join_later(
     alloc: Global,
     sets: &[Itemset],
     place: usize,
     joined: &mut Vec<u32>,
+    hints: &mut [usize],
     found: &mut Vec<Itemset>,
 ) -> Result<(), AllocError>
     requires within { place < length sets.now }
+    requires hinted { length (slice_index_or sets.now place []) ≤ length hints.old }
     requires joinable { AreJoinable (length (slice_index_or sets.now place []) - 1) sets.now }
     ensures joins { let set = slice_index_or sets.now place [] in
         OnOk result (found.new.items ≡ found.old.items ++ joined_with (length set - 1) sets.now set (drop (place + 1) sets.now)) }
@@ -51,7 +54,7 @@ fn join_later(
             return Ok(());
         }
         fill(joined, set, other[last])?;
-        if has_all_subsets(sets, joined) {
+        if has_all_subsets(sets, joined, hints) {
             found.push(Itemset::from_items(alloc, joined)?)?;
         }
     }
@@ -69,36 +72,35 @@ fn fill(joined: &mut Vec<u32>, set: &[u32], item: u32) -> Result<(), AllocError>
 }
 
 /// Whether all subsets of a joined set that lack one item are in the list. Those that lack one of
-/// the last two items are the sets that were joined.
-fn has_all_subsets(sets: &[Itemset], joined: &[u32]) -> bool
+/// the last two items are the sets that were joined. The subset without one item is mostly found
+/// close behind the last one that lacked an item at that place, of which its hint tells.
+fn has_all_subsets(sets: &[Itemset], joined: &[u32], hints: &mut [usize]) -> bool
+    requires hinted { length joined.now ≤ length hints.old + 2 }
     requires joinable { AreJoinable (length joined.now - 2) sets.now }
     requires is_join { IsJoin (length joined.now - 2) sets.now joined.now }
     ensures { result ≡ has_subsets (length joined.now - 1) sets.now joined.now }
 {
     for place in 0..joined.len() - 2 {
-        if !has_without(sets, joined, place) {
+        if !has_without(sets, joined, place, &mut hints[place]) {
             return false;
         }
     }
     true
 }
 
-/// Whether the items without the one at the place are a set of the list.
-fn has_without(sets: &[Itemset], items: &[u32], place: usize) -> bool
+/// Whether the items without the one at the place are a set of the list. The search begins at the
+/// hint, which then becomes the place where the next greater set may be.
+fn has_without(sets: &[Itemset], items: &[u32], place: usize, hint: &mut usize) -> bool
     requires within { place < length items.now }
     requires joinable { AreJoinable (length items.now - 2) sets.now }
     ensures { result ≡ is_one_of sets.now (without place items.now) }
 {
     let front = &items[..place];
     let rest = &items[place + 1..];
-    sets.binary_search_by(|set| compare(set, front, rest))
-        .is_ok()
-}
-
-/// Compares a set with the one that has the items of `front` and then those of `rest`.
-fn compare(set: &Itemset, front: &[u32], rest: &[u32]) -> Ordering
-    ensures { result ≡ slice_cmp nat_cmp set.now (front.now ++ rest.now) }
-{
-    let (start, end) = set.items().split_at(front.len().min(set.len()));
-    start.cmp(&front).then_with(|| end.cmp(&rest))
+    let found = find_near(sets, front, rest, *hint);
+    *hint = match found {
+        Ok(at) => at + 1,
+        Err(at) => at,
+    };
+    found.is_ok()
 }

@@ -10,6 +10,7 @@ pub mod laws;
 mod levels;
 mod nodes;
 mod run;
+mod search;
 mod shard;
 mod tree;
 mod used;

@@ -3,7 +3,7 @@ use Rattle.std.specs.Cmp.Lexicographic.{slice_cmp}
 use Rattle.std.specs.Ordering.{nat_cmp, ordering_then}
 use Rattle.std.proofs.lemmas.List.{take_min, drop_min}
 use Rattle.mine_apriori.proofs.LookUpLemmas.{by_parts}
-use Rattle.mine_apriori.proofs.join.compare.Goals as goal
+use Rattle.mine_apriori.proofs.search.compare.Goals as goal
 
 pub returns : goal.returns
 returns c =

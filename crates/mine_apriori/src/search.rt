@@ -1,0 +1,74 @@
+//! A search for a set in a sorted list, quick where it stands close behind a given place: an
+//! exponential search (Bentley and Yao 1976).
+//!
+//! The set comes in two parts, the items of `front` and then those of `rest`, so that a set without
+//! one of its items need not be copied.
+ghost use Rattle.std.specs.Prelude.{◌≡◌, ◌≤◌, ◌++◌, is_ok, length};
+ghost use Rattle.std.specs.Cmp.Lexicographic.{slice_cmp};
+ghost use Rattle.std.specs.List.Sorted.{IsSearchInRange, IsStrictlySortedBy};
+ghost use Rattle.std.specs.Ordering.{nat_cmp};
+ghost use Rattle.mine_apriori.specs.Candidates.{is_one_of};
+ghost use Rattle.mine_apriori.specs.Search.{IsBetween};
+
+use basket_core::Itemset;
+use std::cmp::Ordering;
+
+/// Where the set stands, or else a place to begin the search for a greater one. From the place
+/// `near` on the steps double while they meet smaller sets; whatever `near` is, the set is found.
+pub fn find_near(sets: &[Itemset], front: &[u32], rest: &[u32], near: usize) -> Result<usize, usize>
+    requires sorted { IsStrictlySortedBy (slice_cmp nat_cmp) sets.now }
+    ensures bound { IsSearchInRange result (length sets.now) }
+    ensures found { is_ok result ≡ is_one_of sets.now (front.now ++ rest.now) }
+{
+    let mut start = 0;
+    let mut next = near;
+    while next < sets.len() {
+        match compare(&sets[next], front, rest) {
+            Ordering::Less => {
+                start = next + 1;
+                next += start - near;
+            }
+            Ordering::Equal => return Ok(next),
+            Ordering::Greater => return find_between(sets, front, rest, start, next),
+        }
+    }
+    find_between(sets, front, rest, start, sets.len())
+}
+
+/// Searches the sets from `start` up to `end`, where those before are smaller and those behind
+/// greater. The last is tried first: a set that is missing often belongs behind it.
+fn find_between(
+    sets: &[Itemset],
+    front: &[u32],
+    rest: &[u32],
+    start: usize,
+    end: usize,
+) -> Result<usize, usize>
+    requires sorted { IsStrictlySortedBy (slice_cmp nat_cmp) sets.now }
+    requires between { IsBetween start end sets.now (front.now ++ rest.now) }
+    ensures bound { IsSearchInRange result (length sets.now) }
+    ensures found { is_ok result ≡ is_one_of sets.now (front.now ++ rest.now) }
+{
+    if start == end {
+        return Err(end);
+    }
+    let last = end - 1;
+    match compare(&sets[last], front, rest) {
+        Ordering::Less => Err(end),
+        Ordering::Equal => Ok(last),
+        Ordering::Greater => {
+            match sets[start..last].binary_search_by(|set| compare(set, front, rest)) {
+                Ok(place) => Ok(start + place),
+                Err(place) => Err(start + place),
+            }
+        }
+    }
+}
+
+/// Compares a set with the one that has the items of `front` and then those of `rest`.
+fn compare(set: &Itemset, front: &[u32], rest: &[u32]) -> Ordering
+    ensures { result ≡ slice_cmp nat_cmp set.now (front.now ++ rest.now) }
+{
+    let (start, end) = set.items().split_at(front.len().min(set.len()));
+    start.cmp(&front).then_with(|| end.cmp(&rest))
+}
