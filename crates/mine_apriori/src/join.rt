@@ -29,7 +29,7 @@ pub fn candidates(alloc: Global, sets: &[Itemset]) -> Result<Vec<Itemset>, Alloc
 
 /// Adds the candidates that are joins of the set at the place with a later one. The sets that it
 /// can be joined to have the same items before the last, so they stand right behind it. The hints
-/// are for `has_all_subsets`, and stay from set to set.
+/// for `has_all_subsets` stay from set to set, since the sets that are looked up mostly rise.
 fn join_later(
     alloc: Global,
     sets: &[Itemset],
@@ -72,8 +72,8 @@ fn fill(joined: &mut Vec<u32>, set: &[u32], item: u32) -> Result<(), AllocError>
 }
 
 /// Whether all subsets of a joined set that lack one item are in the list. Those that lack one of
-/// the last two items are the sets that were joined. The subset without one item is mostly found
-/// close behind the last one that lacked an item at that place, of which its hint tells.
+/// the last two items are the sets that were joined. From one joined set to the next the subset
+/// without the item at a place mostly moves on a little, so each place has a hint of its own.
 fn has_all_subsets(sets: &[Itemset], joined: &[u32], hints: &mut [usize]) -> bool
     requires hinted { length joined.now ≤ length hints.old + 2 }
     requires joinable { AreJoinable (length joined.now - 2) sets.now }

@@ -1,8 +1,9 @@
 //! The miner Apriori (Agrawal and Srikant 1994): from the frequent sets of one size it makes the
 //! candidates of the next, counts them, and keeps those that are frequent.
 //!
-//! `levels` goes from size to size, `join` makes candidates, and `shard` counts sets, by a prefix
-//! tree where it can: `tree`, whose inner nodes are in `nodes`. `run` looks items up in the tree.
+//! `levels` goes from size to size, `join` makes candidates, whose subsets `search` looks up, and
+//! `shard` counts sets, by a prefix tree where it can: `tree`, whose inner nodes are in `nodes`.
+//! `run` looks items up in the tree.
 #![tactic(auto)]
 
 mod join;
