@@ -40,8 +40,8 @@ fn may_be_used(table: &[bool], item: u32) -> bool
 }
 
 /// Puts those of the items that may be in a set at the front of a list, and answers how many they
-/// are. Each item is written, and the next one over it if it is not kept: no processor foretells
-/// which are, so a branch would cost more.
+/// are. Each item is written, and the next one over it where it is not kept: which are kept can't
+/// be predicted, so a branch would cost more.
 pub fn keep_used(table: &[bool], items: &[u32], kept: &mut [u32]) -> usize
     requires room { length items.now ≤ length kept.old }
     ensures kept { take result kept.new ≡ filter (may_be_used table.now) items.now }
