@@ -4,7 +4,7 @@ use Rattle.std.proofs.lemmas.Bool.{ne_eqb}
 use Rattle.std.proofs.lemmas.List.{take_rest, length-take, length-drop}
 use Rattle.std.proofs.KnownBytes.{Appends-trans}
 use Rattle.std.specs.Io.KnownBytes.{Appends}
-use Rattle.basket_core.specs.Stream.{write_fails}
+use Rattle.basket_stream.specs.Stream.{write_fails}
 
 -- the front of what is left goes on where the front before it ends
 front_more : {X : Type 0} → (bytes : List X) (k n : ℕ) → take k bytes ++ take n (drop k bytes) ≡ take (k + n) bytes

@@ -2,14 +2,14 @@
 use Rattle.std.proofs.Common.{◌≡◌, ◌+◌, ◌^◌, ◌<◌, ℕ, List, Result, Ok, Err, length, sym, ap, ◌∙◌, arith}
 use Rattle.basket_core.specs.declared.fault.MineFault.{MineFault}
 use Rattle.basket_core.specs.declared.fault.MineFault.TheVariants.{Memory, TooMany}
-use Rattle.basket_core.specs.declared.minimum.Minimum.{Minimum}
-use Rattle.basket_core.specs.declared.weighted.Weighted.{Weighted}
+use Rattle.basket_sets.specs.declared.minimum.Minimum.{Minimum}
+use Rattle.basket_sets.specs.declared.weighted.Weighted.{Weighted}
 use Rattle.basket_core.specs.Codes.{Coding, coding_of, merged_coding, baskets_of, frequent_of_coding, ranks_of}
 use Rattle.basket_core.specs.Depth.{HasSetOfSize}
-use Rattle.basket_core.specs.Frequent.{frequent_of}
-use Rattle.basket_core.specs.Support.{total_of}
-use Rattle.basket_core.proofs.CodeLemmas.{coding_keeps_frequent, coded_total, merging_keeps_coded}
-use Rattle.basket_core.proofs.DepthLemmas.{deep_sets_are_many}
+use Rattle.basket_sets.specs.Frequent.{frequent_of}
+use Rattle.basket_sets.specs.Support.{total_of}
+use Rattle.basket_core.proofs.theory.Coding.{coding_keeps_frequent, coded_total, merging_keeps_coded}
+use Rattle.basket_core.proofs.theory.Depth.{deep_sets_are_many}
 
 module _ (database : List Weighted) (minimum : Minimum) (coding : Coding) (made : coding ≡ merged_coding (coding_of database minimum)) where
   pub list_is : frequent_of_coding coding ≡ frequent_of database minimum
@@ -24,16 +24,3 @@ module _ (database : List Weighted) (minimum : Minimum) (coding : Coding) (made 
       let many = deep_sets_are_many (baskets_of coding) coding.minimum size h in
       let same = ap length list_is in
       omega (arith, many, same, enough)
-
--- ---- the limit of a refusal
-
-abbrev pub refused : {X : Type 0} → ℕ → Result X MineFault
-refused limit = Err (TooMany limit)
-
-abbrev limit_in : {X : Type 0} → Result X MineFault → ℕ
-limit_in (Ok x) = 0
-limit_in (Err Memory) = 0
-limit_in (Err (TooMany limit)) = limit
-
-pub same_limit : {X : Type 0} (a b : ℕ) → refused {X = X} a ≡ refused b → b ≡ a
-same_limit a b e = sym (ap limit_in e)

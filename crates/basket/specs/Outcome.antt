@@ -1,11 +1,11 @@
 -- What a run over an input is to write, or why it writes nothing.
 use Rattle.std.specs.Prelude.{ℕ, Bool, false, List, Result, Ok, Err, length, nat_lt, if◌then◌else◌}
-use Rattle.basket_core.specs.declared.counted.Counted.{Counted}
+use Rattle.basket_sets.specs.declared.counted.Counted.{Counted}
 use Rattle.basket_core.specs.declared.fault.MineFault.{MineFault}
 use Rattle.basket_core.specs.declared.fault.MineFault.TheVariants.{TooMany}
-use Rattle.basket_core.specs.declared.minimum.Minimum.{Minimum}
-use Rattle.basket_core.specs.declared.weighted.Weighted.{Weighted}
-use Rattle.basket_core.specs.Frequent.{frequent_items_of, frequent_of}
+use Rattle.basket_sets.specs.declared.minimum.Minimum.{Minimum}
+use Rattle.basket_sets.specs.declared.weighted.Weighted.{Weighted}
+use Rattle.basket_sets.specs.Frequent.{frequent_items_of, frequent_of}
 use Rattle.basket_read.specs.declared.fault.ReadFault.{ReadFault}
 use Rattle.basket_read.specs.Fimi.{fimi_of}
 use Rattle.basket.specs.declared.fault.RunFault.{RunFault}

@@ -1,7 +1,7 @@
 use Rattle.std.specs.Prelude.{ℕ}
 use Rattle.basket.specs.declared.plan.Ask.{Ask}
 use Rattle.basket.specs.declared.plan.Miner.{Miner}
-use Rattle.basket_core.specs.declared.minimum.Minimum.{Minimum}
+use Rattle.basket_sets.specs.declared.minimum.Minimum.{Minimum}
 
 -- what a plan asks of the baskets of an input
 pub record Question : Type 0 where

@@ -1,7 +1,7 @@
 -- The text of a report.
 use Rattle.std.specs.Prelude.{ℕ, List, [], ◌∷◌, ◌++◌, codes, decimal}
 use Rattle.std.specs.List.{flat_map}
-use Rattle.basket_core.specs.declared.counted.Counted.{Counted}
+use Rattle.basket_sets.specs.declared.counted.Counted.{Counted}
 
 -- a set with its count
 abbrev pub set_of : List ℕ → ℕ → Counted

@@ -1,6 +1,6 @@
 //! The report of the frequent items.
 ghost use Rattle.std.specs.Prelude.{◌≡◌, IfOk};
-ghost use Rattle.basket_core.specs.Frequent.{frequent_items_of};
+ghost use Rattle.basket_sets.specs.Frequent.{frequent_items_of};
 ghost use Rattle.basket.specs.Report.{report_of};
 
 use crate::report::put_set;

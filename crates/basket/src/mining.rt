@@ -1,8 +1,8 @@
 //! The frequent sets of a database.
 ghost use Rattle.std.specs.Prelude.{◌≡◌, ◌<◌, ◌≤◌, ◌+◌, ◌^◌, ℕ, Err, IfOk, length};
 ghost use Rattle.basket_core.specs.declared.fault.MineFault.TheVariants.{TooMany};
-ghost use Rattle.basket_core.specs.Frequent.{frequent_of};
-ghost use Rattle.basket_core.specs.Support.{total_of};
+ghost use Rattle.basket_sets.specs.Frequent.{frequent_of};
+ghost use Rattle.basket_sets.specs.Support.{total_of};
 
 use crate::plan::{Miner, Plan};
 use basket_core::{Coded, Database, Frequent, MineFault, deep};

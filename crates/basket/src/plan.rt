@@ -1,6 +1,6 @@
 ghost use Rattle.std.specs.Prelude.{◌≡◌, ◌≤◌};
 ghost use Rattle.basket.specs.Plan.{GREATEST_LIMIT};
-ghost use Rattle.basket_core.specs.Minimum.{IsMinimum};
+ghost use Rattle.basket_sets.specs.Minimum.{IsMinimum};
 
 use basket_core::Minimum;
 use std::marker::Model;
@@ -33,7 +33,7 @@ pub struct Plan {
 impl Model for Plan {
     ghost use Rattle.std.specs.Prelude.{◌≤◌};
     ghost use Rattle.basket.specs.Plan.{Planned};
-    ghost use Rattle.basket_core.specs.Minimum.{IsMinimum};
+    ghost use Rattle.basket_sets.specs.Minimum.{IsMinimum};
 
     ghost Value = { Planned };
 

@@ -1,8 +1,8 @@
 -- The items of a database, as they are counted.
 use Rattle.std.proofs.Common.{◌≡◌, ℕ, List, [], ◌∷◌, map, refl, ap}
-use Rattle.basket_core.specs.declared.weighted.Weighted.{Weighted}
-use Rattle.basket_core.specs.Counts.{item_supports}
-use Rattle.basket_core.specs.Support.{items_of, support_of}
+use Rattle.basket_sets.specs.declared.weighted.Weighted.{Weighted}
+use Rattle.basket_sets.specs.Counts.{item_supports}
+use Rattle.basket_sets.specs.Support.{items_of, support_of}
 
 map-pairs : (f : ℕ → ℕ) (items : List ℕ) → map (λ (entry : ℕ × ℕ). entry.0) (map (λ item. (item, f item)) items) ≡ items
 map-pairs f [] = refl

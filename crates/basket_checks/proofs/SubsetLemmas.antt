@@ -2,11 +2,11 @@
 use Rattle.std.proofs.Common.{◌≡◌, ◌<◌, ◌-◌, ℕ, List, ◌∷◌, ◌++◌, map, ap, ◌∙◌, arith, zero, suc, subst, sym}
 use Rattle.std.specs.List.{All}
 use Rattle.std.proofs.lemmas.List.Elements.{All-from_recursion}
-use Rattle.basket_core.specs.Itemset.{IsRising}
-use Rattle.basket_core.specs.Subsets.{subsets_of_size}
-use Rattle.basket_core.proofs.Members.{All-from_Member}
-use Rattle.basket_core.proofs.Rising.{cons_rises, first_below, rest_rises}
-use Rattle.basket_core.proofs.SubsetLemmas.{IsSubset-from_Member}
+use Rattle.basket_sets.specs.Itemset.{IsRising}
+use Rattle.basket_sets.specs.Subsets.{subsets_of_size}
+use Rattle.basket_sets.proofs.theory.Members.{All-from_Member}
+use Rattle.basket_sets.proofs.theory.Rising.{cons_rises, first_below, rest_rises}
+use Rattle.basket_sets.proofs.theory.Subsets.{IsSubset-from_Member}
 
 -- the first item can stand before each subset of the others
 pub firsts_rise : (size first : ℕ) (items others : List ℕ) (sets : List (List ℕ)) → IsRising items → items ≡ first ∷ others → sets ≡ subsets_of_size size others

@@ -1,7 +1,7 @@
 //! The frequent sets by their definition.
 ghost use Rattle.std.specs.Prelude.{◌≡◌, IfOk, map};
-ghost use Rattle.basket_core.specs.Frequent.{frequent_of};
-ghost use Rattle.basket_core.specs.Support.{items_of};
+ghost use Rattle.basket_sets.specs.Frequent.{frequent_of};
+ghost use Rattle.basket_sets.specs.Support.{items_of};
 
 use crate::subset::subsets;
 use basket_core::{Counted, Database, Itemset, Minimum, count_items, support};

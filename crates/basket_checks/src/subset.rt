@@ -1,7 +1,7 @@
 //! The subsets of a set.
 ghost use Rattle.std.specs.Prelude.{◌≡◌, ◌∷◌, All, IfOk, map};
-ghost use Rattle.basket_core.specs.Itemset.{IsRising};
-ghost use Rattle.basket_core.specs.Subsets.{subsets_of_size, subsets_of};
+ghost use Rattle.basket_sets.specs.Itemset.{IsRising};
+ghost use Rattle.basket_sets.specs.Subsets.{subsets_of_size, subsets_of};
 
 use basket_core::Itemset;
 use std::alloc::{AllocError, Global};

@@ -1,16 +1,4 @@
-pub mod Members
-pub mod Rising
-pub mod SubsetLemmas
-pub mod SupportLemmas
-pub mod FrequentLemmas
-pub mod Numbers
-pub mod MergeLemmas
-pub mod CountLemmas
-pub mod PlaceLemmas
-pub mod ItemLemmas
-pub mod Sorting
-pub mod BucketLemmas
-pub mod RankLemmas
-pub mod CodeLemmas
-pub mod DecodeLemmas
-pub mod DepthLemmas
+pub mod theory
+mod BucketLemmas
+mod RankLemmas
+mod CodeLemmas

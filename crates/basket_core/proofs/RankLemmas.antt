@@ -14,13 +14,12 @@ use Rattle.std.proofs.lemmas.List.{take_more, take_all, get_or-take, get_or_defa
 use Rattle.std.proofs.lemmas.List.Sorted.{IsPermutation-map}
 use Rattle.std.proofs.lemmas.Map.Keys.{IsDistinct-IsPermutation, apart_from_distinct, below_from_sorted}
 use Rattle.basket_core.specs.Codes.{rank_order, with_entry, ranked, rank_from, rank_of}
-use Rattle.basket_core.specs.Itemset.{IsRising, has, rising}
+use Rattle.basket_sets.specs.Itemset.{IsRising, has, rising}
 use Rattle.basket_core.specs.declared.ranks.Entry.{Entry}
 use Rattle.basket_core.specs.Ranks.{AreSlots, AreRanksAt, entries_of}
-use Rattle.basket_core.proofs.Members.{Member, All-from_Member, at_Member, Member-map, Member-from_map, Member-filter, Member-from_Contains, Contains-from_Member}
-use Rattle.basket_core.proofs.CountLemmas.{has_more}
-use Rattle.basket_core.proofs.Rising.{first_below, rest_rises, cons_rises, nil_rises, rising-rises, Member-rising, Member-into_rising, has-from_Member, found_at, found_nowhere}
-use Rattle.basket_core.proofs.Sorting.{sorted_is}
+use Rattle.basket_sets.proofs.theory.Members.{Member, All-from_Member, at_Member, Member-map, Member-from_map, Member-filter, Member-from_Contains, Contains-from_Member}
+use Rattle.basket_sets.proofs.theory.Rising.{has_more, first_below, rest_rises, cons_rises, nil_rises, rising-rises, Member-rising, Member-into_rising, has-from_Member, found_at, found_nowhere}
+use Rattle.basket_sets.proofs.theory.Sorting.{sorted_is}
 
 -- ---- the order of ranks
 

@@ -3,15 +3,15 @@ use Rattle.std.specs.Prelude.{◌≡◌, ◌<◌, ◌≤◌, ℕ, ◌+◌, List,
 use Rattle.std.specs.List.{IsDistinct}
 use Rattle.std.specs.declared.cmp.Ordering.{Ordering}
 use Rattle.std.specs.Ordering.{nat_cmp, ordering_then, is_lt}
-use Rattle.basket_core.specs.declared.weighted.Weighted.{Weighted}
-use Rattle.basket_core.specs.declared.counted.Counted.{Counted}
-use Rattle.basket_core.specs.declared.minimum.Minimum.{Minimum}
-use Rattle.basket_core.specs.Counts.{item_supports, AllBelow}
-use Rattle.basket_core.specs.Database.{weighted, HasWeight, merged_of, MOST_WEIGHT}
-use Rattle.basket_core.specs.Frequent.{frequent_of, ListsOnce}
-use Rattle.basket_core.specs.Itemset.{IsRising, has, rising}
-use Rattle.basket_core.specs.Minimum.{meets}
-use Rattle.basket_core.specs.Support.{total_of}
+use Rattle.basket_sets.specs.declared.weighted.Weighted.{Weighted}
+use Rattle.basket_sets.specs.declared.counted.Counted.{Counted}
+use Rattle.basket_sets.specs.declared.minimum.Minimum.{Minimum}
+use Rattle.basket_sets.specs.Counts.{item_supports, AllBelow}
+use Rattle.basket_sets.specs.Database.{weighted, HasWeight, merged_of, MOST_WEIGHT}
+use Rattle.basket_sets.specs.Frequent.{frequent_of, ListsOnce}
+use Rattle.basket_sets.specs.Itemset.{IsRising, has, rising}
+use Rattle.basket_sets.specs.Minimum.{meets}
+use Rattle.basket_sets.specs.Support.{total_of}
 
 -- the order of ranks, of items with their counts: falling counts, equal counts by rising number
 abbrev pub rank_order : ℕ × ℕ → ℕ × ℕ → Ordering

@@ -1,12 +1,12 @@
 -- Frequent sets of many items.
 use Rattle.std.specs.Prelude.{◌≡◌, ◌≤◌, ℕ, ◌+◌, ◌^◌, List, [], ◌∷◌, length, filter, nat_lt, if◌then◌else◌}
 use Rattle.std.specs.List.{Contains, flat_map}
-use Rattle.basket_core.specs.declared.weighted.Weighted.{Weighted}
-use Rattle.basket_core.specs.declared.counted.Counted.{Counted}
-use Rattle.basket_core.specs.declared.minimum.Minimum.{Minimum}
-use Rattle.basket_core.specs.Database.{weighted}
-use Rattle.basket_core.specs.Frequent.{frequent_of}
-use Rattle.basket_core.specs.Itemset.{has}
+use Rattle.basket_sets.specs.declared.weighted.Weighted.{Weighted}
+use Rattle.basket_sets.specs.declared.counted.Counted.{Counted}
+use Rattle.basket_sets.specs.declared.minimum.Minimum.{Minimum}
+use Rattle.basket_sets.specs.Database.{weighted}
+use Rattle.basket_sets.specs.Frequent.{frequent_of}
+use Rattle.basket_sets.specs.Itemset.{has}
 
 -- some set of so many items is in the list
 abbrev pub HasSetOfSize : List Counted → ℕ → Type 0

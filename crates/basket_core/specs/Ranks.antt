@@ -4,7 +4,7 @@ use Rattle.std.specs.List.{IsDistinct}
 use Rattle.basket_core.specs.declared.ranks.Entry.{Entry}
 use Rattle.basket_core.specs.declared.ranks.RankTable.{RankTable}
 use Rattle.basket_core.specs.Codes.{rank_of}
-use Rattle.basket_core.specs.Itemset.{rising}
+use Rattle.basket_sets.specs.Itemset.{rising}
 
 -- an entry as an item with its count
 abbrev pub entry_of : Entry → ℕ × ℕ

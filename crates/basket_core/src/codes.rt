@@ -1,18 +1,13 @@
 //! The frequent items by rank, and baskets as lists of ranks.
 ghost use Rattle.std.specs.Prelude.{◌≡◌, List, ℕ, IfOk, length, map, slice_index_or};
-ghost use Rattle.basket_core.specs.Counts.{AllBelow};
+ghost use Rattle.basket_sets.specs.Counts.{AllBelow};
 ghost use Rattle.basket_core.specs.Codes.{IsCoding, coded_place, coding_of, decoded, merged_coding, ranking_of, ranks_of_counts};
-ghost use Rattle.basket_core.specs.Itemset.{IsRising};
+ghost use Rattle.basket_sets.specs.Itemset.{IsRising};
 ghost use Rattle.basket_core.specs.Ranks.{IsRankTable};
-ghost use Rattle.basket_core.specs.Support.{total_of};
+ghost use Rattle.basket_sets.specs.Support.{total_of};
 
-use crate::counts::count_items;
-use crate::database::Database;
-use crate::itemset::Itemset;
-use crate::merge::merge;
-use crate::minimum::Minimum;
 use crate::ranks::{RankTable, ranked_items};
-use crate::weighted::Weighted;
+use basket_sets::{Database, Itemset, Minimum, Weighted, count_items, merge_equal};
 use std::alloc::{AllocError, Global};
 use std::marker::Model;
 
@@ -88,7 +83,7 @@ pub struct Coded {
 impl Model for Coded {
     ghost use Rattle.std.specs.Prelude.{◌≡◌};
     ghost use Rattle.basket_core.specs.Codes.{Coding, IsCoding};
-    ghost use Rattle.basket_core.specs.Support.{total_of};
+    ghost use Rattle.basket_sets.specs.Support.{total_of};
 
     ghost Value = { Coding };
 
@@ -117,7 +112,7 @@ impl Coded {
             mut baskets,
             total,
         } = self;
-        merge(alloc, &mut baskets)?;
+        merge_equal(alloc, &mut baskets)?;
         Ok(Coded {
             items,
             minimum,

@@ -2,15 +2,13 @@
 ghost use Rattle.std.specs.Prelude.{◌≡◌, ◌≤◌, [], ◌∷◌, ℕ, IsTrue, IfOk, IfSome};
 ghost use Rattle.std.specs.List.{Contains};
 ghost use Rattle.basket_core.specs.Codes.{frequent_of_coding};
-ghost use Rattle.basket_core.specs.Database.{MOST_WEIGHT};
+ghost use Rattle.basket_sets.specs.Database.{MOST_WEIGHT};
 ghost use Rattle.basket_core.specs.Depth.{HasSetOfSize, narrowed};
-ghost use Rattle.basket_core.specs.Minimum.{meets};
-ghost use Rattle.basket_core.specs.Support.{support_of, total_of};
+ghost use Rattle.basket_sets.specs.Minimum.{meets};
+ghost use Rattle.basket_sets.specs.Support.{support_of, total_of};
 
 use crate::codes::Coded;
-use crate::counts::count_items;
-use crate::itemset::Itemset;
-use crate::weighted::Weighted;
+use basket_sets::{Itemset, Weighted, count_items};
 use std::alloc::{AllocError, Global};
 
 /// Whether a frequent set of so many items was found. It goes through the ranks from 0 upward once

@@ -29,8 +29,3 @@ impl<T: Drop> From<AllocFailed<T>> for MineFault {
         MineFault::Memory
     }
 }
-
-/// A reader or a writer failed.
-#[derive(Clone, Copy, Debug, PartialEq, Eq, Error)]
-#[error("a reader or a writer failed")]
-pub struct Failed;

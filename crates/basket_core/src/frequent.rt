@@ -1,12 +1,12 @@
 ghost use Rattle.std.specs.Prelude.{◌≡◌, IfOk};
 ghost use Rattle.std.specs.List.{flat_map};
 ghost use Rattle.basket_core.specs.Codes.{baskets_of};
-ghost use Rattle.basket_core.specs.Frequent.{ListsOnce};
+ghost use Rattle.basket_sets.specs.Frequent.{ListsOnce};
 ghost use Rattle.basket_core.specs.Listing.{listing_of};
 
 use crate::buckets::{buckets_by_size, in_report_order};
 use crate::codes::Coded;
-use crate::counted::Counted;
+use basket_sets::Counted;
 use std::alloc::{AllocError, Global};
 use std::marker::Model;
 

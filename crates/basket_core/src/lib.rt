@@ -1,42 +1,27 @@
-//! Itemsets, databases of weighted baskets, and what it means that a set is frequent.
+//! The frequent items by rank, baskets as lists of ranks, and the list of the frequent sets. The
+//! names of the crates below come with it: itemsets, databases and minimums, sources and sinks.
 #![tactic(auto)]
 
 mod buckets;
 mod codes;
-mod counted;
-mod counts;
-mod database;
 mod depth;
 mod fault;
 mod frequent;
-mod itemset;
 pub mod laws;
-mod memory;
-mod merge;
-mod minimum;
-mod order;
 mod ranks;
-mod sink;
-mod source;
 mod tally;
-mod weighted;
 pub mod worked;
 
+pub use basket_sets::{
+    Counted, Database, INLINE_ITEMS, Itemset, Minimum, Weighted, count_items, parse_minimum,
+    parse_share, report_order, support,
+};
+pub use basket_stream::{Failed, MemSink, MemSource, Sink, Source, StdSink, StdSource};
 pub use codes::{Coded, Codes};
-pub use counted::Counted;
-pub use counts::count_items;
-pub use database::{Database, support};
 pub use depth::deep;
-pub use fault::{Failed, MineFault};
+pub use fault::MineFault;
 pub use frequent::Frequent;
-pub use itemset::{INLINE_ITEMS, Itemset};
-pub use memory::{MemSink, MemSource};
-pub use minimum::{Minimum, parse_minimum, parse_share};
-pub use order::report_order;
-pub use sink::{Sink, StdSink};
-pub use source::{Source, StdSource};
 pub use tally::{Limit, Tally};
-pub use weighted::Weighted;
 
 #[cfg(test)]
 mod tests;

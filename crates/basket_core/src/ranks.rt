@@ -2,12 +2,11 @@
 ghost use Rattle.std.specs.Prelude.{◌≡◌, ◌<◌, List, ℕ, IfOk, OnOk, length, map, filter, nat_eq};
 ghost use Rattle.std.specs.List.{IsDistinct, filter_map};
 ghost use Rattle.basket_core.specs.Codes.{MOST_RANKS, rank_of, ranks_of_counts};
-ghost use Rattle.basket_core.specs.Itemset.{IsRising, rising};
-ghost use Rattle.basket_core.specs.Minimum.{meets};
+ghost use Rattle.basket_sets.specs.Itemset.{IsRising, rising};
+ghost use Rattle.basket_sets.specs.Minimum.{meets};
 ghost use Rattle.basket_core.specs.Ranks.{AreSlots, AreRanksAt, IsRankTable, entries_of};
 
-use crate::itemset::Itemset;
-use crate::minimum::Minimum;
+use basket_sets::{Itemset, Minimum};
 use std::alloc::{AllocError, Global};
 use std::cmp::Reverse;
 

@@ -4,13 +4,9 @@ use std::test::Fail;
 
 mod buckets;
 mod codes;
-mod database;
 mod depth;
 mod fault;
 mod frequent;
-mod itemset;
-mod minimum;
-mod stream;
 mod tally;
 
 const NINE_BASKETS: [(&[u32], u64); 9] = [

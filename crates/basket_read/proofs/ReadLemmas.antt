@@ -2,10 +2,10 @@
 use Rattle.std.proofs.Common.{◌≡◌, ◌≢◌, ℕ, Bool, true, false, List, [], ◌∷◌, ◌++◌, cond, Option, Some, None, Result, Ok, Err, refl, sym, ap, ◌∙◌, subst, append_assoc, leb, ltb, take, length}
 use Rattle.std.specs.Prelude.{IfSome}
 use Rattle.std.specs.Io.KnownBytes.{Consumes}
-use Rattle.basket_core.specs.declared.weighted.Weighted.{Weighted}
-use Rattle.basket_core.specs.Minimum.{is_digit}
-use Rattle.basket_core.specs.Support.{total_of}
-use Rattle.basket_core.specs.Database.{MOST_WEIGHT}
+use Rattle.basket_sets.specs.declared.weighted.Weighted.{Weighted}
+use Rattle.basket_sets.specs.Minimum.{is_digit}
+use Rattle.basket_sets.specs.Support.{total_of}
+use Rattle.basket_sets.specs.Database.{MOST_WEIGHT}
 use Rattle.basket_read.specs.declared.fault.ReadFault.{ReadFault}
 use Rattle.basket_read.specs.declared.fault.ReadFault.TheVariants.{Memory, Read, TooLong, Byte, Number, Heavy}
 use Rattle.basket_read.specs.Fimi.{is_good, line_after, fault_after, first_fault, or_else, fault_in, text_of, settled_fault, baskets_of, answer_of, fimi_of, MOST_BYTES}

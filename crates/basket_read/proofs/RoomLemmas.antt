@@ -5,8 +5,8 @@ use Rattle.std.proofs.lemmas.Bool.{cases_lt}
 use Rattle.std.proofs.lemmas.Grind.{not_there, flat_map-append}
 use Rattle.std.proofs.lemmas.List.{append-nil, length-append}
 use Rattle.std.proofs.Math.Logic.{∥∥₁_map}
-use Rattle.basket_core.specs.Itemset.{rising, with_item}
-use Rattle.basket_core.specs.Database.{MOST_BASKETS}
+use Rattle.basket_sets.specs.Itemset.{rising, with_item}
+use Rattle.basket_sets.specs.Database.{MOST_BASKETS}
 use Rattle.basket_read.specs.declared.text.Text.{Text}
 use Rattle.basket_read.specs.Cut.{Cut, cut_more, cut_at}
 use Rattle.basket_read.specs.Fimi.{is_line_feed, is_times, basket_of, basket_of_numbers, numbers_of, weight_before}

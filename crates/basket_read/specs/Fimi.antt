@@ -2,11 +2,11 @@
 use Rattle.std.specs.Prelude.{ℕ, ◌+◌, Bool, true, false, ◌&&◌, ◌||◌, not, nat_eq, nat_le, nat_lt, ◌==◌, if◌then◌else◌, List, [], ◌∷◌, ◌++◌, length, map, filter, take, drop, Option, Some, None, Result, Ok, Err}
 use Rattle.std.specs.List.{list_all, flat_map, starts_with}
 use Rattle.std.specs.Cmp.Lexicographic.{pointwise}
-use Rattle.basket_core.specs.declared.weighted.Weighted.{Weighted}
-use Rattle.basket_core.specs.Itemset.{rising}
-use Rattle.basket_core.specs.Minimum.{is_digit, value_of}
-use Rattle.basket_core.specs.Support.{total_of}
-use Rattle.basket_core.specs.Database.{weighted, MOST_WEIGHT}
+use Rattle.basket_sets.specs.declared.weighted.Weighted.{Weighted}
+use Rattle.basket_sets.specs.Itemset.{rising}
+use Rattle.basket_sets.specs.Minimum.{is_digit, value_of}
+use Rattle.basket_sets.specs.Support.{total_of}
+use Rattle.basket_sets.specs.Database.{weighted, MOST_WEIGHT}
 use Rattle.basket_read.specs.declared.fault.ReadFault.{ReadFault}
 use Rattle.basket_read.specs.declared.fault.ReadFault.TheVariants.{TooLong, Byte, Number, Heavy}
 use Rattle.basket_read.specs.Cut.{cut_at, parts_of}

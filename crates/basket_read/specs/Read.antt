@@ -1,7 +1,7 @@
 -- What reading answers where the reader fails.
 use Rattle.std.specs.Prelude.{◌≡◌, ◌≢◌, List, ℕ, Option, Some, Result, Ok, Err, unwrap_or}
 use Rattle.std.specs.Io.KnownBytes.{Consumes}
-use Rattle.basket_core.specs.declared.weighted.Weighted.{Weighted}
+use Rattle.basket_sets.specs.declared.weighted.Weighted.{Weighted}
 use Rattle.basket_read.specs.declared.fault.ReadFault.{ReadFault}
 use Rattle.basket_read.specs.declared.fault.ReadFault.TheVariants.{Memory, Read}
 use Rattle.basket_read.specs.Fimi.{fault_in}

@@ -1,9 +1,9 @@
 -- What a text that is being read stands for.
 use Rattle.std.specs.Prelude.{◌≡◌, ◌≢◌, ◌<◌, ◌≤◌, ◌+◌, ℕ, Bool, true, false, List, length, Option, Some, None, Result, Ok, Err}
 use Rattle.std.specs.List.{flat_map}
-use Rattle.basket_core.specs.declared.weighted.Weighted.{Weighted}
-use Rattle.basket_core.specs.Support.{total_of}
-use Rattle.basket_core.specs.Database.{MOST_WEIGHT}
+use Rattle.basket_sets.specs.declared.weighted.Weighted.{Weighted}
+use Rattle.basket_sets.specs.Support.{total_of}
+use Rattle.basket_sets.specs.Database.{MOST_WEIGHT}
 use Rattle.basket_read.specs.declared.fault.ReadFault.{ReadFault}
 use Rattle.basket_read.specs.declared.fault.ReadFault.TheVariants.{Memory}
 use Rattle.basket_read.specs.declared.text.Text.{Text}

@@ -6,7 +6,7 @@ ghost use Rattle.basket_read.specs.Input.{IsInputSoFar, IsSomeInput};
 
 use crate::fault::ReadFault;
 use crate::text::Text;
-use basket_core::Database;
+use basket_sets::Database;
 use std::alloc::Global;
 
 /// The greatest number of bytes of an input.

@@ -8,7 +8,7 @@ ghost use Rattle.basket_read.specs.Input.{IsSomeInput};
 
 use crate::fault::ReadFault;
 use crate::input::Input;
-use basket_core::Database;
+use basket_sets::Database;
 use std::alloc::Global;
 
 /// What has been read of a FIMI input that comes in pieces.

@@ -7,7 +7,8 @@ ghost use Rattle.basket_read.specs.Read.{FailsAfter};
 
 use crate::fault::ReadFault;
 use crate::parts::FimiParts;
-use basket_core::{Database, Source};
+use basket_sets::Database;
+use basket_stream::Source;
 use std::alloc::Global;
 
 /// The greatest block.

@@ -1,5 +1,6 @@
 use super::*;
-use basket_core::{Database, MemSource};
+use basket_sets::Database;
+use basket_stream::MemSource;
 use std::alloc::AllocError;
 use std::test::*;
 

@@ -1,7 +1,7 @@
 //! A text of which not all has been read.
 ghost use Rattle.std.specs.Prelude.{◌≡◌, ◌≢◌, ◌<◌, ◌≤◌, ◌+◌, ℕ, List, [], ◌∷◌, ◌++◌, length, false, OnOk, IfErr, MatchResult};
-ghost use Rattle.basket_core.specs.declared.weighted.Weighted.{Weighted};
-ghost use Rattle.basket_core.specs.Database.{MOST_BASKETS};
+ghost use Rattle.basket_sets.specs.declared.weighted.Weighted.{Weighted};
+ghost use Rattle.basket_sets.specs.Database.{MOST_BASKETS};
 ghost use Rattle.basket_read.specs.Fimi.{first_fault, basket_of_numbers, baskets_of, if_light};
 ghost use Rattle.basket_read.specs.Line.{line_state, line_at, blank_added};
 ghost use Rattle.basket_read.specs.Text.{HasBaskets, IsTextSoFar, HasRoom, Tells, Answers};
@@ -9,7 +9,7 @@ ghost use Rattle.basket_read.specs.Text.{HasBaskets, IsTextSoFar, HasRoom, Tells
 use crate::class::{Class, class_of};
 use crate::fault::ReadFault;
 use crate::line::Line;
-use basket_core::{Database, Itemset};
+use basket_sets::{Database, Itemset};
 use std::alloc::Global;
 
 /// What has been read of a text: how many lines have ended, their baskets, and the line after them.

@@ -1,6 +1,6 @@
 //! Worked texts, proved by computing what the definition answers.
 ghost use Rattle.std.specs.Prelude.{◌≡◌, [], ◌∷◌, Ok, Err, None, Some, codes};
-ghost use Rattle.basket_core.specs.Database.{weighted};
+ghost use Rattle.basket_sets.specs.Database.{weighted};
 ghost use Rattle.basket_read.specs.Fimi.{fimi_of, fault_in, settled_fault};
 ghost use Rattle.basket_read.specs.Worked.{lines};
 ghost use Rattle.basket_read.specs.declared.fault.ReadFault.TheVariants.{Byte, Number};

@@ -3,8 +3,8 @@ use Rattle.std.proofs.Common.{◌≡◌, ℕ, ◌+◌, ◌<◌, Bool, true, fals
 use Rattle.std.specs.List.{All}
 use Rattle.std.proofs.lemmas.List.{map_push, map_more, length_push, get_or_read, same_lists, get_or-map, length-map}
 use Rattle.std.proofs.lemmas.List.Elements.{All-more}
-use Rattle.basket_core.specs.Itemset.{IsRising}
-use Rattle.basket_core.specs.Order.{IsInReportOrder}
+use Rattle.basket_sets.specs.Itemset.{IsRising}
+use Rattle.basket_sets.specs.Order.{IsInReportOrder}
 use Rattle.mine_apriori.specs.Nodes.{passing_below, item_of, starts_of, node_items}
 use Rattle.mine_apriori.proofs.PassingLemmas.{passing_more_yes, passing_more_no}
 use Rattle.mine_apriori.proofs.NodeLemmas.{leaf_starts, leaf_is}

@@ -3,10 +3,10 @@ use Rattle.std.proofs.Common.{◌≡◌, ℕ, ◌+◌, ◌-◌, ◌<◌, Bool, t
 use Rattle.std.proofs.lemmas.Bool.{cases_Bool, and_from, and_right}
 use Rattle.std.proofs.lemmas.List.{get_or_default, get_or-take, length-take, length-drop}
 use Rattle.std.proofs.lemmas.Map.Keys.{below_from_sorted, sorted_from_strictly_increasing}
-use Rattle.basket_core.specs.Itemset.{IsRising, has, contains}
-use Rattle.basket_core.proofs.Members.{Member, Member-from_Contains, Contains-from_Member}
-use Rattle.basket_core.proofs.Rising.{has_each, contains_each, first_below, rest_rises, nil_rises, length-le-contains}
-use Rattle.basket_core.proofs.CountLemmas.{has_place}
+use Rattle.basket_sets.specs.Itemset.{IsRising, has, contains}
+use Rattle.basket_sets.proofs.theory.Members.{Member, Member-from_Contains, Contains-from_Member}
+use Rattle.basket_sets.proofs.theory.Rising.{has_each, contains_each, first_below, rest_rises, nil_rises, length-le-contains}
+use Rattle.basket_sets.proofs.theory.Rising.{has_place}
 
 pub same_truth : (a b : Bool) → (a ≡ true → b ≡ true) → (b ≡ true → a ≡ true) → a ≡ b
 same_truth true b f g = sym (f refl)

@@ -2,8 +2,8 @@
 use Rattle.std.proofs.Common.{◌≡◌, ◌≢◌, ℕ, ◌+◌, ◌-◌, ◌<◌, ◌≤◌, Bool, true, false, ◌||◌, List, length, take, get_or, set, cond, eqb, refl, sym, ap, ◌∙◌, subst, inl, inr, arith, zero, suc}
 use Rattle.std.proofs.lemmas.Bool.{cases_eq, eq-eqb, ne_eqb}
 use Rattle.std.proofs.lemmas.List.{get_or-set_same, get_or-set_other}
-use Rattle.basket_core.specs.Itemset.{IsRising, has}
-use Rattle.basket_core.proofs.CountLemmas.{has_more, not_before}
+use Rattle.basket_sets.specs.Itemset.{IsRising, has}
+use Rattle.basket_sets.proofs.theory.Rising.{has_more, not_before}
 use Rattle.mine_apriori.specs.Run.{RisesWithin, IsDenseWithin, AddsWithin}
 
 -- ---- runs with no gaps

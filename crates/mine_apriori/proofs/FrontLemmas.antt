@@ -6,9 +6,9 @@ use Rattle.std.specs.Cmp.Lexicographic.{slice_cmp}
 use Rattle.std.proofs.lemmas.List.{get_or_default, drop_more, drop_all}
 use Rattle.std.proofs.lemmas.Bool.{cases_lt}
 use Rattle.std.proofs.lemmas.Map.Keys.{Less-from_sorted}
-use Rattle.basket_core.specs.Itemset.{IsRising}
-use Rattle.basket_core.specs.Order.{report_order, IsInReportOrder}
-use Rattle.basket_core.proofs.Members.{Member-from_Contains, Contains-from_Member, sorted_along}
+use Rattle.basket_sets.specs.Itemset.{IsRising}
+use Rattle.basket_sets.specs.Order.{report_order, IsInReportOrder}
+use Rattle.basket_sets.proofs.theory.Members.{Member-from_Contains, Contains-from_Member, sorted_along}
 use Rattle.mine_apriori.specs.Candidates.{is_one_of, has_subsets, candidates_of}
 use Rattle.mine_apriori.specs.Join.{AreJoinable, IsJoin, without, share_front, join, joined_with, joined_from}
 use Rattle.mine_apriori.specs.Sizes.{AreOfSize}

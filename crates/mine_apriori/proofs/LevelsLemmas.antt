@@ -11,20 +11,21 @@ use Rattle.std.proofs.lemmas.List.Kept.{IsStrictlySortedBy-filter}
 use Rattle.basket_core.specs.declared.fault.MineFault.{MineFault}
 use Rattle.basket_core.specs.declared.fault.MineFault.TheVariants.{Memory, TooMany}
 use Rattle.basket_core.specs.Codes.{Coding, IsCoding, baskets_of, frequent_of_coding, decoded_set}
-use Rattle.basket_core.specs.Counts.{item_supports, AllBelow}
-use Rattle.basket_core.specs.Frequent.{is_frequent, counted, frequent_of, ListsOnce}
-use Rattle.basket_core.specs.Itemset.{IsRising}
-use Rattle.basket_core.specs.Minimum.{meets}
-use Rattle.basket_core.specs.Order.{report_order, report_order_total, IsInReportOrder}
-use Rattle.basket_core.specs.Subsets.{subsets_of_size, subsets_up_to}
-use Rattle.basket_core.specs.Support.{support_of, total_of, items_of, all_items}
-use Rattle.basket_core.proofs.DecodeLemmas.{decoding_keeps_frequent, ranks_below, as_many}
-use Rattle.basket_core.proofs.FrequentLemmas.{frequent_once}
-use Rattle.basket_core.proofs.ItemLemmas.{filter-map, map-map, one_item}
-use Rattle.basket_core.proofs.Members.{Member, Member-append, Member-filter, Member-from_filter, Member-from_Contains, Contains-from_Member, sorted_along, same_members}
-use Rattle.basket_core.proofs.Rising.{rising-rises, Member-rising, length-le-contains}
-use Rattle.basket_core.proofs.SubsetLemmas.{IsSubset, IsSubset-from_Member, Member-from_IsSubset, of_size_sorted, same_length}
-use Rattle.basket_core.proofs.SupportLemmas.{frequent_items, subsets_are_frequent}
+use Rattle.basket_sets.specs.Counts.{item_supports, AllBelow}
+use Rattle.basket_sets.specs.Frequent.{is_frequent, counted, frequent_of, ListsOnce}
+use Rattle.basket_sets.specs.Itemset.{IsRising}
+use Rattle.basket_sets.specs.Minimum.{meets}
+use Rattle.basket_sets.specs.Order.{report_order, report_order_total, IsInReportOrder}
+use Rattle.basket_sets.specs.Subsets.{subsets_of_size, subsets_up_to}
+use Rattle.basket_sets.specs.Support.{support_of, total_of, items_of, all_items}
+use Rattle.basket_core.proofs.theory.Decoding.{decoding_keeps_frequent, ranks_below, as_many}
+use Rattle.basket_sets.proofs.theory.Frequent.{frequent_once}
+use Rattle.std.proofs.lemmas.Simd.{map-map}
+use Rattle.basket_sets.proofs.theory.Items.{filter-map, one_item}
+use Rattle.basket_sets.proofs.theory.Members.{Member, Member-append, Member-filter, Member-from_filter, Member-from_Contains, Contains-from_Member, sorted_along, same_members}
+use Rattle.basket_sets.proofs.theory.Rising.{rising-rises, Member-rising, length-le-contains}
+use Rattle.basket_sets.proofs.theory.Subsets.{IsSubset, IsSubset-from_Member, Member-from_IsSubset, of_size_sorted, same_length}
+use Rattle.basket_sets.proofs.theory.Support.{frequent_items, subsets_are_frequent}
 use Rattle.mine_apriori.specs.declared.levels.Found.{Found}
 use Rattle.mine_apriori.specs.Candidates.{candidates_of}
 use Rattle.mine_apriori.specs.Levels.{level_of, levels_up_to, asked_of, AreFound, AreTooMany}
@@ -206,19 +207,6 @@ module _ (coding : Coding) where
       ∙ map-map (λ (entry : ℕ × ℕ). entry.1) (λ x. (x, support_of coding.baskets (x ∷ []))) (filter (λ x. passes (x ∷ [])) items)
       ∙ sym (ap (map (support_of coding.baskets)) (ap (filter passes) (one_item items) ∙ filter-map (λ x. x ∷ []) passes items)
       ∙ map-map (support_of coding.baskets) (λ x. x ∷ []) (filter (λ x. passes (x ∷ [])) items))
-
--- ---- faults
-
-abbrev pub refused : {X : Type 0} → ℕ → Result X MineFault
-refused limit = Err (TooMany limit)
-
-abbrev limit_in : {X : Type 0} → Result X MineFault → ℕ
-limit_in (Ok x) = 0
-limit_in (Err Memory) = 0
-limit_in (Err (TooMany limit)) = limit
-
-pub same_limit : {X : Type 0} (a b : ℕ) → refused {X = X} a ≡ refused b → b ≡ a
-same_limit a b e = sym (ap limit_in e)
 
 -- ---- an answer
 

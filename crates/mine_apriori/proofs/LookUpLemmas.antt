@@ -8,7 +8,7 @@ use Rattle.std.specs.List.Sorted.{IsBinarySearchResult, IsSearchInRange, IsNonDe
 use Rattle.std.proofs.lemmas.Bool.{cases_Bool, cases_lt}
 use Rattle.std.proofs.lemmas.Cmp.{tied_itself}
 use Rattle.std.proofs.lemmas.Map.Keys.{Less-from_sorted}
-use Rattle.basket_core.proofs.Members.{Member-from_Contains, Contains-from_Member}
+use Rattle.basket_sets.proofs.theory.Members.{Member-from_Contains, Contains-from_Member}
 use Rattle.mine_apriori.specs.Candidates.{is_one_of}
 use Rattle.mine_apriori.proofs.PruneLemmas.{Member-from_is_one_of, is_one_of-from_Member}
 

@@ -10,7 +10,7 @@ use Rattle.std.proofs.lemmas.Bool.Decides.{nat_tests}
 use Rattle.std.proofs.lemmas.Cmp.{tied_itself}
 use Rattle.std.proofs.lemmas.List.{get_or-map, get_or_past, get_or-take, take-take, take_all}
 use Rattle.std.proofs.lemmas.Map.Keys.{Less-from_sorted}
-use Rattle.basket_core.specs.Order.{report_order, IsInReportOrder}
+use Rattle.basket_sets.specs.Order.{report_order, IsInReportOrder}
 use Rattle.mine_apriori.specs.Nodes.{begins, starts_of, first_leaf, item_of, node_items, children_before}
 use Rattle.mine_apriori.specs.Run.{RisesWithin}
 use Rattle.mine_apriori.specs.Tree.{IsRun}

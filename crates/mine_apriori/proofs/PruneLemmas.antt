@@ -5,8 +5,8 @@ use Rattle.std.specs.Prelude.{nat_eq}
 use Rattle.std.specs.List.{list_all}
 use Rattle.std.proofs.lemmas.Bool.{and_parts, and_from, or_cases, cases_Bool, cases_lt, true≢false}
 use Rattle.std.proofs.lemmas.List.{take_rest}
-use Rattle.basket_core.specs.Subsets.{subsets_of_size}
-use Rattle.basket_core.proofs.Members.{Member, Member-append, Member-append_left, Member-append_right, Member-map, Member-from_map}
+use Rattle.basket_sets.specs.Subsets.{subsets_of_size}
+use Rattle.basket_sets.proofs.theory.Members.{Member, Member-append, Member-append_left, Member-append_right, Member-map, Member-from_map}
 use Rattle.mine_apriori.specs.Candidates.{is_one_of, has_subsets}
 use Rattle.mine_apriori.specs.Join.{without, IsJoin}
 

@@ -7,7 +7,7 @@ use Rattle.std.specs.Ordering.{is_lt}
 use Rattle.std.proofs.lemmas.Bool.{and_parts, and_from, eqb-true, eq-eqb, false≢true}
 use Rattle.std.proofs.lemmas.List.{get_or_default}
 use Rattle.std.proofs.lemmas.Map.Keys.{Less-from_sorted, sorted_from_all_adjacent}
-use Rattle.basket_core.specs.Order.{report_order, report_order_total}
+use Rattle.basket_sets.specs.Order.{report_order, report_order_total}
 use Rattle.mine_apriori.specs.Shard.{IsRegular}
 
 -- whether a set may stand before another

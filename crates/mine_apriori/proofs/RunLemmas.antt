@@ -7,10 +7,10 @@ use Rattle.std.proofs.lemmas.Bool.{cases_lt, cases_eq, eq-eqb, ne_eqb, and_left}
 use Rattle.std.proofs.lemmas.List.{get_or-set_same, get_or-set_other, get_or-take, get_or-drop, length-drop, length-take, get_or_default, take_all}
 use Rattle.std.proofs.lemmas.List.Sorted.{searched}
 use Rattle.std.proofs.lemmas.Map.Keys.{below_from_sorted, non_decreasing_from_sorted, sorted_from_strictly_increasing}
-use Rattle.basket_core.specs.Itemset.{IsRising, has}
-use Rattle.basket_core.proofs.CountLemmas.{has_more, has_place, not_before}
-use Rattle.basket_core.proofs.Members.{Contains-from_Member}
-use Rattle.basket_core.proofs.Rising.{Member-from_has}
+use Rattle.basket_sets.specs.Itemset.{IsRising, has}
+use Rattle.basket_sets.proofs.theory.Rising.{has_more, has_place, not_before}
+use Rattle.basket_sets.proofs.theory.Members.{Contains-from_Member}
+use Rattle.basket_sets.proofs.theory.Rising.{Member-from_has}
 use Rattle.mine_apriori.proofs.ContainLemmas.{same_truth, take_rises}
 use Rattle.mine_apriori.specs.Run.{RisesWithin, AddsWithin, IsMissingAt}
 

@@ -3,11 +3,11 @@ use Rattle.std.proofs.Common.{◌≡◌, ℕ, ◌+◌, ◌<◌, ◌≤◌, ◌^�
 use Rattle.std.specs.List.{AllWithin}
 use Rattle.std.proofs.lemmas.List.{get_or-map, length-map, same_lists, get_or_default, take_all, take_at}
 use Rattle.std.proofs.lemmas.List.Sums.{sum_by_more, sum_by_more_le}
-use Rattle.basket_core.specs.declared.weighted.Weighted.{Weighted}
-use Rattle.basket_core.specs.Database.{MOST_WEIGHT}
-use Rattle.basket_core.specs.Itemset.{contains}
-use Rattle.basket_core.specs.Support.{weight_at, support_of, total_of}
-use Rattle.basket_core.proofs.SupportLemmas.{support_falls}
+use Rattle.basket_sets.specs.declared.weighted.Weighted.{Weighted}
+use Rattle.basket_sets.specs.Database.{MOST_WEIGHT}
+use Rattle.basket_sets.specs.Itemset.{contains}
+use Rattle.basket_sets.specs.Support.{weight_at, support_of, total_of}
+use Rattle.basket_sets.proofs.theory.Support.{support_falls}
 use Rattle.mine_apriori.specs.Nodes.{starts_of, first_leaf}
 use Rattle.mine_apriori.specs.Run.{AddsWithin}
 use Rattle.mine_apriori.proofs.NodeLemmas.{first_leaf_zero, first_leaf_end}
@@ -34,10 +34,6 @@ supports_fit sets baskets i place counts seen low high below is light all long s
     let at = ap (λ l. get_or l k d) same ∙ get_or_default counts k d 0 (omega arith) in
     let fits = support_fits baskets i place (get_or sets k []) (get_or counts k 0) below is light (supports k (omega arith)) in
     omega arith
-
--- a vector whose counts were lent
-pub lent_back : {X : Type 0} (count : ℕ) (old new : List X) → length new ≡ count → take count (new ++ drop (length new) old) ≡ new
-lent_back count old new e = take_at new (drop (length new) old) count e
 
 -- a walk from the roots counts the basket whose items, as far as the sets go, are walked
 pub walked_from_roots : (sets : List (List ℕ)) (items basket : List ℕ) (roots weight : ℕ) (old new : List ℕ) → roots ≡ length (starts_of sets 0)

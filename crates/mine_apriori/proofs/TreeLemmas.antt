@@ -3,8 +3,8 @@ use Rattle.std.proofs.Common.{◌≡◌, ℕ, ◌+◌, ◌-◌, ◌<◌, ◌≤�
 use Rattle.std.specs.List.{All, AllWithin}
 use Rattle.std.proofs.lemmas.Bool.{cases_lt}
 use Rattle.std.proofs.lemmas.List.{drop_more, get_or-map, get_or_append_left, get_or_push, length-map, length_push, length-drop, length-take, get_or-take, take_all, take_rest, nil_from_length, get_or_read}
-use Rattle.basket_core.specs.Itemset.{IsRising, has, contains}
-use Rattle.basket_core.specs.Order.{IsInReportOrder}
+use Rattle.basket_sets.specs.Itemset.{IsRising, has, contains}
+use Rattle.basket_sets.specs.Order.{IsInReportOrder}
 use Rattle.mine_apriori.specs.declared.nodes.Nodes.{Nodes}
 use Rattle.mine_apriori.specs.Nodes.{starts_of, first_leaf, item_of, node_items, children_before, node_firsts, AreNodes}
 use Rattle.mine_apriori.specs.Run.{AddsWithin, IsMissingAt}

@@ -3,11 +3,10 @@ use Rattle.std.proofs.Common.{◌≡◌, ◌≢◌, ℕ, ◌+◌, ◌<◌, ◌�
 use Rattle.std.proofs.lemmas.Bool.{cases_eq, eq-eqb, ne_eqb}
 use Rattle.std.proofs.lemmas.List.{take_more, get_or-take, get_or-set_same, get_or-set_other, get_or_past, length-take}
 use Rattle.std.proofs.lemmas.List.Elements.{filter-append}
-use Rattle.basket_core.specs.Itemset.{has, contains}
-use Rattle.basket_core.proofs.CodeLemmas.{same_test}
-use Rattle.basket_core.proofs.CountLemmas.{has_more}
-use Rattle.basket_core.proofs.Members.{Member-filter, Member-from_filter}
-use Rattle.basket_core.proofs.Rising.{has_each, contains_each, has-from_Member}
+use Rattle.basket_sets.specs.Itemset.{has, contains}
+use Rattle.basket_sets.proofs.theory.Rising.{same_test, has_more}
+use Rattle.basket_sets.proofs.theory.Members.{Member-filter, Member-from_filter}
+use Rattle.basket_sets.proofs.theory.Rising.{has_each, contains_each, has-from_Member}
 use Rattle.mine_apriori.specs.Used.{may_be_used, AreMarked}
 
 or_yes : (b : Bool) → (b || true) ≡ true

@@ -1,9 +1,9 @@
 use Rattle.std.specs.Prelude.{◌≡◌, ◌≤◌, ◌+◌, ◌↔◌, ℕ, suc, Bool, IsTrue, List, [], ◌∷◌, length, filter, nat_eq}
 use Rattle.std.specs.Cmp.Lexicographic.{pointwise}
 use Rattle.std.specs.List.{Contains, list_any, list_all, flat_map}
-use Rattle.basket_core.specs.Itemset.{IsRising, contains, rising}
-use Rattle.basket_core.specs.Order.{IsInReportOrder}
-use Rattle.basket_core.specs.Subsets.{subsets_of_size}
+use Rattle.basket_sets.specs.Itemset.{IsRising, contains, rising}
+use Rattle.basket_sets.specs.Order.{IsInReportOrder}
+use Rattle.basket_sets.specs.Subsets.{subsets_of_size}
 use Rattle.mine_apriori.specs.Sizes.{AreOfSize}
 
 -- the items of the sets

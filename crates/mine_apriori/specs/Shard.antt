@@ -1,5 +1,5 @@
 use Rattle.std.specs.Prelude.{ℕ, List}
-use Rattle.basket_core.specs.Order.{IsInReportOrder}
+use Rattle.basket_sets.specs.Order.{IsInReportOrder}
 use Rattle.mine_apriori.specs.Sizes.{AreOfOneSize}
 
 -- a list of sets of which a tree can be made: they have one size, which is at least 1, and are in report order

@@ -1,6 +1,6 @@
 use Rattle.std.specs.Prelude.{◌≡◌, ◌<◌, ◌≤◌, ℕ, ◌-◌, List, [], length, All, slice_index_or}
-use Rattle.basket_core.specs.Itemset.{IsRising}
-use Rattle.basket_core.specs.Order.{IsInReportOrder}
+use Rattle.basket_sets.specs.Itemset.{IsRising}
+use Rattle.basket_sets.specs.Order.{IsInReportOrder}
 use Rattle.mine_apriori.specs.declared.nodes.Nodes.{Nodes}
 use Rattle.mine_apriori.specs.Nodes.{starts_of, node_items, AreNodes}
 use Rattle.mine_apriori.specs.Run.{RisesWithin}

@@ -1,6 +1,6 @@
 -- A table of the items that the candidates have.
 use Rattle.std.specs.Prelude.{◌<◌, ℕ, Bool, true, IsTrue, List, [], length, slice_index_or}
-use Rattle.basket_core.specs.Itemset.{has}
+use Rattle.basket_sets.specs.Itemset.{has}
 
 -- whether the item is marked, or greater than those that the table knows
 abbrev pub may_be_used : List Bool → ℕ → Bool

@@ -2,10 +2,10 @@
 ghost use Rattle.std.specs.Prelude.{◌≡◌, ◌≢◌, ◌≤◌, ◌+◌, ◌++◌, [], ◌∷◌, ℕ, List, Err, IfOk, IfErr, OnOk, drop, filter, length, map, All};
 ghost use Rattle.basket_core.specs.declared.fault.MineFault.TheVariants.{Memory, TooMany};
 ghost use Rattle.basket_core.specs.Codes.{IsCoding, decoded_set};
-ghost use Rattle.basket_core.specs.Counts.{AllBelow};
-ghost use Rattle.basket_core.specs.Frequent.{counted, is_frequent};
+ghost use Rattle.basket_sets.specs.Counts.{AllBelow};
+ghost use Rattle.basket_sets.specs.Frequent.{counted, is_frequent};
 ghost use Rattle.basket_core.specs.Listing.{listing_of};
-ghost use Rattle.basket_core.specs.Support.{support_of};
+ghost use Rattle.basket_sets.specs.Support.{support_of};
 ghost use Rattle.mine_apriori.specs.Levels.{AreFound, AreTooMany, asked_of, level_of, levels_up_to, wanted};
 
 use crate::join::candidates;

@@ -1,6 +1,6 @@
 //! The inner nodes of a tree of candidates.
 ghost use Rattle.std.specs.Prelude.{◌≡◌, ◌<◌, ◌+◌, ◌^◌, [], ◌∷◌, ◌++◌, IfOk, OnOk, length, slice_index, take, All, map};
-ghost use Rattle.basket_core.specs.Itemset.{IsRising};
+ghost use Rattle.basket_sets.specs.Itemset.{IsRising};
 ghost use Rattle.mine_apriori.specs.Nodes.{begins, AreDeep, AreNodes};
 
 use basket_core::Itemset;

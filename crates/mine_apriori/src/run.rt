@@ -1,7 +1,7 @@
 //! Runs of a tree: nodes or leaves that stand side by side, whose items rise.
 ghost use Rattle.std.specs.Prelude.{◌≡◌, ◌<◌, ◌≤◌, ◌+◌, ◌-◌, ◌^◌, IsTrue, MatchResult, length, slice_index};
 ghost use Rattle.std.specs.List.{AllWithin};
-ghost use Rattle.basket_core.specs.Itemset.{IsRising, has};
+ghost use Rattle.basket_sets.specs.Itemset.{IsRising, has};
 ghost use Rattle.mine_apriori.specs.Run.{IsDenseWithin, IsMissingAt, RisesWithin, AddsWithin};
 
 /// The place of an item in a rising run, or the place before which it is missing. In a run with no

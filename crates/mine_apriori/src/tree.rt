@@ -1,10 +1,10 @@
 //! The candidates of one size as a prefix tree, which baskets walk.
 ghost use Rattle.std.specs.Prelude.{◌≡◌, ◌<◌, ◌≤◌, ◌+◌, ◌^◌, [], IfOk, map, length, drop, slice_index_or};
 ghost use Rattle.std.specs.List.{AllWithin};
-ghost use Rattle.basket_core.specs.Database.{MOST_WEIGHT};
-ghost use Rattle.basket_core.specs.Itemset.{IsRising, contains};
-ghost use Rattle.basket_core.specs.Order.{IsInReportOrder};
-ghost use Rattle.basket_core.specs.Support.{support_of, total_of};
+ghost use Rattle.basket_sets.specs.Database.{MOST_WEIGHT};
+ghost use Rattle.basket_sets.specs.Itemset.{IsRising, contains};
+ghost use Rattle.basket_sets.specs.Order.{IsInReportOrder};
+ghost use Rattle.basket_sets.specs.Support.{support_of, total_of};
 ghost use Rattle.mine_apriori.specs.Nodes.{first_leaf, starts_of};
 ghost use Rattle.mine_apriori.specs.Run.{AddsWithin};
 ghost use Rattle.mine_apriori.specs.Tree.{IsRun, leaf_depth};
@@ -71,14 +71,17 @@ impl<'a> CandidateTree<'a> {
     {
         let mut counts = vec![in alloc; 0; self.sets.len()]?;
         let mut kept = vec![in alloc; 0; longest(baskets)]?;
+        let roots = self.roots();
         for place in baskets {
-            self.count_basket(place, &mut kept, &mut counts);
+            self.count_basket(place, roots, &mut kept, &mut counts);
         }
         Ok(counts)
     }
 
     /// Adds the weight of a place at each set that its basket has. The list is for its use.
-    fn count_basket(&self, place: &Weighted, kept: &mut [u32], counts: &mut [u64])
+    fn count_basket(&self, place: &Weighted, roots: usize, kept: &mut [u32], counts: &mut [u64])
+        requires roots { roots ≡ length (starts_of self.now 0) }
+        requires run { IsRun self.now 0 0 roots }
         requires room { length place.now.basket ≤ length kept.old }
         requires long { length counts.old ≡ length self.now }
         requires fits { AllWithin (λ count. count + place.now.weight < 2 ^ 64) counts.old 0 (length self.now) }
@@ -86,7 +89,6 @@ impl<'a> CandidateTree<'a> {
             0 (length self.now) counts.old counts.new }
     {
         let items = place.basket.items();
-        let roots = self.roots();
         if self.inner.len() > 1 {
             // Most baskets are left with few items where the candidates are large.
             let len = keep_used(&self.used, items, kept);

@@ -1,6 +1,6 @@
 //! Which items the candidates have.
 ghost use Rattle.std.specs.Prelude.{◌≡◌, ◌≤◌, ◌||◌, ℕ, All, IfOk, filter, length, take};
-ghost use Rattle.basket_core.specs.Itemset.{has};
+ghost use Rattle.basket_sets.specs.Itemset.{has};
 ghost use Rattle.mine_apriori.specs.Used.{AreMarked, may_be_used};
 
 use basket_core::{Itemset, Weighted};

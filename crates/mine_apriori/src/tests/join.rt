@@ -1,5 +1,5 @@
 ghost use Rattle.std.specs.Prelude.{IsTrue};
-ghost use Rattle.basket_core.specs.Order.{IsInReportOrder};
+ghost use Rattle.basket_sets.specs.Order.{IsInReportOrder};
 ghost use Rattle.mine_apriori.specs.Sizes.{AreOfSize};
 
 use super::sets_of;

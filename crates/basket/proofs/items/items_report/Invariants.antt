@@ -1,6 +1,6 @@
 use Rattle.std.proofs.Common.{◌≡◌, take, map, filter}
-use Rattle.basket_core.specs.Frequent.{item_counted}
-use Rattle.basket_core.specs.Minimum.{meets}
+use Rattle.basket_sets.specs.Frequent.{item_counted}
+use Rattle.basket_sets.specs.Minimum.{meets}
 use Rattle.basket.specs.Report.{report_of}
 use Rattle.basket.proofs.items.items_report.Given as goal
 

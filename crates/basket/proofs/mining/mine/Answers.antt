@@ -1,7 +1,7 @@
 use Rattle.std.proofs.Common.{length, ap, ◌∙◌, arith}
 use Rattle.std.proofs.lemmas.Result.{IfOk-weaker}
 use Rattle.basket_core.specs.Codes.{coding_of, merged_coding}
-use Rattle.basket.proofs.MiningLemmas.{list_is, total_is, settled, same_limit}
+use Rattle.basket.proofs.MiningLemmas.{list_is, total_is, settled}
 use Rattle.basket.proofs.mining.mine.Goals as goal
 
 pub returns-then-branch-clause-too_many : goal.returns-then-branch-clause-too_many
@@ -10,7 +10,7 @@ returns-then-branch-clause-too_many c most e =
     let question = c.args.plan.now.question in
     let made = c.in_ok-coded.ensures ∙ ap merged_coding (c.in_ok-of.ensures ∙ ap (coding_of database) c.minimum.ensures) in
     let more = settled database question.minimum c.in_ok-coded.coded made c.settling_size.result c.limit-limit.result c.settling_size.ensures.settles (c.in_ok-deep.ensures c.if-branch.true) in
-    (same_limit c.limit-limit.result most e ∙ c.limit-limit.ensures, omega (arith, more, c.limit-limit.ensures))
+    (cc, omega (arith, more, c.limit-limit.ensures))
 
 pub returns-clause-sets : goal.returns-clause-sets
 returns-clause-sets c =

@@ -1,5 +1,5 @@
 use Rattle.std.proofs.Common.{◌∙◌}
-use Rattle.basket_core.specs.declared.fault.Failed.{Failed}
+use Rattle.basket_stream.specs.declared.failed.Failed.{Failed}
 use Rattle.basket.proofs.Fronts.{some_taken, count_within, written_more}
 use Rattle.basket.proofs.write.write_all.Goals as goal
 

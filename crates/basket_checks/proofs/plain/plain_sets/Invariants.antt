@@ -1,5 +1,5 @@
 use Rattle.std.proofs.Common.{◌≡◌, map, filter}
-use Rattle.basket_core.specs.Frequent.{counted, is_frequent}
+use Rattle.basket_sets.specs.Frequent.{counted, is_frequent}
 use Rattle.basket_checks.proofs.plain.plain_sets.Given as goal
 
 abbrev pub invariant-loop-set : goal.invariant-loop-set

@@ -1,7 +1,7 @@
 use Rattle.std.proofs.Common.{◌-◌, ◌∷◌, ◌++◌, map, sym, ap, ◌∙◌, subst, arith}
-use Rattle.basket_core.specs.Itemset.{IsRising}
-use Rattle.basket_core.specs.Subsets.{subsets_of_size}
-use Rattle.basket_core.proofs.Rising.{rest_rises}
+use Rattle.basket_sets.specs.Itemset.{IsRising}
+use Rattle.basket_sets.specs.Subsets.{subsets_of_size}
+use Rattle.basket_sets.proofs.theory.Rising.{rest_rises}
 use Rattle.basket_checks.proofs.SubsetLemmas.{firsts_rise, size_step}
 use Rattle.basket_checks.proofs.subset.+subsets_of_size.Goals as goal
 

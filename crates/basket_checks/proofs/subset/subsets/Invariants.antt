@@ -1,5 +1,5 @@
 use Rattle.std.proofs.Common.{◌≡◌}
-use Rattle.basket_core.specs.Subsets.{subsets_up_to}
+use Rattle.basket_sets.specs.Subsets.{subsets_up_to}
 use Rattle.basket_checks.proofs.subset.subsets.Given as goal
 
 abbrev pub invariant-loop-size : goal.invariant-loop-size

@@ -1,7 +1,7 @@
 use Rattle.std.proofs.Common.{◌≡◌, ◌++◌, [], ◌∷◌, map, take, sym, ap, ◌∙◌}
-use Rattle.basket_core.specs.declared.weighted.Weighted.{Weighted}
+use Rattle.basket_sets.specs.declared.weighted.Weighted.{Weighted}
 use Rattle.basket_core.specs.Codes.{coded_place}
-use Rattle.basket_core.specs.Itemset.{rising}
+use Rattle.basket_sets.specs.Itemset.{rising}
 use Rattle.basket_core.proofs.CodeLemmas.{coded_is, coded_more}
 use Rattle.basket_core.proofs.codes.coded_baskets.Goals as goal
 

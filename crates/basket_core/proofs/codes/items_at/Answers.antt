@@ -1,4 +1,4 @@
-use Rattle.basket_core.proofs.CountLemmas.{has_place}
+use Rattle.basket_sets.proofs.theory.Rising.{has_place}
 use Rattle.basket_core.proofs.codes.items_at.Goals as goal
 
 pub bounds-items-rank : goal.bounds-items-rank

@@ -1,4 +1,4 @@
-use Rattle.basket_core.proofs.CodeLemmas as lemmas
+use Rattle.basket_core.proofs.theory.Coding as lemmas
 use Rattle.basket_core.proofs.laws.coding_keeps_frequent.Goals as goal
 
 pub returns : goal.returns

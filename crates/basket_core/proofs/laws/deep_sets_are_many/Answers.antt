@@ -1,4 +1,4 @@
-use Rattle.basket_core.proofs.DepthLemmas as lemmas
+use Rattle.basket_core.proofs.theory.Depth as lemmas
 use Rattle.basket_core.proofs.laws.deep_sets_are_many.Goals as goal
 
 pub returns : goal.returns

@@ -1,4 +1,4 @@
-use Rattle.basket_core.proofs.CodeLemmas as lemmas
+use Rattle.basket_core.proofs.theory.Coding as lemmas
 use Rattle.basket_core.proofs.laws.merging_keeps_coded.Goals as goal
 
 pub returns : goal.returns

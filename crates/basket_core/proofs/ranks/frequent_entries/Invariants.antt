@@ -1,5 +1,5 @@
 use Rattle.std.proofs.Common.{◌≡◌, filter, take}
-use Rattle.basket_core.specs.Minimum.{meets}
+use Rattle.basket_sets.specs.Minimum.{meets}
 use Rattle.basket_core.specs.Ranks.{entries_of}
 use Rattle.basket_core.proofs.ranks.frequent_entries.Given as goal
 

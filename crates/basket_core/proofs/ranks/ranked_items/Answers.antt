@@ -3,11 +3,11 @@ use Rattle.std.specs.List.{IsDistinct}
 use Rattle.std.specs.Prelude.{nat_eq}
 use Rattle.std.proofs.lemmas.Result.{IfOk-weaker}
 use Rattle.std.proofs.lemmas.List.Sorted.{IsPermutation-map}
-use Rattle.basket_core.specs.Itemset.{IsRising}
-use Rattle.basket_core.specs.Minimum.{meets}
+use Rattle.basket_sets.specs.Itemset.{IsRising}
+use Rattle.basket_sets.specs.Minimum.{meets}
 use Rattle.basket_core.specs.Codes.{rank_order, ranked}
 use Rattle.basket_core.specs.Ranks.{entry_of, entries_of}
-use Rattle.basket_core.proofs.PlaceLemmas.{sorted_images}
+use Rattle.basket_sets.proofs.theory.Sorting.{sorted_images}
 use Rattle.basket_core.proofs.RankLemmas.{filter_rises, sorted_ranks, ranks_distinct, items_of_entries}
 use Rattle.basket_core.proofs.ranks.ranked_items.Goals as goal
 

@@ -1,5 +1,5 @@
 use Rattle.std.proofs.Common.{◌≡◌, ◌<◌, ◌++◌, ℕ, suc, [], drop, get_or}
-use Rattle.basket_core.specs.Itemset.{IsRising}
+use Rattle.basket_sets.specs.Itemset.{IsRising}
 use Rattle.mine_apriori.specs.Join.{joined_from}
 use Rattle.mine_apriori.specs.Sizes.{AreOfSize}
 use Rattle.mine_apriori.proofs.join.candidates.Given as goal

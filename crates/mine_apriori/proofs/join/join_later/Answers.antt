@@ -1,8 +1,8 @@
 use Rattle.std.proofs.Common.{◌≡◌, ◌<◌, ◌++◌, ◌∷◌, [], ◌-◌, ◌+◌, true, not, suc, drop, take, length, get_or, sym, ap, ◌∙◌, subst, arith}
 use Rattle.std.proofs.lemmas.Bool.{not-false}
 use Rattle.std.proofs.lemmas.List.{get_or_default, take_rest}
-use Rattle.basket_core.specs.Itemset.{IsRising, rising}
-use Rattle.basket_core.proofs.Rising.{rising-rising}
+use Rattle.basket_sets.specs.Itemset.{IsRising, rising}
+use Rattle.basket_sets.proofs.theory.Rising.{rising-rising}
 use Rattle.mine_apriori.specs.Candidates.{has_subsets}
 use Rattle.mine_apriori.specs.Join.{AreJoinable, IsJoin, share_front, join, joined_with}
 use Rattle.mine_apriori.proofs.FrontLemmas.{stands_at, join_of_pair, pair_rises, step_kept, step_dropped}

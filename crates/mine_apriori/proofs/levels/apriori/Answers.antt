@@ -1,6 +1,6 @@
 use Rattle.std.proofs.Common.{◌≢◌, [], eqb, length, sym, ap, ◌∙◌, arith}
 use Rattle.std.proofs.lemmas.Bool.{true≢false}
-use Rattle.basket_core.specs.Support.{items_of}
+use Rattle.basket_sets.specs.Support.{items_of}
 use Rattle.mine_apriori.specs.Levels.{asked_of}
 use Rattle.mine_apriori.proofs.LevelsLemmas.{asks_more}
 use Rattle.mine_apriori.proofs.levels.apriori.Goals as goal

@@ -1,5 +1,5 @@
 use Rattle.std.proofs.Common.{◌≡◌, ◌-◌, length}
-use Rattle.basket_core.specs.Support.{items_of}
+use Rattle.basket_sets.specs.Support.{items_of}
 use Rattle.mine_apriori.proofs.levels.apriori.Given as goal
 
 abbrev pub invariant-loop-levels : goal.invariant-loop-levels

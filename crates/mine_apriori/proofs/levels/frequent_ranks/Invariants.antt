@@ -1,5 +1,5 @@
 use Rattle.std.proofs.Common.{◌≡◌, ◌∷◌, [], map, filter, take}
-use Rattle.basket_core.specs.Minimum.{meets}
+use Rattle.basket_sets.specs.Minimum.{meets}
 use Rattle.mine_apriori.proofs.levels.frequent_ranks.Given as goal
 
 abbrev pub invariant-loop-rank : goal.invariant-loop-rank

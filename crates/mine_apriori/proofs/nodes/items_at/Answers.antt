@@ -1,7 +1,7 @@
 use Rattle.std.proofs.Common.{List, ℕ, map, get_or, ap, ◌∙◌, subst}
 use Rattle.std.specs.List.{All}
 use Rattle.std.proofs.lemmas.List.{take_all}
-use Rattle.basket_core.specs.Itemset.{IsRising}
+use Rattle.basket_sets.specs.Itemset.{IsRising}
 use Rattle.mine_apriori.proofs.BuildLemmas.{item_more, rising_more}
 use Rattle.mine_apriori.proofs.nodes.items_at.Goals as goal
 

@@ -1,6 +1,6 @@
 use Rattle.std.proofs.Common.{◌≡◌, get_or, map, take}
 use Rattle.std.specs.List.{All}
-use Rattle.basket_core.specs.Itemset.{IsRising}
+use Rattle.basket_sets.specs.Itemset.{IsRising}
 use Rattle.mine_apriori.proofs.nodes.items_at.Given as goal
 
 abbrev pub invariant-loop-set : goal.invariant-loop-set

@@ -1,6 +1,6 @@
 use Rattle.mine_apriori.specs.Run.{AddsWithin}
 use Rattle.std.proofs.Common.{◌+◌, ◌-◌, take}
-use Rattle.basket_core.specs.Itemset.{has}
+use Rattle.basket_sets.specs.Itemset.{has}
 use Rattle.mine_apriori.proofs.run.count_dense.Given as goal
 
 abbrev pub invariant-loop-item : goal.invariant-loop-item

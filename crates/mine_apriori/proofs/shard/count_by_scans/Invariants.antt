@@ -1,5 +1,5 @@
 use Rattle.std.proofs.Common.{◌≡◌, map, take}
-use Rattle.basket_core.specs.Support.{support_of}
+use Rattle.basket_sets.specs.Support.{support_of}
 use Rattle.mine_apriori.proofs.shard.count_by_scans.Given as goal
 
 abbrev pub invariant-loop-set : goal.invariant-loop-set

@@ -1,5 +1,5 @@
 use Rattle.std.proofs.Common.{◌≡◌, take}
-use Rattle.basket_core.specs.Support.{support_of}
+use Rattle.basket_sets.specs.Support.{support_of}
 use Rattle.mine_apriori.proofs.shard.scan.Given as goal
 
 abbrev pub invariant-loop-place : goal.invariant-loop-place

@@ -1,7 +1,7 @@
 use Rattle.std.proofs.Common.{◌≤◌, ◌++◌, [], ◌∷◌, All, length, take, subst, sym, ap, ◌∙◌, arith}
 use Rattle.std.proofs.lemmas.List.{take_all, take_more}
 use Rattle.std.proofs.lemmas.List.Elements.{All-append, All-cons, All-nil, All-weaker}
-use Rattle.basket_core.specs.declared.weighted.Weighted.{Weighted}
+use Rattle.basket_sets.specs.declared.weighted.Weighted.{Weighted}
 use Rattle.mine_apriori.proofs.used.longest.Goals as goal
 
 pub loop-place-preserved : goal.loop-place-preserved

@@ -1,5 +1,5 @@
 use Rattle.std.proofs.Common.{◌≡◌, ◌||◌, ℕ, take}
-use Rattle.basket_core.specs.Itemset.{has}
+use Rattle.basket_sets.specs.Itemset.{has}
 use Rattle.mine_apriori.specs.Used.{may_be_used}
 use Rattle.mine_apriori.proofs.used.mark.Given as goal
 

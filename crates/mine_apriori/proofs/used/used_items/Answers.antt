@@ -1,8 +1,7 @@
 use Rattle.std.proofs.Common.{◌||◌, ◌+◌, [], take, sym, ap, subst, ◌∙◌}
-use Rattle.std.proofs.lemmas.List.{take_all, get_or_default}
-use Rattle.basket_core.specs.Itemset.{has}
+use Rattle.std.proofs.lemmas.List.{take_all, take_at, get_or_default}
+use Rattle.basket_sets.specs.Itemset.{has}
 use Rattle.mine_apriori.specs.Used.{may_be_used, AreMarked}
-use Rattle.mine_apriori.proofs.SupportLemmas.{lent_back}
 use Rattle.mine_apriori.proofs.UsedLemmas.{sets_marked}
 use Rattle.mine_apriori.proofs.used.used_items.Goals as goal
 
@@ -12,7 +11,7 @@ loop-set-preserved c =
     let i = c.loop-set.set-index in
     let old = c.loop-set.table.items in
     let new = c.mark.new.table in
-    let back = lent_back c.loop-set.table.len old new (c.mark.auto.table ∙ c.deref_mut.ensures.len) in
+    let back = take_at new _ c.loop-set.table.len (c.mark.auto.table ∙ c.deref_mut.ensures.len) in
     let marked = c.items.ensures.items ∙ c.set-item.is ∙ get_or_default sets i c.set-item.result [] c.loop-set-test.true in
     subst (AreMarked (take (i + 1) sets)) (sym back)
     (sets_marked sets old new i c.items.result.now c.loop-set-test.true marked c.loop-set.invariant

@@ -1,9 +1,10 @@
 use Rattle.std.proofs.Common.{map, sym, ap, ◌∙◌}
 use Rattle.basket_core.specs.Codes.{coded_place}
-use Rattle.basket_core.specs.Support.{total_of}
-use Rattle.basket_core.proofs.CodeLemmas.{coding_is, coded_total}
+use Rattle.basket_sets.specs.Support.{total_of}
+use Rattle.basket_core.proofs.CodeLemmas.{coding_is}
+use Rattle.basket_core.proofs.theory.Coding.{coded_total}
 use Rattle.std.proofs.lemmas.List.Elements.{All-weaker}
-use Rattle.basket_core.specs.Database.{IsPlace, HasWeight}
+use Rattle.basket_sets.specs.Database.{IsPlace, HasWeight}
 use Rattle.basket_core.proofs.codes.Codes.code.Goals as goal
 
 pub invariant_of-result : goal.invariant_of-result

@@ -1,8 +1,8 @@
 use Rattle.std.proofs.Common.{sym, subst}
 use Rattle.std.proofs.lemmas.List.Sorted.{IsPermutation-trans}
 use Rattle.basket_core.specs.Codes.{baskets_of}
-use Rattle.basket_core.specs.Frequent.{ListsOnce}
-use Rattle.basket_core.proofs.FrequentLemmas.{sorted_is_frequent}
+use Rattle.basket_sets.specs.Frequent.{ListsOnce}
+use Rattle.basket_sets.proofs.theory.Frequent.{sorted_is_frequent}
 use Rattle.basket_core.proofs.frequent.Frequent.of_classes.Goals as goal
 
 pub returns : goal.returns

@@ -1,9 +1,9 @@
 use Rattle.std.proofs.Common.{[], ◌++◌, sym, ap, ◌∙◌, subst}
 use Rattle.std.specs.List.{flat_map}
 use Rattle.basket_core.specs.Codes.{Coding, baskets_of, coding_of}
-use Rattle.basket_core.specs.Frequent.{ListsOnce}
-use Rattle.basket_core.specs.declared.minimum.Minimum.TheVariants.{Count}
-use Rattle.basket_core.proofs.FrequentLemmas.{frequent_once}
+use Rattle.basket_sets.specs.Frequent.{ListsOnce}
+use Rattle.basket_sets.specs.declared.minimum.Minimum.TheVariants.{Count}
+use Rattle.basket_sets.proofs.theory.Frequent.{frequent_once}
 use Rattle.basket_core.proofs.tests.frequent.no_basket.Goals as goal
 
 pub of_classes-requires : goal.of_classes-requires

@@ -1,6 +1,6 @@
 use Rattle.std.proofs.Common.{◌≡◌, ◌++◌, map, filter, take}
-use Rattle.basket_core.specs.Frequent.{is_frequent}
-use Rattle.basket_core.specs.Support.{support_of}
+use Rattle.basket_sets.specs.Frequent.{is_frequent}
+use Rattle.basket_sets.specs.Support.{support_of}
 use Rattle.mine_apriori.proofs.levels.Found.add_frequent.Given as goal
 
 abbrev pub invariant-loop-place : goal.invariant-loop-place

@@ -1,15 +1,15 @@
 use Rattle.std.proofs.Common.{length, drop, sym, ap, subst, ◌∙◌, arith}
 use Rattle.std.proofs.lemmas.List.{take_rest}
-use Rattle.basket_core.specs.Order.{IsInReportOrder}
+use Rattle.basket_sets.specs.Order.{IsInReportOrder}
 use Rattle.mine_apriori.specs.Candidates.{candidates_of}
 use Rattle.mine_apriori.specs.Sizes.{AreOfSize}
-use Rattle.mine_apriori.proofs.LevelsLemmas.{level_sized, level_in_order, too_many, same_limit}
+use Rattle.mine_apriori.proofs.LevelsLemmas.{level_sized, level_in_order, too_many}
 use Rattle.mine_apriori.proofs.levels.Levels.ask.Goals as goal
 
 pub returns-then-len-limit-clause-too_many : goal.returns-then-len-limit-clause-too_many
 returns-then-len-limit-clause-too_many c most e =
     let more = ap length c.requires.found.sets in
-    (same_limit c.args.limit most e, too_many c.args.coded.now c.requires.coding c.args.size c.args.limit (omega (arith, more, c.if-len-limit.true, c.len.ensures)))
+    (cc, too_many c.args.coded.now c.requires.coding c.args.size c.args.limit (omega (arith, more, c.if-len-limit.true, c.len.ensures)))
 
 pub candidates-requires-clause-sized : goal.candidates-requires-clause-sized
 candidates-requires-clause-sized c =

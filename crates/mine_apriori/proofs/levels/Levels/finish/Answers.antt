@@ -1,8 +1,8 @@
 use Rattle.std.proofs.Common.{◌++◌, ◌∷◌, [], map, length, sym, ap, subst, ◌∙◌, arith, append-nil}
 use Rattle.std.specs.List.{All, flat_map}
 use Rattle.basket_core.specs.Codes.{baskets_of, decoded_set}
-use Rattle.basket_core.specs.Counts.{AllBelow}
-use Rattle.basket_core.specs.Frequent.{counted, ListsOnce}
+use Rattle.basket_sets.specs.Counts.{AllBelow}
+use Rattle.basket_sets.specs.Frequent.{counted, ListsOnce}
 use Rattle.mine_apriori.specs.Levels.{asked_of}
 use Rattle.mine_apriori.proofs.LevelsLemmas.{found_below, found_once, found_is_all}
 use Rattle.mine_apriori.proofs.levels.Levels.finish.Goals as goal

@@ -1,6 +1,6 @@
 use Rattle.std.proofs.Common.{[], arith}
 use Rattle.std.proofs.lemmas.Map.Keys.{sorted_from_all_adjacent}
-use Rattle.basket_core.specs.Order.{report_order_total}
+use Rattle.basket_sets.specs.Order.{report_order_total}
 use Rattle.mine_apriori.proofs.tests.join.are_in_report_order.Goals as goal
 
 pub returns : goal.returns

@@ -1,6 +1,6 @@
 use Rattle.std.proofs.Common.{◌≡◌, ◌<◌, ◌+◌, ℕ, [], get_or}
 use Rattle.std.specs.declared.cmp.Ordering.TheVariants.{Less}
-use Rattle.basket_core.specs.Order.{report_order}
+use Rattle.basket_sets.specs.Order.{report_order}
 use Rattle.mine_apriori.proofs.tests.join.are_in_report_order.Given as goal
 
 abbrev pub invariant-loop-place : goal.invariant-loop-place

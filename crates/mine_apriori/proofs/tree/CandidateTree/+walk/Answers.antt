@@ -1,6 +1,6 @@
 use Rattle.std.proofs.Common.{◌≡◌, ◌+◌, ℕ, length, take, get_or, sym, ap, ◌∙◌, subst, arith}
 use Rattle.std.proofs.lemmas.List.{take_rest}
-use Rattle.basket_core.specs.Itemset.{IsRising, has}
+use Rattle.basket_sets.specs.Itemset.{IsRising, has}
 use Rattle.mine_apriori.specs.Run.{AddsWithin}
 use Rattle.mine_apriori.specs.Tree.{IsTree, leaf_depth}
 use Rattle.mine_apriori.proofs.ContainLemmas.{drop_rises}

@@ -1,6 +1,16 @@
-use Rattle.std.proofs.Common.{◌≡◌, ◌≤◌, All, ◌+◌, length, take, refl, subst, sym, ap, ◌∙◌}
-use Rattle.mine_apriori.proofs.SupportLemmas.{AreSupports, supports_fit, supports_more, lent_back, all_supports}
+use Rattle.std.proofs.Common.{◌≡◌, ◌≤◌, All, ◌+◌, length, take, refl, subst, sym, ap, ◌∙◌, suc, arith}
+use Rattle.std.proofs.lemmas.List.{take_at}
+use Rattle.mine_apriori.specs.Tree.{IsTree, IsRun, leaf_depth}
+use Rattle.mine_apriori.proofs.NodeLemmas.{root_run}
+use Rattle.mine_apriori.proofs.SupportLemmas.{AreSupports, supports_fit, supports_more, all_supports}
+use Rattle.mine_apriori.proofs.TreeLemmas.{are_full}
 use Rattle.mine_apriori.proofs.tree.CandidateTree.count.Goals as goal
+
+pub count_basket-requires-clause-run : goal.count_basket-requires-clause-run
+count_basket-requires-clause-run c =
+    let sets = c.args.self.now in
+    let tree = subst (λ s. IsTree s c.self.inside.inner.items c.self.inside.leaves.items) c.self.view_is c.self.invariant.0 in
+    subst (IsRun sets 0 0) (sym c.roots-roots.ensures) (root_run sets (suc (leaf_depth sets)) (are_full sets tree.sized) tree.in_order (omega arith))
 
 pub count_basket-requires-clause-fits : goal.count_basket-requires-clause-fits
 count_basket-requires-clause-fits c =
@@ -12,10 +22,10 @@ loop-place-preserved c =
     let sets = c.args.self.now in
     let new = c.count_basket.new.counts in
     let same : length new ≡ c.loop-place.counts.len = c.count_basket.auto.counts ∙ c.deref_mut-in-loop-place.ensures.len in
-    let back = lent_back c.loop-place.counts.len c.loop-place.counts.items new same in
+    let back = take_at new _ c.loop-place.counts.len same in
     let lent = c.count_basket.new.kept in
     let still : length lent ≡ c.loop-place.kept.len = c.count_basket.auto.kept ∙ c.deref_mut.ensures.len in
-    let room = ap length (lent_back c.loop-place.kept.len c.loop-place.kept.items lent still) ∙ c.count_basket.auto.kept ∙ ap length c.deref_mut.ensures.value in
+    let room = ap length (take_at lent _ c.loop-place.kept.len still) ∙ c.count_basket.auto.kept ∙ ap length c.deref_mut.ensures.value in
     record {
       room = subst (λ n. All (λ place. length place.basket ≤ n) c.args.baskets.now) (sym room) c.loop-place.invariant.room;
       long = ap length back ∙ c.count_basket.auto.counts ∙ ap length c.deref_mut-in-loop-place.ensures.value ∙ c.loop-place.invariant.long;

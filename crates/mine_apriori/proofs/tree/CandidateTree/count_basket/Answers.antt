@@ -1,31 +1,16 @@
-use Rattle.std.proofs.Common.{take, [], get_or, filter, subst, sym, ap, ◌∙◌, suc, arith}
+use Rattle.std.proofs.Common.{take, [], get_or, filter, subst, sym, ap, ◌∙◌}
 use Rattle.std.specs.Ordering.{nat_cmp}
 use Rattle.std.proofs.lemmas.List.Kept.{IsStrictlySortedBy-filter}
-use Rattle.basket_core.specs.Itemset.{IsRising, contains}
+use Rattle.basket_sets.specs.Itemset.{IsRising, contains}
 use Rattle.mine_apriori.specs.Used.{AreMarked, may_be_used}
-use Rattle.mine_apriori.specs.Tree.{IsTree, IsRun, leaf_depth}
-use Rattle.mine_apriori.proofs.NodeLemmas.{root_run}
 use Rattle.mine_apriori.proofs.SupportLemmas.{walked_from_roots}
-use Rattle.mine_apriori.proofs.TreeLemmas.{are_full}
 use Rattle.mine_apriori.proofs.UsedLemmas.{kept_contains}
 use Rattle.mine_apriori.proofs.tree.CandidateTree.count_basket.Goals as goal
-
-pub walk-requires-clause-run : goal.walk-requires-clause-run
-walk-requires-clause-run c =
-    let sets = c.args.self.now in
-    let tree = subst (λ s. IsTree s c.self.inside.inner.items c.self.inside.leaves.items) c.self.view_is c.self.invariant.0 in
-    subst (IsRun sets 0 0) (sym c.roots-roots.ensures) (root_run sets (suc (leaf_depth sets)) (are_full sets tree.sized) tree.in_order (omega arith))
 
 pub walk-requires-clause-rising : goal.walk-requires-clause-rising
 walk-requires-clause-rising c =
     subst IsRising (sym (c.keep_used-len.ensures.kept))
     (IsStrictlySortedBy-filter nat_cmp (may_be_used c.deref.result.now) c.items-items.result.now (subst IsRising (sym c.items-items.ensures.items) c.items-items.ensures.rising))
-
-pub walk-requires-else-len-gt1-clause-run : goal.walk-requires-else-len-gt1-clause-run
-walk-requires-else-len-gt1-clause-run c =
-    let sets = c.args.self.now in
-    let tree = subst (λ s. IsTree s c.self.inside.inner.items c.self.inside.leaves.items) c.self.view_is c.self.invariant.0 in
-    subst (IsRun sets 0 0) (sym c.roots-roots.ensures) (root_run sets (suc (leaf_depth sets)) (are_full sets tree.sized) tree.in_order (omega arith))
 
 pub returns-then-len-gt1 : goal.returns-then-len-gt1
 returns-then-len-gt1 c =
@@ -35,10 +20,10 @@ returns-then-len-gt1 c =
     let marked = subst (λ s. AreMarked s table) c.self.view_is c.self.invariant.1 in
     let items = take c.keep_used-len.result c.keep_used-len.new.kept in
     let kept = c.keep_used-len.ensures.kept ∙ ap (λ t. filter (may_be_used t) c.items-items.result.now) c.deref.ensures.value ∙ ap (filter (may_be_used table)) c.items-items.ensures.items in
-    walked_from_roots sets items basket c.roots-roots.result c.args.place.now.weight c.args.counts.now c.walk.new.counts c.roots-roots.ensures
+    walked_from_roots sets items basket c.args.roots c.args.place.now.weight c.args.counts.now c.walk.new.counts c.requires.roots
     (λ k below. ap (λ l. contains l (get_or sets k [])) kept ∙ kept_contains sets table basket k marked below) c.walk.ensures
 
 pub returns-else-len-gt1 : goal.returns-else-len-gt1
 returns-else-len-gt1 c =
-    walked_from_roots c.args.self.now c.items-items.result.now c.args.place.now.basket c.roots-roots.result c.args.place.now.weight c.args.counts.now c.walk-else-len-gt1.new.counts c.roots-roots.ensures
+    walked_from_roots c.args.self.now c.items-items.result.now c.args.place.now.basket c.args.roots c.args.place.now.weight c.args.counts.now c.walk-else-len-gt1.new.counts c.requires.roots
     (λ k below. ap (λ l. contains l (get_or c.args.self.now k [])) c.items-items.ensures.items) c.walk-else-len-gt1.ensures

@@ -1,6 +1,0 @@
-use Rattle.std.proofs.Common.{◌≡◌, take}
-use Rattle.basket_core.specs.Counts.{entries_of}
-use Rattle.basket_core.proofs.counts.listed.Given as goal
-
-abbrev pub invariant-loop-item : goal.invariant-loop-item
-invariant-loop-item l = l.entries.items ≡ entries_of (take l.item l.table)

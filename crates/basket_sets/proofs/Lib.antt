@@ -1,0 +1,5 @@
+pub mod theory
+mod Numbers
+mod CountLemmas
+mod MergeLemmas
+mod PlaceLemmas

@@ -1,0 +1,9 @@
+-- The theory of itemsets, which the proofs of every crate may cite.
+pub mod Members
+pub mod Rising
+pub mod Sorting
+pub mod Subsets
+pub mod Support
+pub mod Merging
+pub mod Frequent
+pub mod Items

@@ -1,0 +1,240 @@
+-- Rising lists of items, what they have, and what they contain.
+use Rattle.std.proofs.Common.{◌≡◌, ◌≢◌, ℕ, ◌+◌, ◌<◌, ◌≤◌, Bool, true, false, ◌||◌, List, [], ◌∷◌, ◌++◌, length, cond, eqb, ltb, refl, sym, ap, ◌∙◌, subst, inl, inr, ◌⊎◌, arith, get_or, take, Result, Ok, Err, is_ok}
+use Rattle.std.specs.declared.cmp.Ordering.TheVariants.{Less, Equal, Greater}
+use Rattle.std.specs.Ordering.{nat_cmp}
+use Rattle.std.specs.Cmp.{nat_cmp_total}
+use Rattle.std.specs.List.Sorted.{IsStrictlySortedBy}
+use Rattle.std.proofs.lemmas.Bool.{eqb-true, eqb-false, ltb-true, ltb-false, eq-eqb, lt-ltb, or_cases, cases_Bool, and_parts, and_from, cases_lt, true≢false, false_from_ne_true}
+use Rattle.std.proofs.Math.Bool.{or-false, or_assoc}
+use Rattle.std.proofs.lemmas.Bool.Decides.{nat_tests}
+use Rattle.basket_sets.specs.Itemset.{IsRising, has, contains, with_item, rising}
+use Rattle.std.specs.List.Sorted.{IsBinarySearchResult, IsPermutation, IsSorted}
+use Rattle.std.specs.List.{Contains, IsAllAdjacentAnswer, dedup}
+use Rattle.std.proofs.lemmas.List.{get_or_default, get_or-take, length-take, take_more}
+use Rattle.std.proofs.lemmas.List.Kept.{Contains-dedup_nat, Contains-from_dedup}
+use Rattle.std.proofs.lemmas.List.Sorted.{searched, Contains-permutation, IsPermutation-sym}
+use Rattle.std.proofs.lemmas.Map.Keys.{non_decreasing_from_sorted, sorted_from_strictly_increasing, below_from_sorted, IsStrictlyIncreasing-dedup}
+use Rattle.basket_sets.proofs.theory.Members.{Member, All-from_Member, first_is_less, rest_is_sorted, same_members, Member-from_Contains, Contains-from_Member}
+
+-- ---- the order of numbers
+
+pub Less-from_lt : (x y : ℕ) → x < y → nat_cmp x y ≡ Less
+Less-from_lt x y h = ap (λ b. cond b Less (cond (eqb x y) Equal Greater)) (lt-ltb x y h)
+
+pub lt-from_Less : (x y : ℕ) → nat_cmp x y ≡ Less → x < y
+lt-from_Less x y h = grind (arith, nat_tests)
+
+-- ---- membership, as a test and as a fact
+
+-- tests that imply each other are equal
+pub same_test : (a b : Bool) → (a ≡ true → b ≡ true) → (b ≡ true → a ≡ true) → a ≡ b
+same_test true b f g = sym (f refl)
+same_test false true f g = g refl
+same_test false false f g = refl
+
+pub Member-from_has : (items : List ℕ) (item : ℕ) → has items item ≡ true → Member item items
+Member-from_has [] item h = absurd cc
+Member-from_has (x ∷ xs) item h = elim (or_cases (eqb x item) (has xs item) h) [ inl e ↦ inl (eqb-true x item e) | inr e ↦ inr (Member-from_has xs item e) ]
+
+pub has-from_Member : (items : List ℕ) (item : ℕ) → Member item items → has items item ≡ true
+has-from_Member [] item m = absurd m
+has-from_Member (x ∷ xs) item (inl e) = ap (λ b. b || has xs item) (eq-eqb x item e)
+has-from_Member (x ∷ xs) item (inr m) = elim (cases_Bool (eqb x item)) [
+  | inl e ↦ ap (λ b. b || has xs item) e
+  | inr e ↦ ap (λ b. b || has xs item) e ∙ has-from_Member xs item m
+]
+
+-- ---- contains
+
+pub has_each : (basket set : List ℕ) → contains basket set ≡ true → (item : ℕ) → Member item set → Member item basket
+has_each basket [] h item m = absurd m
+has_each basket (x ∷ set) h item (inl e) = subst (λ y. Member y basket) e (Member-from_has basket x (and_parts (has basket x) (contains basket set) h).0)
+has_each basket (x ∷ set) h item (inr m) = has_each basket set (and_parts (has basket x) (contains basket set) h).1 item m
+
+pub contains_each : (basket set : List ℕ) → ((item : ℕ) → Member item set → Member item basket) → contains basket set ≡ true
+contains_each basket [] h = refl
+contains_each basket (x ∷ set) h =
+    and_from (has basket x) (contains basket set) (has-from_Member basket x (h x (inl refl))) (contains_each basket set (λ item m. h item (inr m)))
+
+pub contains-refl : (set : List ℕ) → contains set set ≡ true
+contains-refl set = contains_each set set (λ item m. m)
+
+pub contains-trans : (a b c : List ℕ) → contains a b ≡ true → contains b c ≡ true → contains a c ≡ true
+contains-trans a b c h k = contains_each a c (λ item m. has_each a b h item (has_each b c k item m))
+
+-- ---- rising lists
+
+pub nil_rises : IsRising []
+unfolding IsStrictlySortedBy
+nil_rises = tt
+
+pub cons_rises : (x : ℕ) (xs : List ℕ) → ((y : ℕ) → Member y xs → x < y) → IsRising xs → IsRising (x ∷ xs)
+unfolding IsStrictlySortedBy
+cons_rises x xs below rest = (All-from_Member (λ y. nat_cmp x y ≡ Less) xs (λ y m. Less-from_lt x y (below y m)), rest)
+
+pub first_below : (x : ℕ) (xs : List ℕ) → IsRising (x ∷ xs) → (y : ℕ) → Member y xs → x < y
+first_below x xs up y m = lt-from_Less x y (first_is_less nat_cmp_total x y xs up m)
+
+pub rest_rises : (x : ℕ) (xs : List ℕ) → IsRising (x ∷ xs) → IsRising xs
+rest_rises x xs up = rest_is_sorted nat_cmp_total x xs up
+
+-- two rising lists that have the same items are equal
+pub same_rising : (xs ys : List ℕ) → IsRising xs → IsRising ys → ((z : ℕ) → Member z xs → Member z ys) → ((z : ℕ) → Member z ys → Member z xs) → xs ≡ ys
+same_rising xs ys = same_members nat_cmp_total xs ys
+
+-- ---- the rising list of a list's items
+
+with_at : (a x y : ℕ) (xs rest : List ℕ) (p q : Bool) → (Member y rest → (a ≡ y) ⊎ Member y xs)
+    → Member y (cond p (a ∷ x ∷ xs) (cond q (x ∷ xs) (x ∷ rest))) → (a ≡ y) ⊎ Member y (x ∷ xs)
+with_at a x y xs rest true q later (inl e) = inl e
+with_at a x y xs rest true q later (inr m) = inr m
+with_at a x y xs rest false true later m = inr m
+with_at a x y xs rest false false later (inl e) = inr (inl e)
+with_at a x y xs rest false false later (inr m) = elim (later m) [ inl e ↦ inl e | inr n ↦ inr (inr n) ]
+
+pub Member-with_item : (a : ℕ) (xs : List ℕ) (y : ℕ) → Member y (with_item a xs) → (a ≡ y) ⊎ Member y xs
+Member-with_item a [] y (inl e) = inl e
+Member-with_item a [] y (inr m) = absurd m
+Member-with_item a (x ∷ xs) y m = with_at a x y xs (with_item a xs) (ltb a x) (eqb a x) (Member-with_item a xs y) m
+
+into_at : (a x y : ℕ) (xs rest : List ℕ) (p q : Bool) → eqb a x ≡ q → ((a ≡ y) ⊎ Member y xs → Member y rest)
+    → (a ≡ y) ⊎ Member y (x ∷ xs) → Member y (cond p (a ∷ x ∷ xs) (cond q (x ∷ xs) (x ∷ rest)))
+into_at a x y xs rest true q is later (inl e) = inl e
+into_at a x y xs rest true q is later (inr m) = inr m
+into_at a x y xs rest false true is later (inl e) = inl (sym (eqb-true a x is) ∙ e)
+into_at a x y xs rest false true is later (inr m) = m
+into_at a x y xs rest false false is later (inl e) = inr (later (inl e))
+into_at a x y xs rest false false is later (inr (inl e)) = inl e
+into_at a x y xs rest false false is later (inr (inr m)) = inr (later (inr m))
+
+pub Member-into_with_item : (a : ℕ) (xs : List ℕ) (y : ℕ) → (a ≡ y) ⊎ Member y xs → Member y (with_item a xs)
+Member-into_with_item a [] y (inl e) = inl e
+Member-into_with_item a [] y (inr m) = absurd m
+Member-into_with_item a (x ∷ xs) y m = into_at a x y xs (with_item a xs) (ltb a x) (eqb a x) refl (Member-into_with_item a xs y) m
+
+rises_at : (a x : ℕ) (xs rest : List ℕ) (p q : Bool) → ltb a x ≡ p → eqb a x ≡ q → IsRising (x ∷ xs) → IsRising rest
+    → ((y : ℕ) → Member y rest → (a ≡ y) ⊎ Member y xs) → IsRising (cond p (a ∷ x ∷ xs) (cond q (x ∷ xs) (x ∷ rest)))
+rises_at a x xs rest true q less is up later from = cons_rises a (x ∷ xs) below up
+  where
+    below : (y : ℕ) → Member y (x ∷ xs) → a < y
+    below y (inl e) = subst (λ z. a < z) e (ltb-true a x less)
+    below y (inr m) = let first = ltb-true a x less in let second = first_below x xs up y m in omega arith
+rises_at a x xs rest false true less is up later from = up
+rises_at a x xs rest false false less is up later from = cons_rises x rest below later
+  where
+    below : (y : ℕ) → Member y rest → x < y
+    below y m = elim (from y m) [
+      | inl e ↦ let le = ltb-false a x less in let ne = eqb-false a x is in omega arith
+      | inr n ↦ first_below x xs up y n
+    ]
+
+pub with_item-rises : (a : ℕ) (xs : List ℕ) → IsRising xs → IsRising (with_item a xs)
+with_item-rises a [] up = cons_rises a [] (λ y m. absurd m) up
+with_item-rises a (x ∷ xs) up =
+    rises_at a x xs (with_item a xs) (ltb a x) (eqb a x) refl refl up (with_item-rises a xs (rest_rises x xs up)) (Member-with_item a xs)
+
+pub rising-rises : (numbers : List ℕ) → IsRising (rising numbers)
+rising-rises [] = nil_rises
+rising-rises (x ∷ numbers) = with_item-rises x (rising numbers) (rising-rises numbers)
+
+pub Member-rising : (numbers : List ℕ) (y : ℕ) → Member y (rising numbers) → Member y numbers
+Member-rising [] y m = m
+Member-rising (x ∷ numbers) y m = elim (Member-with_item x (rising numbers) y m) [ inl e ↦ inl e | inr n ↦ inr (Member-rising numbers y n) ]
+
+pub Member-into_rising : (numbers : List ℕ) (y : ℕ) → Member y numbers → Member y (rising numbers)
+Member-into_rising [] y m = m
+Member-into_rising (x ∷ numbers) y (inl e) = Member-into_with_item x (rising numbers) y (inl e)
+Member-into_rising (x ∷ numbers) y (inr m) = Member-into_with_item x (rising numbers) y (inr (Member-into_rising numbers y m))
+
+-- the rising list of a rising list is that list, and that of a list with the same numbers is the same
+pub rising_is : (numbers items : List ℕ) → IsRising items → ((z : ℕ) → Member z numbers → Member z items) → ((z : ℕ) → Member z items → Member z numbers) → rising numbers ≡ items
+rising_is numbers items up into back =
+    same_rising (rising numbers) items (rising-rises numbers) up (λ z m. into z (Member-rising numbers z m)) (λ z m. Member-into_rising numbers z (back z m))
+
+pub rising-rising : (items : List ℕ) → IsRising items → rising items ≡ items
+rising-rising items up = rising_is items items up (λ z m. m) (λ z m. m)
+
+-- a rising list that another contains is no longer than it
+pub length-le-contains : (set items : List ℕ) → IsRising set → IsRising items → ((z : ℕ) → Member z set → Member z items) → length set ≤ length items
+length-le-contains [] items up over into = omega arith
+length-le-contains (x ∷ set) [] up over into = absurd (into x (inl refl))
+length-le-contains (x ∷ set) (y ∷ items) up over into = elim (into x (inl refl)) [
+  | inl same ↦ let n = length-le-contains set items (rest_rises x set up) (rest_rises y items over)
+      (λ z m. elim (into z (inr m)) [ inl e ↦ absurd (let b = first_below x set up z m in omega arith) | inr k ↦ k ]) in omega arith
+  | inr later ↦ let n = length-le-contains (x ∷ set) items up (rest_rises y items over)
+      (λ z m. elim (into z m) [ inl e ↦ absurd (let b = first_below y items over x later in let c = heads z m in omega arith) | inr k ↦ k ]) in omega arith
+]
+  where
+    heads : (z : ℕ) → Member z (x ∷ set) → x ≤ z
+    heads z (inl e) = omega arith
+    heads z (inr m) = let b = first_below x set up z m in omega arith
+
+-- ---- a binary search of a rising list
+
+rises_by_places : (items : List ℕ) → IsRising items → (i j : ℕ) → i ≤ j → j < length items → get_or items i 0 ≤ get_or items j 0
+rises_by_places items up i j le below = non_decreasing_from_sorted items up i j 0 le below
+
+pub search_is_has : (items : List ℕ) (item : ℕ) (r : Result ℕ ℕ) → IsRising items → IsBinarySearchResult (λ y. nat_cmp y item) items r → is_ok r ≡ has items item
+search_is_has items item (Ok i) up found =
+    let s = searched items item (Ok i) found (rises_by_places items up) in
+    sym (has-from_Member items item (Member-from_Contains item items (i, s.0, ap (λ d. d) (get_or_default items i item 0 s.0 ∙ s.1))))
+search_is_has items item (Err i) up found = elim (cases_Bool (has items item)) [
+  | inl e ↦ absurd (missing (Contains-from_Member item items (Member-from_has items item e)))
+  | inr e ↦ sym e
+]
+  where
+    missing : Contains items item → ⊥
+    missing c =
+        let s = searched items item (Err i) found (rises_by_places items up) in
+        let at : get_or items c.0 0 ≡ item = get_or_default items c.0 0 item c.1 ∙ c.2 in
+        elim (cases_lt c.0 i) [ inl less ↦ (let b = s.1 c.0 less in omega arith) | inr more ↦ (let b = s.2 c.0 more c.1 in omega arith) ]
+
+-- ---- what a list has, item by item
+
+pub has-append : (a b : List ℕ) (x : ℕ) → has (a ++ b) x ≡ (has a x || has b x)
+has-append [] b x = refl
+has-append (y ∷ a) b x = ap (λ t. eqb y x || t) (has-append a b x) ∙ sym (or_assoc (eqb y x) (has a x) (has b x))
+
+-- one more item
+pub has_more : (items : List ℕ) (i x : ℕ) → i < length items → has (take (i + 1) items) x ≡ (has (take i items) x || eqb (get_or items i 0) x)
+has_more items i x below =
+    ap (λ l. has l x) (take_more items i 0 below) ∙ has-append (take i items) (get_or items i 0 ∷ []) x
+    ∙ ap (λ t. has (take i items) x || t) (or-false (eqb (get_or items i 0) x))
+
+-- a list has what stands in it
+pub has_place : (items : List ℕ) (i : ℕ) → i < length items → has items (get_or items i 0) ≡ true
+has_place items i below = has-from_Member items (get_or items i 0) (Member-from_Contains (get_or items i 0) items (i, below, get_or_default items i (get_or items i 0) 0 below))
+
+-- in a rising list an item stands once
+pub not_before : (items : List ℕ) (i : ℕ) → IsRising items → i < length items → has (take i items) (get_or items i 0) ≡ false
+not_before items i up below = false_from_ne_true _ (λ h.
+    let c = Contains-from_Member (get_or items i 0) (take i items) (Member-from_has (take i items) (get_or items i 0) h) in
+    let short : c.0 < i = omega (arith, c.1, length-take i items) in
+    let same : get_or items c.0 0 ≡ get_or items i 0 = get_or_default items c.0 0 (get_or items i 0) (omega arith) ∙ sym (get_or-take i items c.0 (get_or items i 0) short) ∙ c.2 in
+    let less = below_from_sorted items c.0 i 0 up short below in
+    omega arith)
+
+-- ---- the tests and edits of the code
+
+pub rising_test : (numbers : List ℕ) (r : Bool) → IsAllAdjacentAnswer (λ x y b. b ≡ ltb x y) numbers r → (r ≡ true → IsRising numbers) × (IsRising numbers → r ≡ true)
+rising_test numbers true h = (λ e. sorted_from_strictly_increasing numbers (λ k below. ltb-true _ _ (sym (h k 0 below))), λ up. refl)
+rising_test numbers false h = (
+  λ e. absurd (true≢false (sym e)),
+  λ up. absurd (let b = below_from_sorted numbers h.0 (h.0 + 1) 0 up (omega arith) h.1 in let f = ltb-false _ _ (sym (h.2 0)) in omega arith),
+)
+
+-- a sorted permutation with no repeats is the rising list of the numbers
+pub rising-dedup : (numbers sorted : List ℕ) → IsPermutation numbers sorted → IsSorted nat_cmp sorted → dedup eqb sorted ≡ rising numbers
+rising-dedup numbers sorted moved up = sym (rising_is numbers (dedup eqb sorted)
+    (sorted_from_strictly_increasing (dedup eqb sorted) (IsStrictlyIncreasing-dedup sorted up))
+    (λ z m. Member-from_Contains z (dedup eqb sorted) (Contains-dedup_nat sorted z (Contains-permutation numbers sorted z moved (Contains-from_Member z numbers m))))
+    (λ z m. Member-from_Contains z numbers (Contains-permutation sorted numbers z (IsPermutation-sym numbers sorted moved) (Contains-from_dedup eqb sorted z (Contains-from_Member z (dedup eqb sorted) m)))))
+
+-- what a search answers: a place of the item, or that no place has it
+pub found_at : (items : List ℕ) (item found : ℕ) → IsRising items → IsBinarySearchResult (λ y. nat_cmp y item) items (Ok found) → (found < length items) × (get_or items found 0 ≡ item)
+found_at items item found up is = searched items item (Ok found) is (rises_by_places items up)
+
+pub found_nowhere : (items : List ℕ) (item place : ℕ) → IsRising items → IsBinarySearchResult (λ y. nat_cmp y item) items (Err place) → (k : ℕ) → k < length items → get_or items k 0 ≢ item
+found_nowhere items item place up is k below e =
+    let s = searched items item (Err place) is (rises_by_places items up) in
+    elim (cases_lt k place) [ inl less ↦ (let b = s.1 k less in omega arith) | inr more ↦ (let b = s.2 k more below in omega arith) ]

@@ -1,0 +1,76 @@
+-- Support falls as a set grows, adds up over parts, and is above nothing only for sets of the database's items.
+use Rattle.std.proofs.Common.{◌≡◌, ℕ, ◌+◌, ◌*◌, ◌≤◌, Bool, true, List, [], ◌∷◌, ◌++◌, cond, leb, refl, sym, ap, ◌∙◌, subst, inl, inr, arith}
+use Rattle.std.specs.List.{flat_map}
+use Rattle.std.proofs.lemmas.List.Sums.{sum_by-append, sum_by-cons, sum_by-le-sum_by}
+use Rattle.std.proofs.lemmas.Bool.{cases_Bool, and_parts, and_from, leb-true, le-leb, cond-false}
+use Rattle.basket_sets.specs.declared.weighted.Weighted.{Weighted}
+use Rattle.basket_sets.specs.declared.minimum.Minimum.{Minimum}
+use Rattle.basket_sets.specs.declared.minimum.Minimum.TheVariants.{Count, Share}
+use Rattle.basket_sets.specs.Itemset.{contains}
+use Rattle.basket_sets.specs.Minimum.{meets}
+use Rattle.basket_sets.specs.Support.{weight_at, support_of, total_of, items_of, SupportFalls, SupportsAddUp}
+use Rattle.basket_sets.specs.Frequent.{is_frequent, SubsetsAreFrequent, FrequentSetsHaveItems}
+use Rattle.basket_sets.proofs.theory.Members.{Member, Member-append_left, Member-append_right}
+use Rattle.basket_sets.proofs.theory.Rising.{has_each, contains_each, contains-trans, Member-into_rising}
+
+weight_at-contains : (place : Weighted) (set subset : List ℕ) → contains set subset ≡ true → weight_at set place ≤ weight_at subset place
+weight_at-contains place set subset h = elim (cases_Bool (contains place.basket set)) [
+  | inl e ↦ let k = contains-trans place.basket set subset e h in let P = λ (b : Bool). cond (contains place.basket set) place.weight 0 ≤ cond b place.weight 0 in
+      subst P (sym k) (subst (λ b. cond b place.weight 0 ≤ place.weight) (sym e) (omega arith))
+  | inr e ↦ subst (λ b. cond b place.weight 0 ≤ weight_at subset place) (sym e) (omega arith)
+]
+
+pub support_falls : SupportFalls
+support_falls baskets set subset h = sum_by-le-sum_by (weight_at set) (weight_at subset) baskets (λ place. weight_at-contains place set subset h)
+
+pub support-append : (a b : List Weighted) (set : List ℕ) → support_of (a ++ b) set ≡ support_of a set + support_of b set
+support-append a b set = sum_by-append (weight_at set) a b
+
+pub support-cons : (place : Weighted) (baskets : List Weighted) (set : List ℕ) → support_of (place ∷ baskets) set ≡ weight_at set place + support_of baskets set
+support-cons place baskets set = sum_by-cons (weight_at set) place baskets
+
+pub supports_add_up : SupportsAddUp
+supports_add_up [] set = refl
+supports_add_up (part ∷ parts) set =
+    support-append part (flat_map (λ p. p) parts) set ∙ ap (λ n. support_of part set + n) (supports_add_up parts set)
+    ∙ sym (sum_by-cons (λ p. support_of p set) part parts)
+
+-- a set of some support stands in some basket, whose items are the database's
+pub in_items : (baskets : List Weighted) (set : List ℕ) → 1 ≤ support_of baskets set → (item : ℕ) → Member item set → Member item (flat_map (λ place. place.basket) baskets)
+in_items [] set some item m = absurd (omega arith)
+in_items (place ∷ baskets) set some item m = elim (cases_Bool (contains place.basket set)) [
+  | inl e ↦ Member-append_left item place.basket (flat_map (λ p. p.basket) baskets) (has_each place.basket set e item m)
+  | inr e ↦ Member-append_right item place.basket (flat_map (λ p. p.basket) baskets)
+      (in_items baskets set (let z = cond-false (contains place.basket set) place.weight 0 e in let c = support-cons place baskets set in omega arith) item m)
+]
+
+-- ---- minimums
+
+pub meets_more : (minimum : Minimum) (support more total : ℕ) → support ≤ more → meets minimum support total ≡ true → meets minimum more total ≡ true
+meets_more (Count least) support more total le h =
+    let p = and_parts (leb 1 support) (leb least support) h in
+    let one = leb-true 1 support p.0 in let enough = leb-true least support p.1 in
+    and_from (leb 1 more) (leb least more) (le-leb 1 more (omega arith)) (le-leb least more (omega arith))
+meets_more (Share n d) support more total le h =
+    let p = and_parts (leb 1 support) (leb (n * total) (support * d)) h in
+    let one = leb-true 1 support p.0 in let enough = leb-true (n * total) (support * d) p.1 in
+    and_from (leb 1 more) (leb (n * total) (more * d)) (le-leb 1 more (omega arith)) (le-leb (n * total) (more * d) (scaled support more d (n * total) le enough))
+  where
+    scaled : (s m d t : ℕ) → s ≤ m → t ≤ s * d → t ≤ m * d
+    scaled s m d t le h = grind arith
+
+pub subsets_are_frequent : SubsetsAreFrequent
+subsets_are_frequent baskets minimum set subset h k =
+    meets_more minimum (support_of baskets set) (support_of baskets subset) (total_of baskets) (support_falls baskets set subset h) k
+
+pub at_least_one : (minimum : Minimum) (support total : ℕ) → meets minimum support total ≡ true → 1 ≤ support
+at_least_one (Count least) support total h = leb-true 1 support (and_parts (leb 1 support) (leb least support) h).0
+at_least_one (Share n d) support total h = leb-true 1 support (and_parts (leb 1 support) (leb (n * total) (support * d)) h).0
+
+pub frequent_items : (baskets : List Weighted) (minimum : Minimum) (set : List ℕ) → is_frequent baskets minimum set ≡ true → (item : ℕ) → Member item set → Member item (items_of baskets)
+frequent_items baskets minimum set h item m =
+    Member-into_rising (flat_map (λ place. place.basket) baskets) item
+    (in_items baskets set (at_least_one minimum (support_of baskets set) (total_of baskets) h) item m)
+
+pub frequent_sets_have_items : FrequentSetsHaveItems
+frequent_sets_have_items baskets minimum set h = contains_each (items_of baskets) set (frequent_items baskets minimum set h)

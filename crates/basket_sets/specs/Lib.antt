@@ -1,0 +1,10 @@
+pub mod Itemset
+pub mod Order
+pub mod Support
+pub mod Counts
+pub mod Database
+pub mod Merge
+pub mod Subsets
+pub mod Minimum
+pub mod Frequent
+pub mod Worked

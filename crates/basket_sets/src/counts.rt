@@ -1,0 +1,147 @@
+ghost use Rattle.std.specs.Prelude.{◌≡◌, ◌<◌, ◌≤◌, ◌+◌, ◌^◌, ℕ, None, IfOk, IsTrue, if◌then◌else◌, length, map, unwrap_or, slice_index, slice_index_or};
+ghost use Rattle.std.specs.List.{zip};
+ghost use Rattle.basket_sets.specs.Counts.{item_supports, tally, IsTable, slot_with, AllBelow, entries_of};
+ghost use Rattle.basket_sets.specs.Database.{MOST_WEIGHT};
+ghost use Rattle.basket_sets.specs.Itemset.{IsRising, has};
+ghost use Rattle.basket_sets.specs.Support.{total_of, all_items, items_of};
+
+use crate::weighted::Weighted;
+use std::alloc::{AllocError, Global};
+
+/// A table of so many slots is made for any baskets, however few items they have.
+const SMALL_TABLE: usize = 65_536;
+
+/// The items of the baskets in rising order, each with its support.
+pub fn count_items(alloc: Global, baskets: &[Weighted]) -> Result<Vec<(u32, u64)>, AllocError>
+    requires { total_of baskets.now ≤ MOST_WEIGHT }
+    ensures counts { IfOk result (λ counts. counts.items ≡ item_supports baskets.now) }
+    ensures rising { IfOk result (λ counts. IsRising (map (λ entry. entry.0) counts.items)) }
+{
+    let greatest = greatest_item(baskets);
+    if greatest as usize <= occurrences(baskets).max(SMALL_TABLE) {
+        count_by_table(alloc, baskets, greatest)
+    } else {
+        count_by_search(alloc, baskets)
+    }
+}
+
+/// How many items the baskets have together, or `usize::MAX` where they have more.
+fn occurrences(baskets: &[Weighted]) -> usize {
+    let mut occurrences = 0usize;
+    for place in baskets {
+        occurrences = occurrences.saturating_add(place.basket.len());
+    }
+    occurrences
+}
+
+/// The greatest item of any basket, or 0.
+fn greatest_item(baskets: &[Weighted]) -> u32
+    ensures { AllBelow (result + 1) (all_items baskets.now) }
+{
+    let mut greatest = 0u32;
+    for place in baskets {
+        if let Some(last) = place.basket.items().last() {
+            greatest = greatest.max(*last);
+        }
+    }
+    greatest
+}
+
+/// Counts in a table that has a slot for each number up to the greatest item.
+fn count_by_table(
+    alloc: Global,
+    baskets: &[Weighted],
+    greatest: u32,
+) -> Result<Vec<(u32, u64)>, AllocError>
+    requires light { total_of baskets.now ≤ MOST_WEIGHT }
+    requires within { AllBelow (greatest + 1) (all_items baskets.now) }
+    ensures { IfOk result (λ counts. counts.items ≡ item_supports baskets.now) }
+{
+    let mut table = vec![in alloc; None; greatest as usize + 1]?;
+    for place in baskets {
+        add_to_table(&mut table, place);
+    }
+    listed(alloc, &table)
+}
+
+/// Adds the weight of a place at each of its items.
+fn add_to_table(table: &mut [Option<u64>], place: &Weighted)
+    requires within { AllBelow (length table.old) place.now.basket }
+    requires fits { (item : ℕ) → IsTrue (has place.now.basket item)
+        → unwrap_or (slice_index_or table.old item None) 0 + place.now.weight < 2 ^ 64 }
+    ensures { (item : ℕ) → slice_index_or table.new item None
+        ≡ (if has place.now.basket item
+        then slot_with place.now.weight (slice_index_or table.old item None)
+        else slice_index_or table.old item None) }
+{
+    for item in place.basket.items() {
+        let slot = &mut table[*item as usize];
+        *slot = Some(slot.unwrap_or(0) + place.weight);
+    }
+}
+
+/// The numbers of the slots that have something.
+fn listed(alloc: Global, table: &[Option<u64>]) -> Result<Vec<(u32, u64)>, AllocError>
+    requires { length table.now ≤ 2 ^ 32 }
+    ensures { IfOk result (λ entries. entries.items ≡ entries_of table.now) }
+{
+    let mut entries = Vec::new(alloc);
+    for (item, slot) in table.iter().enumerate() {
+        if let Some(support) = slot {
+            entries.push((item as u32, *support))?;
+        }
+    }
+    Ok(entries)
+}
+
+/// Counts beside the rising list of the items, where a table would have far more slots than items.
+fn count_by_search(alloc: Global, baskets: &[Weighted]) -> Result<Vec<(u32, u64)>, AllocError>
+    requires { total_of baskets.now ≤ MOST_WEIGHT }
+    ensures { IfOk result (λ counts. counts.items ≡ item_supports baskets.now) }
+{
+    let items = distinct_items(alloc, baskets)?;
+    let mut supports = vec![in alloc; 0; items.len()]?;
+    for place in baskets {
+        add_to_found(&items, &mut supports, place);
+    }
+    paired(alloc, &items, &supports)
+}
+
+/// The items of the baskets in rising order.
+fn distinct_items(alloc: Global, baskets: &[Weighted]) -> Result<Vec<u32>, AllocError>
+    ensures { IfOk result (λ items. items.items ≡ items_of baskets.now) }
+{
+    let mut items = Vec::new(alloc);
+    for place in baskets {
+        items.extend_from_slice(place.basket.items())?;
+    }
+    items.sort_unstable();
+    items.dedup();
+    Ok(items)
+}
+
+/// Adds the weight of a place at each of the items that it has.
+fn add_to_found(items: &[u32], supports: &mut [u64], place: &Weighted)
+    requires rising { IsRising items.now }
+    requires long { length supports.old ≡ length items.now }
+    requires fits { (k : ℕ) → k < length items.now → IsTrue (has place.now.basket (slice_index items.now k))
+        → slice_index supports.old k + place.now.weight < 2 ^ 64 }
+    ensures { (k : ℕ) → k < length items.now → slice_index supports.new k
+        ≡ slice_index supports.old k + (if has place.now.basket (slice_index items.now k) then place.now.weight else 0) }
+{
+    for item in place.basket.items() {
+        if let Ok(found) = items.binary_search(item) {
+            supports[found] += place.weight;
+        }
+    }
+}
+
+fn paired(alloc: Global, items: &[u32], supports: &[u64]) -> Result<Vec<(u32, u64)>, AllocError>
+    ensures { IfOk result (λ pairs. pairs.items ≡ zip items.now supports.now) }
+{
+    items
+        .iter()
+        .copied()
+        .zip(supports.iter().copied())
+        .collect(alloc)
+}

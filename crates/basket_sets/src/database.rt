@@ -1,0 +1,134 @@
+ghost use Rattle.std.specs.Prelude.{◌≡◌, ◌≢◌, ◌<◌, ◌≤◌, ◌+◌, ◌↔◌, [], ◌∷◌, ◌++◌, length, IsTrue, IfOk, IfErr, OnOk, OnErr};
+ghost use Rattle.basket_sets.specs.Database.{IsDatabase, weighted, MOST_BASKETS, MOST_WEIGHT, merged_of};
+ghost use Rattle.basket_sets.specs.Support.{support_of, total_of};
+
+use crate::itemset::Itemset;
+use crate::merge::merge_equal;
+use crate::weighted::Weighted;
+use std::alloc::{AllocError, AllocFailed, Global};
+use std::marker::Model;
+
+/// A list of nonempty baskets, each with its weight. Equal baskets may stand at several places.
+#[derive(Debug, Drop)]
+pub struct Database {
+    baskets: Vec<Weighted>,
+    total: u64,
+}
+
+impl Model for Database {
+    ghost use Rattle.std.specs.Prelude.{List, ◌≡◌};
+    ghost use Rattle.basket_sets.specs.declared.weighted.Weighted.{Weighted as Place};
+    ghost use Rattle.basket_sets.specs.Database.{IsDatabase};
+    ghost use Rattle.basket_sets.specs.Support.{total_of};
+
+    ghost Value = { List Place };
+
+    ghost view = { λ d. d.baskets.items };
+
+    ghost invariant = { λ d. IsDatabase d.baskets.items × (d.total ≡ total_of d.baskets.items) };
+}
+
+impl Database {
+    /// How many baskets a database has at most.
+    pub const MAX_BASKETS: usize = 4_294_967_294;
+
+    /// How much the baskets of a database weigh together at most.
+    pub const MAX_WEIGHT: u64 = 1_099_511_627_775;
+
+    /// The database without a basket.
+    pub fn new(alloc: Global) -> Self
+        ensures { result ≡ [] }
+    {
+        Database {
+            baskets: Vec::new(alloc),
+            total: 0,
+        }
+    }
+
+    /// Adds a basket at the end. Where there is no memory the basket comes back.
+    pub fn push(&mut self, basket: Itemset, weight: u64) -> Result<(), Itemset>
+        requires nonempty { basket ≢ [] }
+        requires weighs { 1 ≤ weight }
+        requires few { length self.old < MOST_BASKETS }
+        requires light { total_of self.old + weight ≤ MOST_WEIGHT }
+        ensures ok { OnOk result (self.new ≡ self.old ++ weighted basket weight ∷ []) }
+        ensures err { OnErr result (self.new ≡ self.old) }
+        ensures given_back { IfErr result (λ b. b ≡ basket) }
+    {
+        // Nothing is read here: the call brings its contract, which says that the items rise.
+        let _items = basket.items();
+        match self.baskets.push(Weighted { basket, weight }) {
+            Ok(()) => {
+                self.total += weight;
+                Ok(())
+            }
+            Err(AllocFailed { value }) => {
+                let Weighted { basket, weight: _ } = value;
+                Err(basket)
+            }
+        }
+    }
+
+    /// The baskets in the order in which they were added.
+    pub fn baskets(&self) -> &[Weighted]
+        ensures baskets { result.now ≡ self.now }
+        ensures database { IsDatabase self.now }
+    {
+        &self.baskets
+    }
+
+    /// The number of baskets.
+    pub fn len(&self) -> usize
+        ensures { result ≡ length self.now }
+    {
+        self.baskets.len()
+    }
+
+    pub fn is_empty(&self) -> bool
+        ensures { IsTrue result ↔ (self.now ≡ []) }
+    {
+        self.baskets.is_empty()
+    }
+
+    /// Each distinct basket once, at its first place, with the sum of its weights.
+    pub fn merged(&self, alloc: Global) -> Result<Database, AllocError>
+        ensures { IfOk result (λ merged. merged ≡ merged_of self.now) }
+    {
+        let mut baskets = copied(alloc, self.baskets())?;
+        merge_equal(alloc, &mut baskets)?;
+        Ok(Database {
+            baskets,
+            total: self.total,
+        })
+    }
+
+    /// The weight of all baskets together.
+    pub fn total(&self) -> u64
+        ensures { result ≡ total_of self.now }
+    {
+        self.total
+    }
+}
+
+fn copied(alloc: Global, baskets: &[Weighted]) -> Result<Vec<Weighted>, AllocError>
+    ensures { IfOk result (λ copy. copy.items ≡ baskets.now) }
+{
+    let mut copy = Vec::with_capacity(alloc, baskets.len())?;
+    for place in baskets {
+        copy.push(place.copied(alloc)?)?;
+    }
+    Ok(copy)
+}
+
+/// The support of a set, by a scan of all baskets (Agrawal and Srikant 1994).
+pub fn support(database: &Database, set: &Itemset) -> u64
+    ensures { result ≡ support_of database.now set.now }
+{
+    let mut support = 0;
+    for place in database.baskets() {
+        if place.basket.holds(set) {
+            support += place.weight;
+        }
+    }
+    support
+}

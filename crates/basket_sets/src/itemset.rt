@@ -1,0 +1,165 @@
+ghost use Rattle.std.specs.Prelude.{◌≡◌, ◌≤◌, [], ◌↔◌, length, IsTrue, IsOk, IfOk, nat_eq};
+ghost use Rattle.std.specs.Cmp.{partial_equiv_from_equiv};
+ghost use Rattle.std.specs.Cmp.Lexicographic.{pointwise, nat_list_eq_equiv};
+ghost use Rattle.std.specs.Hash as fed;
+ghost use Rattle.std.specs.Ordering.{as_partial_cmp};
+ghost use Rattle.std.proofs.Common.{refl};
+ghost use Rattle.basket_sets.specs.Order.{report_order, report_order_total, report_order_ties, report_order_partial, items_fed_alike};
+ghost use Rattle.basket_sets.specs.Itemset.{IsRising, has, contains, rising};
+ghost use Rattle.basket_sets.specs.declared.itemset.TheConstants.{INLINE_ITEMS};
+
+use smallvec::SmallVec;
+use std::alloc::{AllocError, Global};
+use std::cmp::Ordering;
+use std::fmt;
+use std::hash::{Hash, Hasher};
+use std::marker::Model;
+
+/// How many items a set keeps without an allocation of its own.
+pub const INLINE_ITEMS: usize = 12;
+
+/// Whether each number is below the next, as they are in most files.
+fn is_rising(numbers: &[u32]) -> bool
+    ensures { IsTrue result ↔ IsRising numbers.now }
+{
+    numbers.is_sorted_by(|number, next| number < next)
+}
+
+/// A set of items, as a strictly rising list of their numbers. It may be empty.
+#[derive(Debug, Drop)]
+pub struct Itemset {
+    items: SmallVec<u32, { INLINE_ITEMS }>,
+}
+
+impl Model for Itemset {
+    ghost use Rattle.std.specs.Prelude.{ℕ, List};
+    ghost use Rattle.basket_sets.specs.Itemset.{IsRising};
+
+    ghost Value = { List ℕ };
+
+    ghost view = { λ set. set.items.items };
+
+    ghost invariant = { λ set. IsRising set.items.items };
+}
+
+impl Itemset {
+    /// The set of the numbers, which may come in any order and repeat.
+    pub fn from_items(alloc: Global, numbers: &[u32]) -> Result<Self, AllocError>
+        ensures ok { IfOk result (λ set. set ≡ rising numbers.now) }
+        ensures short { length numbers.now ≤ INLINE_ITEMS → IsOk result }
+    {
+        let mut items = SmallVec::from_slice(alloc, numbers)?;
+        if !is_rising(numbers) {
+            items.as_mut_slice().sort_unstable();
+            items.dedup();
+        }
+        Ok(Itemset { items })
+    }
+
+    /// The items, strictly rising.
+    pub fn items(&self) -> &[u32]
+        ensures items { result.now ≡ self.now }
+        ensures rising { IsRising self.now }
+    {
+        self.items.as_slice()
+    }
+
+    pub fn len(&self) -> usize
+        ensures { result ≡ length self.now }
+    {
+        self.items.len()
+    }
+
+    pub fn is_empty(&self) -> bool
+        ensures { IsTrue result ↔ (self.now ≡ []) }
+    {
+        self.items.is_empty()
+    }
+
+    /// Whether the item is in the set.
+    pub fn contains(&self, item: u32) -> bool
+        ensures { result ≡ has self.now item }
+    {
+        self.items().binary_search(&item).is_ok()
+    }
+
+    /// Whether every item of the other set is in this one.
+    pub fn holds(&self, other: &Itemset) -> bool
+        ensures { result ≡ contains self.now other.now }
+    {
+        other.items().iter().all(|item| self.contains(*item))
+    }
+
+    pub fn copied(&self, alloc: Global) -> Result<Self, AllocError>
+        ensures same { IfOk result (λ copy. copy ≡ self.now) }
+        ensures short { length self.now ≤ INLINE_ITEMS → IsOk result }
+    {
+        Ok(Itemset {
+            items: SmallVec::from_slice(alloc, self.items.as_slice())?,
+        })
+    }
+}
+
+impl PartialEq for Itemset {
+    ghost eq = { pointwise nat_eq };
+
+    ghost laws = { partial_equiv_from_equiv nat_list_eq_equiv };
+
+    fn eq(&self, other: &Self) -> bool {
+        self.items() == other.items()
+    }
+}
+
+impl Eq for Itemset {
+    ghost laws = { nat_list_eq_equiv };
+}
+
+impl PartialOrd for Itemset {
+    ghost partial_cmp = { as_partial_cmp report_order };
+
+    ghost laws = { report_order_partial };
+
+    fn partial_cmp(&self, other: &Self) -> Option<Ordering> {
+        Some(self.cmp(other))
+    }
+}
+
+/// Report order: smaller sets first, sets of one size lexicographically by item number.
+impl Ord for Itemset {
+    ghost cmp = { report_order };
+
+    ghost total = { report_order_total };
+
+    ghost matches_partial_cmp = { λ _ _. refl };
+
+    ghost matches_eq = { report_order_ties };
+
+    fn cmp(&self, other: &Self) -> Ordering {
+        self.len()
+            .cmp(&other.len())
+            .then_with(|| self.items().cmp(&other.items()))
+    }
+}
+
+impl Hash for Itemset {
+    ghost hash_input = { fed.slice fed.u32 };
+
+    ghost respects_eq = { items_fed_alike };
+
+    fn hash<H: Hasher>(&self, state: &mut H) {
+        self.items().hash(state);
+    }
+}
+
+/// The items with one space between.
+impl fmt::Display for Itemset {
+    fn fmt<W: fmt::Write>(&self, f: &mut fmt::Formatter<W>) -> fmt::Result {
+        for (place, item) in self.items().iter().enumerate() {
+            if place > 0 {
+                f.write_str(" ")?;
+            }
+            write!(f, "{item}")?;
+        }
+        Ok(())
+    }
+}

@@ -1,0 +1,25 @@
+//! Itemsets, databases of weighted baskets, and what it means that a set is frequent.
+#![tactic(auto)]
+
+mod counted;
+mod counts;
+mod database;
+mod itemset;
+pub mod laws;
+mod merge;
+mod minimum;
+mod order;
+mod weighted;
+pub mod worked;
+
+pub use counted::Counted;
+pub use counts::count_items;
+pub use database::{Database, support};
+pub use itemset::{INLINE_ITEMS, Itemset};
+pub use merge::merge_equal;
+pub use minimum::{Minimum, parse_minimum, parse_share};
+pub use order::report_order;
+pub use weighted::Weighted;
+
+#[cfg(test)]
+mod tests;

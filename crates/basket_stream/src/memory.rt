@@ -1,0 +1,133 @@
+//! A source and a sink over memory, for tests of reading and writing.
+ghost use Rattle.std.specs.Prelude.{◌≡◌, ◌<◌, ◌≤◌, false, true, Some, None, [], IfOk, List, ℕ, length};
+ghost use Rattle.std.specs.Io.{ReadsAtMost, WritesAtMost};
+
+use crate::failed::Failed;
+use crate::sink::Sink;
+use crate::source::Source;
+use std::alloc::{AllocError, Global};
+
+/// A source that gives the bytes of a slice.
+#[derive(Debug, Drop)]
+pub struct MemSource<'a> {
+    rest: &'a [u8],
+    greatest_piece: usize,
+    reads_before_failure: Option<u64>,
+    failed: bool,
+    ghost gives_some: { 0 < greatest_piece },
+}
+
+impl<'a> MemSource<'a> {
+    /// A source that gives at most `greatest_piece` bytes a read, and fails after so many reads,
+    /// or never.
+    pub fn new(bytes: &'a [u8], greatest_piece: usize, reads_before_failure: Option<u64>) -> Self
+        requires { 0 < greatest_piece }
+        ensures fresh { ⟦<MemSource<'a> as Source>⟧.has_failed result ≡ false }
+        ensures left { ⟦<MemSource<'a> as Source>⟧.left result ≡ Some bytes.now }
+    {
+        MemSource {
+            rest: bytes,
+            greatest_piece,
+            reads_before_failure,
+            failed: false,
+        }
+    }
+}
+
+impl Source for MemSource<'_> {
+    ghost left = { λ s. Some s.rest.now };
+
+    ghost has_failed = { λ s. s.failed };
+
+    fn read(&mut self, buf: &mut [u8]) -> Result<usize, Failed> {
+        match self.reads_before_failure {
+            Some(0) => {
+                self.failed = true;
+                return Err(Failed);
+            }
+            Some(reads) => self.reads_before_failure = Some(reads - 1),
+            None => {}
+        }
+        let count = self.rest.len().min(buf.len()).min(self.greatest_piece);
+        let (front, rest) = self.rest.split_at(count);
+        buf[..count].copy_from_slice(front);
+        self.rest = rest;
+        Ok(count)
+    }
+
+    fn failed(&self) -> bool {
+        self.failed
+    }
+}
+
+/// A sink that keeps the bytes, in room that was made at the start.
+#[derive(Debug, Drop)]
+pub struct MemSink {
+    bytes: Vec<u8>,
+    room: usize,
+    greatest_piece: usize,
+    flush_fails: bool,
+    failed: bool,
+}
+
+impl MemSink {
+    /// A sink that takes at most `greatest_piece` bytes a write, fails once `room` bytes were
+    /// taken, and may fail at a flush.
+    pub fn new(
+        alloc: Global,
+        room: usize,
+        greatest_piece: usize,
+        flush_fails: bool,
+    ) -> Result<Self, AllocError>
+        ensures fresh { IfOk result (λ s. ⟦<MemSink as Sink>⟧.has_failed s ≡ false) }
+        ensures taken { IfOk result (λ s. ⟦<MemSink as Sink>⟧.taken s ≡ Some []) }
+    {
+        Ok(MemSink {
+            bytes: Vec::with_capacity(alloc, room)?,
+            room,
+            greatest_piece,
+            flush_fails,
+            failed: false,
+        })
+    }
+
+    /// The bytes that were taken.
+    pub fn bytes(&self) -> &[u8]
+        ensures { ⟦<MemSink as Sink>⟧.taken self.now ≡ Some result.now }
+    {
+        &self.bytes
+    }
+}
+
+impl Sink for MemSink {
+    ghost taken = { λ s. Some s.bytes.items };
+
+    ghost has_failed = { λ s. s.failed };
+
+    fn write(&mut self, bytes: &[u8]) -> Result<usize, Failed> {
+        let room = self.room.saturating_sub(self.bytes.len());
+        if room == 0 && !bytes.is_empty() {
+            self.failed = true;
+            return Err(Failed);
+        }
+        let count = bytes.len().min(room).min(self.greatest_piece);
+        if self.bytes.extend_from_slice(&bytes[..count]).is_err() {
+            self.failed = true;
+            return Err(Failed);
+        }
+        self.failed = count == 0 && !bytes.is_empty();
+        Ok(count)
+    }
+
+    fn flush(&mut self) -> Result<(), Failed> {
+        if self.flush_fails {
+            self.failed = true;
+            return Err(Failed);
+        }
+        Ok(())
+    }
+
+    fn failed(&self) -> bool {
+        self.failed
+    }
+}

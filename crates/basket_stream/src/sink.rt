@@ -1,0 +1,84 @@
+ghost use Rattle.std.specs.Prelude.{◌≡◌, false, List, Option, ℕ, Bool};
+ghost use Rattle.std.specs.Io.{WritesAtMost};
+ghost use Rattle.std.specs.Io.KnownBytes.{WriteAppends, Keeps};
+ghost use Rattle.basket_stream.specs.Stream.{read_fails, write_fails};
+
+use crate::failed::Failed;
+use std::io::Write;
+
+/// A writer of bytes, whose first failure is its last call.
+pub trait Sink {
+    // The bytes that were taken, or nothing where the sink does not tell them.
+    ghost taken: { Self → Option (List ℕ) };
+
+    ghost has_failed: { Self → Bool };
+
+    /// Takes the front of the bytes, and answers how many. To take none of a nonempty piece is a
+    /// failure.
+    fn write(&mut self, bytes: &[u8]) -> Result<usize, Failed>
+        requires { has_failed self.old ≡ false }
+        ensures bound { WritesAtMost result bytes.now }
+        ensures bytes { WriteAppends (taken self.old) (taken self.new) result bytes.now }
+        ensures failed { has_failed self.new ≡ write_fails result bytes.now };
+
+    fn flush(&mut self) -> Result<(), Failed>
+        requires { has_failed self.old ≡ false }
+        ensures bytes { Keeps (taken self.old) (taken self.new) }
+        ensures failed { has_failed self.new ≡ read_fails result };
+
+    /// Whether a write or a flush has failed.
+    fn failed(&self) -> bool
+        ensures { result ≡ has_failed self.now };
+}
+
+/// A sink over a writer of std. Any error of the writer is a failure.
+#[derive(Debug, Drop)]
+pub struct StdSink<W> {
+    writer: W,
+    failed: bool,
+}
+
+impl<W: Write> StdSink<W> {
+    pub fn new(writer: W) -> Self
+        ensures fresh { ⟦<StdSink<W> as Sink>⟧.has_failed result ≡ false }
+        ensures taken { ⟦<StdSink<W> as Sink>⟧.taken result ≡ W.contents writer }
+    {
+        StdSink {
+            writer,
+            failed: false,
+        }
+    }
+}
+
+impl<W: Write> Sink for StdSink<W> {
+    ghost taken = { λ s. W.contents s.writer };
+
+    ghost has_failed = { λ s. s.failed };
+
+    fn write(&mut self, bytes: &[u8]) -> Result<usize, Failed> {
+        match self.writer.write(bytes) {
+            Ok(count) => {
+                self.failed = count == 0 && !bytes.is_empty();
+                Ok(count)
+            }
+            Err(_) => {
+                self.failed = true;
+                Err(Failed)
+            }
+        }
+    }
+
+    fn flush(&mut self) -> Result<(), Failed> {
+        match self.writer.flush() {
+            Ok(()) => Ok(()),
+            Err(_) => {
+                self.failed = true;
+                Err(Failed)
+            }
+        }
+    }
+
+    fn failed(&self) -> bool {
+        self.failed
+    }
+}

@@ -1,0 +1,66 @@
+ghost use Rattle.std.specs.Prelude.{◌≡◌, ◌<◌, false, None, Some, IfOk, List, Option, ℕ, Bool, length};
+ghost use Rattle.std.specs.Io.{ReadsAtMost};
+ghost use Rattle.std.specs.Io.KnownBytes.{ReadConsumes};
+ghost use Rattle.basket_stream.specs.Stream.{read_fails};
+
+use crate::failed::Failed;
+use std::io::Read;
+
+/// A reader of bytes, whose first failure is its last call.
+pub trait Source {
+    // The bytes that are left, or nothing where the source does not tell them.
+    ghost left: { Self → Option (List ℕ) };
+
+    ghost has_failed: { Self → Bool };
+
+    /// Fills the front of the buffer, and answers how much of it: 0 only at the end or where the
+    /// buffer is empty.
+    fn read(&mut self, buf: &mut [u8]) -> Result<usize, Failed>
+        requires { has_failed self.old ≡ false }
+        ensures bound { ReadsAtMost result buf.new }
+        ensures bytes { ReadConsumes (left self.old) (left self.new) result buf.new }
+        ensures failed { has_failed self.new ≡ read_fails result };
+
+    /// Whether a read has failed.
+    fn failed(&self) -> bool
+        ensures { result ≡ has_failed self.now };
+}
+
+/// A source over a reader of std. Any error of the reader is a failure.
+#[derive(Debug, Drop)]
+pub struct StdSource<R> {
+    reader: R,
+    failed: bool,
+}
+
+impl<R: Read> StdSource<R> {
+    pub fn new(reader: R) -> Self
+        ensures fresh { ⟦<StdSource<R> as Source>⟧.has_failed result ≡ false }
+        ensures left { ⟦<StdSource<R> as Source>⟧.left result ≡ R.remaining reader }
+    {
+        StdSource {
+            reader,
+            failed: false,
+        }
+    }
+}
+
+impl<R: Read> Source for StdSource<R> {
+    ghost left = { λ s. R.remaining s.reader };
+
+    ghost has_failed = { λ s. s.failed };
+
+    fn read(&mut self, buf: &mut [u8]) -> Result<usize, Failed> {
+        match self.reader.read(buf) {
+            Ok(count) => Ok(count),
+            Err(_) => {
+                self.failed = true;
+                Err(Failed)
+            }
+        }
+    }
+
+    fn failed(&self) -> bool {
+        self.failed
+    }
+}
