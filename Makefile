@@ -1,25 +1,28 @@
 .PHONY: demo test install bench
 
 PREFIX ?= $(HOME)/.local
-CLI := crates/basket_cli
-PROGRAM := $(CLI)/out/basket_cli
+PROGRAM := crates/basket_cli/out/basket_cli
+SOURCES := crates.txt $(shell find crates -name out -prune -o -type f \( -name '*.rt' -o -name '*.antt' \) -print)
 
-# Proves and builds the program, and lists what is bought in the baskets of the small shop.
-demo:
-	cd $(CLI) && mkdir -p out && { rt run -- --help > out/demo.log 2>&1 || { tail -20 out/demo.log; exit 1; }; }
+# Proves and builds the program, if that is not done, and lists what is bought in the baskets of the small shop.
+demo: $(PROGRAM)
 	$(PROGRAM) items --min 2 < examples/shop.dat
 	$(PROGRAM) sets --min 20% < examples/shop.dat
+
+# The crates that don't stand on one another are proved side by side.
+$(PROGRAM): $(SOURCES)
+	tools/prove.py basket_cli
+	touch $@
 
 # The gate: proves every crate and its tests from nothing, tries the must-fail edits, and runs the tests and programs.
 test:
 	rt ci
 
-# Puts the program that `make demo` built into PREFIX/bin.
-install:
-	test -x $(PROGRAM) || $(MAKE) demo
+# Puts the program into PREFIX/bin.
+install: $(PROGRAM)
 	install -D -m 755 $(PROGRAM) $(DESTDIR)$(PREFIX)/bin/basket
 
-# Times the program that `make demo` built, on a million baskets for items and 100,000 for sets.
-bench:
+# Times the program on a million baskets for items and 100,000 for sets.
+bench: $(PROGRAM)
 	bench/items.sh $(PROGRAM)
 	bench/sets.sh $(PROGRAM)

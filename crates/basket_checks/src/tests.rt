@@ -1,5 +1,17 @@
+mod codes;
+mod databases;
+mod depth;
+mod fault;
+mod frequent;
+mod itemset;
+mod join;
+mod levels;
 mod mined;
+mod minimum;
 mod plain;
+mod stream;
+mod tally;
+mod tree;
 
 use basket_core::{Database, Itemset};
 use std::alloc::{AllocError, Global};
@@ -21,7 +33,7 @@ const NINE_BASKETS: &[Row] = &[
 ];
 
 /// A database of the baskets, each with its weight, where it can hold them.
-fn database(alloc: Global, baskets: &[Row]) -> Result<Database, Fail> {
+fn database(alloc: Global, baskets: &[(&[u32], u64)]) -> Result<Database, Fail> {
     let mut database = Database::new(alloc);
     for (numbers, weight) in baskets {
         let basket = Itemset::from_items(alloc, numbers)?;
@@ -32,4 +44,13 @@ fn database(alloc: Global, baskets: &[Row]) -> Result<Database, Fail> {
         }
     }
     Ok(database)
+}
+
+/// The sets of the numbers.
+fn sets_of(alloc: Global, rows: &[&[u32]]) -> Result<Vec<Itemset>, AllocError> {
+    let mut sets = Vec::new(alloc);
+    for row in rows {
+        sets.push(Itemset::from_items(alloc, row)?)?;
+    }
+    Ok(sets)
 }

@@ -58,15 +58,6 @@ pub coded_more : (ranked : List ℕ) (baskets : List Weighted) (i : ℕ) (place 
 coded_more ranked baskets i place below is =
     ap (map (coded_place ranked)) (take_more baskets i place below ∙ ap (λ p. take i baskets ++ p ∷ []) (sym is)) ∙ map_push (coded_place ranked) (take i baskets) place
 
--- ranks that pass a test are below the bound
-pub all_below : (bound : ℕ) (ranks : List ℕ) → list_all (λ rank. ltb rank bound) ranks ≡ true → AllBelow bound ranks
-all_below bound ranks passed rank here = below ranks passed (Member-from_has ranks rank here)
-  where
-    below : (rest : List ℕ) → list_all (λ r. ltb r bound) rest ≡ true → Member rank rest → rank < bound
-    below [] h m = absurd m
-    below (first ∷ rest) h (inl e) = subst (λ r. r < bound) e (ltb-true first bound (and_parts (ltb first bound) (list_all (λ r. ltb r bound) rest) h).0)
-    below (first ∷ rest) h (inr m) = below rest (and_parts (ltb first bound) (list_all (λ r. ltb r bound) rest) h).1 m
-
 -- what is made of codes and a database is a coding
 pub coding_is : (items : List ℕ) (minimum : Minimum) (database coded : List Weighted) → IsDistinct nat_eq items → length items < MOST_RANKS → total_of database ≤ MOST_WEIGHT
     → All HasWeight database → coded ≡ map (coded_place items) database → IsCoding (record { items = items; minimum = minimum; baskets = coded })

@@ -22,6 +22,3 @@ pub use depth::deep;
 pub use fault::MineFault;
 pub use frequent::Frequent;
 pub use tally::{Limit, Tally};
-
-#[cfg(test)]
-mod tests;

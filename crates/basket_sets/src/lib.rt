@@ -20,6 +20,3 @@ pub use merge::merge_equal;
 pub use minimum::{Minimum, parse_minimum, parse_share};
 pub use order::report_order;
 pub use weighted::Weighted;
-
-#[cfg(test)]
-mod tests;

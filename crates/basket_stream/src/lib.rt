@@ -10,6 +10,3 @@ pub use failed::Failed;
 pub use memory::{MemSink, MemSource};
 pub use sink::{Sink, StdSink};
 pub use source::{Source, StdSource};
-
-#[cfg(test)]
-mod tests;

@@ -21,6 +21,3 @@ pub use join::candidates;
 pub use levels::{Levels, apriori};
 pub use shard::count_shard;
 pub use tree::CandidateTree;
-
-#[cfg(test)]
-mod tests;

@@ -1,0 +1,161 @@
+ghost use Rattle.std.specs.Prelude.{◌≡◌, IfOk, length, nat_lt};
+ghost use Rattle.std.specs.List.{list_all};
+ghost use Rattle.basket_core.specs.Codes.{coding_of};
+
+use super::{NINE_BASKETS, database};
+use basket_core::{Coded, Codes, Database, Itemset, Minimum, count_items};
+use std::alloc::{AllocError, Global};
+use std::process::Abort;
+use std::test::Fail;
+
+/// The baskets of the database as ranks.
+pub fn coded_at(alloc: Global, database: &Database, minimum: Minimum) -> Result<Coded, AllocError>
+    ensures { IfOk result (λ coded. coded ≡ coding_of database.now minimum) }
+{
+    let counts = count_items(alloc, database.baskets())?;
+    Codes::of(alloc, &counts, database.total(), minimum)?.code(alloc, database)
+}
+
+/// Whether each of them is a rank.
+fn are_ranks(coded: &Coded, ranks: &[u32]) -> bool
+    ensures { result ≡ list_all (λ rank. nat_lt rank (length coded.now.items)) ranks.now }
+{
+    let count = coded.ranks();
+    ranks.iter().all(|rank| *rank < count)
+}
+
+/// The set of the items of the ranks, where they are ranks.
+fn decoded(alloc: Global, coded: &Coded, ranks: &[u32]) -> Result<Option<Itemset>, AllocError> {
+    if are_ranks(coded, ranks) {
+        Ok(Some(coded.decode(alloc, ranks)?))
+    } else {
+        Ok(None)
+    }
+}
+
+/// Asserts that these are the items by rank, and that no more have a rank.
+fn assert_ranks(
+    rt: &impl Abort,
+    alloc: Global,
+    coded: &Coded,
+    items: &[u32],
+) -> Result<(), AllocError> {
+    assert_eq!(rt; coded.ranks() as usize, items.len());
+    for (rank, item) in items.iter().enumerate() {
+        let set = decoded(alloc, coded, &[rank as u32])?;
+        assert_eq!(rt; set, Some(Itemset::from_items(alloc, &[*item])?));
+    }
+    assert!(rt; decoded(alloc, coded, &[coded.ranks()])?.is_none());
+    Ok(())
+}
+
+/// Asserts that these are the coded baskets, each with its weight.
+fn assert_baskets(rt: &impl Abort, coded: &Coded, want: &[(&[u32], u64)]) {
+    assert_eq!(rt; coded.baskets().len(), want.len());
+    for (place, (ranks, weight)) in coded.baskets().iter().zip(want) {
+        assert_eq!(rt; place.basket.items(), *ranks);
+        assert_eq!(rt; place.weight, *weight);
+    }
+}
+
+#[test]
+fn nine_baskets(rt: HostRuntime) -> Result<(), Fail> {
+    let database = database(rt.alloc(), NINE_BASKETS)?;
+    let coded = coded_at(rt.alloc(), &database, Minimum::Count(2))?;
+    // Items 1 and 3 have one count, and so have 4 and 5.
+    assert_ranks(&rt, rt.alloc(), &coded, &[2, 1, 3, 4, 5])?;
+    let want: [(&[u32], u64); 9] = [
+        (&[0, 1, 4], 1),
+        (&[0, 3], 1),
+        (&[0, 2], 1),
+        (&[0, 1, 3], 1),
+        (&[1, 2], 1),
+        (&[0, 2], 1),
+        (&[1, 2], 1),
+        (&[0, 1, 2, 4], 1),
+        (&[0, 1, 2], 1),
+    ];
+    assert_baskets(&rt, &coded, &want);
+    assert_eq!(rt; coded.total(), 9);
+    assert_eq!(rt; coded.minimum(), Minimum::Count(2));
+    Ok(())
+}
+
+#[test]
+fn decoded_ranks(rt: HostRuntime) -> Result<(), Fail> {
+    let database = database(rt.alloc(), NINE_BASKETS)?;
+    let coded = coded_at(rt.alloc(), &database, Minimum::Count(2))?;
+    let set = decoded(rt.alloc(), &coded, &[0, 1, 4])?.ok_or("no ranks")?;
+    assert_eq!(rt; set.items(), [1, 2, 5].as_slice());
+    assert!(rt; set.copied(rt.alloc())? == set);
+    let none = decoded(rt.alloc(), &coded, &[])?.ok_or("no ranks")?;
+    assert!(rt; none.is_empty());
+    Ok(())
+}
+
+/// Most of the numbers are far above the table, and some have no rank.
+#[test]
+fn sparse_numbers(rt: HostRuntime) -> Result<(), Fail> {
+    let database = database(
+        rt.alloc(),
+        &[
+            (&[7, 4_294_967_295], 2),
+            (&[7, 4_294_967_294, 4_294_967_295], 1),
+            (&[4_294_967_294], 1),
+            (&[8, 4_294_967_293], 1),
+        ],
+    )?;
+    let coded = coded_at(rt.alloc(), &database, Minimum::Count(2))?;
+    assert_ranks(&rt, rt.alloc(), &coded, &[7, 4_294_967_295, 4_294_967_294])?;
+    let want: [(&[u32], u64); 4] = [(&[0, 1], 2), (&[0, 1, 2], 1), (&[2], 1), (&[], 1)];
+    assert_baskets(&rt, &coded, &want);
+    assert_eq!(rt; coded.total(), 5);
+    Ok(())
+}
+
+/// One heavy basket counts more than two light ones.
+#[test]
+fn weights(rt: HostRuntime) -> Result<(), Fail> {
+    let database = database(rt.alloc(), &[(&[3], 3), (&[1, 2], 1), (&[1], 1)])?;
+    let coded = coded_at(rt.alloc(), &database, Minimum::Share(2, 5))?;
+    assert_ranks(&rt, rt.alloc(), &coded, &[3, 1])?;
+    let want: [(&[u32], u64); 3] = [(&[0], 3), (&[1], 1), (&[1], 1)];
+    assert_baskets(&rt, &coded, &want);
+    Ok(())
+}
+
+#[test]
+fn no_frequent_item(rt: HostRuntime) -> Result<(), Fail> {
+    let database = database(rt.alloc(), NINE_BASKETS)?;
+    let coded = coded_at(rt.alloc(), &database, Minimum::Count(8))?;
+    assert_ranks(&rt, rt.alloc(), &coded, &[])?;
+    let want: [(&[u32], u64); 9] = [(&[], 1); 9];
+    assert_baskets(&rt, &coded, &want);
+    assert_eq!(rt; coded.total(), 9);
+    Ok(())
+}
+
+/// Items 6, 7 and 8 have no rank.
+#[test]
+fn merged_baskets(rt: HostRuntime) -> Result<(), Fail> {
+    let database = database(
+        rt.alloc(),
+        &[
+            (&[1, 2], 2),
+            (&[3, 6], 1),
+            (&[1, 2, 6], 1),
+            (&[7], 1),
+            (&[3], 3),
+            (&[8], 1),
+        ],
+    )?;
+    let coded = Coded::of(rt.alloc(), &database, Minimum::Count(3))?;
+    assert_ranks(&rt, rt.alloc(), &coded, &[3, 1, 2])?;
+    let merged = coded.merged(rt.alloc())?;
+    assert_ranks(&rt, rt.alloc(), &merged, &[3, 1, 2])?;
+    let want: [(&[u32], u64); 3] = [(&[1, 2], 3), (&[0], 4), (&[], 2)];
+    assert_baskets(&rt, &merged, &want);
+    assert_eq!(rt; merged.total(), 9);
+    assert_eq!(rt; merged.minimum(), Minimum::Count(3));
+    Ok(())
+}

@@ -1,0 +1,59 @@
+use super::{NINE_BASKETS, database};
+use basket_core::{Itemset, count_items, support};
+use std::test::Fail;
+
+#[test]
+fn supports(rt: HostRuntime) -> Result<(), Fail> {
+    let database = database(rt.alloc(), NINE_BASKETS)?;
+    assert_eq!(rt; database.total(), 9);
+    let sets: [(&[u32], u64); 5] = [
+        (&[], 9),
+        (&[2], 7),
+        (&[1, 2], 4),
+        (&[1, 2, 5], 2),
+        (&[3, 4], 0),
+    ];
+    for (set, want) in sets {
+        let set = Itemset::from_items(rt.alloc(), set)?;
+        assert_eq!(rt; support(&database, &set), want, "of {set}");
+    }
+    Ok(())
+}
+
+#[test]
+fn merged_baskets(rt: HostRuntime) -> Result<(), Fail> {
+    let database = database(rt.alloc(), NINE_BASKETS)?;
+    let merged = database.merged(rt.alloc())?;
+    let want: [(&[u32], u64); 7] = [
+        (&[1, 2, 5], 1),
+        (&[2, 4], 1),
+        (&[2, 3], 2),
+        (&[1, 2, 4], 1),
+        (&[1, 3], 2),
+        (&[1, 2, 3, 5], 1),
+        (&[1, 2, 3], 1),
+    ];
+    assert_eq!(rt; merged.len(), 7);
+    for (place, (items, weight)) in merged.baskets().iter().zip(want) {
+        assert_eq!(rt; place.basket.items(), items);
+        assert_eq!(rt; place.weight, weight);
+    }
+    assert_eq!(rt; merged.total(), 9);
+    Ok(())
+}
+
+#[test]
+fn counted_items(rt: HostRuntime) -> Result<(), Fail> {
+    let many = database(rt.alloc(), NINE_BASKETS)?;
+    let counts = count_items(rt.alloc(), many.baskets())?;
+    let want = [(1, 6), (2, 7), (3, 6), (4, 2), (5, 2)];
+    assert_eq!(rt; counts.as_slice(), want.as_slice());
+    // Numbers far above the number of occurrences.
+    let sparse = database(
+        rt.alloc(),
+        &[(&[4_294_967_295, 7], 3), (&[4_294_967_295], 3)],
+    )?;
+    let counts = count_items(rt.alloc(), sparse.baskets())?;
+    assert_eq!(rt; counts.as_slice(), [(7, 3), (4_294_967_295, 6)].as_slice());
+    Ok(())
+}

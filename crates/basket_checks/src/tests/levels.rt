@@ -1,0 +1,168 @@
+ghost use Rattle.std.specs.Prelude.{◌≡◌, IfOk};
+
+use super::{NINE_BASKETS, database};
+use basket_core::{Coded, Frequent, Itemset, MineFault, Minimum};
+use mine_apriori::{Levels, apriori, count_shard};
+use std::alloc::Global;
+use std::test::Fail;
+
+/// The baskets as ranks of their frequent items.
+fn coded(alloc: Global, baskets: &[(&[u32], u64)], minimum: Minimum) -> Result<Coded, Fail> {
+    let database = database(alloc, baskets)?;
+    Ok(Coded::of(alloc, &database, minimum)?)
+}
+
+/// The sets as text.
+fn listed(alloc: Global, sets: &[Itemset]) -> Result<String, Fail> {
+    let mut text = String::new(alloc);
+    for set in sets {
+        text.push_str(set.to_string(alloc)?.as_str())?;
+        text.push_str("|")?;
+    }
+    Ok(text)
+}
+
+/// The frequent sets as text, each with its support.
+fn counted(alloc: Global, frequent: &Frequent) -> Result<String, Fail> {
+    let mut text = String::new(alloc);
+    for counted in frequent.sets() {
+        text.push_str(counted.set.to_string(alloc)?.as_str())?;
+        text.push_str(" (")?;
+        text.push_str(counted.count.to_string(alloc)?.as_str())?;
+        text.push_str(")|")?;
+    }
+    Ok(text)
+}
+
+/// The search after the answer to what it asks.
+fn answered<'a>(alloc: Global, coded: &Coded, levels: Levels<'a>) -> Result<Levels<'a>, Fail>
+    requires { levels.coding ≡ coded.now }
+    ensures { IfOk result (λ next. next.coding ≡ coded.now) }
+{
+    if levels.asked().is_empty() {
+        return Err(Fail::new("no set is asked"));
+    }
+    let counts = count_shard(alloc, coded.baskets(), levels.asked())?;
+    Ok(levels.answer(alloc, &counts)?)
+}
+
+fn is_too_many(answer: &Result<Frequent, MineFault>, limit: u32) -> bool {
+    matches!(answer, Err(MineFault::TooMany { limit: told }) if *told == limit)
+}
+
+#[test]
+fn thirteen_sets(rt: HostRuntime) -> Result<(), Fail> {
+    let coded = coded(rt.alloc(), NINE_BASKETS, Minimum::Count(2))?;
+    let frequent = apriori(rt.alloc(), &coded, 13)?;
+    assert_eq!(rt;
+        counted(rt.alloc(), &frequent)?.as_str(),
+        "1 (6)|2 (7)|3 (6)|4 (2)|5 (2)|1 2 (4)|1 3 (4)|1 5 (2)|2 3 (4)|2 4 (2)|2 5 (2)|1 2 3 (2)|1 2 5 (2)|"
+    );
+    assert_eq!(rt; frequent.total(), 9);
+    Ok(())
+}
+
+/// Of the ranks 0 to 4, which are the items 2, 1, 3, 4 and 5.
+#[test]
+fn asked_sets(rt: HostRuntime) -> Result<(), Fail> {
+    let coded = coded(rt.alloc(), NINE_BASKETS, Minimum::Count(2))?;
+    let levels = Levels::start(rt.alloc(), &coded, 13)?;
+    assert_eq!(rt;
+        listed(rt.alloc(), levels.asked())?.as_str(),
+        "0 1|0 2|0 3|0 4|1 2|1 3|1 4|2 3|2 4|3 4|"
+    );
+    let levels = answered(rt.alloc(), &coded, levels)?;
+    assert_eq!(rt;
+        listed(rt.alloc(), levels.asked())?.as_str(),
+        "0 1 2|0 1 4|"
+    );
+    let levels = answered(rt.alloc(), &coded, levels)?;
+    if !levels.asked().is_empty() {
+        return Err(Fail::new("the sets of three items make no candidate"));
+    }
+    assert_eq!(rt; levels.finish(rt.alloc())?.sets().len(), 13);
+    Ok(())
+}
+
+#[test]
+fn nothing_asked(rt: HostRuntime) -> Result<(), Fail> {
+    let coded = coded(rt.alloc(), NINE_BASKETS, Minimum::Count(7))?;
+    let levels = Levels::start(rt.alloc(), &coded, 1)?;
+    if !levels.asked().is_empty() {
+        return Err(Fail::new("one item makes no candidate"));
+    }
+    let counts = count_shard(rt.alloc(), coded.baskets(), levels.asked())?;
+    let levels = levels.answer(rt.alloc(), &counts)?;
+    assert!(rt; levels.asked().is_empty());
+    Ok(())
+}
+
+#[test]
+fn too_many_sets(rt: HostRuntime) -> Result<(), Fail> {
+    let coded = coded(rt.alloc(), NINE_BASKETS, Minimum::Count(2))?;
+    for limit in [0, 1, 4, 5, 10, 11, 12] {
+        assert!(rt;
+            is_too_many(&apriori(rt.alloc(), &coded, limit), limit),
+            "at {limit}"
+        );
+    }
+    Ok(())
+}
+
+#[test]
+fn no_set(rt: HostRuntime) -> Result<(), Fail> {
+    let none = coded(rt.alloc(), &[], Minimum::Count(1))?;
+    assert!(rt; apriori(rt.alloc(), &none, 0)?.sets().is_empty());
+    let rare = coded(rt.alloc(), NINE_BASKETS, Minimum::Count(8))?;
+    assert!(rt; apriori(rt.alloc(), &rare, 0)?.sets().is_empty());
+    Ok(())
+}
+
+#[test]
+fn weighted_baskets(rt: HostRuntime) -> Result<(), Fail> {
+    let coded = coded(
+        rt.alloc(),
+        &[(&[1, 2], 3), (&[1], 1)],
+        Minimum::Share(75, 100),
+    )?;
+    let frequent = apriori(rt.alloc(), &coded, 3)?;
+    assert_eq!(rt;
+        counted(rt.alloc(), &frequent)?.as_str(),
+        "1 (4)|2 (3)|1 2 (3)|"
+    );
+    assert_eq!(rt; frequent.total(), 4);
+    Ok(())
+}
+
+#[test]
+fn forty_items_alone(rt: HostRuntime) -> Result<(), Fail> {
+    let items: Vec<u32> = (0..80).map(|place| place % 40 + 1).collect(rt.alloc())?;
+    let mut baskets = Vec::new(rt.alloc());
+    for item in items.chunks(1) {
+        baskets.push((item, 1))?;
+    }
+    let coded = coded(rt.alloc(), &baskets, Minimum::Count(2))?;
+    let frequent = apriori(rt.alloc(), &coded, 40)?;
+    assert_eq!(rt; frequent.sets().len(), 40);
+    for (number, counted) in (1..=40).zip(frequent.sets()) {
+        assert!(rt; counted.set.items() == [number].as_slice() && counted.count == 2);
+    }
+    assert!(rt; is_too_many(&apriori(rt.alloc(), &coded, 39), 39));
+    Ok(())
+}
+
+/// All 2^40 - 1 sets are frequent. The limits are below and at the numbers of those of at most one
+/// item and of at most two.
+#[test]
+fn forty_items_together(rt: HostRuntime) -> Result<(), Fail> {
+    let items: Vec<u32> = (1..=40).collect(rt.alloc())?;
+    let baskets = [(items.as_slice(), 1), (items.as_slice(), 1)];
+    let coded = coded(rt.alloc(), &baskets, Minimum::Count(2))?;
+    for limit in [39, 40, 819, 820] {
+        assert!(rt;
+            is_too_many(&apriori(rt.alloc(), &coded, limit), limit),
+            "at {limit}"
+        );
+    }
+    Ok(())
+}
