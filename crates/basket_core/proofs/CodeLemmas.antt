@@ -1,8 +1,7 @@
 -- The code finds the ranks of each basket, and what it makes is a coding.
-use Rattle.std.proofs.Common.{◌≡◌, ℕ, ◌+◌, ◌<◌, ◌≤◌, true, List, [], ◌∷◌, ◌++◌, length, take, get_or, map, ltb, Option, Some, None, refl, sym, ap, ◌∙◌, subst, inl, inr}
+use Rattle.std.proofs.Common.{◌≡◌, ℕ, ◌+◌, ◌<◌, ◌≤◌, List, [], ◌∷◌, ◌++◌, length, take, get_or, map, Option, Some, None, refl, sym, ap, ◌∙◌, subst, inl, inr}
 use Rattle.std.specs.Prelude.{nat_eq}
-use Rattle.std.specs.List.{All, cons_option, IsDistinct, filter_map, list_all}
-use Rattle.std.proofs.lemmas.Bool.{and_parts, ltb-true}
+use Rattle.std.specs.List.{All, cons_option, IsDistinct, filter_map}
 use Rattle.std.proofs.lemmas.List.{take_more, map_push}
 use Rattle.std.proofs.lemmas.List.Elements.{All-map, filter_map-append, All-from_recursion, recursion_from_All}
 use Rattle.basket_sets.specs.declared.weighted.Weighted.{Weighted}

@@ -2,3 +2,4 @@ pub mod theory
 mod BucketLemmas
 mod RankLemmas
 mod CodeLemmas
+mod DepthLemmas

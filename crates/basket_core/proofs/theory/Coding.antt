@@ -39,6 +39,7 @@ from_ranks number (x ∷ items) basket rank m = at (has basket x) refl (from_ran
     at true e rest (inr n) = later (rest n)
     at false e rest n = later (rest n)
 
+-- and each item that it has gives its rank
 pub into_ranks : (number : ℕ) (items basket : List ℕ) (k : ℕ) → k < length items → has basket (get_or items k 0) ≡ true → Member (number + k) (ranks_from number items basket)
 into_ranks number [] basket k below h = absurd (omega arith)
 into_ranks number (x ∷ items) basket zero below h =
@@ -51,6 +52,7 @@ into_ranks number (x ∷ items) basket (suc k) below h =
     at true rest = inr rest
     at false rest = rest
 
+-- the ranks of a basket rise
 pub ranks_rise : (number : ℕ) (items basket : List ℕ) → IsRising (ranks_from number items basket)
 ranks_rise number [] basket = nil_rises
 ranks_rise number (x ∷ items) basket = at (has basket x) (ranks_rise (number + 1) items basket)
@@ -82,6 +84,7 @@ coded_total items (place ∷ baskets) =
 pub from_decoded : (items ranks : List ℕ) (item : ℕ) → Member item (decoded items ranks) → (rank : ℕ) × Member rank ranks × (get_or items rank 0 ≡ item)
 from_decoded items ranks item m = Member-from_map (λ rank. get_or items rank 0) item ranks (Member-rising (map (λ rank. get_or items rank 0) ranks) item m)
 
+-- the item of each rank is among the decoded
 pub into_decoded : (items ranks : List ℕ) (rank : ℕ) → Member rank ranks → Member (get_or items rank 0) (decoded items ranks)
 into_decoded items ranks rank m = Member-into_rising (map (λ r. get_or items r 0) ranks) (get_or items rank 0) (Member-map (λ r. get_or items r 0) rank ranks m)
 
@@ -134,6 +137,7 @@ ranked_item baskets minimum item m =
     let number : s.0 ≡ item = ap (λ (p : ℕ × ℕ). p.0) s.2 ∙ e.2 in
     subst (λ x. is_frequent baskets minimum (x ∷ []) ≡ true) number (ap (λ (p : ℕ × ℕ). meets minimum p.1 (total_of baskets)) s.2 ∙ f.1)
 
+-- a frequent item has a rank
 pub item_ranked : (baskets : List Weighted) (minimum : Minimum) (item : ℕ) → is_frequent baskets minimum (item ∷ []) ≡ true → Member item (ranks_of baskets minimum)
 item_ranked baskets minimum item h =
     let entry : ℕ × ℕ = (item, support_of baskets (item ∷ [])) in
@@ -180,6 +184,7 @@ module _ (baskets : List Weighted) (minimum : Minimum) where
       let same = kept_support (ranks_of baskets minimum) baskets set (kept_items set h) in
       (ap (λ s. meets minimum s (total_of baskets)) (sym same) ∙ ap (meets minimum (support_of kept set)) (sym kept_total) ∙ h, same)
 
+-- coding keeps the frequent sets
 pub coding_keeps_frequent : CodingKeepsFrequent
 coding_keeps_frequent baskets minimum =
     let list = frequent_of (kept baskets minimum) minimum in
@@ -205,6 +210,7 @@ decoded_support items (place ∷ baskets) set =
     ∙ ap (λ n. weight_at set (decoded_place items place) + n) (decoded_support items baskets set)
     ∙ sym (sum_by-cons (λ other. cond (contains (decoded items other.basket) set) other.weight 0) place baskets)
 
+-- so does merging coded baskets, which keeps the total weight
 pub merging_keeps_coded : MergingKeepsCoded
 merging_keeps_coded coding =
     let same : (set : List ℕ) → support_of (baskets_of (merged_coding coding)) set ≡ support_of (baskets_of coding) set = λ set.

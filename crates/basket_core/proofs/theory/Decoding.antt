@@ -114,6 +114,7 @@ module _ (coding : Coding) (is : IsCoding coding) where
         | inr later ↦ within places all.1 later
       ]
 
+  -- a frequent set of ranks is, decoded, a frequent set of items
   pub decoded_sound : (c : Counted) → IsSound coding.baskets coding.minimum c → IsSound (baskets_of coding) coding.minimum (decoded_set coding.items c)
   decoded_sound c s =
       let within = ranks_below c.set s.1 in
@@ -148,6 +149,7 @@ module _ (coding : Coding) (is : IsCoding coding) where
           let d = Member-from_map (decoded_set coding.items) e.0 list e.1 in
           subst (λ z. pointwise nat_eq (decoded coding.items c.set) z ≡ false) (ap (λ (x : Counted). x.set) d.2 ∙ e.2) (differs d.0 d.1)
 
+-- a list with each frequent set of ranks once has, decoded, each frequent set of items once
 pub decoding_keeps_frequent : DecodingKeepsFrequent
 decoding_keeps_frequent coding list is lists = record {
   distinct = decoded_distinct coding is list (recursion_from_All (IsSound coding.baskets coding.minimum) list lists.sound) lists.distinct;

@@ -1,38 +1,23 @@
--- Frequent sets of many items: how many subsets they have, and how one is found rank by rank.
-use Rattle.std.proofs.Common.{◌≡◌, ◌≢◌, ℕ, ◌+◌, ◌-◌, ◌*◌, ◌^◌, ◌<◌, ◌≤◌, Bool, true, false, ◌&&◌, List, [], ◌∷◌, ◌++◌, Ok, Err, length, take, drop, get_or, map, cond, eqb, ltb, refl, sym, ap, ◌∙◌, subst, inl, inr, arith, zero, suc, add-zero}
-use Rattle.std.specs.Prelude.{nat_eq}
-use Rattle.std.specs.Ordering.{nat_cmp}
-use Rattle.std.specs.List.Sorted.{IsBinarySearchResult}
+-- A frequent set of many items has many subsets, which are all frequent.
+use Rattle.std.proofs.Common.{◌≡◌, ℕ, ◌+◌, ◌*◌, ◌^◌, ◌<◌, List, [], ◌∷◌, length, map, refl, ap, ◌∙◌, arith, zero, suc}
 use Rattle.std.specs.Cmp.Lexicographic.{bytes_decides}
-use Rattle.std.specs.List.{Contains, IsDistinct}
 use Rattle.std.proofs.lemmas.Cmp.{eq_by_cmp_equiv}
 use Rattle.std.proofs.Math.Nat.{pow-succ'}
-use Rattle.std.proofs.lemmas.Bool.{cases_Bool, cond-false, eqb-true, cond-true, lt-ltb, ltb-true}
-use Rattle.std.proofs.lemmas.List.{append-nil, append_assoc, take_rest, take_more, get_or_default, length-append, length-map}
-use Rattle.std.proofs.lemmas.List.Concat.{flat_map-append}
+use Rattle.std.proofs.lemmas.List.{length-append, length-map}
 use Rattle.std.proofs.lemmas.List.Elements.{recursion_from_All}
-use Rattle.std.proofs.lemmas.List.Kept.{IsStrictlySortedBy-filter}
 use Rattle.std.proofs.lemmas.Map.Keys.{IsDistinct-from_sorted}
 use Rattle.std.proofs.lemmas.Map.Made.{length-le_from_is_member}
 use Rattle.std.proofs.lemmas.Map.Views.{list_any-from_Contains, Contains-from_any}
-use Rattle.basket_sets.specs.declared.weighted.Weighted.{Weighted}
 use Rattle.basket_sets.specs.declared.counted.Counted.{Counted}
-use Rattle.basket_core.specs.Codes.{Coding, IsCoding, frequent_of_coding, baskets_of, decoded}
-use Rattle.basket_sets.specs.Database.{weighted, MOST_WEIGHT}
-use Rattle.basket_core.specs.Depth.{DeepSetsAreMany, HasSetOfSize, above, narrowed, narrowed_place}
-use Rattle.basket_sets.specs.Frequent.{is_frequent, counted, frequent_of}
-use Rattle.basket_sets.specs.Itemset.{IsRising, has, contains, rising, with_item}
+use Rattle.basket_core.specs.Depth.{DeepSetsAreMany}
+use Rattle.basket_sets.specs.Frequent.{counted, frequent_of}
 use Rattle.basket_sets.specs.Order.{report_order, report_order_total, report_order_ties}
 use Rattle.basket_sets.specs.Subsets.{subsets_of_size, subsets_up_to, subsets_of}
 use Rattle.basket_sets.proofs.theory.Frequent.{IsSound, lists_frequent}
-use Rattle.basket_sets.proofs.theory.Members.{Member, at_Member, Member-map, Member-from_map, Member-filter, Member-from_filter, Member-append, Member-append_left, Member-append_right, Member-from_Contains, Contains-from_Member, sorted_append}
-use Rattle.basket_sets.specs.Support.{weight_at, support_of, total_of, all_items, items_of}
-use Rattle.basket_sets.specs.Counts.{item_supports, AllBelow}
-use Rattle.basket_sets.specs.Minimum.{meets}
-use Rattle.basket_core.proofs.theory.Decoding.{rank_from_decoded, ranks_below, decoded_sound}
-use Rattle.basket_sets.proofs.theory.Rising.{same_test, contains_each, has_each, Less-from_lt, nil_rises, cons_rises, rising-rising, first_below, rest_rises, found_at, found_nowhere, has-from_Member, Member-from_has}
+use Rattle.basket_sets.proofs.theory.Members.{at_Member, Member-map, Member-from_Contains, Contains-from_Member}
+use Rattle.basket_sets.proofs.theory.Rising.{contains_each}
 use Rattle.basket_sets.proofs.theory.Subsets.{subsets_sorted, subset_from_Member}
-use Rattle.basket_sets.proofs.theory.Support.{subsets_are_frequent, support_falls, support-append, support-cons, in_items, at_least_one}
+use Rattle.basket_sets.proofs.theory.Support.{subsets_are_frequent}
 
 -- ---- how many subsets a set has
 
@@ -83,6 +68,7 @@ all_subsets (x ∷ items) =
 
 -- ---- they are frequent where the set is
 
+-- where a set of so many items is frequent, so are all its nonempty subsets
 pub deep_sets_are_many : DeepSetsAreMany
 unfolding up_to
 deep_sets_are_many baskets minimum size (c, here, sized) =
@@ -100,179 +86,3 @@ deep_sets_are_many baskets minimum size (c, here, sized) =
     let all = all_subsets c.set in
     let power = ap (λ n. 2 ^ n) sized in
     omega (arith, few, long, all, power)
-
--- ---- baskets kept to the ranks above one that they have
-
-pub narrowed_more : (rank : ℕ) (baskets : List Weighted) (i : ℕ) (place : Weighted) → i < length baskets → place ≡ get_or baskets i place
-    → narrowed rank (take (i + 1) baskets) ≡ narrowed rank (take i baskets) ++ narrowed_place rank place
-narrowed_more rank baskets i place below is =
-    ap (narrowed rank) (take_more baskets i place below) ∙ flat_map-append (narrowed_place rank) (take i baskets) (get_or baskets i place ∷ [])
-    ∙ ap (λ l. narrowed rank (take i baskets) ++ l) (append-nil (narrowed_place rank (get_or baskets i place))) ∙ ap (λ p. narrowed rank (take i baskets) ++ narrowed_place rank p) (sym is)
-
-not_below : (x y : ℕ) → y ≤ x → ltb x y ≡ false
-not_below x y le = elim (cases_Bool (ltb x y)) [ inl e ↦ absurd (let b = ltb-true x y e in omega arith) | inr e ↦ e ]
-
-all_above : (rank : ℕ) (ranks : List ℕ) → ((y : ℕ) → Member y ranks → rank < y) → above rank ranks ≡ ranks
-all_above rank [] h = refl
-all_above rank (x ∷ ranks) h =
-    ap (λ b. cond b (x ∷ above rank ranks) (above rank ranks)) (lt-ltb rank x (h x (inl refl))) ∙ ap (λ l. x ∷ l) (all_above rank ranks (λ y m. h y (inr m)))
-
-member_at : (items : List ℕ) (k : ℕ) → k < length items → Member (get_or items k 0) items
-member_at items k below = Member-from_Contains (get_or items k 0) items (k, below, get_or_default items k (get_or items k 0) 0 below)
-
-above_is : (ranks : List ℕ) (at rank : ℕ) → IsRising ranks → at < length ranks → get_or ranks at 0 ≡ rank → above rank ranks ≡ drop (at + 1) ranks
-above_is [] at rank up below is = absurd (omega arith)
-above_is (x ∷ ranks) zero rank up below is =
-    cond-false (ltb rank x) (x ∷ above rank ranks) (above rank ranks) (not_below rank x (omega (arith, is)))
-    ∙ all_above rank ranks (λ y m. let b = first_below x ranks up y m in omega (arith, is))
-above_is (x ∷ ranks) (suc k) rank up below is =
-    cond-false (ltb rank x) (x ∷ above rank ranks) (above rank ranks)
-    (not_below rank x (let b = first_below x ranks up (get_or ranks k 0) (member_at ranks k (omega arith)) in omega (arith, is)))
-    ∙ above_is ranks k rank (rest_rises x ranks up) (omega arith) is ∙ ap (λ n. drop n (x ∷ ranks)) (next k)
-  where
-    next : (n : ℕ) → suc (n + 1) ≡ suc n + 1
-    next n = omega arith
-
-pub found_place : (rank at : ℕ) (ranks set : List ℕ) (weight : ℕ) → IsRising ranks → IsBinarySearchResult (λ y. nat_cmp y rank) ranks (Ok at)
-    → set ≡ rising (take (length ranks - (at + 1)) (drop (at + 1) ranks)) → narrowed_place rank (weighted ranks weight) ≡ weighted set weight ∷ []
-found_place rank at ranks set weight up found made =
-    let here = found_at ranks rank at up found in
-    let kept = above_is ranks at rank up here.0 here.1 in
-    let rises = IsStrictlySortedBy-filter nat_cmp (λ other. ltb rank other) ranks up in
-    cond-true (has ranks rank) (weighted (above rank ranks) weight ∷ []) [] (has-from_Member ranks rank (subst (λ r. Member r ranks) here.1 (member_at ranks at here.0)))
-    ∙ ap (λ l. weighted l weight ∷ []) (sym (made ∙ ap rising (take_rest ranks (at + 1) ∙ sym kept) ∙ rising-rising (above rank ranks) rises))
-
--- the support of a rank is what was counted
-pub count_is : (baskets : List Weighted) (rank count : ℕ) → Contains (item_supports baskets) (rank, count) → support_of baskets (rank ∷ []) ≡ count
-count_is baskets rank count h =
-    let m = Member-from_map (λ x. (x, support_of baskets (x ∷ []))) (rank, count) (items_of baskets) (Member-from_Contains (rank, count) (item_supports baskets) h) in
-    ap (λ x. support_of baskets (x ∷ [])) (sym (ap (λ (p : ℕ × ℕ). p.0) m.2)) ∙ ap (λ (p : ℕ × ℕ). p.1) m.2
-
-narrowed_items : (rank : ℕ) (baskets : List Weighted) (x : ℕ) → Member x (all_items (narrowed rank baskets)) → (rank < x) × Member x (all_items baskets)
-narrowed_items rank [] x m = absurd m
-narrowed_items rank (place ∷ baskets) x m = at (has place.basket rank) (narrowed_items rank baskets x) m
-  where
-    later : (rank < x) × Member x (all_items baskets) → (rank < x) × Member x (all_items (place ∷ baskets))
-    later r = (r.0, Member-append_right x place.basket (all_items baskets) r.1)
-
-    at : (b : Bool) → (Member x (all_items (narrowed rank baskets)) → (rank < x) × Member x (all_items baskets))
-        → Member x (all_items (cond b (weighted (above rank place.basket) place.weight ∷ []) [] ++ narrowed rank baskets)) → (rank < x) × Member x (all_items (place ∷ baskets))
-    at true rest n = elim (Member-append x (above rank place.basket) (all_items (narrowed rank baskets)) n) [
-      | inl here ↦ (let k = Member-filter (λ other. ltb rank other) x place.basket here in (ltb-true rank x k.1, Member-append_left x place.basket (all_items baskets) k.0))
-      | inr there ↦ later (rest there)
-    ]
-    at false rest n = later (rest n)
-
-above_contains : (rank : ℕ) (basket more : List ℕ) → ((x : ℕ) → Member x more → rank < x) → contains (above rank basket) more ≡ contains basket more
-above_contains rank basket more beyond = same_test _ _
-    (λ h. contains_each basket more (λ x m. (Member-filter (λ other. ltb rank other) x basket (has_each (above rank basket) more h x m)).0))
-    (λ h. contains_each (above rank basket) more (λ x m. Member-from_filter (λ other. ltb rank other) x basket (has_each basket more h x m) (lt-ltb rank x (beyond x m))))
-
-narrowed_supports : (rank : ℕ) (baskets : List Weighted) (more : List ℕ) → ((x : ℕ) → Member x more → rank < x) → support_of (narrowed rank baskets) more ≡ support_of baskets (rank ∷ more)
-narrowed_supports rank [] more beyond = refl
-narrowed_supports rank (place ∷ baskets) more beyond =
-    support-append (narrowed_place rank place) (narrowed rank baskets) more
-    ∙ omega (arith, here (has place.basket rank) refl, narrowed_supports rank baskets more beyond, support-cons place baskets (rank ∷ more))
-  where
-    here : (b : Bool) → has place.basket rank ≡ b → support_of (cond b (weighted (above rank place.basket) place.weight ∷ []) []) more ≡ weight_at (rank ∷ more) place
-    here true e =
-        support-cons (weighted (above rank place.basket) place.weight) [] more ∙ add-zero _
-        ∙ ap (λ b. cond b place.weight 0) (above_contains rank place.basket more beyond ∙ sym (ap (λ b. b && contains place.basket more) e))
-    here false e = ap (λ b. cond (b && contains place.basket more) place.weight 0) (sym e)
-
-pub missed_place : (rank place : ℕ) (ranks : List ℕ) (weight : ℕ) → IsRising ranks → IsBinarySearchResult (λ y. nat_cmp y rank) ranks (Err place) → narrowed_place rank (weighted ranks weight) ≡ []
-missed_place rank place ranks weight up missed = elim (cases_Bool (has ranks rank)) [
-  | inl e ↦ absurd (let c = Contains-from_Member rank ranks (Member-from_has ranks rank e) in
-      found_nowhere ranks rank place up missed c.0 c.1 (get_or_default ranks c.0 0 rank c.1 ∙ c.2))
-  | inr e ↦ cond-false (has ranks rank) (weighted (above rank ranks) weight ∷ []) [] e
-]
-
--- ---- a set that is found rank by rank
-
--- a set of so many ranks is frequent in a coding, and the baskets that have it are these, kept to the ranks above all of its own
-pub record Reaches (coding : Coding) (size : ℕ) (rest : List Weighted) : Type 0 where
-  pub set : List ℕ
-  pub rises : IsRising set
-  pub sized : length set ≡ size
-  pub frequent : set ≢ [] → is_frequent coding.baskets coding.minimum set ≡ true
-  pub beyond : (x y : ℕ) → Member x (all_items rest) → Member y set → y < x
-  pub supports : (more : List ℕ) → ((x y : ℕ) → Member x more → Member y set → y < x) → support_of rest more ≡ support_of coding.baskets (set ++ more)
-
-pub reaches_none : (coding : Coding) → Reaches coding 0 coding.baskets
-reaches_none coding = record {
-  set = [];
-  rises = nil_rises;
-  sized = refl;
-  frequent = λ some. absurd (some refl);
-  beyond = λ x y m n. absurd n;
-  supports = λ more h. refl;
-}
-
--- the narrowed baskets weigh no more than all
-pub reached_light : (coding : Coding) (size : ℕ) (rest : List Weighted) → IsCoding coding → Reaches coding size rest → total_of rest ≤ MOST_WEIGHT
-reached_light coding size rest is r =
-    let same = r.supports [] (λ x y m n. absurd m) in
-    let falls = support_falls coding.baskets (r.set ++ []) [] refl in
-    omega (arith, same, falls, is.light)
-
--- one rank more
-pub reaches_more : (coding : Coding) (size rank : ℕ) (rest narrower : List Weighted) → Reaches coding size rest → narrower ≡ narrowed rank rest
-    → meets coding.minimum (support_of rest (rank ∷ [])) (total_of coding.baskets) ≡ true → Reaches coding (size + 1) narrower
-reaches_more coding size rank rest narrower r made met = subst (Reaches coding (size + 1)) (sym made) (record {
-  set = r.set ++ rank ∷ [];
-  rises = sorted_append nat_cmp r.set (rank ∷ []) r.rises (cons_rises rank [] (λ y m. absurd m) nil_rises) (λ x y m n. Less-from_lt x y (below x y m n));
-  sized = length-append r.set (rank ∷ []) ∙ ap (λ n. n + 1) r.sized;
-  frequent = λ some. ap (λ n. meets coding.minimum n (total_of coding.baskets)) (sym single) ∙ met;
-  beyond = λ x y m n.
-      let k = narrowed_items rank rest x m in
-      elim (Member-append y r.set (rank ∷ []) n) [ inl old ↦ r.beyond x y k.1 old | inr (inl new) ↦ subst (λ z. z < x) new k.0 | inr (inr no') ↦ absurd no' ];
-  supports = λ more h.
-      narrowed_supports rank rest more (λ x m. h x rank m (Member-append_right rank r.set (rank ∷ []) (inl refl)))
-      ∙ r.supports (rank ∷ more) (λ x y m n. elim m [ inl e ↦ below y x n (inl e) | inr later ↦ h x y later (Member-append_left y r.set (rank ∷ []) n) ])
-      ∙ ap (support_of coding.baskets) (sym (append_assoc r.set (rank ∷ []) more));
-})
-  where
-    here : Member rank (all_items rest)
-    here = in_items rest (rank ∷ []) (at_least_one coding.minimum (support_of rest (rank ∷ [])) (total_of coding.baskets) met) rank (inl refl)
-
-    below : (x y : ℕ) → Member x r.set → Member y (rank ∷ []) → x < y
-    below x y m (inl e) = subst (λ z. x < z) e (r.beyond rank x here m)
-    below x y m (inr n) = absurd n
-
-    single : support_of rest (rank ∷ []) ≡ support_of coding.baskets (r.set ++ rank ∷ [])
-    single = r.supports (rank ∷ []) (λ x y m n. below y x n m)
-
--- ---- decoding keeps the size of a set
-
-length-with_item : (a : ℕ) (xs : List ℕ) → (Member a xs → ⊥) → length (with_item a xs) ≡ suc (length xs)
-length-with_item a [] none = refl
-length-with_item a (x ∷ xs) none = at (ltb a x) (eqb a x) refl (length-with_item a xs (λ m. none (inr m)))
-  where
-    at : (p q : Bool) → eqb a x ≡ q → length (with_item a xs) ≡ suc (length xs) → length (cond p (a ∷ x ∷ xs) (cond q (x ∷ xs) (x ∷ with_item a xs))) ≡ suc (suc (length xs))
-    at true q same e = refl
-    at false true same e = absurd (none (inl (sym (eqb-true a x same))))
-    at false false same e = ap suc e
-
-length-decoded : (items set : List ℕ) → IsDistinct nat_eq items → IsRising set → AllBelow (length items) set → length (decoded items set) ≡ length set
-length-decoded items [] apart up below = refl
-length-decoded items (rank ∷ set) apart up below =
-    length-with_item (get_or items rank 0) (decoded items set) other ∙ ap suc (length-decoded items set apart (rest_rises rank set up) (λ x h. below x (has_later x h)))
-  where
-    has_later : (x : ℕ) → has set x ≡ true → has (rank ∷ set) x ≡ true
-    has_later x h = has-from_Member (rank ∷ set) x (inr (Member-from_has set x h))
-
-    other : Member (get_or items rank 0) (decoded items set) → ⊥
-    other m =
-        let n = rank_from_decoded items set rank apart (λ x h. below x (has_later x h)) (below rank (has-from_Member (rank ∷ set) rank (inl refl))) m in
-        let b = first_below rank set up rank n in omega arith
-
-pub reached : (coding : Coding) (size : ℕ) (rest : List Weighted) → IsCoding coding → 1 ≤ size → Reaches coding size rest → HasSetOfSize (frequent_of_coding coding) size
-reached coding size rest is some r =
-    let none : r.set ≢ [] = λ e. (let l = r.sized in let z = ap length e in omega arith) in
-    let h = r.frequent none in
-    let within = ranks_below coding is r.set h in
-    let s = decoded_sound coding is (counted coding.baskets r.set) ((r.rises, none), h, refl) in (
-      counted (baskets_of coding) (decoded coding.items r.set),
-      (lists_frequent (baskets_of coding) coding.minimum).complete (decoded coding.items r.set) s.0 s.1,
-      length-decoded coding.items r.set is.distinct r.rises within ∙ r.sized,
-    )

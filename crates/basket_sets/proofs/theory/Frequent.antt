@@ -61,6 +61,7 @@ module _ (baskets : List Weighted) (minimum : Minimum) where
   sets_of_counted [] = refl
   sets_of_counted (set ∷ sets) = ap (λ rest. set ∷ rest) (sets_of_counted sets)
 
+  -- the list has exactly the frequent sets
   pub lists_frequent : ListsFrequent baskets minimum (frequent_of baskets minimum)
   lists_frequent = record {
     in_order = subst (IsStrictlySortedBy report_order) (sym (sets_of_counted frequent_sets)) frequent_sets_sorted;
@@ -92,6 +93,7 @@ module _ (baskets : List Weighted) (minimum : Minimum) where
           (λ z m. let f = from_frequent z m in
           Member-map (λ (c : Counted). c.set) (counted baskets z) list (Member-from_Contains (counted baskets z) list (l.complete z f.0 f.1)))
 
+-- no other list does
 pub frequent_is_unique : FrequentIsUnique
 frequent_is_unique baskets minimum list = (
   unique baskets minimum list,
@@ -109,6 +111,7 @@ not_before Less s e = e
 not_before Equal s e = refl
 not_before Greater s e = refl
 
+-- counted sets in order have their sets in order
 pub sets_sorted : (list : List Counted) → IsSorted counted_order list → IsSorted report_order (map (λ c. c.set) list)
 sets_sorted [] up k d low high = absurd (omega arith)
 sets_sorted (c ∷ list) up k d low high =
@@ -193,5 +196,6 @@ same_supports one other supports minimum =
     } in
     (frequent_is_unique other minimum list).0 all
 
+-- merging equal baskets keeps the frequent sets
 pub merging_keeps_frequent : MergingKeepsFrequent
 merging_keeps_frequent baskets minimum = same_supports (merged_of baskets) baskets (merging_keeps_supports baskets) minimum

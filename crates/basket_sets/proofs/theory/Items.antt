@@ -12,6 +12,7 @@ use Rattle.basket_sets.specs.Frequent.{is_frequent, counted, item_counted, Frequ
 
 -- ---- filters
 
+-- images that pass a test are the images of what passes it
 pub filter-map : {X Y : Type 0} (f : X → Y) (p : Y → Bool) (xs : List X) → filter p (map f xs) ≡ map f (filter (λ x. p (f x)) xs)
 filter-map f p [] = refl
 filter-map f p (x ∷ xs) = at (p (f x)) (filter-map f p xs)
@@ -61,6 +62,7 @@ sized (suc size) (x ∷ items) =
     (all_map (λ set. x ∷ set) _ (subsets_of_size size items) (all_weaker _ _ (λ set e. ap suc e) (subsets_of_size size items) (sized size items)))
     (sized (suc size) items)
 
+-- the subsets of one item
 pub one_item : (items : List ℕ) → subsets_of_size 1 items ≡ map (λ x. x ∷ []) items
 one_item [] = refl
 one_item (x ∷ items) = ap (λ l. (x ∷ []) ∷ l) (one_item items)
@@ -79,6 +81,7 @@ single_subsets : (items : List ℕ) → filter (λ set. eqb (length set) 1) (sub
 single_subsets [] = refl
 single_subsets (x ∷ items) = singles_up_to (length items) (x ∷ items)
 
+-- the frequent items are the items whose supports meet the minimum
 pub frequent_items_are_counted : FrequentItemsAreCounted
 frequent_items_are_counted baskets minimum =
     let items = items_of baskets in

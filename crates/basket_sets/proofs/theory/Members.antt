@@ -13,6 +13,7 @@ module _ {K : Type 0} where
   Member x [] = ⊥
   Member x (y ∷ ys) = (y ≡ x) ⊎ Member x ys
 
+  -- a member of two lists joined is a member of one of them
   pub Member-append : (x : K) (xs ys : List K) → Member x (xs ++ ys) → Member x xs ⊎ Member x ys
   Member-append x [] ys m = inr m
   Member-append x (y ∷ xs) ys (inl e) = inl (inl e)
@@ -27,6 +28,7 @@ module _ {K : Type 0} where
   Member-append_right x [] ys m = m
   Member-append_right x (y ∷ xs) ys m = inr (Member-append_right x xs ys m)
 
+  -- membership by recursion and by places are the same
   pub Member-from_Contains : (x : K) (xs : List K) → Contains xs x → Member x xs
   Member-from_Contains x [] h = absurd (omega (arith, h.1))
   Member-from_Contains x (y ∷ ys) (zero, below, is) = inl is
@@ -43,6 +45,7 @@ module _ {K : Type 0} where
   at_Member P x (y ∷ ys) h (inl e) = subst P e h.0
   at_Member P x (y ∷ ys) h (inr m) = at_Member P x ys h.1 m
 
+  -- what holds of each member holds of each element
   pub All-from_Member : (P : K → Type 0) (xs : List K) → ((x : K) → Member x xs → P x) → AllByRecursion P xs
   All-from_Member P [] h = tt
   All-from_Member P (y ∷ ys) h = (h y (inl refl), All-from_Member P ys (λ x m. h x (inr m)))
@@ -53,6 +56,7 @@ module _ {K : Type 0} where
   kept_at p x y ys true e rest (inr m) = let r = rest m in (inr r.0, r.1)
   kept_at p x y ys false e rest m = let r = rest m in (inr r.0, r.1)
 
+  -- the members of a filtered list are those members that pass
   pub Member-filter : (p : K → Bool) (x : K) (xs : List K) → Member x (filter p xs) → Member x xs × (p x ≡ true)
   Member-filter p x [] m = absurd m
   Member-filter p x (y ∷ ys) m = kept_at p x y ys (p y) refl (Member-filter p x ys) m
@@ -68,6 +72,7 @@ module _ {K : Type 0} where
   Member-from_filter p x [] m h = absurd m
   Member-from_filter p x (y ∷ ys) m h = keeps_at p x y ys (p y) refl h (λ n. Member-from_filter p x ys n h) m
 
+-- the members of a list of images are the images
 pub Member-map : {K J : Type 0} (f : K → J) (x : K) (xs : List K) → Member x xs → Member (f x) (map f xs)
 Member-map f x [] m = absurd m
 Member-map f x (y ∷ ys) (inl e) = inl (ap f e)
@@ -88,6 +93,7 @@ module _ {K : Type 0} {R : K → K → Ordering} (o : IsTotalOrder R) where
   unfolding IsStrictlySortedBy
   first_is_less x y xs s m = at_Member (λ z. R x z ≡ Less) y xs s.0 m
 
+  -- the rest of a sorted list is sorted
   pub rest_is_sorted : (x : K) (xs : List K) → IsStrictlySortedBy R (x ∷ xs) → IsStrictlySortedBy R xs
   unfolding IsStrictlySortedBy
   rest_is_sorted x xs s = s.1

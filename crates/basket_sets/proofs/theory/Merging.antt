@@ -10,10 +10,12 @@ use Rattle.basket_sets.specs.Database.{weighted, is_of, weight_of, merged_after,
 
 -- ---- sums
 
+-- equal summands make equal sums
 pub sum_by-same : {X : Type 0} (f g : X → ℕ) (xs : List X) → ((x : X) → f x ≡ g x) → sum_by f xs ≡ sum_by g xs
 sum_by-same f g [] e = refl
 sum_by-same f g (x ∷ xs) e = sum_by-cons f x xs ∙ ap (λ n. n + sum_by f xs) (e x) ∙ ap (λ n. g x + n) (sum_by-same f g xs e) ∙ sym (sum_by-cons g x xs)
 
+-- a sum of two sums
 pub sum_by-add : {X : Type 0} (f g : X → ℕ) (xs : List X) → sum_by f xs + sum_by g xs ≡ sum_by (λ x. f x + g x) xs
 sum_by-add f g [] = refl
 sum_by-add f g (x ∷ xs) =
@@ -26,9 +28,11 @@ sum_by-add f g (x ∷ xs) =
 abbrev seen : List Weighted → Weighted → Bool
 seen before place = list_any (is_of place.basket) before
 
+-- a place has its basket
 pub of_itself : (place : Weighted) → is_of place.basket place ≡ true
 of_itself place = (bytes_decides place.basket place.basket).1 refl
 
+-- the test says that the baskets are equal
 pub same_basket : (basket : List ℕ) (place : Weighted) → is_of basket place ≡ true → place.basket ≡ basket
 same_basket basket place e = (bytes_decides place.basket basket).0 e
 

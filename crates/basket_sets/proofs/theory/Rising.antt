@@ -18,6 +18,7 @@ use Rattle.basket_sets.proofs.theory.Members.{Member, All-from_Member, first_is_
 
 -- ---- the order of numbers
 
+-- the comparison of numbers says less where they are
 pub Less-from_lt : (x y : ℕ) → x < y → nat_cmp x y ≡ Less
 Less-from_lt x y h = ap (λ b. cond b Less (cond (eqb x y) Equal Greater)) (lt-ltb x y h)
 
@@ -32,6 +33,7 @@ same_test true b f g = sym (f refl)
 same_test false true f g = g refl
 same_test false false f g = refl
 
+-- a list has its members
 pub Member-from_has : (items : List ℕ) (item : ℕ) → has items item ≡ true → Member item items
 Member-from_has [] item h = absurd cc
 Member-from_has (x ∷ xs) item h = elim (or_cases (eqb x item) (has xs item) h) [ inl e ↦ inl (eqb-true x item e) | inr e ↦ inr (Member-from_has xs item e) ]
@@ -46,6 +48,7 @@ has-from_Member (x ∷ xs) item (inr m) = elim (cases_Bool (eqb x item)) [
 
 -- ---- contains
 
+-- a basket contains a set exactly where it has each of its items
 pub has_each : (basket set : List ℕ) → contains basket set ≡ true → (item : ℕ) → Member item set → Member item basket
 has_each basket [] h item m = absurd m
 has_each basket (x ∷ set) h item (inl e) = subst (λ y. Member y basket) e (Member-from_has basket x (and_parts (has basket x) (contains basket set) h).0)
@@ -56,6 +59,7 @@ contains_each basket [] h = refl
 contains_each basket (x ∷ set) h =
     and_from (has basket x) (contains basket set) (has-from_Member basket x (h x (inl refl))) (contains_each basket set (λ item m. h item (inr m)))
 
+-- containing is reflexive and transitive
 pub contains-refl : (set : List ℕ) → contains set set ≡ true
 contains-refl set = contains_each set set (λ item m. m)
 
@@ -64,17 +68,21 @@ contains-trans a b c h k = contains_each a c (λ item m. has_each a b h item (ha
 
 -- ---- rising lists
 
+-- the empty list rises
 pub nil_rises : IsRising []
 unfolding IsStrictlySortedBy
 nil_rises = tt
 
+-- a list rises whose first number is below all others, which rise
 pub cons_rises : (x : ℕ) (xs : List ℕ) → ((y : ℕ) → Member y xs → x < y) → IsRising xs → IsRising (x ∷ xs)
 unfolding IsStrictlySortedBy
 cons_rises x xs below rest = (All-from_Member (λ y. nat_cmp x y ≡ Less) xs (λ y m. Less-from_lt x y (below y m)), rest)
 
+-- the first number of a rising list is below all others
 pub first_below : (x : ℕ) (xs : List ℕ) → IsRising (x ∷ xs) → (y : ℕ) → Member y xs → x < y
 first_below x xs up y m = lt-from_Less x y (first_is_less nat_cmp_total x y xs up m)
 
+-- the rest of a rising list rises
 pub rest_rises : (x : ℕ) (xs : List ℕ) → IsRising (x ∷ xs) → IsRising xs
 rest_rises x xs up = rest_is_sorted nat_cmp_total x xs up
 
@@ -92,6 +100,7 @@ with_at a x y xs rest false true later m = inr m
 with_at a x y xs rest false false later (inl e) = inr (inl e)
 with_at a x y xs rest false false later (inr m) = elim (later m) [ inl e ↦ inl e | inr n ↦ inr (inr n) ]
 
+-- a list with an item has that item and its own
 pub Member-with_item : (a : ℕ) (xs : List ℕ) (y : ℕ) → Member y (with_item a xs) → (a ≡ y) ⊎ Member y xs
 Member-with_item a [] y (inl e) = inl e
 Member-with_item a [] y (inr m) = absurd m
@@ -128,11 +137,13 @@ rises_at a x xs rest false false less is up later from = cons_rises x rest below
       | inr n ↦ first_below x xs up y n
     ]
 
+-- it rises where the list did
 pub with_item-rises : (a : ℕ) (xs : List ℕ) → IsRising xs → IsRising (with_item a xs)
 with_item-rises a [] up = cons_rises a [] (λ y m. absurd m) up
 with_item-rises a (x ∷ xs) up =
     rises_at a x xs (with_item a xs) (ltb a x) (eqb a x) refl refl up (with_item-rises a xs (rest_rises x xs up)) (Member-with_item a xs)
 
+-- the rising list of some numbers rises, and has exactly those numbers
 pub rising-rises : (numbers : List ℕ) → IsRising (rising numbers)
 rising-rises [] = nil_rises
 rising-rises (x ∷ numbers) = with_item-rises x (rising numbers) (rising-rises numbers)
@@ -151,6 +162,7 @@ pub rising_is : (numbers items : List ℕ) → IsRising items → ((z : ℕ) →
 rising_is numbers items up into back =
     same_rising (rising numbers) items (rising-rises numbers) up (λ z m. into z (Member-rising numbers z m)) (λ z m. Member-into_rising numbers z (back z m))
 
+-- a rising list is its own rising list
 pub rising-rising : (items : List ℕ) → IsRising items → rising items ≡ items
 rising-rising items up = rising_is items items up (λ z m. m) (λ z m. m)
 
@@ -174,6 +186,7 @@ length-le-contains (x ∷ set) (y ∷ items) up over into = elim (into x (inl re
 rises_by_places : (items : List ℕ) → IsRising items → (i j : ℕ) → i ≤ j → j < length items → get_or items i 0 ≤ get_or items j 0
 rises_by_places items up i j le below = non_decreasing_from_sorted items up i j 0 le below
 
+-- a search finds exactly what the list has
 pub search_is_has : (items : List ℕ) (item : ℕ) (r : Result ℕ ℕ) → IsRising items → IsBinarySearchResult (λ y. nat_cmp y item) items r → is_ok r ≡ has items item
 search_is_has items item (Ok i) up found =
     let s = searched items item (Ok i) found (rises_by_places items up) in
@@ -191,6 +204,7 @@ search_is_has items item (Err i) up found = elim (cases_Bool (has items item)) [
 
 -- ---- what a list has, item by item
 
+-- two lists joined have what one of them has
 pub has-append : (a b : List ℕ) (x : ℕ) → has (a ++ b) x ≡ (has a x || has b x)
 has-append [] b x = refl
 has-append (y ∷ a) b x = ap (λ t. eqb y x || t) (has-append a b x) ∙ sym (or_assoc (eqb y x) (has a x) (has b x))
@@ -216,6 +230,7 @@ not_before items i up below = false_from_ne_true _ (λ h.
 
 -- ---- the tests and edits of the code
 
+-- the test of neighbours tells whether a list rises
 pub rising_test : (numbers : List ℕ) (r : Bool) → IsAllAdjacentAnswer (λ x y b. b ≡ ltb x y) numbers r → (r ≡ true → IsRising numbers) × (IsRising numbers → r ≡ true)
 rising_test numbers true h = (λ e. sorted_from_strictly_increasing numbers (λ k below. ltb-true _ _ (sym (h k 0 below))), λ up. refl)
 rising_test numbers false h = (
@@ -234,6 +249,7 @@ rising-dedup numbers sorted moved up = sym (rising_is numbers (dedup eqb sorted)
 pub found_at : (items : List ℕ) (item found : ℕ) → IsRising items → IsBinarySearchResult (λ y. nat_cmp y item) items (Ok found) → (found < length items) × (get_or items found 0 ≡ item)
 found_at items item found up is = searched items item (Ok found) is (rises_by_places items up)
 
+-- an item that was not found stands nowhere
 pub found_nowhere : (items : List ℕ) (item place : ℕ) → IsRising items → IsBinarySearchResult (λ y. nat_cmp y item) items (Err place) → (k : ℕ) → k < length items → get_or items k 0 ≢ item
 found_nowhere items item place up is k below e =
     let s = searched items item (Err place) is (rises_by_places items up) in

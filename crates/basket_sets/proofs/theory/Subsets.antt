@@ -30,6 +30,7 @@ with_first size x items set up s = record {
     into item (inl e) = inl e
     into item (inr m) = inr (s.within item m)
 
+-- the list of the subsets of a size has exactly those
 pub IsSubset-from_Member : (size : ℕ) (items set : List ℕ) → IsRising items → Member set (subsets_of_size size items) → IsSubset size items set
 IsSubset-from_Member zero items set up (inl e) = subst (IsSubset zero items) e (record { rises = nil_rises; sized = refl; within = λ item m. absurd m })
 IsSubset-from_Member zero items set up (inr m) = absurd m
@@ -77,6 +78,7 @@ up_to-Member (suc most) size items set m below = elim (cases_lt size most) [
       Member-append_right set (subsets_up_to most items) (subsets_of_size (suc most) items) (subst (λ n. Member set (subsets_of_size (suc n) items)) e m)
 ]
 
+-- a subset of the list has one of its sizes
 pub size_of_Member : (most : ℕ) (items set : List ℕ) → IsRising items → Member set (subsets_up_to most items) → (size : ℕ) × (size < most) × IsSubset (suc size) items set
 size_of_Member zero items set up m = absurd m
 size_of_Member (suc most) items set up m = elim (Member-append set (subsets_up_to most items) (subsets_of_size (suc most) items) m) [
@@ -121,6 +123,7 @@ of_size_sorted (suc size) (x ∷ items) up =
 shorter_first : (a b : List ℕ) → length a < length b → report_order a b ≡ Less
 shorter_first a b h = ap (λ o. ordering_then o (slice_cmp nat_cmp a b)) (Less-from_lt (length a) (length b) h)
 
+-- sets of one size are in report order where they are in lexicographic order
 pub same_length : (a b : List ℕ) → length a ≡ length b → slice_cmp nat_cmp a b ≡ Less → report_order a b ≡ Less
 same_length a b e h = ap (λ n. ordering_then (nat_cmp n (length b)) (slice_cmp nat_cmp a b)) e ∙ ap (λ o. ordering_then o (slice_cmp nat_cmp a b)) (nat_cmp_same (length b)) ∙ h
 
@@ -135,6 +138,7 @@ up_to_sorted (suc most) items up =
     (λ a b m n. let s = size_of_Member most items a up m in let t = IsSubset-from_Member (suc most) items b up n in
     shorter_first a b (let e = s.2.sized in let f = t.sized in let g = s.1 in omega arith))
 
+-- the subsets are strictly sorted by report order
 pub subsets_sorted : (items : List ℕ) → IsRising items → IsStrictlySortedBy report_order (subsets_of items)
 subsets_sorted items up = up_to_sorted (length items) items up
 
@@ -144,15 +148,18 @@ subset_from_Member items set up m =
     let s = size_of_Member (length items) items set up m in
     (s.2.rises, λ e. let no : suc s.0 ≡ 0 = sym s.2.sized ∙ ap length e in omega arith, s.2.within)
 
+-- the subsets of a rising list are in report order
 pub subsets_are_in_report_order : SubsetsAreInReportOrder
 subsets_are_in_report_order = subsets_sorted
 
+-- they are exactly its nonempty rising sublists
 pub subsets_are_exact : SubsetsAreExact
 subsets_are_exact items set up = (
   λ m. let s = subset_from_Member items set up (Member-from_Contains set (subsets_of items) m) in (s.0, s.1, contains_each items set s.2),
   λ s. Contains-from_Member set (subsets_of items) (Member-subsets items set up s.0 s.1 (has_each items set s.2)),
 )
 
+-- lists in report order with the same sets are equal
 pub same_sets_are_same_lists : SameSetsAreSameLists
 same_sets_are_same_lists a b s t same = same_members report_order_total a b s t
     (λ z m. Member-from_Contains z b ((same z).0 (Contains-from_Member z a m))) (λ z m. Member-from_Contains z a ((same z).1 (Contains-from_Member z b m)))

@@ -20,15 +20,19 @@ weight_at-contains place set subset h = elim (cases_Bool (contains place.basket 
   | inr e ↦ subst (λ b. cond b place.weight 0 ≤ weight_at subset place) (sym e) (omega arith)
 ]
 
+-- a set has at most the support of its subsets
 pub support_falls : SupportFalls
 support_falls baskets set subset h = sum_by-le-sum_by (weight_at set) (weight_at subset) baskets (λ place. weight_at-contains place set subset h)
 
+-- supports over two lists of baskets add up
 pub support-append : (a b : List Weighted) (set : List ℕ) → support_of (a ++ b) set ≡ support_of a set + support_of b set
 support-append a b set = sum_by-append (weight_at set) a b
 
+-- a basket more
 pub support-cons : (place : Weighted) (baskets : List Weighted) (set : List ℕ) → support_of (place ∷ baskets) set ≡ weight_at set place + support_of baskets set
 support-cons place baskets set = sum_by-cons (weight_at set) place baskets
 
+-- supports over the parts of a list of baskets add up
 pub supports_add_up : SupportsAddUp
 supports_add_up [] set = refl
 supports_add_up (part ∷ parts) set =
@@ -46,6 +50,7 @@ in_items (place ∷ baskets) set some item m = elim (cases_Bool (contains place.
 
 -- ---- minimums
 
+-- what meets a minimum still meets it with more support
 pub meets_more : (minimum : Minimum) (support more total : ℕ) → support ≤ more → meets minimum support total ≡ true → meets minimum more total ≡ true
 meets_more (Count least) support more total le h =
     let p = and_parts (leb 1 support) (leb least support) h in
@@ -59,18 +64,22 @@ meets_more (Share n d) support more total le h =
     scaled : (s m d t : ℕ) → s ≤ m → t ≤ s * d → t ≤ m * d
     scaled s m d t le h = grind arith
 
+-- the subsets of a frequent set are frequent
 pub subsets_are_frequent : SubsetsAreFrequent
 subsets_are_frequent baskets minimum set subset h k =
     meets_more minimum (support_of baskets set) (support_of baskets subset) (total_of baskets) (support_falls baskets set subset h) k
 
+-- a support that meets a minimum is at least 1
 pub at_least_one : (minimum : Minimum) (support total : ℕ) → meets minimum support total ≡ true → 1 ≤ support
 at_least_one (Count least) support total h = leb-true 1 support (and_parts (leb 1 support) (leb least support) h).0
 at_least_one (Share n d) support total h = leb-true 1 support (and_parts (leb 1 support) (leb (n * total) (support * d)) h).0
 
+-- a frequent set has items of the database
 pub frequent_items : (baskets : List Weighted) (minimum : Minimum) (set : List ℕ) → is_frequent baskets minimum set ≡ true → (item : ℕ) → Member item set → Member item (items_of baskets)
 frequent_items baskets minimum set h item m =
     Member-into_rising (flat_map (λ place. place.basket) baskets) item
     (in_items baskets set (at_least_one minimum (support_of baskets set) (total_of baskets) h) item m)
 
+-- the items of the database contain a frequent set
 pub frequent_sets_have_items : FrequentSetsHaveItems
 frequent_sets_have_items baskets minimum set h = contains_each (items_of baskets) set (frequent_items baskets minimum set h)

@@ -5,7 +5,7 @@ use Rattle.basket_sets.specs.Database.{MOST_WEIGHT}
 use Rattle.basket_core.specs.Depth.{HasSetOfSize, narrowed}
 use Rattle.basket_sets.specs.Minimum.{meets}
 use Rattle.basket_sets.specs.Support.{support_of, total_of}
-use Rattle.basket_core.proofs.theory.Depth.{reaches_none, reaches_more, reached_light, reached}
+use Rattle.basket_core.proofs.DepthLemmas.{reaches_none, reaches_more, reached_light, reached}
 use Rattle.basket_core.proofs.depth.deep.Goals as goal
 
 pub loop-init : goal.loop-init

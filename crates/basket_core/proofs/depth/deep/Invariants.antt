@@ -1,4 +1,4 @@
-use Rattle.basket_core.proofs.theory.Depth.{Reaches}
+use Rattle.basket_core.proofs.DepthLemmas.{Reaches}
 use Rattle.basket_core.proofs.depth.deep.Given as goal
 
 abbrev pub invariant-loop : goal.invariant-loop

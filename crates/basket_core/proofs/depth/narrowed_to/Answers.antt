@@ -4,7 +4,7 @@ use Rattle.std.specs.Ordering.{nat_cmp}
 use Rattle.basket_sets.specs.Itemset.{rising}
 use Rattle.basket_sets.specs.Database.{weighted}
 use Rattle.basket_core.specs.Depth.{narrowed}
-use Rattle.basket_core.proofs.theory.Depth.{narrowed_more, found_place, missed_place}
+use Rattle.basket_core.proofs.DepthLemmas.{narrowed_more, found_place, missed_place}
 use Rattle.basket_core.proofs.depth.narrowed_to.Goals as goal
 use Rattle.basket_core.proofs.depth.narrowed_to.Goals.{in-Ok+in_ok-from_items+in_ok-push, in_default}
 

@@ -2,7 +2,7 @@ use Rattle.std.proofs.Common.{ap, subst, ◌∙◌}
 use Rattle.std.specs.List.{Contains}
 use Rattle.basket_sets.specs.Minimum.{meets}
 use Rattle.basket_sets.specs.Support.{total_of}
-use Rattle.basket_core.proofs.theory.Depth.{count_is}
+use Rattle.basket_core.proofs.DepthLemmas.{count_is}
 use Rattle.basket_core.proofs.depth.narrower.Goals as goal
 
 pub returns-in-Some : goal.returns-in-Some
