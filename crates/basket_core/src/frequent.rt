@@ -57,13 +57,17 @@ impl Frequent {
     }
 }
 
-/// The sets of the classes, one class after another.
+/// The sets of the classes, one class after another. The first class isn't copied.
 fn gathered(alloc: Global, classes: Vec<Vec<Counted>>) -> Result<Vec<Counted>, AllocError>
     ensures { IfOk result (λ sets. sets.items ≡ flat_map (λ class. class.items) classes.items) }
 {
     let mut sets = Vec::new(alloc);
     for mut class in classes {
-        sets.append(&mut class)?;
+        if sets.is_empty() {
+            sets = class;
+        } else {
+            sets.append(&mut class)?;
+        }
     }
     Ok(sets)
 }

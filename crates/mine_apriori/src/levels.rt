@@ -55,10 +55,10 @@ impl Found {
     }
 
     /// The sets as items, with their supports.
-    fn decoded(&self, alloc: Global, coded: &Coded) -> Result<Vec<Counted>, AllocError>
-        requires below { All (AllBelow (length coded.now.items)) self.now.sets.items }
-        requires counts { self.now.counts.items ≡ map (support_of coded.now.baskets) self.now.sets.items }
-        ensures { IfOk result (λ decoded. decoded.items ≡ map (λ set. decoded_set coded.now.items (counted coded.now.baskets set)) self.now.sets.items) }
+    fn decoded(self, alloc: Global, coded: &Coded) -> Result<Vec<Counted>, AllocError>
+        requires below { All (AllBelow (length coded.now.items)) self.sets.items }
+        requires counts { self.counts.items ≡ map (support_of coded.now.baskets) self.sets.items }
+        ensures { IfOk result (λ decoded. decoded.items ≡ map (λ set. decoded_set coded.now.items (counted coded.now.baskets set)) self.sets.items) }
     {
         let mut decoded = Vec::with_capacity(alloc, self.sets.len())?;
         for (place, set) in self.sets.iter().enumerate() {
@@ -195,9 +195,10 @@ impl<'a> Levels<'a> {
         ensures within { IfOk result (λ frequent. length frequent.sets ≤ self.entry.limit) }
         ensures err { IfErr result (λ fault. fault ≡ Memory) }
     {
+        let Levels { coded, found, .. } = self;
         let mut classes = Vec::with_capacity(alloc, 1)?;
-        classes.push(self.found.decoded(alloc, self.coded)?)?;
-        Ok(Frequent::of_classes(alloc, self.coded, classes)?)
+        classes.push(found.decoded(alloc, coded)?)?;
+        Ok(Frequent::of_classes(alloc, coded, classes)?)
     }
 }
 
