@@ -1,5 +1,4 @@
 pub mod theory
-mod BucketLemmas
 mod RankLemmas
 mod CodeLemmas
 mod DepthLemmas

@@ -10,7 +10,6 @@ pub use Rattle.basket_sets.specs.Worked
 pub use Rattle.basket_stream.specs.Stream
 pub mod Codes
 pub mod Ranks
-pub mod Buckets
 pub mod Listing
 pub mod Tally
 pub mod Depth

@@ -4,7 +4,6 @@ ghost use Rattle.basket_core.specs.Codes.{baskets_of};
 ghost use Rattle.basket_sets.specs.Frequent.{ListsOnce};
 ghost use Rattle.basket_core.specs.Listing.{listing_of};
 
-use crate::buckets::{buckets_by_size, in_report_order};
 use crate::codes::Coded;
 use basket_sets::Counted;
 use std::alloc::{AllocError, Global};
@@ -35,9 +34,10 @@ impl Frequent {
         requires { ListsOnce (baskets_of coded.now) coded.now.minimum (flat_map (λ class. class.items) classes.items) }
         ensures { IfOk result (λ frequent. frequent ≡ listing_of coded.now) }
     {
-        let buckets = buckets_by_size(alloc, gathered(alloc, classes)?)?;
+        let mut sets = gathered(alloc, classes)?;
+        sets.sort_unstable();
         Ok(Frequent {
-            sets: in_report_order(alloc, buckets)?,
+            sets,
             total: coded.total(),
         })
     }

@@ -2,7 +2,6 @@
 //! names of the crates below come with it: itemsets, databases and minimums, sources and sinks.
 #![tactic(auto)]
 
-mod buckets;
 mod codes;
 mod depth;
 mod fault;
