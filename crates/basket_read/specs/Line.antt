@@ -10,7 +10,7 @@ use Rattle.basket_read.specs.declared.line.Place.TheVariants.{Head, First, Betwe
 use Rattle.basket_read.specs.declared.line.Line.{Line}
 use Rattle.basket_read.specs.Cut.{cut_at}
 use Rattle.basket_read.specs.Number.{number_with}
-use Rattle.basket_read.specs.Fimi.{is_blank, is_times, is_line_feed, is_nil, weight_before}
+use Rattle.basket_read.specs.Fimi.{is_blank, is_times, is_line_feed, is_nil, is_line, weight_before}
 
 -- what a byte can be in a text
 abbrev pub IsClass : Class → ℕ → Type 0
@@ -56,6 +56,20 @@ place_with (First value) digit = option_map First (number_with value digit)
 place_with Between digit = Some (Number digit)
 place_with (Number value) digit = option_map Number (number_with value digit)
 
+-- the number so far, 0 where there is none
+abbrev pub value_at : Place → ℕ
+value_at Head = 0
+value_at (First value) = value
+value_at Between = 0
+value_at (Number value) = value
+
+-- where a line stands behind more digits, with which the number has this value
+abbrev pub place_after : Place → ℕ → Place
+place_after Head value = First value
+place_after (First before) value = First value
+place_after Between value = Number value
+place_after (Number before) value = Number value
+
 -- a line after a digit
 abbrev pub digit_added : LineState → ℕ → Option LineState
 digit_added line digit = option_map (λ place. record { place = place; weight = line.weight; numbers = line.numbers }) (place_with line.place digit)
@@ -79,3 +93,8 @@ times_after (Number value) numbers = None
 
 abbrev pub times_added : LineState → Option LineState
 times_added line = times_after line.place line.numbers
+
+-- the line that was read is of these bytes, which are a line so far
+pub record IsLineSoFar (line : Line) (bytes : List ℕ) : Type 0 where
+  pub good : is_line bytes ≡ true
+  pub state : line_state line ≡ line_at bytes

@@ -1,7 +1,11 @@
 //! A line of which not all has been read.
-ghost use Rattle.std.specs.Prelude.{◌≡◌, ◌≤◌, ◌<◌, ◌≢◌, [], if◌then◌else◌, Some, None, OnOk};
+ghost use Rattle.std.specs.Prelude.{◌≡◌, ◌≤◌, ◌<◌, ◌≢◌, ℕ, List, [], ◌++◌, length, take, true, if◌then◌else◌, Some, None, OnOk};
+ghost use Rattle.std.specs.List.{list_all};
+ghost use Rattle.basket_core.specs.Minimum.{is_digit, value_of};
+ghost use Rattle.basket_read.specs.Fimi.{MOST_NUMBER};
 ghost use Rattle.basket_read.specs.Number.{number_with};
 
+use crate::class::{Class, class_of};
 use std::alloc::{AllocError, Global};
 
 /// Where in a line the next byte stands.
@@ -17,6 +21,32 @@ pub enum Place {
     Number(u32),
 }
 
+impl Place {
+    ghost use Rattle.basket_read.specs.Line.{value_at, place_after};
+
+    /// The number so far, 0 where there is none.
+    #[inline(always)]
+    fn value(self) -> u32
+        ensures { result ≡ value_at self }
+    {
+        match self {
+            Place::Head | Place::Between => 0,
+            Place::First(value) | Place::Number(value) => value,
+        }
+    }
+
+    /// The place behind more digits, with which the number has this value.
+    #[inline(always)]
+    fn with_value(self, value: u32) -> Self
+        ensures { result ≡ place_after self value }
+    {
+        match self {
+            Place::Head | Place::First(_) => Place::First(value),
+            Place::Between | Place::Number(_) => Place::Number(value),
+        }
+    }
+}
+
 /// What has been read of a line: where it stands, its weight, and the numbers that have ended.
 #[derive(Debug, Drop)]
 pub struct Line {
@@ -27,7 +57,8 @@ pub struct Line {
 }
 
 impl Line {
-    ghost use Rattle.basket_read.specs.Line.{line_state, line_at, digit_added, blank_added, times_added};
+    ghost use Rattle.std.specs.Prelude.{IfOk};
+    ghost use Rattle.basket_read.specs.Line.{line_state, line_at, IsLineSoFar, digit_added, blank_added, times_added};
 
     pub fn new(alloc: Global) -> Self
         ensures { line_state result ≡ line_at [] }
@@ -87,6 +118,41 @@ impl Line {
         }
     }
 
+    /// Takes digits and blanks from the front of the bytes, up to another byte or to a digit that
+    /// takes a number above the bound, and answers how many.
+    pub fn take_numbers(&mut self, bytes: &[u8]) -> Result<usize, AllocError>
+        ensures within { IfOk result (λ taken. taken ≤ length bytes.now) }
+        ensures line { (line : List ℕ) → IsLineSoFar self.old line →
+            IfOk result (λ taken. IsLineSoFar self.new (line ++ take taken bytes.now)) }
+    {
+        let mut taken = 0;
+        loop {
+            taken += self.take_digits(&bytes[taken..]);
+            let Some(byte) = bytes.get(taken) else {
+                return Ok(taken);
+            };
+            let Class::Blank = class_of(*byte) else {
+                return Ok(taken);
+            };
+            self.add_blank()?;
+            taken += 1;
+        }
+    }
+
+    /// Takes digits from the front of the bytes, as many as keep the number from going above the
+    /// bound, and answers how many.
+    #[inline(always)]
+    fn take_digits(&mut self, bytes: &[u8]) -> usize
+        ensures within { result ≤ length bytes.now }
+        ensures line { (line : List ℕ) → IsLineSoFar self.old line → IsLineSoFar self.new (line ++ take result bytes.now) }
+    {
+        let (value, taken) = with_digits(self.place.value(), bytes);
+        if taken > 0 {
+            self.place = self.place.with_value(value);
+        }
+        taken
+    }
+
     /// The numbers that have ended.
     pub fn numbers(&self) -> &[u32]
         ensures { result.now ≡ (line_state self.now).numbers }
@@ -109,6 +175,28 @@ impl Line {
         self.weight = 1;
         self.numbers.clear();
     }
+}
+
+/// A number with the digits at the front of the bytes, as many as keep it from going above the
+/// bound, and how many those are.
+#[inline(always)]
+fn with_digits(before: u32, bytes: &[u8]) -> (u32, usize)
+    ensures within { result.1 ≤ length bytes.now }
+    ensures bound { result.0 ≤ MOST_NUMBER }
+    ensures digits { list_all is_digit (take result.1 bytes.now) ≡ true }
+    ensures value { (word : List ℕ) → value_of word ≡ before → value_of (word ++ take result.1 bytes.now) ≡ result.0 }
+{
+    let mut value = before;
+    for (place, byte) in bytes.iter().enumerate() {
+        let Class::Digit(digit) = class_of(*byte) else {
+            return (value, place);
+        };
+        let Some(longer) = with_digit(value, digit) else {
+            return (value, place);
+        };
+        value = longer;
+    }
+    (value, bytes.len())
 }
 
 /// A number with one digit more, if it is not above the bound.
