@@ -17,8 +17,11 @@ pub enum Class {
 pub fn class_of(byte: u8) -> Class
     ensures { IsClass result byte }
 {
+    // The digits first, since most bytes are.
+    if byte.is_ascii_digit() {
+        return Class::Digit(byte - b'0');
+    }
     match byte {
-        b'0'..=b'9' => Class::Digit(byte - b'0'),
         b' ' | b'\t' | b'\r' => Class::Blank,
         b'x' => Class::Times,
         b'\n' => Class::LineFeed,

@@ -125,9 +125,8 @@ impl Line {
         ensures line { (line : List ℕ) → IsLineSoFar self.old line →
             IfOk result (λ taken. IsLineSoFar self.new (line ++ take taken bytes.now)) }
     {
-        let mut taken = 0;
+        let mut taken = self.take_digits(bytes);
         loop {
-            taken += self.take_digits(&bytes[taken..]);
             let Some(byte) = bytes.get(taken) else {
                 return Ok(taken);
             };
@@ -136,6 +135,7 @@ impl Line {
             };
             self.add_blank()?;
             taken += 1;
+            taken += self.take_digits(&bytes[taken..]);
         }
     }
 

@@ -7,21 +7,14 @@ use Rattle.basket_read.proofs.line.Line.take_numbers.Goals as goal
 
 pub loop-byte-preserved : goal.loop-byte-preserved
 loop-byte-preserved c =
-    let i = c.loop-byte.taken + c.take_digits-taken.result in
+    let i = c.loop-byte.taken in
     let here = c.in-Some.ensures.lookup.3 in
     record {
-      within = omega (arith, here.0);
+      within = within_both c.args.bytes.now (i + 1) c.take_digits-taken-in-loop-byte.result (omega (arith, here.0)) c.take_digits-taken-in-loop-byte.ensures.within;
       line = λ line s.
-          subst (IsLineSoFar c.add_blank.new.self) (take_next line c.args.bytes.now i here.0)
-          (line_with_blank c.take_digits-taken.new.self c.add_blank.new.self (line ++ take i c.args.bytes.now) (get_or c.args.bytes.now i 0)
-          (subst (IsLineSoFar c.take_digits-taken.new.self) (behind_both line c.args.bytes.now c.loop-byte.taken c.take_digits-taken.result)
-          (c.take_digits-taken.ensures.line (line ++ take c.loop-byte.taken c.args.bytes.now) (c.loop-byte.invariant.line line s)))
-          (ap is_blank (sym (here.1 0)) ∙ c.in-Blank.ensures) c.in_ok-add_blank.ensures);
+          subst (IsLineSoFar c.take_digits-taken-in-loop-byte.new.self) (behind_both line c.args.bytes.now (i + 1) c.take_digits-taken-in-loop-byte.result)
+          (c.take_digits-taken-in-loop-byte.ensures.line (line ++ take (i + 1) c.args.bytes.now)
+          (subst (IsLineSoFar c.add_blank.new.self) (take_next line c.args.bytes.now i here.0)
+          (line_with_blank c.loop-byte.self c.add_blank.new.self (line ++ take i c.args.bytes.now) (get_or c.args.bytes.now i 0)
+          (c.loop-byte.invariant.line line s) (ap is_blank (sym (here.1 0)) ∙ c.in-Blank.ensures) c.in_ok-add_blank.ensures)));
     }
-
-pub returns-in_default-class_of : goal.returns-in_default-class_of
-returns-in_default-class_of c = record {
-  within = within_both c.args.bytes.now c.loop-byte.taken c.take_digits-taken.result c.loop-byte.invariant.within c.take_digits-taken.ensures.within;
-  line = λ line s. subst (IsLineSoFar c.take_digits-taken.new.self) (behind_both line c.args.bytes.now c.loop-byte.taken c.take_digits-taken.result)
-      (c.take_digits-taken.ensures.line (line ++ take c.loop-byte.taken c.args.bytes.now) (c.loop-byte.invariant.line line s));
-}

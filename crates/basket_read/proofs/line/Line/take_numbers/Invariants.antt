@@ -5,7 +5,7 @@ use Rattle.basket_read.proofs.line.Line.take_numbers.Given as goal
 abbrev pub invariant-loop-byte : goal.invariant-loop-byte
 invariant-loop-byte l = record {
   within : l.taken ≤ length l.bytes;
-  line : (line : List ℕ) → IsLineSoFar l.initial.self line → IsLineSoFar l.self (line ++ take l.taken l.bytes);
+  line : (line : List ℕ) → IsLineSoFar l.fn.self line → IsLineSoFar l.self (line ++ take l.taken l.bytes);
 }
 
 abbrev pub decreases-loop-byte : goal.decreases-loop-byte
