@@ -1,5 +1,5 @@
 -- What has been read of a line, and how it goes on byte by byte.
-use Rattle.std.specs.Prelude.{◌≡◌, ℕ, ◌+◌, Bool, true, false, not, nat_le, if◌then◌else◌, List, [], ◌∷◌, ◌++◌, map, filter, Option, Some, None}
+use Rattle.std.specs.Prelude.{◌≡◌, ℕ, ◌+◌, Bool, true, false, not, nat_le, nat_lt, if◌then◌else◌, List, [], ◌∷◌, ◌++◌, map, filter, Option, Some, None}
 use Rattle.std.specs.List.{list_all}
 use Rattle.std.specs.Option.{option_map}
 use Rattle.basket_core.specs.Minimum.{is_digit, value_of}
@@ -56,6 +56,13 @@ place_with (First value) digit = option_map First (number_with value digit)
 place_with Between digit = Some (Number digit)
 place_with (Number value) digit = option_map Number (number_with value digit)
 
+-- whether a number has begun and not ended
+abbrev pub is_in_number : Place → Bool
+is_in_number Head = false
+is_in_number (First value) = true
+is_in_number Between = false
+is_in_number (Number value) = true
+
 -- the number so far, 0 where there is none
 abbrev pub value_at : Place → ℕ
 value_at Head = 0
@@ -83,6 +90,10 @@ blank_after (Number value) weight numbers = record { place = Between; weight = w
 
 abbrev pub blank_added : LineState → LineState
 blank_added line = blank_after line.place line.weight line.numbers
+
+-- a line in which a number of so many digits has ended, if it has any
+abbrev pub number_ended : LineState → ℕ → ℕ → LineState
+number_ended line value digits = if nat_lt 0 digits then record { place = Between; weight = line.weight; numbers = line.numbers ++ value ∷ [] } else line
 
 -- a line after an `x`, which ends a weight
 abbrev pub times_after : Place → List ℕ → Option LineState

@@ -1,5 +1,5 @@
 //! A line of which not all has been read.
-ghost use Rattle.std.specs.Prelude.{◌≡◌, ◌≤◌, ◌<◌, ◌≢◌, ℕ, List, [], ◌++◌, length, take, true, if◌then◌else◌, Some, None, OnOk};
+ghost use Rattle.std.specs.Prelude.{◌≡◌, ◌≤◌, ◌<◌, ◌≢◌, ℕ, List, [], ◌++◌, length, take, true, false, if◌then◌else◌, Some, None, OnOk};
 ghost use Rattle.std.specs.List.{list_all};
 ghost use Rattle.basket_core.specs.Minimum.{is_digit, value_of};
 ghost use Rattle.basket_read.specs.Fimi.{MOST_NUMBER};
@@ -7,6 +7,9 @@ ghost use Rattle.basket_read.specs.Number.{number_with};
 
 use crate::class::{Class, class_of};
 use std::alloc::{AllocError, Global};
+
+/// So many digits are never above the bound.
+const SHORT: usize = 8;
 
 /// Where in a line the next byte stands.
 #[derive(Clone, Copy, Debug)]
@@ -22,7 +25,14 @@ pub enum Place {
 }
 
 impl Place {
-    ghost use Rattle.basket_read.specs.Line.{value_at, place_after};
+    ghost use Rattle.basket_read.specs.Line.{is_in_number, value_at, place_after};
+
+    #[inline(always)]
+    fn is_in_number(self) -> bool
+        ensures { result ≡ is_in_number self }
+    {
+        matches!(self, Place::First(_) | Place::Number(_))
+    }
 
     /// The number so far, 0 where there is none.
     #[inline(always)]
@@ -58,7 +68,7 @@ pub struct Line {
 
 impl Line {
     ghost use Rattle.std.specs.Prelude.{IfOk};
-    ghost use Rattle.basket_read.specs.Line.{line_state, line_at, IsLineSoFar, digit_added, blank_added, times_added};
+    ghost use Rattle.basket_read.specs.Line.{line_state, line_at, IsLineSoFar, is_in_number, digit_added, blank_added, number_ended, times_added};
 
     pub fn new(alloc: Global) -> Self
         ensures { line_state result ≡ line_at [] }
@@ -119,24 +129,58 @@ impl Line {
     }
 
     /// Takes digits and blanks from the front of the bytes, up to another byte or to a digit that
-    /// takes a number above the bound, and answers how many.
+    /// takes a number above the bound, and answers how many. Behind a number that began before
+    /// them it takes no more than its digits.
+    #[inline(always)]
     pub fn take_numbers(&mut self, bytes: &[u8]) -> Result<usize, AllocError>
         ensures within { IfOk result (λ taken. taken ≤ length bytes.now) }
         ensures line { (line : List ℕ) → IsLineSoFar self.old line →
             IfOk result (λ taken. IsLineSoFar self.new (line ++ take taken bytes.now)) }
     {
-        let mut taken = self.take_digits(bytes);
+        if self.place.is_in_number() {
+            return Ok(self.take_digits(bytes));
+        }
+        let mut taken = 0;
         loop {
+            let (value, digits) = self.take_number(&bytes[taken..]);
+            taken += digits;
             let Some(byte) = bytes.get(taken) else {
                 return Ok(taken);
             };
             let Class::Blank = class_of(*byte) else {
                 return Ok(taken);
             };
-            self.add_blank()?;
+            self.end_number(value, digits)?;
             taken += 1;
-            taken += self.take_digits(&bytes[taken..]);
         }
+    }
+
+    /// Takes a number from the front of the bytes, and answers it and how many digits it has, which
+    /// may be none.
+    #[inline(always)]
+    fn take_number(&mut self, bytes: &[u8]) -> (u32, usize)
+        requires { is_in_number self.old.place ≡ false }
+        ensures within { result.1 ≤ length bytes.now }
+        ensures line { (line : List ℕ) → IsLineSoFar self.old line → IsLineSoFar self.new (line ++ take result.1 bytes.now) }
+        ensures ended { number_ended (line_state self.new) result.0 result.1 ≡ blank_added (line_state self.new) }
+    {
+        let (value, digits) = number_at(bytes);
+        if digits > 0 {
+            self.place = self.place.with_value(value);
+        }
+        (value, digits)
+    }
+
+    /// Ends a number of so many digits, if it has any.
+    #[inline(always)]
+    fn end_number(&mut self, value: u32, digits: usize) -> Result<(), AllocError>
+        ensures { OnOk result (line_state self.new ≡ number_ended (line_state self.old) value digits) }
+    {
+        if digits > 0 {
+            self.numbers.push(value)?;
+            self.place = Place::Between;
+        }
+        Ok(())
     }
 
     /// Takes digits from the front of the bytes, as many as keep the number from going above the
@@ -175,6 +219,46 @@ impl Line {
         self.weight = 1;
         self.numbers.clear();
     }
+}
+
+/// The number at the front of the bytes, of as many digits as keep it from going above the bound,
+/// and how many those are.
+#[inline(always)]
+fn number_at(bytes: &[u8]) -> (u32, usize)
+    ensures within { result.1 ≤ length bytes.now }
+    ensures bound { result.0 ≤ MOST_NUMBER }
+    ensures digits { list_all is_digit (take result.1 bytes.now) ≡ true }
+    ensures value { value_of (take result.1 bytes.now) ≡ result.0 }
+{
+    if bytes.len() < SHORT {
+        return with_digits(0, bytes);
+    }
+    let (value, digits) = short_number(&bytes[..SHORT]);
+    if digits < SHORT {
+        return (value, digits);
+    }
+    let (value, more) = with_digits(value, &bytes[SHORT..]);
+    (value, SHORT + more)
+}
+
+/// The number at the front of so few bytes that it can't go above the bound, and how many digits
+/// it has.
+#[inline(always)]
+fn short_number(bytes: &[u8]) -> (u32, usize)
+    requires { length bytes.now ≡ SHORT }
+    ensures within { result.1 ≤ SHORT }
+    ensures bound { result.0 ≤ MOST_NUMBER }
+    ensures digits { list_all is_digit (take result.1 bytes.now) ≡ true }
+    ensures value { value_of (take result.1 bytes.now) ≡ result.0 }
+{
+    let mut value = 0;
+    for (place, byte) in bytes.iter().enumerate() {
+        let Class::Digit(digit) = class_of(*byte) else {
+            return (value, place);
+        };
+        value = value * 10 + u32::from(digit);
+    }
+    (value, SHORT)
 }
 
 /// A number with the digits at the front of the bytes, as many as keep it from going above the

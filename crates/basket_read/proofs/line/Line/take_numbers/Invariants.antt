@@ -1,11 +1,12 @@
-use Rattle.std.proofs.Common.{◌≤◌, ◌-◌, ℕ, List, ◌++◌, take, length}
-use Rattle.basket_read.specs.Line.{IsLineSoFar}
+use Rattle.std.proofs.Common.{◌≡◌, ◌≤◌, ◌-◌, ℕ, List, ◌++◌, take, length, false}
+use Rattle.basket_read.specs.Line.{IsLineSoFar, is_in_number}
 use Rattle.basket_read.proofs.line.Line.take_numbers.Given as goal
 
 abbrev pub invariant-loop-byte : goal.invariant-loop-byte
 invariant-loop-byte l = record {
   within : l.taken ≤ length l.bytes;
-  line : (line : List ℕ) → IsLineSoFar l.fn.self line → IsLineSoFar l.self (line ++ take l.taken l.bytes);
+  between : is_in_number l.self.place ≡ false;
+  line : (line : List ℕ) → IsLineSoFar l.initial.self line → IsLineSoFar l.self (line ++ take l.taken l.bytes);
 }
 
 abbrev pub decreases-loop-byte : goal.decreases-loop-byte

@@ -1,0 +1,22 @@
+use Rattle.std.proofs.Common.{◌++◌, ap, take, length, sym, ◌∙◌, subst, arith}
+use Rattle.std.proofs.lemmas.List.{length-take, append-nil}
+use Rattle.basket_core.specs.Minimum.{value_of}
+use Rattle.basket_read.specs.Line.{LineState, IsLineSoFar}
+use Rattle.basket_read.proofs.RunLemmas.{line_number, ended_after, ended_none}
+use Rattle.basket_read.proofs.line.Line.take_number.Goals as goal
+
+pub returns-then-digits-gt0 : goal.returns-then-digits-gt0
+returns-then-digits-gt0 c = record {
+  within = c.number_at-value.ensures.within;
+  line = λ line s.
+      line_number c.args.self.now _ line (take c.number_at-value.result.1 c.args.bytes.now) c.number_at-value.result.0 s c.requires c.number_at-value.ensures.digits
+      (λ none. absurd (let below = c.number_at-value.ensures.within in omega (arith, length-take c.number_at-value.result.1 c.args.bytes.now, ap length none)))
+      c.number_at-value.ensures.bound c.number_at-value.ensures.value
+      (ap (λ p. record { place = p; weight = c.args.self.now.weight; numbers = c.args.self.now.numbers.items }) c.with_value-self.ensures);
+  ended = ended_after c.args.self.now.place c.with_value-self.result c.args.self.now.weight c.args.self.now.numbers.items c.number_at-value.result.0 c.number_at-value.result.1
+      c.with_value-self.ensures c.if-digits-gt0.true;
+}
+
+pub returns-else-digits-gt0-clause-ended : goal.returns-else-digits-gt0-clause-ended
+returns-else-digits-gt0-clause-ended c =
+    ended_none c.args.self.now.place c.args.self.now.weight c.args.self.now.numbers.items c.number_at-value.result.0 c.number_at-value.result.1 c.requires c.if-digits-gt0.false
