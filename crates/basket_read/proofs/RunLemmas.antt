@@ -203,6 +203,24 @@ line_with_blank old new line byte s blank is =
     let more = line_blank line byte s.good blank in
     record { good = more.0; state = is ∙ ap blank_added s.state ∙ more.1 }
 
+-- one blank more changes nothing
+blank_again : (place : Place) (weight : ℕ) (numbers : List ℕ) → blank_added (blank_after place weight numbers) ≡ blank_after place weight numbers
+blank_again Head weight numbers = refl
+blank_again (First n) weight numbers = refl
+blank_again Between weight numbers = refl
+blank_again (Number n) weight numbers = refl
+
+-- a line that goes on with blanks
+pub line_with_blanks : (old new : Line) (line blanks : List ℕ) → IsLineSoFar old line → list_all is_blank blanks ≡ true → blanks ≢ [] → line_state new ≡ blank_added (line_state old)
+    → IsLineSoFar new (line ++ blanks)
+line_with_blanks old new line [] s blank some is = absurd (some refl)
+line_with_blanks old new line (byte ∷ []) s blank some is = line_with_blank old new line byte s (and_parts (is_blank byte) true blank).0 is
+line_with_blanks old new line (byte ∷ other ∷ blanks) s blank some is =
+    let parts = and_parts (is_blank byte) (list_all is_blank (other ∷ blanks)) blank in
+    subst (IsLineSoFar new) (append_assoc line (byte ∷ []) (other ∷ blanks))
+    (line_with_blanks new new (line ++ byte ∷ []) (other ∷ blanks) (line_with_blank old new line byte s parts.0 is) parts.1 (λ e. cc)
+    (is ∙ sym (blank_again old.place old.weight old.numbers.items) ∙ ap blank_added (sym is)))
+
 -- ---- a text
 
 line_fronts : (front rest : List ℕ) → is_line (front ++ rest) ≡ true → is_line front ≡ true

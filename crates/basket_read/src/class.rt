@@ -1,4 +1,6 @@
 //! What a byte can be in a FIMI text.
+ghost use Rattle.std.specs.Prelude.{◌≡◌};
+ghost use Rattle.basket_read.specs.Fimi.{is_blank};
 ghost use Rattle.basket_read.specs.Line.{IsClass};
 
 /// What a byte can be in a FIMI text.
@@ -11,6 +13,14 @@ pub enum Class {
     Times,
     LineFeed,
     Other,
+}
+
+/// Whether a byte ends a number and does nothing else.
+#[inline(always)]
+pub fn is_blank(byte: u8) -> bool
+    ensures { result ≡ is_blank byte }
+{
+    matches!(byte, b' ' | b'\t' | b'\r')
 }
 
 #[inline(always)]

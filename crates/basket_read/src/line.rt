@@ -2,10 +2,10 @@
 ghost use Rattle.std.specs.Prelude.{◌≡◌, ◌≤◌, ◌<◌, ◌≢◌, ℕ, List, [], ◌++◌, length, take, true, false, if◌then◌else◌, Some, None, OnOk};
 ghost use Rattle.std.specs.List.{list_all};
 ghost use Rattle.basket_core.specs.Minimum.{is_digit, value_of};
-ghost use Rattle.basket_read.specs.Fimi.{MOST_NUMBER};
+ghost use Rattle.basket_read.specs.Fimi.{is_blank, MOST_NUMBER};
 ghost use Rattle.basket_read.specs.Number.{number_with};
 
-use crate::class::{Class, class_of};
+use crate::class::{Class, class_of, is_blank};
 use std::alloc::{AllocError, Global};
 
 /// So many digits are never above the bound.
@@ -144,14 +144,12 @@ impl Line {
         loop {
             let (value, digits) = self.take_number(&bytes[taken..]);
             taken += digits;
-            let Some(byte) = bytes.get(taken) else {
+            let blanks = blanks_behind(digits > 0, &bytes[taken..]);
+            if blanks == 0 {
                 return Ok(taken);
-            };
-            let Class::Blank = class_of(*byte) else {
-                return Ok(taken);
-            };
+            }
             self.end_number(value, digits)?;
-            taken += 1;
+            taken += blanks;
         }
     }
 
@@ -219,6 +217,36 @@ impl Line {
         self.weight = 1;
         self.numbers.clear();
     }
+}
+
+/// How many blanks to take from the front of the bytes. Behind a number that is at most one, since
+/// mostly another number follows.
+#[inline(always)]
+fn blanks_behind(number: bool, bytes: &[u8]) -> usize
+    ensures within { result ≤ length bytes.now }
+    ensures blanks { list_all is_blank (take result bytes.now) ≡ true }
+{
+    if !number {
+        return blanks_at(bytes);
+    }
+    match bytes.first() {
+        Some(byte) if is_blank(*byte) => 1,
+        _ => 0,
+    }
+}
+
+/// How many blanks stand at the front of the bytes.
+#[inline(always)]
+fn blanks_at(bytes: &[u8]) -> usize
+    ensures within { result ≤ length bytes.now }
+    ensures blanks { list_all is_blank (take result bytes.now) ≡ true }
+{
+    for (place, byte) in bytes.iter().enumerate() {
+        if !is_blank(*byte) {
+            return place;
+        }
+    }
+    bytes.len()
 }
 
 /// The number at the front of the bytes, of as many digits as keep it from going above the bound,

@@ -61,6 +61,9 @@ impl Text {
             IfOk result (λ taken. IsTextSoFar self.new (bytes ++ take taken piece.now)) }
         ensures err { IfErr result (λ fault. fault ≡ ReadFault.Memory) }
     {
+        if let Some(b'\n') = piece.first() {
+            return Ok(0);
+        }
         Ok(self.line.take_numbers(piece)?)
     }
 
