@@ -5,7 +5,7 @@ use Rattle.basket_read.proofs.text.Text.feed.Given as goal
 abbrev pub invariant-loop-taken : goal.invariant-loop-taken
 invariant-loop-taken l = record {
   within : l.taken ≤ length l.piece;
-  text : (bytes : List ℕ) → IsTextSoFar l.initial.self bytes → IsTextSoFar l.self (bytes ++ take l.taken l.piece);
+  text : (bytes : List ℕ) → IsTextSoFar l.fn.self bytes → IsTextSoFar l.self (bytes ++ take l.taken l.piece);
 }
 
 abbrev pub decreases-loop-taken : goal.decreases-loop-taken
