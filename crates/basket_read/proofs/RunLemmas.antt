@@ -132,17 +132,17 @@ line_digits_at old new line word value s digits some below is_value new_is =
     let first = is_first k.ended c.ended in
     let place : old.place ≡ place_of first c.last = ap (λ l. l.place) s.state in
     let is_longer : is_number (c.last ++ word) ≡ true =
-      and_from (list_all is_digit (c.last ++ word)) _
-      (list_all-append is_digit c.last word ∙ and_from (list_all is_digit c.last) (list_all is_digit word) (and_parts (list_all is_digit c.last) _ numbers.1).0 digits)
-      (le-leb (value_of (c.last ++ word)) MOST_NUMBER (subst (λ v. v ≤ MOST_NUMBER) (sym is_value) below)) in
+    and_from (list_all is_digit (c.last ++ word)) _
+    (list_all-append is_digit c.last word ∙ and_from (list_all is_digit c.last) (list_all is_digit word) (and_parts (list_all is_digit c.last) _ numbers.1).0 digits)
+    (le-leb (value_of (c.last ++ word)) MOST_NUMBER (subst (λ v. v ≤ MOST_NUMBER) (sym is_value) below)) in
     record {
       good =
-        ap (λ (j : Cut). is_line_of j.ended j.last) joined_times ∙ is_line-goes k.ended (k.last ++ word) ∙ ap (goes k.ended) joined_blank
-        ∙ with_numbers k.ended c more true goes_so_far
+          ap (λ (j : Cut). is_line_of j.ended j.last) joined_times ∙ is_line-goes k.ended (k.last ++ word) ∙ ap (goes k.ended) joined_blank
+          ∙ with_numbers k.ended c more true goes_so_far
           (all_push is_number c.ended (c.last ++ word) ∙ and_from (list_all is_number c.ended) (is_number (c.last ++ word)) numbers.0 is_longer);
       state =
-        new_is ∙ (λ i. record { place = (ap (λ p. place_after p value) place ∙ ap (place_after (place_of first c.last)) (sym is_value) ∙ sym (place_longer first c.last word some)) i; weight = (s.state i).weight; numbers = (s.state i).numbers })
-        ∙ sym (ap (λ (j : Cut). state j.ended (cut_at is_blank j.last)) joined_times ∙ ap (state k.ended) joined_blank);
+          new_is ∙ (λ i. record { place = (ap (λ p. place_after p value) place ∙ ap (place_after (place_of first c.last)) (sym is_value) ∙ sym (place_longer first c.last word some)) i; weight = (s.state i).weight; numbers = (s.state i).numbers })
+          ∙ sym (ap (λ (j : Cut). state j.ended (cut_at is_blank j.last)) joined_times ∙ ap (state k.ended) joined_blank);
     }
 
 pub line_digits : (old new : Line) (line word : List ℕ) (value : ℕ) → IsLineSoFar old line → list_all is_digit word ≡ true → word ≢ [] → value ≤ MOST_NUMBER
@@ -265,8 +265,8 @@ text_goes_on text bytes run line t goes_on =
     let joined = same_line bytes run s.good in
     record {
       faultless = (good_is_faultless (bytes ++ run)).0
-        (ap (λ (j : Cut). list_all is_line (j.ended ++ j.last ∷ [])) joined
-        ∙ all_push is_line k.ended (k.last ++ run) ∙ and_from (list_all is_line k.ended) (is_line (k.last ++ run)) lines.0 s.good);
+          (ap (λ (j : Cut). list_all is_line (j.ended ++ j.last ∷ [])) joined
+          ∙ all_push is_line k.ended (k.last ++ run) ∙ and_from (list_all is_line k.ended) (is_line (k.last ++ run)) lines.0 s.good);
       lines = t.lines ∙ ap (λ (j : Cut). length j.ended) (sym joined);
       baskets = subst (λ (j : Cut). HasBaskets text.heavy text.baskets (flat_map basket_of j.ended)) (sym joined) t.baskets;
       line = s.state ∙ ap (λ (j : Cut). line_at j.last) (sym joined);

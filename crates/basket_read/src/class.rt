@@ -1,5 +1,6 @@
-//! What a byte can be in a FIMI text.
-ghost use Rattle.std.specs.Prelude.{◌≡◌};
+//! What a byte can be in a FIMI text, and runs of blanks.
+ghost use Rattle.std.specs.Prelude.{◌≡◌, ◌≤◌, length, take, true};
+ghost use Rattle.std.specs.List.{list_all};
 ghost use Rattle.basket_read.specs.Fimi.{is_blank};
 ghost use Rattle.basket_read.specs.Line.{IsClass};
 
@@ -17,7 +18,7 @@ pub enum Class {
 
 /// Whether a byte ends a number and does nothing else.
 #[inline(always)]
-pub fn is_blank(byte: u8) -> bool
+fn is_blank(byte: u8) -> bool
     ensures { result ≡ is_blank byte }
 {
     matches!(byte, b' ' | b'\t' | b'\r')
@@ -37,4 +38,34 @@ pub fn class_of(byte: u8) -> Class
         b'\n' => Class::LineFeed,
         _ => Class::Other,
     }
+}
+
+/// How many blanks to take from the front of the bytes. Behind a number that is at most one, since
+/// mostly another number follows.
+#[inline(always)]
+pub fn blanks_behind(number: bool, bytes: &[u8]) -> usize
+    ensures within { result ≤ length bytes.now }
+    ensures blanks { list_all is_blank (take result bytes.now) ≡ true }
+{
+    if !number {
+        return blanks_at(bytes);
+    }
+    match bytes.first() {
+        Some(byte) if is_blank(*byte) => 1,
+        _ => 0,
+    }
+}
+
+/// How many blanks stand at the front of the bytes.
+#[inline(always)]
+fn blanks_at(bytes: &[u8]) -> usize
+    ensures within { result ≤ length bytes.now }
+    ensures blanks { list_all is_blank (take result bytes.now) ≡ true }
+{
+    for (place, byte) in bytes.iter().enumerate() {
+        if !is_blank(*byte) {
+            return place;
+        }
+    }
+    bytes.len()
 }

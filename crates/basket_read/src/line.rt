@@ -1,15 +1,9 @@
 //! A line of which not all has been read.
-ghost use Rattle.std.specs.Prelude.{◌≡◌, ◌≤◌, ◌<◌, ◌≢◌, ℕ, List, [], ◌++◌, length, take, true, false, if◌then◌else◌, Some, None, OnOk};
-ghost use Rattle.std.specs.List.{list_all};
-ghost use Rattle.basket_core.specs.Minimum.{is_digit, value_of};
-ghost use Rattle.basket_read.specs.Fimi.{is_blank, MOST_NUMBER};
-ghost use Rattle.basket_read.specs.Number.{number_with};
+ghost use Rattle.std.specs.Prelude.{◌≡◌, ◌≤◌, ◌<◌, ◌≢◌, ℕ, List, [], ◌++◌, length, take, false, if◌then◌else◌, Some, None, OnOk};
 
-use crate::class::{Class, class_of, is_blank};
+use crate::class::blanks_behind;
+use crate::number::{number_at, with_digit, with_digits};
 use std::alloc::{AllocError, Global};
-
-/// So many digits are never above the bound.
-const SHORT: usize = 8;
 
 /// Where in a line the next byte stands.
 #[derive(Clone, Copy, Debug)]
@@ -216,111 +210,5 @@ impl Line {
         self.place = Place::Head;
         self.weight = 1;
         self.numbers.clear();
-    }
-}
-
-/// How many blanks to take from the front of the bytes. Behind a number that is at most one, since
-/// mostly another number follows.
-#[inline(always)]
-fn blanks_behind(number: bool, bytes: &[u8]) -> usize
-    ensures within { result ≤ length bytes.now }
-    ensures blanks { list_all is_blank (take result bytes.now) ≡ true }
-{
-    if !number {
-        return blanks_at(bytes);
-    }
-    match bytes.first() {
-        Some(byte) if is_blank(*byte) => 1,
-        _ => 0,
-    }
-}
-
-/// How many blanks stand at the front of the bytes.
-#[inline(always)]
-fn blanks_at(bytes: &[u8]) -> usize
-    ensures within { result ≤ length bytes.now }
-    ensures blanks { list_all is_blank (take result bytes.now) ≡ true }
-{
-    for (place, byte) in bytes.iter().enumerate() {
-        if !is_blank(*byte) {
-            return place;
-        }
-    }
-    bytes.len()
-}
-
-/// The number at the front of the bytes, of as many digits as keep it from going above the bound,
-/// and how many those are.
-#[inline(always)]
-fn number_at(bytes: &[u8]) -> (u32, usize)
-    ensures within { result.1 ≤ length bytes.now }
-    ensures bound { result.0 ≤ MOST_NUMBER }
-    ensures digits { list_all is_digit (take result.1 bytes.now) ≡ true }
-    ensures value { value_of (take result.1 bytes.now) ≡ result.0 }
-{
-    if bytes.len() < SHORT {
-        return with_digits(0, bytes);
-    }
-    let (value, digits) = short_number(&bytes[..SHORT]);
-    if digits < SHORT {
-        return (value, digits);
-    }
-    let (value, more) = with_digits(value, &bytes[SHORT..]);
-    (value, SHORT + more)
-}
-
-/// The number at the front of so few bytes that it can't go above the bound, and how many digits
-/// it has.
-#[inline(always)]
-fn short_number(bytes: &[u8]) -> (u32, usize)
-    requires { length bytes.now ≡ SHORT }
-    ensures within { result.1 ≤ SHORT }
-    ensures bound { result.0 ≤ MOST_NUMBER }
-    ensures digits { list_all is_digit (take result.1 bytes.now) ≡ true }
-    ensures value { value_of (take result.1 bytes.now) ≡ result.0 }
-{
-    let mut value = 0;
-    for (place, byte) in bytes.iter().enumerate() {
-        let Class::Digit(digit) = class_of(*byte) else {
-            return (value, place);
-        };
-        value = value * 10 + u32::from(digit);
-    }
-    (value, SHORT)
-}
-
-/// A number with the digits at the front of the bytes, as many as keep it from going above the
-/// bound, and how many those are.
-#[inline(always)]
-fn with_digits(before: u32, bytes: &[u8]) -> (u32, usize)
-    ensures within { result.1 ≤ length bytes.now }
-    ensures bound { result.0 ≤ MOST_NUMBER }
-    ensures digits { list_all is_digit (take result.1 bytes.now) ≡ true }
-    ensures value { (word : List ℕ) → value_of word ≡ before → value_of (word ++ take result.1 bytes.now) ≡ result.0 }
-{
-    let mut value = before;
-    for (place, byte) in bytes.iter().enumerate() {
-        let Class::Digit(digit) = class_of(*byte) else {
-            return (value, place);
-        };
-        let Some(longer) = with_digit(value, digit) else {
-            return (value, place);
-        };
-        value = longer;
-    }
-    (value, bytes.len())
-}
-
-/// A number with one digit more, if it is not above the bound.
-#[inline(always)]
-fn with_digit(value: u32, digit: u8) -> Option<u32>
-    requires { digit < 10 }
-    ensures { result ≡ number_with value digit }
-{
-    let value = u64::from(value) * 10 + u64::from(digit);
-    if value <= u64::from(u32::MAX) {
-        Some(value as u32)
-    } else {
-        None
     }
 }

@@ -2,7 +2,7 @@ use Rattle.std.proofs.Common.{◌≡◌, ◌≤◌, ℕ, List, ◌++◌, take, t
 use Rattle.std.specs.List.{list_all}
 use Rattle.basket_core.specs.Minimum.{is_digit, value_of}
 use Rattle.basket_read.specs.Fimi.{MOST_NUMBER}
-use Rattle.basket_read.proofs.line.with_digits.Given as goal
+use Rattle.basket_read.proofs.number.with_digits.Given as goal
 
 abbrev pub invariant-loop-place : goal.invariant-loop-place
 invariant-loop-place l = record {

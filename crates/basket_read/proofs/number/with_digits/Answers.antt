@@ -1,5 +1,5 @@
 use Rattle.basket_read.proofs.RunLemmas.{number_bound, digits_more, value_more}
-use Rattle.basket_read.proofs.line.with_digits.Goals as goal
+use Rattle.basket_read.proofs.number.with_digits.Goals as goal
 
 pub loop-place-preserved : goal.loop-place-preserved
 loop-place-preserved c = record {

@@ -1,7 +1,7 @@
 use Rattle.std.proofs.Common.{◌≡◌, ◌<◌, ◌^◌, take, true}
 use Rattle.std.specs.List.{list_all}
 use Rattle.basket_core.specs.Minimum.{is_digit, value_of}
-use Rattle.basket_read.proofs.line.short_number.Given as goal
+use Rattle.basket_read.proofs.number.short_number.Given as goal
 
 abbrev pub invariant-loop-place : goal.invariant-loop-place
 invariant-loop-place l = record {

@@ -1,6 +1,6 @@
 use Rattle.std.proofs.Common.{[], length, get_or, arith}
 use Rattle.basket_read.proofs.RunLemmas.{digits_more, few_digits, one_digit_more, small_digit, short_value_more, short_bound}
-use Rattle.basket_read.proofs.line.short_number.Goals as goal
+use Rattle.basket_read.proofs.number.short_number.Goals as goal
 
 pub overflow_mul-value : goal.overflow_mul-value
 overflow_mul-value c = let small = few_digits c.loop-place.place c.loop-place.value c.loop-place.invariant.small (omega arith) in omega arith

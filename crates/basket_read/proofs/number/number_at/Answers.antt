@@ -3,7 +3,7 @@ use Rattle.std.specs.List.{list_all}
 use Rattle.std.proofs.lemmas.List.{take-take}
 use Rattle.basket_core.specs.Minimum.{is_digit, value_of}
 use Rattle.basket_read.proofs.RunLemmas.{take_both, within_both, number_goes_on}
-use Rattle.basket_read.proofs.line.number_at.Goals as goal
+use Rattle.basket_read.proofs.number.number_at.Goals as goal
 
 pub returns-then-bytes-lt-SHORT-clause-value : goal.returns-then-bytes-lt-SHORT-clause-value
 returns-then-bytes-lt-SHORT-clause-value c = c.with_digits.ensures.value [] refl
