@@ -2,7 +2,7 @@
 ghost use Rattle.std.specs.Prelude.{◌≡◌, ◌≤◌, ◌<◌, ◌≢◌, ℕ, List, [], ◌++◌, length, take, false, if◌then◌else◌, Some, None, OnOk};
 
 use crate::class::blanks_behind;
-use crate::number::{number_at, with_digit, with_digits};
+use crate::number::{Digits, number_at, with_digit, with_digits};
 use std::alloc::{AllocError, Global};
 
 /// Where in a line the next byte stands.
@@ -136,40 +136,39 @@ impl Line {
         }
         let mut taken = 0;
         loop {
-            let (value, digits) = self.take_number(&bytes[taken..]);
-            taken += digits;
-            let blanks = blanks_behind(digits > 0, &bytes[taken..]);
+            let digits = self.take_number(&bytes[taken..]);
+            taken += digits.count;
+            let blanks = blanks_behind(digits.count > 0, &bytes[taken..]);
             if blanks == 0 {
                 return Ok(taken);
             }
-            self.end_number(value, digits)?;
+            self.end_number(digits)?;
             taken += blanks;
         }
     }
 
-    /// Takes a number from the front of the bytes, and answers it and how many digits it has, which
-    /// may be none.
+    /// Takes a number from the front of the bytes, and answers its digits, which may be none.
     #[inline(always)]
-    fn take_number(&mut self, bytes: &[u8]) -> (u32, usize)
+    fn take_number(&mut self, bytes: &[u8]) -> Digits
         requires { is_in_number self.old.place ≡ false }
-        ensures within { result.1 ≤ length bytes.now }
-        ensures line { (line : List ℕ) → IsLineSoFar self.old line → IsLineSoFar self.new (line ++ take result.1 bytes.now) }
-        ensures ended { number_ended (line_state self.new) result.0 result.1 ≡ blank_added (line_state self.new) }
+        ensures within { result.count ≤ length bytes.now }
+        ensures line { (line : List ℕ) → IsLineSoFar self.old line → IsLineSoFar self.new (line ++ take result.count bytes.now) }
+        ensures ended { number_ended (line_state self.new) result.value result.count ≡ blank_added (line_state self.new) }
     {
-        let (value, digits) = number_at(bytes);
-        if digits > 0 {
-            self.place = self.place.with_value(value);
+        let digits = number_at(bytes);
+        if digits.count > 0 {
+            self.place = self.place.with_value(digits.value);
         }
-        (value, digits)
+        digits
     }
 
-    /// Ends a number of so many digits, if it has any.
+    /// Ends the number of these digits, if there are any.
     #[inline(always)]
-    fn end_number(&mut self, value: u32, digits: usize) -> Result<(), AllocError>
-        ensures { OnOk result (line_state self.new ≡ number_ended (line_state self.old) value digits) }
+    fn end_number(&mut self, digits: Digits) -> Result<(), AllocError>
+        ensures { OnOk result (line_state self.new ≡ number_ended (line_state self.old) digits.value digits.count) }
     {
-        if digits > 0 {
-            self.numbers.push(value)?;
+        if digits.count > 0 {
+            self.numbers.push(digits.value)?;
             self.place = Place::Between;
         }
         Ok(())
@@ -182,11 +181,11 @@ impl Line {
         ensures within { result ≤ length bytes.now }
         ensures line { (line : List ℕ) → IsLineSoFar self.old line → IsLineSoFar self.new (line ++ take result bytes.now) }
     {
-        let (value, taken) = with_digits(self.place.value(), bytes);
-        if taken > 0 {
-            self.place = self.place.with_value(value);
+        let digits = with_digits(self.place.value(), bytes);
+        if digits.count > 0 {
+            self.place = self.place.with_value(digits.value);
         }
-        taken
+        digits.count
     }
 
     /// The numbers that have ended.

@@ -10,66 +10,90 @@ use crate::class::{Class, class_of};
 /// So many digits are never above the bound.
 const SHORT: usize = 8;
 
-/// The number at the front of the bytes, of as many digits as keep it from going above the bound,
-/// and how many those are.
+/// Digits at the front of some bytes: how many, and the value of the number that ends with them.
+#[derive(Clone, Copy, Debug)]
+pub struct Digits {
+    pub value: u32,
+    pub count: usize,
+}
+
+/// The number at the front of the bytes, of as many digits as keep it from going above the
+/// bound.
 #[inline(always)]
-pub fn number_at(bytes: &[u8]) -> (u32, usize)
-    ensures within { result.1 ≤ length bytes.now }
-    ensures bound { result.0 ≤ MOST_NUMBER }
-    ensures digits { list_all is_digit (take result.1 bytes.now) ≡ true }
-    ensures value { value_of (take result.1 bytes.now) ≡ result.0 }
+pub fn number_at(bytes: &[u8]) -> Digits
+    ensures within { result.count ≤ length bytes.now }
+    ensures bound { result.value ≤ MOST_NUMBER }
+    ensures digits { list_all is_digit (take result.count bytes.now) ≡ true }
+    ensures value { value_of (take result.count bytes.now) ≡ result.value }
 {
     if bytes.len() < SHORT {
         return with_digits(0, bytes);
     }
-    let (value, digits) = short_number(&bytes[..SHORT]);
-    if digits < SHORT {
-        return (value, digits);
+    let short = short_number(&bytes[..SHORT]);
+    if short.count < SHORT {
+        return short;
     }
-    let (value, more) = with_digits(value, &bytes[SHORT..]);
-    (value, SHORT + more)
+    let more = with_digits(short.value, &bytes[SHORT..]);
+    Digits {
+        value: more.value,
+        count: SHORT + more.count,
+    }
 }
 
-/// The number at the front of so few bytes that it can't go above the bound, and how many digits
-/// it has.
+/// The number at the front of so few bytes that it can't go above the bound.
 #[inline(always)]
-fn short_number(bytes: &[u8]) -> (u32, usize)
+fn short_number(bytes: &[u8]) -> Digits
     requires { length bytes.now ≡ SHORT }
-    ensures within { result.1 ≤ SHORT }
-    ensures bound { result.0 ≤ MOST_NUMBER }
-    ensures digits { list_all is_digit (take result.1 bytes.now) ≡ true }
-    ensures value { value_of (take result.1 bytes.now) ≡ result.0 }
+    ensures within { result.count ≤ SHORT }
+    ensures bound { result.value ≤ MOST_NUMBER }
+    ensures digits { list_all is_digit (take result.count bytes.now) ≡ true }
+    ensures value { value_of (take result.count bytes.now) ≡ result.value }
 {
     let mut value = 0;
     for (place, byte) in bytes.iter().enumerate() {
         let Class::Digit(digit) = class_of(*byte) else {
-            return (value, place);
+            return Digits {
+                value,
+                count: place,
+            };
         };
         value = value * 10 + u32::from(digit);
     }
-    (value, SHORT)
+    Digits {
+        value,
+        count: SHORT,
+    }
 }
 
-/// A number with the digits at the front of the bytes, as many as keep it from going above the
-/// bound, and how many those are.
+/// A number with the digits at the front of the bytes behind it, as many as keep it from going
+/// above the bound.
 #[inline(always)]
-pub fn with_digits(before: u32, bytes: &[u8]) -> (u32, usize)
-    ensures within { result.1 ≤ length bytes.now }
-    ensures bound { result.0 ≤ MOST_NUMBER }
-    ensures digits { list_all is_digit (take result.1 bytes.now) ≡ true }
-    ensures value { (word : List ℕ) → value_of word ≡ before → value_of (word ++ take result.1 bytes.now) ≡ result.0 }
+pub fn with_digits(before: u32, bytes: &[u8]) -> Digits
+    ensures within { result.count ≤ length bytes.now }
+    ensures bound { result.value ≤ MOST_NUMBER }
+    ensures digits { list_all is_digit (take result.count bytes.now) ≡ true }
+    ensures value { (word : List ℕ) → value_of word ≡ before → value_of (word ++ take result.count bytes.now) ≡ result.value }
 {
     let mut value = before;
     for (place, byte) in bytes.iter().enumerate() {
         let Class::Digit(digit) = class_of(*byte) else {
-            return (value, place);
+            return Digits {
+                value,
+                count: place,
+            };
         };
         let Some(longer) = with_digit(value, digit) else {
-            return (value, place);
+            return Digits {
+                value,
+                count: place,
+            };
         };
         value = longer;
     }
-    (value, bytes.len())
+    Digits {
+        value,
+        count: bytes.len(),
+    }
 }
 
 /// A number with one digit more, if it is not above the bound.

@@ -61,6 +61,7 @@ impl Text {
             IfOk result (λ taken. IsTextSoFar self.new (bytes ++ take taken piece.now)) }
         ensures err { IfErr result (λ fault. fault ≡ ReadFault.Memory) }
     {
+        // An empty line.
         if let Some(b'\n') = piece.first() {
             return Ok(0);
         }

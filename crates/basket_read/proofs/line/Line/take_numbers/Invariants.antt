@@ -2,12 +2,12 @@ use Rattle.std.proofs.Common.{◌≡◌, ◌≤◌, ◌-◌, ℕ, List, ◌++◌
 use Rattle.basket_read.specs.Line.{IsLineSoFar, is_in_number}
 use Rattle.basket_read.proofs.line.Line.take_numbers.Given as goal
 
-abbrev pub invariant-loop-taken : goal.invariant-loop-taken
-invariant-loop-taken l = record {
+abbrev pub invariant-loop-digits : goal.invariant-loop-digits
+invariant-loop-digits l = record {
   within : l.taken ≤ length l.bytes;
   between : is_in_number l.self.place ≡ false;
   line : (line : List ℕ) → IsLineSoFar l.initial.self line → IsLineSoFar l.self (line ++ take l.taken l.bytes);
 }
 
-abbrev pub decreases-loop-taken : goal.decreases-loop-taken
-decreases-loop-taken l = length l.bytes - l.taken
+abbrev pub decreases-loop-digits : goal.decreases-loop-digits
+decreases-loop-digits l = length l.bytes - l.taken
