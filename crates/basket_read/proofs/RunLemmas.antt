@@ -1,5 +1,5 @@
 -- How a line and a text go on with several bytes at once.
-use Rattle.std.proofs.Common.{◌≡◌, ◌≢◌, ℕ, ◌+◌, ◌*◌, ◌^◌, ◌-◌, ◌<◌, ◌≤◌, Bool, true, false, ◌&&◌, List, [], ◌∷◌, ◌++◌, length, take, drop, get_or, Some, refl, sym, ap, ◌∙◌, subst, append_assoc, length-drop, add-one, cond, leb, arith}
+use Rattle.std.proofs.Common.{◌≡◌, ◌≢◌, ℕ, ◌+◌, ◌*◌, ◌^◌, ◌-◌, ◌<◌, ◌≤◌, Bool, true, false, List, [], ◌∷◌, ◌++◌, length, take, drop, get_or, Some, refl, sym, ap, ◌∙◌, subst, append_assoc, length-drop, add-one, cond, leb, arith}
 use Rattle.std.specs.List.{list_all, flat_map}
 use Rattle.std.proofs.lemmas.Bool.{and_parts, and_from, le-leb, leb-true, lt-ltb, le-ltb, eqb-true}
 use Rattle.std.proofs.lemmas.List.{append-nil, length-take, take_all, take_more}
@@ -12,12 +12,12 @@ use Rattle.basket_read.specs.declared.line.Place.{Place}
 use Rattle.basket_read.specs.declared.line.Place.TheVariants.{Head, First, Between, Number}
 use Rattle.basket_read.specs.declared.text.Text.{Text}
 use Rattle.basket_read.specs.Cut.{Cut, cut_at}
-use Rattle.basket_read.specs.Fimi.{is_blank, is_times, is_line_feed, is_number, is_line, is_line_of, is_good, basket_of, MOST_NUMBER}
-use Rattle.basket_read.specs.Line.{LineState, line_state, line_at, is_first, place_of, blank_added, blank_after, number_ended, is_in_number, value_at, place_after, IsLineSoFar}
+use Rattle.basket_read.specs.Fimi.{is_blank, is_times, is_line_feed, is_number, is_line, is_line_of, basket_of, MOST_NUMBER}
+use Rattle.basket_read.specs.Line.{line_state, line_at, is_first, place_of, blank_added, blank_after, number_ended, is_in_number, value_at, place_after, IsLineSoFar}
 use Rattle.basket_read.specs.Number.{number_with}
 use Rattle.basket_read.specs.Text.{HasBaskets, IsTextSoFar}
 use Rattle.basket_read.proofs.CutLemmas.{cut, cut_joined}
-use Rattle.basket_read.proofs.LineLemmas.{all_push, value_push, all_numbers, goes, state, is_line-goes, with_numbers, parts_good, numbers_so_far, so_far, digit_is_no_other, line_blank, line_other}
+use Rattle.basket_read.proofs.LineLemmas.{all_push, value_push, goes, state, is_line-goes, with_numbers, parts_good, numbers_so_far, so_far, digit_is_no_other, line_blank, line_other}
 use Rattle.basket_read.proofs.TextLemmas.{lines_good, chosen, take_next}
 use Rattle.basket_read.proofs.GrammarLemmas.{line_front, good_is_faultless}
 

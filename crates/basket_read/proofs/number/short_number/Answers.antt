@@ -1,4 +1,4 @@
-use Rattle.std.proofs.Common.{[], length, get_or, arith}
+use Rattle.std.proofs.Common.{get_or, arith}
 use Rattle.basket_read.proofs.RunLemmas.{digits_more, few_digits, one_digit_more, small_digit, short_value_more, short_bound}
 use Rattle.basket_read.proofs.number.short_number.Goals as goal
 

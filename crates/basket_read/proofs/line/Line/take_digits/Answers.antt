@@ -1,6 +1,5 @@
 use Rattle.std.proofs.Common.{ap, take, length, sym, ◌∙◌, arith}
 use Rattle.std.proofs.lemmas.List.{length-take}
-use Rattle.basket_read.specs.Line.{LineState}
 use Rattle.basket_read.proofs.RunLemmas.{line_digits}
 use Rattle.basket_read.proofs.line.Line.take_digits.Goals as goal
 

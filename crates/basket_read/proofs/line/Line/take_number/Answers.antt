@@ -1,7 +1,5 @@
-use Rattle.std.proofs.Common.{◌++◌, ap, take, length, sym, ◌∙◌, subst, arith}
-use Rattle.std.proofs.lemmas.List.{length-take, append-nil}
-use Rattle.basket_core.specs.Minimum.{value_of}
-use Rattle.basket_read.specs.Line.{LineState, IsLineSoFar}
+use Rattle.std.proofs.Common.{ap, take, length, arith}
+use Rattle.std.proofs.lemmas.List.{length-take}
 use Rattle.basket_read.proofs.RunLemmas.{line_number, ended_after, ended_none}
 use Rattle.basket_read.proofs.line.Line.take_number.Goals as goal
 

@@ -1,5 +1,5 @@
-use Rattle.std.proofs.Common.{◌+◌, ◌++◌, ◌∷◌, [], take, get_or, length, sym, ap, subst, arith}
-use Rattle.std.proofs.lemmas.List.{append-nil, length-take, take_all}
+use Rattle.std.proofs.Common.{◌+◌, ◌++◌, ◌∷◌, [], take, length, subst, arith}
+use Rattle.std.proofs.lemmas.List.{length-take}
 use Rattle.std.proofs.lemmas.Result.{err_from_is_err_and}
 use Rattle.basket_read.specs.Fimi.{first_fault}
 use Rattle.basket_read.specs.Text.{IsTextSoFar, Tells}
