@@ -55,7 +55,7 @@ before_times [] text h =
 before_times (weight ∷ []) text h = absurd cc
 before_times (weight ∷ other ∷ others) text h = absurd cc
 
-line_front : (line : List ℕ) (byte : ℕ) → is_line (line ++ byte ∷ []) ≡ true → is_line line ≡ true
+pub line_front : (line : List ℕ) (byte : ℕ) → is_line (line ++ byte ∷ []) ≡ true → is_line line ≡ true
 line_front line byte h =
     let k = cut_at is_times line in
     let c = cut_at is_blank k.last in

@@ -6,3 +6,4 @@ pub mod InputLemmas
 pub mod PartsLemmas
 pub mod ReadLemmas
 pub mod GrammarLemmas
+pub mod RunLemmas

@@ -66,7 +66,7 @@ is_line-goes (weight ∷ []) text = refl
 is_line-goes (weight ∷ other ∷ others) text = refl
 
 -- what is good of a line that goes on with numbers
-with_numbers : (heads : List (List ℕ)) (c more : Cut) (b : Bool) → goes heads c ≡ true → all_numbers more ≡ b → goes heads more ≡ b
+pub with_numbers : (heads : List (List ℕ)) (c more : Cut) (b : Bool) → goes heads c ≡ true → all_numbers more ≡ b → goes heads more ≡ b
 with_numbers [] c more b h e = e
 with_numbers (weight ∷ []) c more b h e = ap (λ t. t && all_numbers more) (and_parts (is_weight weight) (all_numbers c) h).0 ∙ e
 with_numbers (weight ∷ other ∷ others) c more b h e = absurd (false≢true h)
@@ -74,13 +74,13 @@ with_numbers (weight ∷ other ∷ others) c more b h e = absurd (false≢true h
     false≢true : false ≡ true → ⊥
     false≢true h = cc
 
-numbers_so_far : (heads : List (List ℕ)) (c : Cut) → goes heads c ≡ true → all_numbers c ≡ true
+pub numbers_so_far : (heads : List (List ℕ)) (c : Cut) → goes heads c ≡ true → all_numbers c ≡ true
 numbers_so_far [] c h = h
 numbers_so_far (weight ∷ []) c h = (and_parts (is_weight weight) (all_numbers c) h).1
 numbers_so_far (weight ∷ other ∷ others) c h = absurd cc
 
 -- the parts of a line that is good so far are numbers
-parts_good : (c : Cut) → all_numbers c ≡ true → (list_all is_number c.ended ≡ true) × (is_number c.last ≡ true)
+pub parts_good : (c : Cut) → all_numbers c ≡ true → (list_all is_number c.ended ≡ true) × (is_number c.last ≡ true)
 parts_good c h = and_parts (list_all is_number c.ended) (is_number c.last) (sym (all_push is_number c.ended c.last) ∙ h)
 
 -- ---- a digit
@@ -242,7 +242,7 @@ goes_on line byte more no_times e =
       ap (λ (k : Cut). is_line_of k.ended k.last) joined ∙ is_line-goes c.ended (c.last ++ byte ∷ []) ∙ ap (goes c.ended) e,
     )
 
-so_far : (line : List ℕ) → is_line line ≡ true → goes (cut_at is_times line).ended (cut_at is_blank (cut_at is_times line).last) ≡ true
+pub so_far : (line : List ℕ) → is_line line ≡ true → goes (cut_at is_times line).ended (cut_at is_blank (cut_at is_times line).last) ≡ true
 so_far line h = sym (is_line-goes (cut_at is_times line).ended (cut_at is_times line).last) ∙ h
 
 pub line_digit : (line : List ℕ) (byte digit : ℕ) → is_line line ≡ true → is_digit byte ≡ true → byte ≡ 48 + digit

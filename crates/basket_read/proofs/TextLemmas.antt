@@ -71,7 +71,7 @@ module _ (text : List ℕ) (faultless : first_fault text ≡ None) where
   abbrev so_far : Cut
   so_far = cut_at is_line_feed text
 
-  lines_good : (list_all is_line so_far.ended ≡ true) × (is_line so_far.last ≡ true)
+  pub lines_good : (list_all is_line so_far.ended ≡ true) × (is_line so_far.last ≡ true)
   lines_good = and_parts (list_all is_line so_far.ended) (is_line so_far.last) (sym (all_push is_line so_far.ended so_far.last) ∙ good-from_faultless text faultless)
 
   pub line_good : is_line so_far.last ≡ true
@@ -97,7 +97,7 @@ module _ (text : List ℕ) (faultless : first_fault text ≡ None) where
       ∙ all_push is_line (so_far.ended ++ so_far.last ∷ []) [] ∙ ap (λ b. b && is_line []) (good-from_faultless text faultless))
 
 -- what a choice gave
-chosen : {S : Type 0} (s x : S) (b : Bool) → ◌≡◌ {A = Option S} (Some s) (cond b (Some x) None) → (b ≡ true) × (s ≡ x)
+pub chosen : {S : Type 0} (s x : S) (b : Bool) → ◌≡◌ {A = Option S} (Some s) (cond b (Some x) None) → (b ≡ true) × (s ≡ x)
 chosen s x true e = (refl, cc)
 chosen s x false e = absurd cc
 

@@ -1,5 +1,5 @@
 -- What has been read of a line, and how it goes on byte by byte.
-use Rattle.std.specs.Prelude.{◌≡◌, ℕ, ◌+◌, Bool, true, false, not, nat_le, if◌then◌else◌, List, [], ◌∷◌, ◌++◌, map, filter, Option, Some, None}
+use Rattle.std.specs.Prelude.{◌≡◌, ℕ, ◌+◌, Bool, true, false, not, nat_le, nat_lt, if◌then◌else◌, List, [], ◌∷◌, ◌++◌, map, filter, Option, Some, None}
 use Rattle.std.specs.List.{list_all}
 use Rattle.std.specs.Option.{option_map}
 use Rattle.basket_sets.specs.Minimum.{is_digit, value_of}
@@ -10,7 +10,7 @@ use Rattle.basket_read.specs.declared.line.Place.TheVariants.{Head, First, Betwe
 use Rattle.basket_read.specs.declared.line.Line.{Line}
 use Rattle.basket_read.specs.Cut.{cut_at}
 use Rattle.basket_read.specs.Number.{number_with}
-use Rattle.basket_read.specs.Fimi.{is_blank, is_times, is_line_feed, is_nil, weight_before}
+use Rattle.basket_read.specs.Fimi.{is_blank, is_times, is_line_feed, is_nil, is_line, weight_before}
 
 -- what a byte can be in a text
 abbrev pub IsClass : Class → ℕ → Type 0
@@ -56,6 +56,27 @@ place_with (First value) digit = option_map First (number_with value digit)
 place_with Between digit = Some (Number digit)
 place_with (Number value) digit = option_map Number (number_with value digit)
 
+-- whether a number has begun and not ended
+abbrev pub is_in_number : Place → Bool
+is_in_number Head = false
+is_in_number (First value) = true
+is_in_number Between = false
+is_in_number (Number value) = true
+
+-- the number so far, 0 where there is none
+abbrev pub value_at : Place → ℕ
+value_at Head = 0
+value_at (First value) = value
+value_at Between = 0
+value_at (Number value) = value
+
+-- where a line stands behind more digits, with which the number has this value
+abbrev pub place_after : Place → ℕ → Place
+place_after Head value = First value
+place_after (First before) value = First value
+place_after Between value = Number value
+place_after (Number before) value = Number value
+
 -- a line after a digit
 abbrev pub digit_added : LineState → ℕ → Option LineState
 digit_added line digit = option_map (λ place. record { place = place; weight = line.weight; numbers = line.numbers }) (place_with line.place digit)
@@ -70,6 +91,10 @@ blank_after (Number value) weight numbers = record { place = Between; weight = w
 abbrev pub blank_added : LineState → LineState
 blank_added line = blank_after line.place line.weight line.numbers
 
+-- a line in which a number of so many digits has ended, if it has any
+abbrev pub number_ended : LineState → ℕ → ℕ → LineState
+number_ended line value digits = if nat_lt 0 digits then record { place = Between; weight = line.weight; numbers = line.numbers ++ value ∷ [] } else line
+
 -- a line after an `x`, which ends a weight
 abbrev pub times_after : Place → List ℕ → Option LineState
 times_after Head numbers = None
@@ -79,3 +104,8 @@ times_after (Number value) numbers = None
 
 abbrev pub times_added : LineState → Option LineState
 times_added line = times_after line.place line.numbers
+
+-- the line that was read is of these bytes, which are a line so far
+pub record IsLineSoFar (line : Line) (bytes : List ℕ) : Type 0 where
+  pub good : is_line bytes ≡ true
+  pub state : line_state line ≡ line_at bytes

@@ -6,6 +6,7 @@ mod fault;
 mod input;
 pub mod laws;
 mod line;
+mod number;
 mod parts;
 mod read;
 mod text;

@@ -1,7 +1,8 @@
 //! A line of which not all has been read.
-ghost use Rattle.std.specs.Prelude.{◌≡◌, ◌≤◌, ◌<◌, ◌≢◌, [], if◌then◌else◌, Some, None, OnOk};
-ghost use Rattle.basket_read.specs.Number.{number_with};
+ghost use Rattle.std.specs.Prelude.{◌≡◌, ◌≤◌, ◌<◌, ◌≢◌, ℕ, List, [], ◌++◌, length, take, false, if◌then◌else◌, Some, None, OnOk};
 
+use crate::class::blanks_behind;
+use crate::number::{Digits, number_at, with_digit, with_digits};
 use std::alloc::{AllocError, Global};
 
 /// Where in a line the next byte stands.
@@ -17,6 +18,39 @@ pub enum Place {
     Number(u32),
 }
 
+impl Place {
+    ghost use Rattle.basket_read.specs.Line.{is_in_number, value_at, place_after};
+
+    #[inline(always)]
+    fn is_in_number(self) -> bool
+        ensures { result ≡ is_in_number self }
+    {
+        matches!(self, Place::First(_) | Place::Number(_))
+    }
+
+    /// The number so far, 0 where there is none.
+    #[inline(always)]
+    fn value(self) -> u32
+        ensures { result ≡ value_at self }
+    {
+        match self {
+            Place::Head | Place::Between => 0,
+            Place::First(value) | Place::Number(value) => value,
+        }
+    }
+
+    /// The place behind more digits, with which the number has this value.
+    #[inline(always)]
+    fn with_value(self, value: u32) -> Self
+        ensures { result ≡ place_after self value }
+    {
+        match self {
+            Place::Head | Place::First(_) => Place::First(value),
+            Place::Between | Place::Number(_) => Place::Number(value),
+        }
+    }
+}
+
 /// What has been read of a line: where it stands, its weight, and the numbers that have ended.
 #[derive(Debug, Drop)]
 pub struct Line {
@@ -27,7 +61,8 @@ pub struct Line {
 }
 
 impl Line {
-    ghost use Rattle.basket_read.specs.Line.{line_state, line_at, digit_added, blank_added, times_added};
+    ghost use Rattle.std.specs.Prelude.{IfOk};
+    ghost use Rattle.basket_read.specs.Line.{line_state, line_at, IsLineSoFar, is_in_number, digit_added, blank_added, number_ended, times_added};
 
     pub fn new(alloc: Global) -> Self
         ensures { line_state result ≡ line_at [] }
@@ -87,6 +122,72 @@ impl Line {
         }
     }
 
+    /// Takes digits and blanks from the front of the bytes, up to another byte or to a digit that
+    /// takes a number above the bound, and answers how many. Behind a number that began before
+    /// them it takes no more than its digits.
+    #[inline(always)]
+    pub fn take_numbers(&mut self, bytes: &[u8]) -> Result<usize, AllocError>
+        ensures within { IfOk result (λ taken. taken ≤ length bytes.now) }
+        ensures line { (line : List ℕ) → IsLineSoFar self.old line →
+            IfOk result (λ taken. IsLineSoFar self.new (line ++ take taken bytes.now)) }
+    {
+        if self.place.is_in_number() {
+            return Ok(self.take_digits(bytes));
+        }
+        let mut taken = 0;
+        loop {
+            let digits = self.take_number(&bytes[taken..]);
+            taken += digits.count;
+            let blanks = blanks_behind(digits.count > 0, &bytes[taken..]);
+            if blanks == 0 {
+                return Ok(taken);
+            }
+            self.end_number(digits)?;
+            taken += blanks;
+        }
+    }
+
+    /// Takes a number from the front of the bytes, and answers its digits, which may be none.
+    #[inline(always)]
+    fn take_number(&mut self, bytes: &[u8]) -> Digits
+        requires { is_in_number self.old.place ≡ false }
+        ensures within { result.count ≤ length bytes.now }
+        ensures line { (line : List ℕ) → IsLineSoFar self.old line → IsLineSoFar self.new (line ++ take result.count bytes.now) }
+        ensures ended { number_ended (line_state self.new) result.value result.count ≡ blank_added (line_state self.new) }
+    {
+        let digits = number_at(bytes);
+        if digits.count > 0 {
+            self.place = self.place.with_value(digits.value);
+        }
+        digits
+    }
+
+    /// Ends the number of these digits, if there are any.
+    #[inline(always)]
+    fn end_number(&mut self, digits: Digits) -> Result<(), AllocError>
+        ensures { OnOk result (line_state self.new ≡ number_ended (line_state self.old) digits.value digits.count) }
+    {
+        if digits.count > 0 {
+            self.numbers.push(digits.value)?;
+            self.place = Place::Between;
+        }
+        Ok(())
+    }
+
+    /// Takes digits from the front of the bytes, as many as keep the number from going above the
+    /// bound, and answers how many.
+    #[inline(always)]
+    fn take_digits(&mut self, bytes: &[u8]) -> usize
+        ensures within { result ≤ length bytes.now }
+        ensures line { (line : List ℕ) → IsLineSoFar self.old line → IsLineSoFar self.new (line ++ take result bytes.now) }
+    {
+        let digits = with_digits(self.place.value(), bytes);
+        if digits.count > 0 {
+            self.place = self.place.with_value(digits.value);
+        }
+        digits.count
+    }
+
     /// The numbers that have ended.
     pub fn numbers(&self) -> &[u32]
         ensures { result.now ≡ (line_state self.now).numbers }
@@ -108,19 +209,5 @@ impl Line {
         self.place = Place::Head;
         self.weight = 1;
         self.numbers.clear();
-    }
-}
-
-/// A number with one digit more, if it is not above the bound.
-#[inline(always)]
-fn with_digit(value: u32, digit: u8) -> Option<u32>
-    requires { digit < 10 }
-    ensures { result ≡ number_with value digit }
-{
-    let value = u64::from(value) * 10 + u64::from(digit);
-    if value <= u64::from(u32::MAX) {
-        Some(value as u32)
-    } else {
-        None
     }
 }

@@ -1,5 +1,5 @@
 //! A text of which not all has been read.
-ghost use Rattle.std.specs.Prelude.{◌≡◌, ◌≢◌, ◌<◌, ◌≤◌, ◌+◌, ℕ, List, [], ◌∷◌, ◌++◌, length, false, OnOk, IfErr, MatchResult};
+ghost use Rattle.std.specs.Prelude.{◌≡◌, ◌≢◌, ◌<◌, ◌≤◌, ◌+◌, ℕ, List, [], ◌∷◌, ◌++◌, length, take, false, OnOk, IfOk, IfErr, MatchResult};
 ghost use Rattle.basket_sets.specs.declared.weighted.Weighted.{Weighted};
 ghost use Rattle.basket_sets.specs.Database.{MOST_BASKETS};
 ghost use Rattle.basket_read.specs.Fimi.{first_fault, basket_of_numbers, baskets_of, if_light};
@@ -42,12 +42,33 @@ impl Text {
         ensures { (bytes : List ℕ) → IsTextSoFar self.old bytes →
             MatchResult result (λ _. IsTextSoFar self.new (bytes ++ piece.now)) (λ fault. Tells fault (first_fault (bytes ++ piece.now))) }
     {
-        for byte in piece {
-            self.take(*byte)?;
+        let mut taken = 0;
+        loop {
+            taken += self.take_numbers(&piece[taken..])?;
+            match piece.get(taken) {
+                Some(byte) => self.take(*byte)?,
+                None => return Ok(()),
+            }
+            taken += 1;
         }
-        Ok(())
     }
 
+    /// Takes digits and blanks from the front of the piece, as many as the line does.
+    #[inline(always)]
+    fn take_numbers(&mut self, piece: &[u8]) -> Result<usize, ReadFault>
+        ensures within { IfOk result (λ taken. taken ≤ length piece.now) }
+        ensures text { (bytes : List ℕ) → IsTextSoFar self.old bytes →
+            IfOk result (λ taken. IsTextSoFar self.new (bytes ++ take taken piece.now)) }
+        ensures err { IfErr result (λ fault. fault ≡ ReadFault.Memory) }
+    {
+        // An empty line.
+        if let Some(b'\n') = piece.first() {
+            return Ok(0);
+        }
+        Ok(self.line.take_numbers(piece)?)
+    }
+
+    /// Takes a byte.
     #[inline(always)]
     fn take(&mut self, byte: u8) -> Result<(), ReadFault>
         requires { HasRoom self.old 1 }

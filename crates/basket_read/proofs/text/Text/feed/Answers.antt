@@ -1,30 +1,41 @@
-use Rattle.std.proofs.Common.{◌++◌, take, length, sym, subst, arith}
-use Rattle.std.proofs.lemmas.List.{append-nil, length-take, take_all}
+use Rattle.std.proofs.Common.{◌+◌, ◌++◌, ◌∷◌, [], take, length, subst, arith}
+use Rattle.std.proofs.lemmas.List.{length-take}
 use Rattle.std.proofs.lemmas.Result.{err_from_is_err_and}
-use Rattle.basket_read.specs.Text.{IsTextSoFar}
+use Rattle.basket_read.specs.Fimi.{first_fault}
+use Rattle.basket_read.specs.Text.{IsTextSoFar, Tells}
 use Rattle.basket_read.proofs.RoomLemmas.{room_after}
+use Rattle.basket_read.proofs.RunLemmas.{behind_both}
 use Rattle.basket_read.proofs.TextLemmas.{take_next, fault_in_piece}
 use Rattle.basket_read.proofs.text.Text.feed.Goals as goal
 
-pub loop-byte-init : goal.loop-byte-init
-loop-byte-init c = λ bytes t. subst (IsTextSoFar c.args.self.now) (sym (append-nil bytes)) t
-
 pub take-requires : goal.take-requires
 take-requires c =
-    room_after c.args.self.now c.loop-byte.self (take c.loop-byte.byte-index c.args.piece.now) 1 (length c.args.piece.now)
-    (omega (arith, length-take c.loop-byte.byte-index c.args.piece.now)) c.requires c.loop-byte.invariant
+    let i = c.loop-taken.taken + c.in_ok-taken.field-0 in
+    let here = c.in-Some.ensures.lookup.3 in
+    room_after c.args.self.now c.take_numbers.new.self (take i c.args.piece.now) 1 (length c.args.piece.now)
+    (omega (arith, length-take i c.args.piece.now, here.0)) c.requires
+    (λ bytes t. subst (IsTextSoFar c.take_numbers.new.self) (behind_both bytes c.args.piece.now c.loop-taken.taken c.in_ok-taken.field-0)
+    (c.in_ok-taken.ensures.text (bytes ++ take c.loop-taken.taken c.args.piece.now) (c.loop-taken.invariant.text bytes t)))
 
-pub returns-in_err-take : goal.returns-in_err-take
-returns-in_err-take c = λ bytes t.
-    let p = err_from_is_err_and c.from_residual.result c.from_residual.ensures.1 in
-    rw (p.1, p.2) (fault_in_piece bytes c.args.piece.now c.loop-byte.byte-index c.in_err-take.field-0.0 c.loop-byte-test.true
-    (c.in_err-take.ensures (bytes ++ take c.loop-byte.byte-index c.args.piece.now) (c.loop-byte.invariant bytes t)))
+pub returns-in_err-take-in-Some : goal.returns-in_err-take-in-Some
+returns-in_err-take-in-Some c = λ bytes t.
+    let i = c.loop-taken.taken + c.in_ok-taken.field-0 in
+    let here = c.in-Some.ensures.lookup.3 in
+    let so_far = subst (IsTextSoFar c.take_numbers.new.self) (behind_both bytes c.args.piece.now c.loop-taken.taken c.in_ok-taken.field-0)
+    (c.in_ok-taken.ensures.text (bytes ++ take c.loop-taken.taken c.args.piece.now) (c.loop-taken.invariant.text bytes t)) in
+    let p = err_from_is_err_and c.from_residual-in_err-take-in-Some.result c.from_residual-in_err-take-in-Some.ensures.1 in
+    rw (p.1, p.2) (fault_in_piece bytes c.args.piece.now i c.in_err-take-in-Some.field-0.0 here.0
+    (subst (λ byte. Tells c.in_err-take-in-Some.field-0.0 (first_fault ((bytes ++ take i c.args.piece.now) ++ byte ∷ []))) (here.1 0) (c.in_err-take-in-Some.ensures (bytes ++ take i c.args.piece.now) so_far)))
 
-pub loop-byte-preserved : goal.loop-byte-preserved
-loop-byte-preserved c = λ bytes t.
-    subst (IsTextSoFar c.take.new.self) (take_next bytes c.args.piece.now c.loop-byte.byte-index c.loop-byte-test.true)
-    (c.in_ok-take.ensures (bytes ++ take c.loop-byte.byte-index c.args.piece.now) (c.loop-byte.invariant bytes t))
-
-pub returns : goal.returns
-returns c = λ bytes t.
-    subst (λ l. IsTextSoFar c.loop-byte.self (bytes ++ l)) (take_all c.loop-byte.byte-index c.args.piece.now (omega arith)) (c.loop-byte.invariant bytes t)
+pub loop-taken-preserved : goal.loop-taken-preserved
+loop-taken-preserved c =
+    let i = c.loop-taken.taken + c.in_ok-taken.field-0 in
+    let here = c.in-Some.ensures.lookup.3 in
+    record {
+      within = omega (arith, here.0);
+      text = λ bytes t.
+          let so_far = subst (IsTextSoFar c.take_numbers.new.self) (behind_both bytes c.args.piece.now c.loop-taken.taken c.in_ok-taken.field-0)
+          (c.in_ok-taken.ensures.text (bytes ++ take c.loop-taken.taken c.args.piece.now) (c.loop-taken.invariant.text bytes t)) in
+          subst (IsTextSoFar c.take.new.self) (take_next bytes c.args.piece.now i here.0)
+          (subst (λ byte. IsTextSoFar c.take.new.self ((bytes ++ take i c.args.piece.now) ++ byte ∷ [])) (here.1 0) (c.in_ok-take-in-Some.ensures (bytes ++ take i c.args.piece.now) so_far));
+    }

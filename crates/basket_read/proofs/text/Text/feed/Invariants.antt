@@ -1,6 +1,12 @@
-use Rattle.std.proofs.Common.{ℕ, List, ◌++◌, take}
+use Rattle.std.proofs.Common.{◌≤◌, ◌-◌, ℕ, List, ◌++◌, take, length}
 use Rattle.basket_read.specs.Text.{IsTextSoFar}
 use Rattle.basket_read.proofs.text.Text.feed.Given as goal
 
-abbrev pub invariant-loop-byte : goal.invariant-loop-byte
-invariant-loop-byte l = (bytes : List ℕ) → IsTextSoFar l.initial.self bytes → IsTextSoFar l.self (bytes ++ take l.byte-index l.piece)
+abbrev pub invariant-loop-taken : goal.invariant-loop-taken
+invariant-loop-taken l = record {
+  within : l.taken ≤ length l.piece;
+  text : (bytes : List ℕ) → IsTextSoFar l.fn.self bytes → IsTextSoFar l.self (bytes ++ take l.taken l.piece);
+}
+
+abbrev pub decreases-loop-taken : goal.decreases-loop-taken
+decreases-loop-taken l = length l.piece - l.taken

@@ -1,0 +1,12 @@
+use Rattle.std.proofs.Common.{◌≡◌, ◌≤◌, ℕ, List, ◌++◌, take, true}
+use Rattle.std.specs.List.{list_all}
+use Rattle.basket_sets.specs.Minimum.{is_digit, value_of}
+use Rattle.basket_read.specs.Fimi.{MOST_NUMBER}
+use Rattle.basket_read.proofs.number.with_digits.Given as goal
+
+abbrev pub invariant-loop-place : goal.invariant-loop-place
+invariant-loop-place l = record {
+  bound : l.value ≤ MOST_NUMBER;
+  digits : list_all is_digit (take l.place l.bytes) ≡ true;
+  value : (word : List ℕ) → value_of word ≡ l.before → value_of (word ++ take l.place l.bytes) ≡ l.value;
+}
