@@ -18,7 +18,7 @@ pub fn count_items(alloc: Global, baskets: &[Weighted]) -> Result<Vec<(u32, u64)
     ensures rising { IfOk result (λ counts. IsRising (map (λ entry. entry.0) counts.items)) }
 {
     let greatest = greatest_item(baskets);
-    if greatest as usize <= occurrences(baskets).max(SMALL_TABLE) {
+    if greatest as usize <= SMALL_TABLE || greatest as usize <= occurrences(baskets) {
         count_by_table(alloc, baskets, greatest)
     } else {
         count_by_search(alloc, baskets)
