@@ -17,3 +17,4 @@ pub use engine::run;
 pub use fault::{RunFault, status_of};
 pub use mining::mine;
 pub use plan::{Ask, Miner, Plan};
+pub use report::sets_report;

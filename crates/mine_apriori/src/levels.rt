@@ -157,6 +157,20 @@ impl<'a> Levels<'a> {
         })
     }
 
+    /// The search at its end, where nothing is asked any more.
+    pub fn searched(alloc: Global, coded: &'a Coded, limit: u32) -> Result<Self, MineFault>
+        ensures search { IfOk result (λ levels. (levels.coding ≡ coded.now) × (levels.limit ≡ limit)) }
+        ensures done { IfOk result (λ levels. asked_of levels.coding levels.size ≡ []) }
+        ensures too_many { (most : ℕ) → result ≡ Err (TooMany most) → (most ≡ limit) × AreTooMany coded.now limit }
+    {
+        let mut levels = Levels::start(alloc, coded, limit)?;
+        while !levels.asked().is_empty() {
+            let counts = count_shard(alloc, coded.baskets(), levels.asked())?;
+            levels = levels.answer(alloc, &counts)?;
+        }
+        Ok(levels)
+    }
+
     /// The candidates whose supports are asked, as ranks. Where there are none, all frequent sets
     /// are found.
     pub fn asked(&self) -> &[Itemset]
@@ -208,10 +222,5 @@ pub fn apriori(alloc: Global, coded: &Coded, limit: u32) -> Result<Frequent, Min
     ensures within { IfOk result (λ frequent. length frequent.sets ≤ limit) }
     ensures too_many { (most : ℕ) → result ≡ Err (TooMany most) → (most ≡ limit) × AreTooMany coded.now limit }
 {
-    let mut levels = Levels::start(alloc, coded, limit)?;
-    while !levels.asked().is_empty() {
-        let counts = count_shard(alloc, coded.baskets(), levels.asked())?;
-        levels = levels.answer(alloc, &counts)?;
-    }
-    levels.finish(alloc)
+    Levels::searched(alloc, coded, limit)?.finish(alloc)
 }

@@ -1,0 +1,87 @@
+//! The stage bench: how long each stage of `basket sets` takes over a FIMI input.
+#![tactic(auto)]
+
+mod stage;
+
+use anyhow::Context;
+use basket::sets_report;
+use basket_core::{Coded, MemSource, Minimum, parse_minimum};
+use basket_read::read_fimi;
+use mine_apriori::Levels;
+use stage::{Times, print_stages};
+use std::io::Read;
+use std::time::Instant;
+use std::{env, fs};
+
+const USAGE: &str = "usage: basket_bench MINIMUM RUNS < INPUT
+Times reading, coding, mining, the list and the report of a FIMI input, so many times over.
+";
+
+fn main(rt: HostRuntime) -> anyhow::Result<()> {
+    let words: Vec<String> = env::args(&rt)?.skip(1).collect(rt.alloc())?;
+    match words.as_slice() {
+        [minimum, runs] => {
+            let minimum = parse_minimum(minimum.as_str()).context("not a minimum")?;
+            let runs = runs
+                .as_str()
+                .parse::<u32>()
+                .context("not a number of runs")?;
+            bench(&rt, minimum, runs)
+        }
+        _ => {
+            print!(&rt; "{USAGE}")?;
+            Ok(())
+        }
+    }
+}
+
+/// Takes standard input in, runs the stages over it, and prints their times.
+fn bench(rt: &HostRuntime, minimum: Minimum, runs: u32) -> anyhow::Result<()> {
+    let mut input = Vec::new(rt.alloc());
+    rt.stdin().read_to_end(&mut input)?;
+    let mut all = Vec::new(rt.alloc());
+    for _ in 0..runs {
+        all.push(timed(rt, &input, minimum)?)?;
+    }
+    print_stages(rt, &all)?;
+    if let Ok(status) = fs::read_to_string(rt, "/proc/self/status") {
+        // The most memory that the process has had.
+        for line in status
+            .as_str()
+            .lines()
+            .filter(|line| line.starts_with("VmHWM"))
+        {
+            println!(rt; "{line}")?;
+        }
+    }
+    Ok(())
+}
+
+/// Runs each stage once.
+fn timed(rt: &HostRuntime, input: &[u8], minimum: Minimum) -> anyhow::Result<Times> {
+    let alloc = rt.alloc();
+    let start = Instant::now(rt)?;
+    let database = read_fimi(alloc, &mut MemSource::new(input, usize::MAX, None)).context(
+        "the input was not read",
+    )?;
+    let read = start.elapsed(rt)?;
+    let start = Instant::now(rt)?;
+    let coded = Coded::of(alloc, &database, minimum)?.merged(alloc)?;
+    let code = start.elapsed(rt)?;
+    let start = Instant::now(rt)?;
+    let levels = Levels::searched(alloc, &coded, u32::MAX).context("the sets were not found")?;
+    let apriori = start.elapsed(rt)?;
+    let start = Instant::now(rt)?;
+    let frequent = levels.finish(alloc).context("the list was not made")?;
+    let list = start.elapsed(rt)?;
+    let start = Instant::now(rt)?;
+    let _report = sets_report(alloc, frequent.sets())?;
+    let report = start.elapsed(rt)?;
+    Ok(Times {
+        read,
+        code,
+        apriori,
+        list,
+        report,
+    })
+}
