@@ -1,3 +1,5 @@
 pub mod Fronts
 pub mod MiningLemmas
 pub mod EngineLemmas
+mod NamesLemmas
+mod CommandLemmas
