@@ -2,6 +2,7 @@
 use Rattle.std.proofs.Common.{◌≡◌, ◌≢◌, ◌∙◌, ◌<◌, ◌≤◌, ◌||◌, ◌⊎◌, inl, inr, ℕ, List, [], ◌∷◌, Bool, true, false, map, option_map, Option, Some, None, refl, sym, subst, ap, ap₂, rules, arith}
 use Rattle.std.specs.Prelude.{option_and_then, codes, if◌then◌else◌, ◌^◌}
 use Rattle.std.specs.Borrow.{Bor}
+use Rattle.std.specs.List.{list_any}
 use Rattle.std.specs.Str.{bytes_eq}
 use Rattle.std.specs.Str.Parse.{IsNumeral, digits_value, without_leading_plus}
 use Rattle.std.proofs.lemmas.Slice.Eq.{bytes_eq-Decides}
@@ -19,9 +20,10 @@ use Rattle.clap.proofs.OnLiterals.{clap_on_literals}
 use Rattle.clap.proofs.ValueTestLemmas.{Accepts-accepts, accepts-Accepts}
 use Rattle.clap.proofs.WalkLemmas.{first_value-rows, one_text-rows}
 use Rattle.basket.proofs.NamesLemmas.{same_line}
+use Rattle.basket.proofs.HelpLemmas.{help_told}
 use Rattle.basket.specs.Plan.{GREATEST_LIMIT, Planned}
 use Rattle.basket.specs.declared.plan.Miner.TheVariants.{Apriori}
-use Rattle.basket.specs.Command.{Names, command_line, line_with, limit_in, limit_of, miner_names, miner_of, plan_of_command, plan_of_words, where_taken}
+use Rattle.basket.specs.Command.{Names, asks_help, is_answer, command_line, line_with, limit_in, limit_of, miner_names, miner_of, plan_of_command, plan_of_words, where_taken}
 
 -- ---- values
 
@@ -128,3 +130,12 @@ module _ (names : Names) (texts : map (λ name. name.now) names.now ≡ miner_na
       go [] (inl memory) = absurd (has_memory memory)
       go [] (inr among) = absurd among
       go (k ∷ ks) h = refl
+
+  pub no_help : (is_simple_and_free app ≡ true → fault_of app words ≡ []) → asks_help words ≡ false
+  no_help takes = ap (list_any is_answer) (sym same_faults ∙ takes simple)
+
+  pub help_refused : (e : Error) → (is_simple_and_free app ≡ true → HasKind (fault_of app words) e) → (kind_of e ≡ OutOfMemory → ⊥) → asks_help words ≡ is_answer (kind_of e)
+  help_refused e fails has_memory = elim (subst (λ (kinds : Kinds). HasKind kinds e) same_faults (fails simple)) [
+    | inl memory ↦ absurd (has_memory memory)
+    | inr among ↦ help_told (kind_of e) words among
+  ]

@@ -2,4 +2,5 @@ pub mod Fronts
 pub mod MiningLemmas
 pub mod EngineLemmas
 mod NamesLemmas
+mod HelpLemmas
 mod CommandLemmas

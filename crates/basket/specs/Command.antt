@@ -1,6 +1,7 @@
 -- The command line as `clap` sees it, and the plan that words make.
 use Rattle.std.specs.Prelude.{◌≡◌, ◌≢◌, List, [], ◌∷◌, ℕ, Bool, true, false, map, codes, if◌then◌else◌, option_and_then, option_map, Option, Some, None, Result, IfErr, IfOk}
 use Rattle.std.specs.Borrow.{Bor}
+use Rattle.std.specs.List.{list_any}
 use Rattle.std.specs.Str.{bytes_eq}
 use Rattle.std.specs.Str.Parse.{digits_value, without_leading_plus}
 use Rattle.clap.specs.Words.{App, Row, Rule, Shape, Text, first_of, new_app, new_rule, one_of, subcommand_of, with_rule}
@@ -10,9 +11,13 @@ use Rattle.clap.specs.Faults.{fault_of}
 use Rattle.clap.specs.ValueTests.{is_unsigned_in}
 use Rattle.clap.specs.declared.builder.action.ArgAction.TheVariants as action
 use Rattle.clap.specs.declared.builder.value_parser.ValueParser.TheVariants as parser
+use Rattle.clap.specs.declared.error.kind.ErrorKind.{ErrorKind}
+use Rattle.clap.specs.declared.error.kind.ErrorKind.TheVariants as kind
 use Rattle.basket_sets.specs.Minimum.{minimum_of}
 use Rattle.basket_sets.specs.declared.minimum.Minimum.{Minimum}
 use Rattle.basket.specs.Plan.{GREATEST_LIMIT, Planned}
+use Rattle.basket.specs.declared.command.PlanFault.{PlanFault}
+use Rattle.basket.specs.declared.command.PlanFault.TheVariants.{Memory, Usage, Help}
 use Rattle.basket.specs.declared.plan.Ask.{Ask}
 use Rattle.basket.specs.declared.plan.Ask.TheVariants.{Items, Sets}
 use Rattle.basket.specs.declared.plan.Miner.{Miner}
@@ -105,3 +110,20 @@ plan_on line words = where_taken (fault_of line words) (plan_of_command (subcomm
 
 abbrev pub plan_of_words : List Text → Option Planned
 plan_of_words words = plan_on command_line words
+
+-- ---- help
+
+-- `clap` has a text that was asked for: help, or a version
+abbrev pub is_answer : ErrorKind → Bool
+is_answer kind.DisplayHelp = true
+is_answer kind.DisplayVersion = true
+is_answer _ = false
+
+-- the words ask for help
+abbrev pub asks_help : List Text → Bool
+asks_help words = list_any is_answer (fault_of command_line words)
+
+abbrev pub is_help : PlanFault → Bool
+is_help Memory = false
+is_help (Usage text) = false
+is_help (Help text) = true

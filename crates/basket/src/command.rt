@@ -3,7 +3,7 @@ ghost use Rattle.std.specs.Prelude.{◌≡◌, ◌≢◌, ◌≤◌, IfErr, IfOk
 ghost use Rattle.clap.specs.Words.{app_of, found_of, kind_of, rows_of, rule_of, subcommand_rows_of};
 ghost use Rattle.clap.specs.declared.builder.command.Command.TheViews.{out-Command as fields_of};
 ghost use Rattle.basket.specs.declared.command.PlanFault.TheVariants.{Memory};
-ghost use Rattle.basket.specs.Command.{asked, command_app, limit_in, limit_option, line_with, min_in, min_option, miner_in, miner_names, miner_option, plan_of_command, plan_of_words};
+ghost use Rattle.basket.specs.Command.{asked, asks_help, command_app, is_answer, is_help, limit_in, limit_option, line_with, min_in, min_option, miner_in, miner_names, miner_option, plan_of_command, plan_of_words};
 ghost use Rattle.basket.specs.Status.{plan_status_of};
 ghost use Rattle.basket_sets.specs.Minimum.{IsMinimum};
 
@@ -90,6 +90,7 @@ where there are more, none is written (`items` has no limit)";
 pub fn plan_of<'a>(alloc: Global, words: &'a [&'a str]) -> Result<Plan, PlanFault>
     ensures made { IfOk result (λ plan. plan_of_words (map (λ word. word.now) words.now) ≡ Some plan) }
     ensures refused { IfErr result (λ fault. fault ≢ PlanFault.Memory → plan_of_words (map (λ word. word.now) words.now) ≡ None) }
+    ensures help { IfErr result (λ fault. fault ≢ PlanFault.Memory → asks_help (map (λ word. word.now) words.now) ≡ is_help fault) }
 {
     match line(alloc, miner_names())?.try_get_matches_from(words) {
         Ok(matches) => plan_from(alloc, &matches),
@@ -181,6 +182,7 @@ fn limit_option<'a>(alloc: Global) -> Arg<'a>
 fn plan_from(alloc: Global, matches: &ArgMatches<'_>) -> Result<Plan, PlanFault>
     ensures made { IfOk result (λ plan. plan_of_command (subcommand_rows_of matches.now) ≡ Some plan) }
     ensures refused { IfErr result (λ fault. fault ≢ PlanFault.Memory → plan_of_command (subcommand_rows_of matches.now) ≡ None) }
+    ensures help { IfErr result (λ fault. is_help fault ≡ false) }
 {
     let Some((ask, options)) = asked(matches) else {
         return Err(usage(alloc, "basket: no command\n")?);
@@ -235,12 +237,14 @@ fn limit_in(options: &ArgMatches<'_>) -> Option<u32>
 }
 
 fn usage(alloc: Global, text: &str) -> Result<PlanFault, AllocError>
+    ensures { IfOk result (λ fault. is_help fault ≡ false) }
 {
     Ok(PlanFault::Usage(String::from_str(alloc, text)?))
 }
 
 fn fault_of(alloc: Global, error: &Error) -> Result<PlanFault, AllocError>
-    ensures { IfOk result (λ fault. fault ≢ PlanFault.Memory → kind_of error.now ≢ ErrorKind.OutOfMemory) }
+    ensures memory { IfOk result (λ fault. fault ≢ PlanFault.Memory → kind_of error.now ≢ ErrorKind.OutOfMemory) }
+    ensures help { IfOk result (λ fault. fault ≢ PlanFault.Memory → is_answer (kind_of error.now) ≡ is_help fault) }
 {
     if let ErrorKind::OutOfMemory = error.kind() {
         return Ok(PlanFault::Memory);
