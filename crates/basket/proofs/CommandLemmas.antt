@@ -1,18 +1,17 @@
 -- What the options' values say, as `clap` gives them, and the plan that they make.
-use Rattle.std.proofs.Common.{◌≡◌, ◌≢◌, ◌∙◌, ◌<◌, ◌≤◌, ◌||◌, ◌⊎◌, inl, inr, ℕ, List, [], ◌∷◌, Bool, true, false, map, option_map, Option, Some, None, refl, sym, subst, ap, ap₂, rules, arith}
-use Rattle.std.specs.Prelude.{option_and_then, codes, if◌then◌else◌, ◌^◌}
+use Rattle.std.proofs.Common.{◌≡◌, ◌∙◌, ◌<◌, ◌≤◌, ◌||◌, inl, inr, ℕ, List, [], ◌∷◌, Bool, true, false, map, option_map, Option, Some, None, refl, sym, subst, ap, ap₂, arith}
+use Rattle.std.specs.Prelude.{option_and_then, codes, if◌then◌else◌}
 use Rattle.std.specs.Borrow.{Bor}
 use Rattle.std.specs.List.{list_any}
 use Rattle.std.specs.Str.{bytes_eq}
 use Rattle.std.specs.Str.Parse.{IsNumeral, digits_value, without_leading_plus}
 use Rattle.std.proofs.lemmas.Slice.Eq.{bytes_eq-Decides}
-use Rattle.clap.specs.Words.{App, Row, Text, first_of, first_value, is_simple, one_of, one_text, rows_of, subcommand_of}
+use Rattle.clap.specs.Words.{App, Row, Text, first_of, first_value, is_simple, one_text, rows_of, subcommand_of}
 use Rattle.clap.specs.Values.{kind_of}
-use Rattle.clap.specs.Kinds.{HasKind, IsAmong, Kinds}
+use Rattle.clap.specs.Kinds.{HasKind, Kinds}
 use Rattle.clap.specs.Faults.{fault_of, is_simple_and_free}
 use Rattle.clap.specs.ValueTests.{is_unsigned_in}
 use Rattle.clap.specs.declared.error.Error.{Error}
-use Rattle.clap.specs.declared.error.kind.ErrorKind.{ErrorKind}
 use Rattle.clap.specs.declared.error.kind.ErrorKind.TheVariants.{OutOfMemory}
 use Rattle.clap.specs.declared.builder.value_parser.ValueParser.TheVariants as parser
 use Rattle.clap.specs.declared.parser.matches.Found.{Found}
@@ -21,7 +20,7 @@ use Rattle.clap.proofs.ValueTestLemmas.{Accepts-accepts, accepts-Accepts}
 use Rattle.clap.proofs.WalkLemmas.{first_value-rows, one_text-rows}
 use Rattle.basket.proofs.NamesLemmas.{same_line}
 use Rattle.basket.proofs.HelpLemmas.{help_told}
-use Rattle.basket.specs.Plan.{GREATEST_LIMIT, Planned}
+use Rattle.basket.specs.Plan.{GREATEST_LIMIT}
 use Rattle.basket.specs.declared.plan.Miner.TheVariants.{Apriori}
 use Rattle.basket.specs.Command.{Names, asks_help, is_answer, command_line, line_with, limit_in, limit_of, miner_names, miner_of, plan_of_command, plan_of_words, where_taken}
 
@@ -47,7 +46,6 @@ is_no_miner text never = go (bytes_eq text (codes "apriori")) (λ e. never ((byt
     go : (b : Bool) → (b ≡ true → ⊥) → None ≡ (if b then Some Apriori else None)
     go true h = absurd (h refl)
     go false h = refl
-
 
 -- the text is read as a `u32`
 abbrev pub IsRead : Text → Type 0

@@ -1,10 +1,10 @@
 -- The command line as `clap` sees it, and the plan that words make.
-use Rattle.std.specs.Prelude.{◌≡◌, ◌≢◌, List, [], ◌∷◌, ℕ, Bool, true, false, map, codes, if◌then◌else◌, option_and_then, option_map, Option, Some, None, Result, IfErr, IfOk}
+use Rattle.std.specs.Prelude.{List, [], ◌∷◌, ℕ, Bool, true, false, map, codes, if◌then◌else◌, option_and_then, option_map, Option, Some, None}
 use Rattle.std.specs.Borrow.{Bor}
 use Rattle.std.specs.List.{list_any}
 use Rattle.std.specs.Str.{bytes_eq}
 use Rattle.std.specs.Str.Parse.{digits_value, without_leading_plus}
-use Rattle.clap.specs.Words.{App, Row, Rule, Shape, Text, first_of, new_app, new_rule, one_of, subcommand_of, with_rule}
+use Rattle.clap.specs.Words.{App, Row, Rule, Text, first_of, new_rule, one_of, subcommand_of}
 use Rattle.clap.specs.Simple.{new_shape}
 use Rattle.clap.specs.Kinds.{Kinds}
 use Rattle.clap.specs.Faults.{fault_of}
@@ -42,14 +42,24 @@ miner_option names = record (option (codes "miner")) { parser = Some (parser.Nam
 abbrev pub limit_option : Rule
 limit_option = record (option (codes "limit")) { parser = Some (parser.Unsigned 1 GREATEST_LIMIT); defaults = codes "4294967295" ∷ [] }
 
--- a command of a name, with the options that all commands have
+-- the options that all commands have
+abbrev pub options : Names → List Rule
+options names =
+    min_option
+    ∷ miner_option names
+    ∷ limit_option
+    ∷ []
+
 abbrev pub command_app : Names → Text → App
-command_app names name = with_rule (with_rule (with_rule (new_app name) min_option) (miner_option names)) limit_option
+command_app names name = record { top = record (new_shape name) { rules = options names }; subs = [] }
 
 abbrev pub line_with : Names → App
 line_with names = record {
   top = record (new_shape (codes "basket")) { is_leaf = false; no_binary_name = true; subcommand_required = true; disable_help_subcommand = true };
-  subs = (command_app names (codes "items")).top ∷ (command_app names (codes "sets")).top ∷ [];
+  subs =
+      (command_app names (codes "items")).top
+      ∷ (command_app names (codes "sets")).top
+      ∷ [];
 }
 
 abbrev pub miner_names : List Text

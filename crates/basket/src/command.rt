@@ -92,7 +92,7 @@ pub fn plan_of<'a>(alloc: Global, words: &'a [&'a str]) -> Result<Plan, PlanFaul
     ensures refused { IfErr result (λ fault. fault ≢ PlanFault.Memory → plan_of_words (map (λ word. word.now) words.now) ≡ None) }
     ensures help { IfErr result (λ fault. fault ≢ PlanFault.Memory → asks_help (map (λ word. word.now) words.now) ≡ is_help fault) }
 {
-    match line(alloc, miner_names())?.try_get_matches_from(words) {
+    match command_line(alloc, miner_names())?.try_get_matches_from(words) {
         Ok(matches) => plan_from(alloc, &matches),
         Err(error) => Err(fault_of(alloc, &error)?),
     }
@@ -105,8 +105,8 @@ fn miner_names() -> &'static [&'static str]
     &["apriori"]
 }
 
-fn line<'a>(alloc: Global, miners: &'a [&'a str]) -> Result<Command<'a>, AllocError>
-    ensures { IfOk result (λ line. app_of line ≡ line_with miners.entry) }
+fn command_line<'a>(alloc: Global, miners: &'a [&'a str]) -> Result<Command<'a>, AllocError>
+    ensures { IfOk result (λ command. app_of command ≡ line_with miners.entry) }
 {
     let items = command(alloc, "items", ITEMS_ABOUT, ITEMS_EXAMPLE, miners)?;
     let sets = command(alloc, "sets", SETS_ABOUT, SETS_EXAMPLE, miners)?;

@@ -1,6 +1,6 @@
 //! Worked examples of the command line, proved by computing them.
-ghost use Rattle.std.specs.Prelude.{◌≡◌, ◌∷◌, [], codes};
-ghost use Rattle.basket.specs.Command.{plan_of_words};
+ghost use Rattle.std.specs.Prelude.{◌≡◌, ◌∷◌, [], codes, false, true};
+ghost use Rattle.basket.specs.Command.{asks_help, plan_of_words};
 ghost use Rattle.basket.specs.Plan.{GREATEST_LIMIT};
 ghost use Rattle.basket.specs.declared.plan.Ask.TheVariants.{Items, Sets};
 ghost use Rattle.basket.specs.declared.plan.Miner.TheVariants.{Apriori};
@@ -26,5 +26,11 @@ pub fn no_plan()
     ensures bad_limit { plan_of_words (codes "sets" ∷ codes "--min" ∷ codes "2" ∷ codes "--limit" ∷ codes "0" ∷ []) ≡ None }
     ensures no_miner { plan_of_words (codes "sets" ∷ codes "--min" ∷ codes "2" ∷ codes "--miner" ∷ codes "eclat" ∷ []) ≡ None }
     ensures twice { plan_of_words (codes "sets" ∷ codes "--min" ∷ codes "2" ∷ codes "--min" ∷ codes "3" ∷ []) ≡ None }
-    ensures help { plan_of_words (codes "sets" ∷ codes "--help" ∷ []) ≡ None }
+{}
+
+/// `sets --help` asks for help, and `sets` alone makes a mistake.
+pub fn help_of_sets()
+    ensures plan { plan_of_words (codes "sets" ∷ codes "--help" ∷ []) ≡ None }
+    ensures help { asks_help (codes "sets" ∷ codes "--help" ∷ []) ≡ true }
+    ensures mistake { asks_help (codes "sets" ∷ []) ≡ false }
 {}

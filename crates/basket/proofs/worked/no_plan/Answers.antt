@@ -11,5 +11,4 @@ returns c = record {
   bad_limit = refl;
   no_miner = refl;
   twice = refl;
-  help = refl;
 }

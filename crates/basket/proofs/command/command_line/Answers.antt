@@ -2,7 +2,7 @@ use Rattle.std.proofs.Common.{◌∙◌, true, ap, ap₂}
 use Rattle.std.proofs.lemmas.Result.{IfOk-weaker}
 use Rattle.clap.specs.Simple.{App, app_of_fields, on_top}
 use Rattle.clap.specs.Words.{with_subcommand}
-use Rattle.basket.proofs.command.line.Goals as goal
+use Rattle.basket.proofs.command.command_line.Goals as goal
 
 pub returns : goal.returns
 returns c =
@@ -11,4 +11,4 @@ returns c =
     let needs = ap app_of_fields c.subcommand_required.ensures ∙ ap (on_top (λ s. record s { subcommand_required = true })) told in
     let bare = ap app_of_fields c.disable_help_subcommand.ensures ∙ ap (on_top (λ s. record s { disable_help_subcommand = true })) needs in
     let first = c.in_ok-subcommand.ensures.shape c.in_ok-items.ensures.local ∙ ap₂ with_subcommand bare (ap (λ (a : App). a.top) c.in_ok-items.ensures.options) in
-    IfOk-weaker c.subcommand-2.result _ _ (λ line added. added.shape c.in_ok-sets.ensures.local ∙ ap₂ with_subcommand first (ap (λ (a : App). a.top) c.in_ok-sets.ensures.options)) c.subcommand-2.ensures
+    IfOk-weaker c.subcommand-2.result _ _ (λ command added. added.shape c.in_ok-sets.ensures.local ∙ ap₂ with_subcommand first (ap (λ (a : App). a.top) c.in_ok-sets.ensures.options)) c.subcommand-2.ensures
