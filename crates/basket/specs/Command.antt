@@ -50,9 +50,11 @@ options names =
     ∷ limit_option
     ∷ []
 
+-- a command of a name
 abbrev pub command_app : Names → Text → App
 command_app names name = record { top = record (new_shape name) { rules = options names }; subs = [] }
 
+-- all commands, where the names of the miners lie as given
 abbrev pub line_with : Names → App
 line_with names = record {
   top = record (new_shape (codes "basket")) { is_leaf = false; no_binary_name = true; subcommand_required = true; disable_help_subcommand = true };
@@ -62,14 +64,17 @@ line_with names = record {
       ∷ [];
 }
 
+-- the miners by the names that the command line has for them
 abbrev pub miner_names : List Text
 miner_names = codes "apriori" ∷ []
 
+-- all commands; what `clap` makes of words doesn't depend on where the names lie
 abbrev pub command_line : App
 command_line = line_with (record { ref_ptr = (0, 0); now = map (λ name. record { ref_ptr = (0, 0); now = name }) miner_names })
 
 -- ---- what the values say
 
+-- what the command of a name asks for
 abbrev pub ask_of : Text → Option Ask
 ask_of name = if bytes_eq name (codes "items") then Some Items else (if bytes_eq name (codes "sets") then Some Sets else None)
 
@@ -80,7 +85,7 @@ miner_of text = if bytes_eq text (codes "apriori") then Some Apriori else None
 abbrev pub limit_of : Text → Option ℕ
 limit_of text = if is_unsigned_in 1 GREATEST_LIMIT text then Some (digits_value 10 (without_leading_plus text)) else None
 
--- the same of the value that an option has among the matches
+-- what the option's value among the matches says
 abbrev pub min_in : List Row → Option Minimum
 min_in rows = option_and_then minimum_of (first_of (codes "min") rows)
 
@@ -92,7 +97,7 @@ limit_in rows = option_and_then limit_of (one_of (codes "limit") rows)
 
 -- ---- the plan
 
--- the plan of a command with the matches of its options, where each has a value that says something
+-- the plan of a command with the matches of its options: none where an option's value says nothing
 abbrev pub plan_of_rows : Ask → List Row → Option Planned
 plan_of_rows ask rows =
     option_and_then (λ minimum.
@@ -106,6 +111,7 @@ plan_of_rows ask rows =
 abbrev pub asked : Option (Text × List Row) → Option (Ask × List Row)
 asked = option_and_then (λ entered. option_map (λ ask. (ask, entered.1)) (ask_of entered.0))
 
+-- the plan of the command that words enter
 abbrev pub plan_of_command : Option (Text × List Row) → Option Planned
 plan_of_command entered = option_and_then (λ found. plan_of_rows found.0 found.1) (asked entered)
 
@@ -114,12 +120,9 @@ abbrev pub where_taken : Kinds → Option Planned → Option Planned
 where_taken [] plan = plan
 where_taken (kind ∷ rest) plan = None
 
--- the plan that words make on a line
-abbrev pub plan_on : App → List Text → Option Planned
-plan_on line words = where_taken (fault_of line words) (plan_of_command (subcommand_of line words))
-
+-- the plan that words make, the program's name not among them
 abbrev pub plan_of_words : List Text → Option Planned
-plan_of_words words = plan_on command_line words
+plan_of_words words = where_taken (fault_of command_line words) (plan_of_command (subcommand_of command_line words))
 
 -- ---- help
 
@@ -133,6 +136,7 @@ is_answer _ = false
 abbrev pub asks_help : List Text → Bool
 asks_help words = list_any is_answer (fault_of command_line words)
 
+-- the fault is help that was asked for
 abbrev pub is_help : PlanFault → Bool
 is_help Memory = false
 is_help (Usage text) = false
