@@ -1,7 +1,5 @@
 -- From the frequent sets of coded baskets to those of a database.
-use Rattle.std.proofs.Common.{◌≡◌, ◌+◌, ◌^◌, ◌<◌, ℕ, List, Result, Ok, Err, length, sym, ap, ◌∙◌, arith}
-use Rattle.basket_core.specs.declared.fault.MineFault.{MineFault}
-use Rattle.basket_core.specs.declared.fault.MineFault.TheVariants.{Memory, TooMany}
+use Rattle.std.proofs.Common.{◌≡◌, ◌+◌, ◌^◌, ◌<◌, ℕ, List, length, ap, ◌∙◌, arith}
 use Rattle.basket_sets.specs.declared.minimum.Minimum.{Minimum}
 use Rattle.basket_sets.specs.declared.weighted.Weighted.{Weighted}
 use Rattle.basket_core.specs.Codes.{Coding, coding_of, merged_coding, baskets_of, frequent_of_coding, ranks_of}

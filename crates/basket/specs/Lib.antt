@@ -3,3 +3,4 @@ pub mod Report
 pub mod Status
 pub mod Outcome
 pub mod Engine
+pub mod Command

@@ -1,10 +1,14 @@
 //! The command line.
-ghost use Rattle.std.specs.Prelude.{◌≡◌};
+ghost use Rattle.std.specs.Prelude.{◌≡◌, ◌≢◌, ◌≤◌, IfErr, IfOk, IfSome, false, map, option_map};
+ghost use Rattle.clap.specs.Words.{app_of, found_of, kind_of, rows_of, rule_of, subcommand_rows_of};
+ghost use Rattle.clap.specs.declared.builder.command.Command.TheViews.{out-Command as fields_of};
 ghost use Rattle.basket.specs.declared.command.PlanFault.TheVariants.{Memory};
+ghost use Rattle.basket.specs.Command.{asked, asks_help, command_app, is_answer, is_help, limit_in, limit_option, line_with, min_in, min_option, miner_in, miner_names, miner_option, plan_of_command, plan_of_words};
 ghost use Rattle.basket.specs.Status.{plan_status_of};
+ghost use Rattle.basket_sets.specs.Minimum.{IsMinimum};
 
 use crate::plan::{Ask, Miner, Plan};
-use basket_core::parse_minimum;
+use basket_core::{Minimum, parse_minimum};
 use clap::builder::ValueParser;
 use clap::error::ErrorKind;
 use clap::{Arg, ArgAction, ArgMatches, Command, Error};
@@ -82,24 +86,30 @@ const MINER_HELP: &str = "How the sets are found; the report doesn't depend on i
 const LIMIT_HELP: &str = "How many sets there may be, from 1 to 4294967295; \
 where there are more, none is written (`items` has no limit)";
 
-/// The miners by the names that the command line has for them.
-const MINERS: &[&str] = &["apriori"];
-
 /// The plan that the words ask for. The program's name is not among them.
-pub fn plan_of<'a>(alloc: Global, words: &'a [&'a str]) -> Result<Plan, PlanFault> {
-    match command(alloc)?.try_get_matches_from(words) {
+pub fn plan_of<'a>(alloc: Global, words: &'a [&'a str]) -> Result<Plan, PlanFault>
+    ensures made { IfOk result (λ plan. plan_of_words (map (λ word. word.now) words.now) ≡ Some plan) }
+    ensures refused { IfErr result (λ fault. fault ≢ PlanFault.Memory → plan_of_words (map (λ word. word.now) words.now) ≡ None) }
+    ensures help { IfErr result (λ fault. fault ≢ PlanFault.Memory → asks_help (map (λ word. word.now) words.now) ≡ is_help fault) }
+{
+    match command_line(alloc, miner_names())?.try_get_matches_from(words) {
         Ok(matches) => plan_from(alloc, &matches),
         Err(error) => Err(fault_of(alloc, &error)?),
     }
 }
 
-fn command<'a>(alloc: Global) -> Result<Command<'a>, AllocError> {
-    let items = Command::new(alloc, "items")
-        .about(ITEMS_ABOUT)
-        .after_help(ITEMS_EXAMPLE);
-    let sets = Command::new(alloc, "sets")
-        .about(SETS_ABOUT)
-        .after_help(SETS_EXAMPLE);
+/// The miners by the names that the command line has for them.
+fn miner_names() -> &'static [&'static str]
+    ensures { map (λ name. name.now) result.now ≡ miner_names }
+{
+    &["apriori"]
+}
+
+fn command_line<'a>(alloc: Global, miners: &'a [&'a str]) -> Result<Command<'a>, AllocError>
+    ensures { IfOk result (λ command. app_of command ≡ line_with miners.entry) }
+{
+    let items = command(alloc, "items", ITEMS_ABOUT, ITEMS_EXAMPLE, miners)?;
+    let sets = command(alloc, "sets", SETS_ABOUT, SETS_EXAMPLE, miners)?;
     Command::new(alloc, "basket")
         .no_binary_name(true)
         .bin_name("basket")?
@@ -107,63 +117,135 @@ fn command<'a>(alloc: Global) -> Result<Command<'a>, AllocError> {
         .after_help(INPUT)
         .subcommand_required(true)
         .disable_help_subcommand(true)
-        .subcommand(with_options(alloc, items)?)?
-        .subcommand(with_options(alloc, sets)?)
+        .subcommand(items)?
+        .subcommand(sets)
 }
 
-/// The command with the options that all commands have.
-fn with_options<'a>(alloc: Global, command: Command<'a>) -> Result<Command<'a>, AllocError> {
-    let minimum = Arg::new(alloc, "min")
+/// A command with its options, which are the same for all.
+fn command<'a>(
+    alloc: Global,
+    name: &'a str,
+    about: &'a str,
+    example: &'a str,
+    miners: &'a [&'a str],
+) -> Result<Command<'a>, AllocError>
+    ensures options { IfOk result (λ command. app_of command ≡ command_app miners.entry name.now) }
+    ensures local { IfOk result (λ command. (fields_of command).has_globals ≡ false) }
+{
+    Command::new(alloc, name)
+        .about(about)
+        .after_help(example)
+        .arg(min_option(alloc))?
+        .arg(miner_option(alloc, miners))?
+        .arg(limit_option(alloc))
+}
+
+fn min_option<'a>(alloc: Global) -> Arg<'a>
+    ensures rule { rule_of result ≡ min_option }
+    ensures local { result.global ≡ false }
+{
+    Arg::new(alloc, "min")
         .long("min")
         .value_name("M")
         .help(MIN_HELP)
         .required(true)
-        .action(ArgAction::Set);
-    let miner = Arg::new(alloc, "miner")
+        .action(ArgAction::Set)
+}
+
+fn miner_option<'a>(alloc: Global, miners: &'a [&'a str]) -> Arg<'a>
+    ensures rule { rule_of result ≡ miner_option miners.entry }
+    ensures local { result.global ≡ false }
+{
+    Arg::new(alloc, "miner")
         .long("miner")
         .value_name("A")
         .help(MINER_HELP)
-        .value_parser(ValueParser::Names(MINERS))
+        .value_parser(ValueParser::Names(miners))
         .default_value("apriori")
-        .action(ArgAction::Set);
-    let limit = Arg::new(alloc, "limit")
+        .action(ArgAction::Set)
+}
+
+fn limit_option<'a>(alloc: Global) -> Arg<'a>
+    ensures rule { rule_of result ≡ limit_option }
+    ensures local { result.global ≡ false }
+{
+    Arg::new(alloc, "limit")
         .long("limit")
         .value_name("L")
         .help(LIMIT_HELP)
         .value_parser(ValueParser::unsigned(1, u64::from(u32::MAX)))
         .default_value("4294967295")
-        .action(ArgAction::Set);
-    command.arg(minimum)?.arg(miner)?.arg(limit)
+        .action(ArgAction::Set)
 }
 
 /// The plan of words that clap has accepted.
-fn plan_from(alloc: Global, matches: &ArgMatches<'_>) -> Result<Plan, PlanFault> {
-    let (ask, options) = match matches.subcommand() {
-        Some(("items", options)) => (Ask::Items, options),
-        Some(("sets", options)) => (Ask::Sets, options),
-        _ => return Err(usage(alloc, "basket: no command\n")?),
+fn plan_from(alloc: Global, matches: &ArgMatches<'_>) -> Result<Plan, PlanFault>
+    ensures made { IfOk result (λ plan. plan_of_command (subcommand_rows_of matches.now) ≡ Some plan) }
+    ensures refused { IfErr result (λ fault. fault ≢ PlanFault.Memory → plan_of_command (subcommand_rows_of matches.now) ≡ None) }
+    ensures help { IfErr result (λ fault. is_help fault ≡ false) }
+{
+    let Some((ask, options)) = asked(matches) else {
+        return Err(usage(alloc, "basket: no command\n")?);
     };
-    let minimum = match options.get_str("min").and_then(|text| parse_minimum(text)) {
-        Some(minimum) => minimum,
-        None => return Err(usage(alloc, "basket: bad value for --min\n")?),
+    let Some(minimum) = min_in(options) else {
+        return Err(usage(alloc, "basket: bad value for --min\n")?);
     };
-    let miner = match options.get_str("miner") {
-        Some("apriori") => Miner::Apriori,
-        _ => return Err(usage(alloc, "basket: bad value for --miner\n")?),
+    let Some(miner) = miner_in(options) else {
+        return Err(usage(alloc, "basket: bad value for --miner\n")?);
     };
-    match options.get_one::<u32>("limit") {
-        Some(limit) if limit >= 1 => {
-            Ok(Plan::of(ask, minimum).with_miner(miner).with_limit(limit))
-        }
-        _ => Err(usage(alloc, "basket: bad value for --limit\n")?),
+    let Some(limit) = limit_in(options) else {
+        return Err(usage(alloc, "basket: bad value for --limit\n")?);
+    };
+    Ok(Plan::of(ask, minimum).with_miner(miner).with_limit(limit))
+}
+
+/// What the command asks for, and its options.
+fn asked<'m, 'a>(matches: &'m ArgMatches<'a>) -> Option<(Ask, &'m ArgMatches<'a>)>
+    ensures { option_map (λ found. (found.0, rows_of (found_of found.1.now))) result ≡ asked (subcommand_rows_of matches.now) }
+{
+    match matches.subcommand()? {
+        ("items", options) => Some((Ask::Items, options)),
+        ("sets", options) => Some((Ask::Sets, options)),
+        _ => None,
     }
 }
 
-fn usage(alloc: Global, text: &str) -> Result<PlanFault, AllocError> {
+fn min_in(options: &ArgMatches<'_>) -> Option<Minimum>
+    ensures found { result ≡ min_in (rows_of (found_of options.now)) }
+    ensures in_range { IfSome result IsMinimum }
+{
+    parse_minimum(options.get_str("min")?)
+}
+
+fn miner_in(options: &ArgMatches<'_>) -> Option<Miner>
+    ensures { result ≡ miner_in (rows_of (found_of options.now)) }
+{
+    match options.get_str("miner")? {
+        "apriori" => Some(Miner::Apriori),
+        _ => None,
+    }
+}
+
+fn limit_in(options: &ArgMatches<'_>) -> Option<u32>
+    ensures found { result ≡ limit_in (rows_of (found_of options.now)) }
+    ensures in_range { IfSome result (λ limit. 1 ≤ limit) }
+{
+    match options.get_one::<u32>("limit") {
+        Some(limit) if limit >= 1 => Some(limit),
+        _ => None,
+    }
+}
+
+fn usage(alloc: Global, text: &str) -> Result<PlanFault, AllocError>
+    ensures { IfOk result (λ fault. is_help fault ≡ false) }
+{
     Ok(PlanFault::Usage(String::from_str(alloc, text)?))
 }
 
-fn fault_of(alloc: Global, error: &Error) -> Result<PlanFault, AllocError> {
+fn fault_of(alloc: Global, error: &Error) -> Result<PlanFault, AllocError>
+    ensures memory { IfOk result (λ fault. fault ≢ PlanFault.Memory → kind_of error.now ≢ ErrorKind.OutOfMemory) }
+    ensures help { IfOk result (λ fault. fault ≢ PlanFault.Memory → is_answer (kind_of error.now) ≡ is_help fault) }
+{
     if let ErrorKind::OutOfMemory = error.kind() {
         return Ok(PlanFault::Memory);
     }

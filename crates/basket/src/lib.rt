@@ -10,6 +10,7 @@ mod plan;
 mod report;
 #[cfg(test)]
 mod tests;
+pub mod worked;
 mod write;
 
 pub use command::{PlanFault, plan_of, plan_status};

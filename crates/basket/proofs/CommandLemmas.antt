@@ -1,0 +1,139 @@
+-- What the options' values say, as `clap` gives them, and the plan that they make.
+use Rattle.std.proofs.Common.{◌≡◌, ◌∙◌, ◌<◌, ◌≤◌, ◌||◌, inl, inr, ℕ, List, [], ◌∷◌, Bool, true, false, map, option_map, Option, Some, None, refl, sym, subst, ap, ap₂, arith}
+use Rattle.std.specs.Prelude.{option_and_then, codes, if◌then◌else◌}
+use Rattle.std.specs.Borrow.{Bor}
+use Rattle.std.specs.List.{list_any}
+use Rattle.std.specs.Str.{bytes_eq}
+use Rattle.std.specs.Str.Parse.{IsNumeral, digits_value, without_leading_plus}
+use Rattle.std.proofs.lemmas.Slice.Eq.{bytes_eq-Decides}
+use Rattle.clap.specs.Words.{App, Row, Text, first_of, first_value, is_simple, one_text, rows_of, subcommand_of}
+use Rattle.clap.specs.Values.{kind_of}
+use Rattle.clap.specs.Kinds.{HasKind, Kinds}
+use Rattle.clap.specs.Faults.{fault_of, is_simple_and_free}
+use Rattle.clap.specs.ValueTests.{is_unsigned_in}
+use Rattle.clap.specs.declared.error.Error.{Error}
+use Rattle.clap.specs.declared.error.kind.ErrorKind.TheVariants.{OutOfMemory}
+use Rattle.clap.specs.declared.builder.value_parser.ValueParser.TheVariants as parser
+use Rattle.clap.specs.declared.parser.matches.Found.{Found}
+use Rattle.clap.proofs.OnLiterals.{clap_on_literals}
+use Rattle.clap.proofs.ValueTestLemmas.{Accepts-accepts, accepts-Accepts}
+use Rattle.clap.proofs.WalkLemmas.{first_value-rows, one_text-rows}
+use Rattle.basket.proofs.NamesLemmas.{same_line}
+use Rattle.basket.proofs.HelpLemmas.{help_told}
+use Rattle.basket.specs.Plan.{GREATEST_LIMIT}
+use Rattle.basket.specs.declared.plan.Miner.TheVariants.{Apriori}
+use Rattle.basket.specs.Command.{Names, asks_help, is_answer, command_line, line_with, limit_in, limit_of, miner_names, miner_of, plan_of_command, plan_of_words, where_taken}
+
+-- ---- values
+
+-- a value that `clap` gives, and one that it doesn't give, as read from the rows
+module _ {A : Type 0} (read : Text → Option A) (f : Found) (id : Text) (value : Option (Bor Text)) (e : option_map (λ s. s.now) value ≡ first_value f id) where
+  from_rows : option_and_then read (first_of id (rows_of f)) ≡ option_and_then read (option_map (λ s. s.now) value)
+  from_rows = ap (option_and_then read) (sym (first_value-rows f id) ∙ sym e)
+
+  pub read_none : value ≡ None → None ≡ option_and_then read (first_of id (rows_of f))
+  read_none was = sym (from_rows ∙ ap (λ v. option_and_then read (option_map (λ s. s.now) v)) was)
+
+  pub read_some : (text : Bor Text) → value ≡ Some text → read text.now ≡ option_and_then read (first_of id (rows_of f))
+  read_some text was = sym (from_rows ∙ ap (λ v. option_and_then read (option_map (λ s. s.now) v)) was)
+
+pub is_apriori : (text : Text) → text ≡ codes "apriori" → Some Apriori ≡ miner_of text
+is_apriori text e = sym (ap miner_of e)
+
+pub is_no_miner : (text : Text) → (text ≡ codes "apriori" → ⊥) → None ≡ miner_of text
+is_no_miner text never = go (bytes_eq text (codes "apriori")) (λ e. never ((bytes_eq-Decides text (codes "apriori")).0 e))
+  where
+    go : (b : Bool) → (b ≡ true → ⊥) → None ≡ (if b then Some Apriori else None)
+    go true h = absurd (h refl)
+    go false h = refl
+
+-- the text is read as a `u32`
+abbrev pub IsRead : Text → Type 0
+IsRead text = IsNumeral 10 (without_leading_plus text) × (digits_value 10 (without_leading_plus text) < 4294967296)
+
+limit_said : (text : Text) → IsRead text → 1 ≤ digits_value 10 (without_leading_plus text) → Some (digits_value 10 (without_leading_plus text)) ≡ limit_of text
+limit_said text reads least =
+    let yes = Accepts-accepts false (parser.Unsigned 1 GREATEST_LIMIT) text (reads.0, omega (arith, reads.1), least, omega (arith, reads.1)) in
+    sym (ap (λ (b : Bool). if b then Some (digits_value 10 (without_leading_plus text)) else None) yes)
+
+limit_unsaid : (text : Text) → (IsRead text → 1 ≤ digits_value 10 (without_leading_plus text) → ⊥) → None ≡ limit_of text
+limit_unsaid text never = go (is_unsigned_in 1 GREATEST_LIMIT text) (λ e. let h = accepts-Accepts false (parser.Unsigned 1 GREATEST_LIMIT) text e in never (h.0, omega (arith, h.3)) h.2)
+  where
+    go : (b : Bool) → (b ≡ true → ⊥) → None ≡ (if b then Some (digits_value 10 (without_leading_plus text)) else None)
+    go true h = absurd (h refl)
+    go false h = refl
+
+module _ (f : Found) where
+  limit_rows : option_and_then limit_of (one_text f (codes "limit")) ≡ limit_in (rows_of f)
+  limit_rows = ap (option_and_then limit_of) (one_text-rows f (codes "limit"))
+
+  pub limit_some : (v : ℕ) → ((text : Text) → one_text f (codes "limit") ≡ Some text → IsRead text × (v ≡ digits_value 10 (without_leading_plus text)))
+      → (one_text f (codes "limit") ≡ None → ⊥) → 1 ≤ v → Some v ≡ limit_in (rows_of f)
+  limit_some v reads none least = go (one_text f (codes "limit")) reads none ∙ limit_rows
+    where
+      go : (o : Option Text) → ((text : Text) → o ≡ Some text → IsRead text × (v ≡ digits_value 10 (without_leading_plus text))) → (o ≡ None → ⊥) → Some v ≡ option_and_then limit_of o
+      go None reads none = absurd (none refl)
+      go (Some text) reads none =
+          let h = reads text refl in
+          ap Some h.1 ∙ limit_said text h.0 (omega (arith, h.1, least))
+
+  pub limit_low : (v : ℕ) → ((text : Text) → one_text f (codes "limit") ≡ Some text → IsRead text × (v ≡ digits_value 10 (without_leading_plus text)))
+      → v < 1 → None ≡ limit_in (rows_of f)
+  limit_low v reads low = go (one_text f (codes "limit")) reads ∙ limit_rows
+    where
+      go : (o : Option Text) → ((text : Text) → o ≡ Some text → IsRead text × (v ≡ digits_value 10 (without_leading_plus text))) → None ≡ option_and_then limit_of o
+      go None reads = refl
+      go (Some text) reads =
+          let h = reads text refl in
+          limit_unsaid text (λ _ least. omega (arith, h.1, least, low))
+
+  pub limit_none : ((text : Text) → one_text f (codes "limit") ≡ Some text → IsRead text → ⊥) → None ≡ limit_in (rows_of f)
+  limit_none never = go (one_text f (codes "limit")) never ∙ limit_rows
+    where
+      go : (o : Option Text) → ((text : Text) → o ≡ Some text → IsRead text → ⊥) → None ≡ option_and_then limit_of o
+      go None never = refl
+      go (Some text) never = limit_unsaid text (λ reads _. never text refl reads)
+
+-- ---- the line
+
+pub stays_local : (old new global : Bool) → new ≡ (old || global) → global ≡ false → old ≡ false → new ≡ false
+stays_local old new global e g o = e ∙ ap₂ (λ a b. a || b) o g
+
+simple_line : (names : Names) → is_simple_and_free (line_with names) ≡ true
+unfolding clap_on_literals
+simple_line names = refl
+
+simple_app : (names : Names) → is_simple (line_with names) ≡ true
+unfolding clap_on_literals
+simple_app names = refl
+
+module _ (names : Names) (texts : map (λ name. name.now) names.now ≡ miner_names) (app : App) (is : app ≡ line_with names) (words : List Text) where
+  simple : is_simple_and_free app ≡ true
+  simple = ap is_simple_and_free is ∙ simple_line names
+
+  same_faults : fault_of app words ≡ fault_of command_line words
+  same_faults = ap (λ a. fault_of a words) is ∙ (same_line names texts words).0
+
+  pub plan_taken : (entered : Option (Text × List Row)) → (is_simple_and_free app ≡ true → fault_of app words ≡ [])
+      → (is_simple app ≡ true → entered ≡ subcommand_of app words) → plan_of_words words ≡ plan_of_command entered
+  plan_taken entered takes enters =
+      let faults : fault_of command_line words ≡ [] = sym same_faults ∙ takes simple in
+      let found : subcommand_of command_line words ≡ entered = sym (same_line names texts words).1 ∙ (ap (λ a. subcommand_of a words) (sym is) ∙ sym (enters (ap is_simple is ∙ simple_app names))) in
+      ap₂ (λ (kinds : Kinds) (e : Option (Text × List Row)). where_taken kinds (plan_of_command e)) faults found
+
+  pub plan_refused : (e : Error) → (is_simple_and_free app ≡ true → HasKind (fault_of app words) e) → (kind_of e ≡ OutOfMemory → ⊥) → plan_of_words words ≡ None
+  plan_refused e fails has_memory = go (fault_of command_line words) (subst (λ (kinds : Kinds). HasKind kinds e) same_faults (fails simple))
+    where
+      go : (kinds : Kinds) → HasKind kinds e → where_taken kinds (plan_of_command (subcommand_of command_line words)) ≡ None
+      go [] (inl memory) = absurd (has_memory memory)
+      go [] (inr among) = absurd among
+      go (k ∷ ks) h = refl
+
+  pub no_help : (is_simple_and_free app ≡ true → fault_of app words ≡ []) → asks_help words ≡ false
+  no_help takes = ap (list_any is_answer) (sym same_faults ∙ takes simple)
+
+  pub help_refused : (e : Error) → (is_simple_and_free app ≡ true → HasKind (fault_of app words) e) → (kind_of e ≡ OutOfMemory → ⊥) → asks_help words ≡ is_answer (kind_of e)
+  help_refused e fails has_memory = elim (subst (λ (kinds : Kinds). HasKind kinds e) same_faults (fails simple)) [
+    | inl memory ↦ absurd (has_memory memory)
+    | inr among ↦ help_told (kind_of e) words among
+  ]

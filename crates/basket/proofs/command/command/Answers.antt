@@ -1,0 +1,21 @@
+use Rattle.std.proofs.Common.{◌∙◌, ap, ap₂}
+use Rattle.std.proofs.lemmas.Result.{IfOk-weaker}
+use Rattle.clap.specs.Simple.{app_of_fields}
+use Rattle.clap.specs.Words.{with_rule}
+use Rattle.basket.proofs.CommandLemmas.{stays_local}
+use Rattle.basket.proofs.command.command.Goals as goal
+
+pub returns-clause-options : goal.returns-clause-options
+returns-clause-options c =
+    let bare = ap app_of_fields c.after_help.ensures ∙ (ap app_of_fields c.about.ensures ∙ c.new.ensures.app) in
+    let first = c.in_ok-arg.ensures.shape c.min_option.ensures.local ∙ ap₂ with_rule bare c.min_option.ensures.rule in
+    let second = c.in_ok-arg-2.ensures.shape c.miner_option.ensures.local ∙ ap₂ with_rule first c.miner_option.ensures.rule in
+    IfOk-weaker c.arg-3.result _ _ (λ command added. added.shape c.limit_option.ensures.local ∙ ap₂ with_rule second c.limit_option.ensures.rule) c.arg-3.ensures
+
+pub returns-clause-local : goal.returns-clause-local
+returns-clause-local c =
+    let bare = ap (λ f. f.has_globals) c.after_help.ensures ∙ (ap (λ f. f.has_globals) c.about.ensures ∙ c.new.ensures.local) in
+    IfOk-weaker c.arg-3.result _ _ (λ command added.
+    stays_local _ _ _ added.globals c.limit_option.ensures.local
+    (stays_local _ _ _ c.in_ok-arg-2.ensures.globals c.miner_option.ensures.local
+    (stays_local _ _ _ c.in_ok-arg.ensures.globals c.min_option.ensures.local bare))) c.arg-3.ensures

@@ -1,0 +1,14 @@
+use Rattle.std.proofs.Common.{refl}
+use Rattle.clap.proofs.OnLiterals.{clap_on_literals}
+use Rattle.basket.proofs.worked.no_plan.Goals as goal
+
+pub returns : goal.returns
+unfolding clap_on_literals
+returns c = record {
+  empty = refl;
+  no_minimum = refl;
+  bad_minimum = refl;
+  bad_limit = refl;
+  no_miner = refl;
+  twice = refl;
+}

@@ -1,0 +1,143 @@
+-- The command line as `clap` sees it, and the plan that words make.
+use Rattle.std.specs.Prelude.{List, [], ◌∷◌, ℕ, Bool, true, false, map, codes, if◌then◌else◌, option_and_then, option_map, Option, Some, None}
+use Rattle.std.specs.Borrow.{Bor}
+use Rattle.std.specs.List.{list_any}
+use Rattle.std.specs.Str.{bytes_eq}
+use Rattle.std.specs.Str.Parse.{digits_value, without_leading_plus}
+use Rattle.clap.specs.Words.{App, Row, Rule, Text, first_of, new_rule, one_of, subcommand_of}
+use Rattle.clap.specs.Simple.{new_shape}
+use Rattle.clap.specs.Kinds.{Kinds}
+use Rattle.clap.specs.Faults.{fault_of}
+use Rattle.clap.specs.ValueTests.{is_unsigned_in}
+use Rattle.clap.specs.declared.builder.action.ArgAction.TheVariants as action
+use Rattle.clap.specs.declared.builder.value_parser.ValueParser.TheVariants as parser
+use Rattle.clap.specs.declared.error.kind.ErrorKind.{ErrorKind}
+use Rattle.clap.specs.declared.error.kind.ErrorKind.TheVariants as kind
+use Rattle.basket_sets.specs.Minimum.{minimum_of}
+use Rattle.basket_sets.specs.declared.minimum.Minimum.{Minimum}
+use Rattle.basket.specs.Plan.{GREATEST_LIMIT, Planned}
+use Rattle.basket.specs.declared.command.PlanFault.{PlanFault}
+use Rattle.basket.specs.declared.command.PlanFault.TheVariants.{Memory, Usage, Help}
+use Rattle.basket.specs.declared.plan.Ask.{Ask}
+use Rattle.basket.specs.declared.plan.Ask.TheVariants.{Items, Sets}
+use Rattle.basket.specs.declared.plan.Miner.{Miner}
+use Rattle.basket.specs.declared.plan.Miner.TheVariants.{Apriori}
+
+-- ---- the options, the commands, and the whole line
+
+-- the option `--name`, which takes one value
+abbrev pub option : Text → Rule
+option name = record (new_rule name) { long = Some name; value_names = 1; action = Some action.Set }
+
+abbrev pub min_option : Rule
+min_option = record (option (codes "min")) { required = true }
+
+-- texts as `clap` holds them: behind references, of which only the texts count
+abbrev pub Names : Type 0
+Names = Bor (List (Bor Text))
+
+abbrev pub miner_option : Names → Rule
+miner_option names = record (option (codes "miner")) { parser = Some (parser.Names names); defaults = codes "apriori" ∷ [] }
+
+abbrev pub limit_option : Rule
+limit_option = record (option (codes "limit")) { parser = Some (parser.Unsigned 1 GREATEST_LIMIT); defaults = codes "4294967295" ∷ [] }
+
+-- the options that all commands have
+abbrev pub options : Names → List Rule
+options names =
+    min_option
+    ∷ miner_option names
+    ∷ limit_option
+    ∷ []
+
+-- a command of a name
+abbrev pub command_app : Names → Text → App
+command_app names name = record { top = record (new_shape name) { rules = options names }; subs = [] }
+
+-- all commands, where the names of the miners lie as given
+abbrev pub line_with : Names → App
+line_with names = record {
+  top = record (new_shape (codes "basket")) { is_leaf = false; no_binary_name = true; subcommand_required = true; disable_help_subcommand = true };
+  subs =
+      (command_app names (codes "items")).top
+      ∷ (command_app names (codes "sets")).top
+      ∷ [];
+}
+
+-- the miners by the names that the command line has for them
+abbrev pub miner_names : List Text
+miner_names = codes "apriori" ∷ []
+
+-- all commands; what `clap` makes of words doesn't depend on where the names lie
+abbrev pub command_line : App
+command_line = line_with (record { ref_ptr = (0, 0); now = map (λ name. record { ref_ptr = (0, 0); now = name }) miner_names })
+
+-- ---- what the values say
+
+-- what the command of a name asks for
+abbrev pub ask_of : Text → Option Ask
+ask_of name = if bytes_eq name (codes "items") then Some Items else (if bytes_eq name (codes "sets") then Some Sets else None)
+
+abbrev pub miner_of : Text → Option Miner
+miner_of text = if bytes_eq text (codes "apriori") then Some Apriori else None
+
+-- the number that one or more digits write, maybe after a plus, from 1 to the greatest limit
+abbrev pub limit_of : Text → Option ℕ
+limit_of text = if is_unsigned_in 1 GREATEST_LIMIT text then Some (digits_value 10 (without_leading_plus text)) else None
+
+-- what the option's value among the matches says
+abbrev pub min_in : List Row → Option Minimum
+min_in rows = option_and_then minimum_of (first_of (codes "min") rows)
+
+abbrev pub miner_in : List Row → Option Miner
+miner_in rows = option_and_then miner_of (first_of (codes "miner") rows)
+
+abbrev pub limit_in : List Row → Option ℕ
+limit_in rows = option_and_then limit_of (one_of (codes "limit") rows)
+
+-- ---- the plan
+
+-- the plan of a command with the matches of its options: none where an option's value says nothing
+abbrev pub plan_of_rows : Ask → List Row → Option Planned
+plan_of_rows ask rows =
+    option_and_then (λ minimum.
+    option_and_then (λ miner.
+    option_map (λ limit. record { question = record { ask = ask; minimum = minimum; limit = limit }; miner = miner })
+    (limit_in rows))
+    (miner_in rows))
+    (min_in rows)
+
+-- the command of a name, with the matches of its options
+abbrev pub asked : Option (Text × List Row) → Option (Ask × List Row)
+asked = option_and_then (λ entered. option_map (λ ask. (ask, entered.1)) (ask_of entered.0))
+
+-- the plan of the command that words enter
+abbrev pub plan_of_command : Option (Text × List Row) → Option Planned
+plan_of_command entered = option_and_then (λ found. plan_of_rows found.0 found.1) (asked entered)
+
+-- `clap` takes the words where no kind of error comes
+abbrev pub where_taken : Kinds → Option Planned → Option Planned
+where_taken [] plan = plan
+where_taken (kind ∷ rest) plan = None
+
+-- the plan that words make, the program's name not among them
+abbrev pub plan_of_words : List Text → Option Planned
+plan_of_words words = where_taken (fault_of command_line words) (plan_of_command (subcommand_of command_line words))
+
+-- ---- help
+
+-- `clap` has a text that was asked for: help, or a version
+abbrev pub is_answer : ErrorKind → Bool
+is_answer kind.DisplayHelp = true
+is_answer kind.DisplayVersion = true
+is_answer _ = false
+
+-- the words ask for help
+abbrev pub asks_help : List Text → Bool
+asks_help words = list_any is_answer (fault_of command_line words)
+
+-- the fault is help that was asked for
+abbrev pub is_help : PlanFault → Bool
+is_help Memory = false
+is_help (Usage text) = false
+is_help (Help text) = true
