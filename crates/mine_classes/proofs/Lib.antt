@@ -1,0 +1,3 @@
+mod ConditionalLemmas
+mod ClassLemmas
+mod TogetherLemmas

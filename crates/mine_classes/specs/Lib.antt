@@ -1,0 +1,3 @@
+pub mod Conditional
+pub mod Classes
+pub mod Worked
