@@ -1,3 +1,4 @@
 mod ConditionalLemmas
 mod ClassLemmas
 mod TogetherLemmas
+mod OrderedLemmas

@@ -1,3 +1,5 @@
 pub mod Conditional
 pub mod Classes
+pub mod Span
+pub mod Ordered
 pub mod Worked

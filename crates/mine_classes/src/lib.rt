@@ -2,4 +2,8 @@
 #![tactic(auto)]
 
 pub mod laws;
+mod ordered;
+mod span;
 pub mod worked;
+
+pub use ordered::Ordered;
