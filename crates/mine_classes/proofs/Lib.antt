@@ -2,3 +2,4 @@ mod ConditionalLemmas
 mod ClassLemmas
 mod TogetherLemmas
 mod OrderedLemmas
+mod RunLemmas

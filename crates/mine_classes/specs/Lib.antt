@@ -2,4 +2,5 @@ pub mod Conditional
 pub mod Classes
 pub mod Span
 pub mod Ordered
+pub mod Runs
 pub mod Worked
