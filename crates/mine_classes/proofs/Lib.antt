@@ -3,3 +3,5 @@ mod ClassLemmas
 mod TogetherLemmas
 mod OrderedLemmas
 mod RunLemmas
+mod RunStepLemmas
+mod RunLoopLemmas

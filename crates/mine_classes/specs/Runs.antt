@@ -44,3 +44,8 @@ pub record AreRunsOf (ranks : List ℕ) (baskets : List Weighted) (rank : ℕ) (
   pub within : All (IsWithin (length ranks)) runs
   pub places : All (IsRankBasket rank) (baskets_at ranks runs)
   pub weights : HaveSameWeights (below rank baskets) (baskets_at ranks runs)
+
+-- the runs of each rank below a number
+pub record HaveAllRuns (count : ℕ) (ranks : List ℕ) (baskets : List Weighted) (of : List (List Span)) : Type 0 where
+  pub long : length of ≡ count
+  pub are : (rank : ℕ) → rank < count → AreRunsOf ranks baskets rank (slice_index_or of rank [])

@@ -8,3 +8,4 @@ mod span;
 pub mod worked;
 
 pub use ordered::Ordered;
+pub use runs::Runs;

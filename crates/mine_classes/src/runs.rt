@@ -1,15 +1,92 @@
 //! The places where each rank stands in baskets that lie one after another.
-ghost use Rattle.std.specs.Prelude.{◌≡◌, ◌≤◌, ◌<◌, ◌+◌, ◌-◌, ℕ, [], IsTrue, OnOk, length, take, slice_index, slice_index_or, sum_by};
+ghost use Rattle.std.specs.Prelude.{◌≡◌, ◌≤◌, ◌<◌, ◌+◌, ◌-◌, ℕ, [], All, IfOk, IsTrue, OnOk, length, replicate, take, slice_index, slice_index_or, sum_by};
 ghost use Rattle.std.specs.List.{slice_range};
 ghost use Rattle.basket_core.specs.Counts.{AllBelow};
 ghost use Rattle.basket_core.specs.Database.{MOST_WEIGHT};
 ghost use Rattle.basket_core.specs.Itemset.{IsRising};
 ghost use Rattle.mine_classes.specs.declared.span.Span.{Span as Run};
-ghost use Rattle.mine_classes.specs.Runs.{HaveRuns, runs_of, with_run};
-ghost use Rattle.mine_classes.specs.Span.{IsWithin};
+ghost use Rattle.mine_classes.specs.Ordered.{AreRankBaskets};
+ghost use Rattle.mine_classes.specs.Runs.{HaveAllRuns, HaveRuns, runs_of, with_run};
+ghost use Rattle.mine_classes.specs.Span.{IsWithin, baskets_at};
 
+use crate::ordered::Ordered;
 use crate::span::Span;
-use std::alloc::AllocError;
+use std::alloc::{AllocError, Global};
+use std::marker::Model;
+
+/// Baskets of ranks that lie one after another, and the runs of each rank in them. A run is a place
+/// where the rank stands after some others: the ranks before it are its path, and its weight is that
+/// of the neighbours that share the path and the rank. Where the baskets are in lexicographic order,
+/// a run is a node of their prefix tree (Han, Pei and Yin 2000).
+#[derive(Debug, Drop)]
+pub struct Runs {
+    count: u32,
+    ranks: Vec<u32>,
+    baskets: Vec<Span>,
+    of: Vec<Vec<Span>>,
+}
+
+impl Model for Runs {
+    ghost use Rattle.mine_classes.specs.Ordered.{RankBaskets, AreRankBaskets};
+    ghost use Rattle.mine_classes.specs.Runs.{HaveAllRuns, runs_of};
+    ghost use Rattle.mine_classes.specs.Span.{baskets_at};
+
+    ghost Value = { RankBaskets };
+
+    ghost view = { λ r. record { ranks = r.count; baskets = baskets_at r.ranks.items r.baskets.items } };
+
+    ghost invariant = { λ r. AreRankBaskets (record { ranks = r.count; baskets = baskets_at r.ranks.items r.baskets.items })
+        × HaveAllRuns r.count r.ranks.items (baskets_at r.ranks.items r.baskets.items) (runs_of r.of.items) };
+}
+
+impl Runs {
+    /// The runs of the baskets.
+    pub fn of(alloc: Global, ordered: Ordered) -> Result<Self, AllocError>
+        ensures { IfOk result (λ runs. runs ≡ ordered) }
+    {
+        let (count, ranks, baskets) = ordered.into_parts();
+        let of = all_runs(alloc, count, &ranks, &baskets)?;
+        Ok(Runs {
+            count,
+            ranks,
+            baskets,
+            of,
+        })
+    }
+}
+
+/// An empty list of runs for each rank.
+fn no_runs(alloc: Global, count: u32) -> Result<Vec<Vec<Span>>, AllocError>
+    ensures { IfOk result (λ of. runs_of of.items ≡ replicate count []) }
+{
+    let mut of = Vec::with_capacity(alloc, count as usize)?;
+    for _rank in 0..count {
+        of.push(Vec::new(alloc))?;
+    }
+    Ok(of)
+}
+
+/// The runs of each rank.
+fn all_runs(
+    alloc: Global,
+    count: u32,
+    ranks: &[u32],
+    baskets: &[Span],
+) -> Result<Vec<Vec<Span>>, AllocError>
+    requires within { All (IsWithin (length ranks.now)) baskets.now }
+    requires ranked { AreRankBaskets (record { ranks = count; baskets = baskets_at ranks.now baskets.now }) }
+    ensures { IfOk result (λ of. HaveAllRuns count ranks.now (baskets_at ranks.now baskets.now) (runs_of of.items)) }
+{
+    let mut of = no_runs(alloc, count)?;
+    let mut last = &ranks[..0];
+    for basket in baskets {
+        let path = basket.of(ranks);
+        let same = shared(last, path);
+        add_runs(&mut of, ranks, *basket, same)?;
+        last = path;
+    }
+    Ok(of)
+}
 
 /// How many ranks two baskets share at their beginnings.
 fn shared(a: &[u32], b: &[u32]) -> usize
