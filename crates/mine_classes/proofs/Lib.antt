@@ -5,3 +5,4 @@ mod OrderedLemmas
 mod RunLemmas
 mod RunStepLemmas
 mod RunLoopLemmas
+mod PairLemmas

@@ -3,4 +3,5 @@ pub mod Classes
 pub mod Span
 pub mod Ordered
 pub mod Runs
+pub mod Pairs
 pub mod Worked

@@ -3,6 +3,7 @@
 
 pub mod laws;
 mod ordered;
+mod pairs;
 mod runs;
 mod span;
 pub mod worked;
