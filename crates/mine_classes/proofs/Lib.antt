@@ -6,3 +6,4 @@ mod RunLemmas
 mod RunStepLemmas
 mod RunLoopLemmas
 mod PairLemmas
+mod SumLemmas

@@ -6,6 +6,7 @@ use Rattle.basket_core.specs.Counts.{AllBelow}
 use Rattle.basket_core.specs.Itemset.{has}
 use Rattle.basket_core.specs.Support.{support_of}
 use Rattle.mine_classes.specs.Conditional.{is_kept}
+use Rattle.mine_classes.specs.Ordered.{weight_where}
 
 -- the ranks below a rank that are frequent together with it, by a least support
 abbrev pub kept_ranks : List Weighted → ℕ → ℕ → List ℕ
@@ -28,3 +29,11 @@ WithBasket basket weight old new = (rank : ℕ) → rank < length old → slice_
 -- whether a sum is a support that is asked for
 abbrev pub is_met : ℕ → ℕ → Bool
 is_met least sum = nat_le 1 sum && nat_le least sum
+
+-- the weight of the baskets that have a rank
+abbrev pub weight_with : ℕ → List Weighted → ℕ
+weight_with rank baskets = weight_where (λ basket. has basket rank) baskets
+
+-- the ranks below a number that stand in baskets of at least so much weight, each with that weight
+abbrev pub ranks_met : ℕ → ℕ → List Weighted → List (ℕ × ℕ)
+ranks_met count least baskets = map (λ rank. (rank, weight_with rank baskets)) (filter (λ rank. is_met least (weight_with rank baskets)) (range_with_len 0 count))

@@ -9,4 +9,5 @@ mod span;
 pub mod worked;
 
 pub use ordered::Ordered;
+pub use pairs::Sums;
 pub use runs::Runs;

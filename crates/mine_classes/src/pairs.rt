@@ -1,12 +1,88 @@
 //! Supports of pairs of ranks.
-ghost use Rattle.std.specs.Prelude.{◌≡◌, ◌≤◌, ◌<◌, ◌+◌, ℕ, [], IfOk, OnOk, filter, length, map, replicate, slice_index};
+ghost use Rattle.std.specs.Prelude.{◌≡◌, ◌≤◌, ◌<◌, ◌+◌, ℕ, [], All, IfOk, OnOk, filter, length, map, replicate, slice_index};
 ghost use Rattle.basket_core.specs.Counts.{AllBelow};
 ghost use Rattle.basket_core.specs.Database.{MOST_WEIGHT};
 ghost use Rattle.basket_core.specs.Itemset.{IsRising, rising};
-ghost use Rattle.mine_classes.specs.Pairs.{AreSums, WithBasket, is_met};
+ghost use Rattle.mine_classes.specs.Ordered.{AreRankBaskets};
+ghost use Rattle.mine_classes.specs.Pairs.{AreSums, WithBasket, is_met, ranks_met, weight_with};
+ghost use Rattle.mine_classes.specs.Span.{IsWithin, baskets_at};
 
-use std::alloc::{AllocError, Global};
+use crate::span::Span;
 use basket_core::Itemset;
+use std::alloc::{AllocError, Global};
+use std::marker::Model;
+
+/// A sum for each rank, used again from rank to rank.
+#[derive(Debug, Drop)]
+pub struct Sums {
+    sums: Vec<u64>,
+    found: Vec<u32>,
+}
+
+impl Model for Sums {
+    ghost use Rattle.std.specs.Prelude.{ℕ, [], ◌≡◌, length, replicate};
+
+    ghost Value = { ℕ };
+
+    ghost view = { λ s. length s.sums.items };
+
+    ghost invariant = { λ s. (s.sums.items ≡ replicate (length s.sums.items) 0) × (s.found.items ≡ []) };
+}
+
+impl Sums {
+    /// The sums for so many ranks.
+    pub fn new(alloc: Global, count: u32) -> Result<Self, AllocError>
+        ensures { IfOk result (λ sums. sums ≡ count) }
+    {
+        Ok(Sums {
+            sums: vec![in alloc; 0; count as usize]?,
+            found: Vec::new(alloc),
+        })
+    }
+
+    /// The ranks that stand in baskets of at least so much weight, rising, each with that weight.
+    /// The baskets are parts of the list of ranks.
+    pub fn of_spans(
+        &mut self,
+        alloc: Global,
+        ranks: &[u32],
+        baskets: &[Span],
+        least: u64,
+    ) -> Result<Vec<(u32, u64)>, AllocError>
+        requires within { All (IsWithin (length ranks.now)) baskets.now }
+        requires ranked { AreRankBaskets (record { ranks = self.old; baskets = baskets_at ranks.now baskets.now }) }
+        ensures met { IfOk result (λ met. met.items ≡ ranks_met self.old least (baskets_at ranks.now baskets.now)) }
+        ensures sums { self.new ≡ self.old }
+    {
+        let summed = add_up(&mut self.sums, &mut self.found, ranks, baskets);
+        let met = match summed {
+            Ok(()) => met(alloc, &self.sums, &self.found, least),
+            Err(error) => Err(error),
+        };
+        clear(&mut self.sums, &mut self.found);
+        met
+    }
+}
+
+/// Adds the weights of baskets to the sums of their ranks.
+fn add_up(
+    sums: &mut [u64],
+    found: &mut Vec<u32>,
+    ranks: &[u32],
+    baskets: &[Span],
+) -> Result<(), AllocError>
+    requires zero { sums.old ≡ replicate (length sums.old) 0 }
+    requires none { found.old.items ≡ [] }
+    requires within { All (IsWithin (length ranks.now)) baskets.now }
+    requires ranked { AreRankBaskets (record { ranks = length sums.old; baskets = baskets_at ranks.now baskets.now }) }
+    ensures sums { AreSums (length sums.old) sums.new found.new.items }
+    ensures added { OnOk result ((rank : ℕ) → rank < length sums.old → slice_index sums.new rank ≡ weight_with rank (baskets_at ranks.now baskets.now)) }
+{
+    for basket in baskets {
+        add_basket(sums, found, basket.of(ranks), basket.weight)?;
+    }
+    Ok(())
+}
 
 /// Adds the weight of a basket to the sum of each of its ranks, and lists the ranks whose sums were 0.
 fn add_basket(

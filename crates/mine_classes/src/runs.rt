@@ -6,10 +6,12 @@ ghost use Rattle.basket_core.specs.Database.{MOST_WEIGHT};
 ghost use Rattle.basket_core.specs.Itemset.{IsRising};
 ghost use Rattle.mine_classes.specs.declared.span.Span.{Span as Run};
 ghost use Rattle.mine_classes.specs.Ordered.{AreRankBaskets};
-ghost use Rattle.mine_classes.specs.Runs.{HaveAllRuns, HaveRuns, runs_of, with_run};
+ghost use Rattle.mine_classes.specs.Pairs.{pairs_of};
+ghost use Rattle.mine_classes.specs.Runs.{AreRunsOf, HaveAllRuns, HaveRuns, runs_of, with_run};
 ghost use Rattle.mine_classes.specs.Span.{IsWithin, baskets_at};
 
 use crate::ordered::Ordered;
+use crate::pairs::Sums;
 use crate::span::Span;
 use std::alloc::{AllocError, Global};
 use std::marker::Model;
@@ -28,7 +30,8 @@ pub struct Runs {
 
 impl Model for Runs {
     ghost use Rattle.mine_classes.specs.Ordered.{RankBaskets, AreRankBaskets};
-    ghost use Rattle.mine_classes.specs.Runs.{HaveAllRuns, runs_of};
+    ghost use Rattle.mine_classes.specs.Pairs.{pairs_of};
+ghost use Rattle.mine_classes.specs.Runs.{AreRunsOf, HaveAllRuns, runs_of};
     ghost use Rattle.mine_classes.specs.Span.{baskets_at};
 
     ghost Value = { RankBaskets };
@@ -52,6 +55,35 @@ impl Runs {
             baskets,
             of,
         })
+    }
+}
+
+impl Runs {
+    /// The ranks of all baskets, and where the runs of a rank stand among them.
+    pub fn of_rank(&self, rank: u32) -> (&[u32], &[Span])
+        requires { rank < self.now.ranks }
+        ensures runs { AreRunsOf result.0.now self.now.baskets rank result.1.now }
+        ensures ranked { AreRankBaskets self.now }
+    {
+        (&self.ranks, &self.of[rank as usize])
+    }
+
+    /// The ranks below the rank that are frequent together with it, by a least support, each with
+    /// the support of the pair. Only the runs of the rank are looked at.
+    pub fn pairs(
+        &self,
+        alloc: Global,
+        sums: &mut Sums,
+        rank: u32,
+        least: u64,
+    ) -> Result<Vec<(u32, u64)>, AllocError>
+        requires rank { rank < self.now.ranks }
+        requires sums { sums.old ≡ self.now.ranks }
+        ensures pairs { IfOk result (λ pairs. pairs.items ≡ pairs_of self.now.baskets least rank) }
+        ensures sums { sums.new ≡ sums.old }
+    {
+        let (ranks, runs) = self.of_rank(rank);
+        sums.of_spans(alloc, ranks, runs, least)
     }
 }
 
