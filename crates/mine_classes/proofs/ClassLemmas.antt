@@ -6,15 +6,15 @@ use Rattle.std.specs.List.{IsDistinct, list_all}
 use Rattle.std.proofs.lemmas.Bool.{cases_Bool, and_parts, and_from, eqb-true, eq-eqb, ltb-true, lt-ltb, true≢false}
 use Rattle.std.proofs.lemmas.List.{append_cancel_right}
 use Rattle.std.proofs.lemmas.List.Elements.{All-from_recursion, recursion_from_All}
-use Rattle.basket_core.specs.declared.weighted.Weighted.{Weighted}
-use Rattle.basket_core.specs.declared.counted.Counted.{Counted}
-use Rattle.basket_core.specs.declared.minimum.Minimum.TheVariants.{Count}
-use Rattle.basket_core.specs.Itemset.{IsRising}
-use Rattle.basket_core.specs.Frequent.{IsNonemptySet, counted, is_frequent}
-use Rattle.basket_core.specs.Support.{support_of, total_of}
-use Rattle.basket_core.proofs.Members.{Member, All-from_Member, at_Member, Member-append, Member-append_left, Member-append_right, Member-map, Member-from_map, Member-from_Contains, Contains-from_Member}
-use Rattle.basket_core.proofs.Rising.{nil_rises, cons_rises, first_below, rest_rises, contains_each}
-use Rattle.basket_core.proofs.SupportLemmas.{subsets_are_frequent, at_least_one}
+use Rattle.basket_sets.specs.declared.weighted.Weighted.{Weighted}
+use Rattle.basket_sets.specs.declared.counted.Counted.{Counted}
+use Rattle.basket_sets.specs.declared.minimum.Minimum.TheVariants.{Count}
+use Rattle.basket_sets.specs.Itemset.{IsRising}
+use Rattle.basket_sets.specs.Frequent.{IsNonemptySet, counted, is_frequent}
+use Rattle.basket_sets.specs.Support.{support_of, total_of}
+use Rattle.basket_sets.proofs.theory.Members.{Member, All-from_Member, at_Member, Member-append, Member-append_left, Member-append_right, Member-map, Member-from_map, Member-from_Contains, Contains-from_Member}
+use Rattle.basket_sets.proofs.theory.Rising.{nil_rises, cons_rises, first_below, rest_rises, contains_each}
+use Rattle.basket_sets.proofs.theory.Support.{subsets_are_frequent, at_least_one}
 use Rattle.mine_classes.specs.Conditional.{is_kept, conditional}
 use Rattle.mine_classes.specs.Classes.{ends_in, with_rank, extended, ClassesAreConditional, RareRanksHaveNoClass}
 use Rattle.mine_classes.proofs.ConditionalLemmas.{all_each, each_all, conditional_supports}

@@ -3,13 +3,13 @@ use Rattle.std.proofs.Common.{◌≡◌, ℕ, ◌+◌, Bool, true, false, ◌&&�
 use Rattle.std.specs.List.{filter, flat_map, list_all}
 use Rattle.std.proofs.lemmas.Bool.{and_parts, and_from}
 use Rattle.std.proofs.lemmas.List.Folds.{list_all-append}
-use Rattle.basket_core.specs.declared.weighted.Weighted.{Weighted}
-use Rattle.basket_core.specs.Database.{weighted}
-use Rattle.basket_core.specs.Itemset.{has, contains}
-use Rattle.basket_core.specs.Support.{weight_at, support_of}
-use Rattle.basket_core.proofs.Members.{Member, Member-filter, Member-from_filter}
-use Rattle.basket_core.proofs.Rising.{has_each, contains_each}
-use Rattle.basket_core.proofs.SupportLemmas.{support-append, support-cons}
+use Rattle.basket_sets.specs.declared.weighted.Weighted.{Weighted}
+use Rattle.basket_sets.specs.Database.{weighted}
+use Rattle.basket_sets.specs.Itemset.{has, contains}
+use Rattle.basket_sets.specs.Support.{weight_at, support_of}
+use Rattle.basket_sets.proofs.theory.Members.{Member, Member-filter, Member-from_filter}
+use Rattle.basket_sets.proofs.theory.Rising.{has_each, contains_each}
+use Rattle.basket_sets.proofs.theory.Support.{support-append, support-cons}
 use Rattle.mine_classes.specs.Conditional.{is_kept, kept_place, ConditionalSupports}
 
 -- ---- tests

@@ -5,10 +5,10 @@ use Rattle.std.specs.List.{filter}
 use Rattle.std.proofs.lemmas.Bool.{cases_Bool, cases_eq, cases_lt, eqb-true, eq-eqb, ltb-true, true≢false}
 use Rattle.std.proofs.lemmas.List.{ext_get_or, get_or-replicate, get_or-set_same, get_or-set_other, length-replicate, length-set, take_all}
 use Rattle.std.proofs.lemmas.List.Folds.{list_any_more}
-use Rattle.basket_core.specs.Counts.{AllBelow}
-use Rattle.basket_core.specs.Itemset.{IsRising, has, rising}
-use Rattle.basket_core.proofs.Members.{Member, Member-append, Member-append_left, Member-append_right, Member-filter}
-use Rattle.basket_core.proofs.Rising.{Member-from_has, has-from_Member, Member-rising}
+use Rattle.basket_sets.specs.Counts.{AllBelow}
+use Rattle.basket_sets.specs.Itemset.{IsRising, has, rising}
+use Rattle.basket_sets.proofs.theory.Members.{Member, Member-append, Member-append_left, Member-append_right, Member-filter}
+use Rattle.basket_sets.proofs.theory.Rising.{Member-from_has, has-from_Member, Member-rising}
 use Rattle.mine_classes.specs.Pairs.{AreSums, WithBasket}
 use Rattle.mine_classes.proofs.RunLemmas.{Member-at}
 use Rattle.mine_classes.proofs.RunStepLemmas.{front_is}

@@ -6,10 +6,10 @@ use Rattle.std.proofs.lemmas.Bool.{cases_lt}
 use Rattle.std.specs.List.{slice_range}
 use Rattle.mine_classes.specs.Span.{IsWithin}
 use Rattle.std.proofs.lemmas.List.{length-drop, length-take, get_or-map, get_or-set_same, get_or-set_other, length-map, length-set, map-set}
-use Rattle.basket_core.specs.Counts.{AllBelow}
-use Rattle.basket_core.specs.Itemset.{IsRising}
-use Rattle.basket_core.proofs.Members.{Member}
-use Rattle.basket_core.proofs.Rising.{first_below, has-from_Member, rest_rises}
+use Rattle.basket_sets.specs.Counts.{AllBelow}
+use Rattle.basket_sets.specs.Itemset.{IsRising}
+use Rattle.basket_sets.proofs.theory.Members.{Member}
+use Rattle.basket_sets.proofs.theory.Rising.{first_below, has-from_Member, rest_rises}
 use Rattle.mine_classes.specs.declared.span.Span.{Span}
 use Rattle.mine_classes.specs.Runs.{HaveRuns, run_at, runs_of, with_last_heavier, with_run}
 

@@ -8,13 +8,13 @@ use Rattle.std.proofs.lemmas.List.{get_or_default, get_or-map, length-map, lengt
 use Rattle.std.proofs.lemmas.List.Elements.{All-from_recursion}
 use Rattle.std.proofs.lemmas.List.Kept.{IsStrictlySortedBy-filter}
 use Rattle.std.proofs.lemmas.List.Sums.{sum_by-cons, sum_by_more_le}
-use Rattle.basket_core.specs.declared.weighted.Weighted.{Weighted}
-use Rattle.basket_core.specs.Database.{MOST_WEIGHT, weighted}
-use Rattle.basket_core.specs.Itemset.{IsRising, contains, has}
-use Rattle.basket_core.specs.Support.{support_of, total_of, weight_at}
-use Rattle.basket_core.proofs.Members.{Member, Member-filter, Contains-from_Member}
-use Rattle.basket_core.proofs.Rising.{Member-from_has, has-from_Member}
-use Rattle.basket_core.proofs.SupportLemmas.{support_falls}
+use Rattle.basket_sets.specs.declared.weighted.Weighted.{Weighted}
+use Rattle.basket_sets.specs.Database.{MOST_WEIGHT, weighted}
+use Rattle.basket_sets.specs.Itemset.{IsRising, contains, has}
+use Rattle.basket_sets.specs.Support.{support_of, total_of, weight_at}
+use Rattle.basket_sets.proofs.theory.Members.{Member, Member-filter, Contains-from_Member}
+use Rattle.basket_sets.proofs.theory.Rising.{Member-from_has, has-from_Member}
+use Rattle.basket_sets.proofs.theory.Support.{support_falls}
 use Rattle.mine_classes.specs.declared.span.Span.{Span}
 use Rattle.mine_classes.specs.Ordered.{IsRankBasket, repeats_last}
 use Rattle.mine_classes.specs.Runs.{AreRunsOf, HaveAllRuns, HaveRuns, below, run_at, with_run}

@@ -10,11 +10,11 @@ use Rattle.std.proofs.lemmas.List.{map-append, take-take}
 use Rattle.std.proofs.lemmas.List.Elements.{All-from_recursion, recursion_from_All}
 use Rattle.std.proofs.lemmas.List.Kept.{IsStrictlySortedBy-filter}
 use Rattle.std.proofs.lemmas.List.Sums.{sum_by-cons, sum_by-append}
-use Rattle.basket_core.specs.declared.weighted.Weighted.{Weighted}
-use Rattle.basket_core.specs.Database.{HasWeight, weighted}
-use Rattle.basket_core.specs.Itemset.{IsRising, has}
-use Rattle.basket_core.proofs.Members.{Member, Member-filter, Contains-from_Member}
-use Rattle.basket_core.proofs.Rising.{Member-from_has, has-from_Member, first_below, rest_rises}
+use Rattle.basket_sets.specs.declared.weighted.Weighted.{Weighted}
+use Rattle.basket_sets.specs.Database.{HasWeight, weighted}
+use Rattle.basket_sets.specs.Itemset.{IsRising, has}
+use Rattle.basket_sets.proofs.theory.Members.{Member, Member-filter, Contains-from_Member}
+use Rattle.basket_sets.proofs.theory.Rising.{Member-from_has, has-from_Member, first_below, rest_rises}
 use Rattle.mine_classes.specs.declared.span.Span.{Span}
 use Rattle.mine_classes.specs.Conditional.{kept_place}
 use Rattle.mine_classes.specs.Ordered.{HaveSameWeights, IsRankBasket, repeats_last, weight_where, with_last_raised}

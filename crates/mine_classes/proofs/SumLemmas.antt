@@ -8,16 +8,16 @@ use Rattle.std.proofs.lemmas.List.{get_or-map, get_or_default, length-map, take_
 use Rattle.std.proofs.lemmas.List.Elements.{All-weaker}
 use Rattle.std.proofs.lemmas.List.Kept.{IsStrictlySortedBy-filter}
 use Rattle.std.proofs.lemmas.List.Sums.{sum_by-cons, sum_by-append, sum_by-le-sum_by, sum_by_more_le}
-use Rattle.basket_core.specs.declared.weighted.Weighted.{Weighted}
-use Rattle.basket_core.specs.declared.minimum.Minimum.TheVariants.{Count}
-use Rattle.basket_core.specs.Counts.{AllBelow}
-use Rattle.basket_core.specs.Database.{MOST_WEIGHT}
-use Rattle.basket_core.specs.Frequent.{is_frequent}
-use Rattle.basket_core.specs.Itemset.{IsRising, contains, has, rising}
-use Rattle.basket_core.specs.Support.{support_of, total_of, weight_at}
-use Rattle.basket_core.proofs.Members.{Member, Member-filter, Member-from_filter, Member-append}
-use Rattle.basket_core.proofs.Rising.{Member-from_has, has-from_Member, Member-rising, Member-into_rising, cons_rises, nil_rises, rising-rises, same_rising}
-use Rattle.basket_core.proofs.SupportLemmas.{support_falls}
+use Rattle.basket_sets.specs.declared.weighted.Weighted.{Weighted}
+use Rattle.basket_sets.specs.declared.minimum.Minimum.TheVariants.{Count}
+use Rattle.basket_sets.specs.Counts.{AllBelow}
+use Rattle.basket_sets.specs.Database.{MOST_WEIGHT}
+use Rattle.basket_sets.specs.Frequent.{is_frequent}
+use Rattle.basket_sets.specs.Itemset.{IsRising, contains, has, rising}
+use Rattle.basket_sets.specs.Support.{support_of, total_of, weight_at}
+use Rattle.basket_sets.proofs.theory.Members.{Member, Member-filter, Member-from_filter, Member-append}
+use Rattle.basket_sets.proofs.theory.Rising.{Member-from_has, has-from_Member, Member-rising, Member-into_rising, cons_rises, nil_rises, rising-rises, same_rising}
+use Rattle.basket_sets.proofs.theory.Support.{support_falls}
 use Rattle.mine_classes.specs.declared.span.Span.{Span}
 use Rattle.mine_classes.specs.Conditional.{is_kept}
 use Rattle.mine_classes.specs.Ordered.{AreRankBaskets, IsRankBasket}

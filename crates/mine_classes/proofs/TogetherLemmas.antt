@@ -6,18 +6,18 @@ use Rattle.std.specs.List.{AllByRecursion, Contains, IsDistinct, filter, flat_ma
 use Rattle.std.proofs.lemmas.Bool.{leb-true, le-leb}
 use Rattle.std.proofs.lemmas.List.{map-append}
 use Rattle.std.proofs.lemmas.List.Elements.{All-from_recursion, All-weaker, recursion_from_All}
-use Rattle.basket_core.specs.declared.weighted.Weighted.{Weighted}
-use Rattle.basket_core.specs.declared.counted.Counted.{Counted}
-use Rattle.basket_core.specs.declared.minimum.Minimum.{Minimum}
-use Rattle.basket_core.specs.declared.minimum.Minimum.TheVariants.{Count}
+use Rattle.basket_sets.specs.declared.weighted.Weighted.{Weighted}
+use Rattle.basket_sets.specs.declared.counted.Counted.{Counted}
+use Rattle.basket_sets.specs.declared.minimum.Minimum.{Minimum}
+use Rattle.basket_sets.specs.declared.minimum.Minimum.TheVariants.{Count}
 use Rattle.basket_core.specs.Codes.{IsCodedPlace, DecodingKeepsFrequent, baskets_of, decoded_set}
-use Rattle.basket_core.specs.Frequent.{IsNonemptySet, ListsOnce, counted, frequent_of, is_frequent}
-use Rattle.basket_core.specs.Minimum.{IsLeastSupport}
-use Rattle.basket_core.specs.Support.{support_of, total_of}
-use Rattle.basket_core.proofs.Members.{Member, All-from_Member, at_Member, Member-append, Member-append_left, Member-append_right, Member-filter, Member-from_filter, Member-map, Member-from_map, Member-from_Contains, Contains-from_Member}
-use Rattle.basket_core.proofs.Rising.{has-from_Member}
-use Rattle.basket_core.proofs.SupportLemmas.{support_falls, at_least_one, in_items}
-use Rattle.basket_core.proofs.FrequentLemmas.{frequent_once}
+use Rattle.basket_sets.specs.Frequent.{IsNonemptySet, ListsOnce, counted, frequent_of, is_frequent}
+use Rattle.basket_sets.specs.Minimum.{IsLeastSupport}
+use Rattle.basket_sets.specs.Support.{support_of, total_of}
+use Rattle.basket_sets.proofs.theory.Members.{Member, All-from_Member, at_Member, Member-append, Member-append_left, Member-append_right, Member-filter, Member-from_filter, Member-map, Member-from_map, Member-from_Contains, Contains-from_Member}
+use Rattle.basket_sets.proofs.theory.Rising.{has-from_Member}
+use Rattle.basket_sets.proofs.theory.Support.{support_falls, at_least_one, in_items}
+use Rattle.basket_sets.proofs.theory.Frequent.{frequent_once}
 use Rattle.mine_classes.specs.Classes.{ends_in, class_of, ListsClass, ClassesAreListed, ClassesAreAll, SupportsSettleFrequent, LeastSupportSettles, DecodedClassesAreAll}
 use Rattle.mine_classes.proofs.ClassLemmas.{sets, Member-sets, Member-end, some_end, one_end, apart}
 

@@ -1,12 +1,12 @@
 -- The baskets that have a rank, kept to what a set with that rank can have.
 use Rattle.std.specs.Prelude.{◌≡◌, ◌≢◌, ◌++◌, ℕ, Bool, ◌&&◌, List, [], ◌∷◌, filter, nat_lt, if◌then◌else◌}
 use Rattle.std.specs.List.{flat_map, list_all}
-use Rattle.basket_core.specs.declared.weighted.Weighted.{Weighted}
-use Rattle.basket_core.specs.declared.minimum.Minimum.TheVariants.{Count}
-use Rattle.basket_core.specs.Database.{weighted}
-use Rattle.basket_core.specs.Frequent.{is_frequent}
-use Rattle.basket_core.specs.Itemset.{has}
-use Rattle.basket_core.specs.Support.{support_of}
+use Rattle.basket_sets.specs.declared.weighted.Weighted.{Weighted}
+use Rattle.basket_sets.specs.declared.minimum.Minimum.TheVariants.{Count}
+use Rattle.basket_sets.specs.Database.{weighted}
+use Rattle.basket_sets.specs.Frequent.{is_frequent}
+use Rattle.basket_sets.specs.Itemset.{has}
+use Rattle.basket_sets.specs.Support.{support_of}
 
 -- whether a rank is below another one and frequent together with it, by a least support
 abbrev pub is_kept : List Weighted → ℕ → ℕ → ℕ → Bool

@@ -2,11 +2,11 @@
 use Rattle.std.specs.Prelude.{◌≡◌, ◌≤◌, ◌+◌, ◌++◌, ℕ, Bool, false, List, [], ◌∷◌, fold, map, All, if◌then◌else◌, nat_eq}
 use Rattle.std.specs.Cmp.Lexicographic.{pointwise}
 use Rattle.std.specs.List.{sum_by}
-use Rattle.basket_core.specs.declared.weighted.Weighted.{Weighted}
-use Rattle.basket_core.specs.Counts.{AllBelow}
-use Rattle.basket_core.specs.Database.{HasWeight, MOST_WEIGHT, weighted}
-use Rattle.basket_core.specs.Itemset.{IsRising}
-use Rattle.basket_core.specs.Support.{total_of}
+use Rattle.basket_sets.specs.declared.weighted.Weighted.{Weighted}
+use Rattle.basket_sets.specs.Counts.{AllBelow}
+use Rattle.basket_sets.specs.Database.{HasWeight, MOST_WEIGHT, weighted}
+use Rattle.basket_sets.specs.Itemset.{IsRising}
+use Rattle.basket_sets.specs.Support.{total_of}
 use Rattle.mine_classes.specs.declared.ordered.Entry.{Entry}
 
 -- a basket of ranks: they rise, and each is below a number of ranks

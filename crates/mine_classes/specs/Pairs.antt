@@ -1,10 +1,10 @@
 -- Supports of pairs, by a sum for each rank.
 use Rattle.std.specs.Prelude.{◌≡◌, ◌<◌, ◌+◌, ◌++◌, ℕ, Bool, ◌&&◌, IsTrue, List, [], ◌∷◌, filter, length, map, nat_le, slice_index, if◌then◌else◌}
 use Rattle.std.specs.List.{range_with_len}
-use Rattle.basket_core.specs.declared.weighted.Weighted.{Weighted}
-use Rattle.basket_core.specs.Counts.{AllBelow}
-use Rattle.basket_core.specs.Itemset.{has}
-use Rattle.basket_core.specs.Support.{support_of}
+use Rattle.basket_sets.specs.declared.weighted.Weighted.{Weighted}
+use Rattle.basket_sets.specs.Counts.{AllBelow}
+use Rattle.basket_sets.specs.Itemset.{has}
+use Rattle.basket_sets.specs.Support.{support_of}
 use Rattle.mine_classes.specs.Conditional.{is_kept}
 use Rattle.mine_classes.specs.Ordered.{weight_where}
 

@@ -1,8 +1,8 @@
 -- Parts of a list of ranks, with weights.
 use Rattle.std.specs.Prelude.{◌≡◌, ◌≤◌, ℕ, List, map}
 use Rattle.std.specs.List.{slice_range}
-use Rattle.basket_core.specs.declared.weighted.Weighted.{Weighted}
-use Rattle.basket_core.specs.Database.{weighted}
+use Rattle.basket_sets.specs.declared.weighted.Weighted.{Weighted}
+use Rattle.basket_sets.specs.Database.{weighted}
 use Rattle.mine_classes.specs.declared.span.Span.{Span}
 
 -- the part lies in a list of so many ranks

@@ -1,8 +1,8 @@
 -- A worked example: the nine baskets as ranks.
 use Rattle.std.specs.Prelude.{List, [], ◌∷◌}
-use Rattle.basket_core.specs.declared.weighted.Weighted.{Weighted}
-use Rattle.basket_core.specs.declared.counted.Counted.{Counted}
-use Rattle.basket_core.specs.Worked.{each_once, set}
+use Rattle.basket_sets.specs.declared.weighted.Weighted.{Weighted}
+use Rattle.basket_sets.specs.declared.counted.Counted.{Counted}
+use Rattle.basket_sets.specs.Worked.{each_once, set}
 
 -- ranks 0 to 4 are the items 2, 1, 3, 4 and 5
 abbrev pub nine_by_rank : List Weighted

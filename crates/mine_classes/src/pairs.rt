@@ -1,8 +1,8 @@
 //! Supports of pairs of ranks.
 ghost use Rattle.std.specs.Prelude.{◌≡◌, ◌≤◌, ◌<◌, ◌+◌, ℕ, [], All, IfOk, OnOk, filter, length, map, replicate, slice_index};
-ghost use Rattle.basket_core.specs.Counts.{AllBelow};
-ghost use Rattle.basket_core.specs.Database.{MOST_WEIGHT};
-ghost use Rattle.basket_core.specs.Itemset.{IsRising, rising};
+ghost use Rattle.basket_sets.specs.Counts.{AllBelow};
+ghost use Rattle.basket_sets.specs.Database.{MOST_WEIGHT};
+ghost use Rattle.basket_sets.specs.Itemset.{IsRising, rising};
 ghost use Rattle.mine_classes.specs.Ordered.{AreRankBaskets};
 ghost use Rattle.mine_classes.specs.Pairs.{AreSums, WithBasket, is_met, ranks_met, weight_with};
 ghost use Rattle.mine_classes.specs.Span.{IsWithin, baskets_at};

@@ -1,9 +1,9 @@
 //! The places where each rank stands in baskets that lie one after another.
 ghost use Rattle.std.specs.Prelude.{◌≡◌, ◌≤◌, ◌<◌, ◌+◌, ◌-◌, ℕ, [], All, IfOk, IsTrue, OnOk, length, replicate, take, slice_index, slice_index_or, sum_by};
 ghost use Rattle.std.specs.List.{slice_range};
-ghost use Rattle.basket_core.specs.Counts.{AllBelow};
-ghost use Rattle.basket_core.specs.Database.{MOST_WEIGHT};
-ghost use Rattle.basket_core.specs.Itemset.{IsRising};
+ghost use Rattle.basket_sets.specs.Counts.{AllBelow};
+ghost use Rattle.basket_sets.specs.Database.{MOST_WEIGHT};
+ghost use Rattle.basket_sets.specs.Itemset.{IsRising};
 ghost use Rattle.mine_classes.specs.declared.span.Span.{Span as Run};
 ghost use Rattle.mine_classes.specs.Ordered.{AreRankBaskets};
 ghost use Rattle.mine_classes.specs.Pairs.{pairs_of};

@@ -1,8 +1,8 @@
 use Rattle.std.proofs.Common.{◌≡◌, ◌<◌, ℕ, true, false, length, get_or, subst, sym, ap, ◌∙◌, inl, inr, arith}
 use Rattle.std.proofs.lemmas.Bool.{cases_Bool, true≢false}
 use Rattle.std.proofs.lemmas.List.{take_all}
-use Rattle.basket_core.specs.Counts.{AllBelow}
-use Rattle.basket_core.specs.Itemset.{has}
+use Rattle.basket_sets.specs.Counts.{AllBelow}
+use Rattle.basket_sets.specs.Itemset.{has}
 use Rattle.mine_classes.proofs.RunLemmas.{all_below_at}
 use Rattle.mine_classes.proofs.PairLemmas.{all_zero, not_listed}
 use Rattle.mine_classes.proofs.pairs.clear.Goals as goal

@@ -1,5 +1,5 @@
 use Rattle.std.proofs.Common.{◌≡◌, ℕ, true, take, get_or}
-use Rattle.basket_core.specs.Itemset.{has}
+use Rattle.basket_sets.specs.Itemset.{has}
 use Rattle.mine_classes.proofs.pairs.clear.Given as goal
 
 abbrev pub invariant-loop-rank : goal.invariant-loop-rank

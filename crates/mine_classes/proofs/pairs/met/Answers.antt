@@ -1,7 +1,7 @@
 use Rattle.std.proofs.Common.{ℕ, Bool, filter, get_or, length, sym, subst, ap, ◌∙◌}
 use Rattle.std.proofs.lemmas.List.{take_all}
-use Rattle.basket_core.specs.Counts.{AllBelow}
-use Rattle.basket_core.specs.Itemset.{rising}
+use Rattle.basket_sets.specs.Counts.{AllBelow}
+use Rattle.basket_sets.specs.Itemset.{rising}
 use Rattle.mine_classes.specs.Pairs.{is_met}
 use Rattle.mine_classes.proofs.RunLemmas.{all_below_at}
 use Rattle.mine_classes.proofs.PairLemmas.{below_rising}

@@ -1,9 +1,9 @@
 use Rattle.std.proofs.Common.{◌≡◌, ◌+◌, ◌-◌, ◌<◌, ◌≤◌, [], List, ℕ, length, get_or, set, ltb, subst, sym, ap, ◌∙◌, arith}
 use Rattle.std.specs.Prelude.{sum_by}
 use Rattle.std.proofs.lemmas.Bool.{ltb-true}
-use Rattle.basket_core.specs.Counts.{AllBelow}
-use Rattle.basket_core.specs.Database.{MOST_WEIGHT}
-use Rattle.basket_core.specs.Itemset.{IsRising}
+use Rattle.basket_sets.specs.Counts.{AllBelow}
+use Rattle.basket_sets.specs.Database.{MOST_WEIGHT}
+use Rattle.basket_sets.specs.Itemset.{IsRising}
 use Rattle.mine_classes.specs.declared.span.Span.{Span}
 use Rattle.mine_classes.specs.Runs.{HaveRuns, run_at, runs_of, with_run}
 use Rattle.mine_classes.proofs.RunLemmas.{all_below_at, have_more, length-runs_of, length-range, runs_at, runs_of-set, untouched}

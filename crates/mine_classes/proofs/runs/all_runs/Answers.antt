@@ -2,8 +2,8 @@ use Rattle.std.proofs.Common.{◌≡◌, ◌+◌, ◌-◌, ◌<◌, ◌≤◌, [
 use Rattle.std.specs.Prelude.{sum_by}
 use Rattle.std.specs.List.{slice_range}
 use Rattle.std.proofs.lemmas.List.{take_at, take_all, length-map, get_or-map}
-use Rattle.basket_core.specs.declared.weighted.Weighted.{Weighted}
-use Rattle.basket_core.specs.Database.{MOST_WEIGHT}
+use Rattle.basket_sets.specs.declared.weighted.Weighted.{Weighted}
+use Rattle.basket_sets.specs.Database.{MOST_WEIGHT}
 use Rattle.mine_classes.specs.declared.span.Span.{Span}
 use Rattle.mine_classes.specs.Ordered.{IsRankBasket, repeats_last}
 use Rattle.mine_classes.specs.Runs.{AreRunsOf, HaveAllRuns, HaveRuns, runs_of}

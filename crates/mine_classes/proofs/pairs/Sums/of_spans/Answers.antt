@@ -3,7 +3,7 @@ use Rattle.std.specs.Prelude.{IfOk, Vec}
 use Rattle.std.specs.declared.alloc.Global.{Global}
 use Rattle.std.proofs.lemmas.List.{take_at}
 use Rattle.std.proofs.lemmas.Result.{IfOk-weaker}
-use Rattle.basket_core.specs.Itemset.{rising}
+use Rattle.basket_sets.specs.Itemset.{rising}
 use Rattle.mine_classes.specs.Pairs.{AreSums, is_met, ranks_met, weight_with}
 use Rattle.mine_classes.specs.Span.{baskets_at}
 use Rattle.mine_classes.proofs.SumLemmas.{met_is}
