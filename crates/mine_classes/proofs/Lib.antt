@@ -7,3 +7,5 @@ mod RunStepLemmas
 mod RunLoopLemmas
 mod PairLemmas
 mod SumLemmas
+mod PlaceLemmas
+mod CodedLemmas

@@ -1,16 +1,15 @@
 -- Sums by rank.
-use Rattle.std.proofs.Common.{◌≡◌, ℕ, ◌+◌, ◌<◌, ◌≤◌, Bool, true, false, ◌||◌, List, [], ◌∷◌, ◌++◌, length, take, get_or, set, map, cond, eqb, ltb, refl, sym, ap, ◌∙◌, subst, inl, inr, arith, add-zero, zero, suc}
+use Rattle.std.proofs.Common.{◌≡◌, ℕ, ◌+◌, ◌<◌, Bool, true, false, ◌||◌, List, [], ◌∷◌, ◌++◌, length, take, get_or, set, cond, eqb, ltb, refl, sym, ap, ◌∙◌, subst, inl, inr, arith, add-zero}
 use Rattle.std.specs.Prelude.{replicate}
 use Rattle.std.specs.List.{filter}
 use Rattle.std.proofs.lemmas.Bool.{cases_Bool, cases_eq, cases_lt, eqb-true, eq-eqb, ltb-true, true≢false}
-use Rattle.std.proofs.lemmas.List.{ext_get_or, get_or-replicate, get_or-set_same, get_or-set_other, length-replicate, length-set, take_all}
+use Rattle.std.proofs.lemmas.List.{ext_get_or, get_or-replicate, get_or-set_same, get_or-set_other, length-replicate, length-set}
 use Rattle.std.proofs.lemmas.List.Folds.{list_any_more}
 use Rattle.basket_sets.specs.Counts.{AllBelow}
 use Rattle.basket_sets.specs.Itemset.{IsRising, has, rising}
 use Rattle.basket_sets.proofs.theory.Members.{Member, Member-append, Member-append_left, Member-append_right, Member-filter}
 use Rattle.basket_sets.proofs.theory.Rising.{Member-from_has, has-from_Member, Member-rising}
 use Rattle.mine_classes.specs.Pairs.{AreSums, WithBasket}
-use Rattle.mine_classes.proofs.RunLemmas.{Member-at}
 use Rattle.mine_classes.proofs.RunStepLemmas.{front_is}
 
 -- ---- a basket's ranks, one after another
@@ -24,7 +23,7 @@ not_before basket i up here = elim (cases_Bool (has (take i basket) (get_or bask
   | inr e ↦ e
 ]
 
-has_more : (basket : List ℕ) (i rank : ℕ) → i < length basket → has (take (i + 1) basket) rank ≡ (has (take i basket) rank || eqb (get_or basket i 0) rank)
+pub has_more : (basket : List ℕ) (i rank : ℕ) → i < length basket → has (take (i + 1) basket) rank ≡ (has (take i basket) rank || eqb (get_or basket i 0) rank)
 has_more basket i rank here = list_any_more (λ other. eqb other rank) basket i 0 here
 
 or_true : (b : Bool) → (b || true) ≡ true

@@ -1,7 +1,7 @@
 -- The runs of each rank, basket by basket.
-use Rattle.std.proofs.Common.{◌≡◌, ℕ, ◌+◌, ◌-◌, ◌<◌, ◌≤◌, Bool, true, false, List, [], ◌∷◌, ◌++◌, length, take, drop, get_or, map, cond, ltb, refl, sym, ap, ◌∙◌, subst, inl, inr, arith, zero, suc, add-zero}
+use Rattle.std.proofs.Common.{◌≡◌, ℕ, ◌+◌, ◌<◌, ◌≤◌, true, false, List, [], ◌∷◌, ◌++◌, length, take, get_or, cond, ltb, refl, sym, ap, ◌∙◌, subst, inl, inr, arith}
 use Rattle.std.specs.Prelude.{All, replicate}
-use Rattle.std.specs.List.{AllByRecursion, filter, slice_range, sum_by}
+use Rattle.std.specs.List.{filter, slice_range, sum_by}
 use Rattle.std.specs.Ordering.{nat_cmp}
 use Rattle.std.proofs.lemmas.Bool.{cases_Bool, ltb-true, true≢false}
 use Rattle.std.proofs.lemmas.List.{get_or_default, get_or-map, length-map, length-replicate, get_or-replicate, map-append, take-take, take_more, get_or-take}
@@ -10,14 +10,14 @@ use Rattle.std.proofs.lemmas.List.Kept.{IsStrictlySortedBy-filter}
 use Rattle.std.proofs.lemmas.List.Sums.{sum_by-cons, sum_by_more_le}
 use Rattle.basket_sets.specs.declared.weighted.Weighted.{Weighted}
 use Rattle.basket_sets.specs.Database.{MOST_WEIGHT, weighted}
-use Rattle.basket_sets.specs.Itemset.{IsRising, contains, has}
-use Rattle.basket_sets.specs.Support.{support_of, total_of, weight_at}
-use Rattle.basket_sets.proofs.theory.Members.{Member, Member-filter, Contains-from_Member}
+use Rattle.basket_sets.specs.Itemset.{contains, has}
+use Rattle.basket_sets.specs.Support.{total_of, weight_at}
+use Rattle.basket_sets.proofs.theory.Members.{Member-filter, Contains-from_Member}
 use Rattle.basket_sets.proofs.theory.Rising.{Member-from_has, has-from_Member}
 use Rattle.basket_sets.proofs.theory.Support.{support_falls}
 use Rattle.mine_classes.specs.declared.span.Span.{Span}
 use Rattle.mine_classes.specs.Ordered.{IsRankBasket, repeats_last}
-use Rattle.mine_classes.specs.Runs.{AreRunsOf, HaveAllRuns, HaveRuns, below, run_at, with_run}
+use Rattle.mine_classes.specs.Runs.{AreRunsOf, HaveAllRuns, HaveRuns, run_at, with_run}
 use Rattle.mine_classes.specs.Span.{IsWithin, basket_at, baskets_at}
 use Rattle.mine_classes.proofs.ConditionalLemmas.{kept_support}
 use Rattle.mine_classes.proofs.RunLemmas.{Member-at, length-range}
@@ -52,7 +52,6 @@ module _ (ranks : List ℕ) (count : ℕ) (basket : Span) (inside : IsWithin (le
   module _ (done : List Weighted) (shared : ℕ) (old new : List (List Span)) (have : HaveRuns path basket shared (length path) old new)
       (are : (rank : ℕ) → rank < count → AreRunsOf ranks done rank (get_or old rank []))
       (again : (k : ℕ) → k < shared → k < length path → repeats_last (baskets_at ranks (get_or old (get_or path k 0) [])) (take k path) ≡ true) where
-
     front_at : (k : ℕ) → k < length path → take k path ≡ (basket_at ranks (run_at basket k)).basket
     front_at k here = sym (front_range ranks basket.start basket.end k (ends k here))
 

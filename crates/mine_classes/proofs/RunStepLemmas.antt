@@ -1,24 +1,22 @@
 -- One basket more adds to the runs of its ranks.
-use Rattle.std.proofs.Common.{◌≡◌, ℕ, ◌+◌, ◌-◌, ◌<◌, ◌≤◌, Bool, true, false, List, [], ◌∷◌, ◌++◌, length, take, drop, get_or, map, cond, ltb, refl, sym, ap, ◌∙◌, subst, inl, inr, arith, zero, suc, add-zero, append-nil}
-use Rattle.std.specs.Prelude.{nat_eq, All}
-use Rattle.std.specs.Cmp.Lexicographic.{pointwise, bytes_decides}
-use Rattle.std.specs.List.{AllByRecursion, Contains, filter, flat_map, slice_range, sum_by}
-use Rattle.std.specs.Ordering.{nat_cmp}
-use Rattle.std.proofs.lemmas.Bool.{cases_Bool, cases_lt, lt-ltb, ltb-true, ltb-false, true≢false}
+use Rattle.std.proofs.Common.{◌≡◌, ℕ, ◌+◌, ◌-◌, ◌<◌, ◌≤◌, Bool, true, false, List, [], ◌∷◌, ◌++◌, length, take, drop, get_or, cond, ltb, refl, sym, ap, ◌∙◌, subst, inl, inr, arith, zero, suc, add-zero, append-nil}
+use Rattle.std.specs.Prelude.{All}
+use Rattle.std.specs.Cmp.Lexicographic.{bytes_decides}
+use Rattle.std.specs.List.{AllByRecursion, filter, slice_range}
+use Rattle.std.proofs.lemmas.Bool.{cases_Bool, lt-ltb, ltb-true}
 use Rattle.std.proofs.lemmas.Grind.{flat_map-append}
 use Rattle.std.proofs.lemmas.List.{map-append, take-take}
 use Rattle.std.proofs.lemmas.List.Elements.{All-from_recursion, recursion_from_All}
-use Rattle.std.proofs.lemmas.List.Kept.{IsStrictlySortedBy-filter}
 use Rattle.std.proofs.lemmas.List.Sums.{sum_by-cons, sum_by-append}
 use Rattle.basket_sets.specs.declared.weighted.Weighted.{Weighted}
-use Rattle.basket_sets.specs.Database.{HasWeight, weighted}
+use Rattle.basket_sets.specs.Database.{weighted}
 use Rattle.basket_sets.specs.Itemset.{IsRising, has}
-use Rattle.basket_sets.proofs.theory.Members.{Member, Member-filter, Contains-from_Member}
-use Rattle.basket_sets.proofs.theory.Rising.{Member-from_has, has-from_Member, first_below, rest_rises}
+use Rattle.basket_sets.proofs.theory.Members.{Member}
+use Rattle.basket_sets.proofs.theory.Rising.{first_below, rest_rises}
 use Rattle.mine_classes.specs.declared.span.Span.{Span}
 use Rattle.mine_classes.specs.Conditional.{kept_place}
-use Rattle.mine_classes.specs.Ordered.{HaveSameWeights, IsRankBasket, repeats_last, weight_where, with_last_raised}
-use Rattle.mine_classes.specs.Runs.{AreRunsOf, HaveRuns, below, run_at, with_last_heavier, with_run}
+use Rattle.mine_classes.specs.Ordered.{IsRankBasket, repeats_last, weight_where, with_last_raised}
+use Rattle.mine_classes.specs.Runs.{AreRunsOf, below, with_last_heavier}
 use Rattle.mine_classes.specs.Span.{IsWithin, basket_at, baskets_at}
 use Rattle.mine_classes.proofs.OrderedLemmas.{raised_all, raised_weight, pushed_all}
 use Rattle.mine_classes.proofs.RunLemmas.{Member-at}
@@ -100,7 +98,6 @@ weigh test place = cond (test place.basket) place.weight 0
 -- the runs of a rank after a basket that has it at a depth
 module _ (ranks : List ℕ) (rank : ℕ) (done : List Weighted) (place : Weighted) (run : Span) (runs : List Span) (here : has place.basket rank ≡ true) (is : IsRankBasket rank (basket_at ranks run))
     (run_is : basket_at ranks run ≡ weighted (filter (λ other. ltb other rank) place.basket) place.weight) (inside : IsWithin (length ranks) run) (are : AreRunsOf ranks done rank runs) where
-
   more_weight : (test : List ℕ → Bool) → weight_where test (below rank (done ++ place ∷ [])) ≡ weight_where test (baskets_at ranks runs) + cond (test (basket_at ranks run).basket) run.weight 0
   more_weight test =
       ap (weight_where test) (below_with rank place done here) ∙ sum_by-append (weigh test) (below rank done) (weighted (filter (λ other. ltb other rank) place.basket) place.weight ∷ [])

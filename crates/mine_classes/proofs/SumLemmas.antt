@@ -1,21 +1,19 @@
 -- Sums by rank as weights, and the supports of pairs.
-use Rattle.std.proofs.Common.{◌≡◌, ℕ, ◌+◌, ◌-◌, ◌<◌, ◌≤◌, Bool, true, false, ◌&&◌, List, [], ◌∷◌, ◌++◌, length, take, get_or, map, cond, leb, ltb, refl, sym, ap, ◌∙◌, subst, inl, inr, arith, add-zero, zero, suc}
-use Rattle.std.specs.Prelude.{All}
-use Rattle.std.specs.List.{filter, flat_map, range_with_len, sum_by}
+use Rattle.std.proofs.Common.{◌≡◌, ℕ, ◌+◌, ◌<◌, ◌≤◌, Bool, true, false, ◌&&◌, List, [], ◌∷◌, length, take, get_or, map, cond, leb, ltb, refl, sym, ap, ◌∙◌, inl, inr, arith, add-zero, zero, suc}
+use Rattle.std.specs.List.{filter, range_with_len, sum_by}
 use Rattle.std.specs.Ordering.{nat_cmp}
 use Rattle.std.proofs.lemmas.Bool.{and_parts, cases_eq, leb-true, ltb-true}
-use Rattle.std.proofs.lemmas.List.{get_or-map, get_or_default, length-map, take_more}
+use Rattle.std.proofs.lemmas.List.{take_more}
 use Rattle.std.proofs.lemmas.List.Elements.{All-weaker}
 use Rattle.std.proofs.lemmas.List.Kept.{IsStrictlySortedBy-filter}
 use Rattle.std.proofs.lemmas.List.Sums.{sum_by-cons, sum_by-append, sum_by-le-sum_by, sum_by_more_le}
 use Rattle.basket_sets.specs.declared.weighted.Weighted.{Weighted}
 use Rattle.basket_sets.specs.declared.minimum.Minimum.TheVariants.{Count}
-use Rattle.basket_sets.specs.Counts.{AllBelow}
 use Rattle.basket_sets.specs.Database.{MOST_WEIGHT}
 use Rattle.basket_sets.specs.Frequent.{is_frequent}
 use Rattle.basket_sets.specs.Itemset.{IsRising, contains, has, rising}
 use Rattle.basket_sets.specs.Support.{support_of, total_of, weight_at}
-use Rattle.basket_sets.proofs.theory.Members.{Member, Member-filter, Member-from_filter, Member-append}
+use Rattle.basket_sets.proofs.theory.Members.{Member, Member-filter, Member-from_filter}
 use Rattle.basket_sets.proofs.theory.Rising.{Member-from_has, has-from_Member, Member-rising, Member-into_rising, cons_rises, nil_rises, rising-rises, same_rising}
 use Rattle.basket_sets.proofs.theory.Support.{support_falls}
 use Rattle.mine_classes.specs.declared.span.Span.{Span}
@@ -23,7 +21,7 @@ use Rattle.mine_classes.specs.Conditional.{is_kept}
 use Rattle.mine_classes.specs.Ordered.{AreRankBaskets, IsRankBasket}
 use Rattle.mine_classes.specs.Pairs.{AreSums, is_met, kept_ranks, pairs_of, ranks_met, weight_with}
 use Rattle.mine_classes.specs.Runs.{AreRunsOf, below}
-use Rattle.mine_classes.specs.Span.{basket_at, baskets_at}
+use Rattle.mine_classes.specs.Span.{baskets_at}
 use Rattle.mine_classes.proofs.ConditionalLemmas.{kept_support}
 
 -- ---- sums
@@ -49,12 +47,12 @@ sum_more baskets i rank d here =
 
 -- ---- ranges, and filters of them
 
-Member-range : (a n x : ℕ) → Member x (range_with_len a n) → (a ≤ x) × (x < a + n)
+pub Member-range : (a n x : ℕ) → Member x (range_with_len a n) → (a ≤ x) × (x < a + n)
 Member-range a zero x m = absurd m
 Member-range a (suc n) x (inl e) = (omega arith, omega arith)
 Member-range a (suc n) x (inr m) = let r = Member-range (a + 1) n x m in let low = r.0 in let high = r.1 in (omega arith, omega arith)
 
-Member-into_range : (a n x : ℕ) → a ≤ x → x < a + n → Member x (range_with_len a n)
+pub Member-into_range : (a n x : ℕ) → a ≤ x → x < a + n → Member x (range_with_len a n)
 Member-into_range a zero x low high = absurd (omega arith)
 Member-into_range a (suc n) x low high = elim (cases_eq a x) [
   | inl e ↦ inl e
@@ -65,7 +63,7 @@ range_rises : (a n : ℕ) → IsRising (range_with_len a n)
 range_rises a zero = nil_rises
 range_rises a (suc n) = cons_rises a (range_with_len (a + 1) n) (λ y m. let r = Member-range (a + 1) n y m in let low = r.0 in omega arith) (range_rises (a + 1) n)
 
-filtered_range_rises : (p : ℕ → Bool) (a n : ℕ) → IsRising (filter p (range_with_len a n))
+pub filtered_range_rises : (p : ℕ → Bool) (a n : ℕ) → IsRising (filter p (range_with_len a n))
 filtered_range_rises p a n = IsStrictlySortedBy-filter nat_cmp p (range_with_len a n) (range_rises a n)
 
 map_members : {K J : Type 0} (f g : K → J) (xs : List K) → ((x : K) → Member x xs → f x ≡ g x) → map f xs ≡ map g xs

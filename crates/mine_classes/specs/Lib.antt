@@ -4,4 +4,5 @@ pub mod Span
 pub mod Ordered
 pub mod Runs
 pub mod Pairs
+pub mod Places
 pub mod Worked

@@ -1,5 +1,5 @@
 -- Parts of a list of ranks, with weights.
-use Rattle.std.specs.Prelude.{◌≡◌, ◌≤◌, ℕ, List, map}
+use Rattle.std.specs.Prelude.{◌≤◌, ℕ, List, map}
 use Rattle.std.specs.List.{slice_range}
 use Rattle.basket_sets.specs.declared.weighted.Weighted.{Weighted}
 use Rattle.basket_sets.specs.Database.{weighted}

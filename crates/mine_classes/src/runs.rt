@@ -31,7 +31,7 @@ pub struct Runs {
 impl Model for Runs {
     ghost use Rattle.mine_classes.specs.Ordered.{RankBaskets, AreRankBaskets};
     ghost use Rattle.mine_classes.specs.Pairs.{pairs_of};
-ghost use Rattle.mine_classes.specs.Runs.{AreRunsOf, HaveAllRuns, runs_of};
+    ghost use Rattle.mine_classes.specs.Runs.{AreRunsOf, HaveAllRuns, runs_of};
     ghost use Rattle.mine_classes.specs.Span.{baskets_at};
 
     ghost Value = { RankBaskets };

@@ -1,7 +1,5 @@
-use Rattle.std.proofs.Common.{◌≡◌, ◌+◌, ◌<◌, ◌++◌, ◌∷◌, [], ℕ, true, false, length, get_or, set, take, refl, subst, sym, ap, ◌∙◌, arith}
-use Rattle.basket_sets.specs.Counts.{AllBelow}
-use Rattle.basket_sets.specs.Itemset.{has}
-use Rattle.mine_classes.specs.Pairs.{AreSums, WithBasket}
+use Rattle.std.proofs.Common.{◌+◌, ◌++◌, ◌∷◌, [], length, get_or, set, subst, sym, ap, ◌∙◌, arith}
+use Rattle.mine_classes.specs.Pairs.{AreSums}
 use Rattle.mine_classes.proofs.RunLemmas.{all_below_at}
 use Rattle.mine_classes.proofs.PairLemmas.{below_push, has-append_last, has-append_left, sums_more, with_more}
 use Rattle.mine_classes.proofs.pairs.add_basket.Goals as goal

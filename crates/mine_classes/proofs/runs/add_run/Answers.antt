@@ -1,6 +1,5 @@
 use Rattle.std.proofs.Common.{◌-◌, ◌∙◌, arith}
 use Rattle.mine_classes.proofs.RunLemmas.{heavier_is, same_run}
-use Rattle.mine_classes.proofs.RunLoopLemmas.{runs_light}
 use Rattle.mine_classes.proofs.runs.add_run.Goals as goal
 
 pub returns-then-same : goal.returns-then-same

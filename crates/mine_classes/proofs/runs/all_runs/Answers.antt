@@ -1,16 +1,16 @@
-use Rattle.std.proofs.Common.{◌≡◌, ◌+◌, ◌-◌, ◌<◌, ◌≤◌, [], ◌∷◌, ◌++◌, true, List, ℕ, length, get_or, take, drop, map, subst, sym, ap, ◌∙◌, arith}
+use Rattle.std.proofs.Common.{◌≡◌, ◌+◌, ◌<◌, ◌≤◌, [], ◌∷◌, ◌++◌, true, ℕ, length, get_or, take, drop, subst, sym, ap, ◌∙◌, arith}
 use Rattle.std.specs.Prelude.{sum_by}
 use Rattle.std.specs.List.{slice_range}
-use Rattle.std.proofs.lemmas.List.{take_at, take_all, length-map, get_or-map}
+use Rattle.std.proofs.lemmas.List.{take_at, length-map, get_or-map}
 use Rattle.basket_sets.specs.declared.weighted.Weighted.{Weighted}
 use Rattle.basket_sets.specs.Database.{MOST_WEIGHT}
 use Rattle.mine_classes.specs.declared.span.Span.{Span}
-use Rattle.mine_classes.specs.Ordered.{IsRankBasket, repeats_last}
-use Rattle.mine_classes.specs.Runs.{AreRunsOf, HaveAllRuns, HaveRuns, runs_of}
-use Rattle.mine_classes.specs.Span.{IsWithin, basket_at, baskets_at}
+use Rattle.mine_classes.specs.Ordered.{repeats_last}
+use Rattle.mine_classes.specs.Runs.{HaveAllRuns, HaveRuns, runs_of}
+use Rattle.mine_classes.specs.Span.{basket_at, baskets_at}
 use Rattle.mine_classes.proofs.OrderedLemmas.{some_repeats}
 use Rattle.mine_classes.proofs.RunLemmas.{length-range, length-runs_of}
-use Rattle.mine_classes.proofs.RunLoopLemmas.{basket_more, next_again, next_are, no_runs_are, rank_basket_at, runs_light, shared_again}
+use Rattle.mine_classes.proofs.RunLoopLemmas.{basket_more, next_again, next_are, rank_basket_at, runs_light, shared_again}
 use Rattle.mine_classes.proofs.runs.all_runs.Goals as goal
 
 abbrev none : Span
