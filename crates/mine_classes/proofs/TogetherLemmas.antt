@@ -18,8 +18,10 @@ use Rattle.basket_sets.proofs.theory.Members.{Member, All-from_Member, at_Member
 use Rattle.basket_sets.proofs.theory.Rising.{has-from_Member}
 use Rattle.basket_sets.proofs.theory.Support.{support_falls, at_least_one, in_items}
 use Rattle.basket_sets.proofs.theory.Frequent.{frequent_once}
-use Rattle.mine_classes.specs.Classes.{ends_in, class_of, ListsClass, ClassesAreListed, ClassesAreAll, SupportsSettleFrequent, LeastSupportSettles, DecodedClassesAreAll}
-use Rattle.mine_classes.proofs.ClassLemmas.{sets, Member-sets, Member-end, some_end, one_end, apart}
+use Rattle.basket_sets.specs.Itemset.{contains}
+use Rattle.mine_classes.specs.Conditional.{conditional}
+use Rattle.mine_classes.specs.Classes.{ClassesByCodings, ends_in, class_of, ListsClass, ClassesAreListed, ClassesAreAll, SupportsSettleFrequent, LeastSupportSettles, DecodedClassesAreAll}
+use Rattle.mine_classes.proofs.ClassLemmas.{classes_are_conditional, sets, Member-sets, Member-end, some_end, one_end, apart}
 
 -- ---- lists of distinct elements
 
@@ -195,3 +197,13 @@ classes_are_listed baskets minimum rank =
           (Member-from_filter ends (counted baskets set) (frequent_of baskets minimum)
           (Member-from_Contains (counted baskets set) (frequent_of baskets minimum) (lists.complete set n h)) last);
     }
+
+-- ---- a conditional database by other numbers
+
+pub classes_by_codings : DecodingKeepsFrequent → ClassesByCodings
+classes_by_codings decoding baskets least rank coding list one is minimum same lists =
+    let once = decoding coding list is (subst (λ m. ListsOnce coding.baskets m list) (sym minimum) lists) in
+    classes_are_conditional baskets least rank (map (decoded_set coding.items) list) one
+    (supports_settle_frequent (baskets_of coding) (conditional least baskets rank) least (map (decoded_set coding.items) list)
+    (λ set some. sym (same (λ basket. contains basket set)))
+    (subst (λ m. ListsOnce (baskets_of coding) m (map (decoded_set coding.items) list)) minimum once))

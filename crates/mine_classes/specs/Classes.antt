@@ -11,6 +11,7 @@ use Rattle.basket_sets.specs.Frequent.{IsNonemptySet, ListsOnce, counted, freque
 use Rattle.basket_sets.specs.Minimum.{IsLeastSupport}
 use Rattle.basket_sets.specs.Support.{support_of, total_of}
 use Rattle.mine_classes.specs.Conditional.{conditional, HaveSameSupports}
+use Rattle.mine_classes.specs.Ordered.{HaveSameWeights}
 
 -- whether the last rank of a set, which is its greatest, is this one
 abbrev pub ends_in : ℕ → List ℕ → Bool
@@ -77,3 +78,9 @@ abbrev pub DecodedClassesAreAll : Type 0
 DecodedClassesAreAll = (coding : Coding) (least : ℕ) (classes : List (List Counted)) → IsCoding coding → IsLeastSupport coding.minimum (total_of coding.baskets) least
     → length classes ≡ length coding.items → ListClasses coding.baskets (Count least) classes
     → ListsOnce (baskets_of coding) coding.minimum (flat_map (λ class. map (decoded_set coding.items) class) classes)
+
+-- a list of the frequent sets of a conditional database by other numbers of its ranks is a list of the class
+abbrev pub ClassesByCodings : Type 0
+ClassesByCodings = (baskets : List Weighted) (least rank : ℕ) (coding : Coding) (list : List Counted) → IsTrue (is_frequent baskets (Count least) (rank ∷ []))
+    → IsCoding coding → coding.minimum ≡ Count least → HaveSameWeights (conditional least baskets rank) (baskets_of coding) → ListsOnce coding.baskets (Count least) list
+    → ListsClass baskets (Count least) rank (extended rank (support_of baskets (rank ∷ [])) (map (decoded_set coding.items) list))

@@ -1,7 +1,7 @@
 //! Laws on the definitions, for whoever proves a miner. Each is a function that does nothing: its
 //! contract is the law.
 ghost use Rattle.mine_classes.specs.Conditional.{ConditionalSupports};
-ghost use Rattle.mine_classes.specs.Classes.{ClassesAreListed, ClassesAreConditional, RareRanksHaveNoClass, ClassesAreAll, SupportsSettleFrequent, LeastSupportSettles, DecodedClassesAreAll};
+ghost use Rattle.mine_classes.specs.Classes.{ClassesAreListed, ClassesAreConditional, RareRanksHaveNoClass, ClassesAreAll, SupportsSettleFrequent, LeastSupportSettles, ClassesByCodings, DecodedClassesAreAll};
 
 use basket_core::laws::decoding_keeps_frequent;
 
@@ -44,6 +44,14 @@ pub fn supports_settle_frequent()
 pub fn least_support_settles()
     ensures { LeastSupportSettles }
 {}
+
+/// A list of the frequent sets of a conditional database whose ranks have other numbers is, with the
+/// ranks and the rank itself, a list of the class.
+pub fn classes_by_codings()
+    ensures { ClassesByCodings }
+{
+    decoding_keeps_frequent();
+}
 
 /// The sets of all classes of coded baskets, decoded, are the frequent sets of the baskets that were
 /// coded, each once.

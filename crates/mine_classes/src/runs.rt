@@ -59,6 +59,13 @@ impl Runs {
 }
 
 impl Runs {
+    /// How many ranks there are.
+    pub fn ranks(&self) -> u32
+        ensures { result ≡ self.now.ranks }
+    {
+        self.count
+    }
+
     /// The ranks of all baskets, and where the runs of a rank stand among them.
     pub fn of_rank(&self, rank: u32) -> (&[u32], &[Span])
         requires { rank < self.now.ranks }
