@@ -9,3 +9,4 @@ mod PairLemmas
 mod SumLemmas
 mod PlaceLemmas
 mod CodedLemmas
+mod OrderLemmas

@@ -1,6 +1,9 @@
 -- Baskets side by side with those that are equal, and each distinct one once.
 use Rattle.std.specs.Prelude.{◌≡◌, ◌≤◌, ◌+◌, ◌++◌, ℕ, Bool, false, List, [], ◌∷◌, fold, map, All, if◌then◌else◌, nat_eq}
-use Rattle.std.specs.Cmp.Lexicographic.{pointwise}
+use Rattle.std.specs.declared.cmp.Ordering.{Ordering}
+use Rattle.std.specs.Cmp.Lexicographic.{pointwise, slice_cmp}
+use Rattle.std.specs.List.Sorted.{IsStrictlySortedBy}
+use Rattle.std.specs.Ordering.{nat_cmp, ordering_then}
 use Rattle.std.specs.List.{sum_by}
 use Rattle.basket_sets.specs.declared.weighted.Weighted.{Weighted}
 use Rattle.basket_sets.specs.Counts.{AllBelow}
@@ -59,3 +62,11 @@ entry_place entry = weighted entry.ranks.now entry.weight
 
 abbrev pub entry_places : List Entry → List Weighted
 entry_places entries = map entry_place entries
+
+-- the order of entries: by their ranks, which is lexicographic, then by weight
+abbrev pub entry_order : Weighted → Weighted → Ordering
+entry_order a b = ordering_then (slice_cmp nat_cmp a.basket b.basket) (nat_cmp a.weight b.weight)
+
+-- each basket is lexicographically before the next, so no two are equal
+abbrev pub IsLexicographic : List Weighted → Type 0
+IsLexicographic baskets = IsStrictlySortedBy (slice_cmp nat_cmp) (map (λ place. place.basket) baskets)

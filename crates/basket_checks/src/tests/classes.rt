@@ -1,7 +1,7 @@
-use super::{NINE_BASKETS, Row, database};
 ghost use Rattle.std.specs.Prelude.{◌≡◌, All, length};
 ghost use Rattle.mine_classes.specs.Span.{IsWithin};
 
+use super::{NINE_BASKETS, Row, database};
 use basket_core::{Coded, Database, Itemset, Minimum};
 use mine_classes::{Conditional, Ordered, Places, Runs, Span, Sums};
 use std::alloc::{AllocError, Global};
@@ -34,7 +34,12 @@ fn baskets(alloc: Global, ordered: Ordered) -> Result<String, Fail> {
 }
 
 /// The conditional database of a rank by a least support, where there is such a rank.
-fn conditional(alloc: Global, ordered: Ordered, rank: u32, least: u64) -> Result<Conditional, Fail> {
+fn conditional(
+    alloc: Global,
+    ordered: Ordered,
+    rank: u32,
+    least: u64,
+) -> Result<Conditional, Fail> {
     let runs = Runs::of(alloc, ordered)?;
     let count = runs.ranks();
     if rank >= count {
@@ -50,7 +55,10 @@ fn conditional(alloc: Global, ordered: Ordered, rank: u32, least: u64) -> Result
 fn nine_baskets_in_order(rt: HostRuntime) -> Result<(), Fail> {
     let alloc = rt.alloc();
     let found = baskets(alloc, ordered(alloc, NINE_BASKETS)?)?;
-    assert_eq!(rt; found.as_str(), "0 1 2 (1) 0 1 2 4 (1) 0 1 3 (1) 0 1 4 (1) 0 2 (2) 0 3 (1) 1 2 (2) ");
+    assert_eq!(rt;
+        found.as_str(),
+        "0 1 2 (1) 0 1 2 4 (1) 0 1 3 (1) 0 1 4 (1) 0 2 (2) 0 3 (1) 1 2 (2) "
+    );
     Ok(())
 }
 
@@ -79,7 +87,6 @@ fn runs_of_the_nine_baskets(rt: HostRuntime) -> Result<(), Fail> {
 fn pairs_of_the_nine_baskets(rt: HostRuntime) -> Result<(), Fail> {
     let alloc = rt.alloc();
     let runs = Runs::of(alloc, ordered(alloc, NINE_BASKETS)?)?;
-    let mut sums = Sums::new(alloc, runs.ranks())?;
     let wanted: [(u32, u64, &[(u32, u64)]); 6] = [
         (4, 2, &[(0, 2), (1, 2)]),
         (4, 1, &[(0, 2), (1, 2), (2, 1)]),
@@ -90,6 +97,9 @@ fn pairs_of_the_nine_baskets(rt: HostRuntime) -> Result<(), Fail> {
     ];
     for (rank, least, want) in wanted {
         if rank < runs.ranks() {
+            let mut sums = Sums::new(alloc, runs.ranks())?;
+            let first = runs.pairs(alloc, &mut sums, rank, 1)?;
+            assert!(rt; first.len() >= want.len());
             let pairs = runs.pairs(alloc, &mut sums, rank, least)?;
             assert_eq!(rt; pairs.as_slice(), want, "of {rank} by {least}");
         }
@@ -110,7 +120,11 @@ fn conditional_databases_of_the_nine_baskets(rt: HostRuntime) -> Result<(), Fail
     for (rank, ranks, want) in wanted {
         let found = conditional(alloc, ordered(alloc, NINE_BASKETS)?, rank, 2)?;
         assert_eq!(rt; found.ranks(), ranks, "of {rank}");
-        assert_eq!(rt; baskets(alloc, found.into_baskets())?.as_str(), want, "of {rank}");
+        assert_eq!(rt;
+            baskets(alloc, found.into_baskets())?.as_str(),
+            want,
+            "of {rank}"
+        );
     }
     Ok(())
 }
@@ -128,13 +142,12 @@ fn conditional_database_within_another(rt: HostRuntime) -> Result<(), Fail> {
 #[test]
 fn weights_near_the_bound(rt: HostRuntime) -> Result<(), Fail> {
     let alloc = rt.alloc();
-    let rows: [Row; 3] = [
-        (&[7, 9], 1_099_511_627_773),
-        (&[9], 1),
-        (&[9, 7], 1),
-    ];
+    let rows: [Row; 3] = [(&[7, 9], 1_099_511_627_773), (&[9], 1), (&[9, 7], 1)];
     let found = conditional(alloc, ordered(alloc, &rows)?, 1, 1_099_511_627_774)?;
-    assert_eq!(rt; baskets(alloc, found.into_baskets())?.as_str(), "0 (1099511627774) ");
+    assert_eq!(rt;
+        baskets(alloc, found.into_baskets())?.as_str(),
+        "0 (1099511627774) "
+    );
     Ok(())
 }
 
