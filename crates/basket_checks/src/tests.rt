@@ -1,3 +1,4 @@
+mod classes;
 mod codes;
 mod databases;
 mod depth;

@@ -1,5 +1,6 @@
 pub mod theory
 mod Numbers
+mod LeastLemmas
 mod CountLemmas
 mod MergeLemmas
 mod PlaceLemmas

@@ -1,4 +1,4 @@
-use Rattle.std.specs.Prelude.{◌≤◌, ℕ, ◌+◌, ◌*◌, ◌-◌, Bool, ◌&&◌, nat_le, nat_lt, ◌==◌, if◌then◌else◌, List, length, fold, Option, Some, None}
+use Rattle.std.specs.Prelude.{◌≡◌, ◌≤◌, ℕ, ◌+◌, ◌*◌, ◌-◌, Bool, false, ◌&&◌, nat_le, nat_lt, ◌==◌, if◌then◌else◌, List, length, fold, Option, Some, None}
 use Rattle.std.specs.List.{list_all, position_or_len, before_first, after_first}
 use Rattle.basket_sets.specs.declared.minimum.Minimum.{Minimum}
 use Rattle.basket_sets.specs.declared.minimum.Minimum.TheVariants.{Count, Share}
@@ -7,6 +7,17 @@ use Rattle.basket_sets.specs.declared.minimum.Minimum.TheVariants.{Count, Share}
 abbrev pub meets : Minimum → ℕ → ℕ → Bool
 meets (Count least) support total = nat_le 1 support && nat_le least support
 meets (Share numerator denominator) support total = nat_le 1 support && nat_le (numerator * total) (support * denominator)
+
+-- the least support that meets a minimum in a database of so much weight, and one more than that weight where none does: a support meets the minimum exactly where it is at least that
+pub record IsLeastSupport (minimum : Minimum) (total least : ℕ) : Type 0 where
+  pub some : 1 ≤ least
+  pub within : least ≤ total + 1
+  pub met : (support : ℕ) → support ≤ total → meets minimum support total ≡ nat_le least support
+
+-- the least number whose product with the denominator is at least that of the numerator and the total
+abbrev pub IsLeastPart : ℕ → ℕ → ℕ → Option ℕ → Type 0
+IsLeastPart numerator denominator total (Some least) = (number : ℕ) → nat_le (numerator * total) (number * denominator) ≡ nat_le least number
+IsLeastPart numerator denominator total None = (number : ℕ) → nat_le (numerator * total) (number * denominator) ≡ false
 
 -- the bytes of `/`, `%`, and the digits from `0` to `9`
 abbrev pub SLASH : ℕ

@@ -1,5 +1,5 @@
-ghost use Rattle.std.specs.Prelude.{◌≡◌, ◌≤◌, IfSome};
-ghost use Rattle.basket_sets.specs.Minimum.{meets, number_of, ratio_of, share_of, minimum_of, IsShare, IsMinimum, GREATEST_COUNT};
+ghost use Rattle.std.specs.Prelude.{◌≡◌, ◌≤◌, ◌<◌, ◌+◌, ◌*◌, ◌-◌, ◌/◌, IfSome};
+ghost use Rattle.basket_sets.specs.Minimum.{meets, number_of, ratio_of, share_of, minimum_of, IsLeastPart, IsLeastSupport, IsShare, IsMinimum, GREATEST_COUNT};
 
 /// The greatest count of a minimum.
 const MAX_COUNT: u64 = 1_099_511_627_775;
@@ -27,6 +27,38 @@ impl Minimum {
                 }
             }
     }
+
+    /// The least support that meets the minimum where all baskets together weigh `total`, so that
+    /// a loop needs one comparison. Where no support does, it is above the total.
+    pub fn least(&self, total: u64) -> u64
+        requires { total < u64.MAX }
+        ensures { IsLeastSupport self.now total result }
+    {
+        let none = total + 1;
+        let least = match *self {
+            Minimum::Count(least) => u128::from(least),
+            Minimum::Share(numerator, denominator) => {
+                least_part(numerator, denominator, total).unwrap_or(u128::from(none))
+            }
+        };
+        least.max(1).min(u128::from(none)) as u64
+    }
+}
+
+/// The least number whose product with the denominator is at least that of the numerator and the
+/// total.
+fn least_part(numerator: u32, denominator: u32, total: u64) -> Option<u128>
+    ensures { IsLeastPart numerator denominator total result }
+{
+    let part = u128::from(numerator) * u128::from(total);
+    let denominator = u128::from(denominator);
+    if part == 0 {
+        return Some(0);
+    }
+    if denominator == 0 {
+        return None;
+    }
+    Some((part + (denominator - 1)) / denominator)
 }
 
 /// Reads a count, as `2`, or a share, as `2/9` or `22%`. There are no signs and no blanks.

@@ -62,3 +62,26 @@ fn met(rt: HostRuntime) {
     assert!(rt; !Minimum::Count(0).met(0, 9));
     assert!(rt; Minimum::Share(u32::MAX, u32::MAX).met(u64::MAX, u64::MAX));
 }
+
+#[test]
+fn least(rt: HostRuntime) {
+    let minimums = [
+        (Minimum::Count(3), 3),
+        (Minimum::Count(0), 1),
+        (Minimum::Count(20), 10),
+        (Minimum::Share(22, 100), 2),
+        (Minimum::Share(2, 9), 2),
+        (Minimum::Share(23, 100), 3),
+        (Minimum::Share(0, 1), 1),
+        (Minimum::Share(1, 1), 9),
+        (Minimum::Share(1, 0), 10),
+        (Minimum::Share(0, 0), 1),
+    ];
+    for (minimum, least) in minimums {
+        assert_eq!(rt; minimum.least(9), least, "of {minimum:?}");
+    }
+    let total = u64::MAX - 1;
+    assert_eq!(rt; Minimum::Share(u32::MAX, u32::MAX).least(total), total);
+    assert_eq!(rt; Minimum::Share(u32::MAX, 1).least(total), u64::MAX);
+    assert_eq!(rt; Minimum::Count(2).least(0), 1);
+}

@@ -1,0 +1,12 @@
+mod ConditionalLemmas
+mod ClassLemmas
+mod TogetherLemmas
+mod OrderedLemmas
+mod RunLemmas
+mod RunStepLemmas
+mod RunLoopLemmas
+mod PairLemmas
+mod SumLemmas
+mod PlaceLemmas
+mod CodedLemmas
+mod OrderLemmas

@@ -1,0 +1,154 @@
+-- The runs of each rank, basket by basket.
+use Rattle.std.proofs.Common.{◌≡◌, ℕ, ◌+◌, ◌<◌, ◌≤◌, true, false, List, [], ◌∷◌, ◌++◌, length, take, get_or, cond, ltb, refl, sym, ap, ◌∙◌, subst, inl, inr, arith}
+use Rattle.std.specs.Prelude.{All, replicate}
+use Rattle.std.specs.List.{filter, slice_range, sum_by}
+use Rattle.std.specs.Ordering.{nat_cmp}
+use Rattle.std.proofs.lemmas.Bool.{cases_Bool, ltb-true, true≢false}
+use Rattle.std.proofs.lemmas.List.{get_or_default, get_or-map, length-map, length-replicate, get_or-replicate, map-append, take-take, take_more, get_or-take}
+use Rattle.std.proofs.lemmas.List.Elements.{All-from_recursion}
+use Rattle.std.proofs.lemmas.List.Kept.{IsStrictlySortedBy-filter}
+use Rattle.std.proofs.lemmas.List.Sums.{sum_by-cons, sum_by_more_le}
+use Rattle.basket_sets.specs.declared.weighted.Weighted.{Weighted}
+use Rattle.basket_sets.specs.Database.{MOST_WEIGHT, weighted}
+use Rattle.basket_sets.specs.Itemset.{contains, has}
+use Rattle.basket_sets.specs.Support.{total_of, weight_at}
+use Rattle.basket_sets.proofs.theory.Members.{Member-filter, Contains-from_Member}
+use Rattle.basket_sets.proofs.theory.Rising.{Member-from_has, has-from_Member}
+use Rattle.basket_sets.proofs.theory.Support.{support_falls}
+use Rattle.mine_classes.specs.declared.span.Span.{Span}
+use Rattle.mine_classes.specs.Ordered.{IsRankBasket, repeats_last}
+use Rattle.mine_classes.specs.Runs.{AreRunsOf, HaveAllRuns, HaveRuns, run_at, with_run}
+use Rattle.mine_classes.specs.Span.{IsWithin, basket_at, baskets_at}
+use Rattle.mine_classes.proofs.ConditionalLemmas.{kept_support}
+use Rattle.mine_classes.proofs.RunLemmas.{Member-at, length-range}
+use Rattle.mine_classes.proofs.RunStepLemmas.{below_without, front_is, front_range, heavier_are, heavier_baskets, pushed_are, pushed_repeats, raised_repeats}
+
+-- ---- one basket more
+
+module _ (ranks : List ℕ) (count : ℕ) (basket : Span) (inside : IsWithin (length ranks) basket) (is : IsRankBasket count (basket_at ranks basket)) where
+  abbrev path : List ℕ
+  path = slice_range ranks basket.start basket.end
+
+  ends : (k : ℕ) → k < length path → basket.start + k ≤ basket.end
+  ends k here = omega (arith, here, length-range ranks basket inside)
+
+  run_is : (k : ℕ) → k < length path → basket_at ranks (run_at basket k) ≡ weighted (filter (λ other. ltb other (get_or path k 0)) path) basket.weight
+  run_is k here = ap (λ l. weighted l basket.weight) (front_range ranks basket.start basket.end k (ends k here) ∙ sym (front_is path k is.rises here))
+
+  run_rank : (k : ℕ) → k < length path → IsRankBasket (get_or path k 0) (basket_at ranks (run_at basket k))
+  run_rank k here = subst (IsRankBasket (get_or path k 0)) (sym (run_is k here)) (record {
+    rises = IsStrictlySortedBy-filter nat_cmp (λ other. ltb other (get_or path k 0)) path is.rises;
+    below = λ item h. ltb-true item (get_or path k 0)
+        (Member-filter (λ other. ltb other (get_or path k 0)) item path (Member-from_has (filter (λ other. ltb other (get_or path k 0)) path) item h)).1;
+    weighs = is.weighs;
+  })
+
+  run_inside : (k : ℕ) → k < length path → IsWithin (length ranks) (run_at basket k)
+  run_inside k here = record {
+    ordered = omega arith;
+    within = (let end = ends k here in let last = inside.within in omega arith);
+  }
+
+  module _ (done : List Weighted) (shared : ℕ) (old new : List (List Span)) (have : HaveRuns path basket shared (length path) old new)
+      (are : (rank : ℕ) → rank < count → AreRunsOf ranks done rank (get_or old rank []))
+      (again : (k : ℕ) → k < shared → k < length path → repeats_last (baskets_at ranks (get_or old (get_or path k 0) [])) (take k path) ≡ true) where
+    front_at : (k : ℕ) → k < length path → take k path ≡ (basket_at ranks (run_at basket k)).basket
+    front_at k here = sym (front_range ranks basket.start basket.end k (ends k here))
+
+    with_are : (k : ℕ) → k < length path → get_or path k 0 < count → AreRunsOf ranks (done ++ basket_at ranks basket ∷ []) (get_or path k 0) (get_or new (get_or path k 0) [])
+    with_are k here below_count = subst (AreRunsOf ranks (done ++ basket_at ranks basket ∷ []) (get_or path k 0)) (sym (have.on k here)) (elim (cases_Bool (ltb k shared)) [
+      | inl e ↦ subst (AreRunsOf ranks (done ++ basket_at ranks basket ∷ []) (get_or path k 0)) (ap (λ b. with_run b (run_at basket k) runs) (sym e))
+          (heavier_are ranks (get_or path k 0) done (basket_at ranks basket) (run_at basket k) runs there (run_rank k here) (run_is k here) (run_inside k here) (are (get_or path k 0) below_count)
+          (subst (λ l. repeats_last (baskets_at ranks runs) l ≡ true) (front_at k here) (again k (ltb-true k shared e) here)))
+      | inr e ↦ subst (AreRunsOf ranks (done ++ basket_at ranks basket ∷ []) (get_or path k 0)) (ap (λ b. with_run b (run_at basket k) runs) (sym e))
+          (pushed_are ranks (get_or path k 0) done (basket_at ranks basket) (run_at basket k) runs there (run_rank k here) (run_is k here) (run_inside k here) (are (get_or path k 0) below_count))
+    ])
+      where
+        runs : List Span
+        runs = get_or old (get_or path k 0) []
+
+        there : has path (get_or path k 0) ≡ true
+        there = has-from_Member path (get_or path k 0) (Member-at path k here)
+
+    without_are : (rank : ℕ) → rank < count → has path rank ≡ false → AreRunsOf ranks (done ++ basket_at ranks basket ∷ []) rank (get_or new rank [])
+    without_are rank below_count none =
+        let same = have.off rank (λ k here e. true≢false (sym (subst (λ r. has path r ≡ true) e (has-from_Member path (get_or path k 0) (Member-at path k here))) ∙ none)) in
+        subst (AreRunsOf ranks (done ++ basket_at ranks basket ∷ []) rank) (sym same) (record {
+          within = (are rank below_count).within;
+          places = (are rank below_count).places;
+          weights = λ test. ap (λ l. sum_by (λ (p : Weighted). cond (test p.basket) p.weight 0) l) (below_without rank (basket_at ranks basket) done none) ∙ (are rank below_count).weights test;
+        })
+
+    pub next_are : (rank : ℕ) → rank < count → AreRunsOf ranks (done ++ basket_at ranks basket ∷ []) rank (get_or new rank [])
+    next_are rank below_count = elim (cases_Bool (has path rank)) [
+      | inl e ↦
+          (let c = Contains-from_Member rank path (Member-from_has path rank e) in
+          let at = get_or_default path c.0 0 rank c.1 ∙ c.2 in
+          subst (λ r. AreRunsOf ranks (done ++ basket_at ranks basket ∷ []) r (get_or new r [])) at (with_are c.0 c.1 (subst (λ r. r < count) (sym at) below_count)))
+      | inr e ↦ without_are rank below_count e
+    ]
+
+    pub next_again : (k : ℕ) → k < length path → repeats_last (baskets_at ranks (get_or new (get_or path k 0) [])) (take k path) ≡ true
+    next_again k here = ap (λ l. repeats_last (baskets_at ranks l) (take k path)) (have.on k here) ∙ (elim (cases_Bool (ltb k shared)) [
+      | inl e ↦ ap (λ b. repeats_last (baskets_at ranks (with_run b (run_at basket k) runs)) (take k path)) e
+          ∙ ap (λ l. repeats_last l (take k path)) (heavier_baskets ranks basket.weight runs)
+          ∙ raised_repeats basket.weight (baskets_at ranks runs) (take k path) ∙ again k (ltb-true k shared e) here
+      | inr e ↦ ap (λ b. repeats_last (baskets_at ranks (with_run b (run_at basket k) runs)) (take k path)) e
+          ∙ ap (λ l. repeats_last l (take k path)) (map-append (basket_at ranks) runs (run_at basket k ∷ []))
+          ∙ ap (repeats_last (baskets_at ranks runs ++ basket_at ranks (run_at basket k) ∷ [])) (front_at k here)
+          ∙ pushed_repeats (baskets_at ranks runs) (basket_at ranks (run_at basket k))
+    ])
+      where
+        runs : List Span
+        runs = get_or old (get_or path k 0) []
+
+-- ---- the weights of runs
+
+span_weights : (ranks : List ℕ) (runs : List Span) → sum_by (λ (run : Span). run.weight) runs ≡ total_of (baskets_at ranks runs)
+span_weights ranks [] = refl
+span_weights ranks (run ∷ runs) =
+    sum_by-cons (λ (r : Span). r.weight) run runs ∙ ap (λ n. run.weight + n) (span_weights ranks runs)
+    ∙ sym (sum_by-cons (weight_at []) (basket_at ranks run) (baskets_at ranks runs))
+
+pub runs_light : (ranks : List ℕ) (baskets : List Weighted) (i : ℕ) (d : Weighted) (rank : ℕ) (runs : List Span) → i < length baskets → total_of baskets ≤ MOST_WEIGHT
+    → AreRunsOf ranks (take i baskets) rank runs → sum_by (λ (run : Span). run.weight) runs + (get_or baskets i d).weight ≤ MOST_WEIGHT
+runs_light ranks baskets i d rank runs here light are =
+    let spans = span_weights ranks runs in
+    let all = are.weights (λ basket. contains basket []) in
+    let kept = kept_support (λ other. ltb other rank) rank [] (take i baskets) in
+    let falls = support_falls (take i baskets) (rank ∷ []) [] refl in
+    let more = sum_by_more_le (weight_at []) baskets i d here in
+    omega arith
+
+-- ---- the loop over baskets
+
+pub rank_basket_at : (ranks : List ℕ) (count : ℕ) (spans : List Span) (i : ℕ) (d : Span) → All (IsRankBasket count) (baskets_at ranks spans) → i < length spans
+    → IsRankBasket count (basket_at ranks (get_or spans i d))
+rank_basket_at ranks count spans i d all here =
+    subst (IsRankBasket count) (get_or-map (basket_at ranks) spans i d (basket_at ranks d) here) (all i (basket_at ranks d) (omega (arith, length-map spans (basket_at ranks))))
+
+-- baskets that begin alike have runs alike there
+pub shared_again : (ranks : List ℕ) (of : List (List Span)) (last path : List ℕ) (shared : ℕ) → shared ≤ length last → take shared last ≡ take shared path
+    → ((k : ℕ) → k < length last → repeats_last (baskets_at ranks (get_or of (get_or last k 0) [])) (take k last) ≡ true)
+    → (k : ℕ) → k < shared → repeats_last (baskets_at ranks (get_or of (get_or path k 0) [])) (take k path) ≡ true
+shared_again ranks of last path shared within same again k here =
+    let rank : get_or last k 0 ≡ get_or path k 0 = sym (get_or-take shared last k 0 here) ∙ ap (λ l. get_or l k 0) same ∙ get_or-take shared path k 0 here in
+    let front : take k last ≡ take k path = sym (take-take k shared last (omega arith)) ∙ ap (take k) same ∙ take-take k shared path (omega arith) in
+    ap (λ r. repeats_last (baskets_at ranks (get_or of r [])) (take k path)) (sym rank) ∙ ap (repeats_last (baskets_at ranks (get_or of (get_or last k 0) []))) (sym front)
+    ∙ again k (omega arith)
+
+pub basket_more : (ranks : List ℕ) (spans : List Span) (i : ℕ) (d : Span) → i < length spans
+    → take i (baskets_at ranks spans) ++ basket_at ranks (get_or spans i d) ∷ [] ≡ take (i + 1) (baskets_at ranks spans)
+basket_more ranks spans i d here =
+    ap (λ p. take i (baskets_at ranks spans) ++ p ∷ []) (sym (get_or-map (basket_at ranks) spans i d (basket_at ranks d) here))
+    ∙ sym (take_more (baskets_at ranks spans) i (basket_at ranks d) (omega (arith, length-map spans (basket_at ranks))))
+
+pub no_runs_are : (ranks : List ℕ) (count : ℕ) (of : List (List Span)) → of ≡ replicate count [] → HaveAllRuns count ranks [] of
+no_runs_are ranks count of none = record {
+  long = ap length none ∙ length-replicate count [];
+  are = λ rank here. subst (AreRunsOf ranks [] rank) (sym (ap (λ l. get_or l rank []) none ∙ get_or-replicate count rank [] [] here)) (record {
+    within = All-from_recursion (IsWithin (length ranks)) [] tt;
+    places = All-from_recursion (IsRankBasket rank) [] tt;
+    weights = λ test. refl;
+  });
+}

@@ -1,0 +1,209 @@
+-- The classes are together all frequent sets, each once.
+use Rattle.std.proofs.Common.{◌≡◌, ◌≢◌, ℕ, ◌+◌, ◌<◌, ◌≤◌, Bool, true, false, ◌&&◌, List, [], ◌∷◌, ◌++◌, length, get_or, map, cond, leb, refl, sym, ap, ◌∙◌, subst, inl, inr, arith, zero, suc}
+use Rattle.std.specs.Prelude.{nat_eq}
+use Rattle.std.specs.Cmp.Lexicographic.{pointwise}
+use Rattle.std.specs.List.{AllByRecursion, Contains, IsDistinct, filter, flat_map}
+use Rattle.std.proofs.lemmas.Bool.{leb-true, le-leb}
+use Rattle.std.proofs.lemmas.List.{map-append}
+use Rattle.std.proofs.lemmas.List.Elements.{All-from_recursion, All-weaker, recursion_from_All}
+use Rattle.basket_sets.specs.declared.weighted.Weighted.{Weighted}
+use Rattle.basket_sets.specs.declared.counted.Counted.{Counted}
+use Rattle.basket_sets.specs.declared.minimum.Minimum.{Minimum}
+use Rattle.basket_sets.specs.declared.minimum.Minimum.TheVariants.{Count}
+use Rattle.basket_core.specs.Codes.{IsCodedPlace, DecodingKeepsFrequent, baskets_of, decoded_set}
+use Rattle.basket_sets.specs.Frequent.{IsNonemptySet, ListsOnce, counted, frequent_of, is_frequent}
+use Rattle.basket_sets.specs.Minimum.{IsLeastSupport}
+use Rattle.basket_sets.specs.Support.{support_of, total_of}
+use Rattle.basket_sets.proofs.theory.Members.{Member, All-from_Member, at_Member, Member-append, Member-append_left, Member-append_right, Member-filter, Member-from_filter, Member-map, Member-from_map, Member-from_Contains, Contains-from_Member}
+use Rattle.basket_sets.proofs.theory.Rising.{has-from_Member}
+use Rattle.basket_sets.proofs.theory.Support.{support_falls, at_least_one, in_items}
+use Rattle.basket_sets.proofs.theory.Frequent.{frequent_once}
+use Rattle.basket_sets.specs.Itemset.{contains}
+use Rattle.mine_classes.specs.Conditional.{conditional}
+use Rattle.mine_classes.specs.Classes.{ClassesByCodings, ends_in, class_of, ListsClass, ClassesAreListed, ClassesAreAll, SupportsSettleFrequent, LeastSupportSettles, DecodedClassesAreAll}
+use Rattle.mine_classes.proofs.ClassLemmas.{classes_are_conditional, sets, Member-sets, Member-end, some_end, one_end, apart}
+
+-- ---- lists of distinct elements
+
+distinct-append : {K : Type 0} (R : K → K → Bool) (xs ys : List K) → IsDistinct R xs → IsDistinct R ys
+    → ((x y : K) → Member x xs → Member y ys → R x y ≡ false) → IsDistinct R (xs ++ ys)
+unfolding IsDistinct
+distinct-append R [] ys a b across = b
+distinct-append R (x ∷ xs) ys a b across = (
+  All-from_Member (λ y. R x y ≡ false) (xs ++ ys)
+      (λ y m. elim (Member-append y xs ys m) [ inl n ↦ at_Member (λ z. R x z ≡ false) y xs a.0 n | inr n ↦ across x y (inl refl) n ]),
+  distinct-append R xs ys a.1 b (λ u v m n. across u v (inr m) n),
+)
+
+-- ---- the classes of a database
+
+module _ (baskets : List Weighted) (minimum : Minimum) where
+  abbrev IsOfFrequent : Counted → Type 0
+  IsOfFrequent c = IsNonemptySet c.set × (is_frequent baskets minimum c.set ≡ true) × (c.count ≡ support_of baskets c.set)
+
+  abbrev IsOfRank : ℕ → Counted → Type 0
+  IsOfRank rank c = IsNonemptySet c.set × (ends_in rank c.set ≡ true) × (is_frequent baskets minimum c.set ≡ true) × (c.count ≡ support_of baskets c.set)
+
+  -- lists of the classes of the ranks from one on
+  abbrev ListFrom : ℕ → List (List Counted) → Type 0
+  ListFrom first classes = (k : ℕ) → k < length classes → ListsClass baskets minimum (first + k) (get_or classes k [])
+
+  abbrev all : List (List Counted) → List Counted
+  all classes = flat_map (λ class. class) classes
+
+  head_lists : (first : ℕ) (class : List Counted) (classes : List (List Counted)) → ListFrom first (class ∷ classes) → ListsClass baskets minimum first class
+  head_lists first class classes h = subst (λ rank. ListsClass baskets minimum rank class) (omega arith) (h 0 (omega arith))
+
+  tail_lists : (first : ℕ) (class : List Counted) (classes : List (List Counted)) → ListFrom first (class ∷ classes) → ListFrom (first + 1) classes
+  tail_lists first class classes h k below = subst (λ rank. ListsClass baskets minimum rank (get_or classes k [])) (omega arith) (h (suc k) (omega arith))
+
+  in_class : (rank : ℕ) (class : List Counted) → ListsClass baskets minimum rank class → (c : Counted) → Member c class → IsOfRank rank c
+  in_class rank class lists c m = at_Member (IsOfRank rank) c class (recursion_from_All (IsOfRank rank) class lists.sound) m
+
+  -- each set of the lists is in the class of a rank from that on
+  from_all : (first : ℕ) (classes : List (List Counted)) → ListFrom first classes → (c : Counted) → Member c (all classes) → (rank : ℕ) × (first ≤ rank) × IsOfRank rank c
+  from_all first [] h c m = absurd m
+  from_all first (class ∷ classes) h c m = elim (Member-append c class (all classes) m) [
+    | inl n ↦ (first, omega arith, in_class first class (head_lists first class classes h) c n)
+    | inr n ↦ let r = from_all (first + 1) classes (tail_lists first class classes h) c n in (r.0, (let low = r.1 in omega arith), r.2)
+  ]
+
+  into_all : (first : ℕ) (classes : List (List Counted)) → ListFrom first classes → (k : ℕ) → k < length classes
+      → (set : List ℕ) → IsNonemptySet set → ends_in (first + k) set ≡ true → is_frequent baskets minimum set ≡ true → Member (counted baskets set) (all classes)
+  into_all first [] h k below set n ends frequent = absurd (omega arith)
+  into_all first (class ∷ classes) h zero below set n ends frequent =
+      Member-append_left (counted baskets set) class (all classes)
+      (Member-from_Contains (counted baskets set) class ((h 0 below).complete set n ends frequent))
+  into_all first (class ∷ classes) h (suc k) below set n ends frequent =
+      Member-append_right (counted baskets set) class (all classes)
+      (into_all (first + 1) classes (tail_lists first class classes h) k (omega arith) set n (subst (λ rank. ends_in rank set ≡ true) (omega arith) ends) frequent)
+
+  all_distinct : (first : ℕ) (classes : List (List Counted)) → ListFrom first classes → IsDistinct (pointwise nat_eq) (sets (all classes))
+  unfolding IsDistinct
+  all_distinct first [] h = tt
+  all_distinct first (class ∷ classes) h =
+      subst (IsDistinct (pointwise nat_eq)) (sym (map-append (λ (c : Counted). c.set) class (all classes)))
+      (distinct-append (pointwise nat_eq) (sets class) (sets (all classes)) (head_lists first class classes h).distinct
+      (all_distinct (first + 1) classes (tail_lists first class classes h)) across)
+    where
+      across : (a b : List ℕ) → Member a (sets class) → Member b (sets (all classes)) → pointwise nat_eq a b ≡ false
+      across a b m n =
+          let p = Member-sets a class m in
+          let q = Member-sets b (all classes) n in
+          let r = from_all (first + 1) classes (tail_lists first class classes h) q.0 q.1 in
+          let ends = (in_class first class (head_lists first class classes h) p.0 p.1).1 in
+          apart a b (λ same.
+          let e = one_end first r.0 a (subst (λ s. ends_in first s ≡ true) p.2 ends) (subst (λ s. ends_in r.0 s ≡ true) (q.2 ∙ sym same) r.2.1) in
+          let low = r.1 in omega arith)
+
+pub classes_are_all : ClassesAreAll
+classes_are_all baskets minimum classes below lists = record {
+  distinct = all_distinct baskets minimum 0 classes from_zero;
+  sound = All-from_recursion (IsOfFrequent baskets minimum) (all baskets minimum classes) (All-from_Member (IsOfFrequent baskets minimum) (all baskets minimum classes)
+      (λ c m. let r = from_all baskets minimum 0 classes from_zero c m in (r.2.0, r.2.2, r.2.3)));
+  complete = λ set n h.
+      let e = some_end set n.1 in
+      let place = in_items baskets set (at_least_one minimum (support_of baskets set) (total_of baskets) h) e.0 (Member-end e.0 set e.1) in
+      let here = below e.0 (Contains-from_Member e.0 (flat_map (λ place. place.basket) baskets) place) in
+      Contains-from_Member (counted baskets set) (all baskets minimum classes)
+      (into_all baskets minimum 0 classes from_zero e.0 here set n (subst (λ rank. ends_in rank set ≡ true) (omega arith) e.1) h);
+}
+  where
+    from_zero : ListFrom baskets minimum 0 classes
+    from_zero k here = subst (λ rank. ListsClass baskets minimum rank (get_or classes k [])) (omega arith) (lists k here)
+
+-- ---- other lists of baskets, and minimums
+
+pub supports_settle_frequent : SupportsSettleFrequent
+supports_settle_frequent baskets others least list same lists = record {
+  distinct = lists.distinct;
+  sound = All-weaker (IsOfFrequent baskets (Count least)) (IsOfFrequent others (Count least)) (λ c s. (s.0, sym (tests c.set s.0.1) ∙ s.1, s.2 ∙ same c.set s.0.1)) list lists.sound;
+  complete = λ set n h. subst (λ count. Contains list (record { set = set; count = count })) (same set n.1) (lists.complete set n (tests set n.1 ∙ h));
+}
+  where
+    tests : (set : List ℕ) → set ≢ [] → is_frequent baskets (Count least) set ≡ is_frequent others (Count least) set
+    tests set some = ap (λ n. leb 1 n && leb least n) (same set some)
+
+least_tests : (baskets : List Weighted) (minimum : Minimum) (least : ℕ) → IsLeastSupport minimum (total_of baskets) least → (set : List ℕ)
+    → is_frequent baskets (Count least) set ≡ is_frequent baskets minimum set
+least_tests baskets minimum least is set =
+    one_test (leb 1 (support_of baskets set)) (leb least (support_of baskets set)) (λ h. let low = is.some in let high = leb-true least (support_of baskets set) h in le-leb 1 (support_of baskets set) (omega arith))
+    ∙ sym (is.met (support_of baskets set) (support_falls baskets set [] refl))
+  where
+    one_test : (a b : Bool) → (b ≡ true → a ≡ true) → (a && b) ≡ b
+    one_test true b h = refl
+    one_test false true h = h refl
+    one_test false false h = refl
+
+pub least_support_settles : LeastSupportSettles
+least_support_settles baskets minimum least list is lists = record {
+  distinct = lists.distinct;
+  sound = All-weaker (IsOfFrequent baskets (Count least)) (IsOfFrequent baskets minimum) (λ c s. (s.0, sym (least_tests baskets minimum least is c.set) ∙ s.1, s.2)) list lists.sound;
+  complete = λ set n h. lists.complete set n (least_tests baskets minimum least is set ∙ h);
+}
+
+-- ---- coded baskets
+
+ranks_below : (items : List ℕ) (places : List Weighted) → AllByRecursion (IsCodedPlace items) places → (rank : ℕ) → Member rank (flat_map (λ place. place.basket) places) → rank < length items
+ranks_below items [] coded rank m = absurd m
+ranks_below items (place ∷ places) coded rank m = elim (Member-append rank place.basket (flat_map (λ p. p.basket) places) m) [
+  | inl here ↦ coded.0.1 rank (has-from_Member place.basket rank here)
+  | inr later ↦ ranks_below items places coded.1 rank later
+]
+
+map_all : (f : Counted → Counted) (classes : List (List Counted)) → map f (flat_map (λ class. class) classes) ≡ flat_map (λ class. map f class) classes
+map_all f [] = refl
+map_all f (class ∷ classes) = map-append f class (flat_map (λ c. c) classes) ∙ ap (λ rest. map f class ++ rest) (map_all f classes)
+
+pub decoded_classes_are_all : DecodingKeepsFrequent → DecodedClassesAreAll
+decoded_classes_are_all decoding coding least classes is settles long lists =
+    subst (ListsOnce (baskets_of coding) coding.minimum) (map_all (decoded_set coding.items) classes)
+    (decoding coding (flat_map (λ class. class) classes) is
+    (least_support_settles coding.baskets coding.minimum least (flat_map (λ class. class) classes) settles
+    (classes_are_all coding.baskets (Count least) classes
+    (λ rank m. subst (λ n. rank < n) (sym long) (ranks_below coding.items coding.baskets (recursion_from_All (IsCodedPlace coding.items) coding.baskets is.places) rank
+    (Member-from_Contains rank (flat_map (λ place. place.basket) coding.baskets) m))) lists)))
+
+-- ---- the class as a part of the frequent list
+
+distinct_at : {K J : Type 0} (R : J → J → Bool) (f : K → J) (p : K → Bool) (x : K) (xs : List K) (b : Bool) → IsDistinct R (map f (x ∷ xs)) → IsDistinct R (map f (filter p xs))
+    → IsDistinct R (map f (cond b (x ∷ filter p xs) (filter p xs)))
+unfolding IsDistinct
+distinct_at R f p x xs true distinct rest = (
+  All-from_Member (λ y. R (f x) y ≡ false) (map f (filter p xs)) (λ y m.
+      let q = Member-from_map f y (filter p xs) m in
+      subst (λ z. R (f x) z ≡ false) q.2
+      (at_Member (λ z. R (f x) z ≡ false) (f q.0) (map f xs) distinct.0 (Member-map f q.0 xs (Member-filter p q.0 xs q.1).0))),
+  rest,
+)
+distinct_at R f p x xs false distinct rest = rest
+
+distinct-filter : {K J : Type 0} (R : J → J → Bool) (f : K → J) (p : K → Bool) (xs : List K) → IsDistinct R (map f xs) → IsDistinct R (map f (filter p xs))
+unfolding IsDistinct
+distinct-filter R f p [] distinct = tt
+distinct-filter R f p (x ∷ xs) distinct = distinct_at R f p x xs (p x) distinct (distinct-filter R f p xs distinct.1)
+
+pub classes_are_listed : ClassesAreListed
+classes_are_listed baskets minimum rank =
+    let lists = frequent_once baskets minimum in
+    let ends : Counted → Bool = λ c. ends_in rank c.set in
+    record {
+      distinct = distinct-filter (pointwise nat_eq) (λ (c : Counted). c.set) ends (frequent_of baskets minimum) lists.distinct;
+      sound = All-from_recursion (IsOfRank baskets minimum rank) (class_of baskets minimum rank) (All-from_Member (IsOfRank baskets minimum rank) (class_of baskets minimum rank) (λ c m.
+          let q = Member-filter ends c (frequent_of baskets minimum) m in
+          let s = at_Member (IsOfFrequent baskets minimum) c (frequent_of baskets minimum) (recursion_from_All (IsOfFrequent baskets minimum) (frequent_of baskets minimum) lists.sound) q.0 in
+          (s.0, q.1, s.1, s.2)));
+      complete = λ set n last h. Contains-from_Member (counted baskets set) (class_of baskets minimum rank)
+          (Member-from_filter ends (counted baskets set) (frequent_of baskets minimum)
+          (Member-from_Contains (counted baskets set) (frequent_of baskets minimum) (lists.complete set n h)) last);
+    }
+
+-- ---- a conditional database by other numbers
+
+pub classes_by_codings : DecodingKeepsFrequent → ClassesByCodings
+classes_by_codings decoding baskets least rank coding list one is minimum same lists =
+    let once = decoding coding list is (subst (λ m. ListsOnce coding.baskets m list) (sym minimum) lists) in
+    classes_are_conditional baskets least rank (map (decoded_set coding.items) list) one
+    (supports_settle_frequent (baskets_of coding) (conditional least baskets rank) least (map (decoded_set coding.items) list)
+    (λ set some. sym (same (λ basket. contains basket set)))
+    (subst (λ m. ListsOnce (baskets_of coding) m (map (decoded_set coding.items) list)) minimum once))

@@ -1,0 +1,11 @@
+use Rattle.std.proofs.Common.{◌≡◌, length, map, take}
+use Rattle.std.specs.Prelude.{All}
+use Rattle.mine_classes.specs.Places.{placed}
+use Rattle.mine_classes.specs.Span.{IsWithin, baskets_at}
+use Rattle.mine_classes.proofs.places.coded_spans.Given as goal
+
+abbrev pub invariant-loop-basket : goal.invariant-loop-basket
+invariant-loop-basket l = record {
+  within : All (IsWithin (length l.locals.items)) l.spans.items;
+  placed : baskets_at l.locals.items l.spans.items ≡ map (placed l.of) (take l.basket-index (baskets_at l.ranks l.baskets));
+}

@@ -1,0 +1,11 @@
+use Rattle.std.proofs.Common.{◌≡◌, ◌<◌, ℕ, [], true, length, take, get_or}
+use Rattle.mine_classes.specs.Ordered.{repeats_last}
+use Rattle.mine_classes.specs.Runs.{HaveAllRuns, runs_of}
+use Rattle.mine_classes.specs.Span.{baskets_at}
+use Rattle.mine_classes.proofs.runs.all_runs.Given as goal
+
+abbrev pub invariant-loop-basket : goal.invariant-loop-basket
+invariant-loop-basket l = record {
+  runs : HaveAllRuns l.count l.ranks (take l.basket-index (baskets_at l.ranks l.baskets)) (runs_of l.of.items);
+  again : (k : ℕ) → k < length l.last → repeats_last (baskets_at l.ranks (get_or (runs_of l.of.items) (get_or l.last k 0) [])) (take k l.last) ≡ true;
+}

@@ -1,0 +1,72 @@
+-- Baskets side by side with those that are equal, and each distinct one once.
+use Rattle.std.specs.Prelude.{◌≡◌, ◌≤◌, ◌+◌, ◌++◌, ℕ, Bool, false, List, [], ◌∷◌, fold, map, All, if◌then◌else◌, nat_eq}
+use Rattle.std.specs.declared.cmp.Ordering.{Ordering}
+use Rattle.std.specs.Cmp.Lexicographic.{pointwise, slice_cmp}
+use Rattle.std.specs.List.Sorted.{IsStrictlySortedBy}
+use Rattle.std.specs.Ordering.{nat_cmp, ordering_then}
+use Rattle.std.specs.List.{sum_by}
+use Rattle.basket_sets.specs.declared.weighted.Weighted.{Weighted}
+use Rattle.basket_sets.specs.Counts.{AllBelow}
+use Rattle.basket_sets.specs.Database.{HasWeight, MOST_WEIGHT, weighted}
+use Rattle.basket_sets.specs.Itemset.{IsRising}
+use Rattle.basket_sets.specs.Support.{total_of}
+use Rattle.mine_classes.specs.declared.ordered.Entry.{Entry}
+
+-- a basket of ranks: they rise, and each is below a number of ranks
+pub record IsRankBasket (ranks : ℕ) (place : Weighted) : Type 0 where
+  pub rises : IsRising place.basket
+  pub below : AllBelow ranks place.basket
+  pub weighs : HasWeight place
+
+-- baskets of ranks, and how many ranks there are
+pub record RankBaskets : Type 0 where
+  pub ranks : ℕ
+  pub baskets : List Weighted
+
+-- what all lists of baskets of ranks are
+pub record AreRankBaskets (value : RankBaskets) : Type 0 where
+  pub places : All (IsRankBasket value.ranks) value.baskets
+  pub light : total_of value.baskets ≤ MOST_WEIGHT
+
+-- what the baskets weigh that pass a test
+abbrev pub weight_where : (List ℕ → Bool) → List Weighted → ℕ
+weight_where test baskets = sum_by (λ place. if test place.basket then place.weight else 0) baskets
+
+-- two lists have the same baskets with the same weights, where several equal baskets are as good as one of their weight together. So they give each set the same support
+abbrev pub HaveSameWeights : List Weighted → List Weighted → Type 0
+HaveSameWeights baskets others = (test : List ℕ → Bool) → weight_where test baskets ≡ weight_where test others
+
+-- whether the last basket is this one
+abbrev pub repeats_last : List Weighted → List ℕ → Bool
+repeats_last [] basket = false
+repeats_last (place ∷ []) basket = pointwise nat_eq place.basket basket
+repeats_last (place ∷ next ∷ places) basket = repeats_last (next ∷ places) basket
+
+-- the baskets with more weight at the last
+abbrev pub with_last_raised : ℕ → List Weighted → List Weighted
+with_last_raised weight [] = []
+with_last_raised weight (place ∷ []) = weighted place.basket (place.weight + weight) ∷ []
+with_last_raised weight (place ∷ next ∷ places) = place ∷ with_last_raised weight (next ∷ places)
+
+-- a basket added at the end, or its weight to the last one where that is equal
+abbrev pub with_basket : List Weighted → Weighted → List Weighted
+with_basket places place = if repeats_last places place.basket then with_last_raised place.weight places else places ++ place ∷ []
+
+-- equal neighbours made one, with their weights added
+abbrev pub neighbours_merged : List Weighted → List Weighted
+neighbours_merged baskets = fold with_basket [] baskets
+
+-- the baskets of some entries
+abbrev pub entry_place : Entry → Weighted
+entry_place entry = weighted entry.ranks.now entry.weight
+
+abbrev pub entry_places : List Entry → List Weighted
+entry_places entries = map entry_place entries
+
+-- the order of entries: by their ranks, which is lexicographic, then by weight
+abbrev pub entry_order : Weighted → Weighted → Ordering
+entry_order a b = ordering_then (slice_cmp nat_cmp a.basket b.basket) (nat_cmp a.weight b.weight)
+
+-- each basket is lexicographically before the next, so no two are equal
+abbrev pub IsLexicographic : List Weighted → Type 0
+IsLexicographic baskets = IsStrictlySortedBy (slice_cmp nat_cmp) (map (λ place. place.basket) baskets)

@@ -1,0 +1,18 @@
+-- Baskets of the ranks that stand in a list, by their places there.
+use Rattle.std.specs.Prelude.{◌≡◌, ◌<◌, ℕ, List, Option, Some, None, length, slice_index, slice_index_or, false}
+use Rattle.std.specs.List.{filter_map}
+use Rattle.basket_sets.specs.declared.weighted.Weighted.{Weighted}
+use Rattle.basket_sets.specs.Database.{weighted}
+use Rattle.basket_sets.specs.Itemset.{has}
+
+-- at each rank of a list its place there, and at other ranks nothing
+pub record ArePlaces (ranks : List ℕ) (places : List (Option ℕ)) : Type 0 where
+  pub at : (k : ℕ) → k < length ranks → slice_index_or places (slice_index ranks k) None ≡ Some k
+  pub none : (rank : ℕ) → has ranks rank ≡ false → slice_index_or places rank None ≡ None
+
+-- the places of those ranks of a basket that have one
+abbrev pub places_in : List (Option ℕ) → List ℕ → List ℕ
+places_in places basket = filter_map (λ rank. slice_index_or places rank None) basket
+
+abbrev pub placed : List (Option ℕ) → Weighted → Weighted
+placed places place = weighted (places_in places place.basket) place.weight

@@ -1,0 +1,50 @@
+-- The runs of a rank: the places where it stands in baskets that lie one after another.
+use Rattle.std.specs.Prelude.{◌≡◌, ◌<◌, ◌+◌, ◌++◌, ℕ, Bool, List, [], ◌∷◌, All, length, map, nat_lt, if◌then◌else◌, slice_index, slice_index_or}
+use Rattle.std.specs.List.{flat_map}
+use Rattle.std.specs.declared.vec.Vec.{Vec}
+use Rattle.std.specs.declared.alloc.Global.{Global}
+use Rattle.basket_sets.specs.declared.weighted.Weighted.{Weighted}
+use Rattle.mine_classes.specs.declared.span.Span.{Span}
+use Rattle.mine_classes.specs.Conditional.{kept_place}
+use Rattle.mine_classes.specs.Ordered.{HaveSameWeights, IsRankBasket}
+use Rattle.mine_classes.specs.Span.{IsWithin, baskets_at}
+
+-- the baskets that have a rank, kept to the ranks below it
+abbrev pub below : ℕ → List Weighted → List Weighted
+below rank baskets = flat_map (kept_place (λ other. nat_lt other rank) rank) baskets
+
+-- runs with more weight at the last
+abbrev pub with_last_heavier : ℕ → List Span → List Span
+with_last_heavier weight [] = []
+with_last_heavier weight (run ∷ []) = record { start = run.start; end = run.end; weight = run.weight + weight } ∷ []
+with_last_heavier weight (run ∷ next ∷ runs) = run ∷ with_last_heavier weight (next ∷ runs)
+
+-- a run added at the end, or its weight to the last one where that is the same
+abbrev pub with_run : Bool → Span → List Span → List Span
+with_run same run runs = if same then with_last_heavier run.weight runs else runs ++ run ∷ []
+
+-- the runs of each rank
+abbrev pub runs_of : List (Vec Span Global) → List (List Span)
+runs_of of = map (λ runs. runs.items) of
+
+-- the run of the rank at a depth of a basket: the ranks before it
+abbrev pub run_at : Span → ℕ → Span
+run_at basket depth = record { start = basket.start; end = basket.start + depth; weight = basket.weight }
+
+-- the ranks of a basket up to a depth have its runs: below a depth that it shares with the basket before, the weight of a run that is there
+pub record HaveRuns (ranks : List ℕ) (basket : Span) (shared depth : ℕ) (old new : List (List Span)) : Type 0 where
+  pub long : length new ≡ length old
+  pub on : (k : ℕ) → k < depth
+      → slice_index_or new (slice_index ranks k) [] ≡ with_run (nat_lt k shared) (run_at basket k) (slice_index_or old (slice_index ranks k) [])
+  pub off : (rank : ℕ) → ((k : ℕ) → k < depth → slice_index ranks k ≡ rank → ⊥) → slice_index_or new rank [] ≡ slice_index_or old rank []
+
+-- the baskets that have the rank are those that end in its runs
+pub record AreRunsOf (ranks : List ℕ) (baskets : List Weighted) (rank : ℕ) (runs : List Span) : Type 0 where
+  pub within : All (IsWithin (length ranks)) runs
+  pub places : All (IsRankBasket rank) (baskets_at ranks runs)
+  pub weights : HaveSameWeights (below rank baskets) (baskets_at ranks runs)
+
+-- the runs of each rank below a number
+pub record HaveAllRuns (count : ℕ) (ranks : List ℕ) (baskets : List Weighted) (of : List (List Span)) : Type 0 where
+  pub long : length of ≡ count
+  pub are : (rank : ℕ) → rank < count → AreRunsOf ranks baskets rank (slice_index_or of rank [])

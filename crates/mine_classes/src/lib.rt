@@ -1,0 +1,23 @@
+//! Classes and conditional databases, the ground of the miners that go depth first.
+//!
+//! The class of a rank is the frequent sets whose greatest rank it is, and its conditional database
+//! is what a miner needs to find them. `ordered` puts baskets in order and merges equal ones, `runs`
+//! finds where each rank stands among them, `pairs` sums the supports of pairs from there, and
+//! `places` numbers the ranks anew that `conditional` keeps.
+#![tactic(auto)]
+
+mod conditional;
+pub mod laws;
+mod ordered;
+mod pairs;
+mod places;
+mod runs;
+mod span;
+pub mod worked;
+
+pub use conditional::Conditional;
+pub use ordered::Ordered;
+pub use pairs::Sums;
+pub use places::Places;
+pub use runs::Runs;
+pub use span::Span;

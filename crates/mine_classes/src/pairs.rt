@@ -1,0 +1,152 @@
+//! Supports of pairs of ranks.
+ghost use Rattle.std.specs.Prelude.{◌≡◌, ◌≤◌, ◌<◌, ◌+◌, ℕ, [], All, IfOk, OnOk, filter, length, map, replicate, slice_index};
+ghost use Rattle.basket_sets.specs.Counts.{AllBelow};
+ghost use Rattle.basket_sets.specs.Database.{MOST_WEIGHT};
+ghost use Rattle.basket_sets.specs.Itemset.{IsRising, rising};
+ghost use Rattle.mine_classes.specs.Ordered.{AreRankBaskets};
+ghost use Rattle.mine_classes.specs.Pairs.{AreSums, WithBasket, is_met, ranks_met, weight_with};
+ghost use Rattle.mine_classes.specs.Span.{IsWithin, baskets_at};
+
+use crate::span::Span;
+use basket_core::Itemset;
+use std::alloc::{AllocError, Global};
+use std::marker::Model;
+
+/// A sum for each rank, used again from rank to rank.
+#[derive(Debug, Drop)]
+pub struct Sums {
+    sums: Vec<u64>,
+    found: Vec<u32>,
+}
+
+impl Model for Sums {
+    ghost use Rattle.std.specs.Prelude.{ℕ, [], ◌≡◌, length, replicate};
+
+    ghost Value = { ℕ };
+
+    ghost view = { λ s. length s.sums.items };
+
+    ghost invariant = { λ s. (s.sums.items ≡ replicate (length s.sums.items) 0) × (s.found.items ≡ []) };
+}
+
+impl Sums {
+    /// The sums for so many ranks.
+    pub fn new(alloc: Global, count: u32) -> Result<Self, AllocError>
+        ensures { IfOk result (λ sums. sums ≡ count) }
+    {
+        Ok(Sums {
+            sums: vec![in alloc; 0; count as usize]?,
+            found: Vec::new(alloc),
+        })
+    }
+
+    /// The ranks that stand in baskets of at least so much weight, rising, each with that weight.
+    /// The baskets are parts of the list of ranks.
+    pub fn of_spans(
+        &mut self,
+        alloc: Global,
+        ranks: &[u32],
+        baskets: &[Span],
+        least: u64,
+    ) -> Result<Vec<(u32, u64)>, AllocError>
+        requires within { All (IsWithin (length ranks.now)) baskets.now }
+        requires ranked { AreRankBaskets (record { ranks = self.old; baskets = baskets_at ranks.now baskets.now }) }
+        ensures met { IfOk result (λ met. met.items ≡ ranks_met self.old least (baskets_at ranks.now baskets.now)) }
+        ensures sums { self.new ≡ self.old }
+    {
+        let summed = add_up(&mut self.sums, &mut self.found, ranks, baskets);
+        let met = match summed {
+            Ok(()) => met(alloc, &self.sums, &self.found, least),
+            Err(error) => Err(error),
+        };
+        clear(&mut self.sums, &mut self.found);
+        met
+    }
+}
+
+/// Adds the weights of baskets to the sums of their ranks.
+fn add_up(
+    sums: &mut [u64],
+    found: &mut Vec<u32>,
+    ranks: &[u32],
+    baskets: &[Span],
+) -> Result<(), AllocError>
+    requires zero { sums.old ≡ replicate (length sums.old) 0 }
+    requires none { found.old.items ≡ [] }
+    requires within { All (IsWithin (length ranks.now)) baskets.now }
+    requires ranked { AreRankBaskets (record { ranks = length sums.old; baskets = baskets_at ranks.now baskets.now }) }
+    ensures sums { AreSums (length sums.old) sums.new found.new.items }
+    ensures added { OnOk result ((rank : ℕ) → rank < length sums.old → slice_index sums.new rank ≡ weight_with rank (baskets_at ranks.now baskets.now)) }
+{
+    for basket in baskets {
+        add_basket(sums, found, basket.of(ranks), basket.weight)?;
+    }
+    Ok(())
+}
+
+/// Adds the weight of a basket to the sum of each of its ranks, and lists the ranks whose sums were 0.
+fn add_basket(
+    sums: &mut [u64],
+    found: &mut Vec<u32>,
+    basket: &[u32],
+    weight: u64,
+) -> Result<(), AllocError>
+    requires sums { AreSums (length sums.old) sums.old found.old.items }
+    requires rises { IsRising basket.now }
+    requires below { AllBelow (length sums.old) basket.now }
+    requires light { (rank : ℕ) → rank < length sums.old → slice_index sums.old rank + weight ≤ MOST_WEIGHT }
+    ensures sums { AreSums (length sums.old) sums.new found.new.items }
+    ensures added { OnOk result (WithBasket basket.now weight sums.old sums.new) }
+{
+    for rank in basket {
+        if sums[*rank as usize] == 0 {
+            found.push(*rank)?;
+        }
+        sums[*rank as usize] += weight;
+    }
+    Ok(())
+}
+
+/// Sets the sums of the ranks that are listed to 0, which are all that are not.
+fn clear(sums: &mut [u64], found: &mut Vec<u32>)
+    requires { AreSums (length sums.old) sums.old found.old.items }
+    ensures sums { sums.new ≡ replicate (length sums.old) 0 }
+    ensures found { found.new.items ≡ [] }
+{
+    for rank in found.iter() {
+        sums[*rank as usize] = 0;
+    }
+    found.clear();
+}
+
+/// The ranks that are listed whose sums are at least so much, rising, with their sums.
+fn met(
+    alloc: Global,
+    sums: &[u64],
+    found: &[u32],
+    least: u64,
+) -> Result<Vec<(u32, u64)>, AllocError>
+    requires { AreSums (length sums.now) sums.now found.now }
+    ensures { IfOk result (λ pairs. pairs.items ≡ map (λ rank. (rank, slice_index sums.now rank)) (rising (filter (λ rank. is_met least (slice_index sums.now rank)) found.now))) }
+{
+    let mut kept = Vec::new(alloc);
+    for rank in found {
+        let sum = sums[*rank as usize];
+        if sum >= 1 && sum >= least {
+            kept.push(*rank)?;
+        }
+    }
+    with_sums(alloc, sums, Itemset::from_items(alloc, &kept)?.items())
+}
+
+/// The ranks with their sums.
+fn with_sums(alloc: Global, sums: &[u64], ranks: &[u32]) -> Result<Vec<(u32, u64)>, AllocError>
+    requires { AllBelow (length sums.now) ranks.now }
+    ensures { IfOk result (λ pairs. pairs.items ≡ map (λ rank. (rank, slice_index sums.now rank)) ranks.now) }
+{
+    let mut pairs = Vec::with_capacity(alloc, ranks.len())?;
+    for rank in ranks {
+        pairs.push((*rank, sums[*rank as usize]))?;
+    }
+    Ok(pairs)
+}
