@@ -1,6 +1,6 @@
-pub mod Fronts
-pub mod MiningLemmas
-pub mod EngineLemmas
+mod Fronts
+mod MiningLemmas
+mod EngineLemmas
 mod NamesWalkLemmas
 mod NamesLemmas
 mod HelpLemmas

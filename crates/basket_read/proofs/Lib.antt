@@ -1,9 +1,9 @@
-pub mod CutLemmas
-pub mod LineLemmas
-pub mod TextLemmas
-pub mod RoomLemmas
-pub mod InputLemmas
-pub mod PartsLemmas
-pub mod ReadLemmas
-pub mod GrammarLemmas
-pub mod RunLemmas
+mod CutLemmas
+mod LineLemmas
+mod TextLemmas
+mod RoomLemmas
+mod InputLemmas
+mod PartsLemmas
+mod ReadLemmas
+mod GrammarLemmas
+mod RunLemmas

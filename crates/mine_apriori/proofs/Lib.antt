@@ -1,18 +1,18 @@
-pub mod JoinLemmas
-pub mod FrontLemmas
-pub mod PruneLemmas
-pub mod CandidateLemmas
-pub mod LawLemmas
-pub mod LookUpLemmas
-pub mod SearchLemmas
-pub mod PassingLemmas
-pub mod RunLemmas
-pub mod DenseLemmas
-pub mod NodeLemmas
-pub mod BuildLemmas
-pub mod ContainLemmas
-pub mod TreeLemmas
-pub mod UsedLemmas
-pub mod SupportLemmas
-pub mod RegularLemmas
-pub mod LevelsLemmas
+mod JoinLemmas
+mod FrontLemmas
+mod PruneLemmas
+mod CandidateLemmas
+mod LawLemmas
+mod LookUpLemmas
+mod SearchLemmas
+mod PassingLemmas
+mod RunLemmas
+mod DenseLemmas
+mod NodeLemmas
+mod BuildLemmas
+mod ContainLemmas
+mod TreeLemmas
+mod UsedLemmas
+mod SupportLemmas
+mod RegularLemmas
+mod LevelsLemmas

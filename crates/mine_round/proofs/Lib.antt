@@ -1,11 +1,11 @@
-pub mod Records
-pub mod Places
-pub mod Steps
-pub mod Claims
-pub mod Seats
-pub mod Runs
-pub mod Counting
-pub mod Rule
-pub mod Gathering
-pub mod Vacancies
-pub mod Permuted
+mod Records
+mod Places
+mod Steps
+mod Claims
+mod Seats
+mod Runs
+mod Counting
+mod Rule
+mod Gathering
+mod Vacancies
+mod Permuted
