@@ -8,6 +8,7 @@ pub mod SearchLemmas
 pub mod PassingLemmas
 pub mod RunLemmas
 pub mod DenseLemmas
+pub mod MarkLemmas
 pub mod NodeLemmas
 pub mod BuildLemmas
 pub mod ContainLemmas

@@ -1,9 +1,10 @@
 use Rattle.std.proofs.Common.{◌≡◌, ◌+◌, ℕ, length, take, get_or, sym, ap, ◌∙◌, subst, arith}
-use Rattle.std.proofs.lemmas.List.{take_rest}
+use Rattle.std.proofs.lemmas.List.{take_rest, get_or-take, length-take}
 use Rattle.basket_sets.specs.Itemset.{IsRising, has}
 use Rattle.mine_apriori.specs.Run.{AddsWithin}
-use Rattle.mine_apriori.specs.Tree.{IsTree, leaf_depth}
+use Rattle.mine_apriori.specs.Tree.{IsTree, IsRun, AreTold, leaf_depth}
 use Rattle.mine_apriori.proofs.ContainLemmas.{drop_rises}
+use Rattle.mine_apriori.proofs.MarkLemmas.{told_below, told_at_leaves}
 use Rattle.mine_apriori.proofs.TreeLemmas.{AtInner, IsNodeAt, TreeWalk, are_full, leaf_count, long_items, nodes_read, rest_of_run, node_found, children_fit, children_run, tree_finds, tree_misses, tree_walk_ends, tree_walk_is_over, room_at_leaves, counted_at_leaves}
 use Rattle.mine_apriori.proofs.tree.CandidateTree.+walk.Goals as goal
 use Rattle.mine_apriori.proofs.tree.CandidateTree.+walk.Goals.{in-Ok, in-Err, In_default, After-saturating_sub-most, In-Ok}
@@ -31,6 +32,15 @@ count_leaves-requires-clause-fits t c =
     let tree = subst (λ s. IsTree s c.self.inside.inner.items c.self.inside.leaves.items) c.self.view_is c.self.invariant.0 in
     room_at_leaves sets (are_full sets tree.sized) tree.in_order tree.rising c.args.depth c.args.start c.args.end c.args.weight c.args.counts.now
     (at_leaves t (goal.at.count_leaves-requires-clause-fits t c).In_default) c.requires.run c.requires.fits
+
+pub count_leaves-requires-clause-marks : goal.count_leaves-requires-clause-marks
+count_leaves-requires-clause-marks t c =
+    let sets = c.args.self.now in
+    let tree = subst (λ s. IsTree s c.self.inside.inner.items c.self.inside.leaves.items) c.self.view_is c.self.invariant.0 in
+    let deep = at_leaves t (goal.at.count_leaves-requires-clause-marks t c).In_default in
+    told_at_leaves sets (are_full sets tree.sized) tree.in_order tree.rising c.args.start c.args.end c.args.items.now c.deref-in_default.result.now c.args.marks.now
+    (subst (λ d. IsRun sets d c.args.start c.args.end) deep c.requires.run) (c.deref-in_default.ensures.value ∙ tree.last)
+    (subst (λ d. AreTold sets d c.args.start c.args.end c.args.items.now c.args.marks.now) deep c.requires.marks)
 
 pub returns-in_default : goal.returns-in_default
 returns-in_default t c =
@@ -88,6 +98,7 @@ walk-requires t c =
     let at = at_inner t (goal.at.walk-requires t c).After-saturating_sub-most in
     let found = found_here t (goal.at.walk-requires t c).In-Ok at in
     let inner = at.inner in
+    let short = length-take c.saturating_sub-most.result c.args.items.now in
     let long = c.loop-place.auto.counts ∙ c.requires.long in (
       omega (arith, c.decreases),
       (
@@ -97,9 +108,15 @@ walk-requires t c =
           (
             subst IsRising (sym (take_rest c.args.items.now (c.loop-place.place + 1))) (drop_rises (c.loop-place.place + 1) c.args.items.now c.requires.rising),
             (
+              told_below c.args.self.now c.args.depth c.args.start c.args.end c.args.items.now c.saturating_sub-most.result c.in-Some.nodes.now c.args.marks.now at c.requires.marks
+                  c.loop-place.place c.loop-place.from (c.loop-place.from + c.in-Ok.found) c.index.result.now c.index-in-Ok.result.now
+                  (omega (arith, short, c.loop-place-test.true)) c.loop-place.invariant.behind found (get_or-take c.saturating_sub-most.result c.args.items.now c.loop-place.place 0 (omega (arith, short, c.loop-place-test.true)))
+                  c.index.ensures c.index-in-Ok.ensures,
+             (
               long,
               children_fit c.args.self.now c.args.depth c.args.start c.args.end c.args.items.now c.saturating_sub-most.result c.in-Some.nodes.now at c.args.weight c.args.counts.now c.loop-place.place c.loop-place.from (c.loop-place.from + c.in-Ok.found) c.index.result.now c.index-in-Ok.result.now c.loop-place.counts
                   c.loop-place.invariant c.loop-place-test.true found c.index.ensures c.index-in-Ok.ensures c.requires.fits long,
+             ),
             ),
           ),
         ),
