@@ -55,7 +55,7 @@ first_at sets depth node le =
 
 module _ (sets : List (List ℕ)) (full : AreFull sets) (order : IsInReportOrder sets) (rising : All IsRising sets) where
   -- a set from a depth on
-  rest_is : (depth leaf : ℕ) → depth ≤ leaf_depth sets → leaf < length sets → drop depth (get_or sets leaf []) ≡ item_of sets depth leaf ∷ drop (depth + 1) (get_or sets leaf [])
+  pub rest_is : (depth leaf : ℕ) → depth ≤ leaf_depth sets → leaf < length sets → drop depth (get_or sets leaf []) ≡ item_of sets depth leaf ∷ drop (depth + 1) (get_or sets leaf [])
   rest_is depth leaf deep below = drop_more (get_or sets leaf []) depth 0 (let l = full leaf [] below in omega arith)
 
   rest_rises_on : (depth leaf : ℕ) → depth ≤ leaf_depth sets → leaf < length sets → IsRising (item_of sets depth leaf ∷ drop (depth + 1) (get_or sets leaf []))
@@ -105,7 +105,7 @@ module _ (sets : List (List ℕ)) (full : AreFull sets) (order : IsInReportOrder
       ∙ ap (item_of sets (leaf_depth sets)) (leaf_first leaf (omega arith))) ∙ at_leaf leaf items (omega arith)) adds))
 
   -- the children of a node are a run, below which the same sets are
-  tree_children : (depth node : ℕ) → depth < leaf_depth sets → node < length (starts_of sets depth)
+  pub tree_children : (depth node : ℕ) → depth < leaf_depth sets → node < length (starts_of sets depth)
       → IsRun sets (depth + 1) (get_or (node_firsts sets depth) node 0) (get_or (node_firsts sets depth) (node + 1) 0)
   tree_children depth node deep below =
       let a = first_at sets depth node (omega arith) in

@@ -30,7 +30,7 @@ pub record IsRun (sets : List (List ℕ)) (depth start end : ℕ) : Type 0 where
   pub within : end ≤ length (starts_of sets depth)
   pub rising : RisesWithin (node_items sets depth) start end
 
--- a table tells of the items of the leaves below a run of nodes whether they are among the items
+-- a table tells of the items at and below a run of nodes whether they are among the items
 abbrev pub AreTold : List (List ℕ) → ℕ → ℕ → ℕ → List ℕ → List Bool → Type 0
 AreTold sets depth start end items table =
-    (leaf : ℕ) → first_leaf sets depth start ≤ leaf → leaf < first_leaf sets depth end → Tells table items (item_of sets (leaf_depth sets) leaf)
+    (leaf at : ℕ) → first_leaf sets depth start ≤ leaf → leaf < first_leaf sets depth end → depth ≤ at → at ≤ leaf_depth sets → Tells table items (item_of sets at leaf)

@@ -56,7 +56,7 @@ pub fn count_leaves(
 }
 
 /// Whether the marks know the items of a run.
-fn are_known(leaves: &[u32], start: usize, end: usize, marks: &[bool]) -> bool
+pub fn are_known(leaves: &[u32], start: usize, end: usize, marks: &[bool]) -> bool
     requires within { end ≤ length leaves.now }
     requires run { RisesWithin leaves.now start end }
     ensures { IsTrue result → (leaf : ℕ) → start ≤ leaf → leaf < end → slice_index leaves.now leaf < length marks.now }

@@ -1,18 +1,18 @@
 //! The candidates of one size as a prefix tree, which baskets walk.
-ghost use Rattle.std.specs.Prelude.{◌≡◌, ◌<◌, ◌≤◌, ◌+◌, ◌^◌, [], IfOk, map, length, drop, slice_index_or};
+ghost use Rattle.std.specs.Prelude.{◌≡◌, ◌<◌, ◌≤◌, ◌+◌, ◌^◌, ℕ, [], IfOk, map, length, drop, slice_index, slice_index_or};
 ghost use Rattle.std.specs.List.{AllWithin};
 ghost use Rattle.basket_sets.specs.Database.{MOST_WEIGHT};
 ghost use Rattle.basket_sets.specs.Itemset.{IsRising, contains};
 ghost use Rattle.basket_sets.specs.Order.{IsInReportOrder};
 ghost use Rattle.basket_sets.specs.Support.{support_of, total_of};
-ghost use Rattle.mine_apriori.specs.Nodes.{first_leaf, starts_of};
+ghost use Rattle.mine_apriori.specs.Nodes.{first_leaf, node_items, starts_of};
 ghost use Rattle.mine_apriori.specs.Run.{AddsWithin};
 ghost use Rattle.mine_apriori.specs.Tree.{AreTold, IsRun, leaf_depth};
 ghost use Rattle.mine_apriori.specs.Sizes.{AreOfOneSize};
 ghost use Rattle.mine_apriori.specs.Used.{IsClear};
 
 use crate::nodes::{Nodes, items_at, nodes_at};
-use crate::run::{count_leaves, find};
+use crate::run::{are_known, count_leaves, find};
 use crate::used::{keep_used, longest, mark, no_items, unmark, used_items};
 use basket_core::{Itemset, Weighted};
 use std::alloc::{AllocError, Global};
@@ -123,9 +123,42 @@ impl<'a> CandidateTree<'a> {
         }
     }
 
+    /// The same for nodes of a depth above the leaves whose items the marks know, by going over the
+    /// nodes and not the items.
+    #[cycle(walk)]
+    fn walk_marked(
+        &self,
+        depth: usize,
+        start: usize,
+        end: usize,
+        items: &[u32],
+        marks: &[bool],
+        weight: u64,
+        counts: &mut [u64],
+    )
+        requires inner { depth < leaf_depth self.now }
+        requires known { (node : ℕ) → start ≤ node → node < end → slice_index (node_items self.now depth) node < length marks.now }
+        requires run { IsRun self.now depth start end }
+        requires rising { IsRising items.now }
+        requires marks { AreTold self.now depth start end items.now marks.now }
+        requires long { length counts.old ≡ length self.now }
+        requires fits { AllWithin (λ count. count + weight < 2 ^ 64) counts.old (first_leaf self.now depth start) (first_leaf self.now depth end) }
+        ensures { AddsWithin (λ leaf. contains items.now (drop depth (slice_index_or self.now leaf []))) weight
+            (first_leaf self.now depth start) (first_leaf self.now depth end) counts.old counts.new }
+    {
+        let nodes = &self.inner[depth];
+        for node in start..end {
+            if marks[nodes.items[node] as usize] {
+                let (first, behind) = (nodes.firsts[node], nodes.firsts[node + 1]);
+                self.walk(depth + 1, first, behind, items, marks, weight, counts);
+            }
+        }
+    }
+
     /// Adds the weight at each leaf below a run of nodes whose set has its items from the depth on
     /// among the items. An item is looked for behind the last that was found. The marks tell of the
     /// items of the leaves.
+    #[cycle(walk)]
     fn walk(
         &self,
         depth: usize,
@@ -149,6 +182,10 @@ impl<'a> CandidateTree<'a> {
             count_leaves(&self.leaves, start, end, items, marks, weight, counts);
             return;
         };
+        if end - start <= items.len() && are_known(&nodes.items, start, end, marks) {
+            self.walk_marked(depth, start, end, items, marks, weight, counts);
+            return;
+        }
         // An item with fewer behind it than a set has below the depth can't begin the rest of one.
         let most = items.len().saturating_sub(self.inner.len() - depth);
         let mut from = start;

@@ -3,7 +3,6 @@ use Rattle.std.specs.Ordering.{nat_cmp}
 use Rattle.std.proofs.lemmas.List.Kept.{IsStrictlySortedBy-filter}
 use Rattle.basket_sets.specs.Itemset.{IsRising, contains}
 use Rattle.mine_apriori.specs.Nodes.{item_of}
-use Rattle.mine_apriori.specs.Tree.{leaf_depth}
 use Rattle.mine_apriori.specs.Used.{AreMarked, Tells, may_be_used}
 use Rattle.mine_apriori.proofs.SupportLemmas.{walked_from_roots}
 use Rattle.mine_apriori.proofs.UsedLemmas.{kept_contains}
@@ -21,7 +20,7 @@ told : (c : After-mark) → (item : ℕ) → Tells c.mark.new.table (take c.keep
 told c = marked_tells c.args.marks.now c.mark.new.table (take c.keep_used-len.result c.keep_used-len.new.kept) c.requires.clear c.mark.auto.table c.mark.ensures
 
 pub walk-requires-clause-marks : goal.walk-requires-clause-marks
-walk-requires-clause-marks c leaf from to = told (goal.at.walk-requires-clause-marks c).After-mark (item_of c.args.self.now (leaf_depth c.args.self.now) leaf)
+walk-requires-clause-marks c leaf at from to low high = told (goal.at.walk-requires-clause-marks c).After-mark (item_of c.args.self.now at leaf)
 
 pub returns-then-len-gt1-clause-clear : goal.returns-then-len-gt1-clause-clear
 returns-then-len-gt1-clause-clear c =
