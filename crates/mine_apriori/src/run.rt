@@ -1,5 +1,5 @@
 //! Runs of a tree: nodes or leaves that stand side by side, whose items rise.
-ghost use Rattle.std.specs.Prelude.{◌≡◌, ◌<◌, ◌≤◌, ◌+◌, ◌-◌, ◌^◌, ℕ, IsTrue, MatchResult, if◌then◌else◌, length, slice_index};
+ghost use Rattle.std.specs.Prelude.{◌≡◌, ◌<◌, ◌≤◌, ◌+◌, ◌-◌, ◌^◌, ℕ, IsTrue, MatchResult, length, slice_index};
 ghost use Rattle.std.specs.List.{AllWithin};
 ghost use Rattle.basket_sets.specs.Itemset.{IsRising, has};
 ghost use Rattle.mine_apriori.specs.Run.{IsDenseWithin, IsMissingAt, RisesWithin, AddsWithin};
@@ -65,7 +65,7 @@ pub fn are_known(leaves: &[u32], start: usize, end: usize, marks: &[bool]) -> bo
 }
 
 /// Adds the weight at each leaf of a run whose item is marked. The marks can't be predicted, so
-/// there is no branch on them.
+/// what is added is looked up, where a compiler would turn an `if` into a branch.
 fn count_marked(
     leaves: &[u32],
     start: usize,
@@ -81,17 +81,10 @@ fn count_marked(
     requires fits { AllWithin (λ count. count + weight < 2 ^ 64) counts.old start end }
     ensures { AddsWithin (λ leaf. is_marked marks.now (slice_index leaves.now leaf)) weight start end counts.old counts.new }
 {
+    let parts = [0, weight];
     for leaf in start..end {
-        counts[leaf] += if_marked(marks[leaves[leaf] as usize], weight);
+        counts[leaf] += parts[usize::from(marks[leaves[leaf] as usize])];
     }
-}
-
-/// The weight, or 0 where there is no mark.
-#[inline]
-fn if_marked(mark: bool, weight: u64) -> u64
-    ensures { result ≡ (if mark then weight else 0) }
-{
-    if mark { weight } else { 0 }
 }
 
 /// Whether a run has an item and no gaps.

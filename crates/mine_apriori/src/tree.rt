@@ -182,12 +182,12 @@ impl<'a> CandidateTree<'a> {
             count_leaves(&self.leaves, start, end, items, marks, weight, counts);
             return;
         };
-        if end - start <= items.len() && are_known(&nodes.items, start, end, marks) {
+        // An item with fewer behind it than a set has below the depth can't begin the rest of one.
+        let most = items.len().saturating_sub(self.inner.len() - depth);
+        if end - start <= most && are_known(&nodes.items, start, end, marks) {
             self.walk_marked(depth, start, end, items, marks, weight, counts);
             return;
         }
-        // An item with fewer behind it than a set has below the depth can't begin the rest of one.
-        let most = items.len().saturating_sub(self.inner.len() - depth);
         let mut from = start;
         for (place, item) in items[..most].iter().enumerate() {
             if from == end {
