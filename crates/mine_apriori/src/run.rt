@@ -55,13 +55,13 @@ pub fn count_leaves(
     }
 }
 
-/// Whether the marks know the items of a run.
-pub fn are_known(leaves: &[u32], start: usize, end: usize, marks: &[bool]) -> bool
-    requires within { end ≤ length leaves.now }
-    requires run { RisesWithin leaves.now start end }
-    ensures { IsTrue result → (leaf : ℕ) → start ≤ leaf → leaf < end → slice_index leaves.now leaf < length marks.now }
+/// Whether a run has an item, and the marks know all that it has.
+pub fn are_known(nodes: &[u32], start: usize, end: usize, marks: &[bool]) -> bool
+    requires within { end ≤ length nodes.now }
+    requires run { RisesWithin nodes.now start end }
+    ensures { IsTrue result → (node : ℕ) → start ≤ node → node < end → slice_index nodes.now node < length marks.now }
 {
-    start < end && (leaves[end - 1] as usize) < marks.len()
+    start < end && (nodes[end - 1] as usize) < marks.len()
 }
 
 /// Adds the weight at each leaf of a run whose item is marked. The marks can't be predicted, so

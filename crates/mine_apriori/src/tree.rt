@@ -123,7 +123,7 @@ impl<'a> CandidateTree<'a> {
         }
     }
 
-    /// The same for nodes of a depth above the leaves whose items the marks know, by going over the
+    /// What `walk` does, for nodes above the leaves whose items the marks know, by going over the
     /// nodes and not the items.
     #[cycle(walk)]
     fn walk_marked(
@@ -156,8 +156,8 @@ impl<'a> CandidateTree<'a> {
     }
 
     /// Adds the weight at each leaf below a run of nodes whose set has its items from the depth on
-    /// among the items. An item is looked for behind the last that was found. The marks tell of the
-    /// items of the leaves.
+    /// among the items, as the marks tell too of each item of those sets that they know. An item is
+    /// looked for behind the last that was found.
     #[cycle(walk)]
     fn walk(
         &self,

@@ -114,11 +114,11 @@ walk-walk-requires t c =
                   c.loop-place.place c.loop-place.from (c.loop-place.from + c.in-Ok.found) c.index.result.now c.index-in-Ok.result.now
                   (omega (arith, short, c.loop-place-test.true)) c.loop-place.invariant.behind found (get_or-take c.saturating_sub-most.result c.args.items.now c.loop-place.place 0 (omega (arith, short, c.loop-place-test.true)))
                   c.index.ensures c.index-in-Ok.ensures,
-             (
-              long,
-              children_fit c.args.self.now c.args.depth c.args.start c.args.end c.args.items.now c.saturating_sub-most.result c.in-Some.nodes.now at c.args.weight c.args.counts.now c.loop-place.place c.loop-place.from (c.loop-place.from + c.in-Ok.found) c.index.result.now c.index-in-Ok.result.now c.loop-place.counts
-                  c.loop-place.invariant c.loop-place-test.true found c.index.ensures c.index-in-Ok.ensures c.requires.fits long,
-             ),
+              (
+                long,
+                children_fit c.args.self.now c.args.depth c.args.start c.args.end c.args.items.now c.saturating_sub-most.result c.in-Some.nodes.now at c.args.weight c.args.counts.now c.loop-place.place c.loop-place.from (c.loop-place.from + c.in-Ok.found) c.index.result.now c.index-in-Ok.result.now c.loop-place.counts
+                    c.loop-place.invariant c.loop-place-test.true found c.index.ensures c.index-in-Ok.ensures c.requires.fits long,
+              ),
             ),
           ),
         ),
