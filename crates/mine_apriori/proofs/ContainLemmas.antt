@@ -29,7 +29,7 @@ take_rises n items up = sorted_from_strictly_increasing (take n items) (λ k bel
 place_is_member : (items : List ℕ) (i : ℕ) → i < length items → Member (get_or items i 0) items
 place_is_member items i below = Member-from_Contains (get_or items i 0) items (i, below, get_or_default items i (get_or items i 0) 0 below)
 
-member_behind : (items : List ℕ) (i z : ℕ) → IsRising items → i < length items → get_or items i 0 < z → Member z items → Member z (drop (suc i) items)
+pub member_behind : (items : List ℕ) (i z : ℕ) → IsRising items → i < length items → get_or items i 0 < z → Member z items → Member z (drop (suc i) items)
 member_behind [] i z up below less m = absurd m
 member_behind (y ∷ items) zero z up below less (inl e) = absurd (omega arith)
 member_behind (y ∷ items) zero z up below less (inr m) = m
@@ -37,7 +37,7 @@ member_behind (y ∷ items) (suc i) z up below less (inl e) =
     absurd (let b = first_below y items up (get_or items i 0) (place_is_member items i (omega arith)) in omega arith)
 member_behind (y ∷ items) (suc i) z up below less (inr m) = member_behind items i z (rest_rises y items up) (omega arith) less m
 
-member_from_drop : (n : ℕ) (items : List ℕ) (z : ℕ) → Member z (drop n items) → Member z items
+pub member_from_drop : (n : ℕ) (items : List ℕ) (z : ℕ) → Member z (drop n items) → Member z items
 member_from_drop zero items z m = m
 member_from_drop (suc n) [] z m = m
 member_from_drop (suc n) (y ∷ items) z m = inr (member_from_drop n items z m)

@@ -1,5 +1,5 @@
 -- The frequent sets by levels: each level is what is frequent among the candidates of the one before.
-use Rattle.std.proofs.Common.{◌≡◌, ◌≢◌, ℕ, ◌+◌, ◌<◌, ◌≤◌, Bool, true, List, [], ◌∷◌, ◌++◌, Some, Result, Ok, Err, length, drop, get_or, map, refl, sym, ap, ◌∙◌, subst, inl, inr, arith, zero, suc}
+use Rattle.std.proofs.Common.{◌≡◌, ◌≢◌, ℕ, ◌+◌, ◌<◌, ◌≤◌, Bool, true, List, [], ◌∷◌, ◌++◌, Some, length, drop, get_or, map, refl, sym, ap, ◌∙◌, subst, inl, inr, arith, zero, suc}
 use Rattle.std.specs.Cmp.Lexicographic.{slice_cmp}
 use Rattle.std.specs.Ordering.{nat_cmp}
 use Rattle.std.specs.List.{All, Contains, filter, flat_map, slice_get}
@@ -8,8 +8,6 @@ use Rattle.std.proofs.lemmas.List.{append-nil, length-append, length-map, map-ap
 use Rattle.std.proofs.lemmas.Option.{slice_get_within, get_or_from_slice_get}
 use Rattle.std.proofs.lemmas.List.Elements.{filter-append}
 use Rattle.std.proofs.lemmas.List.Kept.{IsStrictlySortedBy-filter}
-use Rattle.basket_core.specs.declared.fault.MineFault.{MineFault}
-use Rattle.basket_core.specs.declared.fault.MineFault.TheVariants.{Memory, TooMany}
 use Rattle.basket_core.specs.Codes.{Coding, IsCoding, baskets_of, frequent_of_coding, decoded_set}
 use Rattle.basket_sets.specs.Counts.{item_supports, AllBelow}
 use Rattle.basket_sets.specs.Frequent.{is_frequent, counted, frequent_of, ListsOnce}

@@ -16,3 +16,4 @@ mod UsedLemmas
 mod SupportLemmas
 mod RegularLemmas
 mod LevelsLemmas
+mod MarkLemmas

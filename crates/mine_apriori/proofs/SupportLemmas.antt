@@ -1,7 +1,7 @@
 -- Counts that are the supports of sets in the baskets so far.
-use Rattle.std.proofs.Common.{◌≡◌, ℕ, ◌+◌, ◌<◌, ◌≤◌, ◌^◌, List, [], ◌++◌, length, take, drop, map, get_or, cond, refl, sym, subst, ap, ◌∙◌, arith}
+use Rattle.std.proofs.Common.{◌≡◌, ℕ, ◌+◌, ◌<◌, ◌≤◌, ◌^◌, List, [], length, take, map, get_or, cond, refl, sym, subst, ap, ◌∙◌, arith}
 use Rattle.std.specs.List.{AllWithin}
-use Rattle.std.proofs.lemmas.List.{get_or-map, length-map, same_lists, get_or_default, take_all, take_at}
+use Rattle.std.proofs.lemmas.List.{get_or-map, length-map, same_lists, get_or_default, take_all}
 use Rattle.std.proofs.lemmas.List.Sums.{sum_by_more, sum_by_more_le}
 use Rattle.basket_sets.specs.declared.weighted.Weighted.{Weighted}
 use Rattle.basket_sets.specs.Database.{MOST_WEIGHT}

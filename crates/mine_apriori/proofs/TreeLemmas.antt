@@ -55,7 +55,7 @@ first_at sets depth node le =
 
 module _ (sets : List (List ℕ)) (full : AreFull sets) (order : IsInReportOrder sets) (rising : All IsRising sets) where
   -- a set from a depth on
-  rest_is : (depth leaf : ℕ) → depth ≤ leaf_depth sets → leaf < length sets → drop depth (get_or sets leaf []) ≡ item_of sets depth leaf ∷ drop (depth + 1) (get_or sets leaf [])
+  pub rest_is : (depth leaf : ℕ) → depth ≤ leaf_depth sets → leaf < length sets → drop depth (get_or sets leaf []) ≡ item_of sets depth leaf ∷ drop (depth + 1) (get_or sets leaf [])
   rest_is depth leaf deep below = drop_more (get_or sets leaf []) depth 0 (let l = full leaf [] below in omega arith)
 
   rest_rises_on : (depth leaf : ℕ) → depth ≤ leaf_depth sets → leaf < length sets → IsRising (item_of sets depth leaf ∷ drop (depth + 1) (get_or sets leaf []))
@@ -87,7 +87,7 @@ module _ (sets : List (List ℕ)) (full : AreFull sets) (order : IsInReportOrder
       let none = nil_from_length (drop (leaf_depth sets + 1) (get_or sets leaf [])) (omega arith) in
       sym (ap (contains items) (rest_is (leaf_depth sets) leaf (omega arith) below ∙ ap (λ rest. item_of sets (leaf_depth sets) leaf ∷ rest) none) ∙ and_true (has items (item_of sets (leaf_depth sets) leaf)))
 
-  leaf_first : (node : ℕ) → node ≤ length sets → first_leaf sets (leaf_depth sets) node ≡ node
+  pub leaf_first : (node : ℕ) → node ≤ length sets → first_leaf sets (leaf_depth sets) node ≡ node
   leaf_first node le = leaf_is sets (suc (leaf_depth sets)) full order (leaf_depth sets) node refl le
 
   pub leaf_count : length (starts_of sets (leaf_depth sets)) ≡ length sets
@@ -105,7 +105,7 @@ module _ (sets : List (List ℕ)) (full : AreFull sets) (order : IsInReportOrder
       ∙ ap (item_of sets (leaf_depth sets)) (leaf_first leaf (omega arith))) ∙ at_leaf leaf items (omega arith)) adds))
 
   -- the children of a node are a run, below which the same sets are
-  tree_children : (depth node : ℕ) → depth < leaf_depth sets → node < length (starts_of sets depth)
+  pub tree_children : (depth node : ℕ) → depth < leaf_depth sets → node < length (starts_of sets depth)
       → IsRun sets (depth + 1) (get_or (node_firsts sets depth) node 0) (get_or (node_firsts sets depth) (node + 1) 0)
   tree_children depth node deep below =
       let a = first_at sets depth node (omega arith) in
@@ -115,7 +115,7 @@ module _ (sets : List (List ℕ)) (full : AreFull sets) (order : IsInReportOrder
       (subst (λ high. IsRun sets (depth + 1) (children_before sets depth (first_leaf sets depth node)) high) (sym b)
       (child_run sets (suc (leaf_depth sets)) full order depth node (omega arith) below))
 
-  child_first : (depth node : ℕ) → node ≤ length (starts_of sets depth) → first_leaf sets (depth + 1) (get_or (node_firsts sets depth) node 0) ≡ first_leaf sets depth node
+  pub child_first : (depth node : ℕ) → node ≤ length (starts_of sets depth) → first_leaf sets (depth + 1) (get_or (node_firsts sets depth) node 0) ≡ first_leaf sets depth node
   child_first depth node le = ap (first_leaf sets (depth + 1)) (first_at sets depth node le) ∙ children_of sets (suc (leaf_depth sets)) full order depth node le
 
   -- what the walk of a node's children added is what is added below the node
@@ -172,7 +172,7 @@ pub nodes_read : (sets : List (List ℕ)) (inner : List Nodes) (leaves : List �
 nodes_read sets inner leaves depth seen nodes tree same below is =
     subst (AreNodes sets depth) (sym (is ∙ ap (λ l. get_or l depth nodes) same)) (tree.each depth nodes (let e = ap length same in omega arith))
 
-first_read : (sets : List (List ℕ)) (depth : ℕ) (nodes : Nodes) (node first : ℕ) → AreNodes sets depth nodes → node ≤ length (starts_of sets depth) → first ≡ get_or nodes.firsts.items node first
+pub first_read : (sets : List (List ℕ)) (depth : ℕ) (nodes : Nodes) (node first : ℕ) → AreNodes sets depth nodes → node ≤ length (starts_of sets depth) → first ≡ get_or nodes.firsts.items node first
     → first ≡ get_or (node_firsts sets depth) node 0
 first_read sets depth nodes node first is le read =
     let long = ap length is.firsts ∙ long_firsts sets depth in

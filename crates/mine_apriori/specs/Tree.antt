@@ -1,10 +1,11 @@
-use Rattle.std.specs.Prelude.{◌≡◌, ◌<◌, ◌≤◌, ℕ, ◌-◌, List, [], length, All, slice_index_or}
+use Rattle.std.specs.Prelude.{◌≡◌, ◌<◌, ◌≤◌, ℕ, ◌-◌, Bool, List, [], length, All, slice_index_or}
 use Rattle.basket_sets.specs.Itemset.{IsRising}
 use Rattle.basket_sets.specs.Order.{IsInReportOrder}
 use Rattle.mine_apriori.specs.declared.nodes.Nodes.{Nodes}
-use Rattle.mine_apriori.specs.Nodes.{starts_of, node_items, AreNodes}
+use Rattle.mine_apriori.specs.Nodes.{starts_of, first_leaf, item_of, node_items, AreNodes}
 use Rattle.mine_apriori.specs.Run.{RisesWithin}
 use Rattle.mine_apriori.specs.Sizes.{AreOfOneSize}
+use Rattle.mine_apriori.specs.Used.{Tells}
 
 -- the number of items of the first set, or 0
 abbrev pub size_of : List (List ℕ) → ℕ
@@ -28,3 +29,8 @@ pub record IsRun (sets : List (List ℕ)) (depth start end : ℕ) : Type 0 where
   pub ordered : start ≤ end
   pub within : end ≤ length (starts_of sets depth)
   pub rising : RisesWithin (node_items sets depth) start end
+
+-- a table tells of the items at and below a run of nodes whether they are among the items
+abbrev pub AreTold : List (List ℕ) → ℕ → ℕ → ℕ → List ℕ → List Bool → Type 0
+AreTold sets depth start end items table =
+    (leaf at : ℕ) → first_leaf sets depth start ≤ leaf → leaf < first_leaf sets depth end → depth ≤ at → at ≤ leaf_depth sets → Tells table items (item_of sets at leaf)

@@ -1,5 +1,5 @@
--- A table of the items that the candidates have.
-use Rattle.std.specs.Prelude.{◌<◌, ℕ, Bool, true, IsTrue, List, [], length, slice_index_or}
+-- Tables of items: those that the candidates have, and those of a basket.
+use Rattle.std.specs.Prelude.{◌≡◌, ◌<◌, ℕ, Bool, true, false, IsTrue, List, [], length, slice_index_or}
 use Rattle.basket_sets.specs.Itemset.{has}
 
 -- whether the item is marked, or greater than those that the table knows
@@ -9,3 +9,15 @@ may_be_used table item = slice_index_or table item true
 -- each item of the sets may be used
 abbrev pub AreMarked : List (List ℕ) → List Bool → Type 0
 AreMarked sets table = (k item : ℕ) → k < length sets → IsTrue (has (slice_index_or sets k []) item) → IsTrue (may_be_used table item)
+
+-- whether the table knows the item, and it is marked
+abbrev pub is_marked : List Bool → ℕ → Bool
+is_marked table item = slice_index_or table item false
+
+-- no item is marked
+abbrev pub IsClear : List Bool → Type 0
+IsClear table = (item : ℕ) → is_marked table item ≡ false
+
+-- if the table knows the item, it is marked where it is among the items
+abbrev pub Tells : List Bool → List ℕ → ℕ → Type 0
+Tells table items item = item < length table → is_marked table item ≡ has items item

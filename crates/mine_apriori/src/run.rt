@@ -1,8 +1,9 @@
 //! Runs of a tree: nodes or leaves that stand side by side, whose items rise.
-ghost use Rattle.std.specs.Prelude.{◌≡◌, ◌<◌, ◌≤◌, ◌+◌, ◌-◌, ◌^◌, IsTrue, MatchResult, length, slice_index};
+ghost use Rattle.std.specs.Prelude.{◌≡◌, ◌<◌, ◌≤◌, ◌+◌, ◌-◌, ◌^◌, ℕ, IsTrue, MatchResult, length, slice_index};
 ghost use Rattle.std.specs.List.{AllWithin};
 ghost use Rattle.basket_sets.specs.Itemset.{IsRising, has};
 ghost use Rattle.mine_apriori.specs.Run.{IsDenseWithin, IsMissingAt, RisesWithin, AddsWithin};
+ghost use Rattle.mine_apriori.specs.Used.{Tells, is_marked};
 
 /// The place of an item in a rising run, or the place before which it is missing. In a run with no
 /// gaps the item stands as far behind the first as it is greater, so that place is tried first. In
@@ -25,12 +26,14 @@ pub fn find(run: &[u32], item: u32) -> Result<usize, usize>
     run[..place.min(run.len())].binary_search(&item)
 }
 
-/// Adds the weight at each leaf of a run whose item is among the items.
+/// Adds the weight at each leaf of a run whose item is among the items, which the marks tell of
+/// each item that they know.
 pub fn count_leaves(
     leaves: &[u32],
     start: usize,
     end: usize,
     items: &[u32],
+    marks: &[bool],
     weight: u64,
     counts: &mut [u64],
 )
@@ -38,14 +41,49 @@ pub fn count_leaves(
     requires within { end ≤ length leaves.now }
     requires run { RisesWithin leaves.now start end }
     requires rising { IsRising items.now }
+    requires marks { (leaf : ℕ) → start ≤ leaf → leaf < end → Tells marks.now items.now (slice_index leaves.now leaf) }
     requires long { length counts.old ≡ length leaves.now }
     requires fits { AllWithin (λ count. count + weight < 2 ^ 64) counts.old start end }
     ensures { AddsWithin (λ leaf. has items.now (slice_index leaves.now leaf)) weight start end counts.old counts.new }
 {
-    if is_dense(leaves, start, end) {
+    if end - start <= items.len() && are_known(leaves, start, end, marks) {
+        count_marked(leaves, start, end, marks, weight, counts);
+    } else if is_dense(leaves, start, end) {
         count_dense(leaves[start], start, end, items, weight, counts);
     } else {
         count_sparse(leaves, start, end, items, weight, counts);
+    }
+}
+
+/// Whether a run has an item, and the marks know all that it has.
+pub fn are_known(nodes: &[u32], start: usize, end: usize, marks: &[bool]) -> bool
+    requires within { end ≤ length nodes.now }
+    requires run { RisesWithin nodes.now start end }
+    ensures { IsTrue result → (node : ℕ) → start ≤ node → node < end → slice_index nodes.now node < length marks.now }
+{
+    start < end && (nodes[end - 1] as usize) < marks.len()
+}
+
+/// Adds the weight at each leaf of a run whose item is marked. The marks can't be predicted, so
+/// what is added is looked up, where a compiler would turn an `if` into a branch.
+fn count_marked(
+    leaves: &[u32],
+    start: usize,
+    end: usize,
+    marks: &[bool],
+    weight: u64,
+    counts: &mut [u64],
+)
+    requires within { end ≤ length leaves.now }
+    requires known { (leaf : ℕ) → start ≤ leaf → leaf < end → slice_index leaves.now leaf < length marks.now }
+    requires ordered { start ≤ end }
+    requires long { length counts.old ≡ length leaves.now }
+    requires fits { AllWithin (λ count. count + weight < 2 ^ 64) counts.old start end }
+    ensures { AddsWithin (λ leaf. is_marked marks.now (slice_index leaves.now leaf)) weight start end counts.old counts.new }
+{
+    let parts = [0, weight];
+    for leaf in start..end {
+        counts[leaf] += parts[usize::from(marks[leaves[leaf] as usize])];
     }
 }
 

@@ -1,18 +1,19 @@
 //! The candidates of one size as a prefix tree, which baskets walk.
-ghost use Rattle.std.specs.Prelude.{◌≡◌, ◌<◌, ◌≤◌, ◌+◌, ◌^◌, [], IfOk, map, length, drop, slice_index_or};
+ghost use Rattle.std.specs.Prelude.{◌≡◌, ◌<◌, ◌≤◌, ◌+◌, ◌^◌, ℕ, [], IfOk, map, length, drop, slice_index, slice_index_or};
 ghost use Rattle.std.specs.List.{AllWithin};
 ghost use Rattle.basket_sets.specs.Database.{MOST_WEIGHT};
 ghost use Rattle.basket_sets.specs.Itemset.{IsRising, contains};
 ghost use Rattle.basket_sets.specs.Order.{IsInReportOrder};
 ghost use Rattle.basket_sets.specs.Support.{support_of, total_of};
-ghost use Rattle.mine_apriori.specs.Nodes.{first_leaf, starts_of};
+ghost use Rattle.mine_apriori.specs.Nodes.{first_leaf, node_items, starts_of};
 ghost use Rattle.mine_apriori.specs.Run.{AddsWithin};
-ghost use Rattle.mine_apriori.specs.Tree.{IsRun, leaf_depth};
+ghost use Rattle.mine_apriori.specs.Tree.{AreTold, IsRun, leaf_depth};
 ghost use Rattle.mine_apriori.specs.Sizes.{AreOfOneSize};
+ghost use Rattle.mine_apriori.specs.Used.{IsClear};
 
 use crate::nodes::{Nodes, items_at, nodes_at};
-use crate::run::{count_leaves, find};
-use crate::used::{keep_used, longest, used_items};
+use crate::run::{are_known, count_leaves, find};
+use crate::used::{keep_used, longest, mark, no_items, unmark, used_items};
 use basket_core::{Itemset, Weighted};
 use std::alloc::{AllocError, Global};
 use std::marker::Model;
@@ -71,30 +72,44 @@ impl<'a> CandidateTree<'a> {
     {
         let mut counts = vec![in alloc; 0; self.sets.len()]?;
         let mut kept = vec![in alloc; 0; longest(baskets)]?;
+        let mut marks = no_items(alloc)?;
         let roots = self.roots();
         for place in baskets {
-            self.count_basket(place, roots, &mut kept, &mut counts);
+            self.count_basket(place, roots, &mut kept, &mut marks, &mut counts);
         }
         Ok(counts)
     }
 
-    /// Adds the weight of a place at each set that its basket has. The list is for its use.
-    fn count_basket(&self, place: &Weighted, roots: usize, kept: &mut [u32], counts: &mut [u64])
+    /// Adds the weight of a place at each set that its basket has. The list is for its use, and so
+    /// are the marks, which are clear before and behind it.
+    fn count_basket(
+        &self,
+        place: &Weighted,
+        roots: usize,
+        kept: &mut [u32],
+        marks: &mut [bool],
+        counts: &mut [u64],
+    )
         requires roots { roots ≡ length (starts_of self.now 0) }
         requires run { IsRun self.now 0 0 roots }
         requires room { length place.now.basket ≤ length kept.old }
+        requires clear { IsClear marks.old }
         requires long { length counts.old ≡ length self.now }
         requires fits { AllWithin (λ count. count + place.now.weight < 2 ^ 64) counts.old 0 (length self.now) }
-        ensures { AddsWithin (λ leaf. contains place.now.basket (slice_index_or self.now leaf [])) place.now.weight
+        ensures counted { AddsWithin (λ leaf. contains place.now.basket (slice_index_or self.now leaf [])) place.now.weight
             0 (length self.now) counts.old counts.new }
+        ensures clear { IsClear marks.new }
     {
         let items = place.basket.items();
         if self.inner.len() > 1 {
             // Most baskets are left with few items where the candidates are large.
             let len = keep_used(&self.used, items, kept);
-            self.walk(0, 0, roots, &kept[..len], place.weight, counts);
+            let kept = &kept[..len];
+            mark(marks, kept);
+            self.walk(0, 0, roots, kept, marks, place.weight, counts);
+            unmark(marks, kept);
         } else {
-            self.walk(0, 0, roots, items, place.weight, counts);
+            self.walk(0, 0, roots, items, &[], place.weight, counts);
         }
     }
 
@@ -108,31 +123,71 @@ impl<'a> CandidateTree<'a> {
         }
     }
 
+    /// What `walk` does, for nodes above the leaves whose items the marks know, by going over the
+    /// nodes and not the items.
+    #[cycle(walk)]
+    fn walk_marked(
+        &self,
+        depth: usize,
+        start: usize,
+        end: usize,
+        items: &[u32],
+        marks: &[bool],
+        weight: u64,
+        counts: &mut [u64],
+    )
+        requires inner { depth < leaf_depth self.now }
+        requires known { (node : ℕ) → start ≤ node → node < end → slice_index (node_items self.now depth) node < length marks.now }
+        requires run { IsRun self.now depth start end }
+        requires rising { IsRising items.now }
+        requires marks { AreTold self.now depth start end items.now marks.now }
+        requires long { length counts.old ≡ length self.now }
+        requires fits { AllWithin (λ count. count + weight < 2 ^ 64) counts.old (first_leaf self.now depth start) (first_leaf self.now depth end) }
+        ensures { AddsWithin (λ leaf. contains items.now (drop depth (slice_index_or self.now leaf []))) weight
+            (first_leaf self.now depth start) (first_leaf self.now depth end) counts.old counts.new }
+    {
+        let nodes = &self.inner[depth];
+        for node in start..end {
+            if marks[nodes.items[node] as usize] {
+                let (first, behind) = (nodes.firsts[node], nodes.firsts[node + 1]);
+                self.walk(depth + 1, first, behind, items, marks, weight, counts);
+            }
+        }
+    }
+
     /// Adds the weight at each leaf below a run of nodes whose set has its items from the depth on
-    /// among the items. An item is looked for behind the last that was found.
+    /// among the items, as the marks tell too of each item of those sets that they know. An item is
+    /// looked for behind the last that was found.
+    #[cycle(walk)]
     fn walk(
         &self,
         depth: usize,
         start: usize,
         end: usize,
         items: &[u32],
+        marks: &[bool],
         weight: u64,
         counts: &mut [u64],
     )
         requires deep { depth ≤ leaf_depth self.now }
         requires run { IsRun self.now depth start end }
         requires rising { IsRising items.now }
+        requires marks { AreTold self.now depth start end items.now marks.now }
         requires long { length counts.old ≡ length self.now }
         requires fits { AllWithin (λ count. count + weight < 2 ^ 64) counts.old (first_leaf self.now depth start) (first_leaf self.now depth end) }
         ensures { AddsWithin (λ leaf. contains items.now (drop depth (slice_index_or self.now leaf []))) weight
             (first_leaf self.now depth start) (first_leaf self.now depth end) counts.old counts.new }
     {
         let Some(nodes) = self.inner.get(depth) else {
-            count_leaves(&self.leaves, start, end, items, weight, counts);
+            count_leaves(&self.leaves, start, end, items, marks, weight, counts);
             return;
         };
         // An item with fewer behind it than a set has below the depth can't begin the rest of one.
         let most = items.len().saturating_sub(self.inner.len() - depth);
+        if end - start <= most && are_known(&nodes.items, start, end, marks) {
+            self.walk_marked(depth, start, end, items, marks, weight, counts);
+            return;
+        }
         let mut from = start;
         for (place, item) in items[..most].iter().enumerate() {
             if from == end {
@@ -147,6 +202,7 @@ impl<'a> CandidateTree<'a> {
                         first,
                         behind,
                         &items[place + 1..],
+                        marks,
                         weight,
                         counts,
                     );

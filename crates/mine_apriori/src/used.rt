@@ -1,7 +1,7 @@
-//! Which items the candidates have.
-ghost use Rattle.std.specs.Prelude.{◌≡◌, ◌≤◌, ◌||◌, ℕ, All, IfOk, filter, length, take};
+//! Tables of items: those that the candidates have, and those of a basket.
+ghost use Rattle.std.specs.Prelude.{◌≡◌, ◌≤◌, ◌&&◌, ◌||◌, ℕ, All, IfOk, filter, length, not, take};
 ghost use Rattle.basket_sets.specs.Itemset.{has};
-ghost use Rattle.mine_apriori.specs.Used.{AreMarked, may_be_used};
+ghost use Rattle.mine_apriori.specs.Used.{AreMarked, IsClear, is_marked, may_be_used};
 
 use basket_core::{Itemset, Weighted};
 use std::alloc::{AllocError, Global};
@@ -20,13 +20,32 @@ pub fn used_items(alloc: Global, sets: &[Itemset]) -> Result<Vec<bool>, AllocErr
     Ok(table)
 }
 
-/// Marks the items of a set.
-fn mark(table: &mut [bool], items: &[u32])
+/// A table with no item marked.
+pub fn no_items(alloc: Global) -> Result<Vec<bool>, AllocError>
+    ensures { IfOk result (λ table. IsClear table.items) }
+{
+    let table = vec![in alloc; false; KNOWN_ITEMS]?;
+    Ok(table)
+}
+
+/// Marks the items that the table knows.
+pub fn mark(table: &mut [bool], items: &[u32])
     ensures { (item : ℕ) → may_be_used table.new item ≡ (may_be_used table.old item || has items.now item) }
 {
     for item in items {
         if (*item as usize) < table.len() {
             table[*item as usize] = true;
+        }
+    }
+}
+
+/// Takes the marks of the items away.
+pub fn unmark(table: &mut [bool], items: &[u32])
+    ensures { (item : ℕ) → is_marked table.new item ≡ (is_marked table.old item && not (has items.now item)) }
+{
+    for item in items {
+        if (*item as usize) < table.len() {
+            table[*item as usize] = false;
         }
     }
 }

@@ -1,19 +1,33 @@
-use Rattle.std.proofs.Common.{take, [], get_or, filter, subst, sym, ap, ◌∙◌}
+use Rattle.std.proofs.Common.{ℕ, take, [], get_or, filter, subst, sym, ap, ◌∙◌}
 use Rattle.std.specs.Ordering.{nat_cmp}
 use Rattle.std.proofs.lemmas.List.Kept.{IsStrictlySortedBy-filter}
 use Rattle.basket_sets.specs.Itemset.{IsRising, contains}
-use Rattle.mine_apriori.specs.Used.{AreMarked, may_be_used}
+use Rattle.mine_apriori.specs.Nodes.{item_of}
+use Rattle.mine_apriori.specs.Used.{AreMarked, Tells, may_be_used}
 use Rattle.mine_apriori.proofs.SupportLemmas.{walked_from_roots}
 use Rattle.mine_apriori.proofs.UsedLemmas.{kept_contains}
+use Rattle.mine_apriori.proofs.MarkLemmas.{marked_tells, clear_again}
 use Rattle.mine_apriori.proofs.tree.CandidateTree.count_basket.Goals as goal
+use Rattle.mine_apriori.proofs.tree.CandidateTree.count_basket.Goals.{After-mark}
 
 pub walk-requires-clause-rising : goal.walk-requires-clause-rising
 walk-requires-clause-rising c =
     subst IsRising (sym (c.keep_used-len.ensures.kept))
     (IsStrictlySortedBy-filter nat_cmp (may_be_used c.deref.result.now) c.items-items.result.now (subst IsRising (sym c.items-items.ensures.items) c.items-items.ensures.rising))
 
-pub returns-then-len-gt1 : goal.returns-then-len-gt1
-returns-then-len-gt1 c =
+-- the marks tell of what is kept
+told : (c : After-mark) → (item : ℕ) → Tells c.mark.new.table (take c.keep_used-len.result c.keep_used-len.new.kept) item
+told c = marked_tells c.args.marks.now c.mark.new.table (take c.keep_used-len.result c.keep_used-len.new.kept) c.requires.clear c.mark.auto.table c.mark.ensures
+
+pub walk-requires-clause-marks : goal.walk-requires-clause-marks
+walk-requires-clause-marks c leaf at from to low high = told (goal.at.walk-requires-clause-marks c).After-mark (item_of c.args.self.now at leaf)
+
+pub returns-then-len-gt1-clause-clear : goal.returns-then-len-gt1-clause-clear
+returns-then-len-gt1-clause-clear c =
+    clear_again c.mark.new.table c.unmark.new.table (take c.keep_used-len.result c.keep_used-len.new.kept) (told (goal.at.returns-then-len-gt1-clause-clear c).After-mark) c.unmark.ensures
+
+pub returns-then-len-gt1-clause-counted : goal.returns-then-len-gt1-clause-counted
+returns-then-len-gt1-clause-counted c =
     let sets = c.args.self.now in
     let basket = c.args.place.now.basket in
     let table = c.self.inside.used.items in
@@ -23,7 +37,7 @@ returns-then-len-gt1 c =
     walked_from_roots sets items basket c.args.roots c.args.place.now.weight c.args.counts.now c.walk.new.counts c.requires.roots
     (λ k below. ap (λ l. contains l (get_or sets k [])) kept ∙ kept_contains sets table basket k marked below) c.walk.ensures
 
-pub returns-else-len-gt1 : goal.returns-else-len-gt1
-returns-else-len-gt1 c =
+pub returns-else-len-gt1-clause-counted : goal.returns-else-len-gt1-clause-counted
+returns-else-len-gt1-clause-counted c =
     walked_from_roots c.args.self.now c.items-items.result.now c.args.place.now.basket c.args.roots c.args.place.now.weight c.args.counts.now c.walk-else-len-gt1.new.counts c.requires.roots
     (λ k below. ap (λ l. contains l (get_or c.args.self.now k [])) c.items-items.ensures.items) c.walk-else-len-gt1.ensures
