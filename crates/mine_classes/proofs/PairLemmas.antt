@@ -89,5 +89,5 @@ below_rising count p found below rank h =
 pub not_listed : (count : ℕ) (sums found : List ℕ) (rank : ℕ) → AreSums count sums found → has found rank ≡ false → get_or sums rank 0 ≡ 0
 not_listed count sums found rank are none = elim (cases_lt 0 (get_or sums rank 0)) [
   | inl some ↦ absurd (true≢false (sym (are.listed rank some) ∙ none))
-  | inr zero_is ↦ omega arith
+  | inr none_is ↦ omega arith
 ]
