@@ -12,8 +12,8 @@ import sys
 import threading
 import time
 
-# How long a proof from nothing was seen to take, in minutes, by the number of processors.
-SEEN = {1: 8, 2: 5, 4: 4}
+# How long a proof from nothing was seen to take, in minutes, by the number of processors; on one, its processor time.
+SEEN = {1: 9, 2: 7, 4: 5}
 # How often a crate says how far it is, in seconds.
 PACE = 10
 PROGRESS = re.compile(r"(?:, |so far: )(\d+) of (\d+)")
@@ -42,17 +42,21 @@ class Crate:
     def prove(self, jobs):
         begun = time.monotonic()
         say(f"{self.name}: begun")
-        if os.path.isfile(f"crates/{self.name}/src/main.rt"):
-            self.well = self.run("run", "--jobs", jobs, "--", "--help")
-        else:
-            self.well = self.run("check", "--jobs", jobs) and self.run("lib", "--jobs", jobs)
-        if self.well:
-            say(f"{self.name}: proved and built in {time.monotonic() - begun:.0f} seconds")
-        self.done.set()
+        try:
+            if os.path.isfile(f"crates/{self.name}/src/main.rt"):
+                self.well = self.run("run", "--jobs", jobs, "--", "--help")
+            else:
+                self.well = self.run("check", "--jobs", jobs) and self.run("lib", "--jobs", jobs)
+            if self.well:
+                say(f"{self.name}: proved and built in {time.monotonic() - begun:.0f} seconds")
+        finally:
+            self.done.set()
 
 
 def say(text):
-    print(text, flush=True)
+    """Writes a line in one piece, since several threads write."""
+    sys.stdout.write(text + "\n")
+    sys.stdout.flush()
 
 
 def crates_for(target):
@@ -82,7 +86,7 @@ def main(target):
     processors = len(os.sched_getaffinity(0))
     minutes = SEEN[max(it for it in SEEN if it <= processors)]
     say(f"Proving {len(crates)} crates on {processors} processors: about {minutes} minutes, once.")
-    waiting, running = crates, []
+    waiting, running = list(crates), []
     while waiting or running:
         running = [it for it in running if not it.done.is_set()]
         failed = next((it for it in crates if it.done.is_set() and not it.well), None)
