@@ -149,12 +149,17 @@ impl Coded {
         self.total
     }
 
-    /// The set of the items of the ranks.
-    pub fn decode(&self, alloc: Global, ranks: &[u32]) -> Result<Itemset, AllocError>
-        requires { AllBelow (length self.now.items) ranks.now }
-        ensures { IfOk result (λ set. set ≡ decoded self.now.items ranks.now) }
+    /// The greatest frequent item, or 0 where there is none.
+    pub(crate) fn greatest_item(&self) -> u32 {
+        self.items.iter().copied().max().unwrap_or(0)
+    }
+
+    /// The set of the items of the ranks. It takes the room of the ranks.
+    pub fn decode(&self, ranks: Itemset) -> Itemset
+        requires { AllBelow (length self.now.items) ranks }
+        ensures { result ≡ decoded self.now.items ranks }
     {
-        Itemset::from_items(alloc, &items_at(alloc, &self.items, ranks)?)
+        ranks.renamed(&self.items)
     }
 }
 
@@ -175,16 +180,4 @@ fn coded_baskets(
         })?;
     }
     Ok(coded)
-}
-
-/// The items of the ranks, in the order of the ranks.
-fn items_at(alloc: Global, items: &[u32], ranks: &[u32]) -> Result<Vec<u32>, AllocError>
-    requires { AllBelow (length items.now) ranks.now }
-    ensures { IfOk result (λ found. found.items ≡ map (λ rank. slice_index_or items.now rank 0) ranks.now) }
-{
-    let mut found = Vec::with_capacity(alloc, ranks.len())?;
-    for rank in ranks {
-        found.push(items[*rank as usize])?;
-    }
-    Ok(found)
 }

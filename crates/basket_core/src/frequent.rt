@@ -5,6 +5,7 @@ ghost use Rattle.basket_sets.specs.Frequent.{ListsOnce};
 ghost use Rattle.basket_core.specs.Listing.{listing_of};
 
 use crate::codes::Coded;
+use crate::keys::sort_by_words;
 use basket_sets::Counted;
 use std::alloc::{AllocError, Global};
 use std::marker::Model;
@@ -35,6 +36,8 @@ impl Frequent {
         ensures { IfOk result (λ frequent. frequent ≡ listing_of coded.now) }
     {
         let mut sets = gathered(alloc, classes)?;
+        sort_by_words(alloc, &mut sets, coded.greatest_item())?;
+        // The words leave nothing to move; this sort is what the order rests on.
         sets.sort_unstable();
         Ok(Frequent {
             sets,

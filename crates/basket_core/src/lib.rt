@@ -6,6 +6,7 @@ mod codes;
 mod depth;
 mod fault;
 mod frequent;
+mod keys;
 pub mod laws;
 mod ranks;
 mod tally;

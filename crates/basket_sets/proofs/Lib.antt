@@ -4,3 +4,4 @@ mod LeastLemmas
 mod CountLemmas
 mod MergeLemmas
 mod PlaceLemmas
+mod RenameLemmas

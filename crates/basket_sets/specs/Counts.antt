@@ -2,6 +2,7 @@ use Rattle.std.specs.Prelude.{◌≡◌, ◌<◌, ℕ, ◌+◌, IsTrue, Option, 
 use Rattle.basket_sets.specs.declared.weighted.Weighted.{Weighted}
 use Rattle.basket_sets.specs.Itemset.{has}
 use Rattle.basket_sets.specs.Support.{support_of, all_items, items_of}
+pub use Rattle.basket_sets.specs.Itemset.{AllBelow}
 
 -- each item of the baskets with its support, items rising
 abbrev pub item_supports : List Weighted → List (ℕ × ℕ)
@@ -18,10 +19,6 @@ IsTable baskets table = (item : ℕ) → item < length table → slice_index_or 
 -- a slot with some more weight
 abbrev pub slot_with : ℕ → Option ℕ → Option ℕ
 slot_with weight slot = Some (unwrap_or slot 0 + weight)
-
--- each item of the list is below the bound
-abbrev pub AllBelow : ℕ → List ℕ → Type 0
-AllBelow bound items = (item : ℕ) → IsTrue (has items item) → item < bound
 
 -- the entries of a table whose first slot has a number: each slot that has something, with its number
 abbrev pub entries_from : ℕ → List (Option ℕ) → List (ℕ × ℕ)

@@ -1,4 +1,4 @@
-use Rattle.std.specs.Prelude.{ℕ, Bool, List, [], ◌∷◌, ◌==◌, nat_lt, if◌then◌else◌}
+use Rattle.std.specs.Prelude.{ℕ, Bool, IsTrue, ◌<◌, List, [], ◌∷◌, ◌==◌, nat_lt, if◌then◌else◌}
 use Rattle.std.specs.List.{list_any, list_all}
 use Rattle.std.specs.List.Sorted.{IsStrictlySortedBy}
 use Rattle.std.specs.Ordering.{nat_cmp}
@@ -24,3 +24,7 @@ with_item item (first ∷ others) = if nat_lt item first then item ∷ first ∷
 abbrev pub rising : List ℕ → List ℕ
 rising [] = []
 rising (number ∷ numbers) = with_item number (rising numbers)
+
+-- each item of the list is below the bound
+abbrev pub AllBelow : ℕ → List ℕ → Type 0
+AllBelow bound items = (item : ℕ) → IsTrue (has items item) → item < bound

@@ -1,11 +1,11 @@
-ghost use Rattle.std.specs.Prelude.{◌≡◌, ◌≤◌, [], ◌↔◌, length, IsTrue, IsOk, IfOk, nat_eq};
+ghost use Rattle.std.specs.Prelude.{◌≡◌, ◌≤◌, [], ◌↔◌, length, map, slice_index_or, IsTrue, IsOk, IfOk, nat_eq};
 ghost use Rattle.std.specs.Cmp.{partial_equiv_from_equiv};
 ghost use Rattle.std.specs.Cmp.Lexicographic.{pointwise, nat_list_eq_equiv};
 ghost use Rattle.std.specs.Hash as fed;
 ghost use Rattle.std.specs.Ordering.{as_partial_cmp};
 ghost use Rattle.std.proofs.Common.{refl};
 ghost use Rattle.basket_sets.specs.Order.{report_order, report_order_total, report_order_ties, report_order_partial, items_fed_alike};
-ghost use Rattle.basket_sets.specs.Itemset.{IsRising, has, contains, rising};
+ghost use Rattle.basket_sets.specs.Itemset.{AllBelow, IsRising, has, contains, rising};
 ghost use Rattle.basket_sets.specs.declared.itemset.TheConstants.{INLINE_ITEMS};
 
 use smallvec::SmallVec;
@@ -25,6 +25,16 @@ fn is_rising(numbers: &[u32]) -> bool
     numbers.is_sorted_by(|number, next| number < next)
 }
 
+/// Puts the name of each number in its place.
+fn rename(numbers: &mut [u32], names: &[u32])
+    requires { AllBelow (length names.now) numbers.old }
+    ensures { numbers.new ≡ map (λ number. slice_index_or names.now number 0) numbers.old }
+{
+    for place in 0..numbers.len() {
+        numbers[place] = names[numbers[place] as usize];
+    }
+}
+
 /// A set of items, as a strictly rising list of their numbers. It may be empty.
 #[derive(Debug, Drop)]
 pub struct Itemset {
@@ -33,7 +43,7 @@ pub struct Itemset {
 
 impl Model for Itemset {
     ghost use Rattle.std.specs.Prelude.{ℕ, List};
-    ghost use Rattle.basket_sets.specs.Itemset.{IsRising};
+    ghost use Rattle.basket_sets.specs.Itemset.{AllBelow, IsRising};
 
     ghost Value = { List ℕ };
 
@@ -48,12 +58,29 @@ impl Itemset {
         ensures ok { IfOk result (λ set. set ≡ rising numbers.now) }
         ensures short { length numbers.now ≤ INLINE_ITEMS → IsOk result }
     {
-        let mut items = SmallVec::from_slice(alloc, numbers)?;
-        if !is_rising(numbers) {
+        Ok(Itemset::of_numbers(SmallVec::from_slice(alloc, numbers)?))
+    }
+
+    /// The set of the numbers, which stay where they are.
+    fn of_numbers(mut items: SmallVec<u32, { INLINE_ITEMS }>) -> Self
+        ensures { result ≡ rising items.items }
+    {
+        if !is_rising(items.as_slice()) {
             items.as_mut_slice().sort_unstable();
             items.dedup();
         }
-        Ok(Itemset { items })
+        Itemset { items }
+    }
+
+    /// The set of the names of the items, where the name of an item stands at its place in the
+    /// list. It takes the room of the items.
+    pub fn renamed(self, names: &[u32]) -> Self
+        requires { AllBelow (length names.now) self }
+        ensures { result ≡ rising (map (λ item. slice_index_or names.now item 0) self) }
+    {
+        let Itemset { mut items } = self;
+        rename(items.as_mut_slice(), names);
+        Itemset::of_numbers(items)
     }
 
     /// The items, strictly rising.

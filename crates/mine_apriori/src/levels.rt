@@ -63,7 +63,7 @@ impl Found {
         let mut decoded = Vec::with_capacity(alloc, self.sets.len())?;
         for (place, set) in self.sets.iter().enumerate() {
             decoded.push(Counted {
-                set: coded.decode(alloc, set.items())?,
+                set: coded.decode(set.copied(alloc)?),
                 count: self.counts[place],
             })?;
         }

@@ -26,8 +26,9 @@ fn are_ranks(coded: &Coded, ranks: &[u32]) -> bool
 
 /// The set of the items of the ranks, where they are ranks.
 fn decoded(alloc: Global, coded: &Coded, ranks: &[u32]) -> Result<Option<Itemset>, AllocError> {
-    if are_ranks(coded, ranks) {
-        Ok(Some(coded.decode(alloc, ranks)?))
+    let set = Itemset::from_items(alloc, ranks)?;
+    if are_ranks(coded, set.items()) {
+        Ok(Some(coded.decode(set)))
     } else {
         Ok(None)
     }
