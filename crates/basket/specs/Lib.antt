@@ -1,5 +1,6 @@
 pub mod Plan
 pub mod Report
+pub mod Texts
 pub mod Status
 pub mod Outcome
 pub mod Engine

@@ -4,6 +4,7 @@ ghost use Rattle.basket_sets.specs.Frequent.{frequent_items_of};
 ghost use Rattle.basket.specs.Report.{report_of};
 
 use crate::report::put_set;
+use crate::texts::Texts;
 use basket_core::{Database, Minimum, count_items};
 use std::alloc::{AllocError, Global};
 
@@ -17,10 +18,11 @@ pub fn items_report(
 {
     let total = database.total();
     let counts = count_items(alloc, database.baskets())?;
+    let texts = Texts::below(alloc, 0)?;
     let mut report = Vec::new(alloc);
     for (item, support) in &counts {
         if minimum.met(*support, total) {
-            put_set(&mut report, &[*item], *support)?;
+            put_set(&mut report, &texts, &[*item], *support)?;
         }
     }
     Ok(report)

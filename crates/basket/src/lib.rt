@@ -10,6 +10,7 @@ mod plan;
 mod report;
 #[cfg(test)]
 mod tests;
+mod texts;
 pub mod worked;
 mod write;
 
