@@ -121,11 +121,7 @@ fn coded_spans(
         let start = place(locals.len())?;
         add_places(locals, of, basket.of(ranks))?;
         let end = place(locals.len())?;
-        spans.push(Span {
-            start,
-            end,
-            weight: basket.weight,
-        })?;
+        spans.push(basket.moved(start, end))?;
     }
     Ok(spans)
 }

@@ -150,7 +150,7 @@ fn add_run(runs: &mut Vec<Span>, run: Span, same: bool) -> Result<(), AllocError
 {
     if same {
         let last = runs.len() - 1;
-        runs[last].weight += run.weight;
+        runs[last].add_weight(run.weight);
     } else {
         runs.push(run)?;
     }
@@ -174,11 +174,7 @@ fn add_runs(
 {
     let path = basket.of(ranks);
     for (depth, rank) in path.iter().enumerate() {
-        let run = Span {
-            start: basket.start,
-            end: basket.start + depth as u32,
-            weight: basket.weight,
-        };
+        let run = basket.first(depth as u32);
         add_run(&mut of[*rank as usize], run, depth < shared)?;
     }
     Ok(())

@@ -1,5 +1,7 @@
-ghost use Rattle.std.specs.Prelude.{◌≡◌, IfOk, length};
+ghost use Rattle.std.specs.Prelude.{◌≡◌, ◌≤◌, ◌+◌, IfOk, length};
 ghost use Rattle.std.specs.List.{slice_range};
+ghost use Rattle.basket_sets.specs.Database.{MOST_WEIGHT};
+ghost use Rattle.mine_classes.specs.Runs.{run_at};
 ghost use Rattle.mine_classes.specs.Span.{IsWithin};
 
 use std::alloc::AllocError;
@@ -19,6 +21,34 @@ impl Span {
         ensures { result.now ≡ slice_range ranks.now self.now.start self.now.end }
     {
         &ranks[self.start as usize..self.end as usize]
+    }
+
+    /// So many of its first ranks.
+    pub fn first(&self, depth: u32) -> Span
+        requires { self.now.start + depth ≤ self.now.end }
+        ensures { result ≡ run_at self.now depth }
+    {
+        let end = self.start + depth;
+        Span { end, ..*self }
+    }
+
+    /// A part of another list with the same weight.
+    pub fn moved(&self, start: u32, end: u32) -> Span
+        ensures { result ≡ record { start = start; end = end; weight = self.now.weight } }
+    {
+        Span {
+            start,
+            end,
+            ..*self
+        }
+    }
+
+    /// Adds the weight of an equal neighbour.
+    pub fn add_weight(&mut self, weight: u64)
+        requires { self.old.weight + weight ≤ MOST_WEIGHT }
+        ensures { self.new ≡ record { start = self.old.start; end = self.old.end; weight = self.old.weight + weight } }
+    {
+        self.weight += weight;
     }
 }
 

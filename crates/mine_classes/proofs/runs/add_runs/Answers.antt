@@ -39,9 +39,11 @@ add_run-requires-clause-light c =
     let below = subst (AllBelow (length c.args.of.now)) (sym c.of-path.ensures) c.requires.below in
     let here = all_below_at (length c.args.of.now) path depth below c.loop-depth-test.true in
     let light = c.requires.light (get_or path depth 0) here in
-    subst (λ l. sum_by (λ (other : Span). other.weight) l + c.args.basket.weight ≤ MOST_WEIGHT)
+    let weight = ap (λ (run : Span). run.weight) c.first-run.ensures in
+    subst (λ w. sum_by (λ (other : Span). other.weight) (get_or c.loop-depth.of (get_or path depth 0) c.index-of-rank.result).items + w ≤ MOST_WEIGHT) (sym weight)
+    (subst (λ l. sum_by (λ (other : Span). other.weight) l + c.args.basket.weight ≤ MOST_WEIGHT)
     (sym (untouched path c.args.basket c.args.shared old up depth (runs_of c.loop-depth.of) c.loop-depth.invariant c.loop-depth-test.true)
-    ∙ runs_at c.loop-depth.of (get_or path depth 0) c.index-of-rank.result (omega (arith, here, c.loop-depth.auto.of))) light
+    ∙ runs_at c.loop-depth.of (get_or path depth 0) c.index-of-rank.result (omega (arith, here, c.loop-depth.auto.of))) light)
 
 pub loop-depth-preserved : goal.loop-depth-preserved
 loop-depth-preserved c =
@@ -54,6 +56,7 @@ loop-depth-preserved c =
     let here = all_below_at (length c.args.of.now) path depth below c.loop-depth-test.true in
     let within : rank < length c.loop-depth.of = omega (arith, here, c.loop-depth.auto.of) in
     let added = c.in_ok-add_run.ensures
+    ∙ ap (λ run. with_run (ltb depth c.args.shared) run (get_or c.loop-depth.of rank c.index-of-rank.result).items) c.first-run.ensures
     ∙ ap (with_run (ltb depth c.args.shared) (run_at c.args.basket depth)) (sym (runs_at c.loop-depth.of rank c.index-of-rank.result within)) in
     subst (HaveRuns path c.args.basket c.args.shared (depth + 1) (runs_of c.args.of.now)) (sym (runs_of-set c.loop-depth.of rank c.add_run.new.runs ∙ ap (set now rank) added))
     (have_more path c.args.basket c.args.shared (runs_of c.args.of.now) up depth now c.loop-depth.invariant c.loop-depth-test.true (omega (arith, within, length-runs_of c.loop-depth.of)))
