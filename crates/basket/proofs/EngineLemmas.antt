@@ -1,24 +1,19 @@
 -- From what reading, mining and writing ensure to what a run ensures.
-use Rattle.std.proofs.Common.{◌≡◌, ◌≢◌, ◌≤◌, ◌<◌, ℕ, List, Option, Some, None, Result, Ok, Err, Bool, true, false, cond, length, take, refl, sym, ap, subst, ◌∙◌, inl, inr, arith}
-use Rattle.std.proofs.lemmas.Bool.{false≢true, cases_Bool, lt-ltb, ltb-true}
+use Rattle.std.proofs.Common.{◌≡◌, ◌≢◌, ◌≤◌, ℕ, List, Option, Some, None, Result, Ok, Err, Bool, true, false, length, take, refl, ap, subst, ◌∙◌, inl, inr, arith}
+use Rattle.std.proofs.lemmas.Bool.{false≢true, cases_Bool, ltb-true}
 use Rattle.std.specs.Prelude.{IfSome, IsErr, nat_lt}
 use Rattle.std.specs.Io.KnownBytes.{Appends}
 use Rattle.basket_core.specs.declared.fault.MineFault.{MineFault}
-use Rattle.basket_core.specs.declared.fault.MineFault.TheVariants.{Memory, TooMany}
-use Rattle.basket_sets.specs.declared.minimum.Minimum.{Minimum}
+use Rattle.basket_core.specs.declared.fault.MineFault.TheVariants.{Memory}
 use Rattle.basket_sets.specs.declared.weighted.Weighted.{Weighted}
-use Rattle.basket_sets.specs.Frequent.{frequent_items_of, frequent_of}
 use Rattle.basket_read.specs.declared.fault.ReadFault.{ReadFault}
 use Rattle.basket_read.specs.Fimi.{fimi_of}
 use Rattle.basket_read.specs.Read.{FailsAfter}
 use Rattle.basket_read.specs.Text.{Answers}
 use Rattle.basket.specs.declared.fault.RunFault.{RunFault}
 use Rattle.basket.specs.declared.fault.RunFault.TheVariants.{Input, Mine, Write}
-use Rattle.basket.specs.declared.plan.Ask.{Ask}
-use Rattle.basket.specs.declared.plan.Ask.TheVariants.{Items, Sets}
-use Rattle.basket.specs.Outcome.{outcome_of, outcome_for, asked, are_too_many, of_mining}
+use Rattle.basket.specs.Outcome.{outcome_of, outcome_for, of_mining}
 use Rattle.basket.specs.Plan.{Question}
-use Rattle.basket.specs.Report.{report_of}
 use Rattle.basket.specs.Engine.{WritesReport, WritesFront, RefusesSets}
 
 abbrev input_fault : ReadFault → Result Unit RunFault → ReadFault
@@ -55,29 +50,8 @@ not_failed false x err = refl
 
 -- ---- the outcome for baskets
 
--- what is asked, with a limit, of baskets
-abbrev outcome_at : Ask → List Weighted → Minimum → ℕ → Result (List ℕ) MineFault
-outcome_at ask baskets minimum limit = cond (are_too_many ask baskets minimum limit) (Err (TooMany limit)) (Ok (report_of (asked ask baskets minimum)))
-
-pub items_outcome : (question : Question) (baskets : List Weighted) (text : List ℕ) → question.ask ≡ Items → text ≡ report_of (frequent_items_of baskets question.minimum)
-    → outcome_for baskets question ≡ Ok text
-items_outcome question baskets text same made = ap (λ ask. outcome_at ask baskets question.minimum question.limit) same ∙ ap Ok (sym made)
-
 few : (limit count : ℕ) → count ≤ limit → nat_lt limit count ≡ false
 few limit count le = elim (cases_Bool (nat_lt limit count)) [ inl e ↦ absurd (let b = ltb-true limit count e in omega arith) | inr e ↦ e ]
-
-pub sets_outcome : (question : Question) (baskets : List Weighted) (text : List ℕ) → question.ask ≡ Sets → text ≡ report_of (frequent_of baskets question.minimum)
-    → length (frequent_of baskets question.minimum) ≤ question.limit → outcome_for baskets question ≡ Ok text
-sets_outcome question baskets text same made within =
-    ap (λ ask. outcome_at ask baskets question.minimum question.limit) same
-    ∙ ap (λ b. cond b (Err (TooMany question.limit)) (Ok (report_of (frequent_of baskets question.minimum)))) (few question.limit (length (frequent_of baskets question.minimum)) within)
-    ∙ ap Ok (sym made)
-
-pub sets_refused : (question : Question) (baskets : List Weighted) → question.ask ≡ Sets → question.limit < length (frequent_of baskets question.minimum)
-    → outcome_for baskets question ≡ Err (TooMany question.limit)
-sets_refused question baskets same more =
-    ap (λ ask. outcome_at ask baskets question.minimum question.limit) same
-    ∙ ap (λ b. cond b (Err (TooMany question.limit)) (Ok (report_of (frequent_of baskets question.minimum)))) (lt-ltb question.limit (length (frequent_of baskets question.minimum)) more)
 
 -- ---- the outcome for an input
 

@@ -1,3 +1,4 @@
+//! The times of the stages.
 use std::time::Duration;
 
 /// How long each stage took in one run.

@@ -275,14 +275,6 @@ missed_rank ranked items item place same missed = no_rank 0 ranked item (λ m.
     let c = Contains-from_Member item items (subst (Member item) (sym same) (Member-into_rising ranked item m)) in
     found_nowhere items item place up missed c.0 c.1 (get_or_default items c.0 0 item c.1 ∙ c.2))
 
--- and one that it finds has the rank that stands beside it
-pub found_rank : (ranked items ranks : List ℕ) (item place : ℕ) → items ≡ rising ranked → AreRanksAt ranked items ranks → IsBinarySearchResult (λ y. nat_cmp y item) items (Ok place)
-    → (place < length ranks) × (rank_of ranked item ≡ Some (get_or ranks place 0))
-found_rank ranked items ranks item place same are found =
-    let up = subst IsRising (sym same) (rising-rises ranked) in
-    let at = found_at items item place up found in
-    (omega (arith, are.long, at.0), ap (rank_of ranked) (sym at.1) ∙ are.at place at.0)
-
 -- the rank of one item more is put down
 pub put_rank : (ranked items ranks : List ℕ) (i place : ℕ) → items ≡ rising ranked → IsDistinct nat_eq ranked → i < length ranked
     → IsBinarySearchResult (λ y. nat_cmp y (get_or ranked i 0)) items (Ok place) → AreSomeRanksAt ranked (take i ranked) items ranks

@@ -23,9 +23,6 @@ all_push p xs x = list_all-append p xs (x ∷ []) ∙ ap (λ b. list_all p xs &&
     and_true true = refl
     and_true false = refl
 
-is_word : List ℕ → Bool
-is_word word = not (is_nil word)
-
 pub value_push : (word : List ℕ) (byte : ℕ) → value_of (word ++ byte ∷ []) ≡ value_of word * 10 + (byte - 48)
 value_push word byte = fold_push (λ value b. value * 10 + (b - 48)) 0 word byte
 

@@ -1,7 +1,7 @@
 -- How a text goes on with one more byte, and what its first fault is.
 use Rattle.std.proofs.Common.{◌≡◌, ℕ, ◌+◌, ◌<◌, Bool, true, false, ◌&&◌, List, [], ◌∷◌, ◌++◌, length, cond, Option, Some, None, Ok, Err, refl, sym, ap, ◌∙◌, subst, append_assoc, take, drop, get_or}
 use Rattle.std.specs.List.{list_all, flat_map}
-use Rattle.std.proofs.lemmas.Bool.{and_parts, le-leb, lt-leb}
+use Rattle.std.proofs.lemmas.Bool.{and_parts, le-leb}
 use Rattle.std.proofs.lemmas.List.{append-nil, length-append, take_more, take-append-drop}
 use Rattle.std.proofs.lemmas.Grind.{flat_map-append}
 use Rattle.basket_sets.specs.declared.weighted.Weighted.{Weighted}
@@ -63,9 +63,6 @@ pub first_fault_push : (text : List ℕ) (byte : ℕ) (good : Bool) → first_fa
 first_fault_push text byte good e g = first_fault_behind text (byte ∷ []) e ∙ ap (λ b. found b None (fault_at text byte)) g
 
 -- ---- one more byte
-
-last_line : List ℕ → List ℕ
-last_line text = (cut_at is_line_feed text).last
 
 module _ (text : List ℕ) (faultless : first_fault text ≡ None) where
   abbrev so_far : Cut
@@ -203,10 +200,6 @@ pub light_answer : (heavy : Bool) (database baskets : List Weighted) → heavy �
 light_answer false database baskets e h =
     ap (λ b. cond b (Ok baskets) (Err Heavy)) (le-leb (total_of baskets) MOST_WEIGHT h.1) ∙ ap Ok (sym h.0)
 light_answer true database baskets e h = absurd cc
-
-pub heavy_answer : (heavy : Bool) (database baskets : List Weighted) → heavy ≡ true → HasBaskets heavy database baskets → if_light baskets ≡ Err Heavy
-heavy_answer true database baskets e h = ap (λ b. cond b (Ok baskets) (Err Heavy)) (lt-leb (total_of baskets) MOST_WEIGHT h)
-heavy_answer false database baskets e h = absurd cc
 
 -- a piece in two parts, behind what was before it
 pub take_rest : (bytes piece : List ℕ) (i : ℕ) → (bytes ++ take i piece) ++ drop i piece ≡ bytes ++ piece

@@ -279,13 +279,6 @@ missed_more items basket old supports j weight below none before k within =
     before k within ∙ ap (λ b. get_or old k 0 + cond b weight 0)
     (sym (has_more basket j (get_or items k 0) below ∙ ap (λ t. has (take j basket) (get_or items k 0) || t) (ne_eqb _ _ (λ e. none k within (sym e))) ∙ or-false (has (take j basket) (get_or items k 0))))
 
-pub support_more : (baskets : List Weighted) (i : ℕ) (place : Weighted) (item : ℕ) → i < length baskets → place ≡ get_or baskets i place
-    → support_of (take (i + 1) baskets) (item ∷ []) ≡ support_of (take i baskets) (item ∷ []) + cond (has place.basket item) place.weight 0
-support_more baskets i place item below is =
-    sum_by_more (weight_at (item ∷ [])) baskets i place below
-    ∙ ap (λ p. support_of (take i baskets) (item ∷ []) + weight_at (item ∷ []) p) (sym is)
-    ∙ ap (λ n. support_of (take i baskets) (item ∷ []) + n) (weight_of_item place item)
-
 pub supports_paired : (items supports : List ℕ) (f : ℕ → ℕ) → length supports ≡ length items → ((k : ℕ) → k < length items → get_or supports k 0 ≡ f (get_or items k 0))
     → zip items supports ≡ map (λ x. (x, f x)) items
 supports_paired [] supports f long h = refl

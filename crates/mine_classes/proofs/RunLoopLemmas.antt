@@ -1,11 +1,10 @@
 -- The runs of each rank, basket by basket.
 use Rattle.std.proofs.Common.{◌≡◌, ℕ, ◌+◌, ◌<◌, ◌≤◌, true, false, List, [], ◌∷◌, ◌++◌, length, take, get_or, cond, ltb, refl, sym, ap, ◌∙◌, subst, inl, inr, arith}
-use Rattle.std.specs.Prelude.{All, replicate}
+use Rattle.std.specs.Prelude.{All}
 use Rattle.std.specs.List.{filter, slice_range, sum_by}
 use Rattle.std.specs.Ordering.{nat_cmp}
 use Rattle.std.proofs.lemmas.Bool.{cases_Bool, ltb-true, true≢false}
-use Rattle.std.proofs.lemmas.List.{get_or_default, get_or-map, length-map, length-replicate, get_or-replicate, map-append, take-take, take_more, get_or-take}
-use Rattle.std.proofs.lemmas.List.Elements.{All-from_recursion}
+use Rattle.std.proofs.lemmas.List.{get_or_default, get_or-map, length-map, map-append, take-take, take_more, get_or-take}
 use Rattle.std.proofs.lemmas.List.Kept.{IsStrictlySortedBy-filter}
 use Rattle.std.proofs.lemmas.List.Sums.{sum_by-cons, sum_by_more_le}
 use Rattle.basket_sets.specs.declared.weighted.Weighted.{Weighted}
@@ -17,7 +16,7 @@ use Rattle.basket_sets.proofs.theory.Rising.{Member-from_has, has-from_Member}
 use Rattle.basket_sets.proofs.theory.Support.{support_falls}
 use Rattle.mine_classes.specs.declared.span.Span.{Span}
 use Rattle.mine_classes.specs.Ordered.{IsRankBasket, repeats_last}
-use Rattle.mine_classes.specs.Runs.{AreRunsOf, HaveAllRuns, HaveRuns, run_at, with_run}
+use Rattle.mine_classes.specs.Runs.{AreRunsOf, HaveRuns, run_at, with_run}
 use Rattle.mine_classes.specs.Span.{IsWithin, basket_at, baskets_at}
 use Rattle.mine_classes.proofs.ConditionalLemmas.{kept_support}
 use Rattle.mine_classes.proofs.RunLemmas.{Member-at, length-range}
@@ -142,13 +141,3 @@ pub basket_more : (ranks : List ℕ) (spans : List Span) (i : ℕ) (d : Span) �
 basket_more ranks spans i d here =
     ap (λ p. take i (baskets_at ranks spans) ++ p ∷ []) (sym (get_or-map (basket_at ranks) spans i d (basket_at ranks d) here))
     ∙ sym (take_more (baskets_at ranks spans) i (basket_at ranks d) (omega (arith, length-map spans (basket_at ranks))))
-
-pub no_runs_are : (ranks : List ℕ) (count : ℕ) (of : List (List Span)) → of ≡ replicate count [] → HaveAllRuns count ranks [] of
-no_runs_are ranks count of none = record {
-  long = ap length none ∙ length-replicate count [];
-  are = λ rank here. subst (AreRunsOf ranks [] rank) (sym (ap (λ l. get_or l rank []) none ∙ get_or-replicate count rank [] [] here)) (record {
-    within = All-from_recursion (IsWithin (length ranks)) [] tt;
-    places = All-from_recursion (IsRankBasket rank) [] tt;
-    weights = λ test. refl;
-  });
-}

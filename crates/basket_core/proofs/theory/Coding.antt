@@ -13,8 +13,8 @@ use Rattle.basket_sets.specs.Itemset.{IsRising, has, contains}
 use Rattle.basket_sets.specs.Minimum.{meets}
 use Rattle.basket_sets.specs.Support.{weight_at, support_of, total_of, items_of}
 use Rattle.basket_sets.proofs.theory.Frequent.{IsSound, frequent_is_unique, same_supports}
-use Rattle.basket_sets.proofs.theory.Members.{Member, Member-append, Member-map, Member-from_map, Member-filter, Member-from_filter}
-use Rattle.basket_core.proofs.RankLemmas.{Member-ranked, Member-into_ranked}
+use Rattle.basket_sets.proofs.theory.Members.{Member, Member-append, Member-map, Member-from_map, Member-from_filter}
+use Rattle.basket_core.proofs.RankLemmas.{Member-into_ranked}
 use Rattle.basket_sets.proofs.theory.Rising.{nil_rises, cons_rises, Member-rising, Member-into_rising, Member-from_has, has-from_Member, has_each, contains_each, same_test}
 use Rattle.basket_sets.proofs.theory.Support.{subsets_are_frequent, frequent_items, in_items, at_least_one}
 use Rattle.basket_sets.proofs.theory.Merging.{merging_keeps_supports, merging_keeps_weights}
@@ -127,15 +127,6 @@ kept_support items (place ∷ baskets) set ranked =
     sum_by-cons (weight_at set) (decoded_place items (coded_place items place)) (map (decoded_place items) (map (coded_place items) baskets))
     ∙ ap (λ b. cond b place.weight 0 + support_of (map (decoded_place items) (map (coded_place items) baskets)) set) (kept_contains items place.basket set ranked)
     ∙ ap (λ n. weight_at set place + n) (kept_support items baskets set ranked) ∙ sym (sum_by-cons (weight_at set) place baskets)
-
--- an item is ranked exactly where it is frequent
-pub ranked_item : (baskets : List Weighted) (minimum : Minimum) (item : ℕ) → Member item (ranks_of baskets minimum) → is_frequent baskets minimum (item ∷ []) ≡ true
-ranked_item baskets minimum item m =
-    let e = Member-from_map (λ (entry : ℕ × ℕ). entry.0) item (ranked (filter (λ entry. meets minimum entry.1 (total_of baskets)) (item_supports baskets))) m in
-    let f = Member-filter (λ (entry : ℕ × ℕ). meets minimum entry.1 (total_of baskets)) e.0 (item_supports baskets) (Member-ranked _ e.0 e.1) in
-    let s = Member-from_map (λ x. (x, support_of baskets (x ∷ []))) e.0 (items_of baskets) f.0 in
-    let number : s.0 ≡ item = ap (λ (p : ℕ × ℕ). p.0) s.2 ∙ e.2 in
-    subst (λ x. is_frequent baskets minimum (x ∷ []) ≡ true) number (ap (λ (p : ℕ × ℕ). meets minimum p.1 (total_of baskets)) s.2 ∙ f.1)
 
 -- a frequent item has a rank
 pub item_ranked : (baskets : List Weighted) (minimum : Minimum) (item : ℕ) → is_frequent baskets minimum (item ∷ []) ≡ true → Member item (ranks_of baskets minimum)

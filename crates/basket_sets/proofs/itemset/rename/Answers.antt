@@ -1,4 +1,4 @@
-use Rattle.std.proofs.Common.{ℕ, ◌<◌, ◌≡◌, ◌+◌, ◌∙◌, length, get_or, set, take, map, ap, sym, subst, arith}
+use Rattle.std.proofs.Common.{◌<◌, ◌+◌, ◌∙◌, length, get_or, set, take, ap, sym, subst, arith}
 use Rattle.std.proofs.lemmas.List.{get_or-set_other}
 use Rattle.basket_sets.proofs.RenameLemmas.{named_more}
 use Rattle.basket_sets.proofs.theory.Rising.{has_place}
