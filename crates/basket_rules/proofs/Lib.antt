@@ -1,0 +1,4 @@
+mod SearchLemmas
+mod SubsetLemmas
+mod AboveLemmas
+mod CondensedLemmas

@@ -1,0 +1,5 @@
+pub mod Listed
+pub mod Search
+pub mod Subset
+pub mod Above
+pub mod Condensed
