@@ -27,11 +27,11 @@ use Rattle.basket_rules.proofs.SearchLemmas.{set_is}
 
 -- ---- tests
 
-not_true : (b : Bool) → b ≡ false → not b ≡ true
+pub not_true : (b : Bool) → b ≡ false → not b ≡ true
 not_true true e = absurd (true≢false e)
 not_true false e = refl
 
-true_not : (b : Bool) → not b ≡ true → b ≡ false
+pub true_not : (b : Bool) → not b ≡ true → b ≡ false
 true_not true e = absurd (true≢false (sym e))
 true_not false e = refl
 
@@ -124,7 +124,7 @@ pub none : Counted
 none = record { set = []; count = 0 }
 
 module _ (baskets : List Weighted) (minimum : Minimum) (listing : Listing) (is : IsListingOf baskets minimum listing) where
-  lists : ListsFrequent baskets minimum listing.sets
+  pub lists : ListsFrequent baskets minimum listing.sets
   lists = (frequent_is_unique baskets minimum listing.sets).1 is.sets
 
   pub is_sorted : IsSorted listing.sets

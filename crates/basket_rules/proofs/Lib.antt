@@ -2,3 +2,5 @@ mod SearchLemmas
 mod SubsetLemmas
 mod AboveLemmas
 mod CondensedLemmas
+mod RuleLemmas
+mod LevelLemmas

@@ -3,3 +3,4 @@ pub mod Search
 pub mod Subset
 pub mod Above
 pub mod Condensed
+pub mod Rules

@@ -1,9 +1,11 @@
-//! Closed and maximal sets, from the list of the frequent sets.
+//! Closed and maximal sets and association rules, from the list of the frequent sets.
 #![tactic(auto)]
 
 mod above;
+mod association;
 mod condensed;
 pub mod laws;
 mod search;
 
+pub use association::{Rule, rules, rules_with};
 pub use condensed::{closed, maximal};

@@ -36,6 +36,15 @@ pub fn find_near(sets: &[Counted], front: &[u32], rest: &[u32], near: usize) -> 
     find_between(sets, front, rest, start, sets.len())
 }
 
+/// Where the set with these items stands, or where it is missing.
+pub fn find(sets: &[Counted], items: &[u32]) -> Result<usize, usize>
+    ensures bound { IsSearchInRange result (length sets.now) }
+    ensures found { IfOk result (λ at. set_at sets.now at ≡ items.now) }
+    ensures missing { IfErr result (λ _. IsMissing sets.now items.now) }
+{
+    find_between(sets, items, &[], 0, sets.len())
+}
+
 /// Searches the sets from `start` up to `end`, where those before are smaller and those behind
 /// greater.
 fn find_between(
