@@ -4,3 +4,4 @@ pub mod Subset
 pub mod Above
 pub mod Condensed
 pub mod Rules
+pub mod Worked

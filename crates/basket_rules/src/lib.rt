@@ -6,6 +6,7 @@ mod association;
 mod condensed;
 pub mod laws;
 mod search;
+pub mod worked;
 
 pub use association::{Rule, rules, rules_with};
 pub use condensed::{closed, maximal};
