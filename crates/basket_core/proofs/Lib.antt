@@ -2,3 +2,4 @@ pub mod theory
 mod RankLemmas
 mod CodeLemmas
 mod DepthLemmas
+mod FractionLemmas

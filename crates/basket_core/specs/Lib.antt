@@ -13,3 +13,4 @@ pub mod Ranks
 pub mod Listing
 pub mod Tally
 pub mod Depth
+pub mod Fraction

@@ -5,6 +5,7 @@
 mod codes;
 mod depth;
 mod fault;
+mod fraction;
 mod frequent;
 mod keys;
 pub mod laws;
@@ -20,5 +21,6 @@ pub use basket_stream::{Failed, MemSink, MemSource, Sink, Source, StdSink, StdSo
 pub use codes::{Coded, Codes};
 pub use depth::deep;
 pub use fault::MineFault;
+pub use fraction::Fraction;
 pub use frequent::Frequent;
 pub use tally::{Limit, Tally};

@@ -1,0 +1,6 @@
+mod SearchLemmas
+mod SubsetLemmas
+mod AboveLemmas
+mod CondensedLemmas
+mod RuleLemmas
+mod LevelLemmas

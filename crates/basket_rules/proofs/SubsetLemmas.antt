@@ -1,0 +1,99 @@
+-- A set without one of its items, and a set with an item more.
+use Rattle.std.proofs.Common.{◌≡◌, ℕ, ◌+◌, ◌-◌, ◌<◌, Bool, true, false, cond, eqb, ltb, List, [], ◌∷◌, ◌++◌, length, take, drop, refl, sym, ap, ◌∙◌, subst, inl, inr, arith, zero, suc, add-one}
+use Rattle.std.specs.List.{list_all}
+use Rattle.std.proofs.lemmas.Bool.{cases_Bool, and_parts, and_from, eqb-true, true≢false, false_from_ne_true}
+use Rattle.std.proofs.lemmas.List.{take_rest}
+use Rattle.basket_sets.specs.Itemset.{IsRising, has, contains, with_item}
+use Rattle.basket_sets.proofs.theory.Members.{Member}
+use Rattle.basket_sets.proofs.theory.Rising.{Member-from_has, has-from_Member, has_each, contains_each, first_below, rest_rises, Member-with_item, Member-into_with_item}
+use Rattle.basket_rules.specs.Subset.{without}
+
+-- ---- tests of lists
+
+pub each_passes : {X : Type 0} (p : X → Bool) (xs : List X) → list_all p xs ≡ true → (x : X) → Member x xs → p x ≡ true
+each_passes p [] h x m = absurd m
+each_passes p (y ∷ ys) h x (inl e) = subst (λ z. p z ≡ true) e (and_parts (p y) (list_all p ys) h).0
+each_passes p (y ∷ ys) h x (inr m) = each_passes p ys (and_parts (p y) (list_all p ys) h).1 x m
+
+pub all_pass : {X : Type 0} (p : X → Bool) (xs : List X) → ((x : X) → Member x xs → p x ≡ true) → list_all p xs ≡ true
+all_pass p [] h = refl
+all_pass p (y ∷ ys) h = and_from (p y) (list_all p ys) (h y (inl refl)) (all_pass p ys (λ x m. h x (inr m)))
+
+-- ---- a place left out
+
+without_is : (place : ℕ) (items : List ℕ) → without place items ≡ take place items ++ drop (suc place) items
+without_is zero [] = refl
+without_is (suc place) [] = refl
+without_is zero (x ∷ items) = refl
+without_is (suc place) (x ∷ items) = ap (λ l. x ∷ l) (without_is place items)
+
+-- the items around a place, as slices
+pub around_is : (place : ℕ) (items : List ℕ) → take place items ++ take (length items - (place + 1)) (drop (place + 1) items) ≡ without place items
+around_is place items = ap (λ l. take place items ++ l) (take_rest items (place + 1) ∙ ap (λ n. drop n items) (add-one place)) ∙ sym (without_is place items)
+
+-- what is left stands in the list
+pub Member-without : (place : ℕ) (items : List ℕ) (x : ℕ) → Member x (without place items) → Member x items
+Member-without place [] x m = m
+Member-without zero (y ∷ items) x m = inr m
+Member-without (suc place) (y ∷ items) x (inl e) = inl e
+Member-without (suc place) (y ∷ items) x (inr m) = inr (Member-without place items x m)
+
+-- an item of a rising list is gone when its place is left out
+pub lacks : (place : ℕ) (items : List ℕ) → IsRising items → place < length items → (x : ℕ) × Member x items × (Member x (without place items) → ⊥)
+lacks place [] up below = absurd (omega (arith, below))
+lacks zero (y ∷ items) up below = (y, inl refl, λ m. let b = first_below y items up y m in absurd (omega arith))
+lacks (suc place) (y ∷ items) up below =
+    let r = lacks place items (rest_rises y items up) (omega (arith, below)) in
+    (r.0, inr r.1, gone r.0 r.1 r.2)
+  where
+    gone : (x : ℕ) → Member x items → (Member x (without place items) → ⊥) → Member x (y ∷ without place items) → ⊥
+    gone x m lack (inl e) = let b = first_below y items up x m in omega arith
+    gone x m lack (inr n) = lack n
+
+-- a set contains it without an item, and not the other way round
+pub contains_without : (place : ℕ) (items : List ℕ) → contains items (without place items) ≡ true
+contains_without place items = contains_each items (without place items) (Member-without place items)
+
+pub without_lacks : (place : ℕ) (items : List ℕ) → IsRising items → place < length items → contains (without place items) items ≡ false
+without_lacks place items up below = false_from_ne_true _ (λ h. let r = lacks place items up below in r.2 (has_each (without place items) items h r.0 r.1))
+
+-- ---- an item more
+
+placed_at : (item x : ℕ) (items rest : List ℕ) (p q : Bool) → eqb item x ≡ q → has (x ∷ items) item ≡ false
+    → ((place : ℕ) × (place < length rest) × (without place rest ≡ items))
+    → (place : ℕ) × (place < length (cond p (item ∷ x ∷ items) (cond q (x ∷ items) (x ∷ rest)))) × (without place (cond p (item ∷ x ∷ items) (cond q (x ∷ items) (x ∷ rest))) ≡ x ∷ items)
+placed_at item x items rest true q e lack r = (0, omega arith, refl)
+placed_at item x items rest false true e lack r =
+    absurd (true≢false (sym (has-from_Member (x ∷ items) item (inl (sym (eqb-true item x e)))) ∙ lack))
+placed_at item x items rest false false e lack r = (suc r.0, omega (arith, r.1), ap (λ l. x ∷ l) r.2)
+
+-- a set with an item more is that set without the item's place
+pub placed : (item : ℕ) (items : List ℕ) → has items item ≡ false → (place : ℕ) × (place < length (with_item item items)) × (without place (with_item item items) ≡ items)
+placed item [] lack = (0, omega arith, refl)
+placed item (x ∷ items) lack = placed_at item x items (with_item item items) (ltb item x) (eqb item x) refl lack (placed item items (rest_lacks lack))
+  where
+    rest_lacks : has (x ∷ items) item ≡ false → has items item ≡ false
+    rest_lacks h = false_from_ne_true _ (λ e. true≢false (sym (has-from_Member (x ∷ items) item (inr (Member-from_has items item e))) ∙ h))
+
+-- a set that has an item more than another
+pub item_more : (set other : List ℕ) → contains set other ≡ false → (item : ℕ) × Member item other × (has set item ≡ false)
+item_more set [] lack = absurd (true≢false lack)
+item_more set (x ∷ other) lack = elim (cases_Bool (has set x)) [
+  | inl e ↦ (let r = item_more set other (false_from_ne_true _ (λ h. true≢false (sym (and_from (has set x) (contains set other) e h) ∙ lack))) in (r.0, inr r.1, r.2))
+  | inr e ↦ (x, inl refl, e)
+]
+
+-- a set with an item more contains that set, and is contained in each set that has both
+pub contains_less : (item : ℕ) (set : List ℕ) → contains (with_item item set) set ≡ true
+contains_less item set = contains_each (with_item item set) set (λ x m. Member-into_with_item item set x (inr m))
+
+pub contains_with_item : (item : ℕ) (set other : List ℕ) → Member item other → contains other set ≡ true → contains other (with_item item set) ≡ true
+contains_with_item item set other m h = contains_each other (with_item item set) (λ x n. elim (Member-with_item item set x n) [
+  | inl e ↦ subst (λ y. Member y other) e m
+  | inr k ↦ has_each other set h x k
+])
+
+-- it has an item that the set lacks
+pub with_item_lacks : (item : ℕ) (set : List ℕ) → has set item ≡ false → contains set (with_item item set) ≡ false
+with_item_lacks item set lack = false_from_ne_true _ (λ h.
+    true≢false (sym (has-from_Member set item (has_each set (with_item item set) h item (Member-into_with_item item set item (inl refl)))) ∙ lack))

@@ -1,0 +1,16 @@
+use Rattle.std.proofs.Common.{◌≤◌, ◌<◌, ◌+◌, length, sym, subst}
+use Rattle.basket_rules.proofs.LevelLemmas.{AreRulesUpTo, more_rules, all_rules}
+use Rattle.basket_rules.proofs.association.rules.Goals as goal
+
+pub loop-number-preserved : goal.loop-number-preserved
+loop-number-preserved c =
+    let listing = c.args.frequent.now in
+    let number = c.loop-number.number in
+    let below : number < length listing.sets = subst (λ l. number < length l) c.sets-number-end.ensures c.loop-number-test.true in
+    subst (AreRulesUpTo listing c.args.confidence (number + 1)) (sym c.in_ok-append.ensures.items)
+    (more_rules listing c.args.confidence number c.loop-number.rules.items c.in_ok-more.more.items below c.loop-number.invariant c.in_ok-more.ensures)
+
+pub returns : goal.returns
+returns c =
+    all_rules c.args.frequent.now c.args.confidence c.loop-number.number c.loop-number.rules.items
+    (subst (λ l. length l ≤ c.loop-number.number) c.sets-number-end.ensures c.loop-number-test.false) c.loop-number.invariant

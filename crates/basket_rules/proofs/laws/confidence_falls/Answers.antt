@@ -1,0 +1,5 @@
+use Rattle.basket_rules.proofs.RuleLemmas.{confidence_falls}
+use Rattle.basket_rules.proofs.laws.confidence_falls.Goals as goal
+
+pub returns : goal.returns
+returns c = confidence_falls

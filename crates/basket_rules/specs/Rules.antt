@@ -1,0 +1,78 @@
+-- Association rules (Agrawal and Srikant 1994).
+use Rattle.std.specs.Prelude.{◌≡◌, ◌<◌, ℕ, ◌*◌, Bool, IsTrue, not, nat_le, nat_lt, if◌then◌else◌, List, ◌++◌, length, map, filter, Option, Some, None}
+use Rattle.std.specs.List.{flat_map, AllByRecursion}
+use Rattle.basket_core.specs.Fraction.{lowest}
+use Rattle.basket_core.specs.Listing.{Listing}
+use Rattle.basket_sets.specs.declared.weighted.Weighted.{Weighted}
+use Rattle.basket_sets.specs.declared.counted.Counted.{Counted}
+use Rattle.basket_sets.specs.declared.minimum.Minimum.{Minimum}
+use Rattle.basket_sets.specs.Frequent.{frequent_of}
+use Rattle.basket_sets.specs.Itemset.{has, contains}
+use Rattle.basket_sets.specs.Subsets.{subsets_of, IsSublist}
+use Rattle.basket_sets.specs.Support.{support_of, total_of}
+use Rattle.basket_rules.specs.declared.association.Rule.{Rule}
+use Rattle.basket_rules.specs.Listed.{IsListingOf, IsSorted, set_at, count_at}
+
+-- the items of a set that another lacks
+abbrev pub difference : List ℕ → List ℕ → List ℕ
+difference set other = filter (λ item. not (has other item)) set
+
+-- the right sides of the rules with this union: its nonempty subsets but itself
+abbrev pub right_sides_of : List ℕ → List (List ℕ)
+right_sides_of union = filter (λ right. nat_lt (length right) (length union)) (subsets_of union)
+
+-- whether the rule with this union and right side meets the confidence, a numerator and a denominator: of the baskets with the left side at least this share has the union
+abbrev pub is_confident : List Weighted → ℕ × ℕ → List ℕ → List ℕ → Bool
+is_confident baskets confidence union right =
+    nat_le (confidence.0 * support_of baskets (difference union right)) (support_of baskets union * confidence.1)
+
+-- the rule with this union and right side
+abbrev pub rule_of : List Weighted → List ℕ → List ℕ → Rule
+rule_of baskets union right = record {
+  left = difference union right;
+  right = right;
+  count = support_of baskets union;
+  confidence = lowest (support_of baskets union) (support_of baskets (difference union right));
+  lift = lowest (support_of baskets union * total_of baskets) (support_of baskets (difference union right) * support_of baskets right);
+}
+
+-- the rules with this union that meet the confidence, by their right sides in report order
+abbrev pub rules_with : List Weighted → ℕ × ℕ → List ℕ → List Rule
+rules_with baskets confidence union = map (rule_of baskets union) (filter (is_confident baskets confidence union) (right_sides_of union))
+
+-- the rules of the frequent sets, union after union
+abbrev pub rules_of : List Weighted → Minimum → ℕ × ℕ → List Rule
+rules_of baskets minimum confidence = flat_map (λ c. rules_with baskets confidence c.set) (frequent_of baskets minimum)
+
+-- where the rule with a right side meets a confidence, so does the one with the same union and a part of that right side
+abbrev pub ConfidenceFalls : Type 0
+ConfidenceFalls = (baskets : List Weighted) (confidence : ℕ × ℕ) (union right part : List ℕ) → IsTrue (contains right part)
+    → IsTrue (is_confident baskets confidence union right) → IsTrue (is_confident baskets confidence union part)
+
+-- what a list of the rules of a listing is, and of those with one of its sets as their union
+abbrev pub AreRules : Listing → ℕ × ℕ → List Rule → Type 0
+AreRules listing confidence rules = (baskets : List Weighted) (minimum : Minimum) → IsListingOf baskets minimum listing → rules ≡ rules_of baskets minimum confidence
+
+abbrev pub AreRulesWith : Listing → ℕ × ℕ → ℕ → List Rule → Type 0
+AreRulesWith listing confidence number rules =
+    (baskets : List Weighted) (minimum : Minimum) → IsListingOf baskets minimum listing → rules ≡ rules_with baskets confidence (set_at listing.sets number)
+
+-- the count of a set, if a sorted list has the set
+abbrev pub IsCountIn : List Counted → List ℕ → ℕ → Type 0
+IsCountIn list set count = IsSorted list → (place : ℕ) → place < length list → set_at list place ≡ set → count ≡ count_at list place
+
+-- a right side of a rule with the set at a place as its union
+abbrev pub IsRightSide : Listing → ℕ → List ℕ → Type 0
+IsRightSide listing number right = IsSublist (set_at listing.sets number) right × (length right < length (set_at listing.sets number))
+
+-- the rule with the set at a place as its union and this right side, where it meets the confidence
+abbrev pub IsRuleFor : Listing → ℕ × ℕ → ℕ → List ℕ → Option Rule → Type 0
+IsRuleFor listing confidence number right found = (baskets : List Weighted) (minimum : Minimum) → IsListingOf baskets minimum listing → IsRightSide listing number right
+    → found ≡ (if is_confident baskets confidence (set_at listing.sets number) right then Some (rule_of baskets (set_at listing.sets number) right) else None)
+
+-- what is kept of some right sides, and the rules after adding those of the ones that meet the confidence
+abbrev pub KeepsConfident : Listing → ℕ × ℕ → ℕ → List (List ℕ) → List (List ℕ) → List Rule → List Rule → Type 0
+KeepsConfident listing confidence number tried met old new =
+    (baskets : List Weighted) (minimum : Minimum) → IsListingOf baskets minimum listing → AllByRecursion (IsRightSide listing number) tried
+    → (met ≡ filter (is_confident baskets confidence (set_at listing.sets number)) tried)
+    × (new ≡ old ++ map (rule_of baskets (set_at listing.sets number)) (filter (is_confident baskets confidence (set_at listing.sets number)) tried))

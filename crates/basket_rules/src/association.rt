@@ -1,0 +1,177 @@
+//! Association rules (Agrawal and Srikant 1994).
+ghost use Rattle.std.specs.Prelude.{◌≡◌, ◌≤◌, ◌<◌, ◌*◌, ℕ, [], ◌∷◌, OnOk, IfOk, length, map};
+ghost use Rattle.basket_core.specs.Fraction.{lowest};
+ghost use Rattle.basket_sets.specs.Itemset.{IsRising};
+ghost use Rattle.basket_sets.specs.Order.{IsInReportOrder};
+ghost use Rattle.mine_apriori.specs.Sizes.{AreOfSize};
+ghost use Rattle.basket_rules.specs.Rules.{KeepsConfident, AreRules, AreRulesWith, IsCountIn, IsRuleFor, difference};
+
+use crate::search::find;
+use basket_core::{Counted, Fraction, Frequent, Itemset};
+use mine_apriori::candidates;
+use mine_apriori::laws::{
+    candidates_are_exact, candidates_are_in_report_order, candidates_are_one_larger,
+};
+use std::alloc::{AllocError, Global};
+
+/// A rule: baskets that have the left side often have the right side too. Neither side is empty,
+/// and they have no item in common.
+#[derive(Debug, PartialEq, Eq, Drop)]
+pub struct Rule {
+    pub left: Itemset,
+    pub right: Itemset,
+    /// The support of both sides together.
+    pub count: u64,
+    /// Which share of the baskets with the left side has the right side too.
+    pub confidence: Fraction,
+    /// How many times as often the right side stands beside the left side as in all baskets.
+    pub lift: Fraction,
+}
+
+/// The rules that meet the confidence, a numerator and a denominator: union after union in report
+/// order, those of one union by their right sides in report order.
+pub fn rules(
+    alloc: Global,
+    frequent: &Frequent,
+    confidence: (u32, u32),
+) -> Result<Vec<Rule>, AllocError>
+    ensures { IfOk result (λ rules. AreRules frequent.now confidence rules.items) }
+{
+    let mut rules = Vec::new(alloc);
+    for number in 0..frequent.sets().len() {
+        let mut more = rules_with(alloc, frequent, number, confidence)?;
+        rules.append(&mut more)?;
+    }
+    Ok(rules)
+}
+
+/// Those of the rules whose union is the set at the place. Right sides go level by level: those of
+/// one more item are made from the ones that met the confidence, and where one doesn't meet it, no
+/// larger one that has it is tried.
+pub fn rules_with(
+    alloc: Global,
+    frequent: &Frequent,
+    number: usize,
+    confidence: (u32, u32),
+) -> Result<Vec<Rule>, AllocError>
+    requires { number < length frequent.now.sets }
+    ensures { IfOk result (λ rules. AreRulesWith frequent.now confidence number rules.items) }
+{
+    candidates_are_exact();
+    candidates_are_in_report_order();
+    candidates_are_one_larger();
+    let union = &frequent.sets()[number].set;
+    let mut rules = Vec::new(alloc);
+    let mut left = Vec::new(alloc);
+    let mut rights = single_items(alloc, union)?;
+    for size in 1..union.len() {
+        let met = keep_confident(
+            alloc, frequent, number, confidence, rights, &mut left, &mut rules,
+        )?;
+        rights = candidates(alloc, &met)?;
+    }
+    Ok(rules)
+}
+
+/// The subsets of one item.
+fn single_items(alloc: Global, set: &Itemset) -> Result<Vec<Itemset>, AllocError>
+    ensures singles { IfOk result (λ singles. singles.items ≡ map (λ item. item ∷ []) set.now) }
+    ensures rising { OnOk result (IsRising set.now) }
+{
+    let mut singles = Vec::with_capacity(alloc, set.len())?;
+    for item in set.items() {
+        singles.push(Itemset::from_items(alloc, &[*item])?)?;
+    }
+    Ok(singles)
+}
+
+/// Of the right sides, those whose rules meet the confidence. Their rules are added.
+fn keep_confident(
+    alloc: Global,
+    frequent: &Frequent,
+    number: usize,
+    confidence: (u32, u32),
+    tried: Vec<Itemset>,
+    left: &mut Vec<u32>,
+    rules: &mut Vec<Rule>,
+) -> Result<Vec<Itemset>, AllocError>
+    requires { number < length frequent.now.sets }
+    ensures sized { IfOk result (λ met. (size : ℕ) → AreOfSize size tried.items → AreOfSize size met.items) }
+    ensures in_order { IfOk result (λ met. IsInReportOrder tried.items → IsInReportOrder met.items) }
+    ensures kept { IfOk result (λ met. KeepsConfident frequent.now confidence number tried.items met.items rules.old.items rules.new.items) }
+{
+    let mut met = Vec::new(alloc);
+    for right in tried {
+        if let Some(rule) = rule_for(alloc, frequent, number, confidence, &right, left)? {
+            rules.push(rule)?;
+            met.push(right)?;
+        }
+    }
+    Ok(met)
+}
+
+/// The rule whose sides make the set at the place, with this right side, where it meets the
+/// confidence. The left side is made in `left`, whose room is used again.
+fn rule_for(
+    alloc: Global,
+    frequent: &Frequent,
+    number: usize,
+    confidence: (u32, u32),
+    right: &Itemset,
+    left: &mut Vec<u32>,
+) -> Result<Option<Rule>, AllocError>
+    requires { number < length frequent.now.sets }
+    ensures { IfOk result (λ found. IsRuleFor frequent.now confidence number right.now found) }
+{
+    let sets = frequent.sets();
+    let union = &sets[number];
+    let count = union.count;
+    fill_difference(left, union.set.items(), right)?;
+    let left_count = count_of(sets, left);
+    if u128::from(count) * u128::from(confidence.1)
+        < u128::from(left_count) * u128::from(confidence.0)
+    {
+        return Ok(None);
+    }
+    let right_count = count_of(sets, right.items());
+    Ok(Some(Rule {
+        left: Itemset::from_items(alloc, left)?,
+        right: right.copied(alloc)?,
+        count,
+        confidence: ratio(u128::from(count), u128::from(left_count)),
+        lift: ratio(
+            u128::from(count) * u128::from(frequent.total()),
+            u128::from(left_count) * u128::from(right_count),
+        ),
+    }))
+}
+
+/// Makes `rest` the items that the set lacks.
+fn fill_difference(rest: &mut Vec<u32>, items: &[u32], set: &Itemset) -> Result<(), AllocError>
+    ensures { OnOk result (rest.new.items ≡ difference items.now set.now) }
+{
+    rest.clear();
+    for item in items {
+        if !set.contains(*item) {
+            rest.push(*item)?;
+        }
+    }
+    Ok(())
+}
+
+/// The count of the set with these items, or 0 where the list doesn't have it.
+fn count_of(sets: &[Counted], items: &[u32]) -> u64
+    ensures { IsCountIn sets.now items.now result }
+{
+    match find(sets, items) {
+        Ok(at) => sets[at].count,
+        Err(_) => 0,
+    }
+}
+
+/// The fraction in lowest terms. A support of a frequent set is at least 1.
+fn ratio(numerator: u128, denominator: u128) -> Fraction
+    ensures { 1 ≤ denominator → result ≡ lowest numerator denominator }
+{
+    Fraction::reduced(numerator, denominator.max(1))
+}
