@@ -1,7 +1,7 @@
 -- From what reading, mining and writing ensure to what a run ensures.
-use Rattle.std.proofs.Common.{◌≡◌, ◌≢◌, ◌≤◌, ℕ, List, Option, Some, None, Result, Ok, Err, Bool, true, false, length, take, refl, ap, subst, ◌∙◌, inl, inr, arith}
-use Rattle.std.proofs.lemmas.Bool.{false≢true, cases_Bool, ltb-true}
-use Rattle.std.specs.Prelude.{IfSome, IsErr, nat_lt}
+use Rattle.std.proofs.Common.{◌≡◌, ◌≢◌, ◌≤◌, ℕ, List, Option, Some, None, Result, Ok, Err, Bool, true, false, length, take, refl, ap, subst, ◌∙◌}
+use Rattle.std.proofs.lemmas.Bool.{false≢true}
+use Rattle.std.specs.Prelude.{IfSome, IsErr}
 use Rattle.std.specs.Io.KnownBytes.{Appends}
 use Rattle.basket_core.specs.declared.fault.MineFault.{MineFault}
 use Rattle.basket_core.specs.declared.fault.MineFault.TheVariants.{Memory}
@@ -49,9 +49,6 @@ not_failed true x err = absurd (false≢true (err refl))
 not_failed false x err = refl
 
 -- ---- the outcome for baskets
-
-few : (limit count : ℕ) → count ≤ limit → nat_lt limit count ≡ false
-few limit count le = elim (cases_Bool (nat_lt limit count)) [ inl e ↦ absurd (let b = ltb-true limit count e in omega arith) | inr e ↦ e ]
 
 -- ---- the outcome for an input
 

@@ -19,7 +19,7 @@ use Rattle.basket.specs.Plan.{GREATEST_LIMIT, Planned}
 use Rattle.basket.specs.declared.command.PlanFault.{PlanFault}
 use Rattle.basket.specs.declared.command.PlanFault.TheVariants.{Memory, Usage, Help}
 use Rattle.basket.specs.declared.plan.Ask.{Ask}
-use Rattle.basket.specs.declared.plan.Ask.TheVariants.{Items, Sets}
+use Rattle.basket.specs.declared.plan.Ask.TheVariants.{Items, Sets, Closed, Maximal}
 use Rattle.basket.specs.declared.plan.Miner.{Miner}
 use Rattle.basket.specs.declared.plan.Miner.TheVariants.{Apriori}
 
@@ -61,6 +61,8 @@ line_with names = record {
   subs =
       (command_app names (codes "items")).top
       ∷ (command_app names (codes "sets")).top
+      ∷ (command_app names (codes "closed")).top
+      ∷ (command_app names (codes "maximal")).top
       ∷ [];
 }
 
@@ -76,7 +78,11 @@ command_line = line_with (record { ref_ptr = (0, 0); now = map (λ name. record 
 
 -- what the command of a name asks for
 abbrev pub ask_of : Text → Option Ask
-ask_of name = if bytes_eq name (codes "items") then Some Items else (if bytes_eq name (codes "sets") then Some Sets else None)
+ask_of name =
+    if bytes_eq name (codes "items") then Some Items
+    else (if bytes_eq name (codes "sets") then Some Sets
+    else (if bytes_eq name (codes "closed") then Some Closed
+    else (if bytes_eq name (codes "maximal") then Some Maximal else None)))
 
 abbrev pub miner_of : Text → Option Miner
 miner_of text = if bytes_eq text (codes "apriori") then Some Apriori else None

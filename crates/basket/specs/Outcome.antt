@@ -6,12 +6,13 @@ use Rattle.basket_core.specs.declared.fault.MineFault.TheVariants.{TooMany}
 use Rattle.basket_sets.specs.declared.minimum.Minimum.{Minimum}
 use Rattle.basket_sets.specs.declared.weighted.Weighted.{Weighted}
 use Rattle.basket_sets.specs.Frequent.{frequent_items_of, frequent_of}
+use Rattle.basket_rules.specs.Condensed.{closed_of, maximal_of}
 use Rattle.basket_read.specs.declared.fault.ReadFault.{ReadFault}
 use Rattle.basket_read.specs.Fimi.{fimi_of}
 use Rattle.basket.specs.declared.fault.RunFault.{RunFault}
 use Rattle.basket.specs.declared.fault.RunFault.TheVariants.{Input, Mine}
 use Rattle.basket.specs.declared.plan.Ask.{Ask}
-use Rattle.basket.specs.declared.plan.Ask.TheVariants.{Items, Sets}
+use Rattle.basket.specs.declared.plan.Ask.TheVariants.{Items, Sets, Closed, Maximal}
 use Rattle.basket.specs.Plan.{Question}
 use Rattle.basket.specs.Report.{report_of}
 
@@ -19,11 +20,13 @@ use Rattle.basket.specs.Report.{report_of}
 abbrev pub asked : Ask → List Weighted → Minimum → List Counted
 asked Items baskets minimum = frequent_items_of baskets minimum
 asked Sets baskets minimum = frequent_of baskets minimum
+asked Closed baskets minimum = closed_of baskets minimum
+asked Maximal baskets minimum = maximal_of baskets minimum
 
 -- whether there are more frequent sets than the limit, which isn't asked for items
 abbrev pub are_too_many : Ask → List Weighted → Minimum → ℕ → Bool
 are_too_many Items baskets minimum limit = false
-are_too_many Sets baskets minimum limit = nat_lt limit (length (frequent_of baskets minimum))
+are_too_many _ baskets minimum limit = nat_lt limit (length (frequent_of baskets minimum))
 
 -- the outcome for baskets: the text of what is asked for, unless there are more frequent sets than the limit
 abbrev pub outcome_for : List Weighted → Question → Result (List ℕ) MineFault

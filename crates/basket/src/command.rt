@@ -78,6 +78,29 @@ Example:
   2 (3)
   1 2 (2)";
 
+const CLOSED_ABOUT: &str =
+    "Writes each set that `sets` writes and of which no larger set has the same count";
+
+const CLOSED_EXAMPLE: &str = "\
+Standard input and output are those of `sets`. The count of every frequent set can be
+told from the closed ones: it is the greatest count of a closed set that has its items.
+
+Example:
+  printf '1 2\\n2 1 3\\n2\\n' | basket closed --min 2
+  2 (3)
+  1 2 (2)";
+
+const MAXIMAL_ABOUT: &str =
+    "Writes each set that `sets` writes and of which no larger set is in enough baskets";
+
+const MAXIMAL_EXAMPLE: &str = "\
+Standard input and output are those of `sets`. The frequent sets are the maximal ones
+and all their parts.
+
+Example:
+  printf '1 2\\n2 1 3\\n2\\n' | basket maximal --min 2
+  1 2 (2)";
+
 const MIN_HELP: &str = "The least count of a set to be listed: a number, as 20, \
 or a share of all baskets, as 5% or 1/200";
 
@@ -110,6 +133,8 @@ fn command_line<'a>(alloc: Global, miners: &'a [&'a str]) -> Result<Command<'a>,
 {
     let items = command(alloc, "items", ITEMS_ABOUT, ITEMS_EXAMPLE, miners)?;
     let sets = command(alloc, "sets", SETS_ABOUT, SETS_EXAMPLE, miners)?;
+    let closed = command(alloc, "closed", CLOSED_ABOUT, CLOSED_EXAMPLE, miners)?;
+    let maximal = command(alloc, "maximal", MAXIMAL_ABOUT, MAXIMAL_EXAMPLE, miners)?;
     Command::new(alloc, "basket")
         .no_binary_name(true)
         .bin_name("basket")?
@@ -118,7 +143,9 @@ fn command_line<'a>(alloc: Global, miners: &'a [&'a str]) -> Result<Command<'a>,
         .subcommand_required(true)
         .disable_help_subcommand(true)
         .subcommand(items)?
-        .subcommand(sets)
+        .subcommand(sets)?
+        .subcommand(closed)?
+        .subcommand(maximal)
 }
 
 /// A command with its options, which are the same for all.
@@ -206,6 +233,8 @@ fn asked<'m, 'a>(matches: &'m ArgMatches<'a>) -> Option<(Ask, &'m ArgMatches<'a>
     match matches.subcommand()? {
         ("items", options) => Some((Ask::Items, options)),
         ("sets", options) => Some((Ask::Sets, options)),
+        ("closed", options) => Some((Ask::Closed, options)),
+        ("maximal", options) => Some((Ask::Maximal, options)),
         _ => None,
     }
 }

@@ -14,6 +14,7 @@ use crate::report::sets_report;
 use crate::write::write_all;
 use basket_core::{Database, MineFault, Sink, Source};
 use basket_read::{ReadFault, read_fimi};
+use basket_rules::{closed, maximal};
 use std::alloc::Global;
 
 /// Reads the input to its end and writes the report that the plan asks for. The whole report is
@@ -63,5 +64,7 @@ fn report(alloc: Global, database: &Database, plan: &Plan) -> Result<Vec<u8>, Mi
     match plan.ask() {
         Ask::Items => Ok(items_report(alloc, database, plan.minimum())?),
         Ask::Sets => Ok(sets_report(alloc, mine(alloc, database, plan)?.sets())?),
+        Ask::Closed => Ok(sets_report(alloc, &closed(alloc, &mine(alloc, database, plan)?)?)?),
+        Ask::Maximal => Ok(sets_report(alloc, &maximal(alloc, &mine(alloc, database, plan)?)?)?),
     }
 }

@@ -12,6 +12,10 @@ pub enum Ask {
     Items,
     /// The frequent sets.
     Sets,
+    /// Those of them of which no proper superset has the same support.
+    Closed,
+    /// Those of them of which no proper superset is frequent.
+    Maximal,
 }
 
 /// How the frequent sets are found. No report depends on it.

@@ -11,4 +11,6 @@ returns c =
     let needs = ap app_of_fields c.subcommand_required.ensures ∙ ap (on_top (λ s. record s { subcommand_required = true })) told in
     let bare = ap app_of_fields c.disable_help_subcommand.ensures ∙ ap (on_top (λ s. record s { disable_help_subcommand = true })) needs in
     let first = c.in_ok-subcommand.ensures.shape c.in_ok-items.ensures.local ∙ ap₂ with_subcommand bare (ap (λ (a : App). a.top) c.in_ok-items.ensures.options) in
-    IfOk-weaker c.subcommand-2.result _ _ (λ command added. added.shape c.in_ok-sets.ensures.local ∙ ap₂ with_subcommand first (ap (λ (a : App). a.top) c.in_ok-sets.ensures.options)) c.subcommand-2.ensures
+    let second = c.in_ok-subcommand-2.ensures.shape c.in_ok-sets.ensures.local ∙ ap₂ with_subcommand first (ap (λ (a : App). a.top) c.in_ok-sets.ensures.options) in
+    let third = c.in_ok-subcommand-3.ensures.shape c.in_ok-closed.ensures.local ∙ ap₂ with_subcommand second (ap (λ (a : App). a.top) c.in_ok-closed.ensures.options) in
+    IfOk-weaker c.subcommand-4.result _ _ (λ command added. added.shape c.in_ok-maximal.ensures.local ∙ ap₂ with_subcommand third (ap (λ (a : App). a.top) c.in_ok-maximal.ensures.options)) c.subcommand-4.ensures
