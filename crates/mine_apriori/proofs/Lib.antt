@@ -17,3 +17,5 @@ mod SupportLemmas
 mod RegularLemmas
 mod LevelsLemmas
 mod MarkLemmas
+mod TriangleLemmas
+mod PairLemmas

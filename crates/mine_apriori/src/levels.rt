@@ -1,5 +1,5 @@
 //! Apriori, level by level.
-ghost use Rattle.std.specs.Prelude.{◌≡◌, ◌≢◌, ◌≤◌, ◌+◌, ◌++◌, [], ◌∷◌, ℕ, List, Err, IfOk, IfErr, OnOk, drop, filter, length, map, All};
+ghost use Rattle.std.specs.Prelude.{◌≡◌, ◌≢◌, ◌<◌, ◌≤◌, ◌+◌, ◌++◌, [], ◌∷◌, ℕ, List, Err, IfOk, IfErr, OnOk, drop, filter, length, map, All};
 ghost use Rattle.basket_core.specs.declared.fault.MineFault.TheVariants.{Memory, TooMany};
 ghost use Rattle.basket_core.specs.Codes.{IsCoding, decoded_set};
 ghost use Rattle.basket_sets.specs.Counts.{AllBelow};
@@ -9,6 +9,7 @@ ghost use Rattle.basket_sets.specs.Support.{support_of};
 ghost use Rattle.mine_apriori.specs.Levels.{AreFound, AreTooMany, asked_of, level_of, levels_up_to, wanted};
 
 use crate::join::candidates;
+use crate::pairs::frequent_pairs;
 use crate::shard::count_shard;
 use basket_core::{Coded, Counted, Frequent, Itemset, MineFault, count_items};
 use std::alloc::{AllocError, Global};
@@ -28,6 +29,23 @@ impl Found {
     {
         self.sets.push(set)?;
         self.counts.push(count)?;
+        Ok(())
+    }
+
+    /// Adds the pairs of a rank with ranks above it.
+    fn add_pairs(
+        &mut self,
+        alloc: Global,
+        rank: u32,
+        pairs: &[(u32, u64)],
+    ) -> Result<(), AllocError>
+        requires { All (λ pair. rank < pair.0) pairs.now }
+        ensures sets { OnOk result (self.new.sets.items ≡ self.old.sets.items ++ map (λ pair. rank ∷ pair.0 ∷ []) pairs.now) }
+        ensures counts { OnOk result (self.new.counts.items ≡ self.old.counts.items ++ map (λ pair. pair.1) pairs.now) }
+    {
+        for (other, count) in pairs {
+            self.push(Itemset::from_items(alloc, &[rank, *other])?, *count)?;
+        }
         Ok(())
     }
 
@@ -89,6 +107,21 @@ fn frequent_ranks(alloc: Global, coded: &Coded) -> Result<Found, AllocError>
         }
     }
     Ok(found)
+}
+
+/// Adds the frequent sets of two ranks. They are counted where they occur, and no list of all pairs
+/// is made.
+fn add_second_level(alloc: Global, coded: &Coded, found: &mut Found) -> Result<(), AllocError>
+    requires coding { IsCoding coded.now }
+    requires found { AreFound coded.now 1 found.old }
+    ensures sets { OnOk result (found.new.sets.items ≡ found.old.sets.items ++ level_of coded.now 2) }
+    ensures found { OnOk result (AreFound coded.now 2 found.new) }
+{
+    let lists = frequent_pairs(alloc, coded)?;
+    for (rank, pairs) in lists.iter().enumerate() {
+        found.add_pairs(alloc, rank as u32, pairs)?;
+    }
+    Ok(())
 }
 
 /// A search for the frequent sets, level by level (Agrawal and Srikant 1994): a level is those of
@@ -157,13 +190,27 @@ impl<'a> Levels<'a> {
         })
     }
 
+    /// The search that has found the frequent items and pairs, without a list of all pairs.
+    fn with_pairs(alloc: Global, coded: &'a Coded, limit: u32) -> Result<Self, MineFault>
+        ensures ok { IfOk result (λ levels. levels ≡ record { coding = coded.now; limit = limit; size = 2 }) }
+        ensures too_many { (most : ℕ) → result ≡ Err (TooMany most) → (most ≡ limit) × AreTooMany coded.now limit }
+    {
+        let mut found = frequent_ranks(alloc, coded)?;
+        let last = found.sets.len();
+        if last > limit as usize {
+            return Err(MineFault::TooMany { limit });
+        }
+        add_second_level(alloc, coded, &mut found)?;
+        Levels::ask(alloc, coded, limit, 2, found, last)
+    }
+
     /// The search at its end, where nothing is asked any more.
     pub fn searched(alloc: Global, coded: &'a Coded, limit: u32) -> Result<Self, MineFault>
         ensures search { IfOk result (λ levels. (levels.coding ≡ coded.now) × (levels.limit ≡ limit)) }
         ensures done { IfOk result (λ levels. asked_of levels.coding levels.size ≡ []) }
         ensures too_many { (most : ℕ) → result ≡ Err (TooMany most) → (most ≡ limit) × AreTooMany coded.now limit }
     {
-        let mut levels = Levels::start(alloc, coded, limit)?;
+        let mut levels = Levels::with_pairs(alloc, coded, limit)?;
         while !levels.asked().is_empty() {
             let counts = count_shard(alloc, coded.baskets(), levels.asked())?;
             levels = levels.answer(alloc, &counts)?;
