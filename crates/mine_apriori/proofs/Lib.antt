@@ -19,3 +19,4 @@ mod LevelsLemmas
 mod MarkLemmas
 mod TriangleLemmas
 mod PairLemmas
+mod WorkLemmas

@@ -9,4 +9,5 @@ pub mod Tree
 pub mod Shard
 pub mod Pairs
 pub mod Triangle
+pub mod Work
 pub mod Levels

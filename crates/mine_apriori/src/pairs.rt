@@ -37,10 +37,11 @@ fn counted_pairs(
     pairs_by_runs(alloc, &runs, least)
 }
 
-/// Whether a count for each pair of ranks takes no more memory than the baskets.
+/// Whether a count for each pair of ranks takes no more memory than the baskets, of which there are
+/// two lists: those of items, and those of ranks.
 fn has_small_triangle(coded: &Coded) -> bool {
     let ranks = u64::from(coded.ranks());
-    ranks * ranks / 2 <= (coded.baskets().len() as u64).saturating_mul(8)
+    ranks * ranks / 2 <= (coded.baskets().len() as u64).saturating_mul(16)
 }
 
 /// The same from the runs of the baskets, one rank after another.
