@@ -62,6 +62,6 @@ fn report(alloc: Global, database: &Database, plan: &Plan) -> Result<Vec<u8>, Mi
 {
     match plan.ask() {
         Ask::Items => Ok(items_report(alloc, database, plan.minimum())?),
-        Ask::Sets => Ok(sets_report(alloc, mine(alloc, database, plan)?.sets())?),
+        Ask::Sets => Ok(sets_report(alloc, mine(alloc, database, plan)?.0.sets())?),
     }
 }

@@ -20,3 +20,4 @@ mod MarkLemmas
 mod TriangleLemmas
 mod PairLemmas
 mod WorkLemmas
+mod ItemLemmas

@@ -3,7 +3,7 @@ use Rattle.std.specs.Prelude.{◌≡◌, ◌-◌, ℕ, Bool, ◌&&◌, nat_le, L
 use Rattle.std.specs.List.{list_all}
 use Rattle.basket_sets.specs.declared.weighted.Weighted.{Weighted}
 use Rattle.basket_sets.specs.declared.minimum.Minimum.{Minimum}
-use Rattle.basket_sets.specs.Frequent.{is_frequent}
+use Rattle.basket_sets.specs.Frequent.{frequent_of, is_frequent}
 use Rattle.basket_sets.specs.Subsets.{subsets_of, subsets_of_size, subsets_up_to}
 use Rattle.basket_sets.specs.Support.{items_of}
 
@@ -26,3 +26,7 @@ all_candidates baskets minimum = filter (is_candidate baskets minimum) (subsets_
 -- how many candidates there are
 abbrev pub candidate_count : List Weighted → Minimum → ℕ
 candidate_count baskets minimum = length (all_candidates baskets minimum)
+
+-- baskets with the same frequent sets have the same candidates
+abbrev pub CandidatesBySets : Type 0
+CandidatesBySets = (one other : List Weighted) (minimum : Minimum) → frequent_of one minimum ≡ frequent_of other minimum → all_candidates one minimum ≡ all_candidates other minimum

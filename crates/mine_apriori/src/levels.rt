@@ -1,7 +1,7 @@
 //! Apriori, level by level.
 ghost use Rattle.std.specs.Prelude.{◌≡◌, ◌≢◌, ◌<◌, ◌≤◌, ◌+◌, ◌-◌, ◌*◌, ◌/◌, ◌^◌, ◌++◌, [], ◌∷◌, ℕ, List, Err, IfOk, IfErr, OnOk, drop, filter, length, map, All};
 ghost use Rattle.basket_core.specs.declared.fault.MineFault.TheVariants.{Memory, TooMany};
-ghost use Rattle.basket_core.specs.Codes.{IsCoding, decoded_set};
+ghost use Rattle.basket_core.specs.Codes.{IsCoding, baskets_of, decoded_set};
 ghost use Rattle.basket_sets.specs.Counts.{AllBelow};
 ghost use Rattle.basket_sets.specs.Frequent.{counted, is_frequent};
 ghost use Rattle.basket_core.specs.Listing.{listing_of};
@@ -235,7 +235,7 @@ impl<'a> Levels<'a> {
     /// How many sets were asked so far, those that are asked now among them.
     pub fn counted(&self) -> u64
         ensures so_far { result ≡ length (candidates_up_to self.now.coding.baskets self.now.coding.minimum (self.now.size + 1)) }
-        ensures all { asked_of self.now.coding self.now.size ≡ [] → result ≡ candidate_count self.now.coding.baskets self.now.coding.minimum }
+        ensures all { asked_of self.now.coding self.now.size ≡ [] → result ≡ candidate_count (baskets_of self.now.coding) self.now.coding.minimum }
     {
         self.counted
     }
@@ -290,7 +290,7 @@ fn pairs_of(ranks: u64) -> u64
 /// (Agrawal and Srikant 1994). No list of all pairs is made.
 pub fn apriori(alloc: Global, coded: &Coded, limit: u32) -> Result<(Frequent, u64), MineFault>
     ensures ok { IfOk result (λ mined. mined.0 ≡ listing_of coded.now) }
-    ensures candidates { IfOk result (λ mined. mined.1 ≡ candidate_count coded.now.baskets coded.now.minimum) }
+    ensures candidates { IfOk result (λ mined. mined.1 ≡ candidate_count (baskets_of coded.now) coded.now.minimum) }
     ensures within { IfOk result (λ mined. length mined.0.sets ≤ limit) }
     ensures too_many { (most : ℕ) → result ≡ Err (TooMany most) → (most ≡ limit) × AreTooMany coded.now limit }
 {
