@@ -1,20 +1,20 @@
 -- Counts of pairs, one basket after another.
-use Rattle.std.proofs.Common.{◌≡◌, ◌≢◌, ℕ, ◌+◌, ◌<◌, ◌≤◌, Bool, true, false, ◌&&◌, ◌||◌, List, [], ◌∷◌, ◌++◌, append-nil, length, take, drop, get_or, map, set, cond, eqb, ltb, leb, refl, sym, ap, ◌∙◌, subst, inl, inr, arith, zero, suc, add-zero}
+use Rattle.std.proofs.Common.{◌≡◌, ℕ, ◌+◌, ◌<◌, ◌≤◌, Bool, true, false, ◌&&◌, ◌||◌, List, [], ◌∷◌, ◌++◌, append-nil, length, take, get_or, map, set, cond, eqb, leb, refl, sym, ap, ◌∙◌, subst, inl, inr, arith, zero, suc, add-zero}
 use Rattle.std.proofs.lemmas.Bool.{cases_Bool, cases_eq, eq-eqb, ne_eqb, le-leb, lt-leb, leb-true, lt-ltb}
 use Rattle.std.specs.Prelude.{replicate}
 use Rattle.std.specs.List.{filter, range_with_len}
-use Rattle.std.proofs.lemmas.List.{get_or-set_same, get_or-set_other, length-set, length-replicate, get_or-replicate, take-append-drop, map-append, map-id}
+use Rattle.std.proofs.lemmas.List.{get_or-set_same, get_or-set_other, length-set, length-replicate, get_or-replicate, map-append, map-id}
 use Rattle.std.proofs.lemmas.List.Elements.{filter-append}
 use Rattle.std.proofs.lemmas.List.FromFn.{map-range_with_len_more, length-map-range_with_len, get_or-map-range_with_len}
 use Rattle.std.proofs.lemmas.List.Sums.{sum_by_more, sum_by_more_le}
-use Rattle.basket_core.specs.Codes.{Coding, IsCoding, IsCodedPlace}
+use Rattle.basket_core.specs.Codes.{Coding, IsCoding}
 use Rattle.basket_sets.specs.declared.weighted.Weighted.{Weighted}
 use Rattle.basket_sets.specs.Counts.{AllBelow}
 use Rattle.basket_sets.specs.Database.{MOST_WEIGHT}
-use Rattle.basket_sets.specs.Itemset.{IsRising, has, contains}
-use Rattle.basket_sets.specs.Support.{support_of, total_of, weight_at}
-use Rattle.basket_sets.proofs.theory.Members.{Member, Member-append_left, Member-filter}
-use Rattle.basket_sets.proofs.theory.Rising.{Member-from_has, nil_rises, cons_rises, first_below, rest_rises, has_more, has_place, not_before}
+use Rattle.basket_sets.specs.Itemset.{IsRising, has}
+use Rattle.basket_sets.specs.Support.{support_of, weight_at}
+use Rattle.basket_sets.proofs.theory.Members.{Member, Member-filter}
+use Rattle.basket_sets.proofs.theory.Rising.{Member-from_has, first_below, rest_rises, has_more, has_place, not_before}
 use Rattle.basket_sets.proofs.theory.Support.{support_falls}
 use Rattle.mine_classes.specs.Conditional.{is_kept}
 use Rattle.mine_classes.specs.Pairs.{WithBasket, is_met, pairs_of}
@@ -69,17 +69,7 @@ front_has (first ∷ ranks) zero lesser up here less = elim (cases_Bool (has (fi
     at_least (inr m) = let low = first_below first ranks up lesser m in omega arith
 front_has (first ∷ ranks) (suc place) lesser up here less = ap (λ b. eqb first lesser || b) (front_has ranks place lesser (rest_rises first ranks up) (omega arith) less)
 
--- the ranks before a place rise, and are below the rank at the place
-Member-before : (ranks : List ℕ) (place rank : ℕ) → Member rank (take place ranks) → Member rank ranks
-Member-before ranks place rank m = subst (Member rank) (take-append-drop place ranks) (Member-append_left rank (take place ranks) (drop place ranks) m)
-
-pub before_rises : (ranks : List ℕ) (place : ℕ) → IsRising ranks → IsRising (take place ranks)
-before_rises [] zero up = nil_rises
-before_rises [] (suc place) up = nil_rises
-before_rises (first ∷ ranks) zero up = nil_rises
-before_rises (first ∷ ranks) (suc place) up =
-    cons_rises first (take place ranks) (λ rank m. first_below first ranks up rank (Member-before ranks place rank m)) (before_rises ranks place (rest_rises first ranks up))
-
+-- the ranks before a place are below the rank at the place
 before_below : (ranks : List ℕ) (place rank : ℕ) → IsRising ranks → place < length ranks → Member rank (take place ranks) → rank < get_or ranks place 0
 before_below [] place rank up here m = absurd (omega arith)
 before_below (first ∷ ranks) zero rank up here m = absurd m

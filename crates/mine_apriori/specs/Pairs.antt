@@ -1,5 +1,5 @@
 -- Supports of pairs of ranks, first by the greater rank of a pair, then by the lesser.
-use Rattle.std.specs.Prelude.{◌≡◌, ◌+◌, ◌++◌, ◌-◌, ◌==◌, ℕ, List, [], ◌∷◌, filter, length, map}
+use Rattle.std.specs.Prelude.{◌+◌, ◌++◌, ◌-◌, ◌==◌, ℕ, List, [], ◌∷◌, filter, length, map}
 use Rattle.std.specs.List.{range_with_len}
 use Rattle.std.specs.declared.vec.Vec.{Vec}
 use Rattle.std.specs.declared.alloc.Global.{Global}

@@ -1,7 +1,5 @@
 use Rattle.std.proofs.Common.{◌≡◌, ◌+◌, ◌++◌, [], length, get_or, take, subst, sym, ap, ◌∙◌, arith}
-use Rattle.std.specs.declared.vec.Vec.{Vec}
-use Rattle.std.specs.declared.alloc.Global.{Global}
-use Rattle.std.proofs.lemmas.List.{length-map, length-take-le, take_all, take_at, take_more}
+use Rattle.std.proofs.lemmas.List.{length-take-le, take_all, take_at, take_more}
 use Rattle.std.proofs.lemmas.List.FromFn.{fill_by_all}
 use Rattle.mine_apriori.specs.Pairs.{AreBelow, lesser_from, lists_of, pairs_at}
 use Rattle.mine_apriori.proofs.PairLemmas.{lesser_more, list_at, lists_long}

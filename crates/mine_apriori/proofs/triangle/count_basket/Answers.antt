@@ -1,13 +1,13 @@
-use Rattle.std.proofs.Common.{ℕ, ◌+◌, ◌<◌, ◌≤◌, [], length, take, get_or, set, subst, sym, ap, ◌∙◌, arith}
+use Rattle.std.proofs.Common.{ℕ, ◌+◌, ◌<◌, length, take, get_or, set, subst, sym, ap, ◌∙◌, arith}
 use Rattle.std.specs.declared.vec.Vec.{Vec}
 use Rattle.std.specs.declared.alloc.Global.{Global}
 use Rattle.std.proofs.lemmas.List.{map-set, with_items_is}
 use Rattle.basket_sets.specs.Counts.{AllBelow}
-use Rattle.basket_sets.specs.Database.{MOST_WEIGHT}
 use Rattle.mine_classes.specs.Pairs.{WithBasket}
 use Rattle.mine_apriori.specs.Pairs.{lists_of}
-use Rattle.mine_apriori.proofs.PairLemmas.{list_at, lists_long}
-use Rattle.mine_apriori.proofs.TriangleLemmas.{WithFirst, below_at, before_rises, before_all_below, first_begins, first_more, untouched}
+use Rattle.mine_apriori.proofs.ContainLemmas.{take_rises}
+use Rattle.mine_apriori.proofs.PairLemmas.{list_at}
+use Rattle.mine_apriori.proofs.TriangleLemmas.{WithFirst, below_at, before_all_below, first_more, untouched}
 use Rattle.mine_apriori.proofs.triangle.count_basket.Goals as goal
 
 pub bounds-rows-rank : goal.bounds-rows-rank
@@ -16,7 +16,7 @@ bounds-rows-rank c =
     omega (arith, here, c.loop-place.auto.rows)
 
 pub count_below-requires-clause-rises : goal.count_below-requires-clause-rises
-count_below-requires-clause-rises c = before_rises c.args.ranks.now c.loop-place.place c.requires.rises
+count_below-requires-clause-rises c = take_rises c.loop-place.place c.args.ranks.now c.requires.rises
 
 pub count_below-requires-clause-below : goal.count_below-requires-clause-below
 count_below-requires-clause-below c =

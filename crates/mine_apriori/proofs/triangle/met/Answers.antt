@@ -1,4 +1,4 @@
-use Rattle.std.proofs.Common.{◌++◌, ◌∷◌, [], get_or, ap, ◌∙◌, arith}
+use Rattle.std.proofs.Common.{◌++◌, ◌∷◌, [], get_or, ap, ◌∙◌}
 use Rattle.mine_apriori.proofs.TriangleLemmas.{met_yes, met_no}
 use Rattle.mine_apriori.proofs.triangle.met.Goals as goal
 use Rattle.mine_apriori.proofs.triangle.met.Goals.{then-count-least+in_ok-push, else-count-least}
