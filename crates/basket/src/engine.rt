@@ -63,8 +63,8 @@ fn report(alloc: Global, database: &Database, plan: &Plan) -> Result<Vec<u8>, Mi
 {
     match plan.ask() {
         Ask::Items => Ok(items_report(alloc, database, plan.minimum())?),
-        Ask::Sets => Ok(sets_report(alloc, mine(alloc, database, plan)?.sets())?),
-        Ask::Closed => Ok(sets_report(alloc, &closed(alloc, &mine(alloc, database, plan)?)?)?),
-        Ask::Maximal => Ok(sets_report(alloc, &maximal(alloc, &mine(alloc, database, plan)?)?)?),
+        Ask::Sets => Ok(sets_report(alloc, mine(alloc, database, plan)?.0.sets())?),
+        Ask::Closed => Ok(sets_report(alloc, &closed(alloc, &mine(alloc, database, plan)?.0)?)?),
+        Ask::Maximal => Ok(sets_report(alloc, &maximal(alloc, &mine(alloc, database, plan)?.0)?)?),
     }
 }

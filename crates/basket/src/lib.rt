@@ -17,6 +17,6 @@ mod write;
 pub use command::{PlanFault, plan_of, plan_status};
 pub use engine::run;
 pub use fault::{RunFault, status_of};
-pub use mining::mine;
+pub use mining::{Work, mine};
 pub use plan::{Ask, Miner, Plan};
 pub use report::sets_report;

@@ -1,5 +1,6 @@
 //! The frequent sets of a database.
 ghost use Rattle.std.specs.Prelude.{◌≡◌, ◌<◌, ◌≤◌, ◌+◌, ◌^◌, ℕ, Err, IfOk, length};
+ghost use Rattle.basket.specs.Mining.{work_of};
 ghost use Rattle.basket_core.specs.declared.fault.MineFault.TheVariants.{TooMany};
 ghost use Rattle.basket_sets.specs.Frequent.{frequent_of};
 ghost use Rattle.basket_sets.specs.Support.{total_of};
@@ -7,13 +8,27 @@ ghost use Rattle.basket_sets.specs.Support.{total_of};
 use crate::plan::{Miner, Plan};
 use basket_core::{Coded, Database, Frequent, MineFault, deep};
 use mine_apriori::apriori;
+use mine_apriori::laws::candidates_by_sets;
 use std::alloc::Global;
 
-/// The list of the frequent sets, where it is no longer than the plan's limit.
-pub fn mine(alloc: Global, database: &Database, plan: &Plan) -> Result<Frequent, MineFault>
-    ensures sets { IfOk result (λ frequent. frequent.sets ≡ frequent_of database.now plan.now.question.minimum) }
-    ensures total { IfOk result (λ frequent. frequent.total ≡ total_of database.now) }
-    ensures within { IfOk result (λ frequent. length frequent.sets ≤ plan.now.question.limit) }
+/// How much a miner did. The numbers of the miners that weren't asked for are 0.
+#[derive(Clone, Copy, Debug, PartialEq, Eq)]
+pub struct Work {
+    /// The candidates that Apriori counted (Agrawal and Srikant 1994).
+    pub candidates: u64,
+    /// The joins that Eclat made (Zaki 2000).
+    pub joins: u64,
+    /// The conditional trees that FP-growth built (Han, Pei and Yin 2000).
+    pub trees: u64,
+}
+
+/// The list of the frequent sets, where it is no longer than the plan's limit, and how much the
+/// plan's miner did for it.
+pub fn mine(alloc: Global, database: &Database, plan: &Plan) -> Result<(Frequent, Work), MineFault>
+    ensures sets { IfOk result (λ mined. mined.0.sets ≡ frequent_of database.now plan.now.question.minimum) }
+    ensures total { IfOk result (λ mined. mined.0.total ≡ total_of database.now) }
+    ensures within { IfOk result (λ mined. length mined.0.sets ≤ plan.now.question.limit) }
+    ensures work { IfOk result (λ mined. mined.1 ≡ work_of plan.now.miner database.now plan.now.question.minimum) }
     ensures too_many { (most : ℕ) → result ≡ Err (TooMany most)
         → (most ≡ plan.now.question.limit) × (plan.now.question.limit < length (frequent_of database.now plan.now.question.minimum)) }
 {
@@ -23,7 +38,16 @@ pub fn mine(alloc: Global, database: &Database, plan: &Plan) -> Result<Frequent,
         return Err(MineFault::TooMany { limit });
     }
     match plan.miner() {
-        Miner::Apriori => apriori(alloc, &coded, limit),
+        Miner::Apriori => {
+            let (frequent, candidates) = apriori(alloc, &coded, limit)?;
+            candidates_by_sets();
+            let work = Work {
+                candidates,
+                joins: 0,
+                trees: 0,
+            };
+            Ok((frequent, work))
+        }
     }
 }
 

@@ -52,7 +52,7 @@ candidates_are_in_report_order (first ∷ others) =
     (of_size_sorted (suc size) (items_in sets) (items_rise sets)))
 
 -- each item of a set is in the set without its last item, or in that without the item before
-item_is_left : (last : ℕ) (set : List ℕ) (item : ℕ) → length set ≡ suc (suc last) → Member item set → Member item (without (suc last) set) ⊎ Member item (without last set)
+pub item_is_left : (last : ℕ) (set : List ℕ) (item : ℕ) → length set ≡ suc (suc last) → Member item set → Member item (without (suc last) set) ⊎ Member item (without last set)
 item_is_left last set item long m =
     let r = ends_of last set long in
     let first = r.front ++ r.first ∷ [] in

@@ -31,7 +31,7 @@ use Rattle.mine_apriori.specs.Sizes.{AreOfSize}
 use Rattle.mine_apriori.proofs.LawLemmas.{subset_of_size, candidates_are_exact, candidates_are_in_report_order, candidates_are_one_larger}
 
 -- what is larger than a list has no subset of it
-none_larger : (size : ℕ) (items : List ℕ) → length items < size → subsets_of_size size items ≡ []
+pub none_larger : (size : ℕ) (items : List ℕ) → length items < size → subsets_of_size size items ≡ []
 none_larger zero items h = absurd (omega arith)
 none_larger (suc size) [] h = refl
 none_larger (suc size) (x ∷ items) h = both (none_larger size items (omega arith)) (none_larger (suc size) items (omega arith))
@@ -46,7 +46,7 @@ module _ (coding : Coding) where
   abbrev passes : List ℕ → Bool
   passes set = is_frequent coding.baskets coding.minimum set
 
-  items_rise : IsRising items
+  pub items_rise : IsRising items
   items_rise = rising-rises (all_items coding.baskets)
 
   -- ---- the sets of a level
@@ -102,7 +102,7 @@ module _ (coding : Coding) where
   empty_after : (size : ℕ) → 1 ≤ size → level_of coding size ≡ [] → level_of coding (size + 1) ≡ []
   empty_after size some none = sym (next_level size some) ∙ ap (λ l. filter passes (candidates_of l)) none
 
-  empty_later : (size more : ℕ) → 1 ≤ size → level_of coding size ≡ [] → level_of coding (size + more) ≡ []
+  pub empty_later : (size more : ℕ) → 1 ≤ size → level_of coding size ≡ [] → level_of coding (size + more) ≡ []
   empty_later size zero some none = ap (level_of coding) (let e : size + 0 ≡ size = omega arith in e) ∙ none
   empty_later size (suc more) some none =
       ap (level_of coding) (let e : size + suc more ≡ size + more + 1 = omega arith in e)
@@ -173,11 +173,15 @@ module _ (coding : Coding) where
   ]
 
   -- a candidate has items of the baskets
+  pub candidate_items : (size : ℕ) (set : List ℕ) → Member set (asked_of coding size) → (item : ℕ) → Member item set → Member item items
+  candidate_items size set m item n =
+      let s = subset_of_size size (level_of coding size) set (level_sized size) m in
+      from_sets (level_of coding size) item (λ other k j. (from_level size other k).0.within item j) (Member-rising (flat_map (λ set. set) (level_of coding size)) item (s.0.within item n))
+
   candidate_within : (size : ℕ) (set : List ℕ) → Member set (asked_of coding size) → size + 1 ≤ length items
   candidate_within size set m =
       let s = subset_of_size size (level_of coding size) set (level_sized size) m in
-      let le = length-le-contains set items s.0.rises items_rise
-      (λ item n. from_sets (level_of coding size) item (λ other k j. (from_level size other k).0.within item j) (Member-rising (flat_map (λ set. set) (level_of coding size)) item (s.0.within item n))) in
+      let le = length-le-contains set items s.0.rises items_rise (candidate_items size set m) in
       omega (arith, le, s.0.sized)
 
   -- a level that asks is not yet that of all items

@@ -17,3 +17,7 @@ mod SupportLemmas
 mod RegularLemmas
 mod LevelsLemmas
 mod MarkLemmas
+mod TriangleLemmas
+mod PairLemmas
+mod WorkLemmas
+mod ItemLemmas

@@ -4,7 +4,7 @@ use Rattle.std.specs.List.{AllWithin}
 use Rattle.std.specs.List.Sorted.{IsBinarySearchResult}
 use Rattle.std.specs.Ordering.{nat_cmp}
 use Rattle.std.proofs.lemmas.Bool.{cases_lt, cases_eq, eq-eqb, ne_eqb, and_left}
-use Rattle.std.proofs.lemmas.List.{get_or-set_same, get_or-set_other, get_or-take, get_or-drop, length-drop, length-take, get_or_default, take_all}
+use Rattle.std.proofs.lemmas.List.{get_or-set_same, get_or-set_other, get_or-take, get_or-drop, length-drop, length-take, get_or_default, take_all, take_rest}
 use Rattle.std.proofs.lemmas.List.Sorted.{searched}
 use Rattle.std.proofs.lemmas.Map.Keys.{below_from_sorted, non_decreasing_from_sorted, sorted_from_strictly_increasing}
 use Rattle.basket_sets.specs.Itemset.{IsRising, has}
@@ -14,12 +14,32 @@ use Rattle.basket_sets.proofs.theory.Rising.{Member-from_has}
 use Rattle.mine_apriori.proofs.ContainLemmas.{same_truth, take_rises}
 use Rattle.mine_apriori.specs.Run.{RisesWithin, AddsWithin, IsMissingAt}
 
-rises_by_places : (items : List ℕ) → IsRising items → (i j : ℕ) → i ≤ j → j < length items → get_or items i 0 ≤ get_or items j 0
+pub rises_by_places : (items : List ℕ) → IsRising items → (i j : ℕ) → i ≤ j → j < length items → get_or items i 0 ≤ get_or items j 0
 rises_by_places items up i j le below = non_decreasing_from_sorted items up i j 0 le below
 
 -- the first of a run that rises is its least
 pub below_all : (run : List ℕ) (item : ℕ) → IsRising run → item < get_or run 0 0 → IsMissingAt run item 0
 below_all run item up less = (omega arith, λ k h. absurd (omega arith), λ k a b. let r = rises_by_places run up 0 k a b in omega arith)
+
+-- what rises also rises between two places
+pub rises_between : (run : List ℕ) → IsRising run → RisesWithin run 0 (length run)
+rises_between run up i j low less below = below_from_sorted run i j 0 up less below
+
+-- what stands before a place is below an item, and the rest above it
+pub missing_between : (run : List ℕ) (item place : ℕ) → place ≤ length run
+    → ((k : ℕ) → k < length (take place run) → get_or (take place run) k 0 < item)
+    → ((k : ℕ) → k < length (take (length run - place) (drop place run)) → item < get_or (take (length run - place) (drop place run)) k 0)
+    → IsMissingAt run item place
+missing_between run item place within before behind = (
+  within,
+  λ k less. (let at = get_or-take place run k 0 less in let b = before k (omega (arith, length-take place run)) in omega (arith, at, b)),
+  λ k from below.
+      (let rest = take_rest run place in
+      let long : k - place < length (take (length run - place) (drop place run)) = omega (arith, ap length rest, length-drop place run, from, below) in
+      let there : place + (k - place) ≡ k = omega (arith, from) in
+      let at = ap (λ l. get_or l (k - place) 0) rest ∙ get_or-drop place run (k - place) 0 ∙ ap (λ n. get_or run n 0) there in
+      let b = behind (k - place) long in omega (arith, at, b)),
+)
 
 -- in a run that rises each item is as much above the first as it stands behind it, or more
 climbs : (run : List ℕ) (k : ℕ) → IsRising run → k < length run → get_or run 0 0 + k ≤ get_or run k 0

@@ -1,11 +1,12 @@
 -- The frequent sets by levels: those of one item, those of two, and so on.
-use Rattle.std.specs.Prelude.{◌≡◌, ◌<◌, ◌≤◌, ℕ, List, length, filter, map}
+use Rattle.std.specs.Prelude.{◌≡◌, ◌<◌, ◌≤◌, ◌+◌, ℕ, List, length, filter, map}
 use Rattle.basket_core.specs.Codes.{Coding, frequent_of_coding}
 use Rattle.basket_sets.specs.Frequent.{is_frequent}
 use Rattle.basket_sets.specs.Subsets.{subsets_of_size, subsets_up_to}
 use Rattle.basket_sets.specs.Support.{support_of, items_of}
 use Rattle.mine_apriori.specs.declared.levels.Found.{Found}
 use Rattle.mine_apriori.specs.Candidates.{candidates_of}
+use Rattle.mine_apriori.specs.Work.{candidates_up_to}
 
 -- the frequent sets of so many ranks
 abbrev pub level_of : Coding → ℕ → List (List ℕ)
@@ -38,9 +39,10 @@ pub record AreFound (coding : Coding) (size : ℕ) (found : Found) : Type 0 wher
   pub sets : found.sets.items ≡ levels_up_to coding size
   pub counts : found.counts.items ≡ map (support_of coding.baskets) found.sets.items
 
--- what a search has found, and what it asks
-pub record Knows (search : Search) (found : Found) (candidates : List (List ℕ)) : Type 0 where
+-- what a search has found, what it asks, and how many sets it has asked
+pub record Knows (search : Search) (found : Found) (candidates : List (List ℕ)) (counted : ℕ) : Type 0 where
   pub some : 1 ≤ search.size
   pub found_all : AreFound search.coding search.size found
   pub few : length found.sets.items ≤ search.limit
   pub asked : candidates ≡ asked_of search.coding search.size
+  pub number : counted ≡ length (candidates_up_to search.coding.baskets search.coding.minimum (search.size + 1))

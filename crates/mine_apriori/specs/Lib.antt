@@ -7,4 +7,7 @@ pub mod Run
 pub mod Used
 pub mod Tree
 pub mod Shard
+pub mod Pairs
+pub mod Triangle
+pub mod Work
 pub mod Levels

@@ -1,14 +1,16 @@
 //! Apriori, level by level.
-ghost use Rattle.std.specs.Prelude.{◌≡◌, ◌≢◌, ◌≤◌, ◌+◌, ◌++◌, [], ◌∷◌, ℕ, List, Err, IfOk, IfErr, OnOk, drop, filter, length, map, All};
+ghost use Rattle.std.specs.Prelude.{◌≡◌, ◌≢◌, ◌<◌, ◌≤◌, ◌+◌, ◌-◌, ◌*◌, ◌/◌, ◌^◌, ◌++◌, [], ◌∷◌, ℕ, List, Err, IfOk, IfErr, OnOk, drop, filter, length, map, All};
 ghost use Rattle.basket_core.specs.declared.fault.MineFault.TheVariants.{Memory, TooMany};
-ghost use Rattle.basket_core.specs.Codes.{IsCoding, decoded_set};
+ghost use Rattle.basket_core.specs.Codes.{IsCoding, baskets_of, decoded_set};
 ghost use Rattle.basket_sets.specs.Counts.{AllBelow};
 ghost use Rattle.basket_sets.specs.Frequent.{counted, is_frequent};
 ghost use Rattle.basket_core.specs.Listing.{listing_of};
 ghost use Rattle.basket_sets.specs.Support.{support_of};
 ghost use Rattle.mine_apriori.specs.Levels.{AreFound, AreTooMany, asked_of, level_of, levels_up_to, wanted};
+ghost use Rattle.mine_apriori.specs.Work.{candidate_count, candidates_of_size, candidates_up_to};
 
 use crate::join::candidates;
+use crate::pairs::frequent_pairs;
 use crate::shard::count_shard;
 use basket_core::{Coded, Counted, Frequent, Itemset, MineFault, count_items};
 use std::alloc::{AllocError, Global};
@@ -28,6 +30,23 @@ impl Found {
     {
         self.sets.push(set)?;
         self.counts.push(count)?;
+        Ok(())
+    }
+
+    /// Adds the pairs of a rank with ranks above it.
+    fn add_pairs(
+        &mut self,
+        alloc: Global,
+        rank: u32,
+        pairs: &[(u32, u64)],
+    ) -> Result<(), AllocError>
+        requires { All (λ pair. rank < pair.0) pairs.now }
+        ensures sets { OnOk result (self.new.sets.items ≡ self.old.sets.items ++ map (λ pair. rank ∷ pair.0 ∷ []) pairs.now) }
+        ensures counts { OnOk result (self.new.counts.items ≡ self.old.counts.items ++ map (λ pair. pair.1) pairs.now) }
+    {
+        for (other, count) in pairs {
+            self.push(Itemset::from_items(alloc, &[rank, *other])?, *count)?;
+        }
         Ok(())
     }
 
@@ -91,6 +110,21 @@ fn frequent_ranks(alloc: Global, coded: &Coded) -> Result<Found, AllocError>
     Ok(found)
 }
 
+/// Adds the frequent sets of two ranks. They are counted where they occur, and no list of all pairs
+/// is made.
+fn add_second_level(alloc: Global, coded: &Coded, found: &mut Found) -> Result<(), AllocError>
+    requires coding { IsCoding coded.now }
+    requires found { AreFound coded.now 1 found.old }
+    ensures sets { OnOk result (found.new.sets.items ≡ found.old.sets.items ++ level_of coded.now 2) }
+    ensures found { OnOk result (AreFound coded.now 2 found.new) }
+{
+    let lists = frequent_pairs(alloc, coded)?;
+    for (rank, pairs) in lists.iter().enumerate() {
+        found.add_pairs(alloc, rank as u32, pairs)?;
+    }
+    Ok(())
+}
+
 /// A search for the frequent sets, level by level (Agrawal and Srikant 1994): a level is those of
 /// one size. All frequent sets up to some size are found, and the supports of the candidates of one
 /// more item are asked.
@@ -101,6 +135,7 @@ pub struct Levels<'a> {
     size: usize,
     found: Found,
     asked: Vec<Itemset>,
+    counted: u64,
 }
 
 impl<'a> Model for Levels<'a> {
@@ -112,7 +147,7 @@ impl<'a> Model for Levels<'a> {
     ghost view = { λ levels. record { coding = levels.coded.now; limit = levels.limit; size = levels.size } };
 
     ghost invariant = { λ levels. IsCoding levels.coded.now
-        × Knows (record { coding = levels.coded.now; limit = levels.limit; size = levels.size }) levels.found levels.asked.items };
+        × Knows (record { coding = levels.coded.now; limit = levels.limit; size = levels.size }) levels.found levels.asked.items levels.counted };
 }
 
 impl<'a> Levels<'a> {
@@ -123,11 +158,11 @@ impl<'a> Levels<'a> {
         ensures too_many { (most : ℕ) → result ≡ Err (TooMany most) → (most ≡ limit) × AreTooMany coded.now limit }
     {
         let found = frequent_ranks(alloc, coded)?;
-        Levels::ask(alloc, coded, limit, 1, found, 0)
+        Levels::ask(alloc, coded, limit, 1, found, 0, 0)
     }
 
     /// The search with all frequent sets up to a size found, of which those from `last` on have
-    /// that size.
+    /// that size. So many sets of at most that size were asked.
     fn ask(
         alloc: Global,
         coded: &'a Coded,
@@ -135,12 +170,14 @@ impl<'a> Levels<'a> {
         size: usize,
         found: Found,
         last: usize,
+        counted: u64,
     ) -> Result<Self, MineFault>
         requires coding { IsCoding coded.now }
         requires some { 1 ≤ size }
         requires found { AreFound coded.now size found }
         requires within { last ≤ length found.sets.items }
         requires last { drop last found.sets.items ≡ level_of coded.now size }
+        requires counted { counted ≡ length (candidates_up_to coded.now.baskets coded.now.minimum size) }
         ensures ok { IfOk result (λ levels. levels ≡ record { coding = coded.now; limit = limit; size = size }) }
         ensures too_many { (most : ℕ) → result ≡ Err (TooMany most) → (most ≡ limit) × AreTooMany coded.now limit }
     {
@@ -153,8 +190,23 @@ impl<'a> Levels<'a> {
             limit,
             size,
             found,
+            counted: counted + asked.len() as u64,
             asked,
         })
+    }
+
+    /// The search that has found the frequent items and pairs, without a list of all pairs.
+    fn with_pairs(alloc: Global, coded: &'a Coded, limit: u32) -> Result<Self, MineFault>
+        ensures ok { IfOk result (λ levels. levels ≡ record { coding = coded.now; limit = limit; size = 2 }) }
+        ensures too_many { (most : ℕ) → result ≡ Err (TooMany most) → (most ≡ limit) × AreTooMany coded.now limit }
+    {
+        let mut found = frequent_ranks(alloc, coded)?;
+        let last = found.sets.len();
+        if last > limit as usize {
+            return Err(MineFault::TooMany { limit });
+        }
+        add_second_level(alloc, coded, &mut found)?;
+        Levels::ask(alloc, coded, limit, 2, found, last, pairs_of(last as u64))
     }
 
     /// The search at its end, where nothing is asked any more.
@@ -163,7 +215,7 @@ impl<'a> Levels<'a> {
         ensures done { IfOk result (λ levels. asked_of levels.coding levels.size ≡ []) }
         ensures too_many { (most : ℕ) → result ≡ Err (TooMany most) → (most ≡ limit) × AreTooMany coded.now limit }
     {
-        let mut levels = Levels::start(alloc, coded, limit)?;
+        let mut levels = Levels::with_pairs(alloc, coded, limit)?;
         while !levels.asked().is_empty() {
             let counts = count_shard(alloc, coded.baskets(), levels.asked())?;
             levels = levels.answer(alloc, &counts)?;
@@ -174,9 +226,18 @@ impl<'a> Levels<'a> {
     /// The candidates whose supports are asked, as ranks. Where there are none, all frequent sets
     /// are found.
     pub fn asked(&self) -> &[Itemset]
-        ensures { result.now ≡ asked_of self.now.coding self.now.size }
+        ensures asked { result.now ≡ asked_of self.now.coding self.now.size }
+        ensures candidates { result.now ≡ candidates_of_size self.now.coding.baskets self.now.coding.minimum (self.now.size + 1) }
     {
         &self.asked
+    }
+
+    /// How many sets were asked so far, those that are asked now among them.
+    pub fn counted(&self) -> u64
+        ensures so_far { result ≡ length (candidates_up_to self.now.coding.baskets self.now.coding.minimum (self.now.size + 1)) }
+        ensures all { asked_of self.now.coding self.now.size ≡ [] → result ≡ candidate_count (baskets_of self.now.coding) self.now.coding.minimum }
+    {
+        self.counted
     }
 
     /// The search that goes on with the supports of what is asked, in order.
@@ -195,11 +256,12 @@ impl<'a> Levels<'a> {
             limit,
             mut found,
             asked,
+            counted,
             ..
         } = self;
         let last = found.sets.len();
         found.add_frequent(alloc, coded, &asked, counts)?;
-        Levels::ask(alloc, coded, limit, size, found, last)
+        Levels::ask(alloc, coded, limit, size, found, last, counted)
     }
 
     /// The list of all frequent sets. There are at most as many as the limit.
@@ -216,11 +278,23 @@ impl<'a> Levels<'a> {
     }
 }
 
-/// The list of the frequent sets, where it is no longer than the limit (Agrawal and Srikant 1994).
-pub fn apriori(alloc: Global, coded: &Coded, limit: u32) -> Result<Frequent, MineFault>
-    ensures ok { IfOk result (λ frequent. frequent ≡ listing_of coded.now) }
-    ensures within { IfOk result (λ frequent. length frequent.sets ≤ limit) }
+/// How many pairs so many ranks make.
+fn pairs_of(ranks: u64) -> u64
+    requires { ranks < 2 ^ 32 }
+    ensures { result ≡ ranks * (ranks - 1) / 2 }
+{
+    ranks * ranks.saturating_sub(1) / 2
+}
+
+/// The list of the frequent sets, where it is no longer than the limit, and the number of candidates
+/// (Agrawal and Srikant 1994). No list of all pairs is made.
+pub fn apriori(alloc: Global, coded: &Coded, limit: u32) -> Result<(Frequent, u64), MineFault>
+    ensures ok { IfOk result (λ mined. mined.0 ≡ listing_of coded.now) }
+    ensures candidates { IfOk result (λ mined. mined.1 ≡ candidate_count (baskets_of coded.now) coded.now.minimum) }
+    ensures within { IfOk result (λ mined. length mined.0.sets ≤ limit) }
     ensures too_many { (most : ℕ) → result ≡ Err (TooMany most) → (most ≡ limit) × AreTooMany coded.now limit }
 {
-    Levels::searched(alloc, coded, limit)?.finish(alloc)
+    let levels = Levels::searched(alloc, coded, limit)?;
+    let candidates = levels.counted();
+    Ok((levels.finish(alloc)?, candidates))
 }

@@ -3,17 +3,20 @@
 //!
 //! `levels` goes from size to size, `join` makes candidates, whose subsets `search` looks up, and
 //! `shard` counts sets, by a prefix tree where it can: `tree`, whose inner nodes are in `nodes`.
-//! `run` looks items up in the tree.
+//! `run` looks items up in the tree. `pairs` finds the frequent pairs without a list of all pairs,
+//! by a count for each in `triangle` where these are few.
 #![tactic(auto)]
 
 mod join;
 pub mod laws;
 mod levels;
 mod nodes;
+mod pairs;
 mod run;
 mod search;
 mod shard;
 mod tree;
+mod triangle;
 mod used;
 pub mod worked;
 

@@ -26,6 +26,46 @@ pub fn find(run: &[u32], item: u32) -> Result<usize, usize>
     run[..place.min(run.len())].binary_search(&item)
 }
 
+/// The same with a hint of the place. What stands there and before is compared, so any hint will
+/// do.
+#[inline]
+pub fn find_by(run: &[u32], item: u32, hint: usize) -> Result<usize, usize>
+    requires { IsRising run.now }
+    ensures { MatchResult result (λ i. (i < length run.now) × (slice_index run.now i ≡ item)) (IsMissingAt run.now item) }
+{
+    if hint < run.len() && run[hint] == item {
+        return Ok(hint);
+    }
+    if hint <= run.len() && ends_below(&run[..hint], item) && begins_above(&run[hint..], item) {
+        return Err(hint);
+    }
+    find(run, item)
+}
+
+/// Whether the last of rising items, and so each, is below an item.
+#[inline]
+fn ends_below(items: &[u32], item: u32) -> bool
+    requires { IsRising items.now }
+    ensures { IsTrue result → (k : ℕ) → k < length items.now → slice_index items.now k < item }
+{
+    match items.last() {
+        Some(last) => *last < item,
+        None => true,
+    }
+}
+
+/// Whether the first of rising items, and so each, is above an item.
+#[inline]
+fn begins_above(items: &[u32], item: u32) -> bool
+    requires { IsRising items.now }
+    ensures { IsTrue result → (k : ℕ) → k < length items.now → item < slice_index items.now k }
+{
+    match items.first() {
+        Some(first) => item < *first,
+        None => true,
+    }
+}
+
 /// Adds the weight at each leaf of a run whose item is among the items, which the marks tell of
 /// each item that they know.
 pub fn count_leaves(

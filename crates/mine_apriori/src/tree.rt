@@ -1,19 +1,19 @@
 //! The candidates of one size as a prefix tree, which baskets walk.
-ghost use Rattle.std.specs.Prelude.{◌≡◌, ◌<◌, ◌≤◌, ◌+◌, ◌^◌, ℕ, [], IfOk, map, length, drop, slice_index, slice_index_or};
+ghost use Rattle.std.specs.Prelude.{◌≡◌, ◌<◌, ◌≤◌, ◌+◌, ◌^◌, ℕ, [], IfOk, MatchResult, map, length, drop, slice_index, slice_index_or};
 ghost use Rattle.std.specs.List.{AllWithin};
 ghost use Rattle.basket_sets.specs.Database.{MOST_WEIGHT};
 ghost use Rattle.basket_sets.specs.Itemset.{IsRising, contains};
 ghost use Rattle.basket_sets.specs.Order.{IsInReportOrder};
 ghost use Rattle.basket_sets.specs.Support.{support_of, total_of};
 ghost use Rattle.mine_apriori.specs.Nodes.{first_leaf, node_items, starts_of};
-ghost use Rattle.mine_apriori.specs.Run.{AddsWithin};
+ghost use Rattle.mine_apriori.specs.Run.{AddsWithin, IsMissingAt};
 ghost use Rattle.mine_apriori.specs.Tree.{AreTold, IsRun, leaf_depth};
 ghost use Rattle.mine_apriori.specs.Sizes.{AreOfOneSize};
 ghost use Rattle.mine_apriori.specs.Used.{IsClear};
 
 use crate::nodes::{Nodes, items_at, nodes_at};
-use crate::run::{are_known, count_leaves, find};
-use crate::used::{keep_used, longest, mark, no_items, unmark, used_items};
+use crate::run::{are_known, count_leaves, find, find_by};
+use crate::used::{keep_used, longest, mark, no_items, places_before, unmark, used_items};
 use basket_core::{Itemset, Weighted};
 use std::alloc::{AllocError, Global};
 use std::marker::Model;
@@ -28,6 +28,9 @@ pub struct CandidateTree<'a> {
     /// The last item of each set. A leaf's number is that of its set.
     leaves: Vec<u32>,
     used: Vec<bool>,
+    /// For each item up to the last of the first depth, how many nodes there stand before it. A
+    /// hint, so that no basket's item has to be searched for there.
+    places: Vec<usize>,
 }
 
 impl<'a> Model for CandidateTree<'a> {
@@ -57,11 +60,16 @@ impl<'a> CandidateTree<'a> {
         for depth in 0..last {
             inner.push(nodes_at(alloc, sets, depth)?)?;
         }
+        let places = match inner.first() {
+            Some(nodes) => places_before(alloc, &nodes.items)?,
+            None => Vec::new(alloc),
+        };
         Ok(CandidateTree {
             sets,
             inner,
             leaves: items_at(alloc, sets, last)?,
             used: used_items(alloc, sets)?,
+            places,
         })
     }
 
@@ -111,6 +119,23 @@ impl<'a> CandidateTree<'a> {
         } else {
             self.walk(0, 0, roots, items, &[], place.weight, counts);
         }
+    }
+
+    /// The place of an item in the run of nodes of a depth that begins at a node, or the place
+    /// before which it is missing.
+    #[inline]
+    fn find(&self, depth: usize, start: usize, run: &[u32], item: u32) -> Result<usize, usize>
+        requires { IsRising run.now }
+        ensures { MatchResult result (λ i. (i < length run.now) × (slice_index run.now i ≡ item)) (IsMissingAt run.now item) }
+    {
+        if depth > 0 {
+            return find(run, item);
+        }
+        let hint = match self.places.get(item as usize) {
+            Some(place) => place.saturating_sub(start),
+            None => run.len(),
+        };
+        find_by(run, item, hint)
     }
 
     /// How many nodes the first depth has.
@@ -193,7 +218,7 @@ impl<'a> CandidateTree<'a> {
             if from == end {
                 return;
             }
-            match find(&nodes.items[from..end], *item) {
+            match self.find(depth, from, &nodes.items[from..end], *item) {
                 Ok(found) => {
                     let node = from + found;
                     let (first, behind) = (nodes.firsts[node], nodes.firsts[node + 1]);

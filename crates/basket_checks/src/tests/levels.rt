@@ -46,19 +46,20 @@ fn answered<'a>(alloc: Global, coded: &Coded, levels: Levels<'a>) -> Result<Leve
     Ok(levels.answer(alloc, &counts)?)
 }
 
-fn is_too_many(answer: &Result<Frequent, MineFault>, limit: u32) -> bool {
+fn is_too_many(answer: &Result<(Frequent, u64), MineFault>, limit: u32) -> bool {
     matches!(answer, Err(MineFault::TooMany { limit: told }) if *told == limit)
 }
 
 #[test]
 fn thirteen_sets(rt: HostRuntime) -> Result<(), Fail> {
     let coded = coded(rt.alloc(), NINE_BASKETS, Minimum::Count(2))?;
-    let frequent = apriori(rt.alloc(), &coded, 13)?;
+    let (frequent, candidates) = apriori(rt.alloc(), &coded, 13)?;
     assert_eq!(rt;
         counted(rt.alloc(), &frequent)?.as_str(),
         "1 (6)|2 (7)|3 (6)|4 (2)|5 (2)|1 2 (4)|1 3 (4)|1 5 (2)|2 3 (4)|2 4 (2)|2 5 (2)|1 2 3 (2)|1 2 5 (2)|"
     );
     assert_eq!(rt; frequent.total(), 9);
+    assert_eq!(rt; candidates, 12);
     Ok(())
 }
 
@@ -71,11 +72,13 @@ fn asked_sets(rt: HostRuntime) -> Result<(), Fail> {
         listed(rt.alloc(), levels.asked())?.as_str(),
         "0 1|0 2|0 3|0 4|1 2|1 3|1 4|2 3|2 4|3 4|"
     );
+    assert_eq!(rt; levels.counted(), 10);
     let levels = answered(rt.alloc(), &coded, levels)?;
     assert_eq!(rt;
         listed(rt.alloc(), levels.asked())?.as_str(),
         "0 1 2|0 1 4|"
     );
+    assert_eq!(rt; levels.counted(), 12);
     let levels = answered(rt.alloc(), &coded, levels)?;
     if !levels.asked().is_empty() {
         return Err(Fail::new("the sets of three items make no candidate"));
@@ -112,9 +115,9 @@ fn too_many_sets(rt: HostRuntime) -> Result<(), Fail> {
 #[test]
 fn no_set(rt: HostRuntime) -> Result<(), Fail> {
     let none = coded(rt.alloc(), &[], Minimum::Count(1))?;
-    assert!(rt; apriori(rt.alloc(), &none, 0)?.sets().is_empty());
+    assert!(rt; apriori(rt.alloc(), &none, 0)?.0.sets().is_empty());
     let rare = coded(rt.alloc(), NINE_BASKETS, Minimum::Count(8))?;
-    assert!(rt; apriori(rt.alloc(), &rare, 0)?.sets().is_empty());
+    assert!(rt; apriori(rt.alloc(), &rare, 0)?.0.sets().is_empty());
     Ok(())
 }
 
@@ -125,7 +128,7 @@ fn weighted_baskets(rt: HostRuntime) -> Result<(), Fail> {
         &[(&[1, 2], 3), (&[1], 1)],
         Minimum::Share(75, 100),
     )?;
-    let frequent = apriori(rt.alloc(), &coded, 3)?;
+    let (frequent, _) = apriori(rt.alloc(), &coded, 3)?;
     assert_eq!(rt;
         counted(rt.alloc(), &frequent)?.as_str(),
         "1 (4)|2 (3)|1 2 (3)|"
@@ -142,8 +145,9 @@ fn forty_items_alone(rt: HostRuntime) -> Result<(), Fail> {
         baskets.push((item, 1))?;
     }
     let coded = coded(rt.alloc(), &baskets, Minimum::Count(2))?;
-    let frequent = apriori(rt.alloc(), &coded, 40)?;
+    let (frequent, candidates) = apriori(rt.alloc(), &coded, 40)?;
     assert_eq!(rt; frequent.sets().len(), 40);
+    assert_eq!(rt; candidates, 780);
     for (number, counted) in (1..=40).zip(frequent.sets()) {
         assert!(rt; counted.set.items() == [number].as_slice() && counted.count == 2);
     }

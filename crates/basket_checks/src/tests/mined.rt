@@ -65,11 +65,14 @@ fn mixed(alloc: Global, seed: u64) -> Result<Database, Fail> {
 fn compare(alloc: Global, database: &Database, text: &str) -> Result<(), Fail> {
     let plan = plan(text)?;
     let plain = plain_sets(alloc, database, plan.minimum())?;
-    let mined = mine(alloc, database, &plan)?;
+    let (mined, work) = mine(alloc, database, &plan)?;
     let coded = Coded::of(alloc, database, plan.minimum())?;
-    let levels = apriori(alloc, &coded, plan.limit())?;
+    let (levels, candidates) = apriori(alloc, &coded, plan.limit())?;
     if mined.sets() != plain.as_slice() || levels.sets() != plain.as_slice() {
         return Err(Fail::new("the lists are the same"));
+    }
+    if work.candidates != candidates || work.joins != 0 || work.trees != 0 {
+        return Err(Fail::new("the work is the same"));
     }
     if mined.total() != database.total() || levels.total() != database.total() {
         return Err(Fail::new("the weights are the same"));
@@ -112,6 +115,7 @@ fn limits(rt: HostRuntime) -> Result<(), Fail> {
     for limit in [13, 14] {
         assert_eq!(rt;
             mine(rt.alloc(), &database, &plan.with_limit(limit))?
+                .0
                 .sets()
                 .len(),
             13

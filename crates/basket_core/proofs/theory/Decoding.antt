@@ -54,13 +54,13 @@ decoded_supports items (place ∷ baskets) set apart places within =
     ∙ ap (λ n. weight_at set place + n) (decoded_supports items baskets set apart places.1 within) ∙ sym (sum_by-cons (weight_at set) place baskets)
 
 -- two rising lists of ranks with the same items are equal
-decoded_apart : (items a b : List ℕ) → IsDistinct nat_eq items → IsRising a → IsRising b → AllBelow (length items) a → AllBelow (length items) b → decoded items a ≡ decoded items b → a ≡ b
+pub decoded_apart : (items a b : List ℕ) → IsDistinct nat_eq items → IsRising a → IsRising b → AllBelow (length items) a → AllBelow (length items) b → decoded items a ≡ decoded items b → a ≡ b
 decoded_apart items a b apart up over below within same = same_rising a b up over
     (λ rank m. rank_from_decoded items b rank apart within (below rank (has-from_Member a rank m)) (subst (Member (get_or items rank 0)) same (into_decoded items a rank m)))
     (λ rank m. rank_from_decoded items a rank apart below (within rank (has-from_Member b rank m)) (subst (Member (get_or items rank 0)) (sym same) (into_decoded items b rank m)))
 
 -- the ranks of some items, as items again
-recoded : (items set : List ℕ) → IsRising set → ((item : ℕ) → Member item set → Member item items) → decoded items (coded items set) ≡ set
+pub recoded : (items set : List ℕ) → IsRising set → ((item : ℕ) → Member item set → Member item items) → decoded items (coded items set) ≡ set
 recoded items set up within = rising_is (map (λ rank. get_or items rank 0) (coded items set)) set up
     (λ item m. let d = Member-from_map (λ rank. get_or items rank 0) item (coded items set) m in let r = from_ranks 0 items set d.0 d.1 in
     subst (λ x. Member x set) (ap (λ n. get_or items n 0) (sym (zero-add r.0) ∙ sym r.2) ∙ d.2) (Member-from_has set (get_or items r.0 0) r.3))
@@ -85,7 +85,7 @@ module _ (coding : Coding) (is : IsCoding coding) where
   total_is : total_of (baskets_of coding) ≡ total_of coding.baskets
   total_is = support_is [] (λ item h. absurd (true≢false (sym h)))
 
-  test_is : (set : List ℕ) → IsRankSet set → is_frequent (baskets_of coding) coding.minimum (decoded coding.items set) ≡ is_frequent coding.baskets coding.minimum set
+  pub test_is : (set : List ℕ) → IsRankSet set → is_frequent (baskets_of coding) coding.minimum (decoded coding.items set) ≡ is_frequent coding.baskets coding.minimum set
   test_is set within =
       ap (λ s. meets coding.minimum s (total_of (baskets_of coding))) (support_is set within) ∙ ap (meets coding.minimum (support_of coding.baskets set)) total_is
 
@@ -102,7 +102,7 @@ module _ (coding : Coding) (is : IsCoding coding) where
       ]
 
   -- a frequent set of items has items that have ranks
-  items_ranked : (set : List ℕ) → is_frequent (baskets_of coding) coding.minimum set ≡ true → (item : ℕ) → Member item set → Member item coding.items
+  pub items_ranked : (set : List ℕ) → is_frequent (baskets_of coding) coding.minimum set ≡ true → (item : ℕ) → Member item set → Member item coding.items
   items_ranked set h item m = within coding.baskets (recursion_from_All (IsCodedPlace coding.items) coding.baskets is.places)
       (in_items (baskets_of coding) set (at_least_one coding.minimum (support_of (baskets_of coding) set) (total_of (baskets_of coding)) h) item m)
     where

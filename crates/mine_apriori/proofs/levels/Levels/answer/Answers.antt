@@ -1,6 +1,7 @@
 use Rattle.std.proofs.Common.{◌≡◌, ◌+◌, length, drop, sym, ap, subst, ◌∙◌, arith}
 use Rattle.std.proofs.lemmas.Result.{IfOk-weaker}
 use Rattle.mine_apriori.specs.Levels.{AreFound, level_of}
+use Rattle.mine_apriori.specs.Work.{candidates_up_to}
 use Rattle.mine_apriori.proofs.LevelsLemmas.{asked_size, found_next, last_next}
 use Rattle.mine_apriori.proofs.levels.Levels.answer.Goals as goal
 
@@ -30,6 +31,13 @@ ask-requires-clause-last c =
     ap (λ n. drop n c.add_frequent.new.self.sets.items) long
     ∙ last_next coding size knows.some c.deref-2.result.now (c.deref-2.ensures.value ∙ knows.asked) c.self.inside.found c.add_frequent.new.self c.in_ok-add_frequent.ensures.sets
     ∙ ap (level_of coding) (sym (c.len-size.ensures ∙ one))
+
+pub ask-requires-clause-counted : goal.ask-requires-clause-counted
+ask-requires-clause-counted c =
+    let coding = c.self.inside.coded.now in
+    let knows = c.self.invariant.1 in
+    let one = asked_size coding c.self.inside.size knows.some c.deref.result.now (c.deref.ensures.value ∙ knows.asked) c.in-Some.set.now c.in-Some.ensures.value in
+    knows.number ∙ ap (λ n. length (candidates_up_to coding.baskets coding.minimum n)) (sym (c.len-size.ensures ∙ one))
 
 pub returns-clause-next : goal.returns-clause-next
 returns-clause-next c = λ asks.

@@ -1,0 +1,19 @@
+use Rattle.std.proofs.Common.{◌≡◌, ℕ, List, length, ap, ◌∙◌}
+use Rattle.std.proofs.lemmas.Result.{IfOk-weaker}
+use Rattle.basket_sets.specs.Support.{support_of}
+use Rattle.mine_classes.specs.Ordered.{RankBaskets}
+use Rattle.mine_apriori.specs.Pairs.{lists_of, pairs_by_greater}
+use Rattle.mine_apriori.proofs.PairLemmas.{same_pairs}
+use Rattle.mine_apriori.proofs.pairs.counted_pairs.Goals as goal
+
+pub returns : goal.returns
+returns c =
+    let coding = c.args.coded.now in
+    let least = c.args.least in
+    let runs = c.in_ok-runs.runs in
+    let made : runs ≡ c.in_ok-of_coded.field-0 = c.in_ok-runs.ensures in
+    let same : (set : List ℕ) → support_of runs.baskets set ≡ support_of coding.baskets set =
+    λ set. ap (λ (o : RankBaskets). support_of o.baskets set) made ∙ c.in_ok-of_coded.ensures.supports set in
+    IfOk-weaker c.pairs_by_runs.result (λ lists. lists_of lists.items ≡ pairs_by_greater runs.baskets least runs.ranks) (λ lists. lists_of lists.items ≡ pairs_by_greater coding.baskets least (length coding.items))
+    (λ lists is. is ∙ same_pairs runs.baskets coding.baskets least runs.ranks same
+    ∙ ap (pairs_by_greater coding.baskets least) (ap (λ (o : RankBaskets). o.ranks) made ∙ c.in_ok-of_coded.ensures.ranks)) c.pairs_by_runs.ensures

@@ -1,0 +1,98 @@
+//! The frequent pairs of ranks, without a list of all pairs.
+ghost use Rattle.std.specs.Prelude.{◌≡◌, ◌<◌, ◌≤◌, ◌++◌, ◌^◌, ℕ, [], All, IfOk, OnOk, length, replicate, slice_index_or};
+ghost use Rattle.basket_core.specs.Codes.{IsCoding};
+ghost use Rattle.mine_apriori.specs.Pairs.{AreBelow, all_lesser, lists_of, pairs_at, pairs_by_greater, pairs_by_lesser};
+
+use crate::triangle::pairs_by_triangle;
+use basket_core::Coded;
+use mine_classes::{Ordered, Runs, Sums};
+use std::alloc::{AllocError, Global};
+
+/// For each rank the ranks above it that are frequent together with it, rising, each with the
+/// support of the pair. Time and memory follow the baskets and these pairs, however many ranks
+/// there are.
+pub fn frequent_pairs(alloc: Global, coded: &Coded) -> Result<Vec<Vec<(u32, u64)>>, AllocError>
+    requires { IsCoding coded.now }
+    ensures { IfOk result (λ lists. lists_of lists.items ≡ pairs_by_lesser coded.now) }
+{
+    let least = coded.minimum().least(coded.total());
+    by_lesser(alloc, &counted_pairs(alloc, coded, least)?)
+}
+
+/// For each rank the ranks below it that are frequent together with it, rising, each with the
+/// support of the pair.
+fn counted_pairs(
+    alloc: Global,
+    coded: &Coded,
+    least: u64,
+) -> Result<Vec<Vec<(u32, u64)>>, AllocError>
+    requires coding { IsCoding coded.now }
+    requires some { 1 ≤ least }
+    ensures { IfOk result (λ lists. lists_of lists.items ≡ pairs_by_greater coded.now.baskets least (length coded.now.items)) }
+{
+    if has_small_triangle(coded) {
+        return pairs_by_triangle(alloc, coded, least);
+    }
+    let runs = Runs::of(alloc, Ordered::of_coded(alloc, coded)?)?;
+    pairs_by_runs(alloc, &runs, least)
+}
+
+/// Whether a count for each pair of ranks takes no more memory than the baskets, of which there are
+/// two lists: those of items, and those of ranks.
+fn has_small_triangle(coded: &Coded) -> bool {
+    let ranks = u64::from(coded.ranks());
+    ranks * ranks / 2 <= (coded.baskets().len() as u64).saturating_mul(16)
+}
+
+/// The same from the runs of the baskets, one rank after another.
+fn pairs_by_runs(alloc: Global, runs: &Runs, least: u64) -> Result<Vec<Vec<(u32, u64)>>, AllocError>
+    ensures { IfOk result (λ lists. lists_of lists.items ≡ pairs_by_greater runs.now.baskets least runs.now.ranks) }
+{
+    let ranks = runs.ranks();
+    let mut sums = Sums::new(alloc, ranks)?;
+    let mut lists = Vec::with_capacity(alloc, ranks as usize)?;
+    for rank in 0..ranks {
+        lists.push(runs.pairs(alloc, &mut sums, rank, least)?)?;
+    }
+    Ok(lists)
+}
+
+/// The pairs of each rank with lesser ones, as those of each rank with greater ones.
+fn by_lesser(alloc: Global, lists: &[Vec<(u32, u64)>]) -> Result<Vec<Vec<(u32, u64)>>, AllocError>
+    requires few { length lists.now < 2 ^ 32 }
+    requires below { All (AreBelow (length lists.now)) (lists_of lists.now) }
+    ensures { IfOk result (λ pairs. lists_of pairs.items ≡ all_lesser (lists_of lists.now)) }
+{
+    let mut pairs = no_pairs(alloc, lists.len())?;
+    for (rank, list) in lists.iter().enumerate() {
+        add_greater(&mut pairs, rank as u32, list)?;
+    }
+    Ok(pairs)
+}
+
+/// An empty list for each rank.
+fn no_pairs(alloc: Global, ranks: usize) -> Result<Vec<Vec<(u32, u64)>>, AllocError>
+    ensures { IfOk result (λ pairs. lists_of pairs.items ≡ replicate ranks []) }
+{
+    let mut pairs = Vec::with_capacity(alloc, ranks)?;
+    for _rank in 0..ranks {
+        pairs.push(Vec::new(alloc))?;
+    }
+    Ok(pairs)
+}
+
+/// Adds a rank with its support to each of the lesser ranks that it is frequent together with.
+fn add_greater(
+    pairs: &mut [Vec<(u32, u64)>],
+    greater: u32,
+    lesser: &[(u32, u64)],
+) -> Result<(), AllocError>
+    requires { AreBelow (length pairs.old) lesser.now }
+    ensures { OnOk result ((rank : ℕ) → rank < length pairs.old
+        → slice_index_or (lists_of pairs.new) rank [] ≡ slice_index_or (lists_of pairs.old) rank [] ++ pairs_at greater lesser.now rank) }
+{
+    for (rank, count) in lesser {
+        pairs[*rank as usize].push((greater, *count))?;
+    }
+    Ok(())
+}
