@@ -1,0 +1,2 @@
+pub mod Field
+pub mod Names

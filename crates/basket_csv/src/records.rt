@@ -1,0 +1,1 @@
+//! The records of a CSV text, one at a time.
