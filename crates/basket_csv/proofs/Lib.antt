@@ -1,0 +1,3 @@
+mod NamesLemmas
+mod FieldLemmas
+mod RecordLemmas

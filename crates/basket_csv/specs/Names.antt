@@ -1,8 +1,7 @@
 -- Names, and their numbers by first appearance.
-use Rattle.std.specs.Prelude.{ℕ, List, [], ◌∷◌, ◌++◌, map, fold, if◌then◌else◌, string_bytes}
+use Rattle.std.specs.Prelude.{ℕ, List, [], ◌∷◌, ◌++◌, fold, if◌then◌else◌}
 use Rattle.std.specs.List.{list_any, position_or_len}
 use Rattle.std.specs.Str.{bytes_eq}
-use Rattle.basket_csv.specs.declared.names.Numbering.{Numbering}
 
 -- the names with one more, unless it is among them
 abbrev pub with_name : List (List ℕ) → List ℕ → List (List ℕ)
@@ -15,7 +14,3 @@ in_order names = fold with_name [] names
 -- the number of a name: its place, from 0
 abbrev pub number_in : List (List ℕ) → List ℕ → ℕ
 number_in names name = position_or_len (bytes_eq name) names
-
--- the names so far
-abbrev pub names_in : {S : Type 0} → Numbering S → List (List ℕ)
-names_in numbering = map string_bytes numbering.names.keys

@@ -1,5 +1,5 @@
 //! The fields of a record.
-ghost use Rattle.std.specs.Prelude.{◌≡◌, ◌≤◌, length, MatchOption, true, false};
+ghost use Rattle.std.specs.Prelude.{◌≡◌, ◌≤◌, ◌<◌, ◌-◌, length, slice_index, MatchOption, true, false};
 ghost use Rattle.std.specs.Str.{is_utf8};
 ghost use Rattle.std.specs.List.{prefix_len, suffix_len};
 ghost use Rattle.basket_csv.specs.Field.{is_space, trimmed};
@@ -18,6 +18,7 @@ fn is_space(byte: u8) -> bool
 fn front_spaces(bytes: &[u8]) -> usize
     ensures value { result ≡ prefix_len is_space bytes.now }
     ensures within { result ≤ length bytes.now }
+    ensures space { 0 < result → is_space (slice_index bytes.now (result - 1)) ≡ true }
 {
     for (place, byte) in bytes.iter().enumerate() {
         if !is_space(*byte) {
@@ -27,18 +28,18 @@ fn front_spaces(bytes: &[u8]) -> usize
     bytes.len()
 }
 
-/// How many spaces and tabs stand at the end.
+/// Where the spaces and tabs at the end begin.
 #[inline]
 fn end_spaces(bytes: &[u8]) -> usize
-    ensures value { result ≡ suffix_len is_space bytes.now }
+    ensures value { result ≡ length bytes.now - suffix_len is_space bytes.now }
     ensures within { result ≤ length bytes.now }
+    ensures space { result < length bytes.now → is_space (slice_index bytes.now result) ≡ true }
 {
-    for (place, byte) in bytes.iter().rev().enumerate() {
-        if !is_space(*byte) {
-            return place;
-        }
+    let mut end = bytes.len();
+    while end > 0 && is_space(bytes[end - 1]) {
+        end -= 1;
     }
-    bytes.len()
+    end
 }
 
 /// A text without the spaces and tabs at its two ends.
@@ -47,7 +48,7 @@ pub fn trim(text: &str) -> &str
     ensures { result.now ≡ trimmed text.now }
 {
     let rest = &text[front_spaces(text.as_bytes())..];
-    &rest[..rest.len() - end_spaces(rest.as_bytes())]
+    &rest[..end_spaces(rest.as_bytes())]
 }
 
 /// The text of a field, if it is UTF-8.

@@ -1,6 +1,6 @@
 //! Names, and their numbers by first appearance.
-ghost use Rattle.std.specs.Prelude.{◌≡◌, ℕ, List, [], length, map, slice_get, option_map, IfOk, IfErr, OnOk, string_bytes};
-ghost use Rattle.basket_csv.specs.Names.{names_in, number_in, with_name};
+ghost use Rattle.std.specs.Prelude.{◌≡◌, ◌↔◌, [], length, slice_get, option_map, IsTrue, IfOk, IfErr, OnOk};
+ghost use Rattle.basket_csv.specs.Names.{number_in, with_name};
 
 use basket_read::ReadFault;
 use indexmap::IndexSet;
@@ -15,7 +15,8 @@ pub struct Names {
 }
 
 impl Model for Names {
-    ghost use Rattle.std.specs.Prelude.{ℕ, List, map, string_bytes};
+    ghost use Rattle.std.specs.Prelude.{ℕ, List, map};
+    ghost use Rattle.std.specs.String.{string_bytes};
 
     ghost Value = { List (List ℕ) };
 
@@ -39,7 +40,7 @@ impl Names {
     }
 
     pub fn is_empty(&self) -> bool
-        ensures { result ≡ (length self.now == 0) }
+        ensures { IsTrue result ↔ (self.now ≡ []) }
     {
         self.names.is_empty()
     }
@@ -52,9 +53,18 @@ pub struct Numbering<S: BuildHasher> {
     names: IndexSet<String, S>,
 }
 
+impl<S: BuildHasher> Model for Numbering<S> {
+    ghost use Rattle.std.specs.Prelude.{ℕ, List, map};
+    ghost use Rattle.std.specs.String.{string_bytes};
+
+    ghost Value = { List (List ℕ) };
+
+    ghost view = { λ n. map string_bytes n.names.keys };
+}
+
 impl<S: BuildHasher> Numbering<S> {
     pub fn new(alloc: Global, hasher: S) -> Self
-        ensures { names_in result ≡ [] }
+        ensures { result ≡ [] }
     {
         Numbering {
             alloc,
@@ -65,26 +75,36 @@ impl<S: BuildHasher> Numbering<S> {
     /// The number of a name, which is new or known. A known name costs a look-up and no allocation.
     #[inline]
     pub fn number(&mut self, name: &str) -> Result<u32, ReadFault>
-        ensures names { OnOk result (names_in self.new ≡ with_name (names_in self.old) name.now) }
-        ensures number { IfOk result (λ number. number ≡ number_in (names_in self.new) name.now) }
+        ensures names { OnOk result (self.new ≡ with_name self.old name.now) }
+        ensures number { IfOk result (λ number. number ≡ number_in self.new name.now) }
         ensures err { IfErr result (λ fault. fault ≡ ReadFault.Memory) }
     {
-        let place = match self.names.get_index_of(name) {
-            Some(place) => place,
-            None => {
-                let (place, _) = self.names.insert_full(String::from_str(self.alloc, name)?)?;
-                place
-            }
-        };
-        // An input is too short for so many names that their numbers don't fit.
-        u32::try_from(place).map_err(|_| ReadFault::Memory)
+        let place = self.place(name)?;
+        match u32::try_from(place) {
+            Ok(number) => Ok(number),
+            // An input is too short for so many names.
+            Err(_) => Err(ReadFault::Memory),
+        }
+    }
+
+    #[inline]
+    fn place(&mut self, name: &str) -> Result<usize, ReadFault>
+        ensures names { OnOk result (self.new ≡ with_name self.old name.now) }
+        ensures number { IfOk result (λ place. place ≡ number_in self.new name.now) }
+        ensures err { IfErr result (λ fault. fault ≡ ReadFault.Memory) }
+    {
+        if let Some(place) = self.names.get_index_of(name) {
+            return Ok(place);
+        }
+        let (place, _) = self.names.insert_full(String::from_str(self.alloc, name)?)?;
+        Ok(place)
     }
 }
 
 impl<S: BuildHasher + Drop> Numbering<S> {
     /// The names by their numbers.
     pub fn into_names(self) -> Result<Names, AllocError>
-        ensures { IfOk result (λ names. names ≡ names_in self) }
+        ensures { IfOk result (λ names. names ≡ self) }
     {
         let Numbering { alloc, names } = self;
         Ok(Names {
