@@ -1,3 +1,5 @@
 mod NamesLemmas
 mod FieldLemmas
 mod RecordLemmas
+mod GatheredLemmas
+mod WeightLemmas

@@ -1,3 +1,6 @@
 pub mod Field
 pub mod Names
 pub mod Records
+pub mod Csv
+pub mod Input
+pub mod Gathered

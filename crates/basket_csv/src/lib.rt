@@ -2,7 +2,11 @@
 #![tactic(auto)]
 
 mod field;
+mod gathered;
+mod input;
 mod names;
 mod records;
+mod row;
+mod weight;
 
 pub use names::Names;
