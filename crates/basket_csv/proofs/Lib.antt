@@ -3,3 +3,5 @@ mod FieldLemmas
 mod RecordLemmas
 mod GatheredLemmas
 mod WeightLemmas
+mod RowLemmas
+mod BasketLemmas

@@ -1,11 +1,11 @@
 -- Numbers by first appearance.
-use Rattle.std.proofs.Common.{◌≡◌, ℕ, suc, ◌+◌, ◌<◌, ◌≤◌, Bool, true, false, cond, not, ◌||◌, eqb, ltb, String, List, [], ◌∷◌, ◌++◌, map, length, Option, Some, None, refl, sym, ap, ◌∙◌, arith}
-use Rattle.std.specs.List.{list_any, position, position_or_len}
+use Rattle.std.proofs.Common.{◌≡◌, ℕ, suc, ◌+◌, ◌<◌, ◌≤◌, Bool, true, false, cond, not, ◌||◌, eqb, ltb, String, List, [], ◌∷◌, ◌++◌, map, length, fold, Option, Some, None, refl, sym, ap, ◌∙◌, arith}
+use Rattle.std.specs.List.{list_any, list_all, position, position_or_len}
 use Rattle.std.specs.Str.{bytes_eq}
 use Rattle.std.specs.String.{string_bytes, string_eq}
-use Rattle.std.proofs.lemmas.Bool.{cases_Bool, ltb-true, eqb-true}
+use Rattle.std.proofs.lemmas.Bool.{ltb-true, eqb-true, or_left, or_right, and_parts, and_from}
 use Rattle.std.proofs.lemmas.List.{map-append}
-use Rattle.std.proofs.lemmas.List.Folds.{position_or_len_push}
+use Rattle.std.proofs.lemmas.List.Folds.{position_or_len_push, list_any-append}
 use Rattle.std.proofs.lemmas.Slice.Eq.{bytes_eq-Decides}
 use Rattle.indexmap.specs.IndexSet.{insert_key}
 use Rattle.basket_csv.specs.Names.{with_name, number_in}
@@ -29,6 +29,14 @@ any_at p (x ∷ xs) h = at (p x) (any_at p xs) h
     at : (b : Bool) → (position_or_len p xs < length xs → list_any p xs ≡ true) → cond (not b) (1 + position_or_len p xs) 0 < suc (length xs) → (b || list_any p xs) ≡ true
     at true later h = refl
     at false later h = later (omega arith)
+
+pub at_any : {X : Type 0} (p : X → Bool) (xs : List X) → list_any p xs ≡ true → position_or_len p xs < length xs
+at_any p [] e = absurd cc
+at_any p (x ∷ xs) e = at (p x) (at_any p xs) e
+  where
+    at : (b : Bool) → (list_any p xs ≡ true → position_or_len p xs < length xs) → (b || list_any p xs) ≡ true → cond (not b) (1 + position_or_len p xs) 0 < suc (length xs)
+    at true later e = omega arith
+    at false later e = let h = later e in omega arith
 
 place_found : (b : Bool) (n place : ℕ) → cond b (Some n) None ≡ Some place → (b ≡ true) × (n ≡ place)
 place_found true n place e = (refl, cc)
@@ -86,3 +94,56 @@ new_place keys new_keys key names name place view text new e =
     let same : map string_bytes new_keys ≡ with_name names name = ap (map string_bytes) new ∙ inserted keys key ∙ ap (λ ns. with_name ns (string_bytes key)) (sym view) ∙ ap (with_name names) text in
     let old : place ≡ number_in names name = e ∙ sym (place_of_map string_bytes (bytes_eq (string_bytes key)) keys) ∙ ap (λ ns. number_in ns (string_bytes key)) (sym view) ∙ ap (number_in names) text in
     (same, old ∙ sym (number_stays names name) ∙ ap (λ ns. number_in ns name) (sym same))
+
+-- ---- a name keeps its number
+
+-- whether a name is among some names
+abbrev pub among : List (List ℕ) → List ℕ → Bool
+among names name = list_any (bytes_eq name) names
+
+pub among_more : (names : List (List ℕ)) (name other : List ℕ) → among names name ≡ true → among (with_name names other) name ≡ true
+among_more names name other e = at (list_any (bytes_eq other) names)
+  where
+    at : (b : Bool) → among (cond b names (names ++ other ∷ [])) name ≡ true
+    at true = e
+    at false = list_any-append (bytes_eq name) names (other ∷ []) ∙ or_left _ _ e
+
+pub number_more : (names : List (List ℕ)) (name other : List ℕ) → among names name ≡ true → number_in (with_name names other) name ≡ number_in names name
+number_more names name other e = at (list_any (bytes_eq other) names)
+  where
+    new : (b : Bool) → eqb (number_in names name) (length names) ≡ b → cond b (length names + cond (bytes_eq name other) 0 1) (number_in names name) ≡ number_in names name
+    new true f = let end = eqb-true (number_in names name) (length names) f in let below = at_any (bytes_eq name) names e in absurd (omega arith)
+    new false f = refl
+
+    at : (known : Bool) → number_in (cond known names (names ++ other ∷ [])) name ≡ number_in names name
+    at true = refl
+    at false = position_or_len_push (bytes_eq name) names other ∙ new (eqb (number_in names name) (length names)) refl
+
+pub among_all : (names others : List (List ℕ)) (name : List ℕ) → among names name ≡ true → among (fold with_name names others) name ≡ true
+among_all names [] name e = e
+among_all names (other ∷ others) name e = among_all (with_name names other) others name (among_more names name other e)
+
+pub number_in_all : (names others : List (List ℕ)) (name : List ℕ) → among names name ≡ true → number_in (fold with_name names others) name ≡ number_in names name
+number_in_all names [] name e = refl
+number_in_all names (other ∷ others) name e = number_in_all (with_name names other) others name (among_more names name other e) ∙ number_more names name other e
+
+-- a name is among the names with it
+pub among_with : (names : List (List ℕ)) (name : List ℕ) → among (with_name names name) name ≡ true
+among_with names name = at (list_any (bytes_eq name) names) refl
+  where
+    at : (b : Bool) → list_any (bytes_eq name) names ≡ b → among (cond b names (names ++ name ∷ [])) name ≡ true
+    at true e = e
+    at false e = list_any-append (bytes_eq name) names (name ∷ []) ∙ or_right (among names name) _ (or_left _ _ (equal_bytes name))
+
+-- names keep their numbers
+pub numbers_stay : (names others some : List (List ℕ)) → list_all (among names) some ≡ true → map (number_in (fold with_name names others)) some ≡ map (number_in names) some
+numbers_stay names others [] e = refl
+numbers_stay names others (name ∷ some) e =
+    let h = and_parts (among names name) (list_all (among names) some) e in
+    ap (λ n. n ∷ map (number_in (fold with_name names others)) some) (number_in_all names others name h.0) ∙ ap (λ ns. number_in names name ∷ ns) (numbers_stay names others some h.1)
+
+-- all names are among themselves
+pub all_among : (names some : List (List ℕ)) → list_all (among (fold with_name names some)) some ≡ true
+all_among names [] = refl
+all_among names (name ∷ some) =
+    and_from (among (fold with_name (with_name names name) some) name) _ (among_all (with_name names name) some name (among_with names name)) (all_among (with_name names name) some)

@@ -4,3 +4,5 @@ pub mod Records
 pub mod Csv
 pub mod Input
 pub mod Gathered
+pub mod Read
+pub mod Baskets

@@ -1,6 +1,7 @@
 //! Readers of baskets of names from CSV, which answer exactly the baskets of an input, or its first fault.
 #![tactic(auto)]
 
+mod baskets;
 mod field;
 mod gathered;
 mod input;
