@@ -5,3 +5,4 @@ mod GatheredLemmas
 mod WeightLemmas
 mod RowLemmas
 mod BasketLemmas
+mod ReadLemmas

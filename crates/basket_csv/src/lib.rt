@@ -6,8 +6,10 @@ mod field;
 mod gathered;
 mod input;
 mod names;
+mod read;
 mod records;
 mod row;
 mod weight;
 
 pub use names::Names;
+pub use read::read_baskets;
