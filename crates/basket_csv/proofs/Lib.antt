@@ -6,3 +6,4 @@ mod WeightLemmas
 mod RowLemmas
 mod BasketLemmas
 mod ReadLemmas
+mod PairLemmas

@@ -1,12 +1,12 @@
 -- What records say as a whole.
-use Rattle.std.proofs.Common.{◌≡◌, ◌≢◌, ℕ, ◌+◌, Bool, true, false, cond, leb, List, [], ◌∷◌, Option, Some, None, Result, Ok, Err, refl, sym, ap, ◌∙◌, subst}
+use Rattle.std.proofs.Common.{◌≡◌, ◌≢◌, ℕ, ◌+◌, Bool, true, false, cond, leb, ltb, List, [], ◌∷◌, length, Option, Some, None, Result, Ok, Err, refl, sym, ap, ◌∙◌, subst}
 use Rattle.basket_sets.specs.declared.weighted.Weighted.{Weighted}
 use Rattle.basket_sets.specs.Database.{MOST_WEIGHT}
 use Rattle.basket_sets.specs.Support.{total_of}
 use Rattle.basket_read.specs.declared.fault.ReadFault.{ReadFault}
-use Rattle.basket_read.specs.declared.fault.ReadFault.TheVariants.{Memory, Read, NotText, Heavy}
+use Rattle.basket_read.specs.declared.fault.ReadFault.TheVariants.{Memory, Read, NotText, ShortRecord, Heavy}
 use Rattle.basket_read.specs.Fimi.{or_else, if_light}
-use Rattle.basket_csv.specs.Csv.{Named, is_text, weight_of, weight_fault, basket_fault, fault_from, with_names, if_faultless, baskets_in, all_names, say_baskets}
+use Rattle.basket_csv.specs.Csv.{Named, is_text, weight_of, weight_fault, basket_fault, fault_from, with_names, if_faultless, baskets_in, all_names, say_baskets, pair_fault, pairs_of, baskets_of_pairs, names_of_pairs, say_pairs}
 use Rattle.basket_csv.specs.Names.{in_order}
 use Rattle.basket_csv.specs.Read.{Answers}
 
@@ -47,6 +47,18 @@ not_answered None baskets names none e = light baskets names (leb (total_of bask
 pub baskets_not_read : (weighted : Bool) (nth : ℕ) (rows : List (List (List ℕ))) → say_baskets weighted nth rows ≢ Err Read
 baskets_not_read weighted nth rows e =
     not_answered (fault_from (basket_fault weighted) nth rows) (baskets_in weighted rows) (in_order (all_names weighted rows)) (not_found (basket_fault weighted) (not_basket weighted) nth rows) e
+
+not_pair : (nth : ℕ) (row : List (List ℕ)) → pair_fault nth row ≢ Some Read
+not_pair nth row e = at (is_text row) (ltb (length row) 2) e
+  where
+    at : (text short : Bool) → cond text (cond short (Some (ShortRecord nth)) None) (Some (NotText nth)) ≢ Some Read
+    at true true e = absurd cc
+    at true false e = absurd cc
+    at false short e = absurd cc
+
+pub pairs_not_read : (nth : ℕ) (rows : List (List (List ℕ))) → say_pairs nth rows ≢ Err Read
+pairs_not_read nth rows e =
+    not_answered (fault_from pair_fault nth rows) (baskets_of_pairs (pairs_of rows)) (names_of_pairs (pairs_of rows)) (not_found pair_fault not_pair nth rows) e
 
 -- an answer that is `Read` can't stand for one that is not
 pub read_refuted : {P : Type 0} (answer said : Result Named ReadFault) → Answers answer said → said ≢ Err Read → answer ≡ Err Read → P

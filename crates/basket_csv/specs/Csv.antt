@@ -1,6 +1,6 @@
 -- What the records of a CSV text say: baskets of names, or their first fault. A record is a list of fields, and a field a
 -- list of bytes.
-use Rattle.std.specs.Prelude.{ℕ, ◌+◌, Bool, true, false, ◌&&◌, not, nat_le, nat_lt, if◌then◌else◌, List, [], ◌∷◌, length, map, filter, drop, slice_index_or, Option, Some, None, Result, Ok, Err, unwrap_or}
+use Rattle.std.specs.Prelude.{ℕ, ◌+◌, Bool, true, false, ◌&&◌, not, nat_le, nat_lt, if◌then◌else◌, List, [], ◌∷◌, ◌++◌, length, map, filter, fold, drop, slice_index_or, Option, Some, None, Result, Ok, Err, unwrap_or}
 use Rattle.std.specs.List.{list_all, flat_map}
 use Rattle.std.specs.Str.{is_utf8, bytes_eq}
 use Rattle.basket_sets.specs.declared.weighted.Weighted.{Weighted}
@@ -101,3 +101,42 @@ say_baskets weighted nth rows = if_faultless (fault_from (basket_fault weighted)
 abbrev pub baskets_of_csv : ℕ → Bool → Bool → List ℕ → Result Named ReadFault
 baskets_of_csv separator header weighted bytes =
     if nat_lt MOST_BYTES (length bytes) then Err TooLong else say_baskets weighted (first_number header) (behind_header header (records_of separator bytes))
+
+-- ---- a basket's id and a name in each record
+
+-- the fault of a record
+abbrev pub pair_fault : ℕ → List (List ℕ) → Option ReadFault
+pair_fault nth row = if is_text row then (if nat_lt (length row) 2 then Some (ShortRecord nth) else None) else Some (NotText nth)
+
+-- the id and the name in a record: its first two fields, trimmed
+abbrev pub pair_of : List (List ℕ) → List ℕ × List ℕ
+pair_of row = (trimmed (field_in row 0), trimmed (field_in row 1))
+
+-- the pairs of the records that have a name
+abbrev pub pairs_of : List (List (List ℕ)) → List (List ℕ × List ℕ)
+pairs_of rows = filter (λ pair. not (is_nil pair.1)) (map pair_of rows)
+
+-- some ids, each with its names, and one pair more: the name joins those of its id, which stands last where it is new
+abbrev pub with_pair : List (List ℕ × List (List ℕ)) → List ℕ × List ℕ → List (List ℕ × List (List ℕ))
+with_pair [] pair = (pair.0, pair.1 ∷ []) ∷ []
+with_pair (group ∷ groups) pair = if bytes_eq pair.0 group.0 then (group.0, group.1 ++ pair.1 ∷ []) ∷ groups else group ∷ with_pair groups pair
+
+-- the ids by first appearance, each with its names
+abbrev pub gather : List (List ℕ × List ℕ) → List (List ℕ × List (List ℕ))
+gather pairs = fold with_pair [] pairs
+
+-- the names of pairs in the order of their first appearance
+abbrev pub names_of_pairs : List (List ℕ × List ℕ) → List (List ℕ)
+names_of_pairs pairs = in_order (map (λ pair. pair.1) pairs)
+
+-- a basket for each id
+abbrev pub baskets_of_pairs : List (List ℕ × List ℕ) → List Weighted
+baskets_of_pairs pairs = flat_map (λ group. basket_of_numbers (map (number_in (names_of_pairs pairs)) group.1) 1) (gather pairs)
+
+-- what records say that have an id and a name each
+abbrev pub say_pairs : ℕ → List (List (List ℕ)) → Result Named ReadFault
+say_pairs nth rows = if_faultless (fault_from pair_fault nth rows) (baskets_of_pairs (pairs_of rows)) (names_of_pairs (pairs_of rows))
+
+abbrev pub pairs_of_csv : ℕ → Bool → List ℕ → Result Named ReadFault
+pairs_of_csv separator header bytes =
+    if nat_lt MOST_BYTES (length bytes) then Err TooLong else say_pairs (first_number header) (behind_header header (records_of separator bytes))

@@ -6,3 +6,4 @@ pub mod Input
 pub mod Gathered
 pub mod Read
 pub mod Baskets
+pub mod Pairs

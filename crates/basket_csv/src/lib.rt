@@ -6,10 +6,11 @@ mod field;
 mod gathered;
 mod input;
 mod names;
+mod pairs;
 mod read;
 mod records;
 mod row;
 mod weight;
 
 pub use names::Names;
-pub use read::read_baskets;
+pub use read::{read_baskets, read_single};
