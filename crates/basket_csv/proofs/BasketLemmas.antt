@@ -1,5 +1,5 @@
 -- The baskets of records, one after another.
-use Rattle.std.proofs.Common.{◌≡◌, ◌≢◌, ℕ, ◌+◌, Bool, true, false, cond, List, [], ◌∷◌, ◌++◌, map, drop, fold, get_or, Option, Some, None, Result, Ok, Err, unwrap_or, refl, sym, ap, ◌∙◌, subst, append-nil, append_assoc}
+use Rattle.std.proofs.Common.{◌≡◌, ℕ, ◌+◌, Bool, true, false, cond, List, [], ◌∷◌, ◌++◌, map, drop, fold, Option, Some, None, Result, Ok, Err, unwrap_or, refl, sym, ap, ◌∙◌, subst, append-nil, append_assoc}
 use Rattle.std.specs.List.{flat_map, list_all}
 use Rattle.std.specs.Result.{MatchResult, OnOk, IfErr}
 use Rattle.std.specs.Str.{is_utf8}
@@ -46,7 +46,7 @@ baskets_more weighted rows row =
     let new = in_order (all_names weighted (rows ++ row ∷ [])) in
     let old = in_order (all_names weighted rows) in
     let stay : flat_map (basket_of weighted new) rows ≡ baskets_in weighted rows =
-        ap (λ ns. flat_map (basket_of weighted ns) rows) (names_more weighted rows row) ∙ baskets_stay weighted old (names_in weighted row) rows (all_among [] (all_names weighted rows)) in
+    ap (λ ns. flat_map (basket_of weighted ns) rows) (names_more weighted rows row) ∙ baskets_stay weighted old (names_in weighted row) rows (all_among [] (all_names weighted rows)) in
     flat_map-append (basket_of weighted new) rows (row ∷ []) ∙ ap (λ bs. flat_map (basket_of weighted new) rows ++ bs) (append-nil (basket_of weighted new row))
     ∙ ap (λ bs. bs ++ basket_of weighted new row) stay
 
@@ -73,10 +73,10 @@ pub added : {S H X : Type 0} (old new : Baskets S H) (weighted : Bool) (rows : L
 added old new weighted rows row first weight numbers (Err fault) f w names ns gathers h = tt
 added old new weighted rows row first weight numbers (Ok x) f w names ns gathers h =
     let all : new.names ≡ in_order (all_names weighted (rows ++ row ∷ [])) =
-        names ∙ ap (λ n. fold with_name old.names (names_of (drop n row))) f ∙ ap (λ o. fold with_name o (names_in weighted row)) h.names ∙ sym (names_more weighted rows row) in
+    names ∙ ap (λ n. fold with_name old.names (names_of (drop n row))) f ∙ ap (λ o. fold with_name o (names_in weighted row)) h.names ∙ sym (names_more weighted rows row) in
     let same : basket_of_numbers numbers weight ≡ basket_of weighted (in_order (all_names weighted (rows ++ row ∷ []))) row =
-        ap (λ k. basket_of_numbers k weight) (ns ∙ ap (λ n. map (number_in new.names) (names_of (drop n row))) f ∙ ap (λ o. map (number_in o) (names_in weighted row)) all)
-        ∙ ap (λ o. basket_of_numbers (map (number_in (in_order (all_names weighted (rows ++ row ∷ [])))) (names_in weighted row)) (unwrap_or o 1)) w in
+    ap (λ k. basket_of_numbers k weight) (ns ∙ ap (λ n. map (number_in new.names) (names_of (drop n row))) f ∙ ap (λ o. map (number_in o) (names_in weighted row)) all)
+    ∙ ap (λ o. basket_of_numbers (map (number_in (in_order (all_names weighted (rows ++ row ∷ [])))) (names_in weighted row)) (unwrap_or o 1)) w in
     record {
       names = all;
       gathered = subst (HasGathered new.gathered) (ap (λ b. baskets_in weighted rows ++ b) same ∙ sym (baskets_more weighted rows row)) (gathers (baskets_in weighted rows) h.gathered);

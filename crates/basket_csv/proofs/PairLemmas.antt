@@ -1,10 +1,9 @@
 -- Pairs of an id and a name, one after another.
-use Rattle.std.proofs.Common.{◌≡◌, ◌≢◌, ℕ, zero, suc, ◌+◌, ◌≤◌, ◌<◌, Bool, true, false, cond, not, ◌&&◌, ◌||◌, List, [], ◌∷◌, ◌++◌, length, map, filter, fold, set, get_or, ltb, Option, Some, None, Result, Ok, Err, refl, sym, ap, ◌∙◌, subst, append-nil, arith}
+use Rattle.std.proofs.Common.{◌≡◌, ℕ, zero, suc, ◌+◌, ◌≤◌, ◌<◌, Bool, true, false, cond, not, ◌&&◌, ◌||◌, List, [], ◌∷◌, ◌++◌, length, map, set, get_or, ltb, Some, None, Result, Ok, Err, refl, sym, ap, ◌∙◌, subst, arith}
 use Rattle.std.specs.List.{flat_map, list_all, list_any}
 use Rattle.std.specs.Str.{bytes_eq, is_utf8}
 use Rattle.std.proofs.lemmas.Bool.{and_parts, and_from, and_left, and_right}
 use Rattle.std.proofs.lemmas.List.{map-append}
-use Rattle.std.proofs.lemmas.List.Elements.{filter-append}
 use Rattle.std.proofs.lemmas.List.Folds.{list_all-append, flat_map-map}
 use Rattle.std.proofs.lemmas.List.Sums.{fold-append}
 use Rattle.basket_sets.specs.declared.weighted.Weighted.{Weighted}
@@ -13,7 +12,7 @@ use Rattle.basket_read.specs.declared.fault.ReadFault.TheVariants.{NotText, Shor
 use Rattle.basket_read.specs.Fimi.{basket_of_numbers, if_light}
 use Rattle.basket_csv.specs.Read.{Answers}
 use Rattle.basket_csv.specs.declared.pairs.Pairs.{Pairs}
-use Rattle.basket_csv.specs.Csv.{Named, field_in, is_text, pair_fault, with_names, pair_of, pairs_of, with_pair, gather, names_of_pairs}
+use Rattle.basket_csv.specs.Csv.{Named, field_in, is_text, pair_fault, with_names, with_pair, gather, names_of_pairs}
 use Rattle.basket_csv.specs.Names.{with_name, in_order, number_in}
 use Rattle.basket_csv.specs.Pairs.{HasPairs, added_at, numbers_of, are_among}
 use Rattle.basket_csv.proofs.BasketLemmas.{no_text_first}

@@ -1,10 +1,10 @@
 -- What records say as a whole.
-use Rattle.std.proofs.Common.{◌≡◌, ◌≢◌, ℕ, ◌+◌, Bool, true, false, cond, leb, ltb, List, [], ◌∷◌, length, Option, Some, None, Result, Ok, Err, refl, sym, ap, ◌∙◌, subst}
+use Rattle.std.proofs.Common.{◌≡◌, ◌≢◌, ℕ, ◌+◌, Bool, true, false, cond, leb, ltb, List, [], ◌∷◌, length, Option, Some, None, Result, Ok, Err, sym, ap, subst}
 use Rattle.basket_sets.specs.declared.weighted.Weighted.{Weighted}
 use Rattle.basket_sets.specs.Database.{MOST_WEIGHT}
 use Rattle.basket_sets.specs.Support.{total_of}
 use Rattle.basket_read.specs.declared.fault.ReadFault.{ReadFault}
-use Rattle.basket_read.specs.declared.fault.ReadFault.TheVariants.{Memory, Read, NotText, ShortRecord, Heavy}
+use Rattle.basket_read.specs.declared.fault.ReadFault.TheVariants.{Read, NotText, ShortRecord, Heavy}
 use Rattle.basket_read.specs.Fimi.{or_else, if_light}
 use Rattle.basket_csv.specs.Csv.{Named, is_text, weight_of, weight_fault, basket_fault, fault_from, with_names, if_faultless, baskets_in, all_names, say_baskets, pair_fault, pairs_of, baskets_of_pairs, names_of_pairs, say_pairs}
 use Rattle.basket_csv.specs.Names.{in_order}

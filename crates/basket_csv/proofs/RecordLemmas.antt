@@ -8,7 +8,6 @@ use Rattle.csv.specs.declared.parser.Config.{Config}
 use Rattle.csv.specs.declared.parser.State.{State}
 use Rattle.csv.specs.declared.parser.State.TheVariants as st
 use Rattle.csv.specs.declared.parser.Action.{Action}
-use Rattle.csv.specs.declared.parser.Action.TheVariants as act
 use Rattle.csv.specs.declared.parser.Terminator.{Terminator}
 use Rattle.csv.specs.declared.parser.Terminator.TheVariants as term
 
@@ -165,8 +164,8 @@ read_next a b row begins e r =
     let fewer = leaves a.config a.state [] [] (left a) read next in
     let left_z : left b ≡ z = ap (λ o. unwrap_or o []) at_z in
     let goes_on : records_from a.config (length read.2 + 1) read.1 read.2 ≡ rows b =
-        ap (λ bytes. records_from a.config (length bytes + 1) read.1 bytes) (rest ∙ sym left_z) ∙ ap (λ s. records_from a.config (length (left b) + 1) s (left b)) state
-        ∙ ap (λ cfg. records_from cfg (length (left b) + 1) b.state (left b)) (sym r.2) in
+    ap (λ bytes. records_from a.config (length bytes + 1) read.1 bytes) (rest ∙ sym left_z) ∙ ap (λ s. records_from a.config (length (left b) + 1) s (left b)) state
+    ∙ ap (λ cfg. records_from cfg (length (left b) + 1) b.state (left b)) (sym r.2) in
     record {
       begins = ap ends_at_end (sym state) ∙ fewer.begins;
       known = at_z ∙ ap Some (sym left_z);

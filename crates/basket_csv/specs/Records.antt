@@ -1,8 +1,7 @@
 -- The records of a CSV text.
-use Rattle.std.specs.Prelude.{◌≡◌, ◌≤◌, ℕ, ◌+◌, false, List, [], length, Option, Some, None, unwrap_or}
-use Rattle.std.specs.Borrow.{Bor}
+use Rattle.std.specs.Prelude.{◌≡◌, ◌≤◌, ℕ, ◌+◌, false, List, [], length, Option, Some, unwrap_or}
 use Rattle.csv.specs.Machine.{ends_at_end}
-use Rattle.csv.specs.Reading.{Ready, source_of, default_config, records, records_from, strip_bom, reader_config, reader_state, reader_trim, is_flexible}
+use Rattle.csv.specs.Reading.{Ready, source_of, default_config, records, records_from, strip_bom, reader_config, reader_state, reader_trim}
 use Rattle.csv.specs.Records.{fields_of}
 use Rattle.csv.specs.declared.parser.Config.{Config}
 use Rattle.csv.specs.declared.reader.Trim.TheVariants as trim

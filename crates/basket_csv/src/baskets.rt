@@ -94,7 +94,9 @@ impl<S: BuildHasher + Drop> Baskets<S> {
             Answers result (with_names (if_light (baskets_in weighted rows)) (in_order (all_names weighted rows))) }
     {
         let Baskets {
-            names, gathered, ..
+            names,
+            gathered,
+            ..
         } = self;
         let baskets = gathered.finish()?;
         Ok((baskets, names.into_names()?))

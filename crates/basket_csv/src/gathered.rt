@@ -61,6 +61,10 @@ impl Gathered {
         ensures { (baskets : List Weighted) → HasGathered self baskets → result ≡ if_light baskets }
     {
         let Gathered { baskets, heavy, .. } = self;
-        if heavy { Err(ReadFault::Heavy) } else { Ok(baskets) }
+        if heavy {
+            Err(ReadFault::Heavy)
+        } else {
+            Ok(baskets)
+        }
     }
 }

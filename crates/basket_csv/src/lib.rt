@@ -14,3 +14,6 @@ mod weight;
 
 pub use names::Names;
 pub use read::{read_baskets, read_single};
+
+#[cfg(test)]
+mod tests;

@@ -1,8 +1,8 @@
-use Rattle.std.proofs.Common.{sym, ap, ◌∙◌, ◌+◌, cond, [], subst}
+use Rattle.std.proofs.Common.{sym, ap, ◌∙◌, cond, [], subst}
 use Rattle.basket_csv.specs.Csv.{say_baskets, behind_header, first_number, basket_fault, fault_from, baskets_in, all_names}
 use Rattle.basket_csv.specs.Names.{in_order}
 use Rattle.basket_csv.specs.Read.{Answers}
-use Rattle.basket_csv.specs.Records.{records_left, records_taken}
+use Rattle.basket_csv.specs.Records.{records_left}
 use Rattle.basket_csv.proofs.ReadLemmas.{faultless_answer}
 use Rattle.basket_csv.proofs.baskets.say_baskets.Goals as goal
 

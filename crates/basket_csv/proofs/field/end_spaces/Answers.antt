@@ -1,4 +1,4 @@
-use Rattle.std.proofs.Common.{◌-◌, sym, arith}
+use Rattle.std.proofs.Common.{sym, arith}
 use Rattle.std.proofs.lemmas.List.Sums.{suffix_len_is}
 use Rattle.basket_csv.specs.Field.{is_space}
 use Rattle.basket_csv.proofs.field.end_spaces.Goals as goal

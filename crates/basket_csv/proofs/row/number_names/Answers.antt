@@ -1,4 +1,4 @@
-use Rattle.std.proofs.Common.{◌≡◌, ◌+◌, ◌++◌, ◌∷◌, [], eqb, length, get_or, sym, ap, ◌∙◌}
+use Rattle.std.proofs.Common.{◌≡◌, [], eqb, length, get_or, ap, ◌∙◌}
 use Rattle.csv.specs.Records.{fields_of}
 use Rattle.basket_csv.specs.Field.{trimmed}
 use Rattle.basket_csv.specs.Names.{with_name, number_in}
@@ -19,7 +19,7 @@ loop-place-preserved g c =
     elim c.if-not-is_empty.branch [
       | then-not-is_empty+in_ok-number+in_ok-push w ↦
           let after = one_name fields c.args.first place c.args.names.now c.loop-place.names c.loop-place.numbers.items below utf8 before w.number.new.self w.in_ok-number.field-0
-              (nil ∙ w.if-not-is_empty.true) (w.in_ok-number.ensures.names ∙ ap (with_name c.loop-place.names) name) (w.in_ok-number.ensures.number ∙ ap (number_in w.number.new.self) name) in
+          (nil ∙ w.if-not-is_empty.true) (w.in_ok-number.ensures.names ∙ ap (with_name c.loop-place.names) name) (w.in_ok-number.ensures.number ∙ ap (number_in w.number.new.self) name) in
           rw (w.names-is, w.numbers-is, w.in_ok-push.ensures.items) (record { text = after.text; names = after.names; numbers = after.numbers })
       | else-not-is_empty w ↦
           let after = no_name fields c.args.first place c.args.names.now c.loop-place.names c.loop-place.numbers.items below utf8 before (nil ∙ w.if-not-is_empty.false) in

@@ -14,8 +14,8 @@ returns-clause-reading c =
       begins = begins;
       known = known_bytes _ (strip_bom c.args.bytes.now) fr.source;
       few =
-        let some = few_left c.from_reader-reader.result (strip_bom c.args.bytes.now) begins fr.source in
-        let less = stripped c.args.bytes.now in
-        let few = c.requires in
-        omega (arith, some, less, few);
+          let some = few_left c.from_reader-reader.result (strip_bom c.args.bytes.now) begins fr.source in
+          let less = stripped c.args.bytes.now in
+          let few = c.requires in
+          omega (arith, some, less, few);
     }
