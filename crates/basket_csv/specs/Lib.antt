@@ -7,3 +7,4 @@ pub mod Gathered
 pub mod Read
 pub mod Baskets
 pub mod Pairs
+pub mod Worked

@@ -11,6 +11,7 @@ mod read;
 mod records;
 mod row;
 mod weight;
+pub mod worked;
 
 pub use names::Names;
 pub use read::{read_baskets, read_single};
