@@ -1,6 +1,6 @@
 use Rattle.std.specs.Prelude.{ℕ}
 use Rattle.basket_read.specs.declared.fault.ReadFault.{ReadFault}
-use Rattle.basket_read.specs.declared.fault.ReadFault.TheVariants.{Memory, Read, TooLong, Byte, Number, Heavy}
+use Rattle.basket_read.specs.declared.fault.ReadFault.TheVariants.{Memory, Read, TooLong, Byte, Number, NotText, ShortRecord, Heavy, Weight}
 
 -- the number by which programs tell the faults apart
 abbrev pub number_of_fault : ReadFault → ℕ
@@ -9,4 +9,7 @@ number_of_fault Read = 2
 number_of_fault TooLong = 3
 number_of_fault (Byte line byte) = 4
 number_of_fault (Number line) = 5
+number_of_fault (NotText nth) = 6
+number_of_fault (ShortRecord nth) = 7
 number_of_fault Heavy = 8
+number_of_fault (Weight nth) = 9

@@ -21,9 +21,18 @@ pub enum ReadFault {
     /// The digit that takes a number above the bound.
     #[error("line {line}: number above 4294967295")]
     Number { line: u32 },
+    /// A field of a CSV record that is not UTF-8.
+    #[error("record {nth}: field is not UTF-8")]
+    NotText { nth: u32 },
+    /// A CSV record that lacks a basket's id or a name.
+    #[error("record {nth}: fewer than two fields")]
+    ShortRecord { nth: u32 },
     /// The weights of the baskets add up to too much.
     #[error("total weight above 1099511627775")]
     Heavy,
+    /// A CSV record whose first field is no weight, where one is asked for.
+    #[error("record {nth}: bad weight")]
+    Weight { nth: u32 },
 }
 
 impl ReadFault {
@@ -37,7 +46,10 @@ impl ReadFault {
             ReadFault::TooLong => 3,
             ReadFault::Byte { .. } => 4,
             ReadFault::Number { .. } => 5,
+            ReadFault::NotText { .. } => 6,
+            ReadFault::ShortRecord { .. } => 7,
             ReadFault::Heavy => 8,
+            ReadFault::Weight { .. } => 9,
         }
     }
 }

@@ -179,7 +179,7 @@ fn zeros_before_a_number(rt: HostRuntime) -> Result<(), Fail> {
 
 #[test]
 fn faults_have_texts_and_numbers(rt: HostRuntime) -> Result<(), Fail> {
-    let rows: [(ReadFault, u8, &str); 6] = [
+    let rows: [(ReadFault, u8, &str); 9] = [
         (ReadFault::Memory, 1, "out of memory"),
         (ReadFault::Read, 2, "cannot read the input"),
         (
@@ -193,7 +193,18 @@ fn faults_have_texts_and_numbers(rt: HostRuntime) -> Result<(), Fail> {
             5,
             "line 1: number above 4294967295",
         ),
+        (
+            ReadFault::NotText { nth: 3 },
+            6,
+            "record 3: field is not UTF-8",
+        ),
+        (
+            ReadFault::ShortRecord { nth: 4 },
+            7,
+            "record 4: fewer than two fields",
+        ),
         (ReadFault::Heavy, 8, "total weight above 1099511627775"),
+        (ReadFault::Weight { nth: 1 }, 9, "record 1: bad weight"),
     ];
     for (fault, number, text) in rows {
         assert_eq!(rt; fault.number(), number);

@@ -1,0 +1,9 @@
+mod NamesLemmas
+mod FieldLemmas
+mod RecordLemmas
+mod GatheredLemmas
+mod WeightLemmas
+mod RowLemmas
+mod BasketLemmas
+mod ReadLemmas
+mod PairLemmas

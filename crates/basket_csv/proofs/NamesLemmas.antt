@@ -1,0 +1,149 @@
+-- Numbers by first appearance.
+use Rattle.std.proofs.Common.{◌≡◌, ℕ, suc, ◌+◌, ◌<◌, Bool, true, false, cond, not, ◌||◌, eqb, ltb, String, List, [], ◌∷◌, ◌++◌, map, length, fold, Some, None, refl, sym, ap, ◌∙◌, arith}
+use Rattle.std.specs.List.{list_any, list_all, position, position_or_len}
+use Rattle.std.specs.Str.{bytes_eq}
+use Rattle.std.specs.String.{string_bytes, string_eq}
+use Rattle.std.proofs.lemmas.Bool.{ltb-true, eqb-true, or_left, or_right, and_parts, and_from}
+use Rattle.std.proofs.lemmas.List.{map-append}
+use Rattle.std.proofs.lemmas.List.Folds.{position_or_len_push, list_any-append}
+use Rattle.std.proofs.lemmas.Slice.Eq.{bytes_eq-Decides}
+use Rattle.indexmap.specs.IndexSet.{insert_key}
+use Rattle.basket_csv.specs.Names.{with_name, number_in}
+
+-- ---- a test of a list's images
+
+pub any_of_map : {X Y : Type 0} (f : X → Y) (p : Y → Bool) (xs : List X) → list_any p (map f xs) ≡ list_any (λ x. p (f x)) xs
+any_of_map f p [] = refl
+any_of_map f p (x ∷ xs) = ap (λ b. p (f x) || b) (any_of_map f p xs)
+
+pub place_of_map : {X Y : Type 0} (f : X → Y) (p : Y → Bool) (xs : List X) → position_or_len p (map f xs) ≡ position_or_len (λ x. p (f x)) xs
+place_of_map f p [] = refl
+place_of_map f p (x ∷ xs) = ap (λ n. cond (not (p (f x))) (1 + n) 0) (place_of_map f p xs)
+
+-- ---- a name that was looked up
+
+pub any_at : {X : Type 0} (p : X → Bool) (xs : List X) → position_or_len p xs < length xs → list_any p xs ≡ true
+any_at p [] h = absurd (omega arith)
+any_at p (x ∷ xs) h = at (p x) (any_at p xs) h
+  where
+    at : (b : Bool) → (position_or_len p xs < length xs → list_any p xs ≡ true) → cond (not b) (1 + position_or_len p xs) 0 < suc (length xs) → (b || list_any p xs) ≡ true
+    at true later h = refl
+    at false later h = later (omega arith)
+
+pub at_any : {X : Type 0} (p : X → Bool) (xs : List X) → list_any p xs ≡ true → position_or_len p xs < length xs
+at_any p [] e = absurd cc
+at_any p (x ∷ xs) e = at (p x) (at_any p xs) e
+  where
+    at : (b : Bool) → (list_any p xs ≡ true → position_or_len p xs < length xs) → (b || list_any p xs) ≡ true → cond (not b) (1 + position_or_len p xs) 0 < suc (length xs)
+    at true later e = omega arith
+    at false later e = let h = later e in omega arith
+
+place_found : (b : Bool) (n place : ℕ) → cond b (Some n) None ≡ Some place → (b ≡ true) × (n ≡ place)
+place_found true n place e = (refl, cc)
+place_found false n place e = absurd cc
+
+found : {X : Type 0} (p : X → Bool) (xs : List X) (place : ℕ) → position p xs ≡ Some place → (list_any p xs ≡ true) × (position_or_len p xs ≡ place)
+found p xs place e =
+    let h = place_found (ltb (position_or_len p xs) (length xs)) (position_or_len p xs) place e in
+    (any_at p xs (ltb-true (position_or_len p xs) (length xs) h.0), h.1)
+
+-- ---- names with one more
+
+pub equal_bytes : (name : List ℕ) → bytes_eq name name ≡ true
+equal_bytes name = (bytes_eq-Decides name name).1 refl
+
+pub known_name : (names : List (List ℕ)) (name : List ℕ) → list_any (bytes_eq name) names ≡ true → with_name names name ≡ names
+known_name names name e = rw e refl
+
+-- a name has the number that it had or gets
+pub number_stays : (names : List (List ℕ)) (name : List ℕ) → number_in (with_name names name) name ≡ number_in names name
+number_stays names name = at (list_any (bytes_eq name) names)
+  where
+    new : (b : Bool) → eqb (number_in names name) (length names) ≡ b → cond b (length names + cond (bytes_eq name name) 0 1) (number_in names name) ≡ number_in names name
+    new true e = let none = eqb-true (number_in names name) (length names) e in (rw (equal_bytes name) (omega (arith, none)))
+    new false e = refl
+
+    at : (known : Bool) → number_in (cond known names (names ++ name ∷ [])) name ≡ number_in names name
+    at true = refl
+    at false = position_or_len_push (bytes_eq name) names name ∙ new (eqb (number_in names name) (length names)) refl
+
+-- a set of texts with one more has the bytes of these names with one more
+pub inserted : {Z : Type 0} (keys : List (String Z)) (key : String Z) → map string_bytes (insert_key string_eq keys key) ≡ with_name (map string_bytes keys) (string_bytes key)
+inserted keys key = (rw (any_of_map string_bytes (bytes_eq (string_bytes key)) keys) (at (list_any (string_eq key) keys)))
+  where
+    at : (b : Bool) → map string_bytes (cond b keys (keys ++ key ∷ [])) ≡ cond b (map string_bytes keys) (map string_bytes keys ++ string_bytes key ∷ [])
+    at true = refl
+    at false = map-append string_bytes keys (key ∷ [])
+
+-- ---- the place of a name among texts
+
+-- the place of a name that is among them
+pub known_place : {Z : Type 0} (keys : List (String Z)) (names : List (List ℕ)) (name : List ℕ) (place : ℕ)
+    → names ≡ map string_bytes keys → position (λ key. bytes_eq name (string_bytes key)) keys ≡ Some place
+    → (names ≡ with_name names name) × (place ≡ number_in names name)
+known_place keys names name place view e =
+    let h = found (λ key. bytes_eq name (string_bytes key)) keys place e in
+    let among : list_any (bytes_eq name) names ≡ true = ap (list_any (bytes_eq name)) view ∙ any_of_map string_bytes (bytes_eq name) keys ∙ h.0 in
+    (sym (known_name names name among), sym (ap (λ ns. number_in ns name) view ∙ place_of_map string_bytes (bytes_eq name) keys ∙ h.1))
+
+-- the place of a name that was inserted
+pub new_place : {Z : Type 0} (keys new_keys : List (String Z)) (key : String Z) (names : List (List ℕ)) (name : List ℕ) (place : ℕ)
+    → names ≡ map string_bytes keys → string_bytes key ≡ name → new_keys ≡ insert_key string_eq keys key → place ≡ position_or_len (string_eq key) keys
+    → (map string_bytes new_keys ≡ with_name names name) × (place ≡ number_in (map string_bytes new_keys) name)
+new_place keys new_keys key names name place view text new e =
+    let same : map string_bytes new_keys ≡ with_name names name = ap (map string_bytes) new ∙ inserted keys key ∙ ap (λ ns. with_name ns (string_bytes key)) (sym view) ∙ ap (with_name names) text in
+    let old : place ≡ number_in names name = e ∙ sym (place_of_map string_bytes (bytes_eq (string_bytes key)) keys) ∙ ap (λ ns. number_in ns (string_bytes key)) (sym view) ∙ ap (number_in names) text in
+    (same, old ∙ sym (number_stays names name) ∙ ap (λ ns. number_in ns name) (sym same))
+
+-- ---- a name keeps its number
+
+-- whether a name is among some names
+abbrev pub among : List (List ℕ) → List ℕ → Bool
+among names name = list_any (bytes_eq name) names
+
+pub among_more : (names : List (List ℕ)) (name other : List ℕ) → among names name ≡ true → among (with_name names other) name ≡ true
+among_more names name other e = at (list_any (bytes_eq other) names)
+  where
+    at : (b : Bool) → among (cond b names (names ++ other ∷ [])) name ≡ true
+    at true = e
+    at false = list_any-append (bytes_eq name) names (other ∷ []) ∙ or_left _ _ e
+
+pub number_more : (names : List (List ℕ)) (name other : List ℕ) → among names name ≡ true → number_in (with_name names other) name ≡ number_in names name
+number_more names name other e = at (list_any (bytes_eq other) names)
+  where
+    new : (b : Bool) → eqb (number_in names name) (length names) ≡ b → cond b (length names + cond (bytes_eq name other) 0 1) (number_in names name) ≡ number_in names name
+    new true f = let end = eqb-true (number_in names name) (length names) f in let below = at_any (bytes_eq name) names e in absurd (omega arith)
+    new false f = refl
+
+    at : (known : Bool) → number_in (cond known names (names ++ other ∷ [])) name ≡ number_in names name
+    at true = refl
+    at false = position_or_len_push (bytes_eq name) names other ∙ new (eqb (number_in names name) (length names)) refl
+
+pub among_all : (names others : List (List ℕ)) (name : List ℕ) → among names name ≡ true → among (fold with_name names others) name ≡ true
+among_all names [] name e = e
+among_all names (other ∷ others) name e = among_all (with_name names other) others name (among_more names name other e)
+
+pub number_in_all : (names others : List (List ℕ)) (name : List ℕ) → among names name ≡ true → number_in (fold with_name names others) name ≡ number_in names name
+number_in_all names [] name e = refl
+number_in_all names (other ∷ others) name e = number_in_all (with_name names other) others name (among_more names name other e) ∙ number_more names name other e
+
+-- a name is among the names with it
+pub among_with : (names : List (List ℕ)) (name : List ℕ) → among (with_name names name) name ≡ true
+among_with names name = at (list_any (bytes_eq name) names) refl
+  where
+    at : (b : Bool) → list_any (bytes_eq name) names ≡ b → among (cond b names (names ++ name ∷ [])) name ≡ true
+    at true e = e
+    at false e = list_any-append (bytes_eq name) names (name ∷ []) ∙ or_right (among names name) _ (or_left _ _ (equal_bytes name))
+
+-- names keep their numbers
+pub numbers_stay : (names others some : List (List ℕ)) → list_all (among names) some ≡ true → map (number_in (fold with_name names others)) some ≡ map (number_in names) some
+numbers_stay names others [] e = refl
+numbers_stay names others (name ∷ some) e =
+    let h = and_parts (among names name) (list_all (among names) some) e in
+    ap (λ n. n ∷ map (number_in (fold with_name names others)) some) (number_in_all names others name h.0) ∙ ap (λ ns. number_in names name ∷ ns) (numbers_stay names others some h.1)
+
+-- all names are among themselves
+pub all_among : (names some : List (List ℕ)) → list_all (among (fold with_name names some)) some ≡ true
+all_among names [] = refl
+all_among names (name ∷ some) =
+    and_from (among (fold with_name (with_name names name) some) name) _ (among_all (with_name names name) some name (among_with names name)) (all_among (with_name names name) some)

@@ -1,0 +1,162 @@
+-- Pairs of an id and a name, one after another.
+use Rattle.std.proofs.Common.{◌≡◌, ℕ, zero, suc, ◌+◌, ◌≤◌, ◌<◌, Bool, true, false, cond, not, ◌&&◌, ◌||◌, List, [], ◌∷◌, ◌++◌, length, map, set, get_or, ltb, Some, None, Result, Ok, Err, refl, sym, ap, ◌∙◌, subst, arith}
+use Rattle.std.specs.List.{flat_map, list_all, list_any}
+use Rattle.std.specs.Str.{bytes_eq, is_utf8}
+use Rattle.std.proofs.lemmas.Bool.{and_parts, and_from, and_left, and_right}
+use Rattle.std.proofs.lemmas.List.{map-append}
+use Rattle.std.proofs.lemmas.List.Folds.{list_all-append, flat_map-map}
+use Rattle.std.proofs.lemmas.List.Sums.{fold-append}
+use Rattle.basket_sets.specs.declared.weighted.Weighted.{Weighted}
+use Rattle.basket_read.specs.declared.fault.ReadFault.{ReadFault}
+use Rattle.basket_read.specs.declared.fault.ReadFault.TheVariants.{NotText, ShortRecord}
+use Rattle.basket_read.specs.Fimi.{basket_of_numbers, if_light}
+use Rattle.basket_csv.specs.Read.{Answers}
+use Rattle.basket_csv.specs.declared.pairs.Pairs.{Pairs}
+use Rattle.basket_csv.specs.Csv.{Named, field_in, is_text, pair_fault, with_names, with_pair, gather, names_of_pairs}
+use Rattle.basket_csv.specs.Names.{with_name, in_order, number_in}
+use Rattle.basket_csv.specs.Pairs.{HasPairs, added_at, numbers_of, are_among}
+use Rattle.basket_csv.proofs.BasketLemmas.{no_text_first}
+use Rattle.basket_csv.proofs.RowLemmas.{nothing_is_text}
+use Rattle.basket_csv.proofs.NamesLemmas.{among, among_more, among_with, numbers_stay, number_stays}
+
+-- ---- a number that was added to a group
+
+pub group_known : {A : Type 0} (f : A → List ℕ) (groups : List A) (place number : ℕ) (old new : A) → place < length groups → old ≡ get_or groups place old → f new ≡ f old ++ number ∷ []
+    → map f (set groups place new) ≡ added_at (map f groups) place number
+group_known f [] place number old new below e n = absurd (omega arith)
+group_known f (group ∷ groups) zero number old new below e n = ap (λ x. x ∷ map f groups) (n ∙ ap (λ g. f g ++ number ∷ []) e)
+group_known f (group ∷ groups) (suc place) number old new below e n = ap (λ gs. f group ∷ gs) (group_known f groups place number old new (omega arith) e n)
+
+pub group_new : {A : Type 0} (f : A → List ℕ) (groups : List A) (place number : ℕ) (new : A) → length groups ≤ place → f new ≡ number ∷ []
+    → map f (groups ++ new ∷ []) ≡ added_at (map f groups) place number
+group_new f [] place number new all n = ap (λ g. g ∷ []) n
+group_new f (group ∷ groups) zero number new all n = absurd (omega arith)
+group_new f (group ∷ groups) (suc place) number new all n = ap (λ gs. f group ∷ gs) (group_new f groups place number new (omega arith) n)
+
+-- ---- groups with one pair more
+
+abbrev Groups : Type 0
+Groups = List (List ℕ × List (List ℕ))
+
+consed : {A : Type 0} (b : Bool) (x y : A) (xs : List A) → cond b (x ∷ xs) (x ∷ xs ++ y ∷ []) ≡ x ∷ cond b xs (xs ++ y ∷ [])
+consed true x y xs = refl
+consed false x y xs = refl
+
+ids_more : (groups : Groups) (id name : List ℕ) → with_name (map (λ g. g.0) groups) id ≡ map (λ g. g.0) (with_pair groups (id, name))
+ids_more [] id name = refl
+ids_more (group ∷ groups) id name = at (bytes_eq id group.0) (ids_more groups id name)
+  where
+    at : (b : Bool) → with_name (map (λ g. g.0) groups) id ≡ map (λ g. g.0) (with_pair groups (id, name))
+        → cond (b || list_any (bytes_eq id) (map (λ g. g.0) groups)) (group.0 ∷ map (λ g. g.0) groups) (group.0 ∷ map (λ g. g.0) groups ++ id ∷ [])
+        ≡ map (λ g. g.0) (cond b ((group.0, group.1 ++ name ∷ []) ∷ groups) (group ∷ with_pair groups (id, name)))
+    at true later = refl
+    at false later = consed (list_any (bytes_eq id) (map (λ g. g.0) groups)) group.0 id (map (λ g. g.0) groups) ∙ ap (λ ids. group.0 ∷ ids) later
+
+groups_more : (names : List (List ℕ)) (groups : Groups) (id name : List ℕ)
+    → added_at (numbers_of names groups) (number_in (map (λ g. g.0) groups) id) (number_in names name) ≡ numbers_of names (with_pair groups (id, name))
+groups_more names [] id name = refl
+groups_more names (group ∷ groups) id name = at (bytes_eq id group.0) (groups_more names groups id name)
+  where
+    at : (b : Bool) → added_at (numbers_of names groups) (number_in (map (λ g. g.0) groups) id) (number_in names name) ≡ numbers_of names (with_pair groups (id, name))
+        → added_at (map (number_in names) group.1 ∷ numbers_of names groups) (cond (not b) (1 + number_in (map (λ g. g.0) groups) id) 0) (number_in names name)
+        ≡ numbers_of names (cond b ((group.0, group.1 ++ name ∷ []) ∷ groups) (group ∷ with_pair groups (id, name)))
+    at true later = ap (λ g. g ∷ numbers_of names groups) (sym (map-append (number_in names) group.1 (name ∷ [])))
+    at false later =
+        let next : 1 + number_in (map (λ g. g.0) groups) id ≡ suc (number_in (map (λ g. g.0) groups) id) = omega arith in
+        ap (λ place. added_at (map (number_in names) group.1 ∷ numbers_of names groups) place (number_in names name)) next ∙ ap (λ gs. map (number_in names) group.1 ∷ gs) later
+
+groups_stay : (names : List (List ℕ)) (name : List ℕ) (groups : Groups) → are_among names groups ≡ true → numbers_of (with_name names name) groups ≡ numbers_of names groups
+groups_stay names name [] e = refl
+groups_stay names name (group ∷ groups) e =
+    let h = and_parts (list_all (among names) group.1) (are_among names groups) e in
+    ap (λ g. g ∷ numbers_of (with_name names name) groups) (numbers_stay names (name ∷ []) group.1 h.0) ∙ ap (λ gs. map (number_in names) group.1 ∷ gs) (groups_stay names name groups h.1)
+
+all_among_more : (names : List (List ℕ)) (name : List ℕ) (some : List (List ℕ)) → list_all (among names) some ≡ true → list_all (among (with_name names name)) some ≡ true
+all_among_more names name [] e = refl
+all_among_more names name (other ∷ some) e =
+    let h = and_parts (among names other) (list_all (among names) some) e in
+    and_from (among (with_name names name) other) (list_all (among (with_name names name)) some) (among_more names other name h.0) (all_among_more names name some h.1)
+
+among_goes_on : (names : List (List ℕ)) (name : List ℕ) (groups : Groups) → are_among names groups ≡ true → are_among (with_name names name) groups ≡ true
+among_goes_on names name [] e = refl
+among_goes_on names name (group ∷ groups) e =
+    let h = and_parts (list_all (among names) group.1) (are_among names groups) e in
+    and_from (list_all (among (with_name names name)) group.1) (are_among (with_name names name) groups) (all_among_more names name group.1 h.0) (among_goes_on names name groups h.1)
+
+among_with_pair : (names : List (List ℕ)) (groups : Groups) (id name : List ℕ) → among names name ≡ true → are_among names groups ≡ true → are_among names (with_pair groups (id, name)) ≡ true
+among_with_pair names [] id name is e = and_from (among names name && true) true (and_from (among names name) true is refl) refl
+among_with_pair names (group ∷ groups) id name is e =
+    let h = and_parts (list_all (among names) group.1) (are_among names groups) e in
+    at (bytes_eq id group.0) h.0 h.1 (among_with_pair names groups id name is h.1)
+  where
+    at : (b : Bool) → list_all (among names) group.1 ≡ true → are_among names groups ≡ true → are_among names (with_pair groups (id, name)) ≡ true
+        → are_among names (cond b ((group.0, group.1 ++ name ∷ []) ∷ groups) (group ∷ with_pair groups (id, name))) ≡ true
+    at true here behind later =
+        and_from (list_all (among names) (group.1 ++ name ∷ [])) (are_among names groups)
+        (list_all-append (among names) group.1 (name ∷ []) ∙ and_from (list_all (among names) group.1) _ here (and_from (among names name) true is refl)) behind
+    at false here behind later = and_from (list_all (among names) group.1) (are_among names (with_pair groups (id, name))) here later
+
+-- ---- what was read, with one pair more
+
+gather_more : (pairs : List (List ℕ × List ℕ)) (pair : List ℕ × List ℕ) → gather (pairs ++ pair ∷ []) ≡ with_pair (gather pairs) pair
+gather_more pairs pair = fold-append with_pair [] pairs (pair ∷ [])
+
+names_more : (pairs : List (List ℕ × List ℕ)) (pair : List ℕ × List ℕ) → names_of_pairs (pairs ++ pair ∷ []) ≡ with_name (names_of_pairs pairs) pair.1
+names_more pairs pair = ap in_order (map-append (λ p. p.1) pairs (pair ∷ [])) ∙ fold-append with_name [] (map (λ p. p.1) pairs) (pair.1 ∷ [])
+
+pub paired : {S H : Type 0} (old new : Pairs S H) (pairs : List (List ℕ × List ℕ)) (id name : List ℕ) (number place : ℕ)
+    → new.names ≡ with_name old.names name → number ≡ number_in new.names name → new.ids ≡ with_name old.ids id → place ≡ number_in new.ids id
+    → map (λ group. group.items) new.groups.items ≡ added_at (map (λ group. group.items) old.groups.items) place number
+    → HasPairs old pairs → HasPairs new (pairs ++ (id, name) ∷ [])
+paired old new pairs id name number place a b c d e h =
+    let before = names_of_pairs pairs in
+    let after : new.names ≡ with_name before name = a ∙ ap (λ ns. with_name ns name) h.names in
+    let all = gather_more pairs (id, name) in
+    let names = names_more pairs (id, name) in
+    let ids = map (λ g. g.0) (gather pairs) in
+    let same_ids : new.ids ≡ with_name ids id = c ∙ ap (λ is. with_name is id) h.ids in
+    let at_place : place ≡ number_in ids id = d ∙ ap (λ is. number_in is id) same_ids ∙ number_stays ids id in
+    let its_number : number ≡ number_in (with_name before name) name = b ∙ ap (λ ns. number_in ns name) after in
+    let stay : map (λ group. group.items) old.groups.items ≡ numbers_of (with_name before name) (gather pairs) = h.groups ∙ sym (groups_stay before name (gather pairs) h.known) in
+    record {
+      names = after ∙ sym names;
+      ids = same_ids ∙ ids_more (gather pairs) id name ∙ ap (map (λ g. g.0)) (sym all);
+      groups = e ∙ ap (λ gs. added_at gs place number) stay ∙ ap (λ p. added_at (numbers_of (with_name before name) (gather pairs)) p number) at_place
+          ∙ ap (added_at (numbers_of (with_name before name) (gather pairs)) (number_in ids id)) its_number
+          ∙ groups_more (with_name before name) (gather pairs) id name ∙ ap (λ gs. numbers_of (with_name before name) gs) (sym all) ∙ ap (λ ns. numbers_of ns (gather (pairs ++ (id, name) ∷ []))) (sym names);
+      known = ap (λ ns. are_among ns (gather (pairs ++ (id, name) ∷ []))) names ∙ ap (are_among (with_name before name)) all
+          ∙ among_with_pair (with_name before name) (gather pairs) id name (among_with before name) (among_goes_on before name (gather pairs) h.known);
+    }
+
+-- ---- the baskets of the groups
+
+pub all_baskets : {A : Type 0} (f : A → List ℕ) (groups : List A) (names : List (List ℕ)) (gathered : List (List ℕ × List (List ℕ))) → map f groups ≡ numbers_of names gathered
+    → flat_map (λ group. basket_of_numbers (f group) 1) groups ≡ flat_map (λ group. basket_of_numbers (map (number_in names) group.1) 1) gathered
+all_baskets f groups names gathered e =
+    sym (flat_map-map (λ numbers. basket_of_numbers numbers 1) f groups) ∙ ap (flat_map (λ numbers. basket_of_numbers numbers 1)) e ∙ flat_map-map (λ numbers. basket_of_numbers numbers 1) (λ group. map (number_in names) group.1) gathered
+
+-- baskets that weigh too much are refused, and others are answered
+pub refused : (r : Result (List Weighted) ReadFault) (fault told : ReadFault) (baskets : List Weighted) (names : List (List ℕ)) (answer : Result Named ReadFault)
+    → r ≡ Err fault → r ≡ if_light baskets → answer ≡ Err told → told ≡ fault → Answers answer (with_names (if_light baskets) names)
+refused r fault told baskets names answer e light a t =
+    let said : with_names (if_light baskets) names ≡ Err fault = ap (λ l. with_names l names) (sym light ∙ e) in
+    subst (λ o. Answers o (with_names (if_light baskets) names)) (sym (a ∙ ap Err t)) (λ _. said)
+
+pub answered : (r : Result (List Weighted) ReadFault) (database baskets : List Weighted) (names : List (List ℕ)) → r ≡ Ok database → r ≡ if_light baskets → with_names (if_light baskets) names ≡ Ok (database, names)
+answered r database baskets names e light = ap (λ l. with_names l names) (sym light ∙ e)
+
+-- ---- records that are no text
+
+no_pair : (nth : ℕ) (row : List (List ℕ)) → is_text row ≡ false → pair_fault nth row ≡ Some (NotText nth)
+no_pair nth row e = ap (λ b. cond b (cond (ltb (length row) 2) (Some (ShortRecord nth)) None) (Some (NotText nth))) e
+
+pub first_is_no_text : (nth : ℕ) (row : List (List ℕ)) → is_utf8 (field_in row 0) ≡ false → pair_fault nth row ≡ Some (NotText nth)
+first_is_no_text nth row e = no_pair nth row (no_text_first row e nothing_is_text)
+
+pub second_is_no_text : (nth : ℕ) (row : List (List ℕ)) → is_utf8 (field_in row 1) ≡ false → pair_fault nth row ≡ Some (NotText nth)
+second_is_no_text nth row e = no_pair nth row (second row e)
+  where
+    second : (fields : List (List ℕ)) → is_utf8 (field_in fields 1) ≡ false → is_text fields ≡ false
+    second [] f = absurd (let both : true ≡ false = sym nothing_is_text ∙ f in cc)
+    second (field ∷ []) f = absurd (let both : true ≡ false = sym nothing_is_text ∙ f in cc)
+    second (field ∷ other ∷ fields) f = and_right (is_utf8 field) (is_text (other ∷ fields)) (and_left (is_utf8 other) (is_text fields) f)

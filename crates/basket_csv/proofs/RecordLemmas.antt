@@ -1,0 +1,199 @@
+-- A record takes at least one byte, so that a text has only so many.
+use Rattle.std.proofs.Common.{◌≡◌, ℕ, zero, suc, ◌+◌, ◌-◌, ◌≤◌, ◌<◌, Bool, true, false, cond, eqb, ◌&&◌, List, [], ◌∷◌, ◌++◌, length, Option, Some, None, unwrap_or, Bor, refl, sym, ap, ◌∙◌, subst, arith}
+use Rattle.csv.specs.Machine.{Read, next_record, step, in_field, start_field, start_record, after_end, ends_with, is_byte, ends_at_end, is_end, fields_after, field_after}
+use Rattle.csv.specs.Reading.{records_from, records_next, source_of, ReadRecord, Reached, strip_bom, is_bom}
+use Rattle.csv.specs.declared.reader.Reader.{Reader}
+use Rattle.csv.proofs.ReadFacts.{rows-more, rows-end}
+use Rattle.csv.specs.declared.parser.Config.{Config}
+use Rattle.csv.specs.declared.parser.State.{State}
+use Rattle.csv.specs.declared.parser.State.TheVariants as st
+use Rattle.csv.specs.declared.parser.Action.{Action}
+use Rattle.csv.specs.declared.parser.Terminator.{Terminator}
+use Rattle.csv.specs.declared.parser.Terminator.TheVariants as term
+
+-- a step that ends a record leaves a state at which the end of the text ends none
+abbrev Ends : State × Action → Type 0
+Ends next = is_end next.1 ≡ true → ends_at_end next.0 ≡ false
+
+ends_if : (b : Bool) (x y : State × Action) → Ends x → Ends y → Ends (cond b x y)
+ends_if true x y h k = h
+ends_if false x y h k = k
+
+ends-after_end : (t : Terminator) (c : ℕ) → ends_at_end (after_end t c) ≡ false
+ends-after_end term.CRLF c = at (eqb c 13)
+  where
+    at : (b : Bool) → ends_at_end (cond b st.AfterCr st.StartRecord) ≡ false
+    at true = refl
+    at false = refl
+ends-after_end (term.Any t) c = refl
+
+ends-in_field : (cfg : Config) (c : ℕ) → Ends (in_field cfg c)
+ends-in_field cfg c =
+    ends_if (eqb c cfg.delimiter) _ _ (λ e. absurd cc)
+    (ends_if (ends_with cfg.terminator c) _ _ (λ e. ends-after_end cfg.terminator c) (λ e. absurd cc))
+
+ends-start_field : (cfg : Config) (c : ℕ) → Ends (start_field cfg c)
+ends-start_field cfg c = ends_if (cfg.quoting && eqb c cfg.quote) _ _ (λ e. absurd cc) (ends-in_field cfg c)
+
+ends-start_record : (cfg : Config) (c : ℕ) → Ends (start_record cfg c)
+ends-start_record cfg c = ends_if (ends_with cfg.terminator c) _ _ (λ e. absurd cc) (ends_if (is_byte cfg.comment c) _ _ (λ e. absurd cc) (ends-start_field cfg c))
+
+ends-step : (cfg : Config) (s : State) (c : ℕ) → Ends (step cfg s c)
+ends-step cfg st.StartRecord c = ends-start_record cfg c
+ends-step cfg st.StartField c = ends-start_field cfg c
+ends-step cfg st.InField c = ends-in_field cfg c
+ends-step cfg st.InQuoted c = ends_if (cfg.quoting && eqb c cfg.quote) _ _ (λ e. absurd cc) (ends_if (cfg.quoting && is_byte cfg.escape c) _ _ (λ e. absurd cc) (λ e. absurd cc))
+ends-step cfg st.InEscape c = λ e. absurd cc
+ends-step cfg st.AfterQuote c = ends_if (cfg.quoting && cfg.double_quote && eqb c cfg.quote) _ _ (λ e. absurd cc) (ends-in_field cfg c)
+ends-step cfg st.InComment c = ends_if (eqb c 10) _ _ (λ e. absurd cc) (λ e. absurd cc)
+ends-step cfg st.AfterCr c = ends_if (eqb c 10) _ _ (λ e. absurd cc) (ends-start_record cfg c)
+
+-- what a record that was read leaves: a state at which the end of the text ends none, and fewer bytes, unless there were none
+pub record Leaves (read : Read) (bytes : List ℕ) : Type 0 where
+  pub begins : ends_at_end read.1 ≡ false
+  pub fewer : length read.2 ≤ length bytes - 1
+
+pub leaves : (cfg : Config) (s : State) (fields : List (List ℕ)) (field bytes : List ℕ) (read : Read) → next_record cfg s fields field bytes ≡ Some read → Leaves read bytes
+unfolding next_record
+leaves cfg s fields field [] read e = at (ends_at_end s) e
+  where
+    at : (b : Bool) → cond b (Some (fields ++ (field ∷ []), st.StartRecord, [])) None ≡ Some read → Leaves read []
+    at true e = let same : (fields ++ (field ∷ []), st.StartRecord, []) ≡ read = cc in subst (λ r. Leaves r []) same (record { begins = refl; fewer = omega arith })
+    at false e = absurd cc
+leaves cfg s fields field (c ∷ bytes) read e =
+    at (is_end (step cfg s c).1) refl e (leaves cfg (step cfg s c).0 (fields_after (step cfg s c).1 fields field) (field_after (step cfg s c).1 c field) bytes read)
+  where
+    at : (b : Bool) → is_end (step cfg s c).1 ≡ b
+        → cond b (Some (fields_after (step cfg s c).1 fields field, (step cfg s c).0, bytes)) (next_record cfg (step cfg s c).0 (fields_after (step cfg s c).1 fields field) (field_after (step cfg s c).1 c field) bytes) ≡ Some read
+        → (next_record cfg (step cfg s c).0 (fields_after (step cfg s c).1 fields field) (field_after (step cfg s c).1 c field) bytes ≡ Some read → Leaves read bytes) → Leaves read (c ∷ bytes)
+    at true ends e later =
+        let same : (fields_after (step cfg s c).1 fields field, (step cfg s c).0, bytes) ≡ read = cc in
+        subst (λ r. Leaves r (c ∷ bytes)) same (record { begins = ends-step cfg s c ends; fewer = omega arith })
+    at false ends e later = let h = later e in record { begins = h.begins; fewer = let few = h.fewer in omega arith }
+
+-- ---- the records of a text, of which no more are read than it has bytes
+
+-- a record that was read of some bytes leaves fewer
+fewer_left : (cfg : Config) (s : State) (bytes : List ℕ) (read : Read) → ends_at_end s ≡ false → next_record cfg s [] [] bytes ≡ Some read → length read.2 < length bytes
+unfolding next_record
+fewer_left cfg s [] read begins e =
+    let none : next_record cfg s [] [] [] ≡ None = ap (λ b. cond b (Some ([] ++ ([] ∷ []), st.StartRecord, [])) None) begins in
+    absurd (let both : ◌≡◌ {A = Option Read} None (Some read) = sym none ∙ e in cc)
+fewer_left cfg s (c ∷ bytes) read begins e = let h = (leaves cfg s [] [] (c ∷ bytes) read e).fewer in omega arith
+
+one_more : (cfg : Config) (n : ℕ) (s : State) (bytes : List ℕ) → ends_at_end s ≡ false → length bytes < n → records_from cfg (suc n) s bytes ≡ records_from cfg n s bytes
+unfolding records_from
+one_more cfg zero s bytes begins few = absurd (omega arith)
+one_more cfg (suc n) s bytes begins few = at (next_record cfg s [] [] bytes) refl (one_more cfg n)
+  where
+    at : (o : Option Read) → next_record cfg s [] [] bytes ≡ o
+        → ((t : State) (more : List ℕ) → ends_at_end t ≡ false → length more < n → records_from cfg (suc n) t more ≡ records_from cfg n t more)
+        → records_next (records_from cfg (suc n)) o ≡ records_next (records_from cfg n) o
+    at None e later = refl
+    at (Some read) e later =
+        let fewer = fewer_left cfg s bytes read begins e in
+        ap (λ rows. read.0 ∷ rows) (later read.1 read.2 (leaves cfg s [] [] bytes read e).begins (omega (arith, fewer)))
+
+enough : (cfg : Config) (more n : ℕ) (s : State) (bytes : List ℕ) → ends_at_end s ≡ false → length bytes < n → records_from cfg (more + n) s bytes ≡ records_from cfg n s bytes
+enough cfg zero n s bytes begins few = ap (λ k. records_from cfg k s bytes) (let same : zero + n ≡ n = omega arith in same)
+enough cfg (suc more) n s bytes begins few =
+    let same : suc more + n ≡ suc (more + n) = omega arith in
+    ap (λ k. records_from cfg k s bytes) same ∙ one_more cfg (more + n) s bytes begins (omega arith) ∙ enough cfg more n s bytes begins few
+
+-- the records of a text: none, or the one that is read, and those of the bytes that it leaves
+pub records_none : (cfg : Config) (s : State) (bytes : List ℕ) → next_record cfg s [] [] bytes ≡ None → records_from cfg (length bytes + 1) s bytes ≡ []
+unfolding records_from
+records_none cfg s bytes e =
+    let same : length bytes + 1 ≡ suc (length bytes) = omega arith in
+    ap (λ k. records_from cfg k s bytes) same ∙ ap (records_next (records_from cfg (length bytes))) e
+
+pub records_some : (cfg : Config) (s : State) (bytes : List ℕ) (read : Read) → ends_at_end s ≡ false → next_record cfg s [] [] bytes ≡ Some read
+    → records_from cfg (length bytes + 1) s bytes ≡ read.0 ∷ records_from cfg (length read.2 + 1) read.1 read.2
+unfolding records_from
+records_some cfg s bytes read begins e =
+    let same : length bytes + 1 ≡ suc (length bytes) = omega arith in
+    let fewer = fewer_left cfg s bytes read begins e in
+    let whole : length bytes ≡ length bytes - (length read.2 + 1) + (length read.2 + 1) = omega (arith, fewer) in
+    ap (λ k. records_from cfg k s bytes) same ∙ ap (records_next (records_from cfg (length bytes))) e
+    ∙ ap (λ k. read.0 ∷ records_from cfg k read.1 read.2) whole
+    ∙ ap (λ rows. read.0 ∷ rows) (enough cfg (length bytes - (length read.2 + 1)) (length read.2 + 1) read.1 read.2 (leaves cfg s [] [] bytes read e).begins (omega arith))
+
+-- there are no more records than bytes
+pub few_records : (cfg : Config) (n : ℕ) (s : State) (bytes : List ℕ) → ends_at_end s ≡ false → length (records_from cfg n s bytes) ≤ length bytes
+unfolding records_from
+few_records cfg zero s bytes begins = omega arith
+few_records cfg (suc n) s bytes begins = at (next_record cfg s [] [] bytes) refl (few_records cfg n)
+  where
+    at : (o : Option Read) → next_record cfg s [] [] bytes ≡ o → ((t : State) (more : List ℕ) → ends_at_end t ≡ false → length (records_from cfg n t more) ≤ length more)
+        → length (records_next (records_from cfg n) o) ≤ length bytes
+    at None e later = omega arith
+    at (Some read) e later =
+        let few = later read.1 read.2 (leaves cfg s [] [] bytes read e).begins in
+        let fewer = fewer_left cfg s bytes read begins e in
+        omega (arith, few, fewer)
+
+-- ---- a reader of records
+
+-- the bytes and the records that a reader of bytes in memory has left
+abbrev Memory : Type 0
+Memory = Reader (Bor (List ℕ))
+
+abbrev known : Memory → Option (List ℕ)
+known r = source_of (λ s. Some s.now) r
+
+abbrev left : Memory → List ℕ
+left r = unwrap_or (known r) []
+
+abbrev rows : Memory → List (List (List ℕ))
+rows r = records_from r.config (length (left r) + 1) r.state (left r)
+
+-- what a reader of records has and keeps
+pub record Goes (a b : Reader (Bor (List ℕ))) (row : List (List ℕ)) : Type 0 where
+  pub begins : ends_at_end b.state ≡ false
+  pub known : source_of (λ s. Some s.now) b ≡ Some (unwrap_or (source_of (λ s. Some s.now) b) [])
+  pub rows : records_from a.config (length (unwrap_or (source_of (λ s. Some s.now) a) []) + 1) a.state (unwrap_or (source_of (λ s. Some s.now) a) [])
+      ≡ row ∷ records_from b.config (length (unwrap_or (source_of (λ s. Some s.now) b) []) + 1) b.state (unwrap_or (source_of (λ s. Some s.now) b) [])
+
+pub read_next : (a b : Reader (Bor (List ℕ))) (row : List (List ℕ)) → ends_at_end a.state ≡ false → known a ≡ Some (left a) → ReadRecord (λ s. Some s.now) a b true row → Goes a b row
+unfolding Reached
+read_next a b row begins e r =
+    let h = rows-more (λ (s : Bor (List ℕ)). Some s.now) a b row a.config a.state (left a) (left a) [] refl e (refl, refl) r in
+    let (z, at_z, reached) = h in
+    let (read, next, same, ends) = reached in
+    let (state, rest) = ends in
+    let fewer = leaves a.config a.state [] [] (left a) read next in
+    let left_z : left b ≡ z = ap (λ o. unwrap_or o []) at_z in
+    let goes_on : records_from a.config (length read.2 + 1) read.1 read.2 ≡ rows b =
+    ap (λ bytes. records_from a.config (length bytes + 1) read.1 bytes) (rest ∙ sym left_z) ∙ ap (λ s. records_from a.config (length (left b) + 1) s (left b)) state
+    ∙ ap (λ cfg. records_from cfg (length (left b) + 1) b.state (left b)) (sym r.2) in
+    record {
+      begins = ap ends_at_end (sym state) ∙ fewer.begins;
+      known = at_z ∙ ap Some (sym left_z);
+      rows = records_some a.config a.state (left a) read begins next ∙ ap (λ row. row ∷ records_from a.config (length read.2 + 1) read.1 read.2) (sym same) ∙ ap (λ later. row ∷ later) goes_on;
+    }
+
+pub read_last : (a b : Reader (Bor (List ℕ))) (row : List (List ℕ)) → known a ≡ Some (left a) → ReadRecord (λ s. Some s.now) a b false row → rows a ≡ []
+read_last a b row e r = records_none a.config a.state (left a) (rows-end (λ (s : Bor (List ℕ)). Some s.now) a b row a.config (left a) refl e r)
+
+-- a text is no longer without its mark
+stripped_mark : (a b c : ℕ) (bytes : List ℕ) (is : Bool) → length (cond is bytes (a ∷ b ∷ c ∷ bytes)) ≤ length (a ∷ b ∷ c ∷ bytes)
+stripped_mark a b c bytes true = omega arith
+stripped_mark a b c bytes false = omega arith
+
+pub stripped : (bytes : List ℕ) → length (strip_bom bytes) ≤ length bytes
+unfolding strip_bom
+stripped [] = omega arith
+stripped (a ∷ []) = omega arith
+stripped (a ∷ b ∷ []) = omega arith
+stripped (a ∷ b ∷ c ∷ bytes) = stripped_mark a b c bytes (is_bom a b c)
+
+pub known_bytes : (o : Option (List ℕ)) (bytes : List ℕ) → o ≡ Some bytes → o ≡ Some (unwrap_or o [])
+known_bytes o bytes e = e ∙ ap (λ p. Some (unwrap_or p [])) (sym e)
+
+-- a reader of bytes in memory has no more records left than bytes
+pub few_left : (r : Reader (Bor (List ℕ))) (bytes : List ℕ) → ends_at_end r.state ≡ false → source_of (λ s. Some s.now) r ≡ Some bytes
+    → length (records_from r.config (length (unwrap_or (source_of (λ s. Some s.now) r) []) + 1) r.state (unwrap_or (source_of (λ s. Some s.now) r) [])) ≤ length bytes
+few_left r bytes begins e =
+    let few = few_records r.config (length (left r) + 1) r.state (left r) begins in
+    let same : length (left r) ≡ length bytes = ap (λ o. length (unwrap_or o [])) e in
+    omega (arith, few, same)

@@ -1,0 +1,110 @@
+-- The fields of a record, one after another.
+use Rattle.std.proofs.Common.{◌≡◌, ℕ, zero, suc, ◌+◌, ◌≤◌, ◌<◌, Bool, true, false, cond, not, ◌&&◌, List, [], ◌∷◌, ◌++◌, length, map, filter, drop, get_or, Option, Some, None, fold, eqb, Bor, refl, sym, ap, ◌∙◌, append_assoc, arith}
+use Rattle.std.specs.Option.{MatchOption, is_some}
+use Rattle.std.specs.Str.{is_utf8, chars}
+use Rattle.std.proofs.lemmas.Bool.{ne_eqb}
+use Rattle.std.proofs.lemmas.List.{drop_all, at_drop_more}
+use Rattle.csv.specs.Records.{field_at}
+use Rattle.basket_read.specs.Fimi.{is_nil}
+use Rattle.basket_csv.specs.Field.{trimmed}
+use Rattle.basket_csv.specs.Names.{with_name, number_in}
+use Rattle.basket_csv.proofs.NamesLemmas.{among, among_with, number_in_all}
+use Rattle.basket_csv.specs.Csv.{field_in, is_text, names_of}
+
+-- ---- the field at a place
+
+pub field_found : (fields : List (List ℕ)) (place : ℕ) (field : List ℕ) → Some field ≡ field_at fields place → field_in fields place ≡ field
+unfolding field_at
+field_found [] place field e = absurd cc
+field_found (first ∷ fields) zero field e = cc
+field_found (first ∷ fields) (suc place) field e = field_found fields place field e
+
+pub field_missing : (fields : List (List ℕ)) (place : ℕ) → None ≡ field_at fields place → field_in fields place ≡ []
+unfolding field_at
+field_missing [] place e = refl
+field_missing (first ∷ fields) zero e = absurd cc
+field_missing (first ∷ fields) (suc place) e = field_missing fields place e
+
+-- nothing is UTF-8
+pub nothing_is_text : is_utf8 [] ≡ true
+unfolding is_utf8 chars
+nothing_is_text = refl
+
+pub text_found : (text : Option (Bor (List ℕ))) (fields : List (List ℕ)) (place : ℕ) → MatchOption text (is_utf8 (field_in fields place) ≡ false) (λ t. (t.now ≡ field_in fields place) × (is_utf8 (field_in fields place) ≡ true))
+    → is_some text ≡ true → is_utf8 (field_in fields place) ≡ true
+text_found None fields place h e = absurd cc
+text_found (Some text) fields place h e = h.1
+
+pub text_missing : (text : Option (Bor (List ℕ))) (fields : List (List ℕ)) (place : ℕ) → MatchOption text (is_utf8 (field_in fields place) ≡ false) (λ t. (t.now ≡ field_in fields place) × (is_utf8 (field_in fields place) ≡ true))
+    → is_some text ≡ false → is_utf8 (field_in fields place) ≡ false
+text_missing None fields place h e = h
+text_missing (Some text) fields place h e = absurd cc
+
+-- ---- the fields from a place on
+
+pub text_goes_on : (fields : List (List ℕ)) (place : ℕ) → place < length fields → is_text (drop place fields) ≡ (is_utf8 (get_or fields place []) && is_text (drop (place + 1) fields))
+text_goes_on fields place below = at_drop_more is_text fields place [] below
+
+pub text_ends : (fields : List (List ℕ)) (place : ℕ) → length fields ≤ place → is_text (drop place fields) ≡ true
+text_ends fields place all = ap is_text (drop_all place fields all)
+
+name_first : (name : List ℕ) (names : List (List ℕ)) (nil : Bool) → is_nil name ≡ nil → filter (λ n. not (is_nil n)) (name ∷ names) ≡ cond nil (filter (λ n. not (is_nil n)) names) (name ∷ filter (λ n. not (is_nil n)) names)
+name_first name names true e = rw e refl
+name_first name names false e = rw e refl
+
+pub names_go_on : (fields : List (List ℕ)) (place : ℕ) → place < length fields → is_nil (trimmed (get_or fields place [])) ≡ false
+    → names_of (drop place fields) ≡ trimmed (get_or fields place []) ∷ names_of (drop (place + 1) fields)
+names_go_on fields place below e =
+    at_drop_more names_of fields place [] below ∙ name_first (trimmed (get_or fields place [])) (map trimmed (drop (place + 1) fields)) false e
+
+pub names_pass_over : (fields : List (List ℕ)) (place : ℕ) → place < length fields → is_nil (trimmed (get_or fields place [])) ≡ true
+    → names_of (drop place fields) ≡ names_of (drop (place + 1) fields)
+names_pass_over fields place below e =
+    at_drop_more names_of fields place [] below ∙ name_first (trimmed (get_or fields place [])) (map trimmed (drop (place + 1) fields)) true e
+
+pub nil_test : (name : List ℕ) (b : Bool) → b ≡ eqb (length name) 0 → is_nil name ≡ b
+nil_test [] b e = sym e
+nil_test (byte ∷ name) b e = sym (e ∙ ne_eqb (suc (length name)) 0 (λ z. absurd (omega arith)))
+
+-- ---- the names of a record, numbered one after another
+
+-- the names from `first` on are numbered up to a place: these are the names then, and the numbers
+pub record NumbersUpTo (fields : List (List ℕ)) (first place : ℕ) (before now : List (List ℕ)) (so_far : List ℕ) : Type 0 where
+  pub text : is_text (drop first fields) ≡ is_text (drop place fields)
+  pub names : fold with_name before (names_of (drop first fields)) ≡ fold with_name now (names_of (drop place fields))
+  pub numbers : map (number_in (fold with_name before (names_of (drop first fields)))) (names_of (drop first fields))
+      ≡ so_far ++ map (number_in (fold with_name before (names_of (drop first fields)))) (names_of (drop place fields))
+
+module _ (fields : List (List ℕ)) (first place : ℕ) (before names : List (List ℕ)) (numbers : List ℕ) (below : place < length fields)
+    (utf8 : is_utf8 (get_or fields place []) ≡ true) (h : NumbersUpTo fields first place before names numbers) where
+  abbrev all : List (List ℕ)
+  all = fold with_name before (names_of (drop first fields))
+
+  more_text : is_text (drop first fields) ≡ is_text (drop (place + 1) fields)
+  more_text = h.text ∙ text_goes_on fields place below ∙ ap (λ b. b && is_text (drop (place + 1) fields)) utf8
+
+  pub no_name : is_nil (trimmed (get_or fields place [])) ≡ true → NumbersUpTo fields first (place + 1) before names numbers
+  no_name nil =
+      let same = names_pass_over fields place below nil in
+      record {
+        text = more_text;
+        names = h.names ∙ ap (fold with_name names) same;
+        numbers = h.numbers ∙ ap (λ ns. numbers ++ map (number_in all) ns) same;
+      }
+
+  pub one_name : (new : List (List ℕ)) (number : ℕ) → is_nil (trimmed (get_or fields place [])) ≡ false
+      → new ≡ with_name names (trimmed (get_or fields place [])) → number ≡ number_in new (trimmed (get_or fields place []))
+      → NumbersUpTo fields first (place + 1) before new (numbers ++ number ∷ [])
+  one_name new number some e n =
+      let name = trimmed (get_or fields place []) in
+      let rest = names_of (drop (place + 1) fields) in
+      let same = names_go_on fields place below some in
+      let later : all ≡ fold with_name new rest = h.names ∙ ap (fold with_name names) same ∙ ap (λ ns. fold with_name ns rest) (sym e) in
+      let is_among = ap (λ ns. among ns name) e ∙ among_with names name in
+      let stays : number_in all name ≡ number = ap (λ ns. number_in ns name) later ∙ number_in_all new rest name is_among ∙ sym n in
+      record {
+        text = more_text;
+        names = later;
+        numbers = h.numbers ∙ ap (λ ns. numbers ++ map (number_in all) ns) same ∙ ap (λ k. numbers ++ k ∷ map (number_in all) rest) stays
+            ∙ sym (append_assoc numbers (number ∷ []) (map (number_in all) rest));
+      }

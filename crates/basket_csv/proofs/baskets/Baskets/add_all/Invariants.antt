@@ -1,0 +1,15 @@
+use Rattle.std.proofs.Common.{◌≡◌, ◌+◌, ◌++◌, ℕ, List, length}
+use Rattle.basket_csv.specs.Csv.{basket_fault, fault_from}
+use Rattle.basket_csv.specs.Records.{records_left, records_taken, IsReading}
+use Rattle.basket_csv.specs.Baskets.{HasRead}
+use Rattle.basket_csv.proofs.baskets.Baskets.add_all.Given as goal
+
+abbrev pub invariant-rows : goal.invariant-rows
+invariant-rows g l = record {
+  reading : IsReading l.records;
+  faults : fault_from (basket_fault l.weighted) (records_taken l.fn.records + 1) (records_left l.fn.records) ≡ fault_from (basket_fault l.weighted) (records_taken l.records + 1) (records_left l.records);
+  read : (rows : List (List (List ℕ))) → HasRead l.fn.self l.weighted rows → (done : List (List (List ℕ))) × HasRead l.self l.weighted done × (rows ++ records_left l.fn.records ≡ done ++ records_left l.records);
+}
+
+abbrev pub decreases-rows : goal.decreases-rows
+decreases-rows g l = length (records_left l.records)

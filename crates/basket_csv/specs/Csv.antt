@@ -1,0 +1,142 @@
+-- What the records of a CSV text say: baskets of names, or their first fault. A record is a list of fields, and a field a
+-- list of bytes.
+use Rattle.std.specs.Prelude.{ℕ, ◌+◌, Bool, ◌&&◌, not, nat_le, nat_lt, if◌then◌else◌, List, [], ◌∷◌, ◌++◌, length, map, filter, fold, drop, slice_index_or, Option, Some, None, Result, Ok, Err, unwrap_or}
+use Rattle.std.specs.List.{list_all, flat_map}
+use Rattle.std.specs.Str.{is_utf8, bytes_eq}
+use Rattle.basket_sets.specs.declared.weighted.Weighted.{Weighted}
+use Rattle.basket_sets.specs.Minimum.{is_digit, value_of}
+use Rattle.basket_read.specs.declared.fault.ReadFault.{ReadFault}
+use Rattle.basket_read.specs.declared.fault.ReadFault.TheVariants.{TooLong, NotText, ShortRecord, Weight}
+use Rattle.basket_read.specs.Fimi.{is_nil, or_else, basket_of_numbers, if_light, MOST_NUMBER, MOST_BYTES}
+use Rattle.basket_csv.specs.Field.{trimmed}
+use Rattle.basket_csv.specs.Names.{in_order, number_in}
+use Rattle.basket_csv.specs.Records.{records_of}
+
+-- ---- records
+
+-- the field at a place, empty where the record has none
+abbrev pub field_in : List (List ℕ) → ℕ → List ℕ
+field_in row place = slice_index_or row place []
+
+-- whether each field is UTF-8
+abbrev pub is_text : List (List ℕ) → Bool
+is_text row = list_all is_utf8 row
+
+-- the records behind the header, where there is one
+abbrev pub behind_header : Bool → List (List (List ℕ)) → List (List (List ℕ))
+behind_header header rows = if header then drop 1 rows else rows
+
+-- the number of the first of these; the header is number 1
+abbrev pub first_number : Bool → ℕ
+first_number header = if header then 2 else 1
+
+-- the fault of the first record that has one, where the first has this number
+abbrev pub fault_from : (ℕ → List (List ℕ) → Option ReadFault) → ℕ → List (List (List ℕ)) → Option ReadFault
+fault_from fault nth [] = None
+fault_from fault nth (row ∷ rows) = or_else (fault nth row) (fault_from fault (nth + 1) rows)
+
+-- ---- a basket in each record
+
+-- the names among some fields: these trimmed, without the empty ones
+abbrev pub names_of : List (List ℕ) → List (List ℕ)
+names_of fields = filter (λ name. not (is_nil name)) (map trimmed fields)
+
+-- how many fields of a record stand before its names: that of the weight, where one is asked for
+abbrev pub fields_before : Bool → ℕ
+fields_before weighted = if weighted then 1 else 0
+
+-- the names in a record
+abbrev pub names_in : Bool → List (List ℕ) → List (List ℕ)
+names_in weighted row = names_of (drop (fields_before weighted) row)
+
+-- the weight that a text writes: digits of a value from 1 to the greatest weight
+abbrev pub weight_written : List ℕ → Option ℕ
+weight_written text = if list_all is_digit text && (nat_le 1 (value_of text) && nat_le (value_of text) MOST_NUMBER) then Some (value_of text) else None
+
+-- the weight of a record: that in its first field, where one is asked for, else 1
+abbrev pub weight_of : Bool → List (List ℕ) → Option ℕ
+weight_of weighted row = if weighted then weight_written (trimmed (field_in row 0)) else Some 1
+
+abbrev pub weight_fault : ℕ → Option ℕ → Option ReadFault
+weight_fault nth None = Some (Weight nth)
+weight_fault nth (Some weight) = None
+
+-- the fault of a record
+abbrev pub basket_fault : Bool → ℕ → List (List ℕ) → Option ReadFault
+basket_fault weighted nth row = if is_text row then weight_fault nth (weight_of weighted row) else Some (NotText nth)
+
+-- all names, one record after another
+abbrev pub all_names : Bool → List (List (List ℕ)) → List (List ℕ)
+all_names weighted rows = flat_map (names_in weighted) rows
+
+-- a record's basket over these names, if it has a name
+abbrev pub basket_of : Bool → List (List ℕ) → List (List ℕ) → List Weighted
+basket_of weighted names row = basket_of_numbers (map (number_in names) (names_in weighted row)) (unwrap_or (weight_of weighted row) 1)
+
+-- the baskets of all records, over the names in the order of their first appearance
+abbrev pub baskets_in : Bool → List (List (List ℕ)) → List Weighted
+baskets_in weighted rows = flat_map (basket_of weighted (in_order (all_names weighted rows))) rows
+
+-- ---- what is read
+
+-- baskets with the names of their items
+abbrev pub Named : Type 0
+Named = List Weighted × List (List ℕ)
+
+-- baskets with names, if the baskets don't weigh too much
+abbrev pub with_names : Result (List Weighted) ReadFault → List (List ℕ) → Result Named ReadFault
+with_names (Ok baskets) names = Ok (baskets, names)
+with_names (Err fault) names = Err fault
+
+-- the baskets with their names, unless there is a fault
+abbrev pub if_faultless : Option ReadFault → List Weighted → List (List ℕ) → Result Named ReadFault
+if_faultless (Some fault) baskets names = Err fault
+if_faultless None baskets names = with_names (if_light baskets) names
+
+-- what records say that have a basket each
+abbrev pub say_baskets : Bool → ℕ → List (List (List ℕ)) → Result Named ReadFault
+say_baskets weighted nth rows = if_faultless (fault_from (basket_fault weighted) nth rows) (baskets_in weighted rows) (in_order (all_names weighted rows))
+
+-- what the bytes say, read with a separator, with or without a header and weights
+abbrev pub baskets_of_csv : ℕ → Bool → Bool → List ℕ → Result Named ReadFault
+baskets_of_csv separator header weighted bytes =
+    if nat_lt MOST_BYTES (length bytes) then Err TooLong else say_baskets weighted (first_number header) (behind_header header (records_of separator bytes))
+
+-- ---- a basket's id and a name in each record
+
+-- the fault of a record
+abbrev pub pair_fault : ℕ → List (List ℕ) → Option ReadFault
+pair_fault nth row = if is_text row then (if nat_lt (length row) 2 then Some (ShortRecord nth) else None) else Some (NotText nth)
+
+-- the id and the name in a record: its first two fields, trimmed
+abbrev pub pair_of : List (List ℕ) → List ℕ × List ℕ
+pair_of row = (trimmed (field_in row 0), trimmed (field_in row 1))
+
+-- the pairs of the records that have a name
+abbrev pub pairs_of : List (List (List ℕ)) → List (List ℕ × List ℕ)
+pairs_of rows = filter (λ pair. not (is_nil pair.1)) (map pair_of rows)
+
+-- some ids, each with its names, and one pair more: the name joins those of its id, which stands last where it is new
+abbrev pub with_pair : List (List ℕ × List (List ℕ)) → List ℕ × List ℕ → List (List ℕ × List (List ℕ))
+with_pair [] pair = (pair.0, pair.1 ∷ []) ∷ []
+with_pair (group ∷ groups) pair = if bytes_eq pair.0 group.0 then (group.0, group.1 ++ pair.1 ∷ []) ∷ groups else group ∷ with_pair groups pair
+
+-- the ids by first appearance, each with its names
+abbrev pub gather : List (List ℕ × List ℕ) → List (List ℕ × List (List ℕ))
+gather pairs = fold with_pair [] pairs
+
+-- the names of pairs in the order of their first appearance
+abbrev pub names_of_pairs : List (List ℕ × List ℕ) → List (List ℕ)
+names_of_pairs pairs = in_order (map (λ pair. pair.1) pairs)
+
+-- a basket for each id
+abbrev pub baskets_of_pairs : List (List ℕ × List ℕ) → List Weighted
+baskets_of_pairs pairs = flat_map (λ group. basket_of_numbers (map (number_in (names_of_pairs pairs)) group.1) 1) (gather pairs)
+
+-- what records say that have an id and a name each
+abbrev pub say_pairs : ℕ → List (List (List ℕ)) → Result Named ReadFault
+say_pairs nth rows = if_faultless (fault_from pair_fault nth rows) (baskets_of_pairs (pairs_of rows)) (names_of_pairs (pairs_of rows))
+
+abbrev pub pairs_of_csv : ℕ → Bool → List ℕ → Result Named ReadFault
+pairs_of_csv separator header bytes =
+    if nat_lt MOST_BYTES (length bytes) then Err TooLong else say_pairs (first_number header) (behind_header header (records_of separator bytes))

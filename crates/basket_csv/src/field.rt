@@ -1,0 +1,60 @@
+//! The fields of a record.
+ghost use Rattle.std.specs.Prelude.{◌≡◌, ◌≤◌, ◌<◌, ◌-◌, length, slice_index, MatchOption, true, false};
+ghost use Rattle.std.specs.Str.{is_utf8};
+ghost use Rattle.std.specs.List.{prefix_len, suffix_len};
+ghost use Rattle.basket_csv.specs.Field.{is_space, trimmed};
+
+use std::str;
+
+#[inline(always)]
+fn is_space(byte: u8) -> bool
+    ensures { result ≡ is_space byte }
+{
+    matches!(byte, b' ' | b'\t')
+}
+
+/// How many spaces and tabs stand at the front.
+#[inline]
+fn front_spaces(bytes: &[u8]) -> usize
+    ensures value { result ≡ prefix_len is_space bytes.now }
+    ensures within { result ≤ length bytes.now }
+    ensures space { 0 < result → is_space (slice_index bytes.now (result - 1)) ≡ true }
+{
+    for (place, byte) in bytes.iter().enumerate() {
+        if !is_space(*byte) {
+            return place;
+        }
+    }
+    bytes.len()
+}
+
+/// Where the spaces and tabs at the end begin.
+#[inline]
+fn end_spaces(bytes: &[u8]) -> usize
+    ensures value { result ≡ length bytes.now - suffix_len is_space bytes.now }
+    ensures within { result ≤ length bytes.now }
+    ensures space { result < length bytes.now → is_space (slice_index bytes.now result) ≡ true }
+{
+    let mut end = bytes.len();
+    while end > 0 && is_space(bytes[end - 1]) {
+        end -= 1;
+    }
+    end
+}
+
+/// A text without the spaces and tabs at its two ends.
+#[inline]
+pub fn trim(text: &str) -> &str
+    ensures { result.now ≡ trimmed text.now }
+{
+    let rest = &text[front_spaces(text.as_bytes())..];
+    &rest[..end_spaces(rest.as_bytes())]
+}
+
+/// The text of a field, if it is UTF-8.
+#[inline]
+pub fn text_of(field: &[u8]) -> Option<&str>
+    ensures { MatchOption result (is_utf8 field.now ≡ false) (λ text. (text.now ≡ field.now) × (is_utf8 field.now ≡ true)) }
+{
+    str::from_utf8(field).ok()
+}

@@ -1,0 +1,20 @@
+//! Readers of baskets of names from CSV, which answer exactly the baskets of an input, or its first fault.
+#![tactic(auto)]
+
+mod baskets;
+mod field;
+mod gathered;
+mod input;
+mod names;
+mod pairs;
+mod read;
+mod records;
+mod row;
+mod weight;
+pub mod worked;
+
+pub use names::Names;
+pub use read::{read_baskets, read_single};
+
+#[cfg(test)]
+mod tests;

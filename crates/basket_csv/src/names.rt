@@ -1,0 +1,114 @@
+//! Names, and their numbers by first appearance.
+ghost use Rattle.std.specs.Prelude.{◌≡◌, ◌↔◌, [], length, slice_get, option_map, IsTrue, IfOk, IfErr, OnOk};
+ghost use Rattle.basket_csv.specs.Names.{number_in, with_name};
+
+use basket_read::ReadFault;
+use indexmap::IndexSet;
+use std::alloc::{AllocError, Global};
+use std::hash::BuildHasher;
+use std::marker::Model;
+
+/// The names of items. An item's number is the place of its name, from 0.
+#[derive(Debug, Drop)]
+pub struct Names {
+    names: Vec<String>,
+}
+
+impl Model for Names {
+    ghost use Rattle.std.specs.Prelude.{ℕ, List, map};
+    ghost use Rattle.std.specs.String.{string_bytes};
+
+    ghost Value = { List (List ℕ) };
+
+    ghost view = { λ n. map string_bytes n.names.items };
+}
+
+impl Names {
+    /// The name of an item.
+    pub fn get(&self, number: u32) -> Option<&str>
+        ensures { option_map (λ name. name.now) result ≡ slice_get self.now number }
+    {
+        let name = self.names.get(number as usize)?;
+        Some(name.as_str())
+    }
+
+    /// The number of names.
+    pub fn len(&self) -> usize
+        ensures { result ≡ length self.now }
+    {
+        self.names.len()
+    }
+
+    pub fn is_empty(&self) -> bool
+        ensures { IsTrue result ↔ (self.now ≡ []) }
+    {
+        self.names.is_empty()
+    }
+}
+
+/// The names so far, by which new ones are numbered.
+#[derive(Drop)]
+pub struct Numbering<S: BuildHasher> {
+    alloc: Global,
+    names: IndexSet<String, S>,
+}
+
+impl<S: BuildHasher> Model for Numbering<S> {
+    ghost use Rattle.std.specs.Prelude.{ℕ, List, map};
+    ghost use Rattle.std.specs.String.{string_bytes};
+
+    ghost Value = { List (List ℕ) };
+
+    ghost view = { λ n. map string_bytes n.names.keys };
+}
+
+impl<S: BuildHasher> Numbering<S> {
+    pub fn new(alloc: Global, hasher: S) -> Self
+        ensures { result ≡ [] }
+    {
+        Numbering {
+            alloc,
+            names: IndexSet::with_hasher(alloc, hasher),
+        }
+    }
+
+    /// The number of a name, which is new or known. A known name costs a look-up and no allocation.
+    #[inline]
+    pub fn number(&mut self, name: &str) -> Result<u32, ReadFault>
+        ensures names { OnOk result (self.new ≡ with_name self.old name.now) }
+        ensures number { IfOk result (λ number. number ≡ number_in self.new name.now) }
+        ensures err { IfErr result (λ fault. fault ≡ ReadFault.Memory) }
+    {
+        let place = self.place(name)?;
+        match u32::try_from(place) {
+            Ok(number) => Ok(number),
+            // An input is too short for so many names.
+            Err(_) => Err(ReadFault::Memory),
+        }
+    }
+
+    #[inline]
+    fn place(&mut self, name: &str) -> Result<usize, ReadFault>
+        ensures names { OnOk result (self.new ≡ with_name self.old name.now) }
+        ensures number { IfOk result (λ place. place ≡ number_in self.new name.now) }
+        ensures err { IfErr result (λ fault. fault ≡ ReadFault.Memory) }
+    {
+        if let Some(place) = self.names.get_index_of(name) {
+            return Ok(place);
+        }
+        let (place, _) = self.names.insert_full(String::from_str(self.alloc, name)?)?;
+        Ok(place)
+    }
+}
+
+impl<S: BuildHasher + Drop> Numbering<S> {
+    /// The names by their numbers.
+    pub fn into_names(self) -> Result<Names, AllocError>
+        ensures { IfOk result (λ names. names ≡ self) }
+    {
+        let Numbering { alloc, names } = self;
+        Ok(Names {
+            names: names.into_iter().collect(alloc)?,
+        })
+    }
+}

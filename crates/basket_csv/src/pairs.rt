@@ -1,0 +1,162 @@
+//! Records that have a basket's id and a name each.
+ghost use Rattle.std.specs.Prelude.{◌≡◌, ◌≤◌, ◌+◌, List, ℕ, [], ◌∷◌, ◌++◌, length, map, None, Some, MatchResult, OnOk, IfOk, IfErr};
+ghost use Rattle.std.specs.List.{flat_map};
+ghost use Rattle.csv.specs.Records.{fields_of};
+ghost use Rattle.basket_read.specs.Fimi.{basket_of_numbers, if_light, MOST_BYTES};
+ghost use Rattle.basket_read.specs.Text.{Tells};
+ghost use Rattle.basket_csv.specs.Csv.{pair_fault, pairs_of, fault_from, baskets_of_pairs, names_of_pairs, with_names, say_pairs, behind_header, first_number};
+ghost use Rattle.basket_csv.specs.Gathered.{HasGathered};
+ghost use Rattle.basket_csv.specs.Read.{Answers};
+ghost use Rattle.basket_csv.specs.Records.{records_of, records_left, records_taken, IsReading};
+ghost use Rattle.basket_csv.specs.Pairs.{HasPairs, added_at};
+
+use crate::field::trim;
+use crate::gathered::Gathered;
+use crate::names::{Names, Numbering};
+use crate::records::Records;
+use crate::row::{is_text_from, text_at};
+use basket_read::ReadFault;
+use basket_sets::Database;
+use csv::ByteRecord;
+use std::alloc::{AllocError, Global};
+use std::hash::BuildHasher;
+
+/// Adds a number to the group at a place, or to a new one behind all.
+fn add_number(
+    alloc: Global,
+    groups: &mut Vec<Vec<u32>>,
+    place: usize,
+    number: u32,
+) -> Result<(), AllocError>
+    ensures { OnOk result (map (λ group. group.items) groups.new.items ≡ added_at (map (λ group. group.items) groups.old.items) place number) }
+{
+    if let Some(group) = groups.get_mut(place) {
+        group.push(number)?;
+        return Ok(());
+    }
+    let mut group = Vec::new(alloc);
+    group.push(number)?;
+    groups.push(group)?;
+    Ok(())
+}
+
+/// The baskets of groups of numbers, each of weight 1.
+fn gathered_from(alloc: Global, groups: &[Vec<u32>]) -> Result<Gathered, ReadFault>
+    ensures baskets { IfOk result (λ gathered. HasGathered gathered (flat_map (λ group. basket_of_numbers group.items 1) groups.now)) }
+    ensures err { IfErr result (λ fault. fault ≡ ReadFault.Memory) }
+{
+    let mut gathered = Gathered::new(alloc);
+    for group in groups {
+        gathered.add(group, 1)?;
+    }
+    Ok(gathered)
+}
+
+/// What has been read of such records: the numbers of the names of each id.
+#[derive(Drop)]
+pub struct Pairs<S: BuildHasher> {
+    alloc: Global,
+    names: Numbering<S>,
+    ids: Numbering<S>,
+    groups: Vec<Vec<u32>>,
+}
+
+impl<S: BuildHasher + Copy> Pairs<S> {
+    pub fn new(alloc: Global, hasher: S) -> Self
+        ensures { HasPairs result [] }
+    {
+        Pairs {
+            alloc,
+            names: Numbering::new(alloc, hasher),
+            ids: Numbering::new(alloc, hasher),
+            groups: Vec::new(alloc),
+        }
+    }
+}
+
+impl<S: BuildHasher> Pairs<S> {
+    /// Adds a name to the basket with an id.
+    fn add_pair(&mut self, id: &str, name: &str) -> Result<(), ReadFault>
+        ensures read { (pairs : List (List ℕ × List ℕ)) → HasPairs self.old pairs → OnOk result (HasPairs self.new (pairs ++ (id.now, name.now) ∷ [])) }
+        ensures err { IfErr result (λ fault. fault ≡ ReadFault.Memory) }
+    {
+        let number = self.names.number(name)?;
+        let place = self.ids.number(id)?;
+        add_number(self.alloc, &mut self.groups, place as usize, number)?;
+        Ok(())
+    }
+
+    /// Adds the pair of a record, if it has a name.
+    fn add(&mut self, nth: u32, row: &ByteRecord) -> Result<(), ReadFault>
+        ensures fault { MatchResult result (λ _. pair_fault nth (fields_of row.now) ≡ None) (λ fault. Tells fault (pair_fault nth (fields_of row.now))) }
+        ensures read { (rows : List (List (List ℕ))) → HasPairs self.old (pairs_of rows) → OnOk result (HasPairs self.new (pairs_of (rows ++ fields_of row.now ∷ []))) }
+    {
+        let Some(id) = text_at(row, 0) else {
+            return Err(ReadFault::NotText { nth });
+        };
+        let Some(name) = text_at(row, 1) else {
+            return Err(ReadFault::NotText { nth });
+        };
+        if !is_text_from(row, 2) {
+            return Err(ReadFault::NotText { nth });
+        }
+        if row.len() < 2 {
+            return Err(ReadFault::ShortRecord { nth });
+        }
+        let name = trim(name);
+        if name.is_empty() {
+            return Ok(());
+        }
+        self.add_pair(trim(id), name)
+    }
+
+    /// Adds the pairs of the records that are left, up to the first with a fault.
+    pub fn add_all(&mut self, records: &mut Records<'_>) -> Result<(), ReadFault>
+        requires { IsReading records.old }
+        ensures fault { let found = fault_from pair_fault (records_taken records.old + 1) (records_left records.old) in
+            MatchResult result (λ _. found ≡ None) (λ fault. Tells fault found) }
+        ensures read { (rows : List (List (List ℕ))) → HasPairs self.old (pairs_of rows) → OnOk result (HasPairs self.new (pairs_of (rows ++ records_left records.old))) }
+    {
+        'rows: while records.advance()? {
+            self.add(records.taken(), records.row())?;
+        }
+        Ok(())
+    }
+}
+
+impl<S: BuildHasher + Drop> Pairs<S> {
+    /// A basket for each id, with the names of all.
+    pub fn finish(self) -> Result<(Database, Names), ReadFault>
+        ensures { (pairs : List (List ℕ × List ℕ)) → HasPairs self pairs →
+            Answers result (with_names (if_light (baskets_of_pairs pairs)) (names_of_pairs pairs)) }
+    {
+        let Pairs {
+            alloc,
+            names,
+            groups,
+            ..
+        } = self;
+        let baskets = gathered_from(alloc, &groups)?.finish()?;
+        Ok((baskets, names.into_names()?))
+    }
+}
+
+/// What the bytes say, where each record is a pair of a basket's id and a name.
+pub fn say_pairs<S: BuildHasher + Copy + Drop>(
+    alloc: Global,
+    bytes: &[u8],
+    separator: u8,
+    header: bool,
+    hasher: S,
+) -> Result<(Database, Names), ReadFault>
+    requires { length bytes.now ≤ MOST_BYTES }
+    ensures { Answers result (say_pairs (first_number header) (behind_header header (records_of separator bytes.now))) }
+{
+    let mut pairs = Pairs::new(alloc, hasher);
+    let mut records = Records::new(alloc, bytes, separator);
+    if !records.pass_header(header)? {
+        return pairs.finish();
+    }
+    pairs.add_all(&mut records)?;
+    pairs.finish()
+}

@@ -1,0 +1,61 @@
+//! The texts and the names in a record.
+ghost use Rattle.std.specs.Prelude.{◌≡◌, ◌≤◌, drop, map, fold, MatchOption, IfOk, IfErr, true, false, ℕ};
+ghost use Rattle.std.specs.Str.{is_utf8};
+ghost use Rattle.csv.specs.Records.{fields_of};
+ghost use Rattle.basket_csv.specs.Csv.{field_in, is_text, names_of};
+ghost use Rattle.basket_csv.specs.Names.{number_in, with_name};
+
+use crate::field::{text_of, trim};
+use crate::names::Numbering;
+use basket_read::ReadFault;
+use csv::ByteRecord;
+use std::hash::BuildHasher;
+
+/// The text of a field, if it is UTF-8. It is empty where there is no such field.
+#[inline]
+pub fn text_at(row: &ByteRecord, place: usize) -> Option<&str>
+    ensures { let field = field_in (fields_of row.now) place in
+        MatchOption result (is_utf8 field ≡ false) (λ text. (text.now ≡ field) × (is_utf8 field ≡ true)) }
+{
+    match row.get(place) {
+        Some(field) => text_of(field),
+        None => Some(""),
+    }
+}
+
+/// Whether all fields from a place on are UTF-8.
+pub fn is_text_from(row: &ByteRecord, first: usize) -> bool
+    ensures { result ≡ is_text (drop first (fields_of row.now)) }
+{
+    for place in first..row.len() {
+        if text_at(row, place).is_none() {
+            return false;
+        }
+    }
+    true
+}
+
+/// Numbers the names in the fields from a place on, unless one of these is not UTF-8.
+pub fn number_names<S: BuildHasher>(
+    row: &ByteRecord,
+    first: usize,
+    names: &mut Numbering<S>,
+    numbers: &mut Vec<u32>,
+) -> Result<bool, ReadFault>
+    ensures text { IfOk result (λ is. is ≡ is_text (drop first (fields_of row.now))) }
+    ensures names { IfOk result (λ is. is ≡ true → names.new ≡ fold with_name names.old (names_of (drop first (fields_of row.now)))) }
+    ensures numbers { IfOk result (λ is. is ≡ true → numbers.new.items ≡ map (number_in names.new) (names_of (drop first (fields_of row.now)))) }
+    ensures err { IfErr result (λ fault. fault ≡ ReadFault.Memory) }
+{
+    numbers.clear();
+    for place in first..row.len() {
+        let Some(text) = text_at(row, place) else {
+            return Ok(false);
+        };
+        let name = trim(text);
+        if !name.is_empty() {
+            numbers.push(names.number(name)?)?;
+        }
+    }
+    Ok(true)
+}
