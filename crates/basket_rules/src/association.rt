@@ -1,5 +1,5 @@
 //! Association rules (Agrawal and Srikant 1994).
-ghost use Rattle.std.specs.Prelude.{◌≡◌, ◌≤◌, ◌<◌, ◌*◌, ℕ, [], ◌∷◌, OnOk, IfOk, length, map, nat_le};
+ghost use Rattle.std.specs.Prelude.{◌≡◌, ◌≤◌, ◌<◌, ◌-◌, ◌*◌, ℕ, [], ◌∷◌, OnOk, IfOk, length, map, nat_le};
 ghost use Rattle.basket_core.specs.Fraction.{lowest};
 ghost use Rattle.basket_sets.specs.Itemset.{IsRising};
 ghost use Rattle.basket_sets.specs.Order.{IsInReportOrder};
@@ -64,13 +64,20 @@ pub fn rules_with(
     let mut rules = Vec::new(alloc);
     let mut left = Vec::new(alloc);
     let mut rights = single_items(alloc, union)?;
-    for size in 1..union.len() {
+    for size in 0..most_right_items(union) {
         let met = keep_confident(
             alloc, frequent, number, confidence, rights, &mut left, &mut rules,
         )?;
         rights = candidates(alloc, &met)?;
     }
     Ok(rules)
+}
+
+/// How many items a right side has at most, since a left side has one too.
+fn most_right_items(union: &Itemset) -> usize
+    ensures { result ≡ length union.now - 1 }
+{
+    union.len().saturating_sub(1)
 }
 
 /// The subsets of one item.
