@@ -55,8 +55,33 @@ impl Fraction {
     }
 }
 
-/// By Euclid's algorithm.
 fn greatest_common_divisor(a: u128, b: u128) -> u128
+    ensures { IsGcd a b result }
+{
+    let most = u128::from(u64::MAX);
+    if a <= most && b <= most {
+        u128::from(short_divisor(a as u64, b as u64))
+    } else {
+        long_divisor(a, b)
+    }
+}
+
+/// The greatest common divisor, by Euclid's algorithm.
+fn long_divisor(a: u128, b: u128) -> u128
+    ensures { IsGcd a b result }
+{
+    let mut greater = a;
+    let mut less = b;
+    while less != 0 {
+        let rest = greater % less;
+        greater = less;
+        less = rest;
+    }
+    greater
+}
+
+/// The same where division is quick.
+fn short_divisor(a: u64, b: u64) -> u64
     ensures { IsGcd a b result }
 {
     let mut greater = a;

@@ -1,5 +1,5 @@
 -- Rules: their left sides are listed, and their confidence falls as the right side grows.
-use Rattle.std.proofs.Common.{◌≡◌, ◌≢◌, ℕ, ◌*◌, ◌<◌, ◌≤◌, true, false, not, cond, List, [], length, Some, None, sym, ap, ◌∙◌, subst, inl, inr, arith}
+use Rattle.std.proofs.Common.{leb, ◌≡◌, ◌≢◌, ℕ, ◌*◌, ◌<◌, ◌≤◌, true, false, not, cond, List, [], length, Some, None, sym, ap, ◌∙◌, subst, inl, inr, arith}
 use Rattle.std.proofs.lemmas.Bool.{cases_Bool, leb-true, le-leb, true≢false, false_from_ne_true}
 use Rattle.std.proofs.lemmas.List.Kept.{IsStrictlySortedBy-filter}
 use Rattle.std.specs.Ordering.{nat_cmp}
@@ -62,12 +62,6 @@ confidence_falls baskets confidence union right part h k =
     (scaled confidence.0 (support_of baskets (difference union part)) (support_of baskets (difference union right)) (support_of baskets union * confidence.1) bound
     (leb-true (confidence.0 * support_of baskets (difference union right)) (support_of baskets union * confidence.1) k))
 
-not_both : (p q s t s' t' : ℕ) → s' ≡ s → t' ≡ t → t' * q < s' * p → p * s ≤ t * q → ⊥
-not_both p q s t s' t' e f less le = grind arith
-
-turned : (p q s t s' t' : ℕ) → s' ≡ s → t' ≡ t → s' * p ≤ t' * q → p * s ≤ t * q
-turned p q s t s' t' e f le = grind arith
-
 product : (a b : ℕ) → 1 ≤ a → 1 ≤ b → 1 ≤ a * b
 product a b some other = grind arith
 
@@ -116,23 +110,18 @@ module _ (listing : Listing) (number : ℕ) (within : number < length listing.se
     right_some = at_least_one minimum (support_of baskets right) (total_of baskets) right_often
 
   pub no_rule : (confidence : ℕ × ℕ) (left_count : ℕ) → IsCountIn listing.sets (difference (set_at listing.sets number) right) left_count
-      → count_at listing.sets number * confidence.1 < left_count * confidence.0 → IsRuleFor listing confidence number right None
-  no_rule confidence left_count left_is less baskets minimum is side =
-      sym (ap (λ b. cond b (Some (rule_of baskets (set_at listing.sets number) right)) None) fails)
-    where
-      fails : is_confident baskets confidence (set_at listing.sets number) right ≡ false
-      fails = false_from_ne_true _ (λ h.
-          let le = leb-true (confidence.0 * support_of baskets (difference (set_at listing.sets number) right)) (support_of baskets (set_at listing.sets number) * confidence.1) h in
-          not_both confidence.0 confidence.1 (support_of baskets (difference (set_at listing.sets number) right)) (support_of baskets (set_at listing.sets number)) left_count (count_at listing.sets number)
-          (left_count_is baskets minimum is side left_count left_is) (union_count_is baskets minimum is side) less le)
+      → leb (confidence.0 * left_count) (count_at listing.sets number * confidence.1) ≡ false → IsRuleFor listing confidence number right None
+  no_rule confidence left_count left_is test baskets minimum is side =
+      sym (ap (λ b. cond b (Some (rule_of baskets (set_at listing.sets number) right)) None)
+      ((λ i. leb (confidence.0 * sym (left_count_is baskets minimum is side left_count left_is) i) (sym (union_count_is baskets minimum is side) i * confidence.1)) ∙ test))
 
   pub a_rule : (confidence : ℕ × ℕ) (left_count right_count : ℕ) (rule : Rule) → IsCountIn listing.sets (difference (set_at listing.sets number) right) left_count → IsCountIn listing.sets right right_count
-      → left_count * confidence.0 ≤ count_at listing.sets number * confidence.1
+      → leb (confidence.0 * left_count) (count_at listing.sets number * confidence.1) ≡ true
       → rule.left ≡ rising (difference (set_at listing.sets number) right) → rule.right ≡ right → rule.count ≡ count_at listing.sets number
       → (1 ≤ left_count → rule.confidence ≡ lowest (count_at listing.sets number) left_count)
       → (1 ≤ left_count * right_count → rule.lift ≡ lowest (count_at listing.sets number * listing.total) (left_count * right_count))
       → IsRuleFor listing confidence number right (Some rule)
-  a_rule confidence left_count right_count rule left_is right_is enough e_left e_right e_count e_confidence e_lift baskets minimum is side =
+  a_rule confidence left_count right_count rule left_is right_is test e_left e_right e_count e_confidence e_lift baskets minimum is side =
       ap Some same ∙ sym (ap (λ b. cond b (Some (rule_of baskets (set_at listing.sets number) right)) None) passes)
     where
       l : left_count ≡ support_of baskets (difference (set_at listing.sets number) right)
@@ -145,8 +134,7 @@ module _ (listing : Listing) (number : ℕ) (within : number < length listing.se
       u = union_count_is baskets minimum is side
 
       passes : is_confident baskets confidence (set_at listing.sets number) right ≡ true
-      passes = le-leb (confidence.0 * support_of baskets (difference (set_at listing.sets number) right)) (support_of baskets (set_at listing.sets number) * confidence.1)
-          (turned confidence.0 confidence.1 (support_of baskets (difference (set_at listing.sets number) right)) (support_of baskets (set_at listing.sets number)) left_count (count_at listing.sets number) l u enough)
+      passes = (λ i. leb (confidence.0 * sym l i) (sym u i * confidence.1)) ∙ test
 
       left : rule.left ≡ difference (set_at listing.sets number) right
       left = e_left ∙ rising-rising (difference (set_at listing.sets number) right) (difference-rises (set_at listing.sets number) right (rises baskets minimum is side))

@@ -79,7 +79,7 @@ smaller_up_to list set i up below less k d low high =
     only_less (report_order (get_or list k d).set set) (omega (arith, ap ordering_index (less d)))
 
 -- the sets from a greater one on are greater
-greater_from : (list : List Counted) (set : List ℕ) (i : ℕ) → IsSorted list
+pub greater_from : (list : List Counted) (set : List ℕ) (i : ℕ) → IsSorted list
     → HoldsAt (λ c. report_order c.set set ≡ Greater) list i → AllWithin (λ c. report_order c.set set ≡ Greater) list i (length list)
 greater_from list set i up more k d low high =
     let rises = answers_rise list set up i k d low high in

@@ -45,7 +45,7 @@ fn raise_below(sets: &[Counted], number: usize, hints: &mut [usize], counts: &mu
 }
 
 /// Where the items without the one at the place are a set of the list. The search begins at the
-/// hint, which then becomes the place where the next greater set may be.
+/// hint, which then becomes the place where it ended.
 pub fn find_without(
     sets: &[Counted],
     items: &[u32],
@@ -59,7 +59,7 @@ pub fn find_without(
 {
     match find_near(sets, &items[..place], &items[place + 1..], *hint) {
         Ok(at) => {
-            *hint = at + 1;
+            *hint = at;
             Some(at)
         }
         Err(at) => {

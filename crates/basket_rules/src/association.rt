@@ -1,5 +1,5 @@
 //! Association rules (Agrawal and Srikant 1994).
-ghost use Rattle.std.specs.Prelude.{◌≡◌, ◌≤◌, ◌<◌, ◌*◌, ℕ, [], ◌∷◌, OnOk, IfOk, length, map};
+ghost use Rattle.std.specs.Prelude.{◌≡◌, ◌≤◌, ◌<◌, ◌-◌, ◌*◌, ℕ, [], ◌∷◌, OnOk, IfOk, length, map, nat_le};
 ghost use Rattle.basket_core.specs.Fraction.{lowest};
 ghost use Rattle.basket_sets.specs.Itemset.{IsRising};
 ghost use Rattle.basket_sets.specs.Order.{IsInReportOrder};
@@ -64,13 +64,20 @@ pub fn rules_with(
     let mut rules = Vec::new(alloc);
     let mut left = Vec::new(alloc);
     let mut rights = single_items(alloc, union)?;
-    for size in 1..union.len() {
+    for size in 0..most_right_items(union) {
         let met = keep_confident(
             alloc, frequent, number, confidence, rights, &mut left, &mut rules,
         )?;
         rights = candidates(alloc, &met)?;
     }
     Ok(rules)
+}
+
+/// How many items a right side has at most, since a left side has one too.
+fn most_right_items(union: &Itemset) -> usize
+    ensures { result ≡ length union.now - 1 }
+{
+    union.len().saturating_sub(1)
 }
 
 /// The subsets of one item.
@@ -128,9 +135,7 @@ fn rule_for(
     let count = union.count;
     fill_difference(left, union.set.items(), right)?;
     let left_count = count_of(sets, left);
-    if u128::from(count) * u128::from(confidence.1)
-        < u128::from(left_count) * u128::from(confidence.0)
-    {
+    if !meets(confidence, count, left_count) {
         return Ok(None);
     }
     let right_count = count_of(sets, right.items());
@@ -139,11 +144,26 @@ fn rule_for(
         right: right.copied(alloc)?,
         count,
         confidence: ratio(u128::from(count), u128::from(left_count)),
-        lift: ratio(
-            u128::from(count) * u128::from(frequent.total()),
-            u128::from(left_count) * u128::from(right_count),
-        ),
+        lift: lift(count, frequent.total(), left_count, right_count),
     }))
+}
+
+/// Whether a count is at least such a share of that of the left side.
+fn meets(confidence: (u32, u32), count: u64, left_count: u64) -> bool
+    ensures { result ≡ nat_le (confidence.0 * left_count) (count * confidence.1) }
+{
+    u128::from(confidence.0) * u128::from(left_count)
+        <= u128::from(count) * u128::from(confidence.1)
+}
+
+/// The lift of a rule, by the counts of its union, of all baskets and of its sides.
+fn lift(count: u64, total: u64, left_count: u64, right_count: u64) -> Fraction
+    ensures { 1 ≤ left_count * right_count → result ≡ lowest (count * total) (left_count * right_count) }
+{
+    ratio(
+        u128::from(count) * u128::from(total),
+        u128::from(left_count) * u128::from(right_count),
+    )
 }
 
 /// Makes `rest` the items that the set lacks.

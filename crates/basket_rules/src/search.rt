@@ -5,7 +5,9 @@
 //! one of its items need not be copied.
 ghost use Rattle.std.specs.Prelude.{◌≡◌, ◌≢◌, ◌≤◌, ◌<◌, ◌++◌, ℕ, IfOk, IfErr, length};
 ghost use Rattle.std.specs.Cmp.Lexicographic.{slice_cmp};
+ghost use Rattle.std.specs.List.{AllWithin};
 ghost use Rattle.std.specs.List.Sorted.{IsSearchInRange};
+ghost use Rattle.std.specs.declared.cmp.Ordering.TheVariants.{Greater};
 ghost use Rattle.std.specs.Ordering.{nat_cmp};
 ghost use Rattle.basket_sets.specs.Order.{report_order};
 ghost use Rattle.basket_rules.specs.Listed.{IsSorted, set_at};
@@ -15,7 +17,7 @@ use basket_core::{Counted, Itemset};
 use std::cmp::Ordering;
 
 /// Where the set stands, or else a place to begin the search for a greater one. From the place
-/// `near` on the steps double while they meet smaller sets; whatever `near` is, the set is found.
+/// `near` on the steps double, to greater or to smaller sets; whatever `near` is, the set is found.
 pub fn find_near(sets: &[Counted], front: &[u32], rest: &[u32], near: usize) -> Result<usize, usize>
     ensures bound { IsSearchInRange result (length sets.now) }
     ensures found { IfOk result (λ at. set_at sets.now at ≡ front.now ++ rest.now) }
@@ -30,10 +32,36 @@ pub fn find_near(sets: &[Counted], front: &[u32], rest: &[u32], near: usize) -> 
                 next += start - near;
             }
             Ordering::Equal => return Ok(next),
+            Ordering::Greater if start == 0 => return find_before(sets, front, rest, next),
             Ordering::Greater => return find_between(sets, front, rest, start, next),
         }
     }
     find_between(sets, front, rest, start, sets.len())
+}
+
+/// Searches the sets before the place `near`, where a greater one stands.
+fn find_before(
+    sets: &[Counted],
+    front: &[u32],
+    rest: &[u32],
+    near: usize,
+) -> Result<usize, usize>
+    requires within { near < length sets.now }
+    requires greater { IsSorted sets.now → AllWithin (λ c. report_order c.set (front.now ++ rest.now) ≡ Greater) sets.now near (length sets.now) }
+    ensures bound { IsSearchInRange result (length sets.now) }
+    ensures found { IfOk result (λ at. set_at sets.now at ≡ front.now ++ rest.now) }
+    ensures missing { IfErr result (λ _. IsMissing sets.now (front.now ++ rest.now)) }
+{
+    let mut end = near;
+    while near - end < end {
+        let next = end - (near - end) - 1;
+        match compare(&sets[next].set, front, rest) {
+            Ordering::Less => return find_between(sets, front, rest, next + 1, end),
+            Ordering::Equal => return Ok(next),
+            Ordering::Greater => end = next,
+        }
+    }
+    find_between(sets, front, rest, 0, end)
 }
 
 /// Where the set with these items stands, or where it is missing.

@@ -1,4 +1,4 @@
-use Rattle.std.proofs.Common.{◌≡◌, ◌≤◌, ◌*◌, ◌<◌, length, sym, ap, ◌∙◌, subst}
+use Rattle.std.proofs.Common.{leb, ◌≡◌, ◌≤◌, ◌*◌, ◌<◌, length, sym, ap, ◌∙◌, subst}
 use Rattle.std.proofs.lemmas.List.{get_or-map}
 use Rattle.basket_core.specs.Fraction.{lowest}
 use Rattle.basket_sets.specs.declared.counted.Counted.{Counted}
@@ -9,8 +9,8 @@ use Rattle.basket_rules.proofs.SearchLemmas.{set_is}
 use Rattle.basket_rules.proofs.RuleLemmas.{no_rule, a_rule}
 use Rattle.basket_rules.proofs.association.rule_for.Goals as goal
 
-pub returns-then-from : goal.returns-then-from
-returns-then-from c =
+pub returns-then-not-meets : goal.returns-then-not-meets
+returns-then-not-meets c =
     let listing = c.args.frequent.now in
     let number = c.args.number in
     let right = c.args.right.now in
@@ -26,10 +26,9 @@ returns-then-from c =
     let left_count = c.count_of-left_count.result in
     let left_is : IsCountIn listing.sets rest left_count =
     subst (λ l. IsCountIn l rest left_count) same (subst (λ l. IsCountIn list l left_count) left c.count_of-left_count.ensures) in
-    let first : c.from.result * c.from-2.result ≡ count_at listing.sets number * c.args.confidence.1 = λ i. (c.from.ensures ∙ sym counted) i * c.from-2.ensures i in
-    let second : c.from-3.result * c.from-4.result ≡ left_count * c.args.confidence.0 = λ i. c.from-3.ensures i * c.from-4.ensures i in
-    no_rule listing number c.requires right c.args.confidence left_count left_is
-    (subst (λ n. n < left_count * c.args.confidence.0) first (subst (λ n. c.from.result * c.from-2.result < n) second c.if-from.true))
+    let test : c.meets.result ≡ leb (c.args.confidence.0 * left_count) (count_at listing.sets number * c.args.confidence.1) =
+        c.meets.ensures ∙ ap (λ n. leb (c.args.confidence.0 * left_count) (n * c.args.confidence.1)) (sym counted) in
+    no_rule listing number c.requires right c.args.confidence left_count left_is (sym test ∙ c.if-not-meets.true)
 
 pub returns : goal.returns
 returns c =
@@ -48,18 +47,14 @@ returns c =
     let left_count = c.count_of-left_count.result in
     let left_is : IsCountIn listing.sets rest left_count =
     subst (λ l. IsCountIn l rest left_count) same (subst (λ l. IsCountIn list l left_count) left c.count_of-left_count.ensures) in
-    let first : c.from.result * c.from-2.result ≡ count_at listing.sets number * c.args.confidence.1 = λ i. (c.from.ensures ∙ sym counted) i * c.from-2.ensures i in
-    let second : c.from-3.result * c.from-4.result ≡ left_count * c.args.confidence.0 = λ i. c.from-3.ensures i * c.from-4.ensures i in
     let right_count = c.count_of-right_count.result in
     let right_is : IsCountIn listing.sets right right_count =
     subst (λ l. IsCountIn l right right_count) same (subst (λ l. IsCountIn list l right_count) c.items-2.ensures.items c.count_of-right_count.ensures) in
-    let enough : left_count * c.args.confidence.0 ≤ count_at listing.sets number * c.args.confidence.1 =
-    subst (λ n. n ≤ count_at listing.sets number * c.args.confidence.1) second (subst (λ n. c.from-3.result * c.from-4.result ≤ n) first c.if-from.false) in
-    let over : c.from-7.result * c.from-8.result ≡ count_at listing.sets number * listing.total = λ i. (c.from-7.ensures ∙ sym counted) i * (c.from-8.ensures ∙ c.total.ensures) i in
-    let under : c.from-9.result * c.from-10.result ≡ left_count * right_count = λ i. c.from-9.ensures i * c.from-10.ensures i in
-    a_rule listing number c.requires right c.args.confidence left_count right_count _ left_is right_is enough
+    let test : c.meets.result ≡ leb (c.args.confidence.0 * left_count) (count_at listing.sets number * c.args.confidence.1) =
+        c.meets.ensures ∙ ap (λ n. leb (c.args.confidence.0 * left_count) (n * c.args.confidence.1)) (sym counted) in
+    a_rule listing number c.requires right c.args.confidence left_count right_count _ left_is right_is (sym test ∙ c.if-not-meets.false)
     (c.in_ok-from_items.ensures.ok ∙ ap rising (c.deref-2.ensures.value ∙ c.in_ok-fill_difference.ensures ∙ ap (λ l. difference l right) (c.items.ensures.items ∙ sym set)))
     c.in_ok-copied.ensures.same
     (sym counted)
-    (λ some. c.ratio.ensures (subst (λ n. 1 ≤ n) (sym c.from-6.ensures) some) ∙ (λ i. lowest ((c.from-5.ensures ∙ sym counted) i) (c.from-6.ensures i)))
-    (λ some. c.ratio-2.ensures (subst (λ n. 1 ≤ n) (sym under) some) ∙ (λ i. lowest (over i) (under i)))
+    (λ some. c.ratio.ensures (subst (λ n. 1 ≤ n) (sym c.from-2.ensures) some) ∙ (λ i. lowest ((c.from.ensures ∙ sym counted) i) (c.from-2.ensures i)))
+    (λ some. c.lift.ensures some ∙ (λ i. lowest (sym counted i * c.total.ensures i) (left_count * right_count)))

@@ -1,4 +1,4 @@
-use Rattle.std.proofs.Common.{◌≡◌, ◌≤◌, ◌<◌, ◌+◌, [], ◌∷◌, length, get_or, map, sym, ap, ◌∙◌, subst}
+use Rattle.std.proofs.Common.{arith, ◌≡◌, ◌≤◌, ◌<◌, ◌+◌, ◌-◌, [], ◌∷◌, length, get_or, map, sym, ap, ◌∙◌, subst}
 use Rattle.basket_sets.specs.declared.counted.Counted.{Counted}
 use Rattle.basket_sets.specs.Itemset.{IsRising}
 use Rattle.basket_sets.specs.Order.{IsInReportOrder}
@@ -36,22 +36,24 @@ loop-size-preserved c =
     let entry = c.index-sets-number.result in
     let set : set_at listing.sets number ≡ (get_or list number entry).set = ap (λ l. set_at l number) (sym c.sets.ensures) ∙ set_is list number entry below in
     let is : (get_or list number entry).set ≡ entry.set = ap (λ (x : Counted). x.set) (sym c.index-sets-number.is) in
-    let size = c.loop-size.size in
+    let size = c.loop-size.size + 1 in
     let met = c.in_ok-met.met.items in
     let sized = c.in_ok-met.ensures.sized size c.loop-size.invariant.sized in
     let made : c.in_ok-rights-2.rights.items ≡ candidates_of met = c.in_ok-rights-2.ensures ∙ ap candidates_of c.deref.ensures.value in
-    let less : size < length (set_at listing.sets number) = subst (λ n. size < n) (c.len-size-end.ensures ∙ ap length (sym set)) c.loop-size-test.true in
+    let most : c.most_right_items-size-end.result ≡ length (set_at listing.sets number) - 1 = c.most_right_items-size-end.ensures ∙ ap (λ l. length l - 1) (sym set) in
+    let some : 1 ≤ size = omega arith in
+    let less : size < length (set_at listing.sets number) = omega (arith, most, c.loop-size-test.true) in
     record {
       sized = subst (AreOfSize (size + 1)) (sym made) (c.candidates_are_one_larger.ensures size met sized);
       in_order = subst IsInReportOrder (sym made) (c.candidates_are_in_report_order.ensures met);
       level = subst (λ l. IsLevelAt listing c.args.confidence number (size + 1) l c.keep_confident.new.rules.items) (sym made)
           (more_level c.candidates_are_exact.ensures c.candidates_are_in_report_order.ensures listing c.args.confidence number size c.loop-size.rights.items met c.loop-size.rules.items c.keep_confident.new.rules.items
-          c.requires c.loop-size.auto.size less sized c.in_ok-met.ensures.kept c.loop-size.invariant.level);
+          c.requires some less sized c.in_ok-met.ensures.kept c.loop-size.invariant.level);
     }
 
 pub candidates-requires : goal.candidates-requires
 candidates-requires c = record {
-  sized = (c.loop-size.size, c.loop-size.auto.size, subst (AreOfSize c.loop-size.size) (sym c.deref.ensures.value) (c.in_ok-met.ensures.sized c.loop-size.size c.loop-size.invariant.sized));
+  sized = (c.loop-size.size + 1, omega arith, subst (AreOfSize (c.loop-size.size + 1)) (sym c.deref.ensures.value) (c.in_ok-met.ensures.sized (c.loop-size.size + 1) c.loop-size.invariant.sized));
   in_order = subst IsInReportOrder (sym c.deref.ensures.value) (c.in_ok-met.ensures.in_order c.loop-size.invariant.in_order);
 }
 
@@ -65,6 +67,6 @@ returns c =
     let set : set_at listing.sets number ≡ (get_or list number entry).set = ap (λ l. set_at l number) (sym c.sets.ensures) ∙ set_is list number entry below in
     let is : (get_or list number entry).set ≡ entry.set = ap (λ (x : Counted). x.set) (sym c.index-sets-number.is) in
     let size = c.loop-size.size in
-    let end : c.len-size-end.result ≡ length (set_at listing.sets number) = c.len-size-end.ensures ∙ ap length (sym set) in
-    all_levels listing c.args.confidence number size c.loop-size.rights.items c.loop-size.rules.items c.requires
-    (subst (λ n. n ≤ size) end c.loop-size-test.false) (λ some. subst (λ n. size ≤ n) end (c.loop-size.auto.size-end (subst (λ n. 1 ≤ n) (sym end) some))) c.loop-size.invariant.level
+    let most : c.most_right_items-size-end.result ≡ length (set_at listing.sets number) - 1 = c.most_right_items-size-end.ensures ∙ ap (λ l. length l - 1) (sym set) in
+    all_levels listing c.args.confidence number (size + 1) c.loop-size.rights.items c.loop-size.rules.items c.requires
+    (omega (arith, most, c.loop-size-test.false)) (λ some. omega (arith, most, c.loop-size.auto.size-end)) c.loop-size.invariant.level

@@ -1,3 +1,4 @@
+use Rattle.std.proofs.Common.{◌+◌}
 use Rattle.basket_sets.specs.Order.{IsInReportOrder}
 use Rattle.mine_apriori.specs.Sizes.{AreOfSize}
 use Rattle.basket_rules.proofs.LevelLemmas.{IsLevelAt}
@@ -5,7 +6,7 @@ use Rattle.basket_rules.proofs.association.rules_with.Given as goal
 
 abbrev pub invariant-loop-size : goal.invariant-loop-size
 invariant-loop-size l = record {
-  sized : AreOfSize l.size l.rights.items;
+  sized : AreOfSize (l.size + 1) l.rights.items;
   in_order : IsInReportOrder l.rights.items;
-  level : IsLevelAt l.frequent l.confidence l.number l.size l.rights.items l.rules.items;
+  level : IsLevelAt l.frequent l.confidence l.number (l.size + 1) l.rights.items l.rules.items;
 }
