@@ -1,6 +1,7 @@
 mod Fronts
 mod MiningLemmas
 mod EngineLemmas
+mod RuleLemmas
 mod NamesWalkLemmas
 mod NamesLemmas
 mod HelpLemmas

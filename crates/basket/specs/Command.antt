@@ -13,13 +13,13 @@ use Rattle.clap.specs.declared.builder.action.ArgAction.TheVariants as action
 use Rattle.clap.specs.declared.builder.value_parser.ValueParser.TheVariants as parser
 use Rattle.clap.specs.declared.error.kind.ErrorKind.{ErrorKind}
 use Rattle.clap.specs.declared.error.kind.ErrorKind.TheVariants as kind
-use Rattle.basket_sets.specs.Minimum.{minimum_of}
+use Rattle.basket_sets.specs.Minimum.{minimum_of, share_of}
 use Rattle.basket_sets.specs.declared.minimum.Minimum.{Minimum}
 use Rattle.basket.specs.Plan.{GREATEST_LIMIT, Planned}
 use Rattle.basket.specs.declared.command.PlanFault.{PlanFault}
 use Rattle.basket.specs.declared.command.PlanFault.TheVariants.{Memory, Usage, Help}
 use Rattle.basket.specs.declared.plan.Ask.{Ask}
-use Rattle.basket.specs.declared.plan.Ask.TheVariants.{Items, Sets, Closed, Maximal}
+use Rattle.basket.specs.declared.plan.Ask.TheVariants.{Items, Sets, Closed, Maximal, Rules}
 use Rattle.basket.specs.declared.plan.Miner.{Miner}
 use Rattle.basket.specs.declared.plan.Miner.TheVariants.{Apriori}
 
@@ -42,17 +42,22 @@ miner_option names = record (option (codes "miner")) { parser = Some (parser.Nam
 abbrev pub limit_option : Rule
 limit_option = record (option (codes "limit")) { parser = Some (parser.Unsigned 1 GREATEST_LIMIT); defaults = codes "4294967295" ∷ [] }
 
--- the options that all commands have
-abbrev pub options : Names → List Rule
-options names =
-    min_option
-    ∷ miner_option names
-    ∷ limit_option
-    ∷ []
+abbrev pub conf_option : Rule
+conf_option = record (option (codes "conf")) { required = true }
 
--- a command of a name
+-- the options that all commands have, and some more
+abbrev pub options_and : Names → List Rule → List Rule
+options_and names more = min_option ∷ miner_option names ∷ limit_option ∷ more
+
+-- a command of a name, with some more options
+abbrev pub command_with : Names → Text → List Rule → App
+command_with names name more = record { top = record (new_shape name) { rules = options_and names more }; subs = [] }
+
 abbrev pub command_app : Names → Text → App
-command_app names name = record { top = record (new_shape name) { rules = options names }; subs = [] }
+command_app names name = command_with names name []
+
+abbrev pub rules_app : Names → App
+rules_app names = command_with names (codes "rules") (conf_option ∷ [])
 
 -- all commands, where the names of the miners lie as given
 abbrev pub line_with : Names → App
@@ -63,6 +68,7 @@ line_with names = record {
       ∷ (command_app names (codes "sets")).top
       ∷ (command_app names (codes "closed")).top
       ∷ (command_app names (codes "maximal")).top
+      ∷ (rules_app names).top
       ∷ [];
 }
 
@@ -75,14 +81,6 @@ abbrev pub command_line : App
 command_line = line_with (record { ref_ptr = (0, 0); now = map (λ name. record { ref_ptr = (0, 0); now = name }) miner_names })
 
 -- ---- what the values say
-
--- what the command of a name asks for
-abbrev pub ask_of : Text → Option Ask
-ask_of name =
-    if bytes_eq name (codes "items") then Some Items
-    else (if bytes_eq name (codes "sets") then Some Sets
-    else (if bytes_eq name (codes "closed") then Some Closed
-    else (if bytes_eq name (codes "maximal") then Some Maximal else None)))
 
 abbrev pub miner_of : Text → Option Miner
 miner_of text = if bytes_eq text (codes "apriori") then Some Apriori else None
@@ -101,25 +99,35 @@ miner_in rows = option_and_then miner_of (first_of (codes "miner") rows)
 abbrev pub limit_in : List Row → Option ℕ
 limit_in rows = option_and_then limit_of (one_of (codes "limit") rows)
 
+abbrev pub conf_in : List Row → Option (ℕ × ℕ)
+conf_in rows = option_and_then share_of (first_of (codes "conf") rows)
+
 -- ---- the plan
 
+-- what the command of a name asks for: rules are asked for with a confidence
+abbrev pub ask_in : Text → List Row → Option Ask
+ask_in name rows =
+    if bytes_eq name (codes "items") then Some Items
+    else (if bytes_eq name (codes "sets") then Some Sets
+    else (if bytes_eq name (codes "closed") then Some Closed
+    else (if bytes_eq name (codes "maximal") then Some Maximal
+    else (if bytes_eq name (codes "rules") then option_map (λ share. Rules share.0 share.1) (conf_in rows) else None))))
+
 -- the plan of a command with the matches of its options: none where an option's value says nothing
-abbrev pub plan_of_rows : Ask → List Row → Option Planned
-plan_of_rows ask rows =
+abbrev pub plan_of_rows : Text → List Row → Option Planned
+plan_of_rows name rows =
     option_and_then (λ minimum.
+    option_and_then (λ ask.
     option_and_then (λ miner.
     option_map (λ limit. record { question = record { ask = ask; minimum = minimum; limit = limit }; miner = miner })
     (limit_in rows))
     (miner_in rows))
+    (ask_in name rows))
     (min_in rows)
-
--- the command of a name, with the matches of its options
-abbrev pub asked : Option (Text × List Row) → Option (Ask × List Row)
-asked = option_and_then (λ entered. option_map (λ ask. (ask, entered.1)) (ask_of entered.0))
 
 -- the plan of the command that words enter
 abbrev pub plan_of_command : Option (Text × List Row) → Option Planned
-plan_of_command entered = option_and_then (λ found. plan_of_rows found.0 found.1) (asked entered)
+plan_of_command entered = option_and_then (λ found. plan_of_rows found.0 found.1) entered
 
 -- `clap` takes the words where no kind of error comes
 abbrev pub where_taken : Kinds → Option Planned → Option Planned

@@ -1,6 +1,7 @@
 pub mod Plan
 pub mod Report
 pub mod Texts
+pub mod Rules
 pub mod Status
 pub mod Mining
 pub mod Outcome

@@ -1,5 +1,5 @@
 -- How much a miner does for the frequent sets of a database.
-use Rattle.std.specs.Prelude.{ℕ, List}
+use Rattle.std.specs.Prelude.{List}
 use Rattle.basket.specs.declared.mining.Work.{Work}
 use Rattle.basket.specs.declared.plan.Miner.{Miner}
 use Rattle.basket.specs.declared.plan.Miner.TheVariants.{Apriori}

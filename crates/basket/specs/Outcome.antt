@@ -1,27 +1,29 @@
 -- What a run over an input is to write, or why it writes nothing.
 use Rattle.std.specs.Prelude.{ℕ, Bool, false, List, Result, Ok, Err, length, nat_lt, if◌then◌else◌}
-use Rattle.basket_sets.specs.declared.counted.Counted.{Counted}
 use Rattle.basket_core.specs.declared.fault.MineFault.{MineFault}
 use Rattle.basket_core.specs.declared.fault.MineFault.TheVariants.{TooMany}
 use Rattle.basket_sets.specs.declared.minimum.Minimum.{Minimum}
 use Rattle.basket_sets.specs.declared.weighted.Weighted.{Weighted}
 use Rattle.basket_sets.specs.Frequent.{frequent_items_of, frequent_of}
 use Rattle.basket_rules.specs.Condensed.{closed_of, maximal_of}
+use Rattle.basket_rules.specs.Rules.{rules_of}
 use Rattle.basket_read.specs.declared.fault.ReadFault.{ReadFault}
 use Rattle.basket_read.specs.Fimi.{fimi_of}
 use Rattle.basket.specs.declared.fault.RunFault.{RunFault}
 use Rattle.basket.specs.declared.fault.RunFault.TheVariants.{Input, Mine}
 use Rattle.basket.specs.declared.plan.Ask.{Ask}
-use Rattle.basket.specs.declared.plan.Ask.TheVariants.{Items, Sets, Closed, Maximal}
+use Rattle.basket.specs.declared.plan.Ask.TheVariants.{Items, Sets, Closed, Maximal, Rules}
 use Rattle.basket.specs.Plan.{Question}
 use Rattle.basket.specs.Report.{report_of}
+use Rattle.basket.specs.Rules.{rules_report_of}
 
--- the sets that are asked for, in the order in which they are listed
-abbrev pub asked : Ask → List Weighted → Minimum → List Counted
-asked Items baskets minimum = frequent_items_of baskets minimum
-asked Sets baskets minimum = frequent_of baskets minimum
-asked Closed baskets minimum = closed_of baskets minimum
-asked Maximal baskets minimum = maximal_of baskets minimum
+-- the text of what is asked for
+abbrev pub text_of : Ask → List Weighted → Minimum → List ℕ
+text_of Items baskets minimum = report_of (frequent_items_of baskets minimum)
+text_of Sets baskets minimum = report_of (frequent_of baskets minimum)
+text_of Closed baskets minimum = report_of (closed_of baskets minimum)
+text_of Maximal baskets minimum = report_of (maximal_of baskets minimum)
+text_of (Rules above below) baskets minimum = rules_report_of (rules_of baskets minimum (above, below))
 
 -- whether there are more frequent sets than the limit, which isn't asked for items
 abbrev pub are_too_many : Ask → List Weighted → Minimum → ℕ → Bool
@@ -32,7 +34,7 @@ are_too_many _ baskets minimum limit = nat_lt limit (length (frequent_of baskets
 abbrev pub outcome_for : List Weighted → Question → Result (List ℕ) MineFault
 outcome_for baskets question =
     if are_too_many question.ask baskets question.minimum question.limit then Err (TooMany question.limit)
-    else Ok (report_of (asked question.ask baskets question.minimum))
+    else Ok (text_of question.ask baskets question.minimum)
 
 abbrev pub of_mining : Result (List ℕ) MineFault → Result (List ℕ) RunFault
 of_mining (Ok text) = Ok text

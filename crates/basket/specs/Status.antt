@@ -22,7 +22,10 @@ status_after_input read.Read = 4
 status_after_input read.TooLong = 3
 status_after_input (read.Byte line byte) = 3
 status_after_input (read.Number line) = 3
+status_after_input (read.NotText nth) = 3
+status_after_input (read.ShortRecord nth) = 3
 status_after_input read.Heavy = 3
+status_after_input (read.Weight nth) = 3
 
 -- the status after mining: 6 for want of memory, 5 for too many sets
 abbrev pub status_after_mining : MineFault → ℕ

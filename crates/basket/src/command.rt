@@ -3,12 +3,12 @@ ghost use Rattle.std.specs.Prelude.{◌≡◌, ◌≢◌, ◌≤◌, IfErr, IfOk
 ghost use Rattle.clap.specs.Words.{app_of, found_of, kind_of, rows_of, rule_of, subcommand_rows_of};
 ghost use Rattle.clap.specs.declared.builder.command.Command.TheViews.{out-Command as fields_of};
 ghost use Rattle.basket.specs.declared.command.PlanFault.TheVariants.{Memory};
-ghost use Rattle.basket.specs.Command.{asked, asks_help, command_app, is_answer, is_help, limit_in, limit_option, line_with, min_in, min_option, miner_in, miner_names, miner_option, plan_of_command, plan_of_words};
+ghost use Rattle.basket.specs.Command.{ask_in, asks_help, command_app, conf_in, conf_option, is_answer, is_help, limit_in, limit_option, line_with, min_in, min_option, miner_in, miner_names, miner_option, plan_of_command, plan_of_words, rules_app};
 ghost use Rattle.basket.specs.Status.{plan_status_of};
 ghost use Rattle.basket_sets.specs.Minimum.{IsMinimum};
 
 use crate::plan::{Ask, Miner, Plan};
-use basket_core::{Minimum, parse_minimum};
+use basket_core::{Minimum, parse_minimum, parse_share};
 use clap::builder::ValueParser;
 use clap::error::ErrorKind;
 use clap::{Arg, ArgAction, ArgMatches, Command, Error};
@@ -101,6 +101,21 @@ Example:
   printf '1 2\\n2 1 3\\n2\\n' | basket maximal --min 2
   1 2 (2)";
 
+const RULES_ABOUT: &str = "Writes each rule between sets of items that holds often enough";
+
+const RULES_EXAMPLE: &str = "\
+Standard input is that of `sets`. A line `1 => 2 (3) 3/4 9/8` says of the items 1 and 2
+that 3 baskets have both (the support), that of the baskets with item 1 three in four
+have item 2 as well (the confidence), and that this is nine eighths of what it is among
+all baskets (the lift: above 1 the two are bought together more often than by chance).
+
+Example:
+  printf '1 2\\n2 1 3\\n2\\n' | basket rules --min 2 --conf 2/3
+  2 => 1 (2) 2/3 1/1
+  1 => 2 (2) 1/1 1/1";
+
+const CONF_HELP: &str = "The least confidence of a rule to be listed: a share, as 60% or 2/3";
+
 const MIN_HELP: &str = "The least count of a set to be listed: a number, as 20, \
 or a share of all baskets, as 5% or 1/200";
 
@@ -135,6 +150,7 @@ fn command_line<'a>(alloc: Global, miners: &'a [&'a str]) -> Result<Command<'a>,
     let sets = command(alloc, "sets", SETS_ABOUT, SETS_EXAMPLE, miners)?;
     let closed = command(alloc, "closed", CLOSED_ABOUT, CLOSED_EXAMPLE, miners)?;
     let maximal = command(alloc, "maximal", MAXIMAL_ABOUT, MAXIMAL_EXAMPLE, miners)?;
+    let rules = rules_command(alloc, miners)?;
     Command::new(alloc, "basket")
         .no_binary_name(true)
         .bin_name("basket")?
@@ -145,7 +161,8 @@ fn command_line<'a>(alloc: Global, miners: &'a [&'a str]) -> Result<Command<'a>,
         .subcommand(items)?
         .subcommand(sets)?
         .subcommand(closed)?
-        .subcommand(maximal)
+        .subcommand(maximal)?
+        .subcommand(rules)
 }
 
 /// A command with its options, which are the same for all.
@@ -165,6 +182,13 @@ fn command<'a>(
         .arg(min_option(alloc))?
         .arg(miner_option(alloc, miners))?
         .arg(limit_option(alloc))
+}
+
+fn rules_command<'a>(alloc: Global, miners: &'a [&'a str]) -> Result<Command<'a>, AllocError>
+    ensures options { IfOk result (λ command. app_of command ≡ rules_app miners.entry) }
+    ensures local { IfOk result (λ command. (fields_of command).has_globals ≡ false) }
+{
+    command(alloc, "rules", RULES_ABOUT, RULES_EXAMPLE, miners)?.arg(conf_option(alloc))
 }
 
 fn min_option<'a>(alloc: Global) -> Arg<'a>
@@ -205,17 +229,32 @@ fn limit_option<'a>(alloc: Global) -> Arg<'a>
         .action(ArgAction::Set)
 }
 
+fn conf_option<'a>(alloc: Global) -> Arg<'a>
+    ensures rule { rule_of result ≡ conf_option }
+    ensures local { result.global ≡ false }
+{
+    Arg::new(alloc, "conf")
+        .long("conf")
+        .value_name("C")
+        .help(CONF_HELP)
+        .required(true)
+        .action(ArgAction::Set)
+}
+
 /// The plan of words that clap has accepted.
 fn plan_from(alloc: Global, matches: &ArgMatches<'_>) -> Result<Plan, PlanFault>
     ensures made { IfOk result (λ plan. plan_of_command (subcommand_rows_of matches.now) ≡ Some plan) }
     ensures refused { IfErr result (λ fault. fault ≢ PlanFault.Memory → plan_of_command (subcommand_rows_of matches.now) ≡ None) }
     ensures help { IfErr result (λ fault. is_help fault ≡ false) }
 {
-    let Some((ask, options)) = asked(matches) else {
+    let Some((name, options)) = matches.subcommand() else {
         return Err(usage(alloc, "basket: no command\n")?);
     };
     let Some(minimum) = min_in(options) else {
         return Err(usage(alloc, "basket: bad value for --min\n")?);
+    };
+    let Some(ask) = ask_in(name, options) else {
+        return Err(usage(alloc, "basket: bad value for --conf\n")?);
     };
     let Some(miner) = miner_in(options) else {
         return Err(usage(alloc, "basket: bad value for --miner\n")?);
@@ -226,17 +265,27 @@ fn plan_from(alloc: Global, matches: &ArgMatches<'_>) -> Result<Plan, PlanFault>
     Ok(Plan::of(ask, minimum).with_miner(miner).with_limit(limit))
 }
 
-/// What the command asks for, and its options.
-fn asked<'m, 'a>(matches: &'m ArgMatches<'a>) -> Option<(Ask, &'m ArgMatches<'a>)>
-    ensures { option_map (λ found. (found.0, rows_of (found_of found.1.now))) result ≡ asked (subcommand_rows_of matches.now) }
+/// What the command of a name asks for.
+fn ask_in(name: &str, options: &ArgMatches<'_>) -> Option<Ask>
+    ensures { result ≡ ask_in name.now (rows_of (found_of options.now)) }
 {
-    match matches.subcommand()? {
-        ("items", options) => Some((Ask::Items, options)),
-        ("sets", options) => Some((Ask::Sets, options)),
-        ("closed", options) => Some((Ask::Closed, options)),
-        ("maximal", options) => Some((Ask::Maximal, options)),
+    match name {
+        "items" => Some(Ask::Items),
+        "sets" => Some(Ask::Sets),
+        "closed" => Some(Ask::Closed),
+        "maximal" => Some(Ask::Maximal),
+        "rules" => {
+            let (above, below) = conf_in(options)?;
+            Some(Ask::Rules(above, below))
+        }
         _ => None,
     }
+}
+
+fn conf_in(options: &ArgMatches<'_>) -> Option<(u32, u32)>
+    ensures { result ≡ conf_in (rows_of (found_of options.now)) }
+{
+    parse_share(options.get_str("conf")?)
 }
 
 fn min_in(options: &ArgMatches<'_>) -> Option<Minimum>

@@ -11,6 +11,7 @@ use crate::items::items_report;
 use crate::mining::mine;
 use crate::plan::{Ask, Plan};
 use crate::report::sets_report;
+use crate::rules::rules_report;
 use crate::write::write_all;
 use basket_core::{Database, MineFault, Sink, Source};
 use basket_read::{ReadFault, read_fimi};
@@ -66,5 +67,9 @@ fn report(alloc: Global, database: &Database, plan: &Plan) -> Result<Vec<u8>, Mi
         Ask::Sets => Ok(sets_report(alloc, mine(alloc, database, plan)?.0.sets())?),
         Ask::Closed => Ok(sets_report(alloc, &closed(alloc, &mine(alloc, database, plan)?.0)?)?),
         Ask::Maximal => Ok(sets_report(alloc, &maximal(alloc, &mine(alloc, database, plan)?.0)?)?),
+        Ask::Rules(above, below) => {
+            let (frequent, _) = mine(alloc, database, plan)?;
+            Ok(rules_report(alloc, &frequent, (above, below))?)
+        }
     }
 }

@@ -8,6 +8,7 @@ mod items;
 mod mining;
 mod plan;
 mod report;
+mod rules;
 #[cfg(test)]
 mod tests;
 mod texts;

@@ -16,6 +16,8 @@ pub enum Ask {
     Closed,
     /// Those of them of which no proper superset is frequent.
     Maximal,
+    /// The association rules of at least this confidence, a numerator and a denominator.
+    Rules(u32, u32),
 }
 
 /// How the frequent sets are found. No report depends on it.

@@ -81,7 +81,7 @@ pub fn put_set(
 }
 
 /// Adds the items with one space between.
-fn put_items(report: &mut Vec<u8>, texts: &Texts, items: &[u32]) -> Result<(), AllocError>
+pub fn put_items(report: &mut Vec<u8>, texts: &Texts, items: &[u32]) -> Result<(), AllocError>
     ensures { OnOk result (report.new.items ≡ report.old.items ++ items_text items.now) }
 {
     if let Some((first, others)) = items.split_first() {

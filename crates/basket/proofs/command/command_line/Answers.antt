@@ -13,4 +13,5 @@ returns c =
     let first = c.in_ok-subcommand.ensures.shape c.in_ok-items.ensures.local ∙ ap₂ with_subcommand bare (ap (λ (a : App). a.top) c.in_ok-items.ensures.options) in
     let second = c.in_ok-subcommand-2.ensures.shape c.in_ok-sets.ensures.local ∙ ap₂ with_subcommand first (ap (λ (a : App). a.top) c.in_ok-sets.ensures.options) in
     let third = c.in_ok-subcommand-3.ensures.shape c.in_ok-closed.ensures.local ∙ ap₂ with_subcommand second (ap (λ (a : App). a.top) c.in_ok-closed.ensures.options) in
-    IfOk-weaker c.subcommand-4.result _ _ (λ command added. added.shape c.in_ok-maximal.ensures.local ∙ ap₂ with_subcommand third (ap (λ (a : App). a.top) c.in_ok-maximal.ensures.options)) c.subcommand-4.ensures
+    let fourth = c.in_ok-subcommand-4.ensures.shape c.in_ok-maximal.ensures.local ∙ ap₂ with_subcommand third (ap (λ (a : App). a.top) c.in_ok-maximal.ensures.options) in
+    IfOk-weaker c.subcommand-5.result _ _ (λ command added. added.shape c.in_ok-rules.ensures.local ∙ ap₂ with_subcommand fourth (ap (λ (a : App). a.top) c.in_ok-rules.ensures.options)) c.subcommand-5.ensures
