@@ -37,7 +37,7 @@ fn is(read: &(Database, Names), rows: &[Row<'_>], names: &[&str]) -> bool {
         && (0u32..)
             .zip(names)
             .all(|(number, name)| found.get(number) == Some(*name))
-        && found.get(names.len() as u32).is_none()
+        && found.get(u32::MAX).is_none()
 }
 
 #[test]
