@@ -12,7 +12,7 @@ use Rattle.basket_sets.proofs.theory.Rising.{has_more, has_place, not_before}
 use Rattle.basket_sets.proofs.theory.Members.{Contains-from_Member}
 use Rattle.basket_sets.proofs.theory.Rising.{Member-from_has}
 use Rattle.mine_apriori.proofs.ContainLemmas.{same_truth, take_rises}
-use Rattle.mine_apriori.specs.Run.{RisesWithin, AddsWithin, IsMissingAt}
+use Rattle.mine_apriori.specs.Run.{CountsBelow, RisesWithin, AddsWithin, IsMissingAt}
 
 pub rises_by_places : (items : List ℕ) → IsRising items → (i j : ℕ) → i ≤ j → j < length items → get_or items i 0 ≤ get_or items j 0
 rises_by_places items up i j le below = non_decreasing_from_sorted items up i j 0 le below
@@ -49,23 +49,44 @@ climbs run (suc k) up below =
     let step = below_from_sorted run k (suc k) 0 up (omega arith) below in
     omega arith
 
--- a front of a run, behind which each item is greater, is enough to search
-pub front_says : (run : List ℕ) (item n : ℕ) (r : Result ℕ ℕ) → IsRising run → n ≤ length run → ((k : ℕ) → n ≤ k → k < length run → item < get_or run k 0)
-    → IsBinarySearchResult (λ y. nat_cmp y item) (take n run) r → MatchResult r (λ i. (i < length run) × (get_or run i 0 ≡ item)) (IsMissingAt run item)
-front_says run item n (Ok i) up few behind found =
-    let s = searched (take n run) item (Ok i) found (rises_by_places (take n run) (take_rises n run up)) in
-    let l = length-take n run in
-    (omega (arith, s.0), sym (get_or-take n run i 0 (omega (arith, s.0))) ∙ s.1)
-front_says run item n (Err i) up few behind found =
-    let s = searched (take n run) item (Err i) found (rises_by_places (take n run) (take_rises n run up)) in
-    let l = length-take n run in (
-      omega (arith, s.0),
-      λ k less. (let b = s.1 k less in let at = get_or-take n run k 0 (omega (arith, s.0)) in omega arith),
-      λ k from below. elim (cases_lt k n) [
-        | inl inside ↦ (let b = s.2 k from (omega arith) in let at = get_or-take n run k 0 inside in omega arith)
-        | inr more ↦ behind k more below
-      ],
-    )
+-- what is known while the items below an item are counted: those before a place are below it, and those from another one on are not
+pub record Halves (run : List ℕ) (item start left : ℕ) : Type 0 where
+  pub within : start + left ≤ length run
+  pub below : (k : ℕ) → k < start → get_or run k 0 < item
+  pub others : (k : ℕ) → start + left ≤ k → k < length run → item ≤ get_or run k 0
+
+pub upper_half : (run : List ℕ) (item start left half : ℕ) → IsRising run → Halves run item start left → 1 ≤ half → half ≤ left → get_or run (start + half - 1) 0 < item
+    → Halves run item (start + half) (left - half)
+upper_half run item start left half up h some within less = record {
+  within = (let w = h.within in omega arith);
+  below = λ k low. let le = rises_by_places run up k (start + half - 1) (omega arith) (let w = h.within in omega arith) in omega arith;
+  others = λ k from inside. h.others k (omega arith) inside;
+}
+
+pub lower_half : (run : List ℕ) (item start left half : ℕ) → IsRising run → Halves run item start left → 1 ≤ half → half ≤ left → half + half ≤ left + 1 → item ≤ get_or run (start + half - 1) 0
+    → Halves run item start (left - half)
+lower_half run item start left half up h some within most high = record {
+  within = (let w = h.within in omega arith);
+  below = h.below;
+  others = λ k from inside. let le = rises_by_places run up (start + half - 1) k (omega arith) inside in omega arith;
+}
+
+-- the items of a front that are below an item say where it is, where each behind the front is greater
+pub count_says : (run : List ℕ) (item n count : ℕ) → IsRising run → n ≤ length run → ((k : ℕ) → n ≤ k → k < length run → item < get_or run k 0) → CountsBelow (take n run) item count
+    → (count < n → get_or run count 0 ≢ item) → IsMissingAt run item count
+count_says run item n count up few behind counts other = (
+  (let w = counts.within in let l = length-take n run in omega arith),
+  λ k less. (let b = counts.below k less in let w = counts.within in let l = length-take n run in let at = get_or-take n run k 0 (omega arith) in omega arith),
+  λ k from below. elim (cases_lt k n) [
+    | inl inside ↦
+        (let l = length-take n run in
+        let here = counts.others count (omega arith) (omega arith) in
+        let at = get_or-take n run count 0 (omega arith) in
+        let le = rises_by_places run up count k from below in
+        let differ = other (omega arith) in omega arith)
+    | inr more ↦ behind k more below
+  ],
+)
 
 -- behind the place that an item would have in a run with no gaps, each item is greater
 pub above_place : (run : List ℕ) (item place : ℕ) → IsRising run → item ≡ get_or run 0 0 + place → (place < length run → get_or run place 0 ≢ item)

@@ -18,3 +18,9 @@ pub record AddsWithin (test : ℕ → Bool) (weight low high : ℕ) (old new : L
 abbrev pub IsMissingAt : List ℕ → ℕ → ℕ → Type 0
 IsMissingAt items item place =
     (place ≤ length items) × ((k : ℕ) → k < place → slice_index items k < item) × ((k : ℕ) → place ≤ k → k < length items → item < slice_index items k)
+
+-- so many items of a list are below an item: those before that place, and no other
+pub record CountsBelow (items : List ℕ) (item count : ℕ) : Type 0 where
+  pub within : count ≤ length items
+  pub below : (k : ℕ) → k < count → slice_index items k < item
+  pub others : (k : ℕ) → count ≤ k → k < length items → item ≤ slice_index items k

@@ -2,7 +2,7 @@
 ghost use Rattle.std.specs.Prelude.{◌≡◌, ◌<◌, ◌≤◌, ◌+◌, ◌-◌, ◌^◌, ℕ, IsTrue, MatchResult, length, slice_index};
 ghost use Rattle.std.specs.List.{AllWithin};
 ghost use Rattle.basket_sets.specs.Itemset.{IsRising, has};
-ghost use Rattle.mine_apriori.specs.Run.{IsDenseWithin, IsMissingAt, RisesWithin, AddsWithin};
+ghost use Rattle.mine_apriori.specs.Run.{CountsBelow, IsDenseWithin, IsMissingAt, RisesWithin, AddsWithin};
 ghost use Rattle.mine_apriori.specs.Used.{Tells, is_marked};
 
 /// The place of an item in a rising run, or the place before which it is missing. In a run with no
@@ -23,7 +23,29 @@ pub fn find(run: &[u32], item: u32) -> Result<usize, usize>
     if place < run.len() && run[place] == item {
         return Ok(place);
     }
-    run[..place.min(run.len())].binary_search(&item)
+    let end = place.min(run.len());
+    let below = count_below(&run[..end], item);
+    if below < end && run[below] == item {
+        return Ok(below);
+    }
+    Err(below)
+}
+
+/// How many items of a rising run are below an item. Where an item stands can't be predicted, so
+/// each step goes on in one half of what is left without a branch.
+#[inline]
+fn count_below(run: &[u32], item: u32) -> usize
+    requires { IsRising run.now }
+    ensures { CountsBelow run.now item result }
+{
+    let mut start = 0;
+    let mut left = run.len();
+    while left > 0 {
+        let half = left - left / 2;
+        start += half * usize::from(run[start + half - 1] < item);
+        left -= half;
+    }
+    start
 }
 
 /// The same with a hint of the place. What stands there and before is compared, so any hint will

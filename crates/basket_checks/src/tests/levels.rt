@@ -137,6 +137,39 @@ fn weighted_baskets(rt: HostRuntime) -> Result<(), Fail> {
     Ok(())
 }
 
+/// Four baskets of which each two share two items. Twelve items make more pairs than so few baskets
+/// have memory for, and with each basket twice they don't.
+#[test]
+fn pairs_by_runs_and_by_counts(rt: HostRuntime) -> Result<(), Fail> {
+    let first: (&[u32], u64) = (&[1, 2, 3, 4, 5, 6], 1);
+    let second: (&[u32], u64) = (&[1, 2, 7, 8, 9, 10], 1);
+    let third: (&[u32], u64) = (&[3, 4, 7, 8, 11, 12], 1);
+    let fourth: (&[u32], u64) = (&[5, 6, 9, 10, 11, 12], 1);
+    let once = coded(
+        rt.alloc(),
+        &[first, second, third, fourth],
+        Minimum::Count(2),
+    )?;
+    let (frequent, candidates) = apriori(rt.alloc(), &once, 18)?;
+    assert_eq!(rt;
+        counted(rt.alloc(), &frequent)?.as_str(),
+        "1 (2)|2 (2)|3 (2)|4 (2)|5 (2)|6 (2)|7 (2)|8 (2)|9 (2)|10 (2)|11 (2)|12 (2)|1 2 (2)|3 4 (2)|5 6 (2)|7 8 (2)|9 10 (2)|11 12 (2)|"
+    );
+    assert_eq!(rt; candidates, 66);
+    let twice = coded(
+        rt.alloc(),
+        &[first, second, third, fourth, first, second, third, fourth],
+        Minimum::Count(4),
+    )?;
+    let (frequent, candidates) = apriori(rt.alloc(), &twice, 18)?;
+    assert_eq!(rt;
+        counted(rt.alloc(), &frequent)?.as_str(),
+        "1 (4)|2 (4)|3 (4)|4 (4)|5 (4)|6 (4)|7 (4)|8 (4)|9 (4)|10 (4)|11 (4)|12 (4)|1 2 (4)|3 4 (4)|5 6 (4)|7 8 (4)|9 10 (4)|11 12 (4)|"
+    );
+    assert_eq!(rt; candidates, 66);
+    Ok(())
+}
+
 #[test]
 fn forty_items_alone(rt: HostRuntime) -> Result<(), Fail> {
     let items: Vec<u32> = (0..80).map(|place| place % 40 + 1).collect(rt.alloc())?;
