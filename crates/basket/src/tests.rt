@@ -8,6 +8,7 @@ use std::process::Abort;
 use std::test::Fail;
 
 mod items;
+mod rules;
 mod sets;
 mod words;
 
@@ -36,6 +37,18 @@ fn run_words<S: Source>(
         }
         result => Ok(result),
     }
+}
+
+/// Runs the words over the input, and answers what a sink took, and the fault.
+fn ran(
+    alloc: Global,
+    words: &[&str],
+    input: &[u8],
+) -> Result<(MemSink, Result<(), RunFault>), Fail> {
+    let mut reader = MemSource::new(input, 7, None);
+    let mut writer = MemSink::new(alloc, 300, 100, false)?;
+    let result = run_words(alloc, words, &mut reader, &mut writer)?;
+    Ok((writer, result))
 }
 
 /// The fault of words that make no plan.

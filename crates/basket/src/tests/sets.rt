@@ -10,18 +10,6 @@ const SEVEN_SETS: &[u8] = b"1 (1)\n2 (1)\n3 (1)\n1 2 (1)\n1 3 (1)\n2 3 (1)\n1 2 
 const THIRTY_THREE_ITEMS: &[u8] =
     b"1 2 3 4 5 6 7 8 9 10 11 12 13 14 15 16 17 18 19 20 21 22 23 24 25 26 27 28 29 30 31 32 33\n";
 
-/// Runs the words over the input, and answers what a sink took, and the fault.
-fn ran(
-    alloc: Global,
-    words: &[&str],
-    input: &[u8],
-) -> Result<(MemSink, Result<(), RunFault>), Fail> {
-    let mut reader = MemSource::new(input, 7, None);
-    let mut writer = MemSink::new(alloc, 300, 100, false)?;
-    let result = run_words(alloc, words, &mut reader, &mut writer)?;
-    Ok((writer, result))
-}
-
 #[test]
 fn nine_baskets(rt: HostRuntime) -> Result<(), Fail> {
     let cases: [(&[&str], &[u8]); 7] = [
