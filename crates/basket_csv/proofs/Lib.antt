@@ -7,3 +7,4 @@ mod RowLemmas
 mod BasketLemmas
 mod ReadLemmas
 mod PairLemmas
+mod LawLemmas

@@ -8,3 +8,4 @@ pub mod Read
 pub mod Baskets
 pub mod Pairs
 pub mod Worked
+pub mod Laws

@@ -5,6 +5,7 @@ mod baskets;
 mod field;
 mod gathered;
 mod input;
+pub mod laws;
 mod names;
 mod pairs;
 mod read;
