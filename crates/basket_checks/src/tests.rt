@@ -10,6 +10,7 @@ mod levels;
 mod mined;
 mod minimum;
 mod plain;
+mod rules;
 mod stream;
 mod tally;
 mod tree;

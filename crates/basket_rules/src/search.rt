@@ -40,12 +40,7 @@ pub fn find_near(sets: &[Counted], front: &[u32], rest: &[u32], near: usize) -> 
 }
 
 /// Searches the sets before the place `near`, where a greater one stands.
-fn find_before(
-    sets: &[Counted],
-    front: &[u32],
-    rest: &[u32],
-    near: usize,
-) -> Result<usize, usize>
+fn find_before(sets: &[Counted], front: &[u32], rest: &[u32], near: usize) -> Result<usize, usize>
     requires within { near < length sets.now }
     requires greater { IsSorted sets.now → AllWithin (λ c. report_order c.set (front.now ++ rest.now) ≡ Greater) sets.now near (length sets.now) }
     ensures bound { IsSearchInRange result (length sets.now) }

@@ -27,7 +27,7 @@ returns-then-not-meets c =
     let left_is : IsCountIn listing.sets rest left_count =
     subst (λ l. IsCountIn l rest left_count) same (subst (λ l. IsCountIn list l left_count) left c.count_of-left_count.ensures) in
     let test : c.meets.result ≡ leb (c.args.confidence.0 * left_count) (count_at listing.sets number * c.args.confidence.1) =
-        c.meets.ensures ∙ ap (λ n. leb (c.args.confidence.0 * left_count) (n * c.args.confidence.1)) (sym counted) in
+    c.meets.ensures ∙ ap (λ n. leb (c.args.confidence.0 * left_count) (n * c.args.confidence.1)) (sym counted) in
     no_rule listing number c.requires right c.args.confidence left_count left_is (sym test ∙ c.if-not-meets.true)
 
 pub returns : goal.returns
@@ -51,7 +51,7 @@ returns c =
     let right_is : IsCountIn listing.sets right right_count =
     subst (λ l. IsCountIn l right right_count) same (subst (λ l. IsCountIn list l right_count) c.items-2.ensures.items c.count_of-right_count.ensures) in
     let test : c.meets.result ≡ leb (c.args.confidence.0 * left_count) (count_at listing.sets number * c.args.confidence.1) =
-        c.meets.ensures ∙ ap (λ n. leb (c.args.confidence.0 * left_count) (n * c.args.confidence.1)) (sym counted) in
+    c.meets.ensures ∙ ap (λ n. leb (c.args.confidence.0 * left_count) (n * c.args.confidence.1)) (sym counted) in
     a_rule listing number c.requires right c.args.confidence left_count right_count _ left_is right_is (sym test ∙ c.if-not-meets.false)
     (c.in_ok-from_items.ensures.ok ∙ ap rising (c.deref-2.ensures.value ∙ c.in_ok-fill_difference.ensures ∙ ap (λ l. difference l right) (c.items.ensures.items ∙ sym set)))
     c.in_ok-copied.ensures.same
