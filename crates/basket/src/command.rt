@@ -43,7 +43,8 @@ pub fn plan_status(fault: &PlanFault) -> u8
     }
 }
 
-const ABOUT: &str = "Lists the items and sets of items that are often bought, with exact counts.";
+const ABOUT: &str =
+    "Lists the items and sets of items that are often bought, and the rules between them, with exact counts.";
 
 const INPUT: &str = "\
 Standard input has one basket a line: the numbers of its items with blanks between.
