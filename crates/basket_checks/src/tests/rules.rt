@@ -9,7 +9,7 @@ use std::test::Fail;
 fn frequent(alloc: Global, rows: &[Row], minimum: Minimum) -> Result<Frequent, Fail> {
     let database = database(alloc, rows)?;
     let coded = Coded::of(alloc, &database, minimum)?;
-    Ok(apriori(alloc, &coded, u32::MAX)?)
+    Ok(apriori(alloc, &coded, u32::MAX)?.0)
 }
 
 /// Compares sets with lines as `1 2 (4)`.
