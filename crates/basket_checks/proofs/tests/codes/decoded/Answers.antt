@@ -16,4 +16,6 @@ all_below bound ranks passed rank here = below ranks passed (Member-from_has ran
     below (first ∷ rest) h (inr m) = below rest (and_parts (ltb first bound) (list_all (λ r. ltb r bound) rest) h).1 m
 
 pub decode-requires : goal.decode-requires
-decode-requires c = all_below (length c.args.coded.now.items) c.args.ranks.now (sym c.are_ranks.ensures ∙ c.if-are_ranks.true)
+decode-requires c =
+    let ranks = c.items.result.now in
+    subst (AllBelow (length c.args.coded.now.items)) c.items.ensures.items (all_below (length c.args.coded.now.items) ranks (sym c.are_ranks.ensures ∙ c.if-are_ranks.true))
