@@ -1,6 +1,6 @@
 -- What the options' values say, as `clap` gives them, and the plan that they make.
-use Rattle.std.proofs.Common.{◌≡◌, ◌∙◌, ◌<◌, ◌≤◌, ◌||◌, inl, inr, ℕ, List, [], ◌∷◌, Bool, true, false, map, option_map, Option, Some, None, refl, sym, subst, ap, ap₂, arith}
-use Rattle.std.specs.Prelude.{option_and_then, codes, if◌then◌else◌}
+use Rattle.std.proofs.Common.{◌≡◌, ◌∙◌, ◌<◌, ◌≤◌, ◌||◌, inl, inr, ℕ, List, [], ◌∷◌, Bool, true, false, option_map, Option, Some, None, refl, sym, subst, ap, ap₂, arith}
+use Rattle.std.specs.Prelude.{option_and_then, codes, if◌then◌else◌, unwrap_or}
 use Rattle.std.specs.Borrow.{Bor}
 use Rattle.std.specs.List.{list_any}
 use Rattle.std.specs.Str.{bytes_eq}
@@ -21,8 +21,8 @@ use Rattle.clap.proofs.WalkLemmas.{first_value-rows, one_text-rows}
 use Rattle.basket.proofs.NamesLemmas.{same_line}
 use Rattle.basket.proofs.HelpLemmas.{help_told}
 use Rattle.basket.specs.Plan.{GREATEST_LIMIT}
-use Rattle.basket.specs.declared.plan.Miner.TheVariants.{Apriori}
-use Rattle.basket.specs.Command.{Names, asks_help, is_answer, command_line, line_with, limit_in, limit_of, miner_names, miner_of, plan_of_command, plan_of_words, where_taken}
+use Rattle.basket.specs.declared.command.Choices.{Choices}
+use Rattle.basket.specs.Command.{IsNamed, asks_help, is_answer, command_line, flag_in, line_with, limit_in, limit_of, plan_of_command, plan_of_words, where_taken}
 
 -- ---- values
 
@@ -37,13 +37,11 @@ module _ {A : Type 0} (read : Text → Option A) (f : Found) (id : Text) (value 
   pub read_some : (text : Bor Text) → value ≡ Some text → read text.now ≡ option_and_then read (first_of id (rows_of f))
   read_some text was = sym (from_rows ∙ ap (λ v. option_and_then read (option_map (λ s. s.now) v)) was)
 
-pub is_apriori : (text : Text) → text ≡ codes "apriori" → Some Apriori ≡ miner_of text
-is_apriori text e = sym (ap miner_of e)
-
-pub is_no_miner : (text : Text) → (text ≡ codes "apriori" → ⊥) → None ≡ miner_of text
-is_no_miner text never = go (bytes_eq text (codes "apriori")) (λ e. never ((bytes_eq-Decides text (codes "apriori")).0 e))
+-- a text that isn't a name is not taken for it
+pub skips : {A : Type 0} (text name : Text) (taken rest : Option A) → (text ≡ name → ⊥) → (if bytes_eq text name then taken else rest) ≡ rest
+skips text name taken rest never = go (bytes_eq text name) (λ e. never ((bytes_eq-Decides text name).0 e))
   where
-    go : (b : Bool) → (b ≡ true → ⊥) → None ≡ (if b then Some Apriori else None)
+    go : (b : Bool) → (b ≡ true → ⊥) → (if b then taken else rest) ≡ rest
     go true h = absurd (h refl)
     go false h = refl
 
@@ -62,6 +60,16 @@ limit_unsaid text never = go (is_unsigned_in 1 GREATEST_LIMIT text) (λ e. let h
     go : (b : Bool) → (b ≡ true → ⊥) → None ≡ (if b then Some (digits_value 10 (without_leading_plus text)) else None)
     go true h = absurd (h refl)
     go false h = refl
+
+-- a flag
+pub flag_some : (f : Found) (name : Text) (value : Option (Bor Text)) → option_map (λ s. s.now) value ≡ first_value f name → (text : Bor Text) → value ≡ Some text
+    → bytes_eq text.now (codes "true") ≡ flag_in name (rows_of f)
+flag_some f name value e text was = sym
+    (ap (λ o. unwrap_or (option_map (λ t. bytes_eq t (codes "true")) o) false) (sym (first_value-rows f name) ∙ sym e ∙ ap (option_map (λ s. s.now)) was))
+
+pub flag_none : (f : Found) (name : Text) (value : Option (Bor Text)) → option_map (λ s. s.now) value ≡ first_value f name → value ≡ None → false ≡ flag_in name (rows_of f)
+flag_none f name value e was = sym
+    (ap (λ o. unwrap_or (option_map (λ t. bytes_eq t (codes "true")) o) false) (sym (first_value-rows f name) ∙ sym e ∙ ap (option_map (λ s. s.now)) was))
 
 module _ (f : Found) where
   limit_rows : option_and_then limit_of (one_text f (codes "limit")) ≡ limit_in (rows_of f)
@@ -99,26 +107,26 @@ module _ (f : Found) where
 pub stays_local : (old new global : Bool) → new ≡ (old || global) → global ≡ false → old ≡ false → new ≡ false
 stays_local old new global e g o = e ∙ ap₂ (λ a b. a || b) o g
 
-simple_line : (names : Names) → is_simple_and_free (line_with names) ≡ true
+simple_line : (choices : Choices) → is_simple_and_free (line_with choices) ≡ true
 unfolding clap_on_literals
-simple_line names = refl
+simple_line choices = refl
 
-simple_app : (names : Names) → is_simple (line_with names) ≡ true
+simple_app : (choices : Choices) → is_simple (line_with choices) ≡ true
 unfolding clap_on_literals
-simple_app names = refl
+simple_app choices = refl
 
-module _ (names : Names) (texts : map (λ name. name.now) names.now ≡ miner_names) (app : App) (is : app ≡ line_with names) (words : List Text) where
+module _ (choices : Choices) (named : IsNamed choices) (app : App) (is : app ≡ line_with choices) (words : List Text) where
   simple : is_simple_and_free app ≡ true
-  simple = ap is_simple_and_free is ∙ simple_line names
+  simple = ap is_simple_and_free is ∙ simple_line choices
 
   same_faults : fault_of app words ≡ fault_of command_line words
-  same_faults = ap (λ a. fault_of a words) is ∙ (same_line names texts words).0
+  same_faults = ap (λ a. fault_of a words) is ∙ (same_line choices named words).0
 
   pub plan_taken : (entered : Option (Text × List Row)) → (is_simple_and_free app ≡ true → fault_of app words ≡ [])
       → (is_simple app ≡ true → entered ≡ subcommand_of app words) → plan_of_words words ≡ plan_of_command entered
   plan_taken entered takes enters =
       let faults : fault_of command_line words ≡ [] = sym same_faults ∙ takes simple in
-      let found : subcommand_of command_line words ≡ entered = sym (same_line names texts words).1 ∙ (ap (λ a. subcommand_of a words) (sym is) ∙ sym (enters (ap is_simple is ∙ simple_app names))) in
+      let found : subcommand_of command_line words ≡ entered = sym (same_line choices named words).1 ∙ (ap (λ a. subcommand_of a words) (sym is) ∙ sym (enters (ap is_simple is ∙ simple_app choices))) in
       ap₂ (λ (kinds : Kinds) (e : Option (Text × List Row)). where_taken kinds (plan_of_command e)) faults found
 
   pub plan_refused : (e : Error) → (is_simple_and_free app ≡ true → HasKind (fault_of app words) e) → (kind_of e ≡ OutOfMemory → ⊥) → plan_of_words words ≡ None

@@ -1,7 +1,7 @@
 mod Fronts
 mod MiningLemmas
+mod InputLemmas
 mod EngineLemmas
-mod RuleLemmas
 mod NamesWalkLemmas
 mod NamesLemmas
 mod HelpLemmas

@@ -24,7 +24,8 @@ use Rattle.clap.specs.declared.builder.value_parser.ValueParser.TheVariants as v
 use Rattle.clap.specs.declared.error.kind.ErrorKind.TheVariants as kind
 use Rattle.clap.proofs.OnLiterals.{clap_on_literals}
 use Rattle.clap.proofs.WalkLemmas.{find-map, list_any-map}
-use Rattle.basket.specs.Command.{Names, command_line, line_with, miner_names}
+use Rattle.basket.specs.declared.command.Choices.{Choices}
+use Rattle.basket.specs.Command.{AreNames, IsNamed, Names, command_line, line_with, nowhere}
 use Rattle.basket.proofs.NamesWalkLemmas.{at_zero, by_id, by_index, by_long, by_short, finished-moved, home, m, moved, name_home, parser_home, reacted-moved, rows_after-moved, settled-moved, shape_home, walk-moved, walked-moved, with_default-moved, word_met-moved}
 
 -- ---- faults of one argument
@@ -232,26 +233,35 @@ homes : (names : List (Bor Text)) → map name_home names ≡ map at_zero (map (
 homes [] = refl
 homes (name ∷ rest) = ap (λ (l : List (Bor Text)). at_zero name.now ∷ l) (homes rest)
 
-module _ (names : Names) (words : List Text) where
+abbrev choices_home : Choices → Choices
+choices_home choices = record { miners = home choices.miners; forms = home choices.forms; separators = home choices.separators }
+
+module _ (choices : Choices) (words : List Text) where
   abbrev tree : App
-  tree = built (line_with names)
+  tree = built (line_with choices)
 
   abbrev stop : Option (Text × List Text)
   stop = stop_after tree.top.rules (names_of tree) words
 
-  fault-home : fault_of (line_with (home names)) words ≡ fault_of (line_with names) words
+  fault-home : fault_of (line_with (choices_home choices)) words ≡ fault_of (line_with choices) words
   unfolding clap_on_literals
   fault-home =
       ap₂ (λ (is_entered : Bool) (below : Kinds). level_fault tree.top (names_of tree) nothing_held words is_entered below)
       (ap is_some (entered-moved tree stop)) (entered_fault-moved tree stop)
 
-  subcommand-home : subcommand_of (line_with (home names)) words ≡ subcommand_of (line_with names) words
+  subcommand-home : subcommand_of (line_with (choices_home choices)) words ≡ subcommand_of (line_with choices) words
   unfolding clap_on_literals
   subcommand-home = entered-moved tree stop
 
--- a line with the names of the miners, wherever they lie, makes of the words what `command_line` makes of them
-pub same_line : (names : Names) → map (λ name. name.now) names.now ≡ miner_names → (words : List Text)
-    → (fault_of (line_with names) words ≡ fault_of command_line words) × (subcommand_of (line_with names) words ≡ subcommand_of command_line words)
-same_line names texts words =
-    let is : line_with (home names) ≡ command_line = ap (λ (l : List (Bor Text)). line_with (record { ref_ptr = (0, 0); now = l })) (homes names.now ∙ ap (map at_zero) texts) in
-    (sym (fault-home names words) ∙ ap (λ (a : App). fault_of a words) is, sym (subcommand-home names words) ∙ ap (λ (a : App). subcommand_of a words) is)
+home_is : (names : Names) (texts : List Text) → AreNames names texts → home names ≡ nowhere texts
+home_is names texts are = ap (λ (l : List (Bor Text)). record { ref_ptr = (0, 0); now = l }) (homes names.now ∙ ap (map at_zero) are)
+
+-- a line with these names, wherever they lie, makes of the words what `command_line` makes of them
+pub same_line : (choices : Choices) → IsNamed choices → (words : List Text)
+    → (fault_of (line_with choices) words ≡ fault_of command_line words) × (subcommand_of (line_with choices) words ≡ subcommand_of command_line words)
+same_line choices named words =
+    let miners = home_is choices.miners _ named.0 in
+    let forms = home_is choices.forms _ named.1 in
+    let separators = home_is choices.separators _ named.2 in
+    let is : line_with (choices_home choices) ≡ command_line = λ i. line_with (record { miners = miners i; forms = forms i; separators = separators i }) in
+    (sym (fault-home choices words) ∙ ap (λ (a : App). fault_of a words) is, sym (subcommand-home choices words) ∙ ap (λ (a : App). subcommand_of a words) is)

@@ -1,5 +1,5 @@
 -- The command line as `clap` sees it, and the plan that words make.
-use Rattle.std.specs.Prelude.{List, [], ◌∷◌, ℕ, Bool, true, false, map, codes, if◌then◌else◌, option_and_then, option_map, Option, Some, None}
+use Rattle.std.specs.Prelude.{◌≡◌, List, [], ◌∷◌, ℕ, Bool, true, false, map, codes, if◌then◌else◌, option_and_then, option_map, unwrap_or, Option, Some, None}
 use Rattle.std.specs.Borrow.{Bor}
 use Rattle.std.specs.List.{list_any}
 use Rattle.std.specs.Str.{bytes_eq}
@@ -16,10 +16,13 @@ use Rattle.clap.specs.declared.error.kind.ErrorKind.TheVariants as kind
 use Rattle.basket_sets.specs.Minimum.{minimum_of, share_of}
 use Rattle.basket_sets.specs.declared.minimum.Minimum.{Minimum}
 use Rattle.basket.specs.Plan.{GREATEST_LIMIT, Planned}
+use Rattle.basket.specs.declared.command.Choices.{Choices}
 use Rattle.basket.specs.declared.command.PlanFault.{PlanFault}
 use Rattle.basket.specs.declared.command.PlanFault.TheVariants.{Memory, Usage, Help}
 use Rattle.basket.specs.declared.plan.Ask.{Ask}
 use Rattle.basket.specs.declared.plan.Ask.TheVariants.{Items, Sets, Closed, Maximal, Rules}
+use Rattle.basket.specs.declared.plan.Form.{Form}
+use Rattle.basket.specs.declared.plan.Form.TheVariants.{Fimi, Baskets, Single}
 use Rattle.basket.specs.declared.plan.Miner.{Miner}
 use Rattle.basket.specs.declared.plan.Miner.TheVariants.{Apriori}
 
@@ -36,8 +39,13 @@ min_option = record (option (codes "min")) { required = true }
 abbrev pub Names : Type 0
 Names = Bor (List (Bor Text))
 
-abbrev pub miner_option : Names → Rule
-miner_option names = record (option (codes "miner")) { parser = Some (parser.Names names); defaults = codes "apriori" ∷ [] }
+-- an option of one of these names, and which it is if it isn't given
+abbrev pub choice : Text → Names → Text → Rule
+choice name names default = record (option name) { parser = Some (parser.Names names); defaults = default ∷ [] }
+
+-- the flag `--name`, which takes no value
+abbrev pub flag : Text → Rule
+flag name = record (new_rule name) { long = Some name; action = Some action.SetTrue }
 
 abbrev pub limit_option : Rule
 limit_option = record (option (codes "limit")) { parser = Some (parser.Unsigned 1 GREATEST_LIMIT); defaults = codes "4294967295" ∷ [] }
@@ -46,29 +54,37 @@ abbrev pub conf_option : Rule
 conf_option = record (option (codes "conf")) { required = true }
 
 -- the options that all commands have, and some more
-abbrev pub options_and : Names → List Rule → List Rule
-options_and names more = min_option ∷ miner_option names ∷ limit_option ∷ more
+abbrev pub options_and : Choices → List Rule → List Rule
+options_and choices more =
+    min_option
+    ∷ choice (codes "form") choices.forms (codes "fimi")
+    ∷ choice (codes "sep") choices.separators (codes "comma")
+    ∷ flag (codes "header")
+    ∷ flag (codes "weight")
+    ∷ choice (codes "miner") choices.miners (codes "apriori")
+    ∷ limit_option
+    ∷ more
 
 -- a command of a name, with some more options
-abbrev pub command_with : Names → Text → List Rule → App
-command_with names name more = record { top = record (new_shape name) { rules = options_and names more }; subs = [] }
+abbrev pub command_with : Choices → Text → List Rule → App
+command_with choices name more = record { top = record (new_shape name) { rules = options_and choices more }; subs = [] }
 
-abbrev pub command_app : Names → Text → App
-command_app names name = command_with names name []
+abbrev pub command_app : Choices → Text → App
+command_app choices name = command_with choices name []
 
-abbrev pub rules_app : Names → App
-rules_app names = command_with names (codes "rules") (conf_option ∷ [])
+abbrev pub rules_app : Choices → App
+rules_app choices = command_with choices (codes "rules") (conf_option ∷ [])
 
--- all commands, where the names of the miners lie as given
-abbrev pub line_with : Names → App
-line_with names = record {
+-- all commands, where the names of miners, forms and separators lie as given
+abbrev pub line_with : Choices → App
+line_with choices = record {
   top = record (new_shape (codes "basket")) { is_leaf = false; no_binary_name = true; subcommand_required = true; disable_help_subcommand = true };
   subs =
-      (command_app names (codes "items")).top
-      ∷ (command_app names (codes "sets")).top
-      ∷ (command_app names (codes "closed")).top
-      ∷ (command_app names (codes "maximal")).top
-      ∷ (rules_app names).top
+      (command_app choices (codes "items")).top
+      ∷ (command_app choices (codes "sets")).top
+      ∷ (command_app choices (codes "closed")).top
+      ∷ (command_app choices (codes "maximal")).top
+      ∷ (rules_app choices).top
       ∷ [];
 }
 
@@ -76,14 +92,48 @@ line_with names = record {
 abbrev pub miner_names : List Text
 miner_names = codes "apriori" ∷ []
 
+-- the forms of an input
+abbrev pub form_names : List Text
+form_names = codes "fimi" ∷ codes "baskets" ∷ codes "single" ∷ []
+
+-- the separators of CSV
+abbrev pub separator_names : List Text
+separator_names = codes "comma" ∷ codes "semicolon" ∷ codes "tab" ∷ codes "pipe" ∷ []
+
+-- names that lie somewhere are these
+abbrev pub AreNames : Names → List Text → Type 0
+AreNames names texts = map (λ name. name.now) names.now ≡ texts
+
+-- the names that options choose from are those of the miners, of the forms and of the separators
+abbrev pub IsNamed : Choices → Type 0
+IsNamed choices = AreNames choices.miners miner_names × AreNames choices.forms form_names × AreNames choices.separators separator_names
+
+-- names that lie nowhere
+abbrev pub nowhere : List Text → Names
+nowhere names = record { ref_ptr = (0, 0); now = map (λ name. record { ref_ptr = (0, 0); now = name }) names }
+
 -- all commands; what `clap` makes of words doesn't depend on where the names lie
 abbrev pub command_line : App
-command_line = line_with (record { ref_ptr = (0, 0); now = map (λ name. record { ref_ptr = (0, 0); now = name }) miner_names })
+command_line = line_with (record { miners = nowhere miner_names; forms = nowhere form_names; separators = nowhere separator_names })
 
 -- ---- what the values say
 
 abbrev pub miner_of : Text → Option Miner
 miner_of text = if bytes_eq text (codes "apriori") then Some Apriori else None
+
+abbrev pub form_of : Text → Option Form
+form_of text =
+    if bytes_eq text (codes "fimi") then Some Fimi
+    else (if bytes_eq text (codes "baskets") then Some Baskets
+    else (if bytes_eq text (codes "single") then Some Single else None))
+
+-- the byte of a separator
+abbrev pub separator_of : Text → Option ℕ
+separator_of text =
+    if bytes_eq text (codes "comma") then Some 44
+    else (if bytes_eq text (codes "semicolon") then Some 59
+    else (if bytes_eq text (codes "tab") then Some 9
+    else (if bytes_eq text (codes "pipe") then Some 124 else None)))
 
 -- the number that one or more digits write, maybe after a plus, from 1 to the greatest limit
 abbrev pub limit_of : Text → Option ℕ
@@ -95,6 +145,16 @@ min_in rows = option_and_then minimum_of (first_of (codes "min") rows)
 
 abbrev pub miner_in : List Row → Option Miner
 miner_in rows = option_and_then miner_of (first_of (codes "miner") rows)
+
+abbrev pub form_in : List Row → Option Form
+form_in rows = option_and_then form_of (first_of (codes "form") rows)
+
+abbrev pub sep_in : List Row → Option ℕ
+sep_in rows = option_and_then separator_of (first_of (codes "sep") rows)
+
+-- whether a flag is given
+abbrev pub flag_in : Text → List Row → Bool
+flag_in name rows = unwrap_or (option_map (λ text. bytes_eq text (codes "true")) (first_of name rows)) false
 
 abbrev pub limit_in : List Row → Option ℕ
 limit_in rows = option_and_then limit_of (one_of (codes "limit") rows)
@@ -118,10 +178,25 @@ abbrev pub plan_of_rows : Text → List Row → Option Planned
 plan_of_rows name rows =
     option_and_then (λ minimum.
     option_and_then (λ ask.
+    option_and_then (λ form.
+    option_and_then (λ separator.
     option_and_then (λ miner.
-    option_map (λ limit. record { question = record { ask = ask; minimum = minimum; limit = limit }; miner = miner })
+    option_map (λ limit. record {
+      question = record {
+        ask = ask;
+        minimum = minimum;
+        limit = limit;
+        form = form;
+        separator = separator;
+        header = flag_in (codes "header") rows;
+        weighted = flag_in (codes "weight") rows;
+      };
+      miner = miner;
+    })
     (limit_in rows))
     (miner_in rows))
+    (sep_in rows))
+    (form_in rows))
     (ask_in name rows))
     (min_in rows)
 

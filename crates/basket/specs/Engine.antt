@@ -6,6 +6,7 @@ use Rattle.basket_read.specs.declared.fault.ReadFault.TheVariants.{Memory}
 use Rattle.basket_core.specs.declared.fault.MineFault.{MineFault}
 use Rattle.basket_core.specs.declared.fault.MineFault.TheVariants as mine
 use Rattle.basket.specs.declared.fault.RunFault.TheVariants.{Input, Mine}
+use Rattle.basket.specs.Input.{FailsIn}
 use Rattle.basket.specs.Outcome.{outcome}
 use Rattle.basket.specs.Plan.{Question}
 
@@ -25,3 +26,7 @@ RefusesInput left question fault = IfSome left (λ bytes. fault ≢ Memory → o
 -- but for want of memory, the outcome is that fault of mining
 abbrev pub RefusesSets : Option (List ℕ) → Question → MineFault → Type 0
 RefusesSets left question fault = IfSome left (λ bytes. fault ≢ mine.Memory → outcome bytes question ≡ Err (Mine fault))
+
+-- where the reader failed, the fault is what the form of the input says of that
+abbrev pub FailsInput : Option (List ℕ) → Question → Option (List ℕ) → ReadFault → Type 0
+FailsInput left question after fault = IfSome left (λ bytes. FailsIn question.form bytes after fault)

@@ -1,7 +1,5 @@
 pub mod Plan
-pub mod Report
-pub mod Texts
-pub mod Rules
+pub mod Input
 pub mod Status
 pub mod Mining
 pub mod Outcome

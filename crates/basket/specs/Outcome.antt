@@ -8,43 +8,43 @@ use Rattle.basket_sets.specs.Frequent.{frequent_items_of, frequent_of}
 use Rattle.basket_rules.specs.Condensed.{closed_of, maximal_of}
 use Rattle.basket_rules.specs.Rules.{rules_of}
 use Rattle.basket_read.specs.declared.fault.ReadFault.{ReadFault}
-use Rattle.basket_read.specs.Fimi.{fimi_of}
+use Rattle.basket_report.specs.Report.{report_of, rules_report_of}
+use Rattle.basket_report.specs.Style.{Wording}
 use Rattle.basket.specs.declared.fault.RunFault.{RunFault}
 use Rattle.basket.specs.declared.fault.RunFault.TheVariants.{Input, Mine}
 use Rattle.basket.specs.declared.plan.Ask.{Ask}
 use Rattle.basket.specs.declared.plan.Ask.TheVariants.{Items, Sets, Closed, Maximal, Rules}
+use Rattle.basket.specs.Input.{Said, said_of, wording_with}
 use Rattle.basket.specs.Plan.{Question}
-use Rattle.basket.specs.Report.{report_of}
-use Rattle.basket.specs.Rules.{rules_report_of}
 
 -- the text of what is asked for
-abbrev pub text_of : Ask → List Weighted → Minimum → List ℕ
-text_of Items baskets minimum = report_of (frequent_items_of baskets minimum)
-text_of Sets baskets minimum = report_of (frequent_of baskets minimum)
-text_of Closed baskets minimum = report_of (closed_of baskets minimum)
-text_of Maximal baskets minimum = report_of (maximal_of baskets minimum)
-text_of (Rules above below) baskets minimum = rules_report_of (rules_of baskets minimum (above, below))
+abbrev pub text_of : Wording → Ask → List Weighted → Minimum → List ℕ
+text_of wording Items baskets minimum = report_of wording (frequent_items_of baskets minimum)
+text_of wording Sets baskets minimum = report_of wording (frequent_of baskets minimum)
+text_of wording Closed baskets minimum = report_of wording (closed_of baskets minimum)
+text_of wording Maximal baskets minimum = report_of wording (maximal_of baskets minimum)
+text_of wording (Rules above below) baskets minimum = rules_report_of wording (rules_of baskets minimum (above, below))
 
 -- whether there are more frequent sets than the limit, which isn't asked for items
 abbrev pub are_too_many : Ask → List Weighted → Minimum → ℕ → Bool
 are_too_many Items baskets minimum limit = false
 are_too_many _ baskets minimum limit = nat_lt limit (length (frequent_of baskets minimum))
 
--- the outcome for baskets: the text of what is asked for, unless there are more frequent sets than the limit
-abbrev pub outcome_for : List Weighted → Question → Result (List ℕ) MineFault
-outcome_for baskets question =
-    if are_too_many question.ask baskets question.minimum question.limit then Err (TooMany question.limit)
-    else Ok (text_of question.ask baskets question.minimum)
+-- the outcome for what an input says: the text of what is asked for, unless there are more frequent sets than the limit
+abbrev pub outcome_for : Said → Question → Result (List ℕ) MineFault
+outcome_for said question =
+    if are_too_many question.ask said.baskets question.minimum question.limit then Err (TooMany question.limit)
+    else Ok (text_of (wording_with question.separator said.names) question.ask said.baskets question.minimum)
 
 abbrev pub of_mining : Result (List ℕ) MineFault → Result (List ℕ) RunFault
 of_mining (Ok text) = Ok text
 of_mining (Err fault) = Err (Mine fault)
 
--- the outcome for the baskets of an input, or for its fault
-abbrev pub outcome_of : Result (List Weighted) ReadFault → Question → Result (List ℕ) RunFault
-outcome_of (Ok baskets) question = of_mining (outcome_for baskets question)
+-- the outcome for what an input says, or for its fault
+abbrev pub outcome_of : Result Said ReadFault → Question → Result (List ℕ) RunFault
+outcome_of (Ok said) question = of_mining (outcome_for said question)
 outcome_of (Err fault) question = Err (Input fault)
 
 -- the outcome for an input: the text of what is asked for, or a fault
 abbrev pub outcome : List ℕ → Question → Result (List ℕ) RunFault
-outcome bytes question = outcome_of (fimi_of bytes) question
+outcome bytes question = outcome_of (said_of question bytes) question

@@ -1,17 +1,17 @@
 //! The command line.
-ghost use Rattle.std.specs.Prelude.{◌≡◌, ◌≢◌, ◌≤◌, IfErr, IfOk, IfSome, false, map, option_map};
-ghost use Rattle.clap.specs.Words.{app_of, found_of, kind_of, rows_of, rule_of, subcommand_rows_of};
+ghost use Rattle.std.specs.Prelude.{◌≡◌, ◌≢◌, IfErr, IfOk, codes, false, map};
+ghost use Rattle.clap.specs.Words.{app_of, kind_of, rule_of};
 ghost use Rattle.clap.specs.declared.builder.command.Command.TheViews.{out-Command as fields_of};
 ghost use Rattle.basket.specs.declared.command.PlanFault.TheVariants.{Memory};
-ghost use Rattle.basket.specs.Command.{ask_in, asks_help, command_app, conf_in, conf_option, is_answer, is_help, limit_in, limit_option, line_with, min_in, min_option, miner_in, miner_names, miner_option, plan_of_command, plan_of_words, rules_app};
+ghost use Rattle.basket.specs.Command.{IsNamed, asks_help, choice, command_app, conf_option, flag, is_answer, is_help, limit_option, line_with, min_option, plan_of_words, rules_app};
 ghost use Rattle.basket.specs.Status.{plan_status_of};
-ghost use Rattle.basket_sets.specs.Minimum.{IsMinimum};
 
-use crate::plan::{Ask, Miner, Plan};
-use basket_core::{Minimum, parse_minimum, parse_share};
+use crate::help;
+use crate::plan::Plan;
+use crate::values::plan_from;
 use clap::builder::ValueParser;
 use clap::error::ErrorKind;
-use clap::{Arg, ArgAction, ArgMatches, Command, Error};
+use clap::{Arg, ArgAction, Command, Error};
 use std::alloc::{AllocError, Global};
 
 /// Why words of a command line make no plan.
@@ -43,120 +43,67 @@ pub fn plan_status(fault: &PlanFault) -> u8
     }
 }
 
-const ABOUT: &str =
-    "Lists the items and sets of items that are often bought, and the rules between them, with exact counts.";
-
-const INPUT: &str = "\
-Standard input has one basket a line: the numbers of its items with blanks between.
-A line may begin with a weight, as `3x 1 2` for three baskets of the items 1 and 2.";
-
-const ITEMS_ABOUT: &str =
-    "Writes each item that is in enough baskets, with the number of those baskets";
-
-const ITEMS_EXAMPLE: &str = "\
-Standard input has one basket a line: the numbers of its items with blanks between.
-A line may begin with a weight, as `3x 1 2` for three baskets of the items 1 and 2.
-Standard output gets one line for each item, in the order of their numbers: the item
-and, in parentheses, its count.
-
-Example:
-  printf '1 2\\n2 3\\n2\\n' | basket items --min 2
-  2 (3)";
-
-const SETS_ABOUT: &str =
-    "Writes each set of items that is in enough baskets, with the number of those baskets";
-
-const SETS_EXAMPLE: &str = "\
-Standard input has one basket a line: the numbers of its items with blanks between.
-A line may begin with a weight, as `3x 1 2` for three baskets of the items 1 and 2.
-Standard output gets one line for each set: its items and, in parentheses, its count.
-Sets of one item come first, then those of two, and so on, each size in the order of
-the items' numbers.
-
-Example:
-  printf '1 2\\n2 1 3\\n2\\n' | basket sets --min 2
-  1 (2)
-  2 (3)
-  1 2 (2)";
-
-const CLOSED_ABOUT: &str =
-    "Writes each set that `sets` writes and of which no larger set has the same count";
-
-const CLOSED_EXAMPLE: &str = "\
-Standard input and output are those of `sets`. The count of every frequent set can be
-told from the closed ones: it is the greatest count of a closed set that has its items.
-
-Example:
-  printf '1 2\\n2 1 3\\n2\\n' | basket closed --min 2
-  2 (3)
-  1 2 (2)";
-
-const MAXIMAL_ABOUT: &str =
-    "Writes each set that `sets` writes and of which no larger set is in enough baskets";
-
-const MAXIMAL_EXAMPLE: &str = "\
-Standard input and output are those of `sets`. The frequent sets are the maximal ones
-and all their parts.
-
-Example:
-  printf '1 2\\n2 1 3\\n2\\n' | basket maximal --min 2
-  1 2 (2)";
-
-const RULES_ABOUT: &str = "Writes each rule between sets of items that holds often enough";
-
-const RULES_EXAMPLE: &str = "\
-Standard input is that of `sets`. A line `1 => 2 (3) 3/4 9/8` says of the items 1 and 2
-that 3 baskets have both (the support), that of the baskets with item 1 three in four
-have item 2 as well (the confidence), and that this is nine eighths of what it is among
-all baskets (the lift: above 1 the two are bought together more often than by chance).
-
-Example:
-  printf '1 2\\n2 1 3\\n2\\n' | basket rules --min 2 --conf 2/3
-  2 => 1 (2) 2/3 1/1
-  1 => 2 (2) 1/1 1/1";
-
-const CONF_HELP: &str = "The least confidence of a rule to be listed: a share, as 60% or 2/3";
-
-const MIN_HELP: &str = "The least count of a set to be listed: a number, as 20, \
-or a share of all baskets, as 5% or 1/200";
-
-const MINER_HELP: &str = "How the sets are found; the report doesn't depend on it";
-
-const LIMIT_HELP: &str = "How many sets there may be, from 1 to 4294967295; \
-where there are more, none is written (`items` has no limit)";
-
 /// The plan that the words ask for. The program's name is not among them.
 pub fn plan_of<'a>(alloc: Global, words: &'a [&'a str]) -> Result<Plan, PlanFault>
     ensures made { IfOk result (λ plan. plan_of_words (map (λ word. word.now) words.now) ≡ Some plan) }
     ensures refused { IfErr result (λ fault. fault ≢ PlanFault.Memory → plan_of_words (map (λ word. word.now) words.now) ≡ None) }
     ensures help { IfErr result (λ fault. fault ≢ PlanFault.Memory → asks_help (map (λ word. word.now) words.now) ≡ is_help fault) }
 {
-    match command_line(alloc, miner_names())?.try_get_matches_from(words) {
+    match command_line(alloc, all_choices())?.try_get_matches_from(words) {
         Ok(matches) => plan_from(alloc, &matches),
         Err(error) => Err(fault_of(alloc, &error)?),
     }
 }
 
-/// The miners by the names that the command line has for them.
-fn miner_names() -> &'static [&'static str]
-    ensures { map (λ name. name.now) result.now ≡ miner_names }
-{
-    &["apriori"]
+/// The names that options choose from.
+#[derive(Clone, Copy)]
+struct Choices<'a> {
+    miners: &'a [&'a str],
+    forms: &'a [&'a str],
+    separators: &'a [&'a str],
 }
 
-fn command_line<'a>(alloc: Global, miners: &'a [&'a str]) -> Result<Command<'a>, AllocError>
-    ensures { IfOk result (λ command. app_of command ≡ line_with miners.entry) }
+fn all_choices() -> Choices<'static>
+    ensures { IsNamed result }
 {
-    let items = command(alloc, "items", ITEMS_ABOUT, ITEMS_EXAMPLE, miners)?;
-    let sets = command(alloc, "sets", SETS_ABOUT, SETS_EXAMPLE, miners)?;
-    let closed = command(alloc, "closed", CLOSED_ABOUT, CLOSED_EXAMPLE, miners)?;
-    let maximal = command(alloc, "maximal", MAXIMAL_ABOUT, MAXIMAL_EXAMPLE, miners)?;
-    let rules = rules_command(alloc, miners)?;
+    Choices {
+        miners: &["apriori"],
+        forms: &["fimi", "baskets", "single"],
+        separators: &["comma", "semicolon", "tab", "pipe"],
+    }
+}
+
+fn command_line<'a>(alloc: Global, choices: Choices<'a>) -> Result<Command<'a>, AllocError>
+    ensures { IfOk result (λ command. app_of command ≡ line_with choices.entry) }
+{
+    let items = command(
+        alloc,
+        "items",
+        help::ITEMS_ABOUT,
+        help::ITEMS_EXAMPLE,
+        choices,
+    )?;
+    let sets = command(alloc, "sets", help::SETS_ABOUT, help::SETS_EXAMPLE, choices)?;
+    let closed = command(
+        alloc,
+        "closed",
+        help::CLOSED_ABOUT,
+        help::CLOSED_EXAMPLE,
+        choices,
+    )?;
+    let maximal = command(
+        alloc,
+        "maximal",
+        help::MAXIMAL_ABOUT,
+        help::MAXIMAL_EXAMPLE,
+        choices,
+    )?;
+    let rules = rules_command(alloc, choices)?;
     Command::new(alloc, "basket")
         .no_binary_name(true)
         .bin_name("basket")?
-        .about(ABOUT)
-        .after_help(INPUT)
+        .about(help::ABOUT)
+        .after_help(help::INPUT)
         .subcommand_required(true)
         .disable_help_subcommand(true)
         .subcommand(items)?
@@ -172,24 +119,49 @@ fn command<'a>(
     name: &'a str,
     about: &'a str,
     example: &'a str,
-    miners: &'a [&'a str],
+    choices: Choices<'a>,
 ) -> Result<Command<'a>, AllocError>
-    ensures options { IfOk result (λ command. app_of command ≡ command_app miners.entry name.now) }
+    ensures options { IfOk result (λ command. app_of command ≡ command_app choices.entry name.now) }
     ensures local { IfOk result (λ command. (fields_of command).has_globals ≡ false) }
 {
     Command::new(alloc, name)
         .about(about)
         .after_help(example)
         .arg(min_option(alloc))?
-        .arg(miner_option(alloc, miners))?
+        .arg(choice(alloc, "form", "F", help::FORM_HELP, choices.forms, "fimi"))?
+        .arg(choice(
+            alloc,
+            "sep",
+            "S",
+            help::SEP_HELP,
+            choices.separators,
+            "comma",
+        ))?
+        .arg(flag(alloc, "header", help::HEADER_HELP))?
+        .arg(flag(alloc, "weight", help::WEIGHT_HELP))?
+        .arg(choice(
+            alloc,
+            "miner",
+            "A",
+            help::MINER_HELP,
+            choices.miners,
+            "apriori",
+        ))?
         .arg(limit_option(alloc))
 }
 
-fn rules_command<'a>(alloc: Global, miners: &'a [&'a str]) -> Result<Command<'a>, AllocError>
-    ensures options { IfOk result (λ command. app_of command ≡ rules_app miners.entry) }
+fn rules_command<'a>(alloc: Global, choices: Choices<'a>) -> Result<Command<'a>, AllocError>
+    ensures options { IfOk result (λ command. app_of command ≡ rules_app choices.entry) }
     ensures local { IfOk result (λ command. (fields_of command).has_globals ≡ false) }
 {
-    command(alloc, "rules", RULES_ABOUT, RULES_EXAMPLE, miners)?.arg(conf_option(alloc))
+    command(
+        alloc,
+        "rules",
+        help::RULES_ABOUT,
+        help::RULES_EXAMPLE,
+        choices,
+    )?
+    .arg(conf_option(alloc))
 }
 
 fn min_option<'a>(alloc: Global) -> Arg<'a>
@@ -199,22 +171,40 @@ fn min_option<'a>(alloc: Global) -> Arg<'a>
     Arg::new(alloc, "min")
         .long("min")
         .value_name("M")
-        .help(MIN_HELP)
+        .help(help::MIN_HELP)
         .required(true)
         .action(ArgAction::Set)
 }
 
-fn miner_option<'a>(alloc: Global, miners: &'a [&'a str]) -> Arg<'a>
-    ensures rule { rule_of result ≡ miner_option miners.entry }
+/// An option whose value is one of some names.
+fn choice<'a>(
+    alloc: Global,
+    name: &'a str,
+    value: &'a str,
+    help: &'a str,
+    names: &'a [&'a str],
+    default: &'a str,
+) -> Arg<'a>
+    ensures rule { rule_of result ≡ choice name.now names.entry default.now }
     ensures local { result.global ≡ false }
 {
-    Arg::new(alloc, "miner")
-        .long("miner")
-        .value_name("A")
-        .help(MINER_HELP)
-        .value_parser(ValueParser::Names(miners))
-        .default_value("apriori")
+    Arg::new(alloc, name)
+        .long(name)
+        .value_name(value)
+        .help(help)
+        .value_parser(ValueParser::Names(names))
+        .default_value(default)
         .action(ArgAction::Set)
+}
+
+fn flag<'a>(alloc: Global, name: &'a str, help: &'a str) -> Arg<'a>
+    ensures rule { rule_of result ≡ flag name.now }
+    ensures local { result.global ≡ false }
+{
+    Arg::new(alloc, name)
+        .long(name)
+        .help(help)
+        .action(ArgAction::SetTrue)
 }
 
 fn limit_option<'a>(alloc: Global) -> Arg<'a>
@@ -224,7 +214,7 @@ fn limit_option<'a>(alloc: Global) -> Arg<'a>
     Arg::new(alloc, "limit")
         .long("limit")
         .value_name("L")
-        .help(LIMIT_HELP)
+        .help(help::LIMIT_HELP)
         .value_parser(ValueParser::unsigned(1, u64::from(u32::MAX)))
         .default_value("4294967295")
         .action(ArgAction::Set)
@@ -237,88 +227,9 @@ fn conf_option<'a>(alloc: Global) -> Arg<'a>
     Arg::new(alloc, "conf")
         .long("conf")
         .value_name("C")
-        .help(CONF_HELP)
+        .help(help::CONF_HELP)
         .required(true)
         .action(ArgAction::Set)
-}
-
-/// The plan of words that clap has accepted.
-fn plan_from(alloc: Global, matches: &ArgMatches<'_>) -> Result<Plan, PlanFault>
-    ensures made { IfOk result (λ plan. plan_of_command (subcommand_rows_of matches.now) ≡ Some plan) }
-    ensures refused { IfErr result (λ fault. fault ≢ PlanFault.Memory → plan_of_command (subcommand_rows_of matches.now) ≡ None) }
-    ensures help { IfErr result (λ fault. is_help fault ≡ false) }
-{
-    let Some((name, options)) = matches.subcommand() else {
-        return Err(usage(alloc, "basket: no command\n")?);
-    };
-    let Some(minimum) = min_in(options) else {
-        return Err(usage(alloc, "basket: bad value for --min\n")?);
-    };
-    let Some(ask) = ask_in(name, options) else {
-        return Err(usage(alloc, "basket: bad value for --conf\n")?);
-    };
-    let Some(miner) = miner_in(options) else {
-        return Err(usage(alloc, "basket: bad value for --miner\n")?);
-    };
-    let Some(limit) = limit_in(options) else {
-        return Err(usage(alloc, "basket: bad value for --limit\n")?);
-    };
-    Ok(Plan::of(ask, minimum).with_miner(miner).with_limit(limit))
-}
-
-/// What the command of a name asks for.
-fn ask_in(name: &str, options: &ArgMatches<'_>) -> Option<Ask>
-    ensures { result ≡ ask_in name.now (rows_of (found_of options.now)) }
-{
-    match name {
-        "items" => Some(Ask::Items),
-        "sets" => Some(Ask::Sets),
-        "closed" => Some(Ask::Closed),
-        "maximal" => Some(Ask::Maximal),
-        "rules" => {
-            let (above, below) = conf_in(options)?;
-            Some(Ask::Rules(above, below))
-        }
-        _ => None,
-    }
-}
-
-fn conf_in(options: &ArgMatches<'_>) -> Option<(u32, u32)>
-    ensures { result ≡ conf_in (rows_of (found_of options.now)) }
-{
-    parse_share(options.get_str("conf")?)
-}
-
-fn min_in(options: &ArgMatches<'_>) -> Option<Minimum>
-    ensures found { result ≡ min_in (rows_of (found_of options.now)) }
-    ensures in_range { IfSome result IsMinimum }
-{
-    parse_minimum(options.get_str("min")?)
-}
-
-fn miner_in(options: &ArgMatches<'_>) -> Option<Miner>
-    ensures { result ≡ miner_in (rows_of (found_of options.now)) }
-{
-    match options.get_str("miner")? {
-        "apriori" => Some(Miner::Apriori),
-        _ => None,
-    }
-}
-
-fn limit_in(options: &ArgMatches<'_>) -> Option<u32>
-    ensures found { result ≡ limit_in (rows_of (found_of options.now)) }
-    ensures in_range { IfSome result (λ limit. 1 ≤ limit) }
-{
-    match options.get_one::<u32>("limit") {
-        Some(limit) if limit >= 1 => Some(limit),
-        _ => None,
-    }
-}
-
-fn usage(alloc: Global, text: &str) -> Result<PlanFault, AllocError>
-    ensures { IfOk result (λ fault. is_help fault ≡ false) }
-{
-    Ok(PlanFault::Usage(String::from_str(alloc, text)?))
 }
 
 fn fault_of(alloc: Global, error: &Error) -> Result<PlanFault, AllocError>

@@ -2,26 +2,25 @@ ghost use Rattle.std.specs.Prelude.{◌≡◌, ◌≢◌, ◌↔◌, true, false
 ghost use Rattle.std.specs.Io.KnownBytes.{Keeps};
 ghost use Rattle.basket_core.specs.declared.fault.MineFault.{MineFault as MiningFault};
 ghost use Rattle.basket_read.specs.declared.fault.ReadFault.{ReadFault as InputFault};
-ghost use Rattle.basket_read.specs.Read.{FailsAfter};
-ghost use Rattle.basket.specs.Engine.{WritesReport, WritesFront, RefusesInput, RefusesSets};
+ghost use Rattle.basket.specs.Engine.{WritesReport, WritesFront, RefusesInput, RefusesSets, FailsInput};
 ghost use Rattle.basket.specs.Outcome.{outcome_for};
 
 use crate::fault::RunFault;
-use crate::items::items_report;
+use crate::input::Input;
 use crate::mining::mine;
 use crate::plan::{Ask, Plan};
-use crate::report::sets_report;
-use crate::rules::rules_report;
 use crate::write::write_all;
-use basket_core::{Database, MineFault, Sink, Source};
-use basket_read::{ReadFault, read_fimi};
+use basket_core::{MineFault, Sink, Source, count_items};
+use basket_read::ReadFault;
+use basket_report::{items_report, rules_report, sets_report};
 use basket_rules::{closed, maximal};
 use std::alloc::Global;
+use std::random::RandomSource;
 
 /// Reads the input to its end and writes the report that the plan asks for. The whole report is
 /// made before its first byte is written, and a flush ends the run.
-pub fn run<R, S: Source, W: Sink>(
-    _rt: &R,
+pub fn run<R: RandomSource, S: Source, W: Sink>(
+    rt: &R,
     alloc: Global,
     plan: &Plan,
     reader: &mut S,
@@ -39,17 +38,17 @@ pub fn run<R, S: Source, W: Sink>(
     ensures input { (fault : InputFault) → result ≡ Err (RunFault.Input fault) → S.has_failed reader.new ≡ false
         → RefusesInput (S.left reader.old) plan.now.question fault }
     ensures failed_input { (fault : InputFault) → result ≡ Err (RunFault.Input fault) → S.has_failed reader.new ≡ true
-        → IfSome (S.left reader.old) (λ bytes. FailsAfter bytes (S.left reader.new) (Err fault)) }
+        → FailsInput (S.left reader.old) plan.now.question (S.left reader.new) fault }
     ensures reader_failed { S.has_failed reader.new ≡ true → (fault : InputFault) × (result ≡ Err (RunFault.Input fault)) }
     ensures read { result ≡ Err (RunFault.Input ReadFault.Read) → S.has_failed reader.new ≡ true }
     ensures mine { (fault : MiningFault) → result ≡ Err (RunFault.Mine fault) → RefusesSets (S.left reader.old) plan.now.question fault }
     ensures write { (result ≡ Err RunFault.Write) ↔ (W.has_failed writer.new ≡ true) }
 {
-    let database = match read_fimi(alloc, reader) {
-        Ok(database) => database,
+    let input = match Input::read(rt, alloc, plan, reader) {
+        Ok(input) => input,
         Err(fault) => return Err(RunFault::Input(fault)),
     };
-    let report = match report(alloc, &database, plan) {
+    let report = match report(alloc, &input, plan) {
         Ok(report) => report,
         Err(fault) => return Err(RunFault::Mine(fault)),
     };
@@ -58,18 +57,33 @@ pub fn run<R, S: Source, W: Sink>(
 }
 
 /// The report that the plan asks for over the baskets.
-fn report(alloc: Global, database: &Database, plan: &Plan) -> Result<Vec<u8>, MineFault>
-    ensures ok { IfOk result (λ report. outcome_for database.now plan.now.question ≡ Ok report.items) }
-    ensures err { (fault : MiningFault) → result ≡ Err fault → fault ≢ MineFault.Memory → outcome_for database.now plan.now.question ≡ Err fault }
+fn report(alloc: Global, input: &Input, plan: &Plan) -> Result<Vec<u8>, MineFault>
+    ensures ok { IfOk result (λ report. outcome_for input.now plan.now.question ≡ Ok report.items) }
+    ensures err { (fault : MiningFault) → result ≡ Err fault → fault ≢ MineFault.Memory → outcome_for input.now plan.now.question ≡ Err fault }
 {
+    let database = input.database();
+    let style = input.style(plan.sep());
     match plan.ask() {
-        Ask::Items => Ok(items_report(alloc, database, plan.minimum())?),
-        Ask::Sets => Ok(sets_report(alloc, mine(alloc, database, plan)?.0.sets())?),
-        Ask::Closed => Ok(sets_report(alloc, &closed(alloc, &mine(alloc, database, plan)?.0)?)?),
-        Ask::Maximal => Ok(sets_report(alloc, &maximal(alloc, &mine(alloc, database, plan)?.0)?)?),
+        Ask::Items => {
+            let counts = count_items(alloc, database.baskets())?;
+            let minimum = plan.minimum();
+            Ok(items_report(alloc, &counts, minimum, database.total(), style)?)
+        }
+        Ask::Sets => {
+            let (frequent, _) = mine(alloc, database, plan)?;
+            Ok(sets_report(alloc, frequent.sets(), style)?)
+        }
+        Ask::Closed => {
+            let (frequent, _) = mine(alloc, database, plan)?;
+            Ok(sets_report(alloc, &closed(alloc, &frequent)?, style)?)
+        }
+        Ask::Maximal => {
+            let (frequent, _) = mine(alloc, database, plan)?;
+            Ok(sets_report(alloc, &maximal(alloc, &frequent)?, style)?)
+        }
         Ask::Rules(above, below) => {
             let (frequent, _) = mine(alloc, database, plan)?;
-            Ok(rules_report(alloc, &frequent, (above, below))?)
+            Ok(rules_report(alloc, &frequent, (above, below), style)?)
         }
     }
 }

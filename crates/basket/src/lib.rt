@@ -4,20 +4,19 @@
 mod command;
 mod engine;
 mod fault;
-mod items;
+mod help;
+mod input;
 mod mining;
 mod plan;
-mod report;
-mod rules;
 #[cfg(test)]
 mod tests;
-mod texts;
+mod values;
 pub mod worked;
 mod write;
 
+pub use basket_report::{Style, sets_report};
 pub use command::{PlanFault, plan_of, plan_status};
 pub use engine::run;
 pub use fault::{RunFault, status_of};
 pub use mining::{Work, mine};
-pub use plan::{Ask, Miner, Plan};
-pub use report::sets_report;
+pub use plan::{Ask, Form, Miner, Plan};

@@ -1,5 +1,5 @@
-ghost use Rattle.std.specs.Prelude.{◌≡◌, ◌≤◌};
-ghost use Rattle.basket.specs.Plan.{GREATEST_LIMIT};
+ghost use Rattle.std.specs.Prelude.{◌≡◌, ◌≤◌, IsTrue, false};
+ghost use Rattle.basket.specs.Plan.{GREATEST_LIMIT, is_separator};
 ghost use Rattle.basket_sets.specs.Minimum.{IsMinimum};
 
 use basket_core::Minimum;
@@ -20,6 +20,17 @@ pub enum Ask {
     Rules(u32, u32),
 }
 
+/// How an input is written.
+#[derive(Clone, Copy, Debug, PartialEq, Eq)]
+pub enum Form {
+    /// Lines of the numbers of items, a basket each.
+    Fimi,
+    /// CSV records of the names of items, a basket each.
+    Baskets,
+    /// CSV records of the id of a basket and the name of an item in it.
+    Single,
+}
+
 /// How the frequent sets are found. No report depends on it.
 #[derive(Clone, Copy, Debug, PartialEq, Eq)]
 pub enum Miner {
@@ -30,36 +41,60 @@ pub enum Miner {
 /// What is asked of an input, with every number in its range, and how it is to be found.
 #[derive(Clone, Copy, Debug, PartialEq, Eq)]
 pub struct Plan {
+    limit: u32,
+    sep: u8,
+    header: bool,
+    weight: bool,
     ask: Ask,
     minimum: Minimum,
-    limit: u32,
+    form: Form,
     miner: Miner,
 }
 
 impl Model for Plan {
-    ghost use Rattle.std.specs.Prelude.{◌≤◌};
-    ghost use Rattle.basket.specs.Plan.{Planned};
+    ghost use Rattle.std.specs.Prelude.{◌≤◌, IsTrue};
+    ghost use Rattle.basket.specs.Plan.{Planned, is_separator};
     ghost use Rattle.basket_sets.specs.Minimum.{IsMinimum};
 
     ghost Value = { Planned };
 
-    ghost view = { λ plan. record { question = record { ask = plan.ask; minimum = plan.minimum; limit = plan.limit }; miner = plan.miner } };
+    ghost view = { λ plan. record {
+      question = record { ask = plan.ask; minimum = plan.minimum; limit = plan.limit; form = plan.form; separator = plan.sep; header = plan.header; weighted = plan.weight };
+      miner = plan.miner;
+    } };
 
-    ghost invariant = { λ plan. IsMinimum plan.minimum × (1 ≤ plan.limit) };
+    ghost invariant = { λ plan. IsMinimum plan.minimum × (1 ≤ plan.limit) × IsTrue (is_separator plan.sep) };
 
-    ghost inverse = { λ plan. record { ask = plan.question.ask; minimum = plan.question.minimum; limit = plan.question.limit; miner = plan.miner } };
+    ghost inverse = { λ plan. let q = plan.question in record {
+      ask = q.ask;
+      minimum = q.minimum;
+      limit = q.limit;
+      form = q.form;
+      sep = q.separator;
+      header = q.header;
+      weight = q.weighted;
+      miner = plan.miner;
+    } };
 }
 
 impl Plan {
-    /// A plan with the defaults of the command line: Apriori, and the greatest limit.
+    /// A plan with the defaults of the command line: FIMI, and for CSV commas, no header and no
+    /// weights; the greatest limit; Apriori.
     pub fn of(ask: Ask, minimum: Minimum) -> Self
         requires { IsMinimum minimum }
-        ensures { result ≡ record { question = record { ask = ask; minimum = minimum; limit = GREATEST_LIMIT }; miner = Miner.Apriori } }
+        ensures { result ≡ record {
+          question = record { ask = ask; minimum = minimum; limit = GREATEST_LIMIT; form = Form.Fimi; separator = 44; header = false; weighted = false };
+          miner = Miner.Apriori;
+        } }
     {
         Plan {
             ask,
             minimum,
             limit: u32::MAX,
+            form: Form::Fimi,
+            sep: b',',
+            header: false,
+            weight: false,
             miner: Miner::Apriori,
         }
     }
@@ -89,6 +124,63 @@ impl Plan {
         ensures { result ≡ record self { question = record self.question { limit = limit } } }
     {
         Plan { limit, ..self }
+    }
+
+    pub fn form(&self) -> Form
+        ensures { result ≡ self.now.question.form }
+    {
+        self.form
+    }
+
+    /// The plan with another form of the input.
+    pub fn with_form(self, form: Form) -> Self
+        ensures { result ≡ record self { question = record self.question { form = form } } }
+    {
+        Plan { form, ..self }
+    }
+
+    /// The byte between the fields of CSV, in the input and in the report: a comma, a semicolon, a
+    /// tab or a bar.
+    pub fn sep(&self) -> u8
+        ensures { result ≡ self.now.question.separator }
+    {
+        self.sep
+    }
+
+    /// The plan with another such byte.
+    pub fn with_sep(self, sep: u8) -> Self
+        requires { IsTrue (is_separator sep) }
+        ensures { result ≡ record self { question = record self.question { separator = sep } } }
+    {
+        Plan { sep, ..self }
+    }
+
+    /// Whether the first record of CSV is left out.
+    pub fn header(&self) -> bool
+        ensures { result ≡ self.now.question.header }
+    {
+        self.header
+    }
+
+    /// The plan with or without a header.
+    pub fn with_header(self, header: bool) -> Self
+        ensures { result ≡ record self { question = record self.question { header = header } } }
+    {
+        Plan { header, ..self }
+    }
+
+    /// Whether the first field of a CSV basket is its weight. It doesn't count for the other forms.
+    pub fn weight(&self) -> bool
+        ensures { result ≡ self.now.question.weighted }
+    {
+        self.weight
+    }
+
+    /// The plan with or without weights.
+    pub fn with_weight(self, weight: bool) -> Self
+        ensures { result ≡ record self { question = record self.question { weighted = weight } } }
+    {
+        Plan { weight, ..self }
     }
 
     pub fn miner(&self) -> Miner

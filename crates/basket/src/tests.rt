@@ -4,13 +4,25 @@ use super::*;
 use basket_core::{MemSink, MemSource, MineFault, Sink, Source};
 use basket_read::ReadFault;
 use std::alloc::{AllocError, Global};
+use std::io;
 use std::process::Abort;
+use std::random::RandomSource;
 use std::test::Fail;
 
 mod items;
+mod named;
 mod rules;
 mod sets;
 mod words;
+
+/// A runtime that has no random bytes.
+struct NoRandomBytes;
+
+impl RandomSource for NoRandomBytes {
+    fn fill_bytes(&self, _bytes: &mut [u8]) -> io::Result<()> {
+        Err(io::Error::from(io::ErrorKind::Unsupported))
+    }
+}
 
 const NINE_BASKETS: &[u8] = b"1 2 5\n2 4\n2 3\n1 2 4\n1 3\n2 3\n1 3\n1 2 3 5\n1 2 3\n";
 
@@ -28,7 +40,7 @@ fn run_words<S: Source>(
     requires writer { ⟦<MemSink as Sink>⟧.has_failed writer.old ≡ false }
 {
     let plan = plan_of(alloc, words)?;
-    match run(&(), alloc, &plan, reader, writer) {
+    match run(&NoRandomBytes, alloc, &plan, reader, writer) {
         Err(RunFault::Input(ReadFault::Memory) | RunFault::Mine(MineFault::Memory)) => {
             match writer.bytes().is_empty() {
                 true => Err(Fail::from(AllocError)),

@@ -4,7 +4,7 @@
 mod stage;
 
 use anyhow::Context;
-use basket::sets_report;
+use basket::{Style, sets_report};
 use basket_core::{Coded, MemSource, Minimum, parse_minimum};
 use basket_read::read_fimi;
 use mine_apriori::Levels;
@@ -75,7 +75,7 @@ fn timed(rt: &HostRuntime, input: &[u8], minimum: Minimum) -> anyhow::Result<Tim
     let frequent = levels.finish(alloc).context("the list was not made")?;
     let list = start.elapsed(rt)?;
     let start = Instant::now(rt)?;
-    let _report = sets_report(alloc, frequent.sets())?;
+    let _report = sets_report(alloc, frequent.sets(), Style::Numbers)?;
     let report = start.elapsed(rt)?;
     Ok(Times {
         read,

@@ -8,21 +8,25 @@ Usage: basket sets [OPTIONS] --min <M>
 
 Options:
       --min <M>    The least count of a set to be listed: a number, as 20, or a share of all baskets, as 5% or 1/200
+      --form <F>   How standard input is written (`basket --help` shows it) [default: fimi] [possible values: fimi, baskets, single]
+      --sep <S>    What stands between the fields of CSV, also in the report [default: comma] [possible values: comma, semicolon, tab, pipe]
+      --header     Leaves out the first record of CSV
+      --weight     Takes the first field of each CSV basket for its weight, from 1 to 4294967295
       --miner <A>  How the sets are found; the report doesn't depend on it [default: apriori] [possible values: apriori]
       --limit <L>  How many sets there may be, from 1 to 4294967295; where there are more, none is written (`items` has no limit) [default: 4294967295]
   -h, --help       Print help
 
-Standard input has one basket a line: the numbers of its items with blanks between.
-A line may begin with a weight, as `3x 1 2` for three baskets of the items 1 and 2.
 Standard output gets one line for each set: its items and, in parentheses, its count.
 Sets of one item come first, then those of two, and so on, each size in the order of
-the items' numbers.
+the items' numbers. From CSV it gets a record for each set: the count and the names.
 
-Example:
+Examples:
   printf '1 2\\n2 1 3\\n2\\n' | basket sets --min 2
   1 (2)
   2 (3)
   1 2 (2)
+  printf 'bread,milk\\nmilk\\n' | basket sets --min 2 --form baskets
+  2,milk
 ";
 
 #[test]
@@ -55,13 +59,16 @@ fn bad_minimums(rt: HostRuntime) -> Result<(), Fail> {
 
 #[test]
 fn bad_words(rt: HostRuntime) -> Result<(), Fail> {
-    let cases: [(&[&str], &str); 9] = [
+    let cases: [(&[&str], &str); 12] = [
         (&[], "Usage: basket <COMMAND>\n"),
         (&["things"], "'things'"),
         (&["items"], "--min <M>"),
         (&["items", "--min"], "--min <M>"),
         (&["items", "--min", "1", "more"], "'more'"),
         (&["sets", "--min", "1", "--miner", "eclat"], "'eclat'"),
+        (&["sets", "--min", "1", "--form", "csv"], "'csv'"),
+        (&["sets", "--min", "1", "--sep", ","], "','"),
+        (&["sets", "--min", "1", "--header", "--header"], "--header"),
         (&["sets", "--min", "1", "--limit", "0"], "'0'"),
         (
             &["sets", "--min", "1", "--limit", "4294967296"],
@@ -79,8 +86,9 @@ fn bad_words(rt: HostRuntime) -> Result<(), Fail> {
 
 #[test]
 fn help(rt: HostRuntime) -> Result<(), Fail> {
-    let cases: [(&[&str], &str); 3] = [
+    let cases: [(&[&str], &str); 4] = [
         (&["--help"], "Lists the items"),
+        (&["--help"], "             \"semi, skim\",bread\n"),
         (
             &["items", "--help"],
             "Usage: basket items [OPTIONS] --min <M>\n",

@@ -9,6 +9,7 @@ returns c = record {
   no_minimum = refl;
   bad_minimum = refl;
   bad_limit = refl;
+  no_form = refl;
   no_miner = refl;
   twice = refl;
 }

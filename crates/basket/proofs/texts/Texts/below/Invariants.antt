@@ -1,6 +1,0 @@
-use Rattle.std.proofs.Common.{◌≡◌, length}
-use Rattle.basket.specs.Texts.{AreTexts}
-use Rattle.basket.proofs.texts.Texts.below.Given as goal
-
-abbrev pub invariant-loop-number : goal.invariant-loop-number
-invariant-loop-number l = record { long : length l.texts.items ≡ l.number; made : AreTexts l.texts.items }

@@ -1,0 +1,15 @@
+use Rattle.std.specs.Prelude.{codes}
+use Rattle.std.proofs.Common.{◌∙◌, ap, sym}
+use Rattle.clap.specs.Words.{found_of}
+use Rattle.basket.specs.Command.{miner_of}
+use Rattle.basket.proofs.CommandLemmas.{read_none, read_some, skips}
+use Rattle.basket.proofs.values.miner_in.Goals as goal
+
+pub returns-in_err-get_str : goal.returns-in_err-get_str
+returns-in_err-get_str c = c.from_residual.ensures ∙ read_none miner_of (found_of c.args.options.now) (codes "miner") c.get_str.result c.get_str.ensures c.in_err-get_str.was
+
+pub returns-in-apriori : goal.returns-in-apriori
+returns-in-apriori c = sym (ap miner_of c.in-apriori.is) ∙ read_some miner_of (found_of c.args.options.now) (codes "miner") c.get_str.result c.get_str.ensures _ c.in_ok-get_str.was
+
+pub returns-in_default : goal.returns-in_default
+returns-in_default c = sym (skips _ (codes "apriori") _ _ c.in_default.not-apriori) ∙ read_some miner_of (found_of c.args.options.now) (codes "miner") c.get_str.result c.get_str.ensures _ c.in_ok-get_str.was

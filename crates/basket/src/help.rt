@@ -1,0 +1,104 @@
+//! The texts of help.
+
+pub const ABOUT: &str =
+    "Lists the items and sets of items that are often bought, and the rules between them, with exact counts.";
+
+pub const INPUT: &str = "\
+Standard input has the baskets, by --form:
+  fimi     a basket a line, the numbers of its items; a line may begin with a weight,
+           as `3x` for three such baskets
+             1 2 5
+             3x 2 4
+  baskets  CSV, a basket a record, the names of its items; with --weight its weight first
+             bread,milk
+             \"semi, skim\",bread
+  single   CSV, a record for each item of a basket, the basket's id and the item's name
+             r1,bread
+             r1,milk
+In CSV, spaces and tabs at the ends of a field don't count, nor do empty names, and the
+report is CSV as well: the count, then the names. Each command's --help says more.";
+
+pub const ITEMS_ABOUT: &str =
+    "Writes each item that is in enough baskets, with the number of those baskets";
+
+pub const ITEMS_EXAMPLE: &str = "\
+Standard output gets one line for each item, in the order of their numbers: the item
+and, in parentheses, its count. From CSV it gets a record for each item, in the order in
+which their names first appear: the count and the name.
+
+Example:
+  printf '1 2\\n2 3\\n2\\n' | basket items --min 2
+  2 (3)";
+
+pub const SETS_ABOUT: &str =
+    "Writes each set of items that is in enough baskets, with the number of those baskets";
+
+pub const SETS_EXAMPLE: &str = "\
+Standard output gets one line for each set: its items and, in parentheses, its count.
+Sets of one item come first, then those of two, and so on, each size in the order of
+the items' numbers. From CSV it gets a record for each set: the count and the names.
+
+Examples:
+  printf '1 2\\n2 1 3\\n2\\n' | basket sets --min 2
+  1 (2)
+  2 (3)
+  1 2 (2)
+  printf 'bread,milk\\nmilk\\n' | basket sets --min 2 --form baskets
+  2,milk";
+
+pub const CLOSED_ABOUT: &str =
+    "Writes each set that `sets` writes and of which no larger set has the same count";
+
+pub const CLOSED_EXAMPLE: &str = "\
+Standard input and output are those of `sets`. The count of every frequent set can be
+told from the closed ones: it is the greatest count of a closed set that has its items.
+
+Example:
+  printf '1 2\\n2 1 3\\n2\\n' | basket closed --min 2
+  2 (3)
+  1 2 (2)";
+
+pub const MAXIMAL_ABOUT: &str =
+    "Writes each set that `sets` writes and of which no larger set is in enough baskets";
+
+pub const MAXIMAL_EXAMPLE: &str = "\
+Standard input and output are those of `sets`. The frequent sets are the maximal ones
+and all their parts.
+
+Example:
+  printf '1 2\\n2 1 3\\n2\\n' | basket maximal --min 2
+  1 2 (2)";
+
+pub const RULES_ABOUT: &str = "Writes each rule between sets of items that holds often enough";
+
+pub const RULES_EXAMPLE: &str = "\
+Standard input is that of `sets`. A line `1 => 2 (3) 3/4 9/8` says of the items 1 and 2
+that 3 baskets have both (the support), that of the baskets with item 1 three in four
+have item 2 as well (the confidence), and that this is nine eighths of what it is among
+all baskets (the lift: above 1 the two are bought together more often than by chance).
+From CSV a rule is a record: the count, the confidence, the lift, how many names the
+left side has, the names of the left side, and those of the right side.
+
+Example:
+  printf '1 2\\n2 1 3\\n2\\n' | basket rules --min 2 --conf 2/3
+  2 => 1 (2) 2/3 1/1
+  1 => 2 (2) 1/1 1/1";
+
+pub const CONF_HELP: &str = "The least confidence of a rule to be listed: a share, as 60% or 2/3";
+
+pub const MIN_HELP: &str = "The least count of a set to be listed: a number, as 20, \
+or a share of all baskets, as 5% or 1/200";
+
+pub const MINER_HELP: &str = "How the sets are found; the report doesn't depend on it";
+
+pub const LIMIT_HELP: &str = "How many sets there may be, from 1 to 4294967295; \
+where there are more, none is written (`items` has no limit)";
+
+pub const FORM_HELP: &str = "How standard input is written (`basket --help` shows it)";
+
+pub const SEP_HELP: &str = "What stands between the fields of CSV, also in the report";
+
+pub const HEADER_HELP: &str = "Leaves out the first record of CSV";
+
+pub const WEIGHT_HELP: &str =
+    "Takes the first field of each CSV basket for its weight, from 1 to 4294967295";

@@ -1,0 +1,139 @@
+//! What the values of the options say.
+ghost use Rattle.std.specs.Prelude.{◌≡◌, ◌≢◌, ◌≤◌, IfErr, IfOk, IfSome, IsTrue, false};
+ghost use Rattle.clap.specs.Words.{found_of, rows_of, subcommand_rows_of};
+ghost use Rattle.basket.specs.Command.{ask_in, conf_in, flag_in, form_in, is_help, limit_in, min_in, miner_in, plan_of_command, sep_in};
+ghost use Rattle.basket.specs.Plan.{is_separator};
+ghost use Rattle.basket_sets.specs.Minimum.{IsMinimum};
+
+use crate::command::PlanFault;
+use crate::plan::{Ask, Form, Miner, Plan};
+use basket_core::{Minimum, parse_minimum, parse_share};
+use clap::ArgMatches;
+use std::alloc::{AllocError, Global};
+
+/// The plan of words that clap has accepted.
+pub fn plan_from(alloc: Global, matches: &ArgMatches<'_>) -> Result<Plan, PlanFault>
+    ensures made { IfOk result (λ plan. plan_of_command (subcommand_rows_of matches.now) ≡ Some plan) }
+    ensures refused { IfErr result (λ fault. fault ≢ PlanFault.Memory → plan_of_command (subcommand_rows_of matches.now) ≡ None) }
+    ensures help { IfErr result (λ fault. is_help fault ≡ false) }
+{
+    let Some((name, options)) = matches.subcommand() else {
+        return Err(usage(alloc, "basket: no command\n")?);
+    };
+    let Some(minimum) = min_in(options) else {
+        return Err(usage(alloc, "basket: bad value for --min\n")?);
+    };
+    let Some(ask) = ask_in(name, options) else {
+        return Err(usage(alloc, "basket: bad value for --conf\n")?);
+    };
+    let Some(form) = form_in(options) else {
+        return Err(usage(alloc, "basket: bad value for --form\n")?);
+    };
+    let Some(sep) = sep_in(options) else {
+        return Err(usage(alloc, "basket: bad value for --sep\n")?);
+    };
+    let Some(miner) = miner_in(options) else {
+        return Err(usage(alloc, "basket: bad value for --miner\n")?);
+    };
+    let Some(limit) = limit_in(options) else {
+        return Err(usage(alloc, "basket: bad value for --limit\n")?);
+    };
+    Ok(
+        Plan::of(ask, minimum)
+            .with_form(form)
+            .with_sep(sep)
+            .with_header(flag_in("header", options))
+            .with_weight(flag_in("weight", options))
+            .with_miner(miner)
+            .with_limit(limit),
+    )
+}
+
+/// What the command of a name asks for.
+fn ask_in(name: &str, options: &ArgMatches<'_>) -> Option<Ask>
+    ensures { result ≡ ask_in name.now (rows_of (found_of options.now)) }
+{
+    match name {
+        "items" => Some(Ask::Items),
+        "sets" => Some(Ask::Sets),
+        "closed" => Some(Ask::Closed),
+        "maximal" => Some(Ask::Maximal),
+        "rules" => {
+            let (above, below) = conf_in(options)?;
+            Some(Ask::Rules(above, below))
+        }
+        _ => None,
+    }
+}
+
+fn conf_in(options: &ArgMatches<'_>) -> Option<(u32, u32)>
+    ensures { result ≡ conf_in (rows_of (found_of options.now)) }
+{
+    parse_share(options.get_str("conf")?)
+}
+
+fn min_in(options: &ArgMatches<'_>) -> Option<Minimum>
+    ensures found { result ≡ min_in (rows_of (found_of options.now)) }
+    ensures in_range { IfSome result IsMinimum }
+{
+    parse_minimum(options.get_str("min")?)
+}
+
+fn miner_in(options: &ArgMatches<'_>) -> Option<Miner>
+    ensures { result ≡ miner_in (rows_of (found_of options.now)) }
+{
+    match options.get_str("miner")? {
+        "apriori" => Some(Miner::Apriori),
+        _ => None,
+    }
+}
+
+fn form_in(options: &ArgMatches<'_>) -> Option<Form>
+    ensures { result ≡ form_in (rows_of (found_of options.now)) }
+{
+    match options.get_str("form")? {
+        "fimi" => Some(Form::Fimi),
+        "baskets" => Some(Form::Baskets),
+        "single" => Some(Form::Single),
+        _ => None,
+    }
+}
+
+fn sep_in(options: &ArgMatches<'_>) -> Option<u8>
+    ensures found { result ≡ sep_in (rows_of (found_of options.now)) }
+    ensures in_range { IfSome result (λ sep. IsTrue (is_separator sep)) }
+{
+    match options.get_str("sep")? {
+        "comma" => Some(b','),
+        "semicolon" => Some(b';'),
+        "tab" => Some(b'\t'),
+        "pipe" => Some(b'|'),
+        _ => None,
+    }
+}
+
+/// Whether the flag of a name is given.
+fn flag_in(name: &str, options: &ArgMatches<'_>) -> bool
+    ensures { result ≡ flag_in name.now (rows_of (found_of options.now)) }
+{
+    match options.get_str(name) {
+        Some(value) => value == "true",
+        None => false,
+    }
+}
+
+fn limit_in(options: &ArgMatches<'_>) -> Option<u32>
+    ensures found { result ≡ limit_in (rows_of (found_of options.now)) }
+    ensures in_range { IfSome result (λ limit. 1 ≤ limit) }
+{
+    match options.get_one::<u32>("limit") {
+        Some(limit) if limit >= 1 => Some(limit),
+        _ => None,
+    }
+}
+
+fn usage(alloc: Global, text: &str) -> Result<PlanFault, AllocError>
+    ensures { IfOk result (λ fault. is_help fault ≡ false) }
+{
+    Ok(PlanFault::Usage(String::from_str(alloc, text)?))
+}

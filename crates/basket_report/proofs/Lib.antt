@@ -1,0 +1,2 @@
+mod RuleLemmas
+mod TableLemmas

@@ -1,0 +1,7 @@
+pub mod Style
+pub mod Texts
+pub mod Lines
+pub mod Table
+pub mod Report
+pub mod Items
+pub mod Rules

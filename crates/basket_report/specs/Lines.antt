@@ -1,0 +1,27 @@
+-- Lines of numbers.
+use Rattle.std.specs.Prelude.{ℕ, List, [], ◌∷◌, ◌++◌, codes, decimal}
+use Rattle.std.specs.List.{flat_map}
+use Rattle.basket_sets.specs.declared.counted.Counted.{Counted}
+use Rattle.basket_rules.specs.declared.association.Rule.{Rule}
+use Rattle.basket_report.specs.Texts.{ratio_text}
+
+-- the items of a set, with one space between
+abbrev pub items_text : List ℕ → List ℕ
+items_text [] = []
+items_text (item ∷ items) = decimal item ++ flat_map (λ other. 32 ∷ decimal other) items
+
+-- the line of a set: its items, a space, the count in parentheses, a line feed
+abbrev pub set_line : Counted → List ℕ
+set_line counted = items_text counted.set ++ codes " (" ++ decimal counted.count ++ codes ")\n"
+
+-- the sides of a rule
+abbrev pub sides_text : Rule → List ℕ
+sides_text rule = items_text rule.left ++ codes " => " ++ items_text rule.right
+
+-- the confidence and the lift of a rule, with a space between
+abbrev pub ratios_text : Rule → List ℕ
+ratios_text rule = ratio_text rule.confidence ++ 32 ∷ ratio_text rule.lift
+
+-- the line of a rule: its sides, a space, the count in parentheses, a space, the confidence, a space, the lift, a line feed
+abbrev pub rule_line : Rule → List ℕ
+rule_line rule = sides_text rule ++ codes " (" ++ decimal rule.count ++ codes ") " ++ ratios_text rule ++ 10 ∷ []

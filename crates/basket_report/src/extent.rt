@@ -1,0 +1,50 @@
+//! What is known of sets before their lines are written.
+
+use crate::texts::Texts;
+use basket_core::Counted;
+use std::alloc::{AllocError, Global};
+
+/// No more texts are made than this.
+const MOST_TEXTS: usize = 65_536;
+
+/// Room for what a line has beside its items: two parentheses, a space, a line feed and most counts.
+const COUNT_ROOM: usize = 10;
+
+#[derive(Clone, Copy, Debug)]
+pub struct Extent {
+    lines: usize,
+    /// The items of all lines.
+    items: usize,
+    greatest: u32,
+}
+
+impl Extent {
+    pub fn of(sets: &[Counted]) -> Self {
+        let mut items: usize = 0;
+        let mut greatest = 0;
+        for counted in sets {
+            items = items.saturating_add(counted.set.len());
+            if let Some(last) = counted.set.items().last() {
+                greatest = greatest.max(*last);
+            }
+        }
+        Extent {
+            lines: sets.len(),
+            items,
+            greatest,
+        }
+    }
+
+    /// The texts of the items, but not of more numbers than there are lines.
+    pub fn texts(self, alloc: Global) -> Result<Texts, AllocError> {
+        let bound = (self.greatest as usize + 1).min(self.lines).min(MOST_TEXTS);
+        Texts::below(alloc, bound as u32)
+    }
+
+    /// How long the report is, unless counts are very large.
+    pub fn room(self) -> usize {
+        let digits = self.greatest.checked_ilog10().unwrap_or(0) as usize + 1;
+        let counts = self.lines.saturating_mul(COUNT_ROOM);
+        self.items.saturating_mul(digits + 1).saturating_add(counts)
+    }
+}

@@ -1,0 +1,17 @@
+//! The bytes of a report: a line of numbers for each set or rule, or a CSV record of names.
+#![tactic(auto)]
+
+mod extent;
+mod items;
+mod lines;
+mod report;
+mod rules;
+mod sets;
+mod style;
+mod table;
+mod texts;
+
+pub use items::items_report;
+pub use rules::rules_report;
+pub use sets::sets_report;
+pub use style::Style;

@@ -1,0 +1,119 @@
+//! Lines of numbers.
+ghost use Rattle.std.specs.Prelude.{◌≡◌, ◌++◌, [], IfOk, OnOk};
+ghost use Rattle.basket_report.specs.Lines.{items_text, ratios_text, rule_line, set_line, sides_text};
+ghost use Rattle.basket_report.specs.Report.{set_of};
+
+use crate::extent::Extent;
+use crate::texts::{Texts, put_fraction, put_number};
+use basket_core::Counted;
+use basket_rules::Rule;
+use std::alloc::{AllocError, Global};
+use std::marker::Model;
+
+/// Lines so far.
+#[derive(Debug, Drop)]
+pub struct Lines {
+    texts: Texts,
+    text: Vec<u8>,
+}
+
+impl Model for Lines {
+    ghost use Rattle.std.specs.Prelude.{ℕ, List};
+
+    ghost Value = { List ℕ };
+
+    ghost view = { λ lines. lines.text.items };
+}
+
+impl Lines {
+    /// No lines.
+    pub fn new(alloc: Global) -> Result<Self, AllocError>
+        ensures { IfOk result (λ lines. lines ≡ []) }
+    {
+        Ok(Lines {
+            texts: Texts::below(alloc, 0)?,
+            text: Vec::new(alloc),
+        })
+    }
+
+    /// No lines, with room for those of the sets.
+    pub fn for_sets(alloc: Global, sets: &[Counted]) -> Result<Self, AllocError>
+        ensures { IfOk result (λ lines. lines ≡ []) }
+    {
+        let extent = Extent::of(sets);
+        Ok(Lines {
+            texts: extent.texts(alloc)?,
+            text: Vec::with_capacity(alloc, extent.room())?,
+        })
+    }
+
+    /// No lines, for rules between the sets.
+    pub fn for_rules(alloc: Global, sets: &[Counted]) -> Result<Self, AllocError>
+        ensures { IfOk result (λ lines. lines ≡ []) }
+    {
+        Ok(Lines {
+            texts: Extent::of(sets).texts(alloc)?,
+            text: Vec::new(alloc),
+        })
+    }
+
+    /// Adds the line of a set with its count.
+    pub fn put_set(&mut self, items: &[u32], count: u64) -> Result<(), AllocError>
+        ensures { OnOk result (self.new ≡ self.old ++ set_line (set_of items.now count)) }
+    {
+        put_items(&mut self.text, &self.texts, items)?;
+        self.text.extend_from_slice(b" (")?;
+        put_number(&mut self.text, count)?;
+        self.text.extend_from_slice(b")\n")
+    }
+
+    /// Adds the line of a rule.
+    pub fn put_rule(&mut self, rule: &Rule) -> Result<(), AllocError>
+        ensures { OnOk result (self.new ≡ self.old ++ rule_line rule.now) }
+    {
+        put_sides(&mut self.text, &self.texts, rule)?;
+        self.text.extend_from_slice(b" (")?;
+        put_number(&mut self.text, rule.count)?;
+        self.text.extend_from_slice(b") ")?;
+        put_ratios(&mut self.text, rule)?;
+        self.text.push(b'\n')?;
+        Ok(())
+    }
+
+    /// The text of all lines.
+    pub fn into_text(self) -> Vec<u8>
+        ensures { result.items ≡ self }
+    {
+        let Lines { text, .. } = self;
+        text
+    }
+}
+
+/// Adds the items with one space between.
+fn put_items(report: &mut Vec<u8>, texts: &Texts, items: &[u32]) -> Result<(), AllocError>
+    ensures { OnOk result (report.new.items ≡ report.old.items ++ items_text items.now) }
+{
+    if let Some((first, others)) = items.split_first() {
+        put_number(report, u64::from(*first))?;
+        for item in others {
+            texts.put(report, *item)?;
+        }
+    }
+    Ok(())
+}
+
+fn put_sides(report: &mut Vec<u8>, texts: &Texts, rule: &Rule) -> Result<(), AllocError>
+    ensures { OnOk result (report.new.items ≡ report.old.items ++ sides_text rule.now) }
+{
+    put_items(report, texts, rule.left.items())?;
+    report.extend_from_slice(b" => ")?;
+    put_items(report, texts, rule.right.items())
+}
+
+fn put_ratios(report: &mut Vec<u8>, rule: &Rule) -> Result<(), AllocError>
+    ensures { OnOk result (report.new.items ≡ report.old.items ++ ratios_text rule.now) }
+{
+    put_fraction(report, &rule.confidence)?;
+    report.push(b' ')?;
+    put_fraction(report, &rule.lift)
+}

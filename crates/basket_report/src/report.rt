@@ -1,0 +1,93 @@
+//! A report that is being written.
+ghost use Rattle.std.specs.Prelude.{◌≡◌, ◌++◌, [], ℕ, List, IfOk, OnOk};
+ghost use Rattle.basket_report.specs.Report.{HasSoFar, rule_text, rules_report_of, set_of, set_text};
+ghost use Rattle.basket_report.specs.Style.{Wording, wording_of};
+
+use crate::lines::Lines;
+use crate::style::Style;
+use crate::table::Table;
+use basket_core::Counted;
+use basket_rules::Rule;
+use std::alloc::{AllocError, Global};
+
+/// A report so far.
+#[derive(Drop)]
+pub enum Report<'a> {
+    Lines(Lines),
+    Table(Table<'a>),
+}
+
+impl<'a> Report<'a> {
+    /// An empty report.
+    pub fn new(alloc: Global, style: Style<'a>) -> Result<Self, AllocError>
+        ensures { IfOk result (λ report. HasSoFar report (wording_of style.entry) []) }
+    {
+        Ok(match style {
+            Style::Numbers => Report::Lines(Lines::new(alloc)?),
+            Style::Names { names, separator } => Report::Table(Table::new(alloc, names, separator)),
+        })
+    }
+
+    /// An empty report, with room for the lines of the sets.
+    pub fn for_sets(alloc: Global, style: Style<'a>, sets: &[Counted]) -> Result<Self, AllocError>
+        ensures { IfOk result (λ report. HasSoFar report (wording_of style.entry) []) }
+    {
+        match style {
+            Style::Numbers => Ok(Report::Lines(Lines::for_sets(alloc, sets)?)),
+            Style::Names { .. } => Report::new(alloc, style),
+        }
+    }
+
+    /// An empty report, for rules between the sets.
+    pub fn for_rules(alloc: Global, style: Style<'a>, sets: &[Counted]) -> Result<Self, AllocError>
+        ensures { IfOk result (λ report. HasSoFar report (wording_of style.entry) []) }
+    {
+        match style {
+            Style::Numbers => Ok(Report::Lines(Lines::for_rules(alloc, sets)?)),
+            Style::Names { .. } => Report::new(alloc, style),
+        }
+    }
+
+    /// Adds a set with its count.
+    pub fn put_set(&mut self, items: &[u32], count: u64) -> Result<(), AllocError>
+        ensures { (wording : Wording) (text : List ℕ) → HasSoFar self.old wording text
+            → OnOk result (HasSoFar self.new wording (text ++ set_text wording (set_of items.now count))) }
+    {
+        match self {
+            Report::Lines(lines) => lines.put_set(items, count),
+            Report::Table(table) => table.put_set(items, count),
+        }
+    }
+
+    /// Adds a rule.
+    pub fn put_rule(&mut self, rule: &Rule) -> Result<(), AllocError>
+        ensures { (wording : Wording) (text : List ℕ) → HasSoFar self.old wording text
+            → OnOk result (HasSoFar self.new wording (text ++ rule_text wording rule.now)) }
+    {
+        match self {
+            Report::Lines(lines) => lines.put_rule(rule),
+            Report::Table(table) => table.put_rule(rule),
+        }
+    }
+
+    /// Adds rules.
+    pub fn put_rules(&mut self, rules: &[Rule]) -> Result<(), AllocError>
+        ensures { (wording : Wording) (text : List ℕ) → HasSoFar self.old wording text
+            → OnOk result (HasSoFar self.new wording (text ++ rules_report_of wording rules.now)) }
+    {
+        for rule in rules {
+            self.put_rule(rule)?;
+        }
+        Ok(())
+    }
+
+    /// The text of the report.
+    pub fn into_text(self) -> Result<Vec<u8>, AllocError>
+        ensures { (wording : Wording) (text : List ℕ) → HasSoFar self.entry wording text → IfOk result (λ written. written.items ≡ text) }
+    {
+        match self {
+            Report::Lines(lines) => Ok(lines.into_text()),
+            Report::Table(table) => table.into_text(),
+        }
+    }
+}

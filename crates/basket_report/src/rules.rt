@@ -1,0 +1,27 @@
+//! The report of association rules.
+ghost use Rattle.std.specs.Prelude.{IfOk};
+ghost use Rattle.basket_report.specs.Rules.{ReportsRules};
+ghost use Rattle.basket_report.specs.Style.{wording_of};
+
+use crate::report::Report;
+use crate::style::Style;
+use basket_core::Frequent;
+use basket_rules::rules_with;
+use std::alloc::{AllocError, Global};
+
+/// The report of the rules that meet the confidence, a numerator and a denominator. The rules of one
+/// union are made and written before those of the next.
+pub fn rules_report(
+    alloc: Global,
+    frequent: &Frequent,
+    confidence: (u32, u32),
+    style: Style<'_>,
+) -> Result<Vec<u8>, AllocError>
+    ensures { IfOk result (λ report. ReportsRules (wording_of style.entry) frequent.now confidence report.items) }
+{
+    let mut report = Report::for_rules(alloc, style, frequent.sets())?;
+    for number in 0..frequent.sets().len() {
+        report.put_rules(&rules_with(alloc, frequent, number, confidence)?)?;
+    }
+    report.into_text()
+}

@@ -1,0 +1,10 @@
+use basket_csv::Names;
+
+/// How a report writes items.
+#[derive(Clone, Copy, Debug)]
+pub enum Style<'a> {
+    /// By their numbers, a line for each set or rule.
+    Numbers,
+    /// By their names, a CSV record for each set or rule, with this byte between fields.
+    Names { names: &'a Names, separator: u8 },
+}

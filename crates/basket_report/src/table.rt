@@ -1,0 +1,138 @@
+//! CSV records of names.
+ghost use Rattle.std.specs.Prelude.{◌≡◌, ◌≢◌, ◌++◌, [], ◌∷◌, ℕ, List, IfOk, OnOk, decimal, false};
+ghost use Rattle.csv.specs.Writing.{is_blank, row_text};
+ghost use Rattle.basket_report.specs.Report.{set_of};
+ghost use Rattle.basket_report.specs.Texts.{ratio_text};
+ghost use Rattle.basket_report.specs.Table.{HasFields, HasText, names_of, rule_record, set_record, writer_of};
+
+use crate::texts::{put_fraction, put_number};
+use basket_core::Fraction;
+use basket_csv::Names;
+use basket_rules::Rule;
+use csv::{Writer, WriterBuilder};
+use std::alloc::{AllocError, Global};
+
+/// Records so far.
+#[derive(Drop)]
+pub struct Table<'a> {
+    names: &'a Names,
+    writer: Writer<Vec<u8>>,
+    /// The text of one number or fraction.
+    field: Vec<u8>,
+}
+
+impl<'a> Table<'a> {
+    /// No records, with this byte between fields.
+    pub fn new(alloc: Global, names: &'a Names, separator: u8) -> Self
+        ensures { HasText result separator names.now [] }
+    {
+        Table {
+            names,
+            writer: WriterBuilder::new()
+                .delimiter(separator)
+                .flexible(true)
+                .from_writer(Vec::new(alloc)),
+            field: Vec::new(alloc),
+        }
+    }
+
+    /// Adds the record of a set with its count.
+    pub fn put_set(&mut self, items: &[u32], count: u64) -> Result<(), AllocError>
+        ensures { (separator : ℕ) (names : List (List ℕ)) (text : List ℕ) → HasText self.old separator names text
+            → OnOk result (HasText self.new separator names (text ++ set_record separator names (set_of items.now count))) }
+    {
+        put_number_field(&mut self.writer, &mut self.field, count)?;
+        put_names(&mut self.writer, self.names, items)?;
+        end_record(&mut self.writer)
+    }
+
+    /// Adds the record of a rule.
+    pub fn put_rule(&mut self, rule: &Rule) -> Result<(), AllocError>
+        ensures { (separator : ℕ) (names : List (List ℕ)) (text : List ℕ) → HasText self.old separator names text
+            → OnOk result (HasText self.new separator names (text ++ rule_record separator names rule.now)) }
+    {
+        let Table {
+            names,
+            writer,
+            field,
+        } = self;
+        put_number_field(writer, field, rule.count)?;
+        put_fraction_field(writer, field, &rule.confidence)?;
+        put_fraction_field(writer, field, &rule.lift)?;
+        put_number_field(writer, field, rule.left.len() as u64)?;
+        put_names(writer, names, rule.left.items())?;
+        put_names(writer, names, rule.right.items())?;
+        end_record(writer)
+    }
+
+    /// The text of all records.
+    pub fn into_text(self) -> Result<Vec<u8>, AllocError>
+        ensures { (separator : ℕ) (names : List (List ℕ)) (text : List ℕ) → HasText self.entry separator names text
+            → IfOk result (λ written. written.items ≡ text) }
+    {
+        let Table { writer, .. } = self;
+        // A vector takes all bytes, so nothing but memory is wanting.
+        writer.into_inner().map_err(|_| AllocError)
+    }
+}
+
+/// Adds a field to the record that is being written.
+fn put_field(writer: &mut Writer<Vec<u8>>, field: &[u8]) -> Result<(), AllocError>
+    ensures { (separator : ℕ) (text : List ℕ) (fields : List (List ℕ)) → HasFields writer.old separator text fields
+        → is_blank (writer_of separator) (fields ++ field.now ∷ []) ≡ false → OnOk result (HasFields writer.new separator text (fields ++ field.now ∷ [])) }
+{
+    match writer.write_field(field) {
+        Ok(()) => Ok(()),
+        Err(_) => Err(AllocError),
+    }
+}
+
+/// Adds a number.
+fn put_number_field(
+    writer: &mut Writer<Vec<u8>>,
+    field: &mut Vec<u8>,
+    number: u64,
+) -> Result<(), AllocError>
+    ensures { (separator : ℕ) (text : List ℕ) (fields : List (List ℕ)) → HasFields writer.old separator text fields
+        → OnOk result (HasFields writer.new separator text (fields ++ decimal number ∷ [])) }
+{
+    field.clear();
+    put_number(field, number)?;
+    put_field(writer, field)
+}
+
+/// Adds a fraction, behind another field.
+fn put_fraction_field(
+    writer: &mut Writer<Vec<u8>>,
+    field: &mut Vec<u8>,
+    fraction: &Fraction,
+) -> Result<(), AllocError>
+    ensures { (separator : ℕ) (text : List ℕ) (fields : List (List ℕ)) → HasFields writer.old separator text fields → fields ≢ []
+        → OnOk result (HasFields writer.new separator text (fields ++ ratio_text fraction.now ∷ [])) }
+{
+    field.clear();
+    put_fraction(field, fraction)?;
+    put_field(writer, field)
+}
+
+/// Adds the names of some items, behind another field.
+fn put_names(writer: &mut Writer<Vec<u8>>, names: &Names, items: &[u32]) -> Result<(), AllocError>
+    ensures { (separator : ℕ) (text : List ℕ) (fields : List (List ℕ)) → HasFields writer.old separator text fields → fields ≢ []
+        → OnOk result (HasFields writer.new separator text (fields ++ names_of names.now items.now)) }
+{
+    for item in items {
+        put_field(writer, names.get(*item).unwrap_or("").as_bytes())?;
+    }
+    Ok(())
+}
+
+/// Ends a record that has a field.
+fn end_record(writer: &mut Writer<Vec<u8>>) -> Result<(), AllocError>
+    ensures { (separator : ℕ) (text : List ℕ) (fields : List (List ℕ)) → HasFields writer.old separator text fields → fields ≢ []
+        → OnOk result (HasFields writer.new separator (text ++ row_text (writer_of separator) fields) []) }
+{
+    match writer.end_record() {
+        Ok(()) => Ok(()),
+        Err(_) => Err(AllocError),
+    }
+}
