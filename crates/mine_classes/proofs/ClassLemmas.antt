@@ -21,12 +21,12 @@ use Rattle.mine_classes.proofs.ConditionalLemmas.{all_each, each_all, conditiona
 
 -- ---- the greatest rank of a set
 
-ends_in-push : (rank : ℕ) (front : List ℕ) → ends_in rank (front ++ rank ∷ []) ≡ true
+pub ends_in-push : (rank : ℕ) (front : List ℕ) → ends_in rank (front ++ rank ∷ []) ≡ true
 ends_in-push rank [] = eq-eqb rank rank refl
 ends_in-push rank (x ∷ []) = eq-eqb rank rank refl
 ends_in-push rank (x ∷ y ∷ front) = ends_in-push rank (y ∷ front)
 
-front_of : (rank : ℕ) (set : List ℕ) → ends_in rank set ≡ true → (front : List ℕ) × (set ≡ front ++ rank ∷ [])
+pub front_of : (rank : ℕ) (set : List ℕ) → ends_in rank set ≡ true → (front : List ℕ) × (set ≡ front ++ rank ∷ [])
 front_of rank [] h = absurd (true≢false (sym h))
 front_of rank (x ∷ []) h = ([], ap (λ r. r ∷ []) (eqb-true x rank h))
 front_of rank (x ∷ y ∷ set) h = let p = front_of rank (y ∷ set) h in (x ∷ p.0, ap (λ s. x ∷ s) p.1)
@@ -44,12 +44,12 @@ some_end (x ∷ y ∷ set) some = some_end (y ∷ set) (λ e. cc)
 pub Member-end : (rank : ℕ) (set : List ℕ) → ends_in rank set ≡ true → Member rank set
 Member-end rank set h = let p = front_of rank set h in subst (Member rank) (sym p.1) (Member-append_right rank p.0 (rank ∷ []) (inl refl))
 
-push_some : (rank : ℕ) (front : List ℕ) → front ++ rank ∷ [] ≢ []
+pub push_some : (rank : ℕ) (front : List ℕ) → front ++ rank ∷ [] ≢ []
 push_some rank front e = true≢false (sym (ends_in-push rank front) ∙ ap (ends_in rank) e)
 
 -- ---- rising sets with a greater rank
 
-push_rises : (rank : ℕ) (front : List ℕ) → IsRising front → ((item : ℕ) → Member item front → item < rank) → IsRising (front ++ rank ∷ [])
+pub push_rises : (rank : ℕ) (front : List ℕ) → IsRising front → ((item : ℕ) → Member item front → item < rank) → IsRising (front ++ rank ∷ [])
 push_rises rank [] up below = cons_rises rank [] (λ y m. absurd m) nil_rises
 push_rises rank (x ∷ front) up below = cons_rises x (front ++ rank ∷ []) above (push_rises rank front (rest_rises x front up) (λ item m. below item (inr m)))
   where
@@ -60,12 +60,12 @@ push_rises rank (x ∷ front) up below = cons_rises x (front ++ rank ∷ []) abo
       | inr (inr n) ↦ absurd n
     ]
 
-front_rises : (rank : ℕ) (front : List ℕ) → IsRising (front ++ rank ∷ []) → IsRising front
+pub front_rises : (rank : ℕ) (front : List ℕ) → IsRising (front ++ rank ∷ []) → IsRising front
 front_rises rank [] up = nil_rises
 front_rises rank (x ∷ front) up =
     cons_rises x front (λ y m. first_below x (front ++ rank ∷ []) up y (Member-append_left y front (rank ∷ []) m)) (front_rises rank front (rest_rises x (front ++ rank ∷ []) up))
 
-front_below : (rank : ℕ) (front : List ℕ) → IsRising (front ++ rank ∷ []) → (item : ℕ) → Member item front → item < rank
+pub front_below : (rank : ℕ) (front : List ℕ) → IsRising (front ++ rank ∷ []) → (item : ℕ) → Member item front → item < rank
 front_below rank [] up item m = absurd m
 front_below rank (x ∷ front) up item (inl e) = subst (λ y. y < rank) e (first_below x (front ++ rank ∷ []) up rank (Member-append_right rank front (rank ∷ []) (inl refl)))
 front_below rank (x ∷ front) up item (inr m) = front_below rank front (rest_rises x (front ++ rank ∷ []) up) item m
@@ -106,7 +106,7 @@ module _ (baskets : List Weighted) (least rank : ℕ) where
   ]
 
   -- what a list of a class has
-  abbrev IsOfClass : Counted → Type 0
+  abbrev pub IsOfClass : Counted → Type 0
   IsOfClass c = IsNonemptySet c.set × (ends_in rank c.set ≡ true) × (frequent c.set ≡ true) × (c.count ≡ support_of baskets c.set)
 
   abbrev IsWithin : Counted → Type 0
@@ -131,7 +131,7 @@ pub Member-sets : (set : List ℕ) (list : List Counted) → Member set (sets li
 Member-sets set list m = Member-from_map (λ (c : Counted). c.set) set list m
 
 -- sets with one rank added differ where the sets do
-pushed_distinct : (rank : ℕ) (list : List Counted) → IsDistinct (pointwise nat_eq) (sets list) → IsDistinct (pointwise nat_eq) (sets (map (with_rank rank) list))
+pub pushed_distinct : (rank : ℕ) (list : List Counted) → IsDistinct (pointwise nat_eq) (sets list) → IsDistinct (pointwise nat_eq) (sets (map (with_rank rank) list))
 unfolding IsDistinct
 pushed_distinct rank [] distinct = tt
 pushed_distinct rank (c ∷ list) distinct = (
@@ -147,13 +147,26 @@ pushed_distinct rank (c ∷ list) distinct = (
         true≢false (sym ((bytes_decides c.set d.set).1 (append_cancel_right c.set d.set (rank ∷ []) e))
         ∙ at_Member (λ y. pointwise nat_eq c.set y ≡ false) d.set (sets list) distinct.0 (Member-map (λ (x : Counted). x.set) d list m)))
 
+-- so do they and the rank alone, where no set is empty
+pub extended_distinct : (rank support : ℕ) (list : List Counted) → IsDistinct (pointwise nat_eq) (sets list) → ((c : Counted) → Member c list → c.set ≢ [])
+    → IsDistinct (pointwise nat_eq) (sets (extended rank support list))
+unfolding IsDistinct
+extended_distinct rank support list distinct some = (
+  All-from_Member (λ y. pointwise nat_eq (rank ∷ []) y ≡ false) (sets (map (with_rank rank) list)) alone,
+  pushed_distinct rank list distinct,
+)
+  where
+    alone : (y : List ℕ) → Member y (sets (map (with_rank rank) list)) → pointwise nat_eq (rank ∷ []) y ≡ false
+    alone y m =
+        let e = Member-sets y (map (with_rank rank) list) m in
+        let d = Member-from_map (with_rank rank) e.0 list e.1 in
+        subst (λ z. pointwise nat_eq (rank ∷ []) z ≡ false) (ap (λ (x : Counted). x.set) d.2 ∙ e.2)
+        (apart (rank ∷ []) (d.0.set ++ rank ∷ []) (λ same. some d.0 d.1 (sym (append_cancel_right [] d.0.set (rank ∷ []) same))))
+
 pub classes_are_conditional : ClassesAreConditional
 unfolding IsDistinct
 classes_are_conditional baskets least rank list one lists = record {
-  distinct = (
-    All-from_Member (λ y. pointwise nat_eq (rank ∷ []) y ≡ false) (sets (map (with_rank rank) list)) alone,
-    pushed_distinct rank list lists.distinct,
-  );
+  distinct = extended_distinct rank (support_of baskets (rank ∷ [])) list lists.distinct (λ c m. (within_list c m).0.1);
   sound = All-from_recursion (IsOfClass baskets least rank) (extended rank (support_of baskets (rank ∷ [])) list) (
     ((cons_rises rank [] (λ y m. absurd m) nil_rises, λ e. cc), eq-eqb rank rank refl, one, refl),
     All-from_Member (IsOfClass baskets least rank) (map (with_rank rank) list) (λ d m.
@@ -167,13 +180,6 @@ classes_are_conditional baskets least rank list one lists = record {
   where
     within_list : (c : Counted) → Member c list → IsWithin baskets least rank c
     within_list c m = at_Member (IsWithin baskets least rank) c list (recursion_from_All (IsWithin baskets least rank) list lists.sound) m
-
-    alone : (y : List ℕ) → Member y (sets (map (with_rank rank) list)) → pointwise nat_eq (rank ∷ []) y ≡ false
-    alone y m =
-        let e = Member-sets y (map (with_rank rank) list) m in
-        let d = Member-from_map (with_rank rank) e.0 list e.1 in
-        subst (λ z. pointwise nat_eq (rank ∷ []) z ≡ false) (ap (λ (x : Counted). x.set) d.2 ∙ e.2)
-        (apart (rank ∷ []) (d.0.set ++ rank ∷ []) (λ same. (within_list d.0 d.1).0.1 (sym (append_cancel_right [] d.0.set (rank ∷ []) same))))
 
     listed : (front : List ℕ) → IsNonemptySet (front ++ rank ∷ []) → is_frequent baskets (Count least) (front ++ rank ∷ []) ≡ true
         → Member (counted baskets (front ++ rank ∷ [])) (extended rank (support_of baskets (rank ∷ [])) list)

@@ -10,3 +10,4 @@ mod SumLemmas
 mod PlaceLemmas
 mod CodedLemmas
 mod OrderLemmas
+mod MinedLemmas

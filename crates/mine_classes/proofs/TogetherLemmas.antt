@@ -144,7 +144,7 @@ least_support_settles baskets minimum least list is lists = record {
 
 -- ---- coded baskets
 
-ranks_below : (items : List ℕ) (places : List Weighted) → AllByRecursion (IsCodedPlace items) places → (rank : ℕ) → Member rank (flat_map (λ place. place.basket) places) → rank < length items
+pub ranks_below : (items : List ℕ) (places : List Weighted) → AllByRecursion (IsCodedPlace items) places → (rank : ℕ) → Member rank (flat_map (λ place. place.basket) places) → rank < length items
 ranks_below items [] coded rank m = absurd m
 ranks_below items (place ∷ places) coded rank m = elim (Member-append rank place.basket (flat_map (λ p. p.basket) places) m) [
   | inl here ↦ coded.0.1 rank (has-from_Member place.basket rank here)

@@ -6,3 +6,4 @@ pub mod Runs
 pub mod Pairs
 pub mod Places
 pub mod Worked
+pub mod Mined

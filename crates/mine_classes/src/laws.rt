@@ -2,6 +2,7 @@
 //! contract is the law.
 ghost use Rattle.mine_classes.specs.Conditional.{ConditionalSupports};
 ghost use Rattle.mine_classes.specs.Classes.{ClassesAreListed, ClassesAreConditional, RareRanksHaveNoClass, ClassesAreAll, SupportsSettleFrequent, LeastSupportSettles, ClassesByCodings, DecodedClassesAreAll};
+ghost use Rattle.mine_classes.specs.Mined.{ClassItemsAreAll, ClassSizesAddUp, CodedRanksAreFrequent, DeepClassesAreLarge, ListsHaveClassSize};
 
 use basket_core::laws::decoding_keeps_frequent;
 
@@ -60,3 +61,33 @@ pub fn decoded_classes_are_all()
 {
     decoding_keeps_frequent();
 }
+
+/// A list of a class has as many sets as the class.
+pub fn lists_have_class_size()
+    ensures { ListsHaveClassSize }
+{}
+
+/// Lists of all classes as items are together the frequent sets of the baskets that were coded, each
+/// once.
+pub fn class_items_are_all()
+    ensures { ClassItemsAreAll }
+{
+    decoding_keeps_frequent();
+}
+
+/// The sizes of all classes add up to the number of frequent sets.
+pub fn class_sizes_add_up()
+    ensures { ClassSizesAddUp }
+{}
+
+/// A class with a set of one rank more than a number has at least 2 to that number sets, which are
+/// its subsets that have the rank of the class.
+pub fn deep_classes_are_large()
+    ensures { DeepClassesAreLarge }
+{}
+
+/// Each rank of a coded database is that of a frequent item, also where equal baskets of ranks were
+/// merged.
+pub fn coded_ranks_are_frequent()
+    ensures { CodedRanksAreFrequent }
+{}

@@ -13,8 +13,8 @@ use Rattle.basket_sets.specs.Itemset.{IsRising, has, contains}
 use Rattle.basket_sets.specs.Minimum.{meets}
 use Rattle.basket_sets.specs.Support.{weight_at, support_of, total_of, items_of}
 use Rattle.basket_sets.proofs.theory.Frequent.{IsSound, frequent_is_unique, same_supports}
-use Rattle.basket_sets.proofs.theory.Members.{Member, Member-append, Member-map, Member-from_map, Member-from_filter}
-use Rattle.basket_core.proofs.RankLemmas.{Member-into_ranked}
+use Rattle.basket_sets.proofs.theory.Members.{Member, Member-append, Member-map, Member-from_map, Member-filter, Member-from_filter}
+use Rattle.basket_core.proofs.RankLemmas.{Member-ranked, Member-into_ranked}
 use Rattle.basket_sets.proofs.theory.Rising.{nil_rises, cons_rises, Member-rising, Member-into_rising, Member-from_has, has-from_Member, has_each, contains_each, same_test}
 use Rattle.basket_sets.proofs.theory.Support.{subsets_are_frequent, frequent_items, in_items, at_least_one}
 use Rattle.basket_sets.proofs.theory.Merging.{merging_keeps_supports, merging_keeps_weights}
@@ -78,6 +78,32 @@ coded_total items (place ∷ baskets) =
     sum_by-cons (weight_at []) (coded_place items place) (map (coded_place items) baskets) ∙ ap (λ n. place.weight + n) (coded_total items baskets)
     ∙ sym (sum_by-cons (weight_at []) place baskets)
 
+-- a rank has the support of its item
+pub coded_support : (items : List ℕ) (baskets : List Weighted) (rank : ℕ) → rank < length items
+    → support_of (map (coded_place items) baskets) (rank ∷ []) ≡ support_of baskets (get_or items rank 0 ∷ [])
+coded_support items [] rank below = refl
+coded_support items (place ∷ baskets) rank below =
+    sum_by-cons (weight_at (rank ∷ [])) (coded_place items place) (map (coded_place items) baskets)
+    ∙ ap (λ b. cond b place.weight 0 + support_of (map (coded_place items) baskets) (rank ∷ []))
+    (same_test (contains (coded items place.basket) (rank ∷ [])) (contains place.basket (get_or items rank 0 ∷ [])) there back)
+    ∙ ap (λ n. weight_at (get_or items rank 0 ∷ []) place + n) (coded_support items baskets rank below)
+    ∙ sym (sum_by-cons (weight_at (get_or items rank 0 ∷ [])) place baskets)
+  where
+    there : contains (coded items place.basket) (rank ∷ []) ≡ true → contains place.basket (get_or items rank 0 ∷ []) ≡ true
+    there h =
+        let r = from_ranks 0 items place.basket rank (has_each (coded items place.basket) (rank ∷ []) h rank (inl refl)) in
+        contains_each place.basket (get_or items rank 0 ∷ []) (λ item m. elim m [
+          | inl e ↦ subst (λ x. Member x place.basket) (ap (λ k. get_or items k 0) (omega (arith, r.2)) ∙ e) (Member-from_has place.basket (get_or items r.0 0) r.3)
+          | inr n ↦ absurd n
+        ])
+
+    back : contains place.basket (get_or items rank 0 ∷ []) ≡ true → contains (coded items place.basket) (rank ∷ []) ≡ true
+    back h = contains_each (coded items place.basket) (rank ∷ []) (λ other m. elim m [
+      | inl e ↦ subst (λ x. Member x (coded items place.basket)) (omega (arith, e))
+          (into_ranks 0 items place.basket rank below (has-from_Member place.basket (get_or items rank 0) (has_each place.basket (get_or items rank 0 ∷ []) h (get_or items rank 0) (inl refl))))
+      | inr n ↦ absurd n
+    ])
+
 -- ---- ranks as items
 
 -- an item of decoded ranks is the item of one of them
@@ -136,6 +162,15 @@ item_ranked baskets minimum item h =
     Member-map (λ (e : ℕ × ℕ). e.0) entry (ranked (filter (λ e. meets minimum e.1 (total_of baskets)) (item_supports baskets)))
     (Member-into_ranked _ entry (Member-from_filter (λ (e : ℕ × ℕ). meets minimum e.1 (total_of baskets)) entry (item_supports baskets)
     (Member-map (λ x. (x, support_of baskets (x ∷ []))) item (items_of baskets) m) h))
+
+-- an item that has a rank is frequent
+pub ranked_is_frequent : (baskets : List Weighted) (minimum : Minimum) (item : ℕ) → Member item (ranks_of baskets minimum) → is_frequent baskets minimum (item ∷ []) ≡ true
+ranked_is_frequent baskets minimum item m =
+    let e = Member-from_map (λ (e : ℕ × ℕ). e.0) item (ranked (filter (λ e. meets minimum e.1 (total_of baskets)) (item_supports baskets))) m in
+    let f = Member-filter (λ (e : ℕ × ℕ). meets minimum e.1 (total_of baskets)) e.0 (item_supports baskets) (Member-ranked _ e.0 e.1) in
+    let s = Member-from_map (λ x. (x, support_of baskets (x ∷ []))) e.0 (items_of baskets) f.0 in
+    subst (λ x. is_frequent baskets minimum (x ∷ []) ≡ true) (ap (λ (e : ℕ × ℕ). e.0) s.2 ∙ e.2)
+    (subst (λ n. meets minimum n (total_of baskets) ≡ true) (sym (ap (λ (e : ℕ × ℕ). e.1) s.2)) f.1)
 
 -- coding changes no support of a frequent set, and makes no set frequent
 module _ (baskets : List Weighted) (minimum : Minimum) where

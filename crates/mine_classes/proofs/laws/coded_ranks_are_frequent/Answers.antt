@@ -1,0 +1,5 @@
+use Rattle.mine_classes.proofs.MinedLemmas as lemmas
+use Rattle.mine_classes.proofs.laws.coded_ranks_are_frequent.Goals as goal
+
+pub returns : goal.returns
+returns c = lemmas.coded_ranks_are_frequent

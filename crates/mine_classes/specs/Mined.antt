@@ -1,0 +1,51 @@
+-- What a miner of classes answers, and what the answers for all classes add up to.
+use Rattle.std.specs.Prelude.{◌≡◌, ◌≤◌, ◌<◌, ◌+◌, ◌^◌, ℕ, IsTrue, List, [], ◌∷◌, length, map, slice_index_or}
+use Rattle.std.specs.List.{flat_map, range_with_len, sum_by}
+use Rattle.basket_sets.specs.declared.weighted.Weighted.{Weighted}
+use Rattle.basket_sets.specs.declared.minimum.Minimum.{Minimum}
+use Rattle.basket_sets.specs.declared.counted.Counted.{Counted}
+use Rattle.basket_core.specs.Codes.{Coding, IsCoding, baskets_of, coding_of, decoded_set, frequent_of_coding, merged_coding}
+use Rattle.basket_core.specs.Depth.{HasSetOfSize}
+use Rattle.basket_sets.specs.Frequent.{ListsOnce, is_frequent}
+use Rattle.mine_classes.specs.Classes.{ListsClass, class_of}
+
+-- the sets of a class of coded baskets as items, each once with its support, in any order
+pub record ListsClassItems (coding : Coding) (rank : ℕ) (list : List Counted) : Type 0 where
+  pub sets : List Counted
+  pub listed : ListsClass coding.baskets coding.minimum rank sets
+  pub decoded : list ≡ map (decoded_set coding.items) sets
+
+-- how many sets a class of coded baskets has
+abbrev pub class_size : Coding → ℕ → ℕ
+class_size coding rank = length (class_of coding.baskets coding.minimum rank)
+
+-- each rank is that of a frequent item
+abbrev pub RanksAreFrequent : Coding → Type 0
+RanksAreFrequent coding = (rank : ℕ) → rank < length coding.items → IsTrue (is_frequent coding.baskets coding.minimum (rank ∷ []))
+
+-- so it is where a database was coded, and where equal baskets of ranks were merged
+abbrev pub CodedRanksAreFrequent : Type 0
+CodedRanksAreFrequent = (baskets : List Weighted) (minimum : Minimum) → RanksAreFrequent (coding_of baskets minimum) × RanksAreFrequent (merged_coding (coding_of baskets minimum))
+
+-- a list of a class has as many sets as the class
+abbrev pub ListsHaveClassSize : Type 0
+ListsHaveClassSize = (coding : Coding) (rank : ℕ) (list : List Counted) → ListsClassItems coding rank list → length list ≡ class_size coding rank
+
+-- a list for each rank, from 0 on, of its class as items
+abbrev pub ListClassItems : Coding → List (List Counted) → Type 0
+ListClassItems coding classes = (rank : ℕ) → rank < length classes → ListsClassItems coding rank (slice_index_or classes rank [])
+
+-- the lists of all classes are together the frequent sets of the baskets that were coded, each once
+abbrev pub ClassItemsAreAll : Type 0
+ClassItemsAreAll = (coding : Coding) (classes : List (List Counted)) → IsCoding coding → length classes ≡ length coding.items
+    → ListClassItems coding classes → ListsOnce (baskets_of coding) coding.minimum (flat_map (λ class. class) classes)
+
+-- the sizes of all classes add up to the number of frequent sets
+abbrev pub ClassSizesAddUp : Type 0
+ClassSizesAddUp = (coding : Coding) → IsCoding coding
+    → sum_by (class_size coding) (range_with_len 0 (length coding.items)) ≡ length (frequent_of_coding coding)
+
+-- a class with a set of one rank more than a number has 2 to that number sets or more
+abbrev pub DeepClassesAreLarge : Type 0
+DeepClassesAreLarge = (coding : Coding) (rank size : ℕ) → HasSetOfSize (class_of coding.baskets coding.minimum rank) (size + 1)
+    → 2 ^ size ≤ class_size coding rank
