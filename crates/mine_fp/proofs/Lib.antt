@@ -1,0 +1,3 @@
+mod LevelLemmas
+mod ClassLemmas
+mod ForestLemmas

@@ -1,0 +1,2 @@
+pub mod Level
+pub mod Forest
