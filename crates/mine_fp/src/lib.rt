@@ -4,5 +4,7 @@
 
 mod forest;
 mod level;
+mod tree;
 
 pub use forest::{Forest, fp_class};
+pub use tree::FpTree;
