@@ -1,5 +1,5 @@
 //! The conditional database of a rank.
-ghost use Rattle.std.specs.Prelude.{◌≡◌, ◌<◌, IfOk, map};
+ghost use Rattle.std.specs.Prelude.{◌≡◌, ◌<◌, IfOk, length, map};
 ghost use Rattle.basket_core.specs.Codes.{IsCoding, baskets_of};
 ghost use Rattle.basket_sets.specs.declared.minimum.Minimum.TheVariants.{Count};
 ghost use Rattle.mine_classes.specs.Conditional.{conditional};
@@ -23,12 +23,15 @@ pub struct Conditional {
 }
 
 impl Model for Conditional {
+    ghost use Rattle.std.specs.Prelude.{◌≡◌, length};
     ghost use Rattle.basket_core.specs.Codes.{Coding};
     ghost use Rattle.basket_sets.specs.declared.minimum.Minimum.TheVariants.{Count};
 
     ghost Value = { Coding };
 
     ghost view = { λ c. record { items = c.ranks.items; minimum = Count c.least; baskets = c.baskets.baskets } };
+
+    ghost invariant = { λ c. c.baskets.ranks ≡ length c.ranks.items };
 }
 
 impl Conditional {
@@ -70,7 +73,8 @@ impl Conditional {
 
     /// The baskets, by the new numbers of the ranks.
     pub fn into_baskets(self) -> Ordered
-        ensures { result.baskets ≡ self.baskets }
+        ensures baskets { result.baskets ≡ self.baskets }
+        ensures ranks { result.ranks ≡ length self.items }
     {
         let Conditional { baskets, .. } = self;
         baskets

@@ -1,0 +1,237 @@
+-- What a class gets from the conditional database of its rank, and how large it is.
+use Rattle.std.proofs.Common.{◌≡◌, ℕ, ◌+◌, ◌-◌, ◌<◌, ◌≤◌, true, List, [], ◌∷◌, ◌++◌, length, get_or, map, suc, false, leb, append_assoc, refl, sym, ap, ◌∙◌, subst, inl, inr, arith}
+use Rattle.std.specs.List.{AllByRecursion, flat_map, range_with_len}
+use Rattle.std.proofs.lemmas.Bool.{and_from, and_parts, cases_Bool, cases_lt, eq-eqb, le-leb, leb-true}
+use Rattle.std.proofs.lemmas.Grind.{flat_map-append}
+use Rattle.std.proofs.lemmas.List.{append-nil, get_or_append_left, get_or-append_right, length-append, length-map, map-append}
+use Rattle.std.proofs.lemmas.List.Elements.{All-from_recursion, recursion_from_All}
+use Rattle.std.proofs.lemmas.List.FromFn.{get_or-map-range_with_len, length-map-range_with_len}
+use Rattle.basket_core.specs.Codes.{Coding, IsCodedPlace, IsCoding, decoded_set, decoded}
+use Rattle.basket_core.specs.Depth.{HasSetOfSize}
+use Rattle.basket_core.proofs.theory.Decoding.{ranks_below}
+use Rattle.basket_sets.specs.declared.weighted.Weighted.{Weighted}
+use Rattle.basket_sets.specs.declared.counted.Counted.{Counted}
+use Rattle.basket_sets.specs.declared.minimum.Minimum.{Minimum}
+use Rattle.basket_sets.specs.declared.minimum.Minimum.TheVariants.{Count}
+use Rattle.basket_sets.specs.Counts.{AllBelow}
+use Rattle.basket_sets.specs.Database.{HasWeight}
+use Rattle.basket_sets.specs.Frequent.{IsNonemptySet, ListsOnce, counted, frequent_of, is_frequent}
+use Rattle.basket_sets.specs.Itemset.{rising}
+use Rattle.basket_sets.specs.Support.{support_of}
+use Rattle.basket_sets.proofs.theory.Frequent.{frequent_once, once_is_as_long}
+use Rattle.basket_sets.proofs.theory.Members.{Member, All-from_Member, Member-append, Member-filter, Member-map, Member-from_Contains, Contains-from_Member, at_Member}
+use Rattle.basket_sets.proofs.theory.Rising.{cons_rises, has-from_Member, nil_rises}
+use Rattle.mine_classes.specs.Classes.{ClassesAreAll, ClassesAreListed, ClassesByCodings, ListClasses, ListsClass, RanksAreBelow, class_of, ends_in, extended, with_rank}
+use Rattle.mine_classes.specs.Mined.{ListsHaveClassSize}
+use Rattle.mine_classes.specs.Ordered.{AreRankBaskets, IsRankBasket, RankBaskets}
+use Rattle.mine_classes.specs.Pairs.{kept_ranks}
+use Rattle.mine_fp.specs.declared.level.Level.{Level}
+use Rattle.mine_fp.specs.Level.{IsBelow, IsLevel, ListsAllAsItems, ListsClassAsItems, as_items}
+use Rattle.mine_fp.proofs.LevelLemmas.{inner_as_items, kept_rises, kept_short, length-decoded}
+
+-- ---- lists of classes
+
+pub more_classes : (baskets : List Weighted) (least : ℕ) (classes : List (List Counted)) (class : List Counted) → ListClasses baskets (Count least) classes
+    → ListsClass baskets (Count least) (length classes) class → ListClasses baskets (Count least) (classes ++ class ∷ [])
+more_classes baskets least classes class lists last rank below = elim (cases_lt rank (length classes)) [
+  | inl here ↦ subst (ListsClass baskets (Count least) rank) (sym (get_or_append_left classes (class ∷ []) [] rank here)) (lists rank here)
+  | inr past ↦
+      (let same : rank ≡ length classes = omega (arith, below, length-append classes (class ∷ [])) in
+      let at : get_or (classes ++ class ∷ []) rank [] ≡ class = get_or-append_right classes (class ∷ []) (length classes) rank [] refl past ∙ (let none : rank - length classes ≡ 0 = omega arith in ap (λ k. get_or (class ∷ []) k []) none) in
+      subst (ListsClass baskets (Count least) rank) (sym at) (subst (λ r. ListsClass baskets (Count least) r class) (sym same) last))
+]
+
+-- the classes of the ranks below one, and its own, have no more sets than are frequent
+module _ (all : ClassesAreAll) (listed : ClassesAreListed) (value : RankBaskets) (are : AreRankBaskets value) (least : ℕ) where
+  abbrev classes_from : ℕ → ℕ → List (List Counted)
+  classes_from first count = map (class_of value.baskets (Count least)) (range_with_len first count)
+
+  ranks_are_below : RanksAreBelow value.ranks value.baskets
+  ranks_are_below rank here = within value.baskets (recursion_from_All (IsRankBasket value.ranks) value.baskets are.places) (Member-from_Contains rank (flat_map (λ place. place.basket) value.baskets) here)
+    where
+      within : (places : List Weighted) → AllByRecursion (IsRankBasket value.ranks) places → Member rank (flat_map (λ place. place.basket) places) → rank < value.ranks
+      within [] each m = absurd m
+      within (place ∷ places) each m = elim (Member-append rank place.basket (flat_map (λ p. p.basket) places) m) [
+        | inl n ↦ each.0.below rank (has-from_Member place.basket rank n)
+        | inr n ↦ within places each.1 n
+      ]
+
+  pub all_once : (classes : List (List Counted)) → length classes ≡ value.ranks → ListClasses value.baskets (Count least) classes → ListsOnce value.baskets (Count least) (flat_map (λ class. class) classes)
+  all_once classes long lists = all value.baskets (Count least) classes (subst (λ n. RanksAreBelow n value.baskets) (sym long) ranks_are_below) lists
+
+  fit_with : (classes : List (List Counted)) (more : ℕ) → length classes + suc more ≡ value.ranks → ListClasses value.baskets (Count least) classes
+      → length (flat_map (λ class. class) classes) + length (class_of value.baskets (Count least) (length classes)) ≤ length (frequent_of value.baskets (Count least))
+  fit_with classes more long lists =
+      let rank = length classes in
+      let last = classes_from rank (suc more) in
+      let full = classes ++ last in
+      let size : length full ≡ value.ranks = length-append classes last ∙ ap (λ n. rank + n) (length-map-range_with_len (class_of value.baskets (Count least)) rank (suc more)) ∙ long in
+      let once = all_once full size (whole last rank refl) in
+      let cut = ap length (flat_map-append (λ class. class) classes last) ∙ length-append (flat_map (λ class. class) classes) (flat_map (λ class. class) last) in
+      let next = length-append (class_of value.baskets (Count least) rank) (flat_map (λ class. class) (classes_from (rank + 1) more)) in
+      omega (arith, once_is_as_long value.baskets (Count least) (flat_map (λ class. class) full) once, cut, next)
+    where
+      whole : (last : List (List Counted)) (rank : ℕ) → length classes ≡ rank → ListClasses value.baskets (Count least) (classes ++ classes_from rank (suc more))
+      whole last rank same k below = elim (cases_lt k (length classes)) [
+        | inl here ↦ subst (ListsClass value.baskets (Count least) k) (sym (get_or_append_left classes (classes_from rank (suc more)) [] k here)) (lists k here)
+        | inr past ↦
+            (let long = length-append classes (classes_from rank (suc more)) in
+            let size = length-map-range_with_len (class_of value.baskets (Count least)) rank (suc more) in
+            let at = get_or-append_right classes (classes_from rank (suc more)) rank k [] same (omega arith)
+            ∙ get_or-map-range_with_len (class_of value.baskets (Count least)) rank (suc more) (k - rank) k [] (omega arith) (omega arith) in
+            subst (ListsClass value.baskets (Count least) k) (sym at) (listed value.baskets (Count least) k))
+      ]
+
+  pub classes_fit : (classes : List (List Counted)) (rank : ℕ) → length classes ≡ rank → rank < value.ranks → ListClasses value.baskets (Count least) classes
+      → length (flat_map (λ class. class) classes) + length (class_of value.baskets (Count least) rank) ≤ length (frequent_of value.baskets (Count least))
+  classes_fit classes rank long below lists =
+      subst (λ r. length (flat_map (λ class. class) classes) + length (class_of value.baskets (Count least) r) ≤ length (frequent_of value.baskets (Count least))) long
+      (fit_with classes (value.ranks - suc rank) (omega arith) lists)
+
+-- ---- sets of some size
+
+class_of_size : (baskets : List Weighted) (least rank : ℕ) → ClassesAreListed → (set : List ℕ) → IsNonemptySet set → ends_in rank set ≡ true → is_frequent baskets (Count least) set ≡ true
+    → HasSetOfSize (class_of baskets (Count least) rank) (length set)
+class_of_size baskets least rank listed set some ends met = (counted baskets set, (listed baskets (Count least) rank).complete set some ends met, refl)
+
+-- a frequent rank's class has a set of one rank
+pub alone_is_one : (baskets : List Weighted) (least rank : ℕ) → ClassesAreListed → is_frequent baskets (Count least) (rank ∷ []) ≡ true → HasSetOfSize (class_of baskets (Count least) rank) 1
+alone_is_one baskets least rank listed met = class_of_size baskets least rank listed (rank ∷ []) (cons_rises rank [] (λ y m. absurd m) nil_rises, λ e. cc) (eq-eqb rank rank refl) met
+
+-- a set of a class is frequent
+pub frequent_of_size : (baskets : List Weighted) (least rank size : ℕ) → HasSetOfSize (class_of baskets (Count least) rank) size → HasSetOfSize (frequent_of baskets (Count least)) size
+frequent_of_size baskets least rank size has =
+    let m = Member-filter (λ (c : Counted). ends_in rank c.set) has.0 (frequent_of baskets (Count least)) (Member-from_Contains has.0 (class_of baskets (Count least) rank) has.1) in
+    (has.0, Contains-from_Member has.0 (frequent_of baskets (Count least)) m.0, has.2)
+
+-- ---- the class of a rank and its conditional database
+
+-- a class that is listed has as many sets as the list
+pub listed_long : ListsHaveClassSize → (baskets : List Weighted) (minimum : Minimum) (rank : ℕ) (list : List Counted) → ListsClass baskets minimum rank list → length list ≡ length (class_of baskets minimum rank)
+listed_long sized baskets minimum rank list lists =
+    sym (length-map list (decoded_set []))
+    ∙ sized (record { items = []; minimum = minimum; baskets = baskets }) rank (map (decoded_set []) list) (record { sets = list; listed = lists; decoded = refl })
+
+module _ (level : Level) (rank : ℕ) (inner : Level) (is : IsBelow level rank (get_or level.names.items rank 0 ∷ level.suffix.items) inner)
+    (coded : ClassesByCodings) (met : is_frequent level.runs.baskets (Count level.least) (rank ∷ []) ≡ true) where
+  abbrev kept : List ℕ
+  kept = kept_ranks level.runs.baskets level.least rank
+
+  abbrev coding : Coding
+  coding = record { items = kept; minimum = Count level.least; baskets = inner.runs.baskets }
+
+  -- the class by the frequent sets of the conditional database
+  abbrev pub class_with : List Counted → List Counted
+  class_with list = extended rank (support_of level.runs.baskets (rank ∷ [])) (map (decoded_set kept) list)
+
+  own_least : (list : List Counted) → ListsOnce inner.runs.baskets (Count inner.least) list → ListsOnce inner.runs.baskets (Count level.least) list
+  own_least list once = subst (λ n. ListsOnce inner.runs.baskets (Count n) list) is.least once
+
+  pub lists_class : (list : List Counted) → ListsOnce inner.runs.baskets (Count inner.least) list → ListsClass level.runs.baskets (Count level.least) rank (class_with list)
+  lists_class list once = coded level.runs.baskets level.least rank coding list met is.coding refl is.weights (own_least list once)
+
+  abbrev IsFrequentWithin : Counted → Type 0
+  IsFrequentWithin c = IsNonemptySet c.set × (is_frequent inner.runs.baskets (Count level.least) c.set ≡ true) × (c.count ≡ support_of inner.runs.baskets c.set)
+
+  sound : (list : List Counted) → ListsOnce inner.runs.baskets (Count inner.least) list → AllByRecursion IsFrequentWithin list
+  sound list once = recursion_from_All IsFrequentWithin list (own_least list once).sound
+
+  each_as_items : (list : List Counted) → AllByRecursion IsFrequentWithin list
+      → map (as_items level.names.items level.suffix.items) (map (with_rank rank) (map (decoded_set kept) list)) ≡ map (as_items inner.names.items inner.suffix.items) list
+  each_as_items [] all = refl
+  each_as_items (c ∷ list) all =
+      let one = inner_as_items level.names.items kept level.suffix.items rank c (ranks_below coding is.coding c.set all.0.1)
+      ∙ (λ i. as_items (sym is.names i) (sym is.suffix i) c) in
+      λ i. one i ∷ each_as_items list all.1 i
+
+  -- the class as items
+  pub class_as_items : (list : List Counted) → ListsOnce inner.runs.baskets (Count inner.least) list
+      → map (as_items level.names.items level.suffix.items) (class_with list)
+      ≡ record { set = rising (get_or level.names.items rank 0 ∷ level.suffix.items); count = support_of level.runs.baskets (rank ∷ []) } ∷ map (as_items inner.names.items inner.suffix.items) list
+  class_as_items list once = ap (λ l. as_items level.names.items level.suffix.items (record { set = rank ∷ []; count = support_of level.runs.baskets (rank ∷ []) }) ∷ l) (each_as_items list (sound list once))
+
+  pub class_long : ListsHaveClassSize → length (class_of level.runs.baskets (Count level.least) rank) ≡ length (frequent_of inner.runs.baskets (Count inner.least)) + 1
+  class_long sized =
+      let list = frequent_of inner.runs.baskets (Count inner.least) in
+      let lists = lists_class list (frequent_once inner.runs.baskets (Count inner.least)) in
+      omega (arith, listed_long sized level.runs.baskets (Count level.least) rank (class_with list) lists, length-map (map (decoded_set kept) list) (with_rank rank), length-map list (decoded_set kept))
+
+  -- a set of the conditional database is with the rank one of the class
+  pub deeper : ClassesAreListed → (size : ℕ) → HasSetOfSize (frequent_of inner.runs.baskets (Count inner.least)) size → HasSetOfSize (class_of level.runs.baskets (Count level.least) rank) (size + 1)
+  deeper listed size has =
+      let list = frequent_of inner.runs.baskets (Count inner.least) in
+      let once = frequent_once inner.runs.baskets (Count inner.least) in
+      let m = Member-from_Contains has.0 list has.1 in
+      let s = at_Member IsFrequentWithin has.0 list (sound list once) m in
+      let set = decoded kept has.0.set in
+      let of_class = recursion_from_All (λ (c : Counted). IsNonemptySet c.set × (ends_in rank c.set ≡ true) × (is_frequent level.runs.baskets (Count level.least) c.set ≡ true) × (c.count ≡ support_of level.runs.baskets c.set))
+      (class_with list) (lists_class list once).sound in
+      let d = at_Member (λ (c : Counted). IsNonemptySet c.set × (ends_in rank c.set ≡ true) × (is_frequent level.runs.baskets (Count level.least) c.set ≡ true) × (c.count ≡ support_of level.runs.baskets c.set))
+      (with_rank rank (decoded_set kept has.0)) (class_with list) of_class
+      (inr (Member-map (with_rank rank) (decoded_set kept has.0) (map (decoded_set kept) list) (Member-map (decoded_set kept) has.0 list m))) in
+      let long = length-append set (rank ∷ []) ∙ ap (λ n. n + 1) (length-decoded kept has.0.set (kept_rises level.runs.baskets level.least rank) s.0.0 (ranks_below coding is.coding has.0.set s.1) ∙ has.2) in
+      subst (HasSetOfSize (class_of level.runs.baskets (Count level.least) rank)) long (class_of_size level.runs.baskets level.least rank listed (set ++ rank ∷ []) d.0 d.1 d.2)
+
+  -- the sets that were found before, the rank alone, and those of the conditional database
+  pub class_grown : (old mid new : List Counted) (items : List ℕ) (support : ℕ) → items ≡ get_or level.names.items rank 0 ∷ level.suffix.items → support ≡ support_of level.runs.baskets (rank ∷ [])
+      → mid ≡ old ++ record { set = rising items; count = support } ∷ [] → ListsAllAsItems inner mid new → ListsClassAsItems level rank old new
+  class_grown old mid new items support named counts told within = record {
+    sets = class_with within.sets;
+    listed = lists_class within.sets within.listed;
+    added = within.added
+        ∙ ap (λ l. l ++ map (as_items inner.names.items inner.suffix.items) within.sets) (told ∙ (λ i. old ++ record { set = rising (named i); count = counts i } ∷ []))
+        ∙ append_assoc old (record { set = rising (get_or level.names.items rank 0 ∷ level.suffix.items); count = support_of level.runs.baskets (rank ∷ []) } ∷ []) (map (as_items inner.names.items inner.suffix.items) within.sets)
+        ∙ ap (λ l. old ++ l) (sym (class_as_items within.sets within.listed));
+  }
+
+-- ---- tests of supports
+
+pub met_by : (baskets : List Weighted) (least rank support : ℕ) → support ≡ support_of baskets (rank ∷ []) → 1 ≤ least → least ≤ support → is_frequent baskets (Count least) (rank ∷ []) ≡ true
+met_by baskets least rank support is some more =
+    let sum = support_of baskets (rank ∷ []) in and_from (leb 1 sum) (leb least sum) (le-leb 1 sum (omega arith)) (le-leb least sum (omega arith))
+
+pub rare_by : (baskets : List Weighted) (least rank support : ℕ) → support ≡ support_of baskets (rank ∷ []) → support < least → is_frequent baskets (Count least) (rank ∷ []) ≡ false
+rare_by baskets least rank support is less = elim (cases_Bool (is_frequent baskets (Count least) (rank ∷ []))) [
+  | inl e ↦ (let sum = support_of baskets (rank ∷ []) in let more = leb-true least sum (and_parts (leb 1 sum) (leb least sum) e).1 in absurd (omega arith))
+  | inr e ↦ e
+]
+
+-- a class of a frequent rank has a set
+pub class_some : (baskets : List Weighted) (least rank : ℕ) → ClassesAreListed → is_frequent baskets (Count least) (rank ∷ []) ≡ true → 1 ≤ length (class_of baskets (Count least) rank)
+class_some baskets least rank listed met = let one = (alone_is_one baskets least rank listed met).1 in let here = one.1 in omega arith
+
+-- one set more in a class, with the list of the sets of other classes
+pub more_all : (names suffix : List ℕ) (old now new : List Counted) (classes : List (List Counted)) (class : List Counted) → now ≡ old ++ map (as_items names suffix) (flat_map (λ c. c) classes)
+    → new ≡ now ++ map (as_items names suffix) class → new ≡ old ++ map (as_items names suffix) (flat_map (λ c. c) (classes ++ class ∷ []))
+more_all names suffix old now new classes class before after =
+    let f = as_items names suffix in
+    let all = flat_map (λ (c : List Counted). c) classes in
+    after ∙ ap (λ l. l ++ map f class) before ∙ append_assoc old (map f all) (map f class) ∙ ap (λ l. old ++ l) (sym (map-append f all class))
+    ∙ ap (λ l. old ++ map f l) (ap (λ l. all ++ l) (sym (append-nil class)) ∙ sym (flat_map-append (λ c. c) classes (class ∷ [])))
+
+-- ---- levels
+
+-- a coding's baskets are baskets of ranks
+pub coding_ranked : (items : List ℕ) (least : ℕ) (value : RankBaskets) → IsCoding (record { items = items; minimum = Count least; baskets = value.baskets }) → value.ranks ≡ length items → AreRankBaskets value
+coding_ranked items least value is long = record {
+  places = All-from_recursion (IsRankBasket value.ranks) value.baskets
+      (All-from_Member (IsRankBasket value.ranks) value.baskets (λ place m.
+      let coded = at_Member (IsCodedPlace items) place value.baskets (recursion_from_All (IsCodedPlace items) value.baskets is.places) m in
+      record {
+        rises = coded.0;
+        below = subst (λ n. AllBelow n place.basket) (sym long) coded.1;
+        weighs = at_Member HasWeight place value.baskets (recursion_from_All HasWeight value.baskets is.weights) m;
+      }));
+  light = is.light;
+}
+
+pub inner_is_level : (level : Level) (rank : ℕ) (items : List ℕ) (inner : Level) → IsLevel level → IsBelow level rank items inner → length items ≤ 32 → IsLevel inner
+inner_is_level level rank items inner is below short = record {
+  names = ap length below.names ∙ length-map (kept_ranks level.runs.baskets level.least rank) (λ other. get_or level.names.items other 0) ∙ sym below.ranks;
+  ranked = coding_ranked (kept_ranks level.runs.baskets level.least rank) level.least inner.runs below.coding below.ranks;
+  some = subst (λ n. 1 ≤ n) (sym below.least) is.some;
+  short = subst (λ (l : List ℕ). length l ≤ 32) (sym below.suffix) short;
+}
+
+pub inner_has_fewer : (level : Level) (rank : ℕ) (items : List ℕ) (inner : Level) → IsBelow level rank items inner → inner.runs.ranks ≤ rank
+inner_has_fewer level rank items inner below = let short = kept_short level.runs.baskets level.least rank in let same = below.ranks in omega arith

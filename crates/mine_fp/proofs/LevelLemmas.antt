@@ -1,0 +1,171 @@
+-- The sets of a conditional database as items, and the support of a rank.
+use Rattle.std.proofs.Common.{◌≡◌, ℕ, ◌+◌, ◌<◌, ◌≤◌, true, false, Bool, List, [], ◌∷◌, ◌++◌, length, get_or, map, cond, refl, sym, ap, ◌∙◌, subst, inl, inr, arith, ltb, zero-add, ◌&&◌, zero, suc}
+use Rattle.std.specs.List.{filter, range_with_len, sum_by}
+use Rattle.std.proofs.lemmas.Bool.{and_parts, ltb-true}
+use Rattle.std.proofs.lemmas.List.{get_or-map, get_or_default, length-map}
+use Rattle.std.specs.Ordering.{nat_cmp}
+use Rattle.std.proofs.lemmas.List.FromFn.{length-range_with_len}
+use Rattle.std.proofs.lemmas.List.Kept.{IsStrictlySortedBy-filter}
+use Rattle.std.proofs.lemmas.List.Sums.{sum_by-cons}
+use Rattle.basket_core.specs.Codes.{decoded, decoded_set}
+use Rattle.basket_core.proofs.theory.Coding.{from_decoded, into_decoded}
+use Rattle.basket_sets.specs.declared.weighted.Weighted.{Weighted}
+use Rattle.basket_sets.specs.declared.counted.Counted.{Counted}
+use Rattle.basket_sets.specs.declared.minimum.Minimum.TheVariants.{Count}
+use Rattle.basket_sets.specs.Counts.{AllBelow}
+use Rattle.basket_sets.specs.Database.{weighted}
+use Rattle.basket_sets.specs.Frequent.{is_frequent}
+use Rattle.basket_sets.specs.Itemset.{IsRising, has, rising}
+use Rattle.basket_sets.specs.Support.{support_of, weight_at}
+use Rattle.basket_sets.proofs.theory.Members.{Member, Member-append, Member-append_left, Member-append_right, Member-map, Member-filter, Member-from_map, Member-from_Contains}
+use Rattle.basket_sets.proofs.theory.Rising.{Member-rising, Member-into_rising, cons_rises, first_below, has-from_Member, length-le-contains, Member-from_has, nil_rises, rest_rises, rising-rises, rising-rising, rising_is}
+use Rattle.basket_sets.proofs.theory.Support.{support-append, support-cons}
+use Rattle.mine_classes.specs.declared.span.Span.{Span}
+use Rattle.mine_classes.specs.Classes.{with_rank}
+use Rattle.mine_classes.specs.Conditional.{is_kept, kept_place}
+use Rattle.mine_classes.specs.Pairs.{kept_ranks}
+use Rattle.mine_classes.specs.Runs.{AreRunsOf, below}
+use Rattle.mine_classes.specs.Span.{basket_at, baskets_at}
+use Rattle.mine_fp.specs.Level.{as_items}
+
+-- ---- the support of a rank
+
+alone : (b : Bool) (weight : ℕ) (basket : List ℕ) → support_of (cond b (weighted basket weight ∷ []) []) [] ≡ cond b weight 0
+alone true weight basket = zero-add weight
+alone false weight basket = refl
+
+and_only : (b : Bool) (weight : ℕ) (rank : ℕ) (basket : List ℕ) → has basket rank ≡ b → cond b weight 0 ≡ weight_at (rank ∷ []) (weighted basket weight)
+and_only true weight rank basket e = ap (λ b. cond (b && true) weight 0) (sym e)
+and_only false weight rank basket e = ap (λ b. cond (b && true) weight 0) (sym e)
+
+below_support : (rank : ℕ) (baskets : List Weighted) → support_of (below rank baskets) [] ≡ support_of baskets (rank ∷ [])
+below_support rank [] = refl
+below_support rank (place ∷ baskets) =
+    let lows = filter (λ other. ltb other rank) place.basket in
+    support-append (kept_place (λ other. ltb other rank) rank place) (below rank baskets) []
+    ∙ ap (λ n. n + support_of (below rank baskets) []) (alone (has place.basket rank) place.weight lows ∙ and_only (has place.basket rank) place.weight rank place.basket refl)
+    ∙ ap (λ n. weight_at (rank ∷ []) place + n) (below_support rank baskets)
+    ∙ sym (support-cons place baskets (rank ∷ []))
+
+weights_of : (ranks : List ℕ) (runs : List Span) → support_of (baskets_at ranks runs) [] ≡ sum_by (λ (run : Span). run.weight) runs
+weights_of ranks [] = refl
+weights_of ranks (run ∷ runs) =
+    support-cons (basket_at ranks run) (baskets_at ranks runs) [] ∙ ap (λ n. run.weight + n) (weights_of ranks runs) ∙ sym (sum_by-cons (λ (r : Span). r.weight) run runs)
+
+-- the weights of a rank's runs add up to its support
+pub runs_weigh : (ranks : List ℕ) (baskets : List Weighted) (rank : ℕ) (runs : List Span) → AreRunsOf ranks baskets rank runs
+    → sum_by (λ (run : Span). run.weight) runs ≡ support_of baskets (rank ∷ [])
+runs_weigh ranks baskets rank runs are = sym (weights_of ranks runs) ∙ sym (are.weights (λ _. true)) ∙ below_support rank baskets
+
+-- ---- sets as items
+
+-- lists of the same items have one rising list
+rising_same : (xs ys : List ℕ) → ((z : ℕ) → Member z xs → Member z ys) → ((z : ℕ) → Member z ys → Member z xs) → rising xs ≡ rising ys
+rising_same xs ys into back = rising_is xs (rising ys) (rising-rises ys) (λ z m. Member-into_rising ys z (into z m)) (λ z m. back z (Member-rising ys z m))
+
+module _ (names kept suffix : List ℕ) (rank : ℕ) where
+  abbrev name : ℕ → ℕ
+  name r = get_or names r 0
+
+  abbrev inner : List ℕ
+  inner = map name kept
+
+  inner_name : (k : ℕ) → k < length kept → get_or inner k 0 ≡ name (get_or kept k 0)
+  inner_name k here = get_or-map name kept k 0 0 here
+
+  outer_items : List ℕ → List ℕ
+  outer_items set = map name (decoded kept set ++ rank ∷ []) ++ suffix
+
+  inner_items : List ℕ → List ℕ
+  inner_items set = map (λ k. get_or inner k 0) set ++ name rank ∷ suffix
+
+  into_inner : (set : List ℕ) → AllBelow (length kept) set → (z : ℕ) → Member z (outer_items set) → Member z (inner_items set)
+  unfolding outer_items inner_items
+  into_inner set within z m = elim (Member-append z (map name (decoded kept set ++ rank ∷ [])) suffix m) [
+    | inl n ↦
+        (let r = Member-from_map name z (decoded kept set ++ rank ∷ []) n in
+        elim (Member-append r.0 (decoded kept set) (rank ∷ []) r.1) [
+          | inl o ↦
+              (let d = from_decoded kept set r.0 o in
+              Member-append_left z (map (λ k. get_or inner k 0) set) (name rank ∷ suffix)
+              (subst (λ x. Member x (map (λ k. get_or inner k 0) set)) (inner_name d.0 (within d.0 (has-from_Member set d.0 d.1)) ∙ ap name d.2 ∙ r.2)
+              (Member-map (λ k. get_or inner k 0) d.0 set d.1)))
+          | inr (inl e) ↦ Member-append_right z (map (λ k. get_or inner k 0) set) (name rank ∷ suffix) (inl (ap name e ∙ r.2))
+          | inr (inr none) ↦ absurd none
+        ])
+    | inr n ↦ Member-append_right z (map (λ k. get_or inner k 0) set) (name rank ∷ suffix) (inr n)
+  ]
+
+  into_outer : (set : List ℕ) → AllBelow (length kept) set → (z : ℕ) → Member z (inner_items set) → Member z (outer_items set)
+  unfolding outer_items inner_items
+  into_outer set within z m = elim (Member-append z (map (λ k. get_or inner k 0) set) (name rank ∷ suffix) m) [
+    | inl n ↦
+        (let r = Member-from_map (λ k. get_or inner k 0) z set n in
+        Member-append_left z (map name (decoded kept set ++ rank ∷ [])) suffix
+        (subst (λ x. Member x (map name (decoded kept set ++ rank ∷ []))) (sym (inner_name r.0 (within r.0 (has-from_Member set r.0 r.1))) ∙ r.2)
+        (Member-map name (get_or kept r.0 0) (decoded kept set ++ rank ∷ []) (Member-append_left (get_or kept r.0 0) (decoded kept set) (rank ∷ []) (into_decoded kept set r.0 r.1)))))
+    | inr (inl e) ↦
+        Member-append_left z (map name (decoded kept set ++ rank ∷ [])) suffix
+        (subst (λ x. Member x (map name (decoded kept set ++ rank ∷ []))) e
+        (Member-map name rank (decoded kept set ++ rank ∷ []) (Member-append_right rank (decoded kept set) (rank ∷ []) (inl refl))))
+    | inr (inr n) ↦ Member-append_right z (map name (decoded kept set ++ rank ∷ [])) suffix n
+  ]
+
+  -- a set of the conditional database is as items what it is, with the rank, in the database
+  pub inner_as_items : (c : Counted) → AllBelow (length kept) c.set
+      → as_items names suffix (with_rank rank (decoded_set kept c)) ≡ as_items inner (name rank ∷ suffix) c
+  unfolding outer_items inner_items
+  inner_as_items c within =
+      let same = rising_same (outer_items c.set) (inner_items c.set) (into_inner c.set within) (into_outer c.set within) in
+      λ i. record { set = same i; count = c.count }
+
+-- ---- sets of a rising list's numbers
+
+at_place : (items : List ℕ) (k : ℕ) → k < length items → Member (get_or items k 0) items
+at_place items k here = Member-from_Contains (get_or items k 0) items (k, here, get_or_default items k (get_or items k 0) 0 here)
+
+less_at : (items : List ℕ) → IsRising items → (i j : ℕ) → i < j → j < length items → get_or items i 0 < get_or items j 0
+less_at [] up i j less here = absurd (omega arith)
+less_at (x ∷ items) up i zero less here = absurd (omega arith)
+less_at (x ∷ items) up zero (suc j) less here = first_below x items up (get_or items j 0) (at_place items j (omega arith))
+less_at (x ∷ items) up (suc i) (suc j) less here = less_at items (rest_rises x items up) i j (omega arith) (omega arith)
+
+-- the numbers at rising places of a rising list rise
+placed_rise : (items set : List ℕ) → IsRising items → IsRising set → AllBelow (length items) set → IsRising (map (λ k. get_or items k 0) set)
+placed_rise items [] up over within = nil_rises
+placed_rise items (k ∷ set) up over within =
+    cons_rises (get_or items k 0) (map (λ j. get_or items j 0) set)
+    (λ y m. let p = Member-from_map (λ j. get_or items j 0) y set m in
+    subst (λ z. get_or items k 0 < z) p.2 (less_at items up k p.0 (first_below k set over p.0 p.1) (within p.0 (has-from_Member (k ∷ set) p.0 (inr p.1)))))
+    (placed_rise items set up (rest_rises k set over) (λ j h. within j (has-from_Member (k ∷ set) j (inr (Member-from_has set j h)))))
+
+pub length-decoded : (items set : List ℕ) → IsRising items → IsRising set → AllBelow (length items) set → length (decoded items set) ≡ length set
+length-decoded items set up over within =
+    ap length (rising-rising (map (λ k. get_or items k 0) set) (placed_rise items set up over within)) ∙ length-map set (λ k. get_or items k 0)
+
+-- ---- the ranks that a conditional database keeps
+
+pub kept_below : (baskets : List Weighted) (least rank item : ℕ) → has (kept_ranks baskets least rank) item ≡ true → item < rank
+kept_below baskets least rank item h =
+    let m = Member-filter (is_kept baskets least rank) item (range_with_len 0 rank) (Member-from_has (kept_ranks baskets least rank) item h) in
+    ltb-true item rank (and_parts (ltb item rank) (is_frequent baskets (Count least) (item ∷ rank ∷ [])) m.1).0
+
+range_from : (a n y : ℕ) → Member y (range_with_len a n) → a ≤ y
+range_from a zero y m = absurd m
+range_from a (suc n) y (inl e) = omega arith
+range_from a (suc n) y (inr m) = let low = range_from (a + 1) n y m in omega arith
+
+range_rises : (a n : ℕ) → IsRising (range_with_len a n)
+range_rises a zero = nil_rises
+range_rises a (suc n) = cons_rises a (range_with_len (a + 1) n) (λ y m. let low = range_from (a + 1) n y m in omega arith) (range_rises (a + 1) n)
+
+pub kept_rises : (baskets : List Weighted) (least rank : ℕ) → IsRising (kept_ranks baskets least rank)
+kept_rises baskets least rank = IsStrictlySortedBy-filter nat_cmp (is_kept baskets least rank) (range_with_len 0 rank) (range_rises 0 rank)
+
+pub kept_short : (baskets : List Weighted) (least rank : ℕ) → length (kept_ranks baskets least rank) ≤ rank
+kept_short baskets least rank =
+    omega (
+      arith,
+      length-range_with_len 0 rank,
+      length-le-contains (kept_ranks baskets least rank) (range_with_len 0 rank) (kept_rises baskets least rank) (range_rises 0 rank) (λ z m. (Member-filter (is_kept baskets least rank) z (range_with_len 0 rank) m).0),
+    )

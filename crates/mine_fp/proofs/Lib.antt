@@ -1,0 +1,7 @@
+mod LevelLemmas
+mod ClassLemmas
+mod ForestLemmas
+mod BranchLemmas
+mod NodeLemmas
+mod InsertLemmas
+mod BaseLemmas

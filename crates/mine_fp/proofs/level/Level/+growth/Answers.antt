@@ -1,0 +1,202 @@
+use Rattle.std.proofs.Common.{◌≡◌, ◌+◌, ◌≤◌, ◌++◌, ◌∷◌, [], List, length, map, refl, sym, ap, ◌∙◌, subst, inl, inr, arith, Err}
+use Rattle.std.specs.List.{flat_map}
+use Rattle.std.proofs.lemmas.List.{append-nil, length-append, length-map}
+use Rattle.std.proofs.lemmas.Result.{err_from_is_err_and, on_ok_weaker}
+use Rattle.basket_core.specs.Depth.{HasSetOfSize}
+use Rattle.basket_sets.specs.declared.counted.Counted.{Counted}
+use Rattle.basket_sets.specs.declared.minimum.Minimum.TheVariants.{Count}
+use Rattle.basket_sets.specs.Itemset.{rising}
+use Rattle.basket_sets.proofs.theory.Frequent.{once_is_as_long}
+use Rattle.mine_classes.specs.Classes.{ListsClass, class_of}
+use Rattle.mine_fp.specs.Level.{IsBelow, as_items, missing}
+use Rattle.mine_fp.proofs.ClassLemmas.{alone_is_one, all_once, class_grown, class_long, class_some, classes_fit, deeper, frequent_of_size, inner_has_fewer, inner_is_level, met_by, more_all, more_classes, rare_by}
+use Rattle.mine_fp.proofs.level.Level.+growth.Goals as goal
+
+pub class-returns-then-support-self-clause-listed :
+    goal.class-returns-then-support-self-clause-listed
+class-returns-then-support-self-clause-listed g t c =
+    let level = c.args.self.now in
+    record {
+      sets = [];
+      listed = c.rare_ranks_have_no_class.ensures level.runs.baskets (Count level.least) c.args.rank
+          (rare_by level.runs.baskets level.least c.args.rank c.support-support.result c.support-support.ensures c.if-support-self.true);
+      added = sym (append-nil c.args.found.now.sets.items);
+    }
+
+pub class-returns-in_err-tell-clause-at_most : goal.class-returns-in_err-tell-clause-at_most
+class-returns-in_err-tell-clause-at_most g t c =
+    let level = c.args.self.now in
+    let met = met_by level.runs.baskets level.least c.args.rank c.support-support.result c.support-support.ensures c.requires.level.some c.if-support-self.false in
+    let some = class_some level.runs.baskets level.least c.args.rank c.classes_are_listed.ensures met in
+    let most = c.in_err-tell.ensures.at_most in
+    omega arith
+
+pub class-returns-then-len-gt-DEPTH-clause-too_many :
+    goal.class-returns-then-len-gt-DEPTH-clause-too_many
+class-returns-then-len-gt-DEPTH-clause-too_many g t c = λ limit e.
+    let level = c.args.self.now in
+    let met = met_by level.runs.baskets level.least c.args.rank c.support-support.result c.support-support.ensures c.requires.level.some c.if-support-self.false in
+    let last : missing level ≡ 1 = omega (arith, ap length c.in_ok-items.ensures, c.in_ok-items.items.ok.0, c.len.ensures, c.if-len-gt-DEPTH.true, c.requires.level.short) in
+    let told : c.limit.result ≡ limit = cc in
+    (sym told ∙ c.limit.ensures ∙ c.in_ok-tell.ensures.limit, inr (subst (HasSetOfSize (class_of level.runs.baskets (Count level.least) c.args.rank)) (sym last) (alone_is_one level.runs.baskets level.least c.args.rank c.classes_are_listed.ensures met)))
+
+pub class-returns-then-len-gt-DEPTH-clause-at_most :
+    goal.class-returns-then-len-gt-DEPTH-clause-at_most
+class-returns-then-len-gt-DEPTH-clause-at_most g t c =
+    let level = c.args.self.now in
+    let met = met_by level.runs.baskets level.least c.args.rank c.support-support.result c.support-support.ensures c.requires.level.some c.if-support-self.false in
+    let some = class_some level.runs.baskets level.least c.args.rank c.classes_are_listed.ensures met in
+    let most = c.in_ok-tell.ensures.at_most in
+    omega arith
+
+pub class-returns-in_err-inner-clause-at_most : goal.class-returns-in_err-inner-clause-at_most
+class-returns-in_err-inner-clause-at_most g t c =
+    let level = c.args.self.now in
+    let met = met_by level.runs.baskets level.least c.args.rank c.support-support.result c.support-support.ensures c.requires.level.some c.if-support-self.false in
+    let some = class_some level.runs.baskets level.least c.args.rank c.classes_are_listed.ensures met in
+    let most = c.in_ok-tell.ensures.at_most in
+    omega arith
+
+pub class-classes-requires : goal.class-classes-requires
+class-classes-requires g t c κs within =
+    let level = c.args.self.now in
+    let below = c.in_ok-inner.ensures.below in
+    let fewer = inner_has_fewer level c.args.rank c.in_ok-items.items.items c.in_ok-inner.inner below in
+    let short : length c.in_ok-items.items.items ≤ 32 = omega (arith, c.in_ok-items.items.ok.0, c.len.ensures, c.if-len-gt-DEPTH.false) in
+    let told : Counted = record { set = rising c.deref.result.now; count = c.support-support.result } in (
+      omega (arith, c.decreases),
+      (
+        within,
+        (
+          inner_is_level level c.args.rank c.in_ok-items.items.items c.in_ok-inner.inner c.requires.level below short,
+          (
+            omega (arith, c.requires.trees, c.in_ok-tell.ensures.trees, ap length c.in_ok-tell.ensures.added, length-append c.args.found.now.sets.items (told ∷ []), c.tell.new.found.sets.ok.0, c.args.found.now.sets.ok.0),
+            c.in_ok-tell.ensures.going_on,
+          ),
+        ),
+      ),
+    )
+
+pub class-returns-clause-listed : goal.class-returns-clause-listed
+class-returns-clause-listed g t c =
+    let level = c.args.self.now in
+    let inner = c.in_ok-inner.inner in
+    let met = met_by level.runs.baskets level.least c.args.rank c.support-support.result c.support-support.ensures c.requires.level.some c.if-support-self.false in
+    let below = subst (λ l. IsBelow level c.args.rank l inner) c.in_ok-items.ensures c.in_ok-inner.ensures.below in
+    on_ok_weaker c.classes.result
+    (class_grown level c.args.rank inner below c.classes_by_codings.ensures met c.args.found.now.sets.items _ c.classes.new.found.sets.items c.deref.result.now c.support-support.result
+    (c.deref.ensures.value ∙ c.in_ok-items.ensures) c.support-support.ensures c.in_ok-tell.ensures.added)
+    c.classes.ensures.listed
+
+pub class-returns-clause-too_many : goal.class-returns-clause-too_many
+class-returns-clause-too_many g t c = λ limit e.
+    let level = c.args.self.now in
+    let inner = c.in_ok-inner.inner in
+    let met = met_by level.runs.baskets level.least c.args.rank c.support-support.result c.support-support.ensures c.requires.level.some c.if-support-self.false in
+    let below = subst (λ l. IsBelow level c.args.rank l inner) c.in_ok-items.ensures c.in_ok-inner.ensures.below in
+    let many = c.classes.ensures.too_many limit e in
+    let less : missing inner + 1 ≡ missing level =
+    omega (arith, ap length c.in_ok-items.ensures, ap length below.suffix, c.in_ok-items.items.ok.0, c.len.ensures, c.if-len-gt-DEPTH.false, c.requires.level.short) in (
+      many.0 ∙ c.in_ok-tell.ensures.limit,
+      elim many.1 [
+        | inl over ↦ inl over
+        | inr deep ↦ inr (subst (HasSetOfSize (class_of level.runs.baskets (Count level.least) c.args.rank)) less
+            (deeper level c.args.rank inner below c.classes_by_codings.ensures met c.classes_are_listed.ensures (missing inner) deep))
+      ],
+    )
+
+pub class-returns-clause-at_most : goal.class-returns-clause-at_most
+class-returns-clause-at_most g t c =
+    let level = c.args.self.now in
+    let inner = c.in_ok-inner.inner in
+    let met = met_by level.runs.baskets level.least c.args.rank c.support-support.result c.support-support.ensures c.requires.level.some c.if-support-self.false in
+    let below = subst (λ l. IsBelow level c.args.rank l inner) c.in_ok-items.ensures c.in_ok-inner.ensures.below in
+    let long = class_long level c.args.rank inner below c.classes_by_codings.ensures met c.lists_have_class_size.ensures in
+    let told = c.in_ok-tell.ensures.at_most in
+    let most = c.classes.ensures.at_most in
+    omega arith
+
+pub classes-loop-rank-init : goal.classes-loop-rank-init
+classes-loop-rank-init g t c = record {
+  listed = ([], refl, λ rank below. absurd (omega arith), sym (append-nil c.args.found.now.sets.items));
+  trees = c.requires.trees;
+  sums = c.in_ok-tables.ensures.sums ∙ c.ranks.ensures;
+  places = c.in_ok-tables.ensures.places ∙ c.ranks.ensures;
+  told = refl;
+  going_on = c.requires.going;
+  limit = refl;
+}
+
+pub classes-returns-in_err-class-clause-too_many :
+    goal.classes-returns-in_err-class-clause-too_many
+classes-returns-in_err-class-clause-too_many g t c = λ limit e.
+    let level = c.args.self.now in
+    let p = err_from_is_err_and c.from_residual-in_err-class.result c.from_residual-in_err-class.ensures.1 in
+    let many = c.in_err-class.ensures.too_many limit (ap Err (sym p.2) ∙ sym p.1 ∙ e) in (
+      many.0 ∙ c.loop-rank.invariant.limit,
+      elim many.1 [
+        | inl over ↦ inl over
+        | inr deep ↦ inr (frequent_of_size level.runs.baskets level.least c.loop-rank.rank (missing level) deep)
+      ],
+    )
+
+pub classes-returns-in_err-class-clause-at_most : goal.classes-returns-in_err-class-clause-at_most
+classes-returns-in_err-class-clause-at_most g t c =
+    let level = c.args.self.now in
+    let so_far = c.loop-rank.invariant in
+    let classes = so_far.listed.0 in
+    let old = c.args.found.now.sets.items in
+    let all = flat_map (λ (class : List Counted). class) classes in
+    let named = as_items level.names.items level.suffix.items in
+    let fit = classes_fit c.classes_are_all.ensures c.classes_are_listed.ensures level.runs c.requires.level.ranked level.least classes c.loop-rank.rank so_far.listed.1
+    (omega (arith, c.loop-rank-test.true, c.ranks-rank-end.ensures)) so_far.listed.2 in
+    let long = ap length so_far.listed.3 ∙ length-append old (map named all) in
+    let most = c.in_err-class.ensures.at_most in
+    omega (arith, so_far.told, fit, long, length-map all named, c.loop-rank.found.sets.ok.0, c.args.found.now.sets.ok.0)
+
+pub classes-loop-rank-preserved : goal.classes-loop-rank-preserved
+classes-loop-rank-preserved g t c =
+    let level = c.args.self.now in
+    let so_far = c.loop-rank.invariant in
+    let classes = so_far.listed.0 in
+    let now = c.in_ok-class.ensures in
+    let next = now.listed in
+    record {
+      listed = (
+        classes ++ next.sets ∷ [],
+        length-append classes (next.sets ∷ []) ∙ ap (λ n. n + 1) so_far.listed.1,
+        more_classes level.runs.baskets level.least classes next.sets so_far.listed.2 (subst (λ rank. ListsClass level.runs.baskets (Count level.least) rank next.sets) (sym so_far.listed.1) next.listed),
+        more_all level.names.items level.suffix.items c.args.found.now.sets.items c.loop-rank.found.sets.items c.class.new.found.sets.items classes next.sets so_far.listed.3 next.added,
+      );
+      trees = now.trees;
+      sums = now.sums;
+      places = now.places;
+      told = omega (arith, now.told, so_far.told);
+      going_on = now.going_on;
+      limit = now.limit ∙ so_far.limit;
+    }
+
+pub classes-returns-clause-listed : goal.classes-returns-clause-listed
+classes-returns-clause-listed g t c =
+    let level = c.args.self.now in
+    let so_far = c.loop-rank.invariant in
+    let classes = so_far.listed.0 in
+    let last : length classes ≡ level.runs.ranks = omega (arith, so_far.listed.1, c.loop-rank-test.false, c.ranks-rank-end.ensures, c.loop-rank.auto.rank-end) in
+    record {
+      sets = flat_map (λ (class : List Counted). class) classes;
+      listed = all_once c.classes_are_all.ensures c.classes_are_listed.ensures level.runs c.requires.level.ranked level.least classes last so_far.listed.2;
+      added = so_far.listed.3;
+    }
+
+pub classes-returns-clause-at_most : goal.classes-returns-clause-at_most
+classes-returns-clause-at_most g t c =
+    let level = c.args.self.now in
+    let so_far = c.loop-rank.invariant in
+    let classes = so_far.listed.0 in
+    let all = flat_map (λ (class : List Counted). class) classes in
+    let named = as_items level.names.items level.suffix.items in
+    let last : length classes ≡ level.runs.ranks = omega (arith, so_far.listed.1, c.loop-rank-test.false, c.ranks-rank-end.ensures, c.loop-rank.auto.rank-end) in
+    let once = all_once c.classes_are_all.ensures c.classes_are_listed.ensures level.runs c.requires.level.ranked level.least classes last so_far.listed.2 in
+    let size = once_is_as_long level.runs.baskets (Count level.least) all once in
+    let long = ap length so_far.listed.3 ∙ length-append c.args.found.now.sets.items (map named all) in
+    omega (arith, so_far.told, size, long, length-map all named, c.loop-rank.found.sets.ok.0, c.args.found.now.sets.ok.0)

@@ -1,0 +1,49 @@
+-- Sets that are found within a conditional database, as items.
+use Rattle.std.specs.Prelude.{◌≡◌, ◌≤◌, ◌+◌, ◌-◌, ◌++◌, ℕ, List, length, map, slice_index_or}
+use Rattle.basket_core.specs.Codes.{IsCoding, decoded_place}
+use Rattle.basket_sets.specs.declared.counted.Counted.{Counted}
+use Rattle.basket_sets.specs.declared.minimum.Minimum.TheVariants.{Count}
+use Rattle.basket_sets.specs.Frequent.{ListsOnce}
+use Rattle.basket_sets.specs.Itemset.{rising}
+use Rattle.mine_classes.specs.Classes.{ListsClass}
+use Rattle.mine_classes.specs.Conditional.{conditional}
+use Rattle.mine_classes.specs.Ordered.{AreRankBaskets, HaveSameWeights}
+use Rattle.mine_classes.specs.Pairs.{kept_ranks}
+use Rattle.mine_fp.specs.declared.level.Level.{Level}
+use Rattle.mine_fp.specs.declared.level.TheConstants.{DEPTH}
+
+-- a set of ranks as items: the item of each rank, and the items that each set gets
+abbrev pub as_items : List ℕ → List ℕ → Counted → Counted
+as_items names suffix c = record { set = rising (map (λ rank. slice_index_or names rank 0) c.set ++ suffix); count = c.count }
+
+-- what each level is
+pub record IsLevel (level : Level) : Type 0 where
+  pub names : length level.names.items ≡ level.runs.ranks
+  pub ranked : AreRankBaskets level.runs
+  pub some : 1 ≤ level.least
+  pub short : length level.suffix.items ≤ DEPTH
+
+-- how many ranks a set has with which the items would be one more than the depth
+abbrev pub missing : Level → ℕ
+missing level = DEPTH + 1 - length level.suffix.items
+
+-- the sets of a class as items, behind those that were found before
+pub record ListsClassAsItems (level : Level) (rank : ℕ) (old new : List Counted) : Type 0 where
+  pub sets : List Counted
+  pub listed : ListsClass level.runs.baskets (Count level.least) rank sets
+  pub added : new ≡ old ++ map (as_items level.names.items level.suffix.items) sets
+
+-- all frequent sets as items, behind those that were found before
+pub record ListsAllAsItems (level : Level) (old new : List Counted) : Type 0 where
+  pub sets : List Counted
+  pub listed : ListsOnce level.runs.baskets (Count level.least) sets
+  pub added : new ≡ old ++ map (as_items level.names.items level.suffix.items) sets
+
+-- a level is of the conditional database of a rank of another
+pub record IsBelow (level : Level) (rank : ℕ) (items : List ℕ) (inner : Level) : Type 0 where
+  pub ranks : inner.runs.ranks ≡ length (kept_ranks level.runs.baskets level.least rank)
+  pub names : inner.names.items ≡ map (λ other. slice_index_or level.names.items other 0) (kept_ranks level.runs.baskets level.least rank)
+  pub suffix : inner.suffix.items ≡ items
+  pub least : inner.least ≡ level.least
+  pub coding : IsCoding (record { items = kept_ranks level.runs.baskets level.least rank; minimum = Count level.least; baskets = inner.runs.baskets })
+  pub weights : HaveSameWeights (conditional level.least level.runs.baskets rank) (map (decoded_place (kept_ranks level.runs.baskets level.least rank)) inner.runs.baskets)

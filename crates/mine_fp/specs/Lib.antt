@@ -1,0 +1,3 @@
+pub mod Level
+pub mod Forest
+pub mod Tree

@@ -1,0 +1,97 @@
+//! All coded baskets, for FP-growth.
+ghost use Rattle.std.specs.Prelude.{◌≡◌, ◌≤◌, ◌<◌, ◌+◌, ◌⊎◌, [], ℕ, Err, IfOk, IsTrue, false, length};
+ghost use Rattle.basket_core.specs.declared.fault.MineFault.TheVariants.{TooMany};
+ghost use Rattle.mine_classes.specs.Mined.{ListsClassItems, RanksAreFrequent, class_size};
+
+use crate::level::{Found, Level, Tables};
+use basket_core::{Coded, Counted, Itemset, MineFault, Tally};
+use mine_classes::laws::{classes_are_listed, deep_classes_are_large, lists_have_class_size};
+use mine_classes::{Ordered, Runs};
+use std::alloc::{AllocError, Global};
+use std::marker::Model;
+
+/// All coded baskets in order. What neighbours share is one branch of their prefix tree, and each run
+/// of a rank is a node of it (Han, Pei and Yin 2000).
+#[derive(Debug, Drop)]
+pub struct Forest<'a> {
+    coded: &'a Coded,
+    level: Level,
+}
+
+impl<'a> Model for Forest<'a> {
+    ghost use Rattle.std.specs.Prelude.{◌≡◌, [], length};
+    ghost use Rattle.basket_core.specs.Codes.{Coding};
+    ghost use Rattle.mine_fp.specs.Forest.{AreInForest};
+
+    ghost Value = { Coding };
+
+    ghost view = { λ f. f.coded.now };
+
+    ghost invariant = { λ f. AreInForest f.coded.now f.level.least f.level.runs
+        × (f.level.names.items ≡ f.coded.now.items) × (f.level.suffix.items ≡ []) };
+}
+
+impl<'a> Forest<'a> {
+    /// The forest of the coded baskets.
+    pub fn of(alloc: Global, coded: &'a Coded) -> Result<Self, AllocError>
+        ensures { IfOk result (λ forest. forest ≡ coded.now) }
+    {
+        Ok(Forest {
+            coded,
+            level: Level {
+                runs: Runs::of(alloc, Ordered::of_coded(alloc, coded)?)?,
+                names: items_of(alloc, coded)?,
+                suffix: Vec::new(alloc),
+                least: coded.minimum().least(coded.total()),
+            },
+        })
+    }
+}
+
+/// The item of each rank.
+fn items_of(alloc: Global, coded: &Coded) -> Result<Vec<u32>, AllocError>
+    ensures { IfOk result (λ items. items.items ≡ coded.now.items) }
+{
+    let mut items = Vec::with_capacity(alloc, coded.ranks() as usize)?;
+    for rank in 0..coded.ranks() {
+        let set = coded.decode(Itemset::from_items(alloc, &[rank])?);
+        items.extend_from_slice(set.items())?;
+    }
+    Ok(items)
+}
+
+/// The sets of the class of a rank, as items, each once with its support (Han, Pei and Yin 2000), and
+/// how many conditional trees were made for them. Each set is told to the tally as soon as it is known
+/// to be frequent.
+pub fn fp_class<T: Tally>(
+    alloc: Global,
+    forest: &Forest<'_>,
+    rank: u32,
+    tally: &mut T,
+) -> Result<(Vec<Counted>, u64), MineFault>
+    requires rank { rank < length forest.now.items }
+    requires going { T.is_over tally.old ≡ false }
+    ensures listed { IfOk result (λ mined. ListsClassItems forest.now rank mined.0.items) }
+    ensures trees { IfOk result (λ mined. mined.1 ≤ length mined.0.items) }
+    ensures told { IfOk result (λ mined. T.told_of tally.new ≡ T.told_of tally.old + length mined.0.items) }
+    ensures going_on { IfOk result (λ mined. T.is_over tally.new ≡ false) }
+    ensures too_many { (limit : ℕ) → result ≡ Err (TooMany limit) → (limit ≡ T.limit_of tally.old)
+        × (IsTrue (T.is_over tally.new) ⊎ (limit < class_size forest.now rank)) }
+    ensures at_most { T.told_of tally.new ≤ T.told_of tally.old + class_size forest.now rank }
+    ensures limit { T.limit_of tally.new ≡ T.limit_of tally.old }
+{
+    classes_are_listed();
+    deep_classes_are_large();
+    lists_have_class_size();
+    // Nothing is read here: the call brings its contract, which says that the limit fits a word.
+    let _limit = tally.limit();
+    let mut tables = Tables::new(alloc, forest.level.runs.ranks())?;
+    let mut found = Found {
+        sets: Vec::new(alloc),
+        trees: 0,
+    };
+    forest
+        .level
+        .class(alloc, rank, &mut tables, &mut found, tally)?;
+    Ok((found.sets, found.trees))
+}

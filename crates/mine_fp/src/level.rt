@@ -1,0 +1,245 @@
+//! Sets that are grown within a conditional database.
+ghost use Rattle.std.specs.Prelude.{◌≡◌, ◌≤◌, ◌<◌, ◌+◌, ◌++◌, ◌⊎◌, [], ◌∷◌, ℕ, Err, IfOk, IsTrue, OnOk, false, length, map, slice_index, sum_by, vec_len};
+ghost use Rattle.basket_core.specs.declared.fault.MineFault.TheVariants.{TooMany};
+ghost use Rattle.basket_core.specs.Depth.{HasSetOfSize};
+ghost use Rattle.basket_sets.specs.declared.minimum.Minimum.TheVariants.{Count};
+ghost use Rattle.basket_sets.specs.Counts.{AllBelow};
+ghost use Rattle.basket_sets.specs.Database.{MOST_WEIGHT};
+ghost use Rattle.basket_sets.specs.Frequent.{frequent_of};
+ghost use Rattle.basket_sets.specs.Itemset.{rising};
+ghost use Rattle.basket_sets.specs.Support.{support_of};
+ghost use Rattle.mine_classes.specs.declared.span.Span.{Span as Run};
+ghost use Rattle.mine_classes.specs.Classes.{class_of};
+ghost use Rattle.mine_fp.specs.Level.{IsBelow, IsLevel, ListsClassAsItems, ListsAllAsItems, missing};
+
+use basket_core::{Counted, Itemset, MineFault, Tally};
+use mine_classes::laws::{
+    classes_are_all, classes_are_listed, classes_by_codings, lists_have_class_size,
+    rare_ranks_have_no_class,
+};
+use mine_classes::{Conditional, Places, Runs, Span, Sums};
+use std::alloc::{AllocError, Global};
+
+/// How many items a set has at most. A class with a set of one more has more sets than any limit, so
+/// that nothing goes deeper.
+const DEPTH: usize = 32;
+
+/// The sets that were found, and how many conditional trees were made for them.
+#[derive(Debug, Drop)]
+pub struct Found {
+    pub sets: Vec<Counted>,
+    pub trees: u64,
+}
+
+/// A place and a sum for each rank of a level, used again from rank to rank.
+#[derive(Debug, Drop)]
+pub struct Tables {
+    sums: Sums,
+    places: Places,
+}
+
+impl Tables {
+    pub fn new(alloc: Global, count: u32) -> Result<Self, AllocError>
+        ensures sums { IfOk result (λ tables. tables.sums ≡ count) }
+        ensures places { IfOk result (λ tables. tables.places ≡ count) }
+    {
+        Ok(Tables {
+            sums: Sums::new(alloc, count)?,
+            places: Places::new(alloc, count)?,
+        })
+    }
+}
+
+/// A conditional database: its baskets, the item of each of its ranks, and the items of the set that
+/// it is of, which each set found in it gets.
+#[derive(Debug, Drop)]
+pub struct Level {
+    pub runs: Runs,
+    pub names: Vec<u32>,
+    pub suffix: Vec<u32>,
+    pub least: u64,
+}
+
+impl Level {
+    /// The class of a rank, each set as items, added at the end of those found. Each set is told as
+    /// soon as it is known to be frequent.
+    #[cycle(growth)]
+    pub fn class<T: Tally>(
+        &self,
+        alloc: Global,
+        rank: u32,
+        tables: &mut Tables,
+        found: &mut Found,
+        tally: &mut T,
+    ) -> Result<(), MineFault>
+        requires level { IsLevel self.now }
+        requires rank { rank < self.now.runs.ranks }
+        requires sums { tables.old.sums ≡ self.now.runs.ranks }
+        requires places { tables.old.places ≡ self.now.runs.ranks }
+        requires trees { found.old.trees ≤ vec_len found.old.sets }
+        requires going { T.is_over tally.old ≡ false }
+        ensures listed { OnOk result (ListsClassAsItems self.now rank found.old.sets.items found.new.sets.items) }
+        ensures trees { OnOk result (found.new.trees ≤ vec_len found.new.sets) }
+        ensures sums { OnOk result (tables.new.sums ≡ self.now.runs.ranks) }
+        ensures places { OnOk result (tables.new.places ≡ self.now.runs.ranks) }
+        ensures told { OnOk result (T.told_of tally.new + vec_len found.old.sets ≡ T.told_of tally.old + vec_len found.new.sets) }
+        ensures going_on { OnOk result (T.is_over tally.new ≡ false) }
+        ensures too_many { (limit : ℕ) → result ≡ Err (TooMany limit) → (limit ≡ T.limit_of tally.old)
+            × (IsTrue (T.is_over tally.new) ⊎ HasSetOfSize (class_of self.now.runs.baskets (Count self.now.least) rank) (missing self.now)) }
+        ensures at_most { T.told_of tally.new ≤ T.told_of tally.old + length (class_of self.now.runs.baskets (Count self.now.least) rank) }
+        ensures limit { T.limit_of tally.new ≡ T.limit_of tally.old }
+    {
+        classes_are_listed();
+        classes_by_codings();
+        lists_have_class_size();
+        rare_ranks_have_no_class();
+        let support = self.support(rank);
+        if support < self.least {
+            return Ok(());
+        }
+        let items = self.items_with(alloc, rank)?;
+        tell(alloc, &items, support, found, tally)?;
+        if items.len() > DEPTH {
+            return Err(MineFault::TooMany {
+                limit: tally.limit(),
+            });
+        }
+        let inner = self.below(alloc, rank, tables, items)?;
+        found.trees += 1;
+        inner.classes(alloc, found, tally)
+    }
+
+    /// The classes of all ranks, each set as items, added at the end of those found.
+    #[cycle(growth)]
+    fn classes<T: Tally>(
+        &self,
+        alloc: Global,
+        found: &mut Found,
+        tally: &mut T,
+    ) -> Result<(), MineFault>
+        requires level { IsLevel self.now }
+        requires trees { found.old.trees ≤ vec_len found.old.sets }
+        requires going { T.is_over tally.old ≡ false }
+        ensures listed { OnOk result (ListsAllAsItems self.now found.old.sets.items found.new.sets.items) }
+        ensures trees { OnOk result (found.new.trees ≤ vec_len found.new.sets) }
+        ensures told { OnOk result (T.told_of tally.new + vec_len found.old.sets ≡ T.told_of tally.old + vec_len found.new.sets) }
+        ensures going_on { OnOk result (T.is_over tally.new ≡ false) }
+        ensures too_many { (limit : ℕ) → result ≡ Err (TooMany limit) → (limit ≡ T.limit_of tally.old)
+            × (IsTrue (T.is_over tally.new) ⊎ HasSetOfSize (frequent_of self.now.runs.baskets (Count self.now.least)) (missing self.now)) }
+        ensures at_most { T.told_of tally.new ≤ T.told_of tally.old + length (frequent_of self.now.runs.baskets (Count self.now.least)) }
+        ensures limit { T.limit_of tally.new ≡ T.limit_of tally.old }
+    {
+        classes_are_all();
+        classes_are_listed();
+        let mut tables = Tables::new(alloc, self.runs.ranks())?;
+        for rank in 0..self.runs.ranks() {
+            self.class(alloc, rank, &mut tables, found, tally)?;
+        }
+        Ok(())
+    }
+
+    /// The support of a rank.
+    fn support(&self, rank: u32) -> u64
+        requires { rank < self.now.runs.ranks }
+        ensures { result ≡ support_of self.now.runs.baskets (rank ∷ []) }
+    {
+        let (_ranks, runs) = self.runs.of_rank(rank);
+        weight_of(runs)
+    }
+
+    /// The item of a rank, and those that each set gets.
+    fn items_with(&self, alloc: Global, rank: u32) -> Result<Vec<u32>, AllocError>
+        requires { rank < vec_len self.now.names }
+        ensures { IfOk result (λ items. items.items ≡ slice_index self.now.names.items rank ∷ self.now.suffix.items) }
+    {
+        let mut items = Vec::with_capacity(alloc, self.suffix.len() + 1)?;
+        items.push(self.names[rank as usize])?;
+        items.extend_from_slice(&self.suffix)?;
+        Ok(items)
+    }
+
+    /// The conditional database of a rank, each set in which gets the items.
+    fn below(
+        &self,
+        alloc: Global,
+        rank: u32,
+        tables: &mut Tables,
+        items: Vec<u32>,
+    ) -> Result<Level, AllocError>
+        requires rank { rank < self.now.runs.ranks }
+        requires named { vec_len self.now.names ≡ self.now.runs.ranks }
+        requires sums { tables.old.sums ≡ self.now.runs.ranks }
+        requires places { tables.old.places ≡ self.now.runs.ranks }
+        ensures below { IfOk result (λ inner. IsBelow self.now rank items.items inner) }
+        ensures sums { tables.new.sums ≡ tables.old.sums }
+        ensures places { tables.new.places ≡ tables.old.places }
+    {
+        let pairs = self.runs.pairs(alloc, &mut tables.sums, rank, self.least)?;
+        let conditional = Conditional::of(
+            alloc,
+            &self.runs,
+            &mut tables.places,
+            rank,
+            self.least,
+            &pairs,
+        )?;
+        let names = named(alloc, &self.names, conditional.ranks())?;
+        Ok(Level {
+            runs: Runs::of(alloc, conditional.into_baskets())?,
+            names,
+            suffix: items,
+            least: self.least,
+        })
+    }
+}
+
+/// What some runs weigh together.
+fn weight_of(runs: &[Span]) -> u64
+    requires { sum_by (λ (run : Run). run.weight) runs.now ≤ MOST_WEIGHT }
+    ensures { result ≡ sum_by (λ (run : Run). run.weight) runs.now }
+{
+    let mut weight = 0;
+    for run in runs {
+        weight += run.weight;
+    }
+    weight
+}
+
+/// The names of some ranks.
+fn named(alloc: Global, names: &[u32], ranks: &[u32]) -> Result<Vec<u32>, AllocError>
+    requires { AllBelow (length names.now) ranks.now }
+    ensures { IfOk result (λ named. named.items ≡ map (λ rank. slice_index names.now rank) ranks.now) }
+{
+    let mut named = Vec::with_capacity(alloc, ranks.len())?;
+    for rank in ranks {
+        named.push(names[*rank as usize])?;
+    }
+    Ok(named)
+}
+
+/// Tells a frequent set of items to the tally, and adds it to those found.
+fn tell<T: Tally>(
+    alloc: Global,
+    items: &[u32],
+    count: u64,
+    found: &mut Found,
+    tally: &mut T,
+) -> Result<(), MineFault>
+    requires { T.is_over tally.old ≡ false }
+    ensures added { OnOk result (found.new.sets.items ≡ found.old.sets.items ++ record { set = rising items.now; count = count } ∷ []) }
+    ensures trees { found.new.trees ≡ found.old.trees }
+    ensures told { OnOk result (T.told_of tally.new ≡ T.told_of tally.old + 1) }
+    ensures going_on { OnOk result (T.is_over tally.new ≡ false) }
+    ensures too_many { (limit : ℕ) → result ≡ Err (TooMany limit) → (limit ≡ T.limit_of tally.old) × IsTrue (T.is_over tally.new) }
+    ensures at_most { T.told_of tally.new ≤ T.told_of tally.old + 1 }
+    ensures limit { T.limit_of tally.new ≡ T.limit_of tally.old }
+{
+    let set = Itemset::from_items(alloc, items)?;
+    if !tally.tell() {
+        return Err(MineFault::TooMany {
+            limit: tally.limit(),
+        });
+    }
+    found.sets.push(Counted { set, count })?;
+    Ok(())
+}

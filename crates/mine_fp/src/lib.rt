@@ -1,0 +1,10 @@
+//! FP-growth (Han, Pei and Yin 2000): the classes of coded baskets, each grown within conditional
+//! databases.
+#![tactic(auto)]
+
+mod forest;
+mod level;
+mod tree;
+
+pub use forest::{Forest, fp_class};
+pub use tree::FpTree;
