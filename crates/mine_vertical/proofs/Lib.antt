@@ -1,0 +1,4 @@
+mod CoverLemmas
+mod WalkLemmas
+mod RowLemmas
+mod SearchLemmas

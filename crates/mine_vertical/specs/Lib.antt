@@ -1,0 +1,5 @@
+pub mod Cover
+pub mod Weights
+pub mod Walk
+pub mod Rows
+pub mod Search
