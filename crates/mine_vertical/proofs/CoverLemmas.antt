@@ -116,8 +116,8 @@ weight_from f basket set k (place ∷ places) weigh are =
     let w : f k ≡ place.weight = ap f here ∙ weigh 0 (omega arith) in
     let b : basket k ≡ place.basket = ap basket here ∙ are 0 (omega arith) in
     let rest = weight_from f basket set (k + 1) places
-        (λ i below. let next : (k + 1) + i ≡ k + suc i = omega arith in ap f next ∙ weigh (suc i) (omega arith))
-        (λ i below. let next : (k + 1) + i ≡ k + suc i = omega arith in ap basket next ∙ are (suc i) (omega arith)) in
+    (λ i below. let next : (k + 1) + i ≡ k + suc i = omega arith in ap f next ∙ weigh (suc i) (omega arith))
+    (λ i below. let next : (k + 1) + i ≡ k + suc i = omega arith in ap basket next ∙ are (suc i) (omega arith)) in
     weight_cons f k (filter (λ t. contains (basket t) set) (range_with_len (k + 1) (length places))) (contains (basket k) set)
     ∙ ap (λ l. cond (contains l set) (f k) 0 + sum_by f (filter (λ t. contains (basket t) set) (range_with_len (k + 1) (length places)))) b
     ∙ ap (λ n. cond (contains place.basket set) n 0 + sum_by f (filter (λ t. contains (basket t) set) (range_with_len (k + 1) (length places)))) w
@@ -137,7 +137,7 @@ weight_part f a (suc n) [] up within = omega arith
 weight_part f a (suc n) (x ∷ cover) up within = elim (cases_eq a x) [
   | inl e ↦
       (let rest : sum_by f cover ≤ sum_by f (range_with_len (a + 1) n) = weight_part f (a + 1) n cover (rest_rises x cover up) (λ y m.
-          let more = first_below x cover up y m in let w = within y (inr m) in let high = w.1 in (omega arith, omega arith)) in
+      let more = first_below x cover up y m in let w = within y (inr m) in let high = w.1 in (omega arith, omega arith)) in
       let one = sum_by-cons f x cover in
       let two = sum_by-cons f a (range_with_len (a + 1) n) in
       let same : f a ≡ f x = ap f e in omega arith)

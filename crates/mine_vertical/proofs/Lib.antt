@@ -2,3 +2,4 @@ mod CoverLemmas
 mod WalkLemmas
 mod RowLemmas
 mod SearchLemmas
+mod NodeLemmas

@@ -7,6 +7,7 @@ use Rattle.std.proofs.lemmas.List.{append-nil, take-append-le, get_or_append_lef
 use Rattle.std.proofs.lemmas.List.Elements.{filter-append}
 use Rattle.std.proofs.Math.Seq.{get_or-append_seam, take-append_seam}
 use Rattle.std.proofs.lemmas.List.Sums.{sum_by-append, sum_by-cons}
+use Rattle.basket_sets.proofs.theory.Members.{Member, Member-append}
 use Rattle.mine_vertical.specs.Walk.{kept_below, sets_below, joins_below}
 
 module _ (test : List ℕ → Bool) where
@@ -78,3 +79,31 @@ module _ (test : List ℕ → Bool) where
       one b e true h = ap (λ t. cond t (other ∷ []) []) (sym e)
       one true e false h = absurd (true≢false (sym (falls other e) ∙ h))
       one false e false h = refl
+
+  -- they are below the number
+  pub kept_lower : (below : ℕ) (set : List ℕ) (rank : ℕ) → Member rank (kept_below test below set) → rank < below
+  kept_lower zero set rank m = absurd m
+  kept_lower (suc other) set rank m = at (test (other ∷ set)) (λ n. kept_lower other set rank n) m
+    where
+      at : (b : Bool) → (Member rank (kept_below test other set) → rank < other) → Member rank (kept_below test other set ++ cond b (other ∷ []) []) → rank < suc other
+      at b lower n = elim (Member-append rank (kept_below test other set) (cond b (other ∷ []) []) n) [
+        | inl l ↦ (let less = lower l in omega arith)
+        | inr r ↦ (let same = only b r in omega arith)
+      ]
+        where
+          only : (d : Bool) → Member rank (cond d (other ∷ []) []) → other ≡ rank
+          only true (inl e) = e
+          only true (inr z) = absurd z
+          only false z = absurd z
+
+  -- so there are at most so many
+  pub kept_few : (below : ℕ) (set : List ℕ) → length (kept_below test below set) ≤ below
+  kept_few zero set = omega arith
+  kept_few (suc rank) set =
+      let rest = kept_few rank set in
+      let more = length-append (kept_below test rank set) (cond (test (rank ∷ set)) (rank ∷ []) []) in
+      let one = at (test (rank ∷ set)) in omega arith
+    where
+      at : (b : Bool) → length (cond b (rank ∷ []) []) ≤ 1
+      at true = omega arith
+      at false = omega arith

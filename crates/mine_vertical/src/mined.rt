@@ -33,7 +33,7 @@ impl Mined {
         requires { T.is_over tally.old ≡ false }
         ensures sets { OnOk result (self.new.sets.items ≡ self.old.sets.items ++ record { set = set; count = count } ∷ []) }
         ensures joins { self.new.joins ≡ self.old.joins }
-        ensures within { OnOk result (length self.new.sets.items ≤ T.limit_of tally.old) }
+        ensures few { OnOk result (length self.new.sets.items ≤ 4294967295) }
         ensures going_on { OnOk result (T.is_over tally.new ≡ false) }
         ensures told { T.told_of tally.new ≡ T.told_of tally.old + 1 }
         ensures limit { T.limit_of tally.new ≡ T.limit_of tally.old }
