@@ -19,7 +19,7 @@ use Rattle.mine_vertical.specs.Cover.{IsCover, all_places, basket_at, common, co
 
 -- ---- numbers in a row
 
-Member-range : (a n x : ℕ) → Member x (range_with_len a n) → (a ≤ x) × (x < a + n)
+pub Member-range : (a n x : ℕ) → Member x (range_with_len a n) → (a ≤ x) × (x < a + n)
 Member-range a zero x m = absurd m
 Member-range a (suc n) x (inl e) = (omega arith, omega arith)
 Member-range a (suc n) x (inr m) = let r = Member-range (a + 1) n x m in let low = r.0 in let high = r.1 in (omega arith, omega arith)

@@ -3,3 +3,6 @@ mod WalkLemmas
 mod RowLemmas
 mod SearchLemmas
 mod NodeLemmas
+mod FoundLemmas
+mod SiblingLemmas
+mod ClassLemmas

@@ -10,7 +10,7 @@ use Rattle.mine_vertical.specs.Cover.{IsCover, common, cover_weight, lacking}
 use Rattle.mine_vertical.specs.Rows.{IsDiffList, IsTidList}
 use Rattle.mine_vertical.proofs.CoverLemmas.{lacking_joined, part_covers, parts_weigh}
 
-filter_members : (p q : ℕ → Bool) (xs : List ℕ) → ((x : ℕ) → Member x xs → p x ≡ q x) → filter p xs ≡ filter q xs
+pub filter_members : (p q : ℕ → Bool) (xs : List ℕ) → ((x : ℕ) → Member x xs → p x ≡ q x) → filter p xs ≡ filter q xs
 filter_members p q [] same = refl
 filter_members p q (x ∷ xs) same =
     ap (λ b. cond b (x ∷ filter p xs) (filter p xs)) (same x (inl refl)) ∙ ap (λ l. cond (q x) (x ∷ l) l) (filter_members p q xs (λ y m. same y (inr m)))

@@ -3,3 +3,5 @@ pub mod Weights
 pub mod Walk
 pub mod Rows
 pub mod Search
+pub mod Vertical
+pub mod Siblings

@@ -7,13 +7,18 @@
 
 mod cover;
 mod diffs;
+mod eclat;
 mod mined;
 mod row;
 mod search;
+mod siblings;
 mod tids;
+mod vertical;
 mod weights;
 
 pub use diffs::DiffList;
+pub use eclat::eclat_class;
 pub use row::Row;
 pub use tids::TidList;
+pub use vertical::Vertical;
 pub use weights::Weights;

@@ -344,4 +344,3 @@ returns-clause-joins g t c = λ node is.
     c.loop-at.invariant.joins node is
     ∙ ap (λ n. c.args.mined.now.joins + n)
     (ap (sum_by (branch_joins (is_met node.baskets search.least) node.set)) all ∙ sym (joins_are_branches (is_met node.baskets search.least) node.below node.set))
-
