@@ -2,7 +2,7 @@
 use Rattle.std.proofs.Common.{◌≡◌, ℕ, ◌+◌, ◌<◌, ◌≤◌, Bool, true, false, ◌&&◌, List, [], ◌∷◌, ◌++◌, suc, length, map, leb, refl, sym, ap, ◌∙◌, subst, inl, inr, arith}
 use Rattle.std.specs.Prelude.{All}
 use Rattle.std.specs.List.{Contains}
-use Rattle.std.proofs.lemmas.Bool.{le-leb, leb-true, lt-leb}
+use Rattle.std.proofs.lemmas.Bool.{le-leb, leb-true, lt-leb, true≢false}
 use Rattle.std.proofs.lemmas.List.Elements.{All-weaker}
 use Rattle.basket_core.specs.Codes.{Coding, IsCoding, MOST_RANKS, decoded, decoded_set}
 use Rattle.basket_sets.specs.declared.weighted.Weighted.{Weighted}
@@ -18,13 +18,15 @@ use Rattle.basket_sets.proofs.theory.Rising.{Member-from_has, cons_rises, nil_ri
 use Rattle.basket_sets.proofs.theory.Support.{support_falls}
 use Rattle.mine_classes.specs.Classes.{ClassesAreConditional, ListsClass, RareRanksHaveNoClass, SupportsSettleFrequent, ends_in, extended, with_rank}
 use Rattle.mine_classes.specs.Conditional.{ConditionalSupports, conditional}
-use Rattle.mine_classes.specs.Mined.{ListsClassItems, ListsHaveClassSize, class_size}
+use Rattle.mine_classes.specs.Mined.{ListsClassItems, RanksAreFrequent, ListsHaveClassSize, class_size}
 use Rattle.mine_classes.specs.Ordered.{HaveSameWeights}
 use Rattle.mine_vertical.specs.declared.search.Sibling.{Sibling}
 use Rattle.mine_vertical.specs.Search.{IsNode, Node, found_at, is_met}
 use Rattle.mine_vertical.specs.Siblings.{AreClassSiblings}
-use Rattle.mine_vertical.specs.Walk.{sets_below}
+use Rattle.mine_vertical.specs.Joins.{class_joins}
+use Rattle.mine_vertical.specs.Walk.{joins_below, sets_below}
 use Rattle.mine_vertical.proofs.FoundLemmas.{lists_once}
+use Rattle.mine_vertical.proofs.JoinLemmas.{class_joins_are, same_joins}
 use Rattle.mine_vertical.proofs.SearchLemmas.{met}
 use Rattle.mine_vertical.proofs.SiblingLemmas.{lower}
 
@@ -46,7 +48,7 @@ module _ (coding : Coding) (least : ℕ) (all : List Weighted) (is : IsLeastSupp
   supports : (set : List ℕ) → support_of coding.baskets set ≡ support_of all set
   supports set = weights (λ basket. contains basket set)
 
-  tests : (set : List ℕ) → is_frequent all (Count least) set ≡ is_frequent coding.baskets coding.minimum set
+  pub tests : (set : List ℕ) → is_frequent all (Count least) set ≡ is_frequent coding.baskets coding.minimum set
   tests set =
       ap (λ n. leb 1 n && leb least n) (sym (supports set))
       ∙ one_test (leb 1 (support_of coding.baskets set)) (leb least (support_of coding.baskets set))
@@ -57,6 +59,15 @@ module _ (coding : Coding) (least : ℕ) (all : List Weighted) (is : IsLeastSupp
       one_test true b h = refl
       one_test false true h = h refl
       one_test false false h = refl
+
+  -- so no such coding has a rank of less support
+  pub rare_rank : (rank : ℕ) → RanksAreFrequent coding → rank < length coding.items → support_of all (rank ∷ []) < least → ⊥
+  rare_rank rank each here rare =
+      true≢false (sym (tests (rank ∷ []) ∙ each rank here) ∙ ap (λ b. leb 1 (support_of all (rank ∷ [])) && b) (lt-leb least (support_of all (rank ∷ [])) rare) ∙ and_false (leb 1 (support_of all (rank ∷ []))))
+    where
+      and_false : (b : Bool) → (b && false) ≡ false
+      and_false true = refl
+      and_false false = refl
 
   -- a list of a class of other baskets with the same weights, and of a least support, is one of the class
   class_is : (rank : ℕ) (list : List Counted) → ListsClass all (Count least) rank list → ListsClass coding.baskets coding.minimum rank list
@@ -103,6 +114,14 @@ module _ (coding : Coding) (least : ℕ) (all : List Weighted) (is : IsLeastSupp
         as_many : (found : List (List ℕ)) → length (map (found_at coding.items (top baskets rank)) found) ≡ length found
         as_many [] = refl
         as_many (set ∷ found) = ap suc (as_many found)
+
+-- and the joins that it makes, with one for each rank below, are those of the class
+pub whole_joins : (coding : Coding) (least : ℕ) (all : List Weighted) → IsLeastSupport coding.minimum (total_of coding.baskets) least → HaveSameWeights coding.baskets all → ConditionalSupports
+    → (rank : ℕ) (baskets : List Weighted) → ((set : List ℕ) → support_of baskets set ≡ support_of (conditional least all rank) set) → RanksAreFrequent coding → rank < length coding.items
+    → class_joins coding rank ≡ rank + joins_below (is_met baskets least) rank []
+whole_joins coding least all is weights law rank baskets same each here =
+    class_joins_are coding rank each here
+    ∙ ap (λ n. rank + n) (sym (same_joins law all least rank baskets same coding.baskets coding.minimum (tests coding least all is weights) rank (omega arith) [] (λ item m. absurd m)))
 
 -- the search of a class begins at its rank
 pub top_is : {R : Type 0} (stands : List ℕ → List ℕ → List ℕ → R → Type 0) (all : List Weighted) (least rank : ℕ) (weights : List ℕ) (siblings : List (Sibling R)) (baskets : List Weighted) (path : List ℕ) (count : ℕ)

@@ -6,3 +6,4 @@ mod NodeLemmas
 mod FoundLemmas
 mod SiblingLemmas
 mod ClassLemmas
+mod JoinLemmas

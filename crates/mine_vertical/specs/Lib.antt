@@ -5,3 +5,4 @@ pub mod Rows
 pub mod Search
 pub mod Vertical
 pub mod Siblings
+pub mod Joins

@@ -1,6 +1,7 @@
 //! The class call.
 ghost use Rattle.std.specs.Prelude.{◌≡◌, ◌≤◌, ◌<◌, ◌+◌, ℕ, ◌⊎◌, Err, IfOk, IsTrue, false, length};
 ghost use Rattle.basket_core.specs.declared.fault.MineFault.TheVariants.{TooMany};
+ghost use Rattle.mine_vertical.specs.Joins.{class_joins};
 ghost use Rattle.mine_classes.specs.Mined.{ListsClassItems, RanksAreFrequent, class_size};
 
 use crate::mined::Mined;
@@ -10,8 +11,8 @@ use crate::siblings::{class_siblings, support_of_rank};
 use crate::vertical::Vertical;
 use basket_core::{Counted, Itemset, MineFault, Tally};
 use mine_classes::laws::{
-    classes_are_conditional, conditional_supports, lists_have_class_size,
-    rare_ranks_have_no_class, supports_settle_frequent,
+    classes_are_conditional, conditional_supports, lists_have_class_size, rare_ranks_have_no_class,
+    supports_settle_frequent,
 };
 use std::alloc::Global;
 
@@ -27,6 +28,7 @@ pub fn eclat_class<R: Row, T: Tally>(
     requires rank { rank < length vertical.now.items }
     requires going { T.is_over tally.old ≡ false }
     ensures listed { IfOk result (λ mined. ListsClassItems vertical.now rank mined.0.items) }
+    ensures joins { IfOk result (λ mined. RanksAreFrequent vertical.now → mined.1 ≡ class_joins vertical.now rank) }
     ensures told { IfOk result (λ mined. T.told_of tally.new ≡ T.told_of tally.old + length mined.0.items) }
     ensures going_on { IfOk result (λ mined. T.is_over tally.new ≡ false) }
     ensures too_many { (limit : ℕ) → result ≡ Err (TooMany limit)

@@ -8,6 +8,7 @@
 mod cover;
 mod diffs;
 mod eclat;
+pub mod laws;
 mod mined;
 mod row;
 mod search;

@@ -9,7 +9,7 @@ use Rattle.mine_classes.specs.Mined.{ListsClassItems}
 use Rattle.mine_vertical.specs.Search.{found_at, is_met}
 use Rattle.mine_vertical.specs.Siblings.{AreClassSiblings}
 use Rattle.mine_vertical.specs.Walk.{sets_below}
-use Rattle.mine_vertical.proofs.ClassLemmas.{rare_class, top, top_is, whole, whole_lists, whole_size}
+use Rattle.mine_vertical.proofs.ClassLemmas.{rare_class, rare_rank, top, top_is, whole, whole_joins, whole_lists, whole_size}
 use Rattle.mine_vertical.proofs.eclat.eclat_class.Goals as goal
 
 pub returns-then-support-least-clause-listed : goal.returns-then-support-least-clause-listed
@@ -168,3 +168,24 @@ returns-clause-listed g c =
     (whole_lists coding least all c.least-least.ensures c.runs-runs.ensures.weights c.conditional_supports.ensures c.supports_settle_frequent.ensures c.classes_are_conditional.ensures c.lists_have_class_size.ensures
     rank baskets are.same enough)
 
+pub returns-then-support-least-clause-joins : goal.returns-then-support-least-clause-joins
+returns-then-support-least-clause-joins g c = λ each.
+    absurd (rare_rank c.args.vertical.now c.least-least.result c.runs-runs.result.now.baskets c.least-least.ensures c.runs-runs.ensures.weights c.args.rank each c.requires.rank
+    (omega (arith, c.if-support-least.true, c.support_of_rank-support.ensures)))
+
+pub returns-clause-joins : goal.returns-clause-joins
+returns-clause-joins g c = λ each.
+    let coding = c.args.vertical.now in
+    let rank = c.args.rank in
+    let least = c.least-least.result in
+    let all = c.runs-runs.result.now.baskets in
+    let enough : least ≤ support_of all (rank ∷ []) = omega (arith, c.if-support-least.false, c.support_of_rank-support.ensures) in
+    let (baskets, are) = c.in_ok-weights.ensures in
+    let path : c.in_ok-path.path.items ≡ rank ∷ [] = c.in_ok-path.ensures.items_if_clones_equal (λ y e. e) in
+    let items = c.coded-coded.result.now.items in
+    let known : rank < length items = omega (arith, c.requires.rank, ap (λ (k : Coding). length k.items) c.coded-coded.ensures.coded) in
+    let few : length items < MOST_RANKS = omega (arith, c.coded-coded.ensures.coding.few, ap (λ (k : Coding). length k.items) c.coded-coded.ensures.coded) in
+    let made = subst (λ s. AreClassSiblings g.R.Row.stands all least rank c.in_ok-weights.weights s baskets) (sym c.deref.ensures.value) are in
+    let node = top_is g.R.Row.stands all least rank c.in_ok-weights.weights c.deref.result.now baskets c.in_ok-path.path.items (length items) made path known few in
+    let joins = whole_joins coding least all c.least-least.ensures c.runs-runs.ensures.weights c.conditional_supports.ensures rank baskets are.same each c.requires.rank in
+    omega (arith, joins, c.in_ok-extend.ensures.joins (top baskets rank) node, c.from.ensures)
