@@ -1,0 +1,234 @@
+-- Covers of sets, what they share, and what they weigh.
+use Rattle.std.proofs.Common.{◌≡◌, ℕ, zero, suc, ◌+◌, ◌<◌, ◌≤◌, Bool, true, false, ◌&&◌, not, List, [], ◌∷◌, ◌++◌, take, length, get_or, map, cond, sum, refl, sym, ap, ◌∙◌, subst, inl, inr, arith}
+use Rattle.std.specs.List.{filter, range_with_len, sum_by}
+use Rattle.std.specs.Ordering.{nat_cmp}
+use Rattle.std.proofs.lemmas.List.Elements.{filter_more}
+use Rattle.std.proofs.lemmas.List.{append-nil}
+use Rattle.std.proofs.lemmas.Bool.{and_parts, and_from, cases_Bool, cases_eq, true≢false}
+use Rattle.std.proofs.lemmas.List.{length-map}
+use Rattle.std.proofs.lemmas.List.Kept.{IsStrictlySortedBy-filter}
+use Rattle.std.proofs.lemmas.List.Sums.{sum_by-cons}
+use Rattle.basket_sets.specs.declared.weighted.Weighted.{Weighted}
+use Rattle.basket_sets.specs.Itemset.{AllBelow, IsRising, contains, has}
+use Rattle.basket_sets.specs.Support.{support_of}
+use Rattle.basket_sets.specs.Support as support
+use Rattle.basket_sets.proofs.theory.Members.{Member, Member-filter, Member-from_filter}
+use Rattle.basket_sets.proofs.theory.Rising.{Member-from_has, has-from_Member, cons_rises, nil_rises, first_below, rest_rises, same_rising, contains_each, has_each, has_place}
+use Rattle.basket_sets.proofs.theory.Support.{support-cons}
+use Rattle.mine_vertical.specs.Cover.{IsCover, all_places, basket_at, common, cover_of, cover_weight, lacking, weights_of}
+
+-- ---- numbers in a row
+
+pub Member-range : (a n x : ℕ) → Member x (range_with_len a n) → (a ≤ x) × (x < a + n)
+Member-range a zero x m = absurd m
+Member-range a (suc n) x (inl e) = (omega arith, omega arith)
+Member-range a (suc n) x (inr m) = let r = Member-range (a + 1) n x m in let low = r.0 in let high = r.1 in (omega arith, omega arith)
+
+pub Member-into_range : (a n x : ℕ) → a ≤ x → x < a + n → Member x (range_with_len a n)
+Member-into_range a zero x low high = absurd (omega arith)
+Member-into_range a (suc n) x low high = elim (cases_eq a x) [
+  | inl e ↦ inl e
+  | inr differ ↦ inr (Member-into_range (a + 1) n x (omega arith) (omega arith))
+]
+
+range_rises : (a n : ℕ) → IsRising (range_with_len a n)
+range_rises a zero = nil_rises
+range_rises a (suc n) = cons_rises a (range_with_len (a + 1) n) (λ y m. let r = Member-range (a + 1) n y m in let low = r.0 in omega arith) (range_rises (a + 1) n)
+
+pub range_more : (a n : ℕ) → range_with_len a (suc n) ≡ range_with_len a n ++ (a + n) ∷ []
+range_more a zero = ap (λ m. m ∷ []) (omega arith)
+range_more a (suc n) = ap (λ l. a ∷ l) (range_more (a + 1) n ∙ ap (λ m. range_with_len (a + 1) n ++ m ∷ []) (omega arith))
+
+pub filter_rises : (p : ℕ → Bool) (xs : List ℕ) → IsRising xs → IsRising (filter p xs)
+filter_rises p xs up = IsStrictlySortedBy-filter nat_cmp p xs up
+
+filter_all : {K : Type 0} (xs : List K) → filter (λ x. true) xs ≡ xs
+filter_all [] = refl
+filter_all (x ∷ xs) = ap (λ l. x ∷ l) (filter_all xs)
+
+-- a filter that goes on
+pub filter_keeps : (p : ℕ → Bool) (xs : List ℕ) (i : ℕ) → i < length xs → p (get_or xs i 0) ≡ true → filter p (take (i + 1) xs) ≡ filter p (take i xs) ++ get_or xs i 0 ∷ []
+filter_keeps p xs i here h = filter_more p xs i 0 here ∙ ap (λ b. filter p (take i xs) ++ cond b (get_or xs i 0 ∷ []) []) h
+
+pub filter_drops : (p : ℕ → Bool) (xs : List ℕ) (i : ℕ) → i < length xs → p (get_or xs i 0) ≡ false → filter p (take (i + 1) xs) ≡ filter p (take i xs)
+filter_drops p xs i here h = filter_more p xs i 0 here ∙ ap (λ b. filter p (take i xs) ++ cond b (get_or xs i 0 ∷ []) []) h ∙ append-nil (filter p (take i xs))
+
+-- ---- covers of sets
+
+pub cover_rises : (baskets : List Weighted) (set : List ℕ) → IsRising (cover_of baskets set)
+cover_rises baskets set = filter_rises (λ place. contains (basket_at baskets place) set) (range_with_len 0 (length baskets)) (range_rises 0 (length baskets))
+
+pub from_cover : (baskets : List Weighted) (set : List ℕ) (place : ℕ) → Member place (cover_of baskets set) → (place < length baskets) × (contains (basket_at baskets place) set ≡ true)
+from_cover baskets set place m =
+    let p = Member-filter (λ t. contains (basket_at baskets t) set) place (range_with_len 0 (length baskets)) m in
+    let r = Member-range 0 (length baskets) place p.0 in
+    let high = r.1 in (omega arith, p.1)
+
+pub into_cover : (baskets : List Weighted) (set : List ℕ) (place : ℕ) → place < length baskets → contains (basket_at baskets place) set ≡ true → Member place (cover_of baskets set)
+into_cover baskets set place here h =
+    Member-from_filter (λ t. contains (basket_at baskets t) set) place (range_with_len 0 (length baskets)) (Member-into_range 0 (length baskets) place (omega arith) (omega arith)) h
+
+pub as_many : (baskets : List Weighted) → length (weights_of baskets) ≡ length baskets
+as_many [] = refl
+as_many (place ∷ places) = ap suc (as_many places)
+
+pub cover_covers : (baskets : List Weighted) (set : List ℕ) → IsCover (weights_of baskets) (cover_of baskets set)
+cover_covers baskets set = record {
+  rises = cover_rises baskets set;
+  below = λ place h. subst (λ n. place < n) (sym (as_many baskets)) (from_cover baskets set place (Member-from_has (cover_of baskets set) place h)).0;
+}
+
+-- all places contain no rank
+pub cover_of_none : (baskets : List Weighted) → cover_of baskets [] ≡ all_places (weights_of baskets)
+cover_of_none baskets = filter_all (range_with_len 0 (length baskets)) ∙ ap (range_with_len 0) (sym (as_many baskets))
+
+-- two sets that differ in one rank each share the places of their union
+pub common_cover : (baskets : List Weighted) (set : List ℕ) (x y : ℕ) → common (cover_of baskets (x ∷ set)) (cover_of baskets (y ∷ set)) ≡ cover_of baskets (y ∷ x ∷ set)
+common_cover baskets set x y = same_rising (common (cover_of baskets (x ∷ set)) (cover_of baskets (y ∷ set))) (cover_of baskets (y ∷ x ∷ set))
+    (filter_rises (has (cover_of baskets (y ∷ set))) (cover_of baskets (x ∷ set)) (cover_rises baskets (x ∷ set))) (cover_rises baskets (y ∷ x ∷ set))
+    (λ place m.
+    let f = Member-filter (has (cover_of baskets (y ∷ set))) place (cover_of baskets (x ∷ set)) m in
+    let a = from_cover baskets (x ∷ set) place f.0 in
+    let b = from_cover baskets (y ∷ set) place (Member-from_has (cover_of baskets (y ∷ set)) place f.1) in
+    into_cover baskets (y ∷ x ∷ set) place a.0
+    (and_from (has (basket_at baskets place) y) (contains (basket_at baskets place) (x ∷ set)) (and_parts (has (basket_at baskets place) y) (contains (basket_at baskets place) set) b.1).0 a.1))
+    (λ place m.
+    let a = from_cover baskets (y ∷ x ∷ set) place m in
+    let p = and_parts (has (basket_at baskets place) y) (contains (basket_at baskets place) (x ∷ set)) a.1 in
+    let q = and_parts (has (basket_at baskets place) x) (contains (basket_at baskets place) set) p.1 in
+    Member-from_filter (has (cover_of baskets (y ∷ set))) place (cover_of baskets (x ∷ set)) (into_cover baskets (x ∷ set) place a.0 p.1)
+    (has-from_Member (cover_of baskets (y ∷ set)) place
+    (into_cover baskets (y ∷ set) place a.0 (and_from (has (basket_at baskets place) y) (contains (basket_at baskets place) set) p.0 q.1))))
+
+-- ---- weights
+
+weight_cons : (f : ℕ → ℕ) (k : ℕ) (others : List ℕ) (b : Bool) → sum_by f (cond b (k ∷ others) others) ≡ cond b (f k) 0 + sum_by f others
+weight_cons f k others true = sum_by-cons f k others
+weight_cons f k others false = omega arith
+
+weight_from : (f : ℕ → ℕ) (basket : ℕ → List ℕ) (set : List ℕ) (k : ℕ) (baskets : List Weighted)
+    → ((i : ℕ) → i < length baskets → f (k + i) ≡ get_or (map (λ (p : Weighted). p.weight) baskets) i 0)
+    → ((i : ℕ) → i < length baskets → basket (k + i) ≡ get_or (map (λ (p : Weighted). p.basket) baskets) i [])
+    → sum_by f (filter (λ place. contains (basket place) set) (range_with_len k (length baskets))) ≡ support_of baskets set
+weight_from f basket set k [] weigh are = refl
+weight_from f basket set k (place ∷ places) weigh are =
+    let here : k ≡ k + 0 = omega arith in
+    let w : f k ≡ place.weight = ap f here ∙ weigh 0 (omega arith) in
+    let b : basket k ≡ place.basket = ap basket here ∙ are 0 (omega arith) in
+    let rest = weight_from f basket set (k + 1) places
+    (λ i below. let next : (k + 1) + i ≡ k + suc i = omega arith in ap f next ∙ weigh (suc i) (omega arith))
+    (λ i below. let next : (k + 1) + i ≡ k + suc i = omega arith in ap basket next ∙ are (suc i) (omega arith)) in
+    weight_cons f k (filter (λ t. contains (basket t) set) (range_with_len (k + 1) (length places))) (contains (basket k) set)
+    ∙ ap (λ l. cond (contains l set) (f k) 0 + sum_by f (filter (λ t. contains (basket t) set) (range_with_len (k + 1) (length places)))) b
+    ∙ ap (λ n. cond (contains place.basket set) n 0 + sum_by f (filter (λ t. contains (basket t) set) (range_with_len (k + 1) (length places)))) w
+    ∙ ap (λ n. cond (contains place.basket set) place.weight 0 + n) rest
+    ∙ sym (support-cons place places set)
+
+-- a set's cover weighs its support
+pub cover_weighs : (baskets : List Weighted) (set : List ℕ) → cover_weight (weights_of baskets) (cover_of baskets set) ≡ support_of baskets set
+cover_weighs baskets set = weight_from (λ place. get_or (weights_of baskets) place 0) (basket_at baskets) set 0 baskets
+    (λ i below. let e : 0 + i ≡ i = omega arith in ap (λ n. get_or (weights_of baskets) n 0) e) (λ i below. let e : 0 + i ≡ i = omega arith in ap (basket_at baskets) e)
+
+-- the weight of some of the places from one on, which rise, is at most that of all of them
+weight_part : (f : ℕ → ℕ) (a n : ℕ) (cover : List ℕ) → IsRising cover → ((place : ℕ) → Member place cover → (a ≤ place) × (place < a + n)) → sum_by f cover ≤ sum_by f (range_with_len a n)
+weight_part f a zero [] up within = omega arith
+weight_part f a zero (x ∷ cover) up within = let w = within x (inl refl) in let low = w.0 in let high = w.1 in absurd (omega arith)
+weight_part f a (suc n) [] up within = omega arith
+weight_part f a (suc n) (x ∷ cover) up within = elim (cases_eq a x) [
+  | inl e ↦
+      (let rest : sum_by f cover ≤ sum_by f (range_with_len (a + 1) n) = weight_part f (a + 1) n cover (rest_rises x cover up) (λ y m.
+      let more = first_below x cover up y m in let w = within y (inr m) in let high = w.1 in (omega arith, omega arith)) in
+      let one = sum_by-cons f x cover in
+      let two = sum_by-cons f a (range_with_len (a + 1) n) in
+      let same : f a ≡ f x = ap f e in omega arith)
+  | inr differ ↦
+      (let rest : sum_by f (x ∷ cover) ≤ sum_by f (range_with_len (a + 1) n) = weight_part f (a + 1) n (x ∷ cover) up (λ y m. later differ y m) in
+      let two = sum_by-cons f a (range_with_len (a + 1) n) in omega arith)
+]
+  where
+    later : (a ≡ x → ⊥) → (y : ℕ) → Member y (x ∷ cover) → (a + 1 ≤ y) × (y < (a + 1) + n)
+    later differ y (inl e) = let w = within x (inl refl) in let low = w.0 in let high = w.1 in (omega arith, omega arith)
+    later differ y (inr m) =
+        let w = within x (inl refl) in
+        let low = w.0 in
+        let v = within y (inr m) in
+        let high = v.1 in
+        let more = first_below x cover up y m in (omega arith, omega arith)
+
+sum_from : (f : ℕ → ℕ) (a : ℕ) (ws : List ℕ) → ((i : ℕ) → i < length ws → f (a + i) ≡ get_or ws i 0) → sum_by f (range_with_len a (length ws)) ≡ sum ws
+sum_from f a [] are = refl
+sum_from f a (w ∷ ws) are =
+    let here : a ≡ a + 0 = omega arith in
+    let first : f a ≡ w = ap f here ∙ are 0 (omega arith) in
+    let rest = sum_from f (a + 1) ws (λ i below. let next : (a + 1) + i ≡ a + suc i = omega arith in ap f next ∙ are (suc i) (omega arith)) in
+    sum_by-cons f a (range_with_len (a + 1) (length ws)) ∙ ap (λ n. n + sum_by f (range_with_len (a + 1) (length ws))) first
+    ∙ ap (λ n. w + n) rest ∙ sym (sum_by-cons (λ x. x) w ws)
+
+-- a cover weighs at most what all places do
+pub cover_light : (weights cover : List ℕ) → IsRising cover → AllBelow (length weights) cover → cover_weight weights cover ≤ sum weights
+cover_light weights cover up below =
+    let part = weight_part (λ place. get_or weights place 0) 0 (length weights) cover up (λ place m. let b = below place (has-from_Member cover place m) in (omega arith, omega arith)) in
+    let all = sum_from (λ place. get_or weights place 0) 0 weights (λ i b. let e : 0 + i ≡ i = omega arith in ap (λ n. get_or weights n 0) e) in
+    omega arith
+
+-- ---- parts of covers
+
+pub part_covers : (weights cover : List ℕ) (p : ℕ → Bool) → IsCover weights cover → IsCover weights (filter p cover)
+part_covers weights cover p is = record {
+  rises = filter_rises p cover is.rises;
+  below = λ place h. is.below place (has-from_Member cover place (Member-filter p place cover (Member-from_has (filter p cover) place h)).0);
+}
+
+-- what a test keeps of a cover and what it drops weigh what the cover does
+pub parts_weigh : (f : ℕ → ℕ) (p : ℕ → Bool) (cover : List ℕ) → sum_by f (filter p cover) + sum_by f (filter (λ place. not (p place)) cover) ≡ sum_by f cover
+parts_weigh f p [] = refl
+parts_weigh f p (x ∷ cover) = at (p x) (filter p cover) (filter (λ place. not (p place)) cover) (parts_weigh f p cover)
+  where
+    at : (b : Bool) (kept dropped : List ℕ) → sum_by f kept + sum_by f dropped ≡ sum_by f cover → sum_by f (cond b (x ∷ kept) kept) + sum_by f (cond (not b) (x ∷ dropped) dropped) ≡ sum_by f (x ∷ cover)
+    at true kept dropped rest = let one = sum_by-cons f x kept in let all = sum_by-cons f x cover in omega arith
+    at false kept dropped rest = let one = sum_by-cons f x dropped in let all = sum_by-cons f x cover in omega arith
+
+-- the places of a parent's cover that a cover lacks are, for a cover in it, those that the others lack
+pub lacking_joined : (parent first second : List ℕ) → IsRising parent → IsRising first → contains parent first ≡ true
+    → lacking (lacking parent second) (lacking parent first) ≡ lacking first (common first second)
+lacking_joined parent first second up rises inside = same_rising (lacking (lacking parent second) (lacking parent first)) (lacking first (common first second))
+    (filter_rises (λ place. not (has (lacking parent first) place)) (lacking parent second) (filter_rises (λ place. not (has second place)) parent up))
+    (filter_rises (λ place. not (has (common first second) place)) first rises)
+    (λ place m.
+    let f = Member-filter (λ t. not (has (lacking parent first) t)) place (lacking parent second) m in
+    let g = Member-filter (λ t. not (has second t)) place parent f.0 in
+    let here : Member place first = elim (cases_Bool (has first place)) [
+      | inl e ↦ Member-from_has first place e
+      | inr e ↦ absurd (true≢false (sym (has-from_Member (lacking parent first) place (Member-from_filter (λ t. not (has first t)) place parent g.0 (ap not e))) ∙ not_true (has (lacking parent first) place) f.1))
+    ] in
+    Member-from_filter (λ t. not (has (common first second) t)) place first here
+    (ap not (absent (common first second) place (λ n. true≢false (sym (Member-filter (has second) place first n).1 ∙ not_true (has second place) g.1)))))
+    (λ place m.
+    let f = Member-filter (λ t. not (has (common first second) t)) place first m in
+    let lost : has second place ≡ false = absent second place (λ n.
+    true≢false (sym (has-from_Member (common first second) place (Member-from_filter (has second) place first f.0 (has-from_Member second place n))) ∙ not_true (has (common first second) place) f.1)) in
+    Member-from_filter (λ t. not (has (lacking parent first) t)) place (lacking parent second)
+    (Member-from_filter (λ t. not (has second t)) place parent (has_each parent first inside place f.0) (ap not lost))
+    (ap not (absent (lacking parent first) place (λ n.
+    true≢false (sym (has-from_Member first place f.0) ∙ not_true (has first place) (Member-filter (λ t. not (has first t)) place parent n).1)))))
+  where
+    not_true : (b : Bool) → not b ≡ true → b ≡ false
+    not_true true h = sym h
+    not_true false h = refl
+
+    absent : (xs : List ℕ) (x : ℕ) → (Member x xs → ⊥) → has xs x ≡ false
+    absent xs x never = elim (cases_Bool (has xs x)) [ inl e ↦ absurd (never (Member-from_has xs x e)) | inr e ↦ e ]
+
+-- each place of a cover is one of all places
+pub within_all : (weights cover : List ℕ) → IsCover weights cover → contains (all_places weights) cover ≡ true
+within_all weights cover is = contains_each (all_places weights) cover (λ place m.
+    let low = is.below place (has-from_Member cover place m) in Member-into_range 0 (length weights) place (omega arith) (omega arith))
+
+pub all_cover : (weights : List ℕ) → IsCover weights (all_places weights)
+all_cover weights = record {
+  rises = range_rises 0 (length weights);
+  below = λ place h. (let r = Member-range 0 (length weights) place (Member-from_has (all_places weights) place h) in let high = r.1 in omega arith);
+}
+
+pub cover_at : (weights cover : List ℕ) (i : ℕ) → AllBelow (length weights) cover → i < length cover → get_or cover i 0 < length weights
+cover_at weights cover i below here = below (get_or cover i 0) (has_place cover i here)

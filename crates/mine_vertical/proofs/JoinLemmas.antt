@@ -1,0 +1,208 @@
+-- The joins of a class, and of all classes.
+use Rattle.std.proofs.Common.{◌≡◌, ◌≢◌, ℕ, zero, suc, ◌+◌, ◌<◌, ◌≤◌, Bool, true, false, ◌&&◌, List, [], ◌∷◌, ◌++◌, length, map, cond, leb, ltb, refl, sym, ap, ◌∙◌, subst, inl, inr, arith, length-append, zero-add}
+use Rattle.std.specs.List.{filter, list_all, range_with_len, sum_by}
+use Rattle.std.proofs.lemmas.Bool.{and_from, and_parts, cases_Bool, lt-ltb, true≢false}
+use Rattle.std.proofs.lemmas.List.{append-nil}
+use Rattle.std.proofs.lemmas.List.Elements.{All-from_recursion, filter-append}
+use Rattle.std.proofs.lemmas.List.Sums.{sum_by-append, sum_by-cons}
+use Rattle.basket_core.specs.Codes.{Coding}
+use Rattle.basket_sets.specs.declared.weighted.Weighted.{Weighted}
+use Rattle.basket_sets.specs.declared.minimum.Minimum.{Minimum}
+use Rattle.basket_sets.specs.declared.minimum.Minimum.TheVariants.{Count}
+use Rattle.basket_sets.specs.Frequent.{IsNonemptySet, is_frequent}
+use Rattle.basket_sets.specs.Itemset.{AllBelow}
+use Rattle.basket_sets.specs.Support.{support_of}
+use Rattle.basket_sets.proofs.theory.Members.{Member, All-from_Member, Contains-from_Member, Member-append_left, Member-append_right}
+use Rattle.basket_sets.proofs.theory.Rising.{Member-from_has, has-from_Member, nil_rises, contains_each}
+use Rattle.basket_sets.proofs.theory.Support.{subsets_are_frequent}
+use Rattle.mine_classes.specs.Conditional.{ConditionalSupports, conditional, is_kept}
+use Rattle.mine_classes.specs.Mined.{RanksAreFrequent}
+use Rattle.mine_vertical.specs.Joins.{ClassJoinsAddUp, SetsOfRanksAreAll, class_joins, is_join, sets_of_ranks}
+use Rattle.mine_vertical.specs.Search.{is_met}
+use Rattle.mine_vertical.specs.Walk.{joins_below, kept_below, sets_below}
+use Rattle.mine_vertical.proofs.CoverLemmas.{range_more}
+use Rattle.mine_vertical.proofs.FoundLemmas.{from_sets, into_sets, only_below, sets_distinct}
+
+-- how many sets of a list pass a test
+abbrev many : (List ℕ → Bool) → List (List ℕ) → ℕ
+many p sets = length (filter p sets)
+
+abbrev one_if : Bool → ℕ
+one_if b = cond b 1 0
+
+many-append : (p : List ℕ → Bool) (xs ys : List (List ℕ)) → many p (xs ++ ys) ≡ many p xs + many p ys
+many-append p xs ys = ap length (filter-append p xs ys) ∙ length-append (filter p xs) (filter p ys)
+
+many-cons : (p : List ℕ → Bool) (x : List ℕ) (xs : List (List ℕ)) → many p (x ∷ xs) ≡ one_if (p x) + many p xs
+many-cons p x xs = at (p x)
+  where
+    at : (b : Bool) → length (cond b (x ∷ filter p xs) (filter p xs)) ≡ one_if b + length (filter p xs)
+    at true = omega arith
+    at false = omega arith
+
+module _ (baskets : List Weighted) (minimum : Minimum) where
+  abbrev frequent : List ℕ → Bool
+  frequent set = is_frequent baskets minimum set
+
+  abbrev every : List ℕ → Bool
+  every set = true
+
+  -- how many joins make sets that extend a set
+  abbrev joins : ℕ → List ℕ → ℕ
+  joins below set = many (is_join baskets minimum) (sets_below every below set)
+
+  joins_more : (rank : ℕ) (set : List ℕ) → joins (suc rank) set ≡ joins rank set + (one_if (is_join baskets minimum (rank ∷ set)) + joins rank (rank ∷ set))
+  joins_more rank set =
+      many-append (is_join baskets minimum) (sets_below every rank set) ((rank ∷ set) ∷ sets_below every rank (rank ∷ set))
+      ∙ ap (λ n. joins rank set + n) (many-cons (is_join baskets minimum) (rank ∷ set) (sets_below every rank (rank ∷ set)))
+
+  falls : (rank : ℕ) (set : List ℕ) → frequent set ≡ false → frequent (rank ∷ set) ≡ false
+  falls rank set rare = elim (cases_Bool (frequent (rank ∷ set))) [
+    | inl e ↦ absurd (true≢false (sym (subsets_are_frequent baskets minimum (rank ∷ set) set (contains_each (rank ∷ set) set (λ z m. inr m)) e) ∙ rare))
+    | inr e ↦ e
+  ]
+
+  -- none extends a set that is not frequent
+  none : (below first : ℕ) (others : List ℕ) → frequent (first ∷ others) ≡ false → joins below (first ∷ others) ≡ 0
+  none zero first others rare = refl
+  none (suc rank) first others rare =
+      let one = none rank first others rare in
+      let two = none rank rank (first ∷ others) (falls rank (first ∷ others) rare) in
+      let made : one_if (is_join baskets minimum (rank ∷ first ∷ others)) ≡ 0 = ap (λ b. one_if (b && frequent (rank ∷ others))) rare in
+      let all = joins_more rank (first ∷ others) in omega arith
+
+  kept_more : (rank : ℕ) (set : List ℕ) → length (kept_below frequent (suc rank) set) ≡ length (kept_below frequent rank set) + one_if (frequent (rank ∷ set))
+  kept_more rank set = length-append (kept_below frequent rank set) (cond (frequent (rank ∷ set)) (rank ∷ []) []) ∙ ap (λ n. length (kept_below frequent rank set) + n) (at (frequent (rank ∷ set)))
+    where
+      at : (b : Bool) → length (cond b (rank ∷ []) []) ≡ one_if b
+      at true = refl
+      at false = refl
+
+  -- those that extend a frequent set: with each rank that extends the set without its least rank, and those that extend its extensions
+  joins_are : (below first : ℕ) (others : List ℕ) → frequent (first ∷ others) ≡ true
+      → joins below (first ∷ others) ≡ length (kept_below frequent below others) + joins_below frequent below (first ∷ others)
+  joins_are zero first others h = refl
+  joins_are (suc rank) first others h =
+      let set : List ℕ = first ∷ others in
+      let one = joins_are rank first others h in
+      let made : one_if (is_join baskets minimum (rank ∷ first ∷ others)) ≡ one_if (frequent (rank ∷ others)) = ap (λ b. one_if (b && frequent (rank ∷ others))) h in
+      let two = at (frequent (rank ∷ set)) refl (λ e. joins_are rank rank set e) in
+      let all = joins_more rank set in
+      let kept = kept_more rank others in omega arith
+    where
+      at : (b : Bool) → frequent (rank ∷ first ∷ others) ≡ b
+          → (frequent (rank ∷ first ∷ others) ≡ true → joins rank (rank ∷ first ∷ others) ≡ length (kept_below frequent rank (first ∷ others)) + joins_below frequent rank (rank ∷ first ∷ others))
+          → joins rank (rank ∷ first ∷ others) ≡ cond b (length (kept_below frequent rank (first ∷ others)) + joins_below frequent rank (rank ∷ first ∷ others)) 0
+      at true e deeper = deeper e
+      at false e deeper = none rank rank (first ∷ others) e
+
+  all_kept : (below : ℕ) → ((rank : ℕ) → rank < below → frequent (rank ∷ []) ≡ true) → length (kept_below frequent below []) ≡ below
+  all_kept zero each = refl
+  all_kept (suc rank) each =
+      let one = all_kept rank (λ r less. each r (omega arith)) in
+      let more = kept_more rank [] in
+      let last = ap one_if (each rank (omega arith)) in omega arith
+
+-- ---- the joins of a class in its conditional database
+
+module _ (law : ConditionalSupports) (all : List Weighted) (least rank : ℕ) (baskets : List Weighted) (same : (set : List ℕ) → support_of baskets set ≡ support_of (conditional least all rank) set)
+    (others : List Weighted) (minimum : Minimum) (tests : (set : List ℕ) → is_frequent all (Count least) set ≡ is_frequent others minimum set) where
+  each_all : (xs : List ℕ) → ((x : ℕ) → Member x xs → is_kept all least rank x ≡ true) → list_all (is_kept all least rank) xs ≡ true
+  each_all [] h = refl
+  each_all (y ∷ ys) h = and_from (is_kept all least rank y) (list_all (is_kept all least rank) ys) (h y (inl refl)) (each_all ys (λ x m. h x (inr m)))
+
+  -- a set is frequent there where it is frequent with the rank
+  same_test : (set : List ℕ) → ((item : ℕ) → Member item set → item < rank) → is_met baskets least set ≡ is_frequent others minimum (set ++ rank ∷ [])
+  same_test set lower =
+      ap (λ n. leb 1 n && leb least n) (same set ∙ law all least rank set)
+      ∙ at (list_all (is_kept all least rank) set) refl
+      ∙ tests (set ++ rank ∷ [])
+    where
+      frequent : Bool
+      frequent = is_frequent all (Count least) (set ++ rank ∷ [])
+
+      kept : is_frequent all (Count least) (set ++ rank ∷ []) ≡ true → list_all (is_kept all least rank) set ≡ true
+      kept h = each_all set (λ item m. and_from (ltb item rank) (is_frequent all (Count least) (item ∷ rank ∷ [])) (lt-ltb item rank (lower item m))
+          (subsets_are_frequent all (Count least) (set ++ rank ∷ []) (item ∷ rank ∷ []) (contains_each (set ++ rank ∷ []) (item ∷ rank ∷ []) (λ z n. pair item m z n)) h))
+        where
+          pair : (item : ℕ) → Member item set → (z : ℕ) → Member z (item ∷ rank ∷ []) → Member z (set ++ rank ∷ [])
+          pair item m z (inl e) = subst (λ y. Member y (set ++ rank ∷ [])) e (Member-append_left item set (rank ∷ []) m)
+          pair item m z (inr n) = Member-append_right z set (rank ∷ []) n
+
+      at : (b : Bool) → list_all (is_kept all least rank) set ≡ b
+          → (leb 1 (cond b (support_of all (set ++ rank ∷ [])) 0) && leb least (cond b (support_of all (set ++ rank ∷ [])) 0)) ≡ is_frequent all (Count least) (set ++ rank ∷ [])
+      at true e = refl
+      at false e = sym (rare (is_frequent all (Count least) (set ++ rank ∷ [])) refl)
+        where
+          rare : (b : Bool) → is_frequent all (Count least) (set ++ rank ∷ []) ≡ b → b ≡ false
+          rare true h = absurd (true≢false (sym (kept h) ∙ e))
+          rare false h = refl
+
+  with_lower : (first : ℕ) (set : List ℕ) → first < rank → ((item : ℕ) → Member item set → item < rank) → (item : ℕ) → Member item (first ∷ set) → item < rank
+  with_lower first set less lower item (inl e) = omega arith
+  with_lower first set less lower item (inr m) = lower item m
+
+  same_kept : (below : ℕ) → below ≤ rank → (set : List ℕ) → ((item : ℕ) → Member item set → item < rank)
+      → kept_below (is_met baskets least) below set ≡ kept_below (is_frequent others minimum) below (set ++ rank ∷ [])
+  same_kept zero within set lower = refl
+  same_kept (suc first) within set lower =
+      ap (λ l. l ++ cond (is_met baskets least (first ∷ set)) (first ∷ []) []) (same_kept first (omega arith) set lower)
+      ∙ ap (λ b. kept_below (is_frequent others minimum) first (set ++ rank ∷ []) ++ cond b (first ∷ []) []) (same_test (first ∷ set) (with_lower first set (omega arith) lower))
+
+  pub same_joins : (below : ℕ) → below ≤ rank → (set : List ℕ) → ((item : ℕ) → Member item set → item < rank)
+      → joins_below (is_met baskets least) below set ≡ joins_below (is_frequent others minimum) below (set ++ rank ∷ [])
+  same_joins zero within set lower = refl
+  same_joins (suc first) within set lower =
+      let one = same_joins first (omega arith) set lower in
+      let two = same_joins first (omega arith) (first ∷ set) (with_lower first set (omega arith) lower) in
+      let kept = ap length (same_kept first (omega arith) set lower) in
+      at (is_met baskets least (first ∷ set)) (is_frequent others minimum (first ∷ set ++ rank ∷ [])) (same_test (first ∷ set) (with_lower first set (omega arith) lower)) one two kept
+    where
+      at : (a b : Bool) → a ≡ b → joins_below (is_met baskets least) first set ≡ joins_below (is_frequent others minimum) first (set ++ rank ∷ [])
+          → joins_below (is_met baskets least) first (first ∷ set) ≡ joins_below (is_frequent others minimum) first (first ∷ set ++ rank ∷ [])
+          → length (kept_below (is_met baskets least) first set) ≡ length (kept_below (is_frequent others minimum) first (set ++ rank ∷ []))
+          → joins_below (is_met baskets least) first set + cond a (length (kept_below (is_met baskets least) first set) + joins_below (is_met baskets least) first (first ∷ set)) 0
+          ≡ joins_below (is_frequent others minimum) first (set ++ rank ∷ [])
+          + cond b (length (kept_below (is_frequent others minimum) first (set ++ rank ∷ [])) + joins_below (is_frequent others minimum) first (first ∷ set ++ rank ∷ [])) 0
+      at true true e one two kept = omega arith
+      at false false e one two kept = omega arith
+      at true false e one two kept = absurd (true≢false e)
+      at false true e one two kept = absurd (true≢false (sym e))
+
+-- the joins of a class: with each rank below, and those that the search makes
+pub class_joins_are : (coding : Coding) (rank : ℕ) → RanksAreFrequent coding → rank < length coding.items
+    → class_joins coding rank ≡ rank + joins_below (is_frequent coding.baskets coding.minimum) rank (rank ∷ [])
+class_joins_are coding rank each here =
+    let one = joins_are coding.baskets coding.minimum rank rank [] (each rank here) in
+    let pairs = all_kept coding.baskets coding.minimum rank (λ r less. each r (omega arith)) in omega arith
+
+-- ---- all classes
+
+pub class_joins_add_up : ClassJoinsAddUp
+class_joins_add_up coding = up_to (length coding.items)
+  where
+    up_to : (count : ℕ) → sum_by (class_joins coding) (range_with_len 0 count) ≡ length (filter (is_join coding.baskets coding.minimum) (sets_of_ranks count))
+    up_to zero = refl
+    up_to (suc rank) =
+        let one = up_to rank in
+        let more = joins_more coding.baskets coding.minimum rank [] in
+        let last = ap (sum_by (class_joins coding)) (range_more 0 rank) ∙ sum_by-append (class_joins coding) (range_with_len 0 rank) ((0 + rank) ∷ []) in
+        let single = sum_by-cons (class_joins coding) (0 + rank) [] in
+        let named = ap (class_joins coding) (zero-add rank) in omega arith
+
+pub sets_of_ranks_are_all : SetsOfRanksAreAll
+sets_of_ranks_are_all count = record {
+  distinct = sets_distinct (λ set. true) count [] nil_rises (λ y m. absurd m);
+  sound = All-from_recursion (λ set. IsNonemptySet set × AllBelow count set) (sets_of_ranks count) (All-from_Member (λ set. IsNonemptySet set × AllBelow count set) (sets_of_ranks count) (λ set m.
+      let f = from_sets (λ s. true) count [] set nil_rises (λ y n. absurd n) m in
+      ((f.rises, some set f.longer), λ item h. elim (only_below (λ s. true) count [] set item m (Member-from_has set item h)) [ inl n ↦ absurd n | inr less ↦ less ])));
+  complete = λ set n below. Contains-from_Member set (sets_of_ranks count) (is_there set n below);
+}
+  where
+    some : (set : List ℕ) → 0 < length set → set ≢ []
+    some set more e = (let nothing = ap length e in absurd (omega arith))
+
+    is_there : (set : List ℕ) → IsNonemptySet set → AllBelow count set → Member set (sets_of_ranks count)
+    is_there [] n below = absurd (n.1 refl)
+    is_there (x ∷ xs) n below = subst (λ s. Member s (sets_of_ranks count)) (append-nil (x ∷ xs))
+        (into_sets (λ s. true) (λ a b h. refl) count x xs [] n.0 (λ item m. below item (has-from_Member (x ∷ xs) item m)) refl)

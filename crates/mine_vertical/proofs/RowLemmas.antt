@@ -1,0 +1,49 @@
+-- Rows of covers that are joined.
+use Rattle.std.proofs.Common.{◌≡◌, ℕ, ◌+◌, Bool, true, not, List, [], ◌∷◌, get_or, cond, subst, sym, refl, ap, ◌∙◌, inl, inr, arith}
+use Rattle.std.specs.List.{filter, sum_by}
+use Rattle.basket_sets.specs.Itemset.{IsRising, contains, has}
+use Rattle.basket_sets.proofs.theory.Members.{Member, Member-filter, Member-from_filter}
+use Rattle.basket_sets.proofs.theory.Rising.{Member-from_has, contains_each, has-from_Member, same_test}
+use Rattle.mine_vertical.specs.declared.tids.TidList.{TidList}
+use Rattle.mine_vertical.specs.declared.diffs.DiffList.{DiffList}
+use Rattle.mine_vertical.specs.Cover.{IsCover, common, cover_weight, lacking}
+use Rattle.mine_vertical.specs.Rows.{IsDiffList, IsTidList}
+use Rattle.mine_vertical.proofs.CoverLemmas.{lacking_joined, part_covers, parts_weigh}
+
+pub filter_members : (p q : ℕ → Bool) (xs : List ℕ) → ((x : ℕ) → Member x xs → p x ≡ q x) → filter p xs ≡ filter q xs
+filter_members p q [] same = refl
+filter_members p q (x ∷ xs) same =
+    ap (λ b. cond b (x ∷ filter p xs) (filter p xs)) (same x (inl refl)) ∙ ap (λ l. cond (q x) (x ∷ l) l) (filter_members p q xs (λ y m. same y (inr m)))
+
+-- what a cover lacks of what it shares with another is what the other lacks
+lacking_common : (first second : List ℕ) → lacking first (common first second) ≡ lacking first second
+lacking_common first second = filter_members (λ place. not (has (common first second) place)) (λ place. not (has second place)) first (λ place m.
+    ap not (same_test (has (common first second) place) (has second place)
+    (λ h. (Member-filter (has second) place first (Member-from_has (common first second) place h)).1)
+    (λ h. has-from_Member (common first second) place (Member-from_filter (has second) place first m h))))
+
+-- the weights of what two covers share, and of the rest of the first
+pub rest_weighs : (weights first second : List ℕ) → cover_weight weights (common first second) + cover_weight weights (lacking first (common first second)) ≡ cover_weight weights first
+rest_weighs weights first second =
+    ap (λ l. cover_weight weights (common first second) + cover_weight weights l) (lacking_common first second) ∙ parts_weigh (λ place. get_or weights place 0) (has second) first
+
+module _ (weights parent first second : List ℕ) where
+  pub tids_common : (x y : TidList) → IsTidList weights parent first x → IsTidList weights parent second y → common x.places.items y.places.items ≡ common first second
+  tids_common x y p q = ap (λ l. common l y.places.items) p.places ∙ ap (common first) q.places
+
+  pub common_covers : IsCover weights first → IsCover weights (common first second)
+  common_covers is = part_covers weights first (has second) is
+
+  pub diffs_lacking : (x y : DiffList) → IsDiffList weights parent first x → IsDiffList weights parent second y → lacking y.missing.items x.missing.items ≡ lacking first (common first second)
+  diffs_lacking x y p q =
+      ap (λ l. lacking l x.missing.items) q.missing ∙ ap (lacking (lacking parent second)) p.missing
+      ∙ lacking_joined parent first second p.above.rises p.covers.rises p.inside
+
+  pub missing_rises : (x : DiffList) → IsDiffList weights parent first x → IsRising x.missing.items
+  missing_rises x p = subst IsRising (sym p.missing) (part_covers weights parent (λ place. not (has first place)) p.above).rises
+
+  pub rest_covers : IsCover weights first → IsCover weights (lacking first (common first second))
+  rest_covers is = part_covers weights first (λ place. not (has (common first second) place)) is
+
+  pub common_inside : contains first (common first second) ≡ true
+  common_inside = contains_each first (common first second) (λ place m. (Member-filter (has second) place first m).0)

@@ -1,0 +1,15 @@
+use Rattle.std.proofs.Common.{ap, ◌∙◌}
+use Rattle.std.specs.List.{range_with_len}
+use Rattle.mine_vertical.specs.Cover.{lacking}
+use Rattle.mine_vertical.proofs.CoverLemmas.{all_cover, within_all}
+use Rattle.mine_vertical.proofs.diffs.DiffListRow.first.Goals as goal
+
+pub returns : goal.returns
+returns c = record {
+  above = all_cover c.args.weights.now;
+  covers = record { rises = c.requires.rises; below = c.requires.below };
+  inside = within_all c.args.weights.now c.args.cover.now (record { rises = c.requires.rises; below = c.requires.below });
+  missing = c.in_ok-lacking_places.ensures
+      ∙ ap (λ l. lacking l c.args.cover.now) (c.deref.ensures.value ∙ c.in_ok-all.ensures ∙ ap (range_with_len 0) c.places.ensures);
+  count = c.weight.ensures.sum;
+}

@@ -1,0 +1,51 @@
+use Rattle.std.proofs.Common.{◌≡◌, List, ℕ, ◌++◌, ◌∷◌, [], get_or, map, take, subst, sym, ap, ◌∙◌}
+use Rattle.std.specs.Prelude.{All}
+use Rattle.std.proofs.lemmas.List.{map-append, take_more}
+use Rattle.std.proofs.lemmas.List.Elements.{All-push, recursion_from_All}
+use Rattle.basket_core.specs.Codes.{IsCodedPlace, decoded_place}
+use Rattle.mine_classes.specs.Span.{baskets_at}
+use Rattle.mine_vertical.specs.declared.search.Sibling.{Sibling}
+use Rattle.mine_vertical.specs.Cover.{IsCover, all_places, cover_of, weights_of}
+use Rattle.mine_vertical.specs.Search.{IsSibling}
+use Rattle.mine_vertical.proofs.CoverLemmas.{cover_covers, cover_of_none}
+use Rattle.mine_vertical.proofs.SearchLemmas.{ranks}
+use Rattle.mine_vertical.proofs.SiblingLemmas.{decoded_cover, decoded_weights, spans_rise}
+use Rattle.mine_vertical.proofs.siblings.siblings_of.Goals as goal
+
+pub cover-requires-clause-rises : goal.cover-requires-clause-rises
+cover-requires-clause-rises g c = spans_rise c.args.kept.now c.args.ranks.now c.args.spans.now c.requires.coding.places
+
+pub first-requires-clause-rises : goal.first-requires-clause-rises
+first-requires-clause-rises g c =
+    let baskets = baskets_at c.args.ranks.now c.args.spans.now in
+    (subst (IsCover (weights_of baskets)) (sym (c.deref.ensures.value ∙ c.in_ok-cover.ensures)) (cover_covers baskets (c.loop-place.place ∷ []))).rises
+
+pub first-requires-clause-below : goal.first-requires-clause-below
+first-requires-clause-below g c =
+    let baskets = baskets_at c.args.ranks.now c.args.spans.now in
+    (subst (λ w. IsCover w c.deref.result.now) (sym c.requires.weights)
+    (subst (IsCover (weights_of baskets)) (sym (c.deref.ensures.value ∙ c.in_ok-cover.ensures)) (cover_covers baskets (c.loop-place.place ∷ [])))).below
+
+pub loop-place-preserved : goal.loop-place-preserved
+loop-place-preserved g c =
+    let stands = g.R.Row.stands in
+    let kept = c.args.kept.now in
+    let baskets = baskets_at c.args.ranks.now c.args.spans.now in
+    let decoded = map (decoded_place kept) baskets in
+    let l = c.loop-place.place in
+    let rank = get_or kept l 0 in
+    let row = c.in_ok-first.field-0 in
+    let weights = c.requires.weights ∙ sym (decoded_weights kept baskets) in
+    let parent = ap all_places weights ∙ sym (cover_of_none decoded) in
+    let cover = c.deref.ensures.value ∙ c.in_ok-cover.ensures
+    ∙ sym (decoded_cover kept baskets c.requires.coding.distinct (recursion_from_All (IsCodedPlace kept) baskets c.requires.coding.places) l c.loop-place-test.true) in
+    let is : stands (weights_of decoded) (cover_of decoded []) (cover_of decoded (rank ∷ [])) row =
+    subst (λ w. stands w (cover_of decoded []) (cover_of decoded (rank ∷ [])) row) weights
+    (subst (λ p. stands c.args.weights.now p (cover_of decoded (rank ∷ [])) row) parent
+    (subst (λ x. stands c.args.weights.now (all_places c.args.weights.now) x row) cover c.in_ok-first.ensures)) in
+    record {
+      ranks = ap (ranks stands) c.in_ok-push.ensures.items ∙ map-append (λ s. s.rank) c.loop-place.siblings.items (record { rank = rank; row = row } ∷ [])
+          ∙ ap (λ x. x ++ rank ∷ []) c.loop-place.invariant.ranks ∙ sym (take_more kept l 0 c.loop-place-test.true);
+      rows = subst (All (IsSibling stands decoded [])) (sym c.in_ok-push.ensures.items)
+          (All-push (IsSibling stands decoded []) c.loop-place.siblings.items (record { rank = rank; row = row }) c.loop-place.invariant.rows is);
+    }

@@ -1,0 +1,38 @@
+-- Covers: the places of baskets that contain a set.
+use Rattle.std.specs.Prelude.{◌<◌, ℕ, not, List, [], filter, length, map, slice_index, slice_index_or}
+use Rattle.std.specs.List.{range_with_len, sum_by}
+use Rattle.basket_sets.specs.declared.weighted.Weighted.{Weighted}
+use Rattle.basket_sets.specs.Itemset.{AllBelow, IsRising, contains, has}
+
+-- the basket at a place
+abbrev pub basket_at : List Weighted → ℕ → List ℕ
+basket_at baskets place = slice_index_or (map (λ p. p.basket) baskets) place []
+
+-- the cover of a set: the places, rising, whose baskets contain it
+abbrev pub cover_of : List Weighted → List ℕ → List ℕ
+cover_of baskets set = filter (λ place. contains (basket_at baskets place) set) (range_with_len 0 (length baskets))
+
+-- the weights of the places
+abbrev pub weights_of : List Weighted → List ℕ
+weights_of baskets = map (λ p. p.weight) baskets
+
+-- all places that have a weight
+abbrev pub all_places : List ℕ → List ℕ
+all_places weights = range_with_len 0 (length weights)
+
+-- what the places of a cover weigh together
+abbrev pub cover_weight : List ℕ → List ℕ → ℕ
+cover_weight weights cover = sum_by (λ place. slice_index weights place) cover
+
+-- a cover: places that rise, each of which has a weight
+pub record IsCover (weights cover : List ℕ) : Type 0 where
+  pub rises : IsRising cover
+  pub below : AllBelow (length weights) cover
+
+-- the places that stand in both covers
+abbrev pub common : List ℕ → List ℕ → List ℕ
+common first second = filter (has second) first
+
+-- the places of the first cover that the second lacks
+abbrev pub lacking : List ℕ → List ℕ → List ℕ
+lacking first second = filter (λ place. not (has second place)) first

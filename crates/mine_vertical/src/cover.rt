@@ -1,0 +1,46 @@
+//! Places that two covers share, or do not.
+ghost use Rattle.std.specs.Prelude.{◌≡◌, IfOk};
+ghost use Rattle.std.specs.List.{range_with_len};
+ghost use Rattle.basket_sets.specs.Itemset.{IsRising};
+ghost use Rattle.mine_vertical.specs.Cover.{common, lacking};
+
+use std::alloc::{AllocError, Global};
+
+/// The places of the first cover that stand in the second.
+pub fn common_places(alloc: Global, first: &[u32], second: &[u32]) -> Result<Vec<u32>, AllocError>
+    requires { IsRising second.now }
+    ensures { IfOk result (λ places. places.items ≡ common first.now second.now) }
+{
+    let mut places = Vec::new(alloc);
+    for place in first {
+        if second.binary_search(place).is_ok() {
+            places.push(*place)?;
+        }
+    }
+    Ok(places)
+}
+
+/// The places of the first cover that do not stand in the second.
+pub fn lacking_places(alloc: Global, first: &[u32], second: &[u32]) -> Result<Vec<u32>, AllocError>
+    requires { IsRising second.now }
+    ensures { IfOk result (λ places. places.items ≡ lacking first.now second.now) }
+{
+    let mut places = Vec::new(alloc);
+    for place in first {
+        if second.binary_search(place).is_err() {
+            places.push(*place)?;
+        }
+    }
+    Ok(places)
+}
+
+/// The places below a number.
+pub fn places_below(alloc: Global, count: u32) -> Result<Vec<u32>, AllocError>
+    ensures { IfOk result (λ places. places.items ≡ range_with_len 0 count) }
+{
+    let mut places = Vec::with_capacity(alloc, count as usize)?;
+    for place in 0..count {
+        places.push(place)?;
+    }
+    Ok(places)
+}

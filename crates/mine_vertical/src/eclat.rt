@@ -1,0 +1,65 @@
+//! The class call.
+ghost use Rattle.std.specs.Prelude.{◌≡◌, ◌≤◌, ◌<◌, ◌+◌, ℕ, ◌⊎◌, Err, IfOk, IsTrue, false, length};
+ghost use Rattle.basket_core.specs.declared.fault.MineFault.TheVariants.{TooMany};
+ghost use Rattle.mine_vertical.specs.Joins.{class_joins};
+ghost use Rattle.mine_classes.specs.Mined.{ListsClassItems, RanksAreFrequent, class_size};
+
+use crate::mined::Mined;
+use crate::row::Row;
+use crate::search::Search;
+use crate::siblings::{class_siblings, support_of_rank};
+use crate::vertical::Vertical;
+use basket_core::{Counted, Itemset, MineFault, Tally};
+use mine_classes::laws::{
+    classes_are_conditional, conditional_supports, lists_have_class_size, rare_ranks_have_no_class,
+    supports_settle_frequent,
+};
+use std::alloc::Global;
+
+/// The frequent sets of a class, those whose greatest rank is the rank, as items, and how many joins
+/// were made for them (Zaki 2000). Each set is told to the tally once it is known to be frequent.
+/// `TooMany` comes where the tally is over, or the class is longer than its limit.
+pub fn eclat_class<R: Row, T: Tally>(
+    alloc: Global,
+    vertical: &Vertical<'_>,
+    rank: u32,
+    tally: &mut T,
+) -> Result<(Vec<Counted>, u64), MineFault>
+    requires rank { rank < length vertical.now.items }
+    requires going { T.is_over tally.old ≡ false }
+    ensures listed { IfOk result (λ mined. ListsClassItems vertical.now rank mined.0.items) }
+    ensures joins { IfOk result (λ mined. RanksAreFrequent vertical.now → mined.1 ≡ class_joins vertical.now rank) }
+    ensures told { IfOk result (λ mined. T.told_of tally.new ≡ T.told_of tally.old + length mined.0.items) }
+    ensures going_on { IfOk result (λ mined. T.is_over tally.new ≡ false) }
+    ensures too_many { (limit : ℕ) → result ≡ Err (TooMany limit)
+        → (limit ≡ T.limit_of tally.old) × (IsTrue (T.is_over tally.new) ⊎ (limit < class_size vertical.now rank)) }
+    ensures at_most { T.told_of tally.new ≤ T.told_of tally.old + class_size vertical.now rank }
+    ensures limit { T.limit_of tally.new ≡ T.limit_of tally.old }
+{
+    lists_have_class_size();
+    conditional_supports();
+    supports_settle_frequent();
+    classes_are_conditional();
+    rare_ranks_have_no_class();
+    let mut mined = Mined::new(alloc);
+    let least = vertical.least();
+    let runs = vertical.runs();
+    let support = support_of_rank(runs, rank);
+    if support < least {
+        return Ok((mined.sets, mined.joins));
+    }
+    let coded = vertical.coded();
+    let set = Itemset::from_items(alloc, &[rank])?;
+    mined.add(coded.decode(set), support, tally)?;
+    let (weights, siblings) = class_siblings::<R>(alloc, runs, rank, least)?;
+    // Each rank below is joined with the class's.
+    mined.joins = u64::from(rank);
+    let mut path = vec![in alloc; rank; 1]?;
+    let search = Search {
+        coded,
+        weights: &weights,
+        least,
+    };
+    search.extend(alloc, &siblings, &mut path, &mut mined, tally)?;
+    Ok((mined.sets, mined.joins))
+}

@@ -1,0 +1,25 @@
+//! Eclat (Zaki 2000): a class is mined alone, depth first, over the places of its conditional
+//! database.
+//!
+//! A `row` stands for the places whose baskets contain a set: `tids` lists them, and `diffs` lists
+//! what is lacking of them.
+#![tactic(auto)]
+
+mod cover;
+mod diffs;
+mod eclat;
+pub mod laws;
+mod mined;
+mod row;
+mod search;
+mod siblings;
+mod tids;
+mod vertical;
+mod weights;
+
+pub use diffs::DiffList;
+pub use eclat::eclat_class;
+pub use row::Row;
+pub use tids::TidList;
+pub use vertical::Vertical;
+pub use weights::Weights;

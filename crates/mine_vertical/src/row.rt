@@ -1,0 +1,28 @@
+ghost use Rattle.std.specs.Prelude.{◌≡◌, ℕ, List, IfOk, length};
+ghost use Rattle.basket_sets.specs.Itemset.{AllBelow, IsRising};
+ghost use Rattle.mine_vertical.specs.Cover.{all_places, common, cover_weight};
+
+use crate::weights::Weights;
+use std::alloc::{AllocError, Global};
+
+/// A row stands for a cover beside its parent's: the places whose baskets contain a set, beside
+/// those that contain the set that it extends (Zaki 2000).
+pub trait Row: Drop {
+    /// Whether a row over weights stands, beside a parent's cover, for a cover.
+    ghost stands: { List ℕ → List ℕ → List ℕ → Self → Type 0 };
+
+    /// The row of a cover beside all places.
+    fn first(alloc: Global, cover: &[u32], weights: &Weights) -> Result<Self, AllocError>
+        requires rises { IsRising cover.now }
+        requires below { AllBelow (length weights.now) cover.now }
+        ensures { IfOk result (λ row. stands weights.now (all_places weights.now) cover.now row) };
+
+    /// The row of what two covers share, beside the first of them. Both stand beside one parent.
+    fn joined(alloc: Global, x: &Self, y: &Self, weights: &Weights) -> Result<Self, AllocError>
+        requires { (parent : List ℕ) × (first : List ℕ) × (second : List ℕ) × stands weights.now parent first x.now × stands weights.now parent second y.now }
+        ensures { IfOk result (λ row. (parent first second : List ℕ) → stands weights.now parent first x.now → stands weights.now parent second y.now → stands weights.now first (common first second) row) };
+
+    /// What the cover weighs.
+    fn count(&self) -> u64
+        ensures { (weights parent cover : List ℕ) → stands weights parent cover self.now → result ≡ cover_weight weights cover };
+}

@@ -1,0 +1,103 @@
+//! The search for the frequent sets of a class, depth first.
+ghost use Rattle.std.specs.Prelude.{◌≡◌, ◌≤◌, ◌<◌, ◌+◌, ◌*◌, ◌++◌, [], ◌∷◌, ℕ, List, ◌⊎◌, All, Err, IfOk, IsTrue, false, OnOk, filter, length, map};
+ghost use Rattle.basket_core.specs.declared.fault.MineFault.TheVariants.{TooMany};
+ghost use Rattle.basket_sets.specs.declared.weighted.Weighted.{Weighted as Basket};
+ghost use Rattle.mine_vertical.specs.Cover.{weights_of};
+ghost use Rattle.mine_vertical.specs.Search.{FewJoins, IsNode, IsSibling, Node, found_at, is_met};
+ghost use Rattle.mine_vertical.specs.Walk.{joins_below, sets_below};
+
+use crate::mined::Mined;
+use crate::row::Row;
+use crate::weights::Weights;
+use basket_core::{Coded, Itemset, MineFault, Tally};
+use std::alloc::{AllocError, Global};
+
+/// An extension of a set: its rank, and the row of the set with the rank.
+#[derive(Drop)]
+pub struct Sibling<R> {
+    pub rank: u32,
+    pub row: R,
+}
+
+/// What the sets of a class are found by.
+#[derive(Clone, Copy)]
+pub struct Search<'a> {
+    pub coded: &'a Coded,
+    pub weights: &'a Weights,
+    pub least: u64,
+}
+
+impl Search<'_> {
+    /// The frequent extensions of the set with the sibling's rank: the sibling's row joined with those
+    /// of other siblings, each join counted.
+    fn joined<R: Row>(
+        &self,
+        alloc: Global,
+        sibling: &Sibling<R>,
+        others: &[Sibling<R>],
+        joins: &mut u64,
+    ) -> Result<Vec<Sibling<R>>, AllocError>
+        requires rows { (baskets : List Basket) × (set : List ℕ) × (self.now.weights.now ≡ weights_of baskets) × IsSibling R.stands baskets set sibling.now × All (IsSibling R.stands baskets set) others.now }
+        requires some { 1 ≤ self.now.least }
+        requires few { joins.old + length others.now ≤ 18446744073709551615 }
+        ensures ranks { IfOk result (λ below. (baskets : List Basket) (set : List ℕ) → self.now.weights.now ≡ weights_of baskets → IsSibling R.stands baskets set sibling.now → All (IsSibling R.stands baskets set) others.now
+            → map (λ other. other.rank) below.items ≡ filter (λ rank. is_met baskets self.now.least (rank ∷ sibling.now.rank ∷ set)) (map (λ other. other.rank) others.now)) }
+        ensures rows { IfOk result (λ below. (baskets : List Basket) (set : List ℕ) → self.now.weights.now ≡ weights_of baskets → IsSibling R.stands baskets set sibling.now → All (IsSibling R.stands baskets set) others.now
+            → All (IsSibling R.stands baskets (sibling.now.rank ∷ set)) below.items) }
+        ensures joins { OnOk result (joins.new ≡ joins.old + length others.now) }
+    {
+        let mut below = Vec::new(alloc);
+        for other in others {
+            let row = R::joined(alloc, &sibling.row, &other.row, self.weights)?;
+            *joins += 1;
+            if row.count() >= self.least {
+                below.push(Sibling {
+                    rank: other.rank,
+                    row,
+                })?;
+            }
+        }
+        Ok(below)
+    }
+
+    /// Adds the frequent sets that extend the set of a path by siblings and by what extends those,
+    /// depth first. Each set is told to the tally once it is known to be frequent.
+    pub fn extend<R: Row, T: Tally>(
+        &self,
+        alloc: Global,
+        siblings: &[Sibling<R>],
+        path: &mut Vec<u32>,
+        mined: &mut Mined,
+        tally: &mut T,
+    ) -> Result<(), MineFault>
+        requires node { (node : Node) × IsNode R.stands self.now.weights.now self.now.least siblings.now path.old.items (length self.now.coded.now.items) node }
+        requires some { 1 ≤ self.now.least }
+        requires going { T.is_over tally.old ≡ false }
+        requires few { FewJoins mined.old.joins (length mined.old.sets.items) }
+        ensures sets { OnOk result ((node : Node) → IsNode R.stands self.now.weights.now self.now.least siblings.now path.old.items (length self.now.coded.now.items) node
+            → mined.new.sets.items ≡ mined.old.sets.items ++ map (found_at self.now.coded.now.items node) (sets_below (is_met node.baskets self.now.least) node.below node.set)) }
+        ensures joins { OnOk result ((node : Node) → IsNode R.stands self.now.weights.now self.now.least siblings.now path.old.items (length self.now.coded.now.items) node
+            → mined.new.joins ≡ mined.old.joins + joins_below (is_met node.baskets self.now.least) node.below node.set) }
+        ensures path { OnOk result (path.new.items ≡ path.old.items) }
+        ensures told { OnOk result (T.told_of tally.new + length mined.old.sets.items ≡ T.told_of tally.old + length mined.new.sets.items) }
+        ensures going_on { OnOk result (T.is_over tally.new ≡ false) }
+        ensures few { OnOk result (FewJoins mined.new.joins (length mined.new.sets.items)) }
+        ensures too_many { (limit : ℕ) → result ≡ Err (TooMany limit) → (limit ≡ T.limit_of tally.old)
+            × ((node : Node) → IsNode R.stands self.now.weights.now self.now.least siblings.now path.old.items (length self.now.coded.now.items) node
+            → IsTrue (T.is_over tally.new) ⊎ (limit < length mined.old.sets.items + length (sets_below (is_met node.baskets self.now.least) node.below node.set))) }
+        ensures at_most { (node : Node) → IsNode R.stands self.now.weights.now self.now.least siblings.now path.old.items (length self.now.coded.now.items) node
+            → T.told_of tally.new ≤ T.told_of tally.old + length (sets_below (is_met node.baskets self.now.least) node.below node.set) }
+        ensures limit { T.limit_of tally.new ≡ T.limit_of tally.old }
+    {
+        for (at, sibling) in siblings.iter().enumerate() {
+            path.push(sibling.rank)?;
+            let set = Itemset::from_items(alloc, path)?;
+            let count = sibling.row.count();
+            mined.add(self.coded.decode(set), count, tally)?;
+            let below = self.joined(alloc, sibling, &siblings[..at], &mut mined.joins)?;
+            self.extend(alloc, &below, path, mined, tally)?;
+            path.pop();
+        }
+        Ok(())
+    }
+}

@@ -1,0 +1,127 @@
+//! The siblings that a class begins with: the ranks that are frequent together with its rank.
+ghost use Rattle.std.specs.Prelude.{◌≡◌, ◌≤◌, ◌<◌, [], ◌∷◌, List, ℕ, All, IfOk, length, map, sum, sum_by};
+ghost use Rattle.basket_core.specs.Codes.{IsCoding, baskets_of, decoded_place};
+ghost use Rattle.basket_sets.specs.declared.minimum.Minimum.TheVariants.{Count};
+ghost use Rattle.basket_sets.specs.declared.weighted.Weighted.{Weighted as Basket};
+ghost use Rattle.basket_sets.specs.Database.{HasWeight, MOST_WEIGHT};
+ghost use Rattle.basket_sets.specs.Itemset.{IsRising};
+ghost use Rattle.basket_sets.specs.Support.{support_of, total_of};
+ghost use Rattle.mine_classes.specs.Conditional.{conditional};
+ghost use Rattle.mine_classes.specs.Ordered.{AreRankBaskets, HaveSameWeights};
+ghost use Rattle.mine_classes.specs.Pairs.{kept_ranks};
+ghost use Rattle.mine_classes.specs.Span.{IsWithin, baskets_at};
+ghost use Rattle.mine_vertical.specs.Cover.{cover_of, weights_of};
+ghost use Rattle.mine_vertical.specs.Search.{IsSibling};
+ghost use Rattle.mine_vertical.specs.Siblings.{AreClassSiblings};
+
+use crate::row::Row;
+use crate::search::Sibling;
+use crate::weights::Weights;
+use mine_classes::laws::conditional_supports;
+use mine_classes::{Conditional, Places, Runs, Span, Sums};
+use std::alloc::{AllocError, Global};
+
+/// The conditional database of a rank.
+fn conditional_of(
+    alloc: Global,
+    runs: &Runs,
+    rank: u32,
+    least: u64,
+) -> Result<Conditional, AllocError>
+    requires { rank < runs.now.ranks }
+    ensures ranks { IfOk result (λ c. c.items ≡ kept_ranks runs.now.baskets least rank) }
+    ensures coding { IfOk result IsCoding }
+    ensures baskets { IfOk result (λ c. HaveSameWeights (conditional least runs.now.baskets rank) (baskets_of c)) }
+{
+    let mut sums = Sums::new(alloc, runs.ranks())?;
+    let pairs = runs.pairs(alloc, &mut sums, rank, least)?;
+    let mut places = Places::new(alloc, runs.ranks())?;
+    Conditional::of(alloc, runs, &mut places, rank, least, &pairs)
+}
+
+/// The weights of baskets. More than 4,294,967,295 baskets count as a refused growth.
+fn weights_at(alloc: Global, spans: &[Span]) -> Result<Weights, AllocError>
+    requires some { All (λ span. 1 ≤ span.weight) spans.now }
+    requires light { sum_by (λ span. span.weight) spans.now ≤ MOST_WEIGHT }
+    ensures { IfOk result (λ weights. weights ≡ map (λ span. span.weight) spans.now) }
+{
+    if spans.len() > u32::MAX as usize {
+        return Err(AllocError);
+    }
+    let weights: Vec<u64> = spans.iter().map(|span| span.weight).collect(alloc)?;
+    Weights::of(alloc, &weights)
+}
+
+/// The cover of a rank.
+fn cover(alloc: Global, rank: u32, ranks: &[u32], spans: &[Span]) -> Result<Vec<u32>, AllocError>
+    requires within { All (IsWithin (length ranks.now)) spans.now }
+    requires rises { All (λ basket. IsRising basket.basket) (baskets_at ranks.now spans.now) }
+    requires few { length spans.now ≤ 4294967295 }
+    ensures { IfOk result (λ cover. cover.items ≡ cover_of (baskets_at ranks.now spans.now) (rank ∷ [])) }
+{
+    let mut cover = Vec::new(alloc);
+    for (place, span) in spans.iter().enumerate() {
+        if span.of(ranks).binary_search(&rank).is_ok() {
+            cover.push(place as u32)?;
+        }
+    }
+    Ok(cover)
+}
+
+/// The siblings of the ranks that are kept, whose numbers in the baskets are their places.
+fn siblings_of<R: Row>(
+    alloc: Global,
+    kept: &[u32],
+    ranks: &[u32],
+    spans: &[Span],
+    weights: &Weights,
+) -> Result<Vec<Sibling<R>>, AllocError>
+    requires within { All (IsWithin (length ranks.now)) spans.now }
+    requires coding { IsCoding (record { items = kept.now; minimum = Count 1; baskets = baskets_at ranks.now spans.now }) }
+    requires few { length spans.now ≤ 4294967295 }
+    requires weights { weights.now ≡ weights_of (baskets_at ranks.now spans.now) }
+    ensures ranks { IfOk result (λ siblings. map (λ sibling. sibling.rank) siblings.items ≡ kept.now) }
+    ensures rows { IfOk result (λ siblings. All (IsSibling R.stands (map (decoded_place kept.now) (baskets_at ranks.now spans.now)) []) siblings.items) }
+{
+    let mut siblings = Vec::with_capacity(alloc, kept.len())?;
+    for (place, rank) in kept.iter().enumerate() {
+        let cover = cover(alloc, place as u32, ranks, spans)?;
+        siblings.push(Sibling {
+            rank: *rank,
+            row: R::first(alloc, &cover, weights)?,
+        })?;
+    }
+    Ok(siblings)
+}
+
+/// The weights of the conditional database of a rank, and a sibling for each rank of it.
+pub fn class_siblings<R: Row>(
+    alloc: Global,
+    runs: &Runs,
+    rank: u32,
+    least: u64,
+) -> Result<(Weights, Vec<Sibling<R>>), AllocError>
+    requires { rank < runs.now.ranks }
+    ensures { IfOk result (λ made. (baskets : List Basket) × AreClassSiblings R.stands runs.now.baskets least rank made.0 made.1.items baskets) }
+{
+    conditional_supports();
+    let conditional = conditional_of(alloc, runs, rank, least)?;
+    let kept = conditional.ranks().to_vec(alloc)?;
+    let (_, ranks, spans) = conditional.into_baskets().into_parts();
+    let weights = weights_at(alloc, &spans)?;
+    let siblings = siblings_of(alloc, &kept, &ranks, &spans, &weights)?;
+    Ok((weights, siblings))
+}
+
+/// The support of a rank.
+pub fn support_of_rank(runs: &Runs, rank: u32) -> u64
+    requires { rank < runs.now.ranks }
+    ensures { result ≡ support_of runs.now.baskets (rank ∷ []) }
+{
+    let (_, spans) = runs.of_rank(rank);
+    let mut support = 0;
+    for span in spans {
+        support += span.weight;
+    }
+    support
+}

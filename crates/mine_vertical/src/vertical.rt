@@ -1,0 +1,69 @@
+//! Coded baskets as a class call sees them.
+ghost use Rattle.std.specs.Prelude.{◌≡◌, IfOk, length};
+ghost use Rattle.basket_core.specs.Codes.{IsCoding};
+ghost use Rattle.basket_sets.specs.Minimum.{IsLeastSupport};
+ghost use Rattle.basket_sets.specs.Support.{total_of};
+ghost use Rattle.mine_classes.specs.Ordered.{HaveSameWeights};
+
+use basket_core::Coded;
+use mine_classes::{Ordered, Runs};
+use std::alloc::{AllocError, Global};
+use std::marker::Model;
+
+/// Coded baskets with the places where each rank stands among them, in lexicographic order and
+/// merged, and the least support that meets their minimum.
+#[derive(Debug, Drop)]
+pub struct Vertical<'a> {
+    coded: &'a Coded,
+    least: u64,
+    runs: Runs,
+}
+
+impl<'a> Model for Vertical<'a> {
+    ghost use Rattle.basket_core.specs.Codes.{Coding};
+    ghost use Rattle.mine_vertical.specs.Vertical.{IsVertical};
+
+    ghost Value = { Coding };
+
+    ghost view = { λ v. v.coded.now };
+
+    ghost invariant = { λ v. IsVertical v.coded.now v.least v.runs };
+}
+
+impl<'a> Vertical<'a> {
+    /// The coded baskets, which stay where they are.
+    pub fn of(alloc: Global, coded: &'a Coded) -> Result<Self, AllocError>
+        ensures { IfOk result (λ vertical. vertical ≡ coded.now) }
+    {
+        // The baskets of a coding are light enough for a least support.
+        let _ = coded.baskets();
+        let least = coded.minimum().least(coded.total());
+        let runs = Runs::of(alloc, Ordered::of_coded(alloc, coded)?)?;
+        Ok(Vertical { coded, least, runs })
+    }
+}
+
+impl Vertical<'_> {
+    /// The coded baskets.
+    pub fn coded(&self) -> &Coded
+        ensures coded { result.now ≡ self.now }
+        ensures coding { IsCoding self.now }
+    {
+        self.coded
+    }
+
+    /// The least support that meets the minimum.
+    pub fn least(&self) -> u64
+        ensures { IsLeastSupport self.now.minimum (total_of self.now.baskets) result }
+    {
+        self.least
+    }
+
+    /// The places where each rank stands.
+    pub(crate) fn runs(&self) -> &Runs
+        ensures ranks { result.now.ranks ≡ length self.now.items }
+        ensures weights { HaveSameWeights self.now.baskets result.now.baskets }
+    {
+        &self.runs
+    }
+}
