@@ -1,0 +1,4 @@
+mod Placing
+mod Claims
+mod Parts
+mod Shares

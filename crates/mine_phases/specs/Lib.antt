@@ -1,0 +1,3 @@
+pub mod Share
+pub mod Placed
+pub mod Counting
