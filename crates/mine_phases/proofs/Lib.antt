@@ -2,3 +2,4 @@ mod Placing
 mod Claims
 mod Parts
 mod Shares
+mod Supports

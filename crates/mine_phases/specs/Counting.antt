@@ -17,7 +17,7 @@ pub record CountsParts (baskets : List Weighted) (pieces : ℕ) (seat : SeatView
   pub counts : All (λ value. value.1.items ≡ item_supports (shard_of value.0 pieces baskets)) values
 
 -- what a worker hands back: its seat, and where it found memory its counts
-pub record IsCountShare (round : RoundView) (baskets : List Weighted) (pieces : ℕ) (share : Share (Vec (ℕ × ℕ) Global)) : Type 0 where
+pub record IsCountShare (round : RoundView) (baskets : List Weighted) (pieces : ℕ) (share : Share (Vec (ℕ × Vec (ℕ × ℕ) Global) Global)) : Type 0 where
   pub own : share.seat.round ≡ round.id
   pub values : IfOk share.values (λ values. CountsParts baskets pieces share.seat values.items)
 

@@ -1,3 +1,4 @@
 pub mod Share
 pub mod Placed
 pub mod Counting
+pub mod Level

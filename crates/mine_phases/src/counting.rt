@@ -33,7 +33,7 @@ struct Counting<'a, G> {
 impl<G: Gate> Counting<'_, G> {
     /// What a worker does: it counts the items of each part that it claims, until none is left or
     /// it finds no memory.
-    fn share(&self, alloc: Global, worker: u32, mut seat: RoundSeat) -> Share<Counts>
+    fn share(&self, alloc: Global, worker: u32, mut seat: RoundSeat) -> Share<Vec<(u32, Counts)>>
         requires own { seat.round ≡ self.now.round.now.id }
         requires unused { seat.held.claimed ≡ [] }
         requires pieces { (1 ≤ self.now.pieces) × (self.now.round.now.pieces ≡ self.now.pieces) }
@@ -117,7 +117,7 @@ pub fn count_shared<'a, R: Threads + Sync, G: Gate + Sync>(
     let shares = thread::map_vec(
         rt,
         numbered(alloc, seats)?,
-        &|job: (u32, RoundSeat)| -> Share<Counts>
+        &|job: (u32, RoundSeat)| -> Share<Vec<(u32, Counts)>>
             requires { (job.1.round ≡ lent.now.round.now.id) × (job.1.held.claimed ≡ []) × (1 ≤ lent.now.pieces) × (lent.now.round.now.pieces ≡ lent.now.pieces) × (total_of lent.now.baskets.now ≤ MOST_WEIGHT) }
             ensures { IsCountShare lent.entry.now.round.now lent.entry.now.baskets.now lent.entry.now.pieces result }
         { lent.share(alloc, job.0, job.1) },

@@ -9,12 +9,12 @@ use basket_core::MineFault;
 use mine_round::{Round, RoundSeat};
 use std::alloc::{AllocError, Global};
 
-/// What a worker hands back: its seat, and the values of the pieces that it claimed, each with its
-/// piece, or why it stopped.
+/// What a worker hands back: its seat, and what it found for the pieces that it claimed, or why it
+/// stopped.
 #[derive(Drop)]
-pub struct Share<X> {
+pub struct Share<V> {
     pub seat: RoundSeat,
-    pub values: Result<Vec<(u32, X)>, MineFault>,
+    pub values: Result<V, MineFault>,
 }
 
 /// The seats with the numbers of their workers, from 0 on.
@@ -62,11 +62,11 @@ fn worse(fault: Option<MineFault>, found: MineFault) -> Option<MineFault>
 }
 
 /// The seats of the workers, and the values of all, or the fault to tell where one has a fault.
-pub fn parted<X: Drop>(
-    shares: Vec<Share<X>>,
+pub fn parted<V: Drop>(
+    shares: Vec<Share<V>>,
     mut seats: Vec<RoundSeat>,
-    mut lists: Vec<Vec<(u32, X)>>,
-) -> (Vec<RoundSeat>, Result<Vec<Vec<(u32, X)>>, MineFault>)
+    mut lists: Vec<V>,
+) -> (Vec<RoundSeat>, Result<Vec<V>, MineFault>)
     requires seats { (seats.items ≡ []) × (vec_len shares ≤ vec_capacity seats) }
     requires lists { (lists.items ≡ []) × (vec_len shares ≤ vec_capacity lists) }
     ensures seats { result.0.items ≡ map (λ share. share.seat) shares.items }

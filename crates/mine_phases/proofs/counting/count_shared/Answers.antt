@@ -32,7 +32,7 @@ close-requires g c = record {
   own =
       let Own : SeatView → Type 0 = λ s. s.round ≡ c.in_ok-round.round.id in
       All-same Own _ _ c.parted-seats.ensures.seats
-      (All-map Own (λ (s : Share (Vec (ℕ × ℕ) Global)). s.seat) c.in_ok-shares.shares.items
+      (All-map Own (λ (s : Share (Vec (ℕ × Vec (ℕ × ℕ) Global) Global)). s.seat) c.in_ok-shares.shares.items
       (λ k d below. (c.in_ok-shares.ensures.each k d (omega (arith, c.in_ok-shares.ensures.len))).1.call.met.own));
 }
 
@@ -46,7 +46,7 @@ collected-requires-clause-each g c =
     let lists = c.in-Ok-values.lists.items in
     let P = Counted c.args.baskets.now c.args.pieces in
     let says : All (Says P) shares = λ k d below. (c.in_ok-shares.ensures.each k d (omega (arith, c.in_ok-shares.ensures.len))).1.call.met.values in
-    let all : map Ok lists ≡ map (λ (s : Share (Vec (ℕ × ℕ) Global)). s.values) shares = rw c.in-Ok-values.is at c.parted-seats.ensures.lists in
+    let all : map Ok lists ≡ map (λ (s : Share (Vec (ℕ × Vec (ℕ × ℕ) Global) Global)). s.values) shares = rw c.in-Ok-values.is at c.parted-seats.ensures.lists in
     let seats = c.parted-seats.ensures.seats in
     let some : 1 ≤ length shares = omega (arith, c.in_ok-shares.ensures.len, ap length c.in_ok-numbered.ensures, length-map c.in_ok-numbered.field-0.items (λ worker. worker.1), c.in_ok-round.ensures.seats, c.requires.workers.0) in
     let ended = c.in-Ok.ensures.ended (subst (λ l. Any (λ (s : SeatView). 0 < s.held.past) l) (sym seats) (some_ended P (λ seat values says. says.ended) shares lists some all says)) in
@@ -57,7 +57,7 @@ collected-requires-clause-each g c =
     (subst (λ l. IsPermutation l (range_with_len 0 c.in-Ok.field-0.claimed)) claimed c.in-Ok.ensures.claimed)
 
 -- the lists by piece are the counts of the parts
-counted_parts : (baskets : List Weighted) (pieces : ℕ) (places : List (Option (Vec (ℕ × ℕ) Global))) (shares : List (Share (Vec (ℕ × ℕ) Global)))
+counted_parts : (baskets : List Weighted) (pieces : ℕ) (places : List (Option (Vec (ℕ × ℕ) Global))) (shares : List (Share (Vec (ℕ × Vec (ℕ × ℕ) Global) Global)))
     (lists : List (Vec (ℕ × Vec (ℕ × ℕ) Global) Global)) (values : List (Vec (ℕ × ℕ) Global)) → 1 ≤ pieces → places ≡ replicate pieces None → length values ≡ length places
     → map Ok lists ≡ map (λ share. share.values) shares → All (Says (Counted baskets pieces)) shares → map Some values ≡ placed places (flat_map (λ list. list.items) lists)
     → CountParts baskets (map (λ list. list.items) values)
