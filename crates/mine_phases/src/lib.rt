@@ -15,3 +15,6 @@ mod share;
 pub use counting::count_shared;
 pub use gate::{Gate, Open};
 pub use level::count_level;
+
+#[cfg(test)]
+mod tests;
