@@ -2,3 +2,5 @@
 pub mod Coding
 pub mod Decoding
 pub mod Depth
+pub mod Shards
+pub mod Added

@@ -14,3 +14,5 @@ pub mod Listing
 pub mod Tally
 pub mod Depth
 pub mod Fraction
+pub mod Shards
+pub mod Added

@@ -2,6 +2,7 @@
 //! names of the crates below come with it: itemsets, databases and minimums, sources and sinks.
 #![tactic(auto)]
 
+mod added;
 mod codes;
 mod depth;
 mod fault;
@@ -10,9 +11,11 @@ mod frequent;
 mod keys;
 pub mod laws;
 mod ranks;
+mod shards;
 mod tally;
 pub mod worked;
 
+pub use added::add_counts;
 pub use basket_sets::{
     Counted, Database, INLINE_ITEMS, Itemset, Minimum, Weighted, count_items, parse_minimum,
     parse_share, report_order, support,
@@ -23,4 +26,5 @@ pub use depth::deep;
 pub use fault::MineFault;
 pub use fraction::Fraction;
 pub use frequent::Frequent;
+pub use shards::shard;
 pub use tally::{Limit, Tally};

@@ -1,0 +1,5 @@
+mod Placing
+mod Claims
+mod Parts
+mod Shares
+mod Supports

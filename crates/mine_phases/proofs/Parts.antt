@@ -1,0 +1,121 @@
+-- Parts of a list of baskets, their weight and their counts.
+use Rattle.std.proofs.Common.{◌≡◌, ℕ, ◌+◌, ◌≤◌, ◌<◌, ◌^◌, ◌-◌, List, [], ◌∷◌, ◌++◌, map, take, drop, length, get_or, Option, Some, None, replicate, refl, sym, ap, ◌∙◌, subst, arith}
+use Rattle.std.specs.Prelude.{All, slice_range}
+use Rattle.std.specs.List.{flat_map, range_with_len}
+use Rattle.std.proofs.lemmas.List.{append-nil, drop-map, get_or-map, length-map, take-append-drop, take-map}
+use Rattle.std.proofs.lemmas.List.Folds.{flat_map-map}
+use Rattle.std.proofs.lemmas.List.FromFn.{fill_by_all}
+use Rattle.std.proofs.lemmas.Simd.{map-map}
+use Rattle.std.proofs.lemmas.List.Concat.{flat_map-append}
+use Rattle.std.proofs.lemmas.List.Sums.{sum_by-take-le, sum_by-take-drop}
+use Rattle.basket_core.proofs.theory.Added.{number_is_support, item_supports_add_up, items_of_map}
+use Rattle.basket_core.proofs.theory.Shards.{shards_are_all}
+use Rattle.basket_core.specs.Added.{added_counts, items_of_counts, number_of}
+use Rattle.basket_core.specs.Shards.{shard_start, shard_of}
+use Rattle.basket_sets.proofs.theory.Rising.{rising-rises}
+use Rattle.basket_sets.proofs.theory.Support.{support-append, support_falls}
+use Rattle.basket_sets.specs.declared.weighted.Weighted.{Weighted}
+use Rattle.basket_sets.specs.Counts.{item_supports}
+use Rattle.basket_sets.specs.Database.{MOST_WEIGHT}
+use Rattle.basket_sets.specs.Itemset.{IsRising}
+use Rattle.basket_sets.specs.Support.{support_of, total_of, items_of, all_items, weight_at}
+use Rattle.mine_phases.specs.Counting.{CountParts}
+use Rattle.mine_phases.specs.Placed.{placed}
+use Rattle.mine_phases.proofs.Placing.{each_value}
+
+-- a part weighs no more than the list
+pub shard_is_light : (i pieces : ℕ) (baskets : List Weighted) → total_of (shard_of i pieces baskets) ≤ total_of baskets
+shard_is_light i pieces baskets =
+    let low = shard_start i pieces (length baskets) in
+    let high = shard_start (i + 1) pieces (length baskets) in
+    let t = sum_by-take-le (weight_at []) (drop low baskets) (high - low) in
+    let d = sum_by-take-drop (weight_at []) baskets low in omega arith
+
+-- ---- counts of parts, cut in two
+
+whole_is : (mid : ℕ) (parts : List (List Weighted)) → flat_map (λ part. part) (take mid parts) ++ flat_map (λ part. part) (drop mid parts) ≡ flat_map (λ part. part) parts
+whole_is mid parts = sym (flat_map-append (λ part. part) (take mid parts) (drop mid parts)) ∙ ap (flat_map (λ part. part)) (take-append-drop mid parts)
+
+module _ {V : Type 0} (entries : V → List (ℕ × ℕ)) (mid : ℕ) (lists : List V) (baskets : List Weighted) (counted : CountParts baskets (map entries lists)) where
+  pub joined_parts : flat_map (λ part. part) (take mid counted.parts) ++ flat_map (λ part. part) (drop mid counted.parts) ≡ baskets
+  joined_parts = whole_is mid counted.parts ∙ counted.whole
+
+  pub front_parts : (now : List V) → now ≡ take mid lists → CountParts (flat_map (λ part. part) (take mid counted.parts)) (map entries now)
+  front_parts now is = record {
+    parts = take mid counted.parts;
+    counts = ap (map entries) is ∙ sym (take-map entries mid lists) ∙ ap (take mid) counted.counts ∙ take-map item_supports mid counted.parts;
+    whole = refl;
+  }
+
+  pub back_parts : (now : List V) → now ≡ drop mid lists → CountParts (flat_map (λ part. part) (drop mid counted.parts)) (map entries now)
+  back_parts now is = record {
+    parts = drop mid counted.parts;
+    counts = ap (map entries) is ∙ sym (drop-map entries mid lists) ∙ ap (drop mid) counted.counts ∙ drop-map item_supports mid counted.parts;
+    whole = refl;
+  }
+
+  pub front_is_light : total_of (flat_map (λ part. part) (take mid counted.parts)) ≤ total_of baskets
+  front_is_light =
+      let s = support-append (flat_map (λ part. part) (take mid counted.parts)) (flat_map (λ part. part) (drop mid counted.parts)) [] in
+      let e = ap total_of joined_parts in omega arith
+
+  pub back_is_light : total_of (flat_map (λ part. part) (drop mid counted.parts)) ≤ total_of baskets
+  back_is_light =
+      let s = support-append (flat_map (λ part. part) (take mid counted.parts)) (flat_map (λ part. part) (drop mid counted.parts)) [] in
+      let e = ap total_of joined_parts in omega arith
+
+-- a list of one part
+one_of : (counts : List (ℕ × ℕ)) (parts : List (List Weighted)) (baskets : List Weighted) → counts ∷ [] ≡ map item_supports parts → flat_map (λ part. part) parts ≡ baskets → counts ≡ item_supports baskets
+one_of counts [] baskets e whole = absurd cc
+one_of counts (part ∷ []) baskets e whole = let same : counts ≡ item_supports part = cc in same ∙ ap item_supports (sym (append-nil part) ∙ whole)
+one_of counts (part ∷ other ∷ parts) baskets e whole = absurd cc
+
+pub one_part : {V : Type 0} (entries : V → List (ℕ × ℕ)) (lists : List V) (first : V) (baskets : List Weighted) → 1 ≤ length lists → length lists < 2 → first ≡ get_or lists 0 first
+    → CountParts baskets (map entries lists) → entries first ≡ item_supports baskets
+one_part entries [] first baskets some few is counted = absurd (omega arith)
+one_part entries (v ∷ []) first baskets some few is counted = ap entries is ∙ one_of (entries v) counted.parts baskets counted.counts counted.whole
+one_part entries (v ∷ w ∷ lists) first baskets some few is counted = absurd (omega arith)
+
+-- ---- counts of two lists of baskets
+
+pub supports_rise : (counts : List (ℕ × ℕ)) (baskets : List Weighted) → counts ≡ item_supports baskets → IsRising (items_of_counts counts)
+supports_rise counts baskets is =
+    subst IsRising (sym (ap items_of_counts is ∙ items_of_map (λ item. support_of baskets (item ∷ [])) (items_of baskets))) (rising-rises (all_items baskets))
+
+module _ (a b : List (ℕ × ℕ)) (front back baskets : List Weighted) (a_is : a ≡ item_supports front) (b_is : b ≡ item_supports back) (whole : front ++ back ≡ baskets) where
+  pub numbers_fit : total_of baskets ≤ MOST_WEIGHT → (item : ℕ) → number_of a item + number_of b item < 2 ^ 64
+  numbers_fit light item =
+      let p = ap (λ l. number_of l item) a_is ∙ number_is_support front item in
+      let q = ap (λ l. number_of l item) b_is ∙ number_is_support back item in
+      let s = support-append front back (item ∷ []) in
+      let e = ap (λ l. support_of l (item ∷ [])) whole in
+      let f = support_falls baskets (item ∷ []) [] refl in omega arith
+
+  pub added_is : added_counts a b ≡ item_supports baskets
+  added_is = ap (λ l. added_counts l b) a_is ∙ ap (added_counts (item_supports front)) b_is ∙ item_supports_add_up front back ∙ ap item_supports whole
+
+-- ---- the counts of all parts
+
+pub counts_of_shards : (baskets : List Weighted) (pieces : ℕ) (lists : List (List (ℕ × ℕ))) → 1 ≤ pieces → length lists ≡ pieces
+    → ((piece : ℕ) → piece < pieces → get_or lists piece [] ≡ item_supports (shard_of piece pieces baskets)) → CountParts baskets lists
+counts_of_shards baskets pieces lists some count each = record {
+  parts = map (λ piece. shard_of piece pieces baskets) (range_with_len 0 pieces);
+  counts = fill_by_all (λ piece. item_supports (shard_of piece pieces baskets)) lists pieces [] count each ∙ sym (map-map item_supports (λ piece. shard_of piece pieces baskets) (range_with_len 0 pieces));
+  whole = flat_map-map (λ part. part) (λ piece. shard_of piece pieces baskets) (range_with_len 0 pieces) ∙ shards_are_all pieces baskets some;
+}
+
+-- the baskets from where a part starts to where it ends are the part
+pub part_is : (baskets : List Weighted) (low high i pieces n : ℕ) → n ≡ length baskets → low ≡ shard_start i pieces n → high ≡ shard_start (i + 1) pieces n
+    → slice_range baskets low high ≡ shard_of i pieces baskets
+part_is baskets low high i pieces n whole start end =
+    ap (λ m. slice_range baskets m high) (start ∙ ap (shard_start i pieces) whole)
+    ∙ ap (slice_range baskets (shard_start i pieces (length baskets))) (end ∙ ap (shard_start (i + 1) pieces) whole)
+
+pub counts_by_piece : {V : Type 0} (entries : V → List (ℕ × ℕ)) (baskets : List Weighted) (pieces : ℕ) (vacant : List (Option V)) (all : List (ℕ × V)) (values : List V) → 1 ≤ pieces
+    → vacant ≡ replicate pieces None → length values ≡ pieces → map Some values ≡ placed vacant all
+    → All (λ value. entries value.1 ≡ item_supports (shard_of value.0 pieces baskets)) all → CountParts baskets (map entries values)
+counts_by_piece entries baskets pieces vacant all [] some none count is each = absurd (omega arith)
+counts_by_piece entries baskets pieces vacant all (first ∷ values) some none count is each =
+    counts_of_shards baskets pieces (map entries (first ∷ values)) some (length-map (first ∷ values) entries ∙ count)
+    (λ piece below. get_or-map entries (first ∷ values) piece first [] (omega arith)
+    ∙ each_value (λ value. entries value.1 ≡ item_supports (shard_of value.0 pieces baskets)) vacant pieces all (first ∷ values) none is each piece first (omega arith))

@@ -1,0 +1,149 @@
+-- Supports over the parts of a list of baskets: those that a seat has added are bounded by the support in the baskets before the next part, and all together are the supports in the baskets.
+use Rattle.std.proofs.Common.{◌≡◌, ℕ, zero, suc, ◌+◌, ◌-◌, ◌^◌, ◌<◌, ◌≤◌, List, [], ◌∷◌, ◌++◌, map, take, length, get_or, replicate, refl, ap, sym, ◌∙◌, arith, add-zero}
+use Rattle.std.specs.Prelude.{All, IsPermutation, slice_index}
+use Rattle.std.specs.List.{range_with_len, sum_by}
+use Rattle.std.proofs.lemmas.List.{get_or-map, length-map, length-replicate}
+use Rattle.std.proofs.lemmas.List.Elements.{All-head, All-tail}
+use Rattle.std.proofs.lemmas.List.Folds.{flat_map-map}
+use Rattle.std.proofs.lemmas.List.Sorted.{sum_by-IsPermutation}
+use Rattle.std.proofs.lemmas.List.Sums.{sum_by-append, sum_by-cons, sum_by-take-le, sum_by_push}
+use Rattle.basket_core.proofs.theory.Shards.{shard_more, shards_are_all}
+use Rattle.basket_core.specs.Shards.{shard_of, shard_start}
+use Rattle.basket_sets.proofs.theory.Support.{support-append, support_falls, supports_add_up}
+use Rattle.basket_sets.specs.declared.weighted.Weighted.{Weighted}
+use Rattle.basket_sets.specs.Database.{MOST_WEIGHT}
+use Rattle.basket_sets.specs.Support.{support_of, total_of, weight_at}
+use Rattle.mine_round.specs.SeatView.{SeatView}
+use Rattle.mine_round.specs.Totals.{added_by, claimed_by}
+use Rattle.mine_phases.specs.Level.{AddsSupports, part_support}
+use Rattle.mine_phases.proofs.Claims.{behind, behind-le, behind_push}
+
+sum_by-map : {X Y : Type 0} (f : Y → ℕ) (g : X → Y) (xs : List X) → sum_by f (map g xs) ≡ sum_by (λ x. f (g x)) xs
+sum_by-map f g [] = refl
+sum_by-map f g (x ∷ xs) = sum_by-cons f (g x) (map g xs) ∙ ap (λ n. f (g x) + n) (sum_by-map f g xs) ∙ sym (sum_by-cons (λ y. f (g y)) x xs)
+
+module _ (baskets : List Weighted) (pieces : ℕ) (set : List ℕ) where
+  -- the support in the baskets before a part
+  abbrev pub front : ℕ → ℕ
+  front i = support_of (take (shard_start i pieces (length baskets)) baskets) set
+
+  front_more : 1 ≤ pieces → (i : ℕ) → front (i + 1) ≡ front i + part_support baskets pieces set i
+  front_more some i =
+      ap (λ l. support_of l set) (shard_more i pieces baskets some) ∙ support-append (take (shard_start i pieces (length baskets)) baskets) (shard_of i pieces baskets) set
+
+  front_rises : 1 ≤ pieces → (i more : ℕ) → front i ≤ front (i + more)
+  front_rises some i zero = let e : front (i + zero) ≡ front i = ap front (add-zero i) in omega arith
+  front_rises some i (suc more) =
+      let rest = front_rises some i more in
+      let step = front_more some (i + more) in
+      let e : front (i + suc more) ≡ front ((i + more) + 1) = ap front (let n : i + suc more ≡ (i + more) + 1 = omega arith in n) in omega arith
+
+  front-le : 1 ≤ pieces → (i j : ℕ) → i ≤ j → front i ≤ front j
+  front-le some i j le = let r = front_rises some i (j - i) in let e : front (i + (j - i)) ≡ front j = ap front (let n : i + (j - i) ≡ j = omega arith in n) in omega arith
+
+  front_is_light : (i : ℕ) → total_of baskets ≤ MOST_WEIGHT → front i ≤ MOST_WEIGHT
+  front_is_light i light =
+      let t = sum_by-take-le (weight_at set) baskets (shard_start i pieces (length baskets)) in
+      let f = support_falls baskets set [] refl in omega arith
+
+  -- what was added so far is bounded, and so it is with the next part
+  abbrev pub IsBounded : List ℕ → Type 0
+  IsBounded claimed = sum_by (part_support baskets pieces set) claimed ≤ front (behind claimed)
+
+  pub fits_next : 1 ≤ pieces → total_of baskets ≤ MOST_WEIGHT → (claimed : List ℕ) (piece : ℕ) → All (λ x. x < piece) claimed → IsBounded claimed
+      → sum_by (part_support baskets pieces set) claimed + part_support baskets pieces set piece ≤ 2 ^ 40
+  fits_next some light claimed piece below bounded =
+      let le = front-le some (behind claimed) piece (behind-le claimed piece below) in
+      let step = front_more some piece in
+      let most = front_is_light (piece + 1) light in omega arith
+
+  pub bounded_next : 1 ≤ pieces → (claimed : List ℕ) (piece : ℕ) → All (λ x. x < piece) claimed → IsBounded claimed → IsBounded (claimed ++ piece ∷ [])
+  bounded_next some claimed piece below bounded =
+      let le = front-le some (behind claimed) piece (behind-le claimed piece below) in
+      let step = front_more some piece in
+      let push = sum_by_push (part_support baskets pieces set) claimed piece in
+      let e = ap front (behind_push claimed piece below) in omega arith
+
+  -- all parts together
+  pub parts_are_all : 1 ≤ pieces → sum_by (part_support baskets pieces set) (range_with_len 0 pieces) ≡ support_of baskets set
+  parts_are_all some =
+      sym (sum_by-map (λ part. support_of part set) (λ piece. shard_of piece pieces baskets) (range_with_len 0 pieces))
+      ∙ sym (supports_add_up (map (λ piece. shard_of piece pieces baskets) (range_with_len 0 pieces)) set)
+      ∙ ap (λ l. support_of l set) (flat_map-map (λ part. part) (λ piece. shard_of piece pieces baskets) (range_with_len 0 pieces) ∙ shards_are_all pieces baskets some)
+
+-- what a seat has added to the counters of the sets
+pub record HasAdded (baskets : List Weighted) (pieces : ℕ) (sets : List (List ℕ)) (claimed added : List ℕ) : Type 0 where
+  pub sized : length added ≡ length sets
+  pub each : (k : ℕ) → k < length sets → slice_index added k ≡ sum_by (part_support baskets pieces (get_or sets k [])) claimed
+  pub bounded : (k : ℕ) → k < length sets → IsBounded baskets pieces (get_or sets k []) claimed
+
+index_zero : (n k : ℕ) → slice_index (replicate n 0) k ≡ 0
+index_zero zero k = refl
+index_zero (suc n) zero = refl
+index_zero (suc n) (suc k) = index_zero n k
+
+pub nothing_added : (baskets : List Weighted) (pieces : ℕ) (sets : List (List ℕ)) → HasAdded baskets pieces sets [] (replicate (length sets) 0)
+nothing_added baskets pieces sets = record {
+  sized = length-replicate (length sets) 0;
+  each = λ k below. index_zero (length sets) k;
+  bounded = λ k below. omega arith;
+}
+
+module _ (baskets : List Weighted) (pieces : ℕ) (sets : List (List ℕ)) (claimed added counts : List ℕ) (piece : ℕ) (some : 1 ≤ pieces) (below : All (λ x. x < piece) claimed)
+    (counted : counts ≡ map (support_of (shard_of piece pieces baskets)) sets) (before : HasAdded baskets pieces sets claimed added) where
+  count_at : (k : ℕ) → k < length sets → slice_index counts k ≡ part_support baskets pieces (get_or sets k []) piece
+  count_at k within = ap (λ l. slice_index l k) counted ∙ get_or-map (support_of (shard_of piece pieces baskets)) sets k [] 0 within
+
+  pub counts_long : length counts ≡ length sets
+  counts_long = ap length counted ∙ length-map sets (support_of (shard_of piece pieces baskets))
+
+  pub counts_fit : total_of baskets ≤ MOST_WEIGHT → (k : ℕ) → k < length counts → slice_index added k + slice_index counts k ≤ 2 ^ 40
+  counts_fit light k within =
+      let short : k < length sets = omega (arith, counts_long) in
+      let a = before.each k short in
+      let b = count_at k short in
+      let f = fits_next baskets pieces (get_or sets k []) some light claimed piece below (before.bounded k short) in omega arith
+
+  pub added_next : (now : List ℕ) → length now ≡ length added → ((k : ℕ) → k < length counts → slice_index now k ≡ slice_index added k + slice_index counts k)
+      → HasAdded baskets pieces sets (claimed ++ piece ∷ []) now
+  added_next now long each = record {
+    sized = long ∙ before.sized;
+    each = λ k within.
+        let a = before.each k within in
+        let b = count_at k within in
+        let e = each k (omega (arith, counts_long)) in
+        let push = sum_by_push (part_support baskets pieces (get_or sets k [])) claimed piece in omega arith;
+    bounded = λ k within. bounded_next baskets pieces (get_or sets k []) some claimed piece below (before.bounded k within);
+  }
+
+-- ---- what all seats added
+
+seats_added : (baskets : List Weighted) (pieces : ℕ) (sets : List (List ℕ)) (k : ℕ) → k < length sets → (seats : List SeatView) → All (AddsSupports baskets pieces sets) seats
+    → added_by seats k ≡ sum_by (part_support baskets pieces (get_or sets k [])) (claimed_by seats)
+seats_added baskets pieces sets k within [] all = refl
+seats_added baskets pieces sets k within (seat ∷ seats) all =
+    let first = (All-head (AddsSupports baskets pieces sets) seat seats all).added k within in
+    let rest = seats_added baskets pieces sets k within seats (All-tail (AddsSupports baskets pieces sets) seat seats all) in
+    let c = sum_by-cons (λ (s : SeatView). slice_index s.held.added k) seat seats in
+    let s = sum_by-append (part_support baskets pieces (get_or sets k [])) seat.held.claimed (claimed_by seats) in omega arith
+
+same_at : (xs ys : List ℕ) → length xs ≡ length ys → ((k : ℕ) → k < length xs → slice_index xs k ≡ slice_index ys k) → xs ≡ ys
+same_at [] [] long each = refl
+same_at [] (y ∷ ys) long each = absurd (omega arith)
+same_at (x ∷ xs) [] long each = absurd (omega arith)
+same_at (x ∷ xs) (y ∷ ys) long each =
+    let first = each 0 (omega arith) in
+    let rest = same_at xs ys (omega arith) (λ k within. each (suc k) (omega arith)) in λ i. first i ∷ rest i
+
+-- the totals of the counters are the supports in all baskets
+pub totals_are_supports : (baskets : List Weighted) (pieces : ℕ) (sets : List (List ℕ)) (seats : List SeatView) (totals : List ℕ) → 1 ≤ pieces → length totals ≡ length sets
+    → All (AddsSupports baskets pieces sets) seats → IsPermutation (claimed_by seats) (range_with_len 0 pieces)
+    → ((k : ℕ) → k < length totals → slice_index totals k ≡ added_by seats k) → totals ≡ map (support_of baskets) sets
+totals_are_supports baskets pieces sets seats totals some long all claimed each =
+    same_at totals (map (support_of baskets) sets) (long ∙ sym (length-map sets (support_of baskets)))
+    (λ k within.
+    let short : k < length sets = omega arith in
+    each k within ∙ seats_added baskets pieces sets k short seats all
+    ∙ sym (sum_by-IsPermutation (part_support baskets pieces (get_or sets k [])) (claimed_by seats) (range_with_len 0 pieces) claimed)
+    ∙ parts_are_all baskets pieces (get_or sets k []) some
+    ∙ sym (get_or-map (support_of baskets) sets k [] 0 short))

@@ -1,0 +1,55 @@
+use Rattle.std.proofs.Common.{◌≡◌, ap, sym, ◌∙◌, subst, length, Some, arith}
+use Rattle.std.specs.List.{flat_map}
+use Rattle.std.specs.Vec.Iter.{into_iter_items}
+use Rattle.std.proofs.lemmas.List.{length-map, nil_from_length}
+use Rattle.mine_phases.specs.Placed.{placed}
+use Rattle.mine_phases.specs.Share.{pieces_of}
+use Rattle.mine_phases.proofs.Placing.{AreAll, all_at_first, room_for_front, all_behind, placed-append, length-placed, none_vacant}
+use Rattle.mine_phases.proofs.placed.collected.Goals as goal
+
+pub loop-list-init : goal.loop-list-init
+loop-list-init g c =
+    let all = c.into_iter-list-iterator.ensures.into_iter_gives.0 in
+    record {
+      can = tt;
+      ends = tt;
+      all = subst (λ l. AreAll c.args.collector (flat_map (λ list. pieces_of list.items) l)) (sym all)
+          (all_at_first c.args.collector (flat_map (λ list. pieces_of list.items) c.args.lists.items) c.requires.vacant c.requires.each);
+      rest = ap (λ l. placed c.args.collector (flat_map (λ list. list.items) l)) all;
+    }
+
+pub put_all-requires : goal.put_all-requires
+put_all-requires g c =
+    room_for_front c.loop-list.collector (pieces_of c.in-Some.list.items) (flat_map (λ list. pieces_of list.items) (into_iter_items c.next.new.self))
+    (subst (λ l. AreAll c.loop-list.collector (flat_map (λ list. pieces_of list.items) l)) c.in-Some.ensures.steps.0 c.loop-list.invariant.all)
+
+pub loop-list-preserved : goal.loop-list-preserved
+loop-list-preserved g c =
+    let places = c.loop-list.collector in
+    let list = c.in-Some.list in
+    let left = into_iter_items c.next.new.self in
+    let steps = c.in-Some.ensures.steps.0 in
+    let put = c.put_all.ensures in
+    record {
+      can = tt;
+      ends = tt;
+      all = subst (λ p. AreAll p (flat_map (λ list. pieces_of list.items) left)) (sym put)
+          (all_behind places list.items (flat_map (λ list. pieces_of list.items) left)
+          (subst (λ l. AreAll places (flat_map (λ list. pieces_of list.items) l)) steps c.loop-list.invariant.all));
+      rest = ap (λ p. placed p (flat_map (λ list. list.items) left)) put ∙ sym (placed-append places list.items (flat_map (λ list. list.items) left))
+          ∙ ap (λ l. placed places (flat_map (λ list. list.items) l)) (sym steps) ∙ c.loop-list.invariant.rest;
+    }
+
+pub unreachable-requires : goal.unreachable-requires
+unreachable-requires g c =
+    let none = nil_from_length (into_iter_items c.loop-list.list-iterator) (omega (arith, c.in-None.ensures.steps.0, c.loop-list.list-iterator.rest.ok)) in
+    none_vacant c.loop-list.collector c.in_default.field-0.piece (subst (λ l. AreAll c.loop-list.collector (flat_map (λ list. pieces_of list.items) l)) none c.loop-list.invariant.all) c.in_default.ensures.missing
+
+pub returns-clause-count : goal.returns-clause-count
+returns-clause-count g c =
+    let places = c.loop-list.collector in
+    let left = flat_map (λ list. list.items) (into_iter_items c.loop-list.list-iterator) in
+    let all = flat_map (λ list. list.items) c.args.lists.items in
+    let same : length c.in-Ok.values.items ≡ length c.args.collector =
+    sym (length-map c.in-Ok.values.items Some) ∙ ap length c.in-Ok.ensures.values ∙ sym (length-placed places left) ∙ ap length c.loop-list.invariant.rest ∙ length-placed c.args.collector all in
+    omega (arith, c.in-Ok.values.ok)

@@ -1,0 +1,28 @@
+use Rattle.std.proofs.Common.{◌≡◌, ap, sym, ◌∙◌, subst}
+use Rattle.std.specs.Vec.Iter.{into_iter_items}
+use Rattle.std.proofs.lemmas.Bool.{false≢true}
+use Rattle.mine_phases.specs.Placed.{HaveRoom, placed}
+use Rattle.mine_phases.specs.Share.{pieces_of}
+use Rattle.mine_phases.proofs.Placing.{next_lacks, room_next}
+use Rattle.mine_phases.proofs.placed.put_all.Goals as goal
+
+pub loop-piece-preserved : goal.loop-piece-preserved
+loop-piece-preserved g c =
+    let places = c.loop-piece.collector in
+    let piece = c.in-Some.piece in
+    let value = c.in-Some.value in
+    let left = into_iter_items c.next.new.self in
+    let steps = c.in-Some.ensures.steps.0 in
+    let put : c.put.new.self ≡ _ = c.in-Ok.ensures.done in
+    record {
+      can = tt;
+      ends = tt;
+      room = subst (λ p. HaveRoom p (pieces_of left)) (sym put) (room_next places piece value (pieces_of left) (subst (λ l. HaveRoom places (pieces_of l)) steps c.loop-piece.invariant.room));
+      rest = ap (λ p. placed p left) put ∙ ap (placed places) (sym steps) ∙ c.loop-piece.invariant.rest;
+    }
+
+pub unreachable-requires : goal.unreachable-requires
+unreachable-requires g c =
+    let lacks = next_lacks c.loop-piece.collector c.in-Some.piece (pieces_of (into_iter_items c.next.new.self))
+    (subst (λ l. HaveRoom c.loop-piece.collector (pieces_of l)) c.in-Some.ensures.steps.0 c.loop-piece.invariant.room) in
+    false≢true (c.in_default.ensures.ok.1 lacks)

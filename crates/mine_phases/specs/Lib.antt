@@ -1,0 +1,4 @@
+pub mod Share
+pub mod Placed
+pub mod Counting
+pub mod Level

@@ -1,0 +1,90 @@
+//! What the workers of a phase hand back, and what it is together.
+ghost use Rattle.std.specs.Prelude.{◌≡◌, ◌≤◌, ◌<◌, ◌^◌, [], map, vec_len, vec_capacity, MatchResult, Ok, Some, None, length, IfOk, IfSome, IfNone, EachIndex};
+ghost use Rattle.mine_phases.specs.Share.{fault_of, worse};
+ghost use Rattle.mine_round.specs.Record.{with_piece, with_end_seen};
+ghost use Rattle.mine_round.specs.Words.{ClaimedBelow};
+
+use crate::gate::Gate;
+use basket_core::MineFault;
+use mine_round::{Round, RoundSeat};
+use std::alloc::{AllocError, Global};
+
+/// What a worker hands back: its seat, and what it found for the pieces that it claimed, or why it
+/// stopped.
+#[derive(Drop)]
+pub struct Share<V> {
+    pub seat: RoundSeat,
+    pub values: Result<V, MineFault>,
+}
+
+/// The seats with the numbers of their workers, from 0 on.
+pub fn numbered(alloc: Global, seats: Vec<RoundSeat>) -> Result<Vec<(u32, RoundSeat)>, AllocError>
+    requires { vec_len seats < 2 ^ 32 }
+    ensures { IfOk result (λ workers. map (λ worker. worker.1) workers.items ≡ seats.items) }
+{
+    let mut workers = Vec::with_capacity(alloc, seats.len())?;
+    let mut number = 0;
+    for seat in seats {
+        workers.push_reserved((number, seat));
+        number += 1;
+    }
+    Ok(workers)
+}
+
+/// Claims a piece for a worker and passes the gate with it.
+pub fn claim_piece<G: Gate>(
+    round: &Round,
+    seat: &mut RoundSeat,
+    gate: &G,
+    phase: u32,
+    worker: u32,
+) -> Option<u32>
+    requires own { seat.old.round ≡ round.now.id }
+    ensures own { seat.new.round ≡ seat.old.round }
+    ensures piece { IfSome result (λ piece. (piece < round.now.pieces) × (seat.new.held ≡ with_piece seat.old.held piece)) }
+    ensures rises { IfSome result (λ piece. ClaimedBelow seat.old.held piece) }
+    ensures none { IfNone result (seat.new.held ≡ with_end_seen seat.old.held) }
+{
+    let piece = round.claim(seat)?;
+    gate.pass(phase, worker, piece);
+    Some(piece)
+}
+
+/// The fault to tell, where one was found before: that there are too many sets, before want of
+/// memory.
+fn worse(fault: Option<MineFault>, found: MineFault) -> Option<MineFault>
+    ensures { result ≡ worse fault found }
+{
+    match fault {
+        Some(MineFault::TooMany { limit }) => Some(MineFault::TooMany { limit }),
+        _ => Some(found),
+    }
+}
+
+/// The seats of the workers, and the values of all, or the fault to tell where one has a fault.
+pub fn parted<V: Drop>(
+    shares: Vec<Share<V>>,
+    mut seats: Vec<RoundSeat>,
+    mut lists: Vec<V>,
+) -> (Vec<RoundSeat>, Result<Vec<V>, MineFault>)
+    requires seats { (seats.items ≡ []) × (vec_len shares ≤ vec_capacity seats) }
+    requires lists { (lists.items ≡ []) × (vec_len shares ≤ vec_capacity lists) }
+    ensures seats { result.0.items ≡ map (λ share. share.seat) shares.items }
+    ensures lists { IfOk result.1 (λ lists. map Ok lists.items ≡ map (λ share. share.values) shares.items) }
+    ensures fault { MatchResult result.1 (λ _. fault_of (map (λ share. share.values) shares.items) ≡ None)
+        (λ fault. fault_of (map (λ share. share.values) shares.items) ≡ Some fault) }
+{
+    let mut fault = None;
+    for share in shares {
+        let Share { seat, values } = share;
+        seats.push_reserved(seat);
+        match values {
+            Ok(list) => lists.push_reserved(list),
+            Err(found) => fault = worse(fault, found),
+        }
+    }
+    match fault {
+        Some(fault) => (seats, Err(fault)),
+        None => (seats, Ok(lists)),
+    }
+}
