@@ -1,4 +1,5 @@
 mod Fronts
+mod ClassesLemmas
 mod MiningLemmas
 mod InputLemmas
 mod EngineLemmas

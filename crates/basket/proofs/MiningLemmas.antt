@@ -1,17 +1,21 @@
 -- From the frequent sets of coded baskets to those of a database.
-use Rattle.std.proofs.Common.{◌≡◌, ◌+◌, ◌^◌, ◌<◌, ℕ, List, length, refl, ap, ◌∙◌, subst, arith}
+use Rattle.std.proofs.Common.{◌≡◌, ◌+◌, ◌^◌, ◌<◌, ◌≤◌, ◌&&◌, ℕ, List, [], ◌∷◌, get_or, length, min, refl, sym, ap, ◌∙◌, subst, arith, suc}
+use Rattle.std.specs.List.{filter, range_with_len, sum, sum_by}
+use Rattle.std.proofs.lemmas.List.Sums.{sum_by-cons}
 use Rattle.basket_sets.specs.declared.minimum.Minimum.{Minimum}
 use Rattle.basket_sets.specs.declared.weighted.Weighted.{Weighted}
-use Rattle.basket_core.specs.Codes.{Coding, coding_of, merged_coding, baskets_of, frequent_of_coding, ranks_of}
+use Rattle.basket_core.specs.Codes.{Coding, IsCoding, coding_of, merged_coding, baskets_of, frequent_of_coding, ranks_of}
 use Rattle.basket_core.specs.Depth.{HasSetOfSize}
-use Rattle.basket_sets.specs.Frequent.{frequent_of}
-use Rattle.basket_sets.specs.Support.{total_of}
+use Rattle.basket_sets.specs.Frequent.{frequent_of, is_frequent}
+use Rattle.basket_sets.specs.Support.{support_of, total_of}
 use Rattle.basket_core.proofs.theory.Coding.{coding_keeps_frequent, coded_total, merging_keeps_coded}
 use Rattle.basket_core.proofs.theory.Depth.{deep_sets_are_many}
-use Rattle.basket.specs.Mining.{work_of}
-use Rattle.basket.specs.declared.mining.Work.{Work}
-use Rattle.basket.specs.declared.plan.Miner.{Miner}
-use Rattle.basket.specs.declared.plan.Miner.TheVariants.{Apriori}
+use Rattle.basket_sets.specs.Database.{merged_of}
+use Rattle.basket_sets.specs.Minimum.{meets}
+use Rattle.basket_sets.proofs.theory.Merging.{merging_keeps_supports}
+use Rattle.mine_classes.specs.Mined.{ClassSizesAddUp, CodedRanksAreFrequent, RanksAreFrequent, class_size}
+use Rattle.mine_vertical.specs.Joins.{ClassJoinsAddUp, class_joins, is_join, joins_of, sets_of_ranks}
+use Rattle.basket.specs.Classes.{IsJoins, IsTrees, IsWorkOfAll, MOST_WORK}
 use Rattle.mine_apriori.specs.Work.{candidate_count, CandidatesBySets}
 
 module _ (database : List Weighted) (minimum : Minimum) (coding : Coding) (made : coding ≡ merged_coding (coding_of database minimum)) where
@@ -35,10 +39,50 @@ module _ (database : List Weighted) (minimum : Minimum) (coding : Coding) (made 
       let same = ap length list_is in
       omega (arith, many, same, enough)
 
--- ---- the work of a miner
+-- ---- the work of classes
 
-abbrev apriori_work : List Weighted → Minimum → Work
-apriori_work baskets minimum = record { candidates = candidate_count baskets minimum; joins = 0; trees = 0 }
+sum_is : (f : ℕ → ℕ) (first : ℕ) (each : List ℕ) → ((k : ℕ) → k < length each → get_or each k 0 ≡ f (first + k)) → sum each ≡ sum_by f (range_with_len first (length each))
+sum_is f first [] are = refl
+sum_is f first (x ∷ each) are =
+    let head : x ≡ f first = are 0 (omega arith) ∙ ap f (omega arith) in
+    let rest = sum_is f (first + 1) each (λ k below. are (suc k) (omega arith) ∙ ap f (omega arith)) in
+    sum_by-cons (λ n. n) x each ∙ (λ i. head i + rest i) ∙ sym (sum_by-cons f first (range_with_len (first + 1) (length each)))
 
-pub work_is : (miner : Miner) (baskets : List Weighted) (minimum : Minimum) → apriori_work baskets minimum ≡ work_of miner baskets minimum
-work_is Apriori baskets minimum = refl
+sum_within : (f : ℕ → ℕ) (first : ℕ) (each : List ℕ) → ((k : ℕ) → k < length each → get_or each k 0 ≤ f (first + k)) → sum each ≤ sum_by f (range_with_len first (length each))
+sum_within f first [] are = omega arith
+sum_within f first (x ∷ each) are =
+    let head : x ≤ f first = subst (λ n. x ≤ f n) (omega arith) (are 0 (omega arith)) in
+    let rest = sum_within f (first + 1) each (λ k below. subst (λ n. get_or each k 0 ≤ f n) (omega arith) (are (suc k) (omega arith))) in
+    let a = sum_by-cons (λ n. n) x each in
+    let b = sum_by-cons f first (range_with_len (first + 1) (length each)) in
+    omega (arith, head, rest, a, b)
+
+-- a set is a join over merged baskets where it is one
+join_same : (coding : Coding) (set : List ℕ) → is_join (merged_of coding.baskets) coding.minimum set ≡ is_join coding.baskets coding.minimum set
+join_same coding [] = refl
+join_same coding (rank ∷ []) = refl
+join_same coding (first ∷ second ∷ others) = λ i. frequent (second ∷ others) i && frequent (first ∷ others) i
+  where
+    frequent : (set : List ℕ) → is_frequent (merged_of coding.baskets) coding.minimum set ≡ is_frequent coding.baskets coding.minimum set
+    frequent set =
+        ap (λ s. meets coding.minimum s (total_of (merged_of coding.baskets))) (merging_keeps_supports coding.baskets set)
+        ∙ ap (meets coding.minimum (support_of coding.baskets set)) (merging_keeps_supports coding.baskets [])
+
+joins_same : (coding : Coding) → joins_of (merged_coding coding) ≡ joins_of coding
+joins_same coding = λ i. length (filter (λ set. join_same coding set i) (sets_of_ranks (length coding.items)))
+
+module _ (database : List Weighted) (minimum : Minimum) (coding : Coding) (made : coding ≡ merged_coding (coding_of database minimum)) where
+  pub joins_are : (total : ℕ) → CodedRanksAreFrequent → ClassJoinsAddUp → IsWorkOfAll (IsJoins coding) (length coding.items) total → total ≡ min (joins_of (coding_of database minimum)) MOST_WORK
+  joins_are total frequent adds so =
+      let ranks : RanksAreFrequent coding = subst RanksAreFrequent (sym made) (frequent database minimum).1 in
+      so.added ∙ ap (λ n. min n MOST_WORK)
+      (sum_is (class_joins coding) 0 so.each (λ k below. so.works k (subst (λ n. k < n) so.long below) ranks ∙ ap (class_joins coding) (omega arith))
+      ∙ ap (λ n. sum_by (class_joins coding) (range_with_len 0 n)) so.long
+      ∙ adds coding ∙ ap joins_of made ∙ joins_same (coding_of database minimum))
+
+  pub trees_are : (total : ℕ) → IsCoding coding → ClassSizesAddUp → IsWorkOfAll (IsTrees coding) (length coding.items) total → total ≤ length (frequent_of database minimum)
+  trees_are total is adds so =
+      let few = sum_within (class_size coding) 0 so.each (λ k below. subst (λ n. get_or so.each k 0 ≤ class_size coding n) (omega arith) (so.works k (subst (λ n. k < n) so.long below))) in
+      let all = ap (λ n. sum_by (class_size coding) (range_with_len 0 n)) so.long ∙ adds coding is ∙ ap length (list_is database minimum coding made) in
+      let a = so.added in
+      omega (arith, few, all, a)

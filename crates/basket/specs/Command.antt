@@ -24,7 +24,7 @@ use Rattle.basket.specs.declared.plan.Ask.TheVariants.{Items, Sets, Closed, Maxi
 use Rattle.basket.specs.declared.plan.Form.{Form}
 use Rattle.basket.specs.declared.plan.Form.TheVariants.{Fimi, Baskets, Single}
 use Rattle.basket.specs.declared.plan.Miner.{Miner}
-use Rattle.basket.specs.declared.plan.Miner.TheVariants.{Apriori}
+use Rattle.basket.specs.declared.plan.Miner.TheVariants.{Apriori, Eclat, EclatDiff, FpGrowth}
 
 -- ---- the options, the commands, and the whole line
 
@@ -90,7 +90,7 @@ line_with choices = record {
 
 -- the miners by the names that the command line has for them
 abbrev pub miner_names : List Text
-miner_names = codes "apriori" ∷ []
+miner_names = codes "apriori" ∷ codes "eclat" ∷ codes "eclat-diff" ∷ codes "fpgrowth" ∷ []
 
 -- the forms of an input
 abbrev pub form_names : List Text
@@ -119,7 +119,11 @@ command_line = line_with (record { miners = nowhere miner_names; forms = nowhere
 -- ---- what the values say
 
 abbrev pub miner_of : Text → Option Miner
-miner_of text = if bytes_eq text (codes "apriori") then Some Apriori else None
+miner_of text =
+    if bytes_eq text (codes "apriori") then Some Apriori
+    else (if bytes_eq text (codes "eclat") then Some Eclat
+    else (if bytes_eq text (codes "eclat-diff") then Some EclatDiff
+    else (if bytes_eq text (codes "fpgrowth") then Some FpGrowth else None)))
 
 abbrev pub form_of : Text → Option Form
 form_of text =

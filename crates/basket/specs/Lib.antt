@@ -1,6 +1,7 @@
 pub mod Plan
 pub mod Input
 pub mod Status
+pub mod Classes
 pub mod Mining
 pub mod Outcome
 pub mod Engine

@@ -67,7 +67,7 @@ fn all_choices() -> Choices<'static>
     ensures { IsNamed result }
 {
     Choices {
-        miners: &["apriori"],
+        miners: &["apriori", "eclat", "eclat-diff", "fpgrowth"],
         forms: &["fimi", "baskets", "single"],
         separators: &["comma", "semicolon", "tab", "pipe"],
     }

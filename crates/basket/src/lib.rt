@@ -1,6 +1,8 @@
 //! From the bytes of an input to the bytes of a report.
 #![tactic(auto)]
 
+mod class_miner;
+mod classes;
 mod command;
 mod engine;
 mod fault;

@@ -36,6 +36,12 @@ pub enum Form {
 pub enum Miner {
     /// Level by level (Agrawal and Srikant 1994).
     Apriori,
+    /// Class by class, over covers (Zaki 2000).
+    Eclat,
+    /// Class by class, over difference lists (Zaki and Gouda 2003).
+    EclatDiff,
+    /// Class by class, within conditional databases (Han, Pei and Yin 2000).
+    FpGrowth,
 }
 
 /// What is asked of an input, with every number in its range, and how it is to be found.

@@ -84,6 +84,9 @@ fn miner_in(options: &ArgMatches<'_>) -> Option<Miner>
 {
     match options.get_str("miner")? {
         "apriori" => Some(Miner::Apriori),
+        "eclat" => Some(Miner::Eclat),
+        "eclat-diff" => Some(Miner::EclatDiff),
+        "fpgrowth" => Some(Miner::FpGrowth),
         _ => None,
     }
 }
