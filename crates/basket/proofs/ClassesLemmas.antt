@@ -1,8 +1,10 @@
 -- Classes that are mined one after another.
 use Rattle.std.proofs.Common.{◌≡◌, ◌∙◌, ◌+◌, ◌-◌, ◌^◌, ◌<◌, ◌≤◌, ◌++◌, ◌⊎◌, ℕ, Bool, true, false, List, [], ◌∷◌, get_or, length, map, min, refl, sym, ap, subst, inl, inr, arith, zero, suc, nat_lt}
+use Rattle.std.specs.declared.alloc.Global.{Global}
+use Rattle.std.specs.declared.vec.Vec.{Vec}
 use Rattle.std.specs.List.{flat_map, range_with_len, sum, sum_by}
 use Rattle.std.proofs.Math.Seq.{get_or-append_seam}
-use Rattle.std.proofs.lemmas.Bool.{cases_order, ltb-true, lt-ltb, true≢false}
+use Rattle.std.proofs.lemmas.Bool.{cases_Bool, cases_order, ltb-true, lt-ltb, true≢false}
 use Rattle.std.proofs.lemmas.List.{append-nil, length-append, get_or_append_left}
 use Rattle.std.proofs.lemmas.List.Concat.{flat_map-append}
 use Rattle.std.proofs.lemmas.List.Sums.{sum_by-append, sum_by-cons}
@@ -16,20 +18,33 @@ use Rattle.basket.specs.Classes.{IsWorkOfAll, MOST_WORK}
 -- ---- sums over ranks
 
 sum_more : (f : ℕ → ℕ) (first count : ℕ) → sum_by f (range_with_len first (count + 1)) ≡ sum_by f (range_with_len first count) + f (first + count)
-sum_more f first zero = sum_by-cons f first [] ∙ omega arith
+sum_more f first zero = let e : first + 0 ≡ first = omega arith in let same : f (first + 0) ≡ f first = ap f e in let head = sum_by-cons f first [] in omega (arith, same, head)
 sum_more f first (suc count) =
-    sum_by-cons f first (range_with_len (first + 1) (count + 1))
+    let e : suc count + 1 ≡ suc (count + 1) = omega arith in
+    ap (λ n. sum_by f (range_with_len first n)) e
+    ∙ sum_by-cons f first (range_with_len (first + 1) (count + 1))
     ∙ ap (λ n. f first + n) (sum_more f (first + 1) count)
     ∙ (let head = sum_by-cons f first (range_with_len (first + 1) count) in
-       let same : f (first + 1 + count) ≡ f (first + suc count) = ap f (omega arith) in omega (arith, head, same))
+       let e : first + 1 + count ≡ first + suc count = omega arith in
+       let same : f (first + 1 + count) ≡ f (first + suc count) = ap f e in omega (arith, head, same))
 
 sum_grows : (f : ℕ → ℕ) (first count more : ℕ) → sum_by f (range_with_len first count) ≤ sum_by f (range_with_len first (count + more))
-sum_grows f first count zero = let same : sum_by f (range_with_len first (count + 0)) ≡ sum_by f (range_with_len first count) = ap (λ n. sum_by f (range_with_len first n)) (omega arith) in omega (arith, same)
+sum_grows f first count zero =
+    let e : count + 0 ≡ count = omega arith in
+    let same : sum_by f (range_with_len first (count + 0)) ≡ sum_by f (range_with_len first count) = ap (λ n. sum_by f (range_with_len first n)) e in
+    omega (arith, same)
 sum_grows f first count (suc more) =
     let low = sum_grows f first count more in
     let next = sum_more f first (count + more) in
-    let same : sum_by f (range_with_len first (count + suc more)) ≡ sum_by f (range_with_len first (count + more + 1)) = ap (λ n. sum_by f (range_with_len first n)) (omega arith) in
+    let e : count + suc more ≡ count + more + 1 = omega arith in
+    let same : sum_by f (range_with_len first (count + suc more)) ≡ sum_by f (range_with_len first (count + more + 1)) = ap (λ n. sum_by f (range_with_len first n)) e in
     omega (arith, low, next, same)
+
+-- ---- lists of lists
+
+pub flat_items : (classes : List (Vec Counted Global)) → flat_map (λ class. class.items) classes ≡ flat_map (λ class. class) (map (λ class. class.items) classes)
+flat_items [] = refl
+flat_items (class ∷ classes) = ap (λ rest. class.items ++ rest) (flat_items classes)
 
 -- ---- lists with one element more
 
@@ -40,6 +55,9 @@ at_pushed P xs x d n long each last k below = elim (cases_order k n) [
   | inr (inl less) ↦ subst (P k) (sym (get_or_append_left xs (x ∷ []) d k (omega (arith, less, long)))) (each k less)
   | inr (inr beyond) ↦ absurd (omega (arith, below, beyond))
 ]
+
+none_below : (n : ℕ) → nat_lt n 0 ≡ false
+none_below n = elim (cases_Bool (nat_lt n 0)) [ inl e ↦ (let h = ltb-true n 0 e in absurd (omega (arith, h))) | inr e ↦ e ]
 
 -- ---- some classes
 
@@ -67,7 +85,7 @@ module _ (coding : Coding) (is_work : ℕ → ℕ → Type 0) (limit : ℕ) wher
     listed = λ k below. absurd (omega arith);
     works = record { each = []; long = refl; works = λ k below. absurd (omega arith); added = refl };
     limited = ap (λ t. t.limit) new;
-    going = ap (λ t. nat_lt t.limit t.told) new;
+    going = ap (λ t. nat_lt t.limit t.told) new ∙ none_below limit;
     told = ap (λ t. t.told) new;
     sizes = ap (λ t. t.told) new;
   }
@@ -92,7 +110,8 @@ module _ (coding : Coding) (is_work : ℕ → ℕ → Type 0) (limit : ℕ) wher
     told = adds.told ∙ (let t = so.told in let f = ap length (flat_map-append (λ (c : List Counted). c) classes (class ∷ [])) in
         let l = length-append (flat_map (λ (c : List Counted). c) classes) (class ++ []) in let n = ap length (append-nil class) in omega (arith, t, f, l, n));
     sizes = adds.told ∙ (let s = so.sizes in let m = sum_more (class_size coding) 0 rank in let z = sizes coding rank class adds.listed in
-        let same : class_size coding (0 + rank) ≡ class_size coding rank = ap (class_size coding) (omega arith) in omega (arith, s, m, z, same));
+        let e : 0 + rank ≡ rank = omega arith in
+        let same : class_size coding (0 + rank) ≡ class_size coding rank = ap (class_size coding) e in omega (arith, s, m, z, same));
   }
 
   -- a class call that found too many
@@ -104,15 +123,17 @@ module _ (coding : Coding) (is_work : ℕ → ℕ → Type 0) (limit : ℕ) wher
       upto : sum_by (class_size coding) (range_with_len 0 (rank + 1)) ≤ length (frequent_of_coding coding)
       upto =
           let g = sum_grows (class_size coding) 0 (rank + 1) (count - (rank + 1)) in
+          let e : rank + 1 + (count - (rank + 1)) ≡ length coding.items = omega (arith, below, long) in
           let all : sum_by (class_size coding) (range_with_len 0 (rank + 1 + (count - (rank + 1)))) ≡ sum_by (class_size coding) (range_with_len 0 (length coding.items))
-              = ap (λ n. sum_by (class_size coding) (range_with_len 0 n)) (omega (arith, below, long)) in
+              = ap (λ n. sum_by (class_size coding) (range_with_len 0 n)) e in
           let whole = sizes coding is in omega (arith, g, all, whole)
 
       more_than : limit < length (frequent_of_coding coding)
       more_than =
           let u = upto in
           let m = sum_more (class_size coding) 0 rank in
-          let z : class_size coding (0 + rank) ≡ class_size coding rank = ap (class_size coding) (omega arith) in
+          let e : 0 + rank ≡ rank = omega arith in
+          let z : class_size coding (0 + rank) ≡ class_size coding rank = ap (class_size coding) e in
           let s = so.sizes in let l = so.limited in
           elim why [
             | inl big ↦ (let b = ltb-true new.limit new.told big in omega (arith, u, m, z, s, l, b, kept, at_most))

@@ -76,7 +76,7 @@ module _ (database : List Weighted) (minimum : Minimum) (coding : Coding) (made 
   joins_are total frequent adds so =
       let ranks : RanksAreFrequent coding = subst RanksAreFrequent (sym made) (frequent database minimum).1 in
       so.added ∙ ap (λ n. min n MOST_WORK)
-      (sum_is (class_joins coding) 0 so.each (λ k below. so.works k (subst (λ n. k < n) so.long below) ranks ∙ ap (class_joins coding) (omega arith))
+      (sum_is (class_joins coding) 0 so.each (λ k below. let e : k ≡ 0 + k = omega arith in so.works k (subst (λ n. k < n) so.long below) ranks ∙ ap (class_joins coding) e)
       ∙ ap (λ n. sum_by (class_joins coding) (range_with_len 0 n)) so.long
       ∙ adds coding ∙ ap joins_of made ∙ joins_same (coding_of database minimum))
 

@@ -41,9 +41,9 @@ pub trait ClassMiner {
 pub struct Covers<'a>(pub Vertical<'a>);
 
 impl ClassMiner for Covers<'_> {
-    ghost coding_of = { λ miner. miner.field-0 };
+    ghost coding_of = { λ miner. miner.0 };
 
-    ghost is_work = { λ miner. IsJoins miner.field-0 };
+    ghost is_work = { λ miner. IsJoins miner.0 };
 
     fn class(
         &self,
@@ -60,9 +60,9 @@ impl ClassMiner for Covers<'_> {
 pub struct Differences<'a>(pub Vertical<'a>);
 
 impl ClassMiner for Differences<'_> {
-    ghost coding_of = { λ miner. miner.field-0 };
+    ghost coding_of = { λ miner. miner.0 };
 
-    ghost is_work = { λ miner. IsJoins miner.field-0 };
+    ghost is_work = { λ miner. IsJoins miner.0 };
 
     fn class(
         &self,
@@ -79,9 +79,9 @@ impl ClassMiner for Differences<'_> {
 pub struct Growth<'a>(pub Forest<'a>);
 
 impl ClassMiner for Growth<'_> {
-    ghost coding_of = { λ miner. miner.field-0 };
+    ghost coding_of = { λ miner. miner.0 };
 
-    ghost is_work = { λ miner. IsTrees miner.field-0 };
+    ghost is_work = { λ miner. IsTrees miner.0 };
 
     fn class(
         &self,

@@ -1,5 +1,5 @@
 //! Mining class by class.
-ghost use Rattle.std.specs.Prelude.{◌≡◌, ◌≤◌, ◌<◌, Err, IfOk, length, map, nat_lt};
+ghost use Rattle.std.specs.Prelude.{◌≡◌, ◌≤◌, ◌<◌, ℕ, Err, IfOk, length, map, nat_lt};
 ghost use Rattle.std.specs.List.{flat_map};
 ghost use Rattle.basket_core.specs.declared.fault.MineFault.TheVariants.{TooMany};
 ghost use Rattle.basket_core.specs.Codes.{IsCoding, baskets_of, frequent_of_coding};

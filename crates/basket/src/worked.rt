@@ -35,7 +35,7 @@ pub fn no_plan()
     ensures bad_minimum { plan_of_words (codes "items" ∷ codes "--min" ∷ codes "0" ∷ []) ≡ None }
     ensures bad_limit { plan_of_words (codes "sets" ∷ codes "--min" ∷ codes "2" ∷ codes "--limit" ∷ codes "0" ∷ []) ≡ None }
     ensures no_form { plan_of_words (codes "sets" ∷ codes "--min" ∷ codes "2" ∷ codes "--form" ∷ codes "csv" ∷ []) ≡ None }
-    ensures no_miner { plan_of_words (codes "sets" ∷ codes "--min" ∷ codes "2" ∷ codes "--miner" ∷ codes "eclat" ∷ []) ≡ None }
+    ensures no_miner { plan_of_words (codes "sets" ∷ codes "--min" ∷ codes "2" ∷ codes "--miner" ∷ codes "fp" ∷ []) ≡ None }
     ensures twice { plan_of_words (codes "sets" ∷ codes "--min" ∷ codes "2" ∷ codes "--min" ∷ codes "3" ∷ []) ≡ None }
 {}
 

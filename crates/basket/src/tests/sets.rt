@@ -12,11 +12,14 @@ const THIRTY_THREE_ITEMS: &[u8] =
 
 #[test]
 fn nine_baskets(rt: HostRuntime) -> Result<(), Fail> {
-    let cases: [(&[&str], &[u8]); 7] = [
+    let cases: [(&[&str], &[u8]); 10] = [
         (&["sets", "--min", "2"], THIRTEEN_SETS),
         (&["sets", "--min", "22%"], THIRTEEN_SETS),
         (&["sets", "--min", "2/9"], THIRTEEN_SETS),
         (&["sets", "--min", "2", "--miner", "apriori"], THIRTEEN_SETS),
+        (&["sets", "--min", "2", "--miner", "eclat"], THIRTEEN_SETS),
+        (&["sets", "--min", "2", "--miner", "eclat-diff"], THIRTEEN_SETS),
+        (&["sets", "--min", "2", "--miner", "fpgrowth"], THIRTEEN_SETS),
         (&["sets", "--min", "2", "--limit", "13"], THIRTEEN_SETS),
         (
             &["sets", "--min", "23%"],

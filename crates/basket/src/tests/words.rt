@@ -12,7 +12,7 @@ Options:
       --sep <S>    What stands between the fields of CSV, also in the report [default: comma] [possible values: comma, semicolon, tab, pipe]
       --header     Leaves out the first record of CSV
       --weight     Takes the first field of each CSV basket for its weight, from 1 to 4294967295
-      --miner <A>  How the sets are found; the report doesn't depend on it [default: apriori] [possible values: apriori]
+      --miner <A>  How the sets are found; the report doesn't depend on it [default: apriori] [possible values: apriori, eclat, eclat-diff, fpgrowth]
       --limit <L>  How many sets there may be, from 1 to 4294967295; where there are more, none is written (`items` has no limit) [default: 4294967295]
   -h, --help       Print help
 
@@ -65,7 +65,7 @@ fn bad_words(rt: HostRuntime) -> Result<(), Fail> {
         (&["items"], "--min <M>"),
         (&["items", "--min"], "--min <M>"),
         (&["items", "--min", "1", "more"], "'more'"),
-        (&["sets", "--min", "1", "--miner", "eclat"], "'eclat'"),
+        (&["sets", "--min", "1", "--miner", "fp"], "'fp'"),
         (&["sets", "--min", "1", "--form", "csv"], "'csv'"),
         (&["sets", "--min", "1", "--sep", ","], "','"),
         (&["sets", "--min", "1", "--header", "--header"], "--header"),
