@@ -14,6 +14,7 @@ mod rules;
 mod stream;
 mod tally;
 mod tree;
+mod vertical;
 
 use basket_core::{Database, Itemset};
 use std::alloc::{AllocError, Global};

@@ -12,7 +12,7 @@ use Rattle.std.proofs.Math.Seq.{take-append_seam}
 use Rattle.basket_sets.specs.declared.weighted.Weighted.{Weighted}
 use Rattle.basket_sets.specs.declared.counted.Counted.{Counted}
 use Rattle.basket_sets.specs.declared.minimum.Minimum.TheVariants.{Count}
-use Rattle.basket_sets.specs.Itemset.{AllBelow, IsRising, has, rising}
+use Rattle.basket_sets.specs.Itemset.{AllBelow, IsRising, rising}
 use Rattle.basket_sets.proofs.theory.Members.{Member, Member-append, Member-append_left, Member-append_right}
 use Rattle.basket_sets.proofs.theory.Rising.{Member-from_has, has-from_Member, has_place, cons_rises, contains_each, Member-into_rising, Member-rising, rising_is}
 use Rattle.basket_sets.proofs.theory.Support.{subsets_are_frequent}

@@ -1,6 +1,6 @@
 -- Rows of covers that are joined.
-use Rattle.std.proofs.Common.{◌≡◌, ℕ, ◌+◌, Bool, true, not, List, [], ◌∷◌, get_or, cond, subst, sym, refl, ap, ◌∙◌, inl, inr, arith}
-use Rattle.std.specs.List.{filter, sum_by}
+use Rattle.std.proofs.Common.{◌≡◌, ℕ, ◌+◌, Bool, true, not, List, [], ◌∷◌, get_or, cond, subst, sym, refl, ap, ◌∙◌, inl, inr}
+use Rattle.std.specs.List.{filter}
 use Rattle.basket_sets.specs.Itemset.{IsRising, contains, has}
 use Rattle.basket_sets.proofs.theory.Members.{Member, Member-filter, Member-from_filter}
 use Rattle.basket_sets.proofs.theory.Rising.{Member-from_has, contains_each, has-from_Member, same_test}

@@ -1,5 +1,5 @@
 -- Covers: the places of baskets that contain a set.
-use Rattle.std.specs.Prelude.{◌<◌, ℕ, not, List, [], filter, length, map, slice_index, slice_index_or}
+use Rattle.std.specs.Prelude.{ℕ, not, List, [], filter, length, map, slice_index, slice_index_or}
 use Rattle.std.specs.List.{range_with_len, sum_by}
 use Rattle.basket_sets.specs.declared.weighted.Weighted.{Weighted}
 use Rattle.basket_sets.specs.Itemset.{AllBelow, IsRising, contains, has}

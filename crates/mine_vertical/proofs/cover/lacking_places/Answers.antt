@@ -1,4 +1,4 @@
-use Rattle.std.proofs.Common.{◌≡◌, not, is_ok, ◌++◌, ◌∷◌, [], get_or, sym, ap, ◌∙◌}
+use Rattle.std.proofs.Common.{◌≡◌, not, ◌++◌, ◌∷◌, [], get_or, sym, ap, ◌∙◌}
 use Rattle.basket_sets.specs.Itemset.{has}
 use Rattle.basket_sets.proofs.theory.Rising.{search_is_has}
 use Rattle.mine_vertical.proofs.CoverLemmas.{filter_drops, filter_keeps}

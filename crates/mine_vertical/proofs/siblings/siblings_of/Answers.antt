@@ -1,10 +1,9 @@
-use Rattle.std.proofs.Common.{◌≡◌, List, ℕ, ◌++◌, ◌∷◌, [], get_or, map, take, subst, sym, ap, ◌∙◌}
+use Rattle.std.proofs.Common.{◌++◌, ◌∷◌, [], get_or, map, subst, sym, ap, ◌∙◌}
 use Rattle.std.specs.Prelude.{All}
 use Rattle.std.proofs.lemmas.List.{map-append, take_more}
 use Rattle.std.proofs.lemmas.List.Elements.{All-push, recursion_from_All}
 use Rattle.basket_core.specs.Codes.{IsCodedPlace, decoded_place}
 use Rattle.mine_classes.specs.Span.{baskets_at}
-use Rattle.mine_vertical.specs.declared.search.Sibling.{Sibling}
 use Rattle.mine_vertical.specs.Cover.{IsCover, all_places, cover_of, weights_of}
 use Rattle.mine_vertical.specs.Search.{IsSibling}
 use Rattle.mine_vertical.proofs.CoverLemmas.{cover_covers, cover_of_none}

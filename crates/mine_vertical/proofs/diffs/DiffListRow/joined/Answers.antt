@@ -1,4 +1,4 @@
-use Rattle.std.proofs.Common.{◌≡◌, ◌+◌, ◌-◌, subst, sym, ap, ◌∙◌, arith}
+use Rattle.std.proofs.Common.{subst, sym, ap, ◌∙◌, arith}
 use Rattle.basket_sets.specs.Itemset.{IsRising}
 use Rattle.mine_vertical.specs.Cover.{IsCover, cover_weight, lacking}
 use Rattle.mine_vertical.proofs.RowLemmas.{common_covers, common_inside, diffs_lacking, missing_rises, rest_covers, rest_weighs}

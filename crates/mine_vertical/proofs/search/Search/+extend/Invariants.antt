@@ -1,4 +1,4 @@
-use Rattle.std.proofs.Common.{◌≡◌, ℕ, ◌+◌, ◌++◌, false, List, length, map, take}
+use Rattle.std.proofs.Common.{◌≡◌, ◌+◌, ◌++◌, false, length, map, take}
 use Rattle.std.specs.List.{flat_map, sum_by}
 use Rattle.mine_vertical.specs.Search.{FewJoins, IsNode, Node, found_at, is_met}
 use Rattle.mine_vertical.specs.Walk.{kept_below}

@@ -1,8 +1,7 @@
-use Rattle.std.proofs.Common.{◌≡◌, ℕ, ◌≤◌, ◌∷◌, [], ◌++◌, List, filter, take, subst, sym, ap, ◌∙◌, arith}
+use Rattle.std.proofs.Common.{◌∷◌, filter, subst, sym, ap, ◌∙◌, arith}
 use Rattle.std.specs.Prelude.{All}
 use Rattle.std.proofs.lemmas.List.{take_all}
 use Rattle.std.proofs.lemmas.List.Elements.{All-push}
-use Rattle.basket_sets.specs.Support.{support_of}
 use Rattle.mine_vertical.specs.Search.{IsSibling, is_met}
 use Rattle.mine_vertical.proofs.SearchLemmas.{counted_row, dropped_more, joined_stands, kept_more, met, missed, ranks, sibling_at}
 use Rattle.mine_vertical.specs.Cover.{cover_of}

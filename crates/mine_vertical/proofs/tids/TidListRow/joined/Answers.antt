@@ -1,7 +1,6 @@
-use Rattle.std.proofs.Common.{◌≡◌, List, ℕ, length, subst, sym, ap, ◌∙◌}
-use Rattle.basket_sets.specs.Itemset.{AllBelow, IsRising}
+use Rattle.std.proofs.Common.{subst, sym, ap, ◌∙◌}
+use Rattle.basket_sets.specs.Itemset.{IsRising}
 use Rattle.mine_vertical.specs.Cover.{IsCover, common, cover_weight}
-use Rattle.mine_vertical.specs.Rows.{IsTidList}
 use Rattle.mine_vertical.proofs.RowLemmas.{common_covers, tids_common}
 use Rattle.mine_vertical.proofs.tids.TidListRow.joined.Goals as goal
 
