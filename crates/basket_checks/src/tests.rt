@@ -4,6 +4,7 @@ mod databases;
 mod depth;
 mod fault;
 mod frequent;
+mod growth;
 mod itemset;
 mod join;
 mod levels;

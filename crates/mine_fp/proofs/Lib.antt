@@ -5,3 +5,4 @@ mod BranchLemmas
 mod NodeLemmas
 mod InsertLemmas
 mod BaseLemmas
+mod TreeCountLemmas

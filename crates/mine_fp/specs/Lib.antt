@@ -1,3 +1,4 @@
 pub mod Level
 pub mod Forest
 pub mod Tree
+pub mod Trees

@@ -3,8 +3,10 @@
 #![tactic(auto)]
 
 mod forest;
+pub mod laws;
 mod level;
 mod tree;
+pub mod worked;
 
 pub use forest::{Forest, fp_class};
 pub use tree::FpTree;

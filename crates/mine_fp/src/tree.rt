@@ -71,6 +71,13 @@ impl FpTree {
         Ok(())
     }
 
+    /// What all paths weigh together.
+    pub fn total(&self) -> u64
+        ensures { result ≡ self.now.total }
+    {
+        self.total
+    }
+
     /// For each node of the rank, in the order in which the nodes were made, the path above it and its
     /// count.
     pub fn base(&self, alloc: Global, rank: u32) -> Result<Vec<(Vec<u32>, u64)>, AllocError>
