@@ -25,8 +25,8 @@ sum_more f first (suc count) =
     ∙ sum_by-cons f first (range_with_len (first + 1) (count + 1))
     ∙ ap (λ n. f first + n) (sum_more f (first + 1) count)
     ∙ (let head = sum_by-cons f first (range_with_len (first + 1) count) in
-       let e : first + 1 + count ≡ first + suc count = omega arith in
-       let same : f (first + 1 + count) ≡ f (first + suc count) = ap f e in omega (arith, head, same))
+    let e : first + 1 + count ≡ first + suc count = omega arith in
+    let same : f (first + 1 + count) ≡ f (first + suc count) = ap f e in omega (arith, head, same))
 
 sum_grows : (f : ℕ → ℕ) (first count more : ℕ) → sum_by f (range_with_len first count) ≤ sum_by f (range_with_len first (count + more))
 sum_grows f first count zero =
@@ -125,7 +125,7 @@ module _ (coding : Coding) (is_work : ℕ → ℕ → Type 0) (limit : ℕ) wher
           let g = sum_grows (class_size coding) 0 (rank + 1) (count - (rank + 1)) in
           let e : rank + 1 + (count - (rank + 1)) ≡ length coding.items = omega (arith, below, long) in
           let all : sum_by (class_size coding) (range_with_len 0 (rank + 1 + (count - (rank + 1)))) ≡ sum_by (class_size coding) (range_with_len 0 (length coding.items))
-              = ap (λ n. sum_by (class_size coding) (range_with_len 0 n)) e in
+          = ap (λ n. sum_by (class_size coding) (range_with_len 0 n)) e in
           let whole = sizes coding is in omega (arith, g, all, whole)
 
       more_than : limit < length (frequent_of_coding coding)

@@ -18,8 +18,14 @@ fn nine_baskets(rt: HostRuntime) -> Result<(), Fail> {
         (&["sets", "--min", "2/9"], THIRTEEN_SETS),
         (&["sets", "--min", "2", "--miner", "apriori"], THIRTEEN_SETS),
         (&["sets", "--min", "2", "--miner", "eclat"], THIRTEEN_SETS),
-        (&["sets", "--min", "2", "--miner", "eclat-diff"], THIRTEEN_SETS),
-        (&["sets", "--min", "2", "--miner", "fpgrowth"], THIRTEEN_SETS),
+        (
+            &["sets", "--min", "2", "--miner", "eclat-diff"],
+            THIRTEEN_SETS,
+        ),
+        (
+            &["sets", "--min", "2", "--miner", "fpgrowth"],
+            THIRTEEN_SETS,
+        ),
         (&["sets", "--min", "2", "--limit", "13"], THIRTEEN_SETS),
         (
             &["sets", "--min", "23%"],

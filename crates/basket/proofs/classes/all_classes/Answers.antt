@@ -31,7 +31,7 @@ loop-rank-preserved g c =
       limit = c.in_ok-class.ensures.limit;
     } in
     let next = more coding (g.M.ClassMiner.is_work c.args.miner.now) c.args.limit rank c.loop-rank.work c.in_ok-class.done c.loop-rank.tally c.class.new.tally
-        (map items classes) class.items c.lists_have_class_size.ensures c.loop-rank.invariant adds in
+    (map items classes) class.items c.lists_have_class_size.ensures c.loop-rank.invariant adds in
     let pushed = ap (map items) c.in_ok-push.ensures.items ∙ map-append items classes (class ∷ []) in
     subst (λ cs. SoFar coding (g.M.ClassMiner.is_work c.args.miner.now) c.args.limit (rank + 1) c.class.new.tally cs c.saturating_add-work.result) (sym pushed)
     (subst (SoFar coding (g.M.ClassMiner.is_work c.args.miner.now) c.args.limit (rank + 1) c.class.new.tally (map items classes ++ class.items ∷ [])) (sym c.saturating_add-work.ensures) next)
