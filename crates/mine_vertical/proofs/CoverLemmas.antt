@@ -29,7 +29,7 @@ Member-into_range a (suc n) x low high = elim (cases_eq a x) [
   | inr differ ↦ inr (Member-into_range (a + 1) n x (omega arith) (omega arith))
 ]
 
-range_rises : (a n : ℕ) → IsRising (range_with_len a n)
+pub range_rises : (a n : ℕ) → IsRising (range_with_len a n)
 range_rises a zero = nil_rises
 range_rises a (suc n) = cons_rises a (range_with_len (a + 1) n) (λ y m. let r = Member-range (a + 1) n y m in let low = r.0 in omega arith) (range_rises (a + 1) n)
 

@@ -7,3 +7,6 @@ mod FoundLemmas
 mod SiblingLemmas
 mod ClassLemmas
 mod JoinLemmas
+mod BitLemmas
+mod WordLemmas
+mod PlaneLemmas

@@ -6,3 +6,5 @@ pub mod Search
 pub mod Vertical
 pub mod Siblings
 pub mod Joins
+pub mod Bits
+pub mod Planes

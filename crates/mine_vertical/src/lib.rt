@@ -1,15 +1,18 @@
 //! Eclat (Zaki 2000): a class is mined alone, depth first, over the places of its conditional
 //! database.
 //!
-//! A `row` stands for the places whose baskets contain a set: `tids` lists them, and `diffs` lists
-//! what is lacking of them.
+//! A `row` stands for the places whose baskets contain a set: `tids` lists them, `diffs` lists what
+//! is lacking of them, and `bit_rows` has a bit for each place.
 #![tactic(auto)]
 
+mod bit_rows;
+mod bits;
 mod cover;
 mod diffs;
 mod eclat;
 pub mod laws;
 mod mined;
+mod planes;
 mod row;
 mod search;
 mod siblings;
@@ -17,6 +20,8 @@ mod tids;
 mod vertical;
 mod weights;
 
+pub use bit_rows::BitRow;
+pub use bits::and_count;
 pub use diffs::DiffList;
 pub use eclat::eclat_class;
 pub use row::Row;

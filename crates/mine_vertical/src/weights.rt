@@ -1,28 +1,40 @@
 //! Weights of places.
-ghost use Rattle.std.specs.Prelude.{◌≡◌, ◌≤◌, All, IfOk, length, sum};
+ghost use Rattle.std.specs.Prelude.{◌≡◌, ◌≤◌, ℕ, List, All, IfOk, length, sum};
 ghost use Rattle.basket_sets.specs.Database.{MOST_WEIGHT};
 ghost use Rattle.basket_sets.specs.Itemset.{AllBelow, IsRising};
-ghost use Rattle.mine_vertical.specs.Cover.{cover_weight};
-ghost use Rattle.mine_vertical.specs.Weights.{AreWeights, MOST_PLACES};
+ghost use Rattle.mine_vertical.specs.Cover.{IsCover, cover_weight};
+ghost use Rattle.mine_vertical.specs.Bits.{words_of};
+ghost use Rattle.mine_vertical.specs.Planes.{are_ones};
+ghost use Rattle.mine_vertical.specs.Weights.{MOST_PLACES};
 
+use crate::planes::{Plane, planes_of, weight_by_planes};
 use std::alloc::{AllocError, Global};
 use std::marker::Model;
 
-/// The weight of each place, by the place's number.
+/// Whether all weights are 1.
+fn all_are_ones(weights: &[u64]) -> bool
+    ensures { result ≡ are_ones weights.now }
+{
+    weights.iter().all(|weight| *weight == 1)
+}
+
+/// The weight of each place, by the place's number, and the same bit by bit.
 #[derive(Debug, Drop)]
 pub struct Weights {
     weights: Vec<u64>,
+    are_ones: bool,
+    planes: Vec<Plane>,
 }
 
 impl Model for Weights {
     ghost use Rattle.std.specs.Prelude.{ℕ, List};
-    ghost use Rattle.mine_vertical.specs.Weights.{AreWeights};
+    ghost use Rattle.mine_vertical.specs.Weights.{KeepsWeights};
 
     ghost Value = { List ℕ };
 
     ghost view = { λ w. w.weights.items };
 
-    ghost invariant = { λ w. AreWeights w.weights.items };
+    ghost invariant = { λ w. KeepsWeights w.weights.items w.are_ones w.planes.items };
 }
 
 impl Weights {
@@ -33,8 +45,11 @@ impl Weights {
         requires light { sum weights.now ≤ MOST_WEIGHT }
         ensures { IfOk result (λ copy. copy ≡ weights.now) }
     {
+        let are_ones = all_are_ones(weights);
         Ok(Weights {
             weights: weights.to_vec(alloc)?,
+            are_ones,
+            planes: planes_of(alloc, weights, are_ones)?,
         })
     }
 
@@ -57,5 +72,16 @@ impl Weights {
             weight += self.weights[*place as usize];
         }
         weight
+    }
+
+    /// What the places of a row of bits weigh together, where the row has so many ones.
+    pub(crate) fn weight_of_bits(&self, words: &[u64], ones: u64) -> u64
+        requires { (cover : List ℕ) × IsCover self.now cover × (words.now ≡ words_of (length self.now) cover) × (ones ≡ length cover) }
+        ensures { (cover : List ℕ) → IsCover self.now cover → words.now ≡ words_of (length self.now) cover → ones ≡ length cover → result ≡ cover_weight self.now cover }
+    {
+        if self.are_ones {
+            return ones;
+        }
+        weight_by_planes(words, &self.planes)
     }
 }

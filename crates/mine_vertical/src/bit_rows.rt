@@ -1,0 +1,50 @@
+ghost use Rattle.std.specs.Prelude.{◌≡◌, IfOk};
+ghost use Rattle.basket_sets.specs.Itemset.{AllBelow};
+ghost use Rattle.mine_vertical.specs.Bits.{words_of};
+ghost use Rattle.mine_vertical.specs.Rows.{IsBitRow};
+
+use crate::bits::{set_bit, share_words};
+use crate::row::Row;
+use crate::weights::Weights;
+use std::alloc::{AllocError, Global};
+
+/// A row with a bit for each place, which is one where the place is in its cover.
+#[derive(Debug, Drop)]
+pub struct BitRow {
+    words: Vec<u64>,
+    count: u64,
+}
+
+/// A bit for each place below a number, which is one where the place is in a cover.
+fn bits_of_cover(alloc: Global, cover: &[u32], places: u32) -> Result<Vec<u64>, AllocError>
+    requires { AllBelow places cover.now }
+    ensures { IfOk result (λ words. words.items ≡ words_of places cover.now) }
+{
+    let mut words = vec![in alloc; 0u64; (places as usize).div_ceil(64)]?;
+    for place in cover {
+        set_bit(&mut words, *place as usize);
+    }
+    Ok(words)
+}
+
+impl Row for BitRow {
+    ghost stands = { IsBitRow };
+
+    fn first(alloc: Global, cover: &[u32], weights: &Weights) -> Result<Self, AllocError> {
+        Ok(BitRow {
+            words: bits_of_cover(alloc, cover, weights.places())?,
+            count: weights.weight(cover),
+        })
+    }
+
+    fn joined(alloc: Global, x: &Self, y: &Self, weights: &Weights) -> Result<Self, AllocError> {
+        let mut words = Vec::with_capacity(alloc, (weights.places() as usize).div_ceil(64))?;
+        let ones = share_words(&mut words, &x.words, &y.words)?;
+        let count = weights.weight_of_bits(&words, ones);
+        Ok(BitRow { words, count })
+    }
+
+    fn count(&self) -> u64 {
+        self.count
+    }
+}

@@ -1,0 +1,74 @@
+//! Bits that two lists of words share.
+ghost use Rattle.std.specs.Prelude.{◌≡◌, ◌≢◌, ◌≤◌, ◌<◌, ◌*◌, ◌/◌, ℕ, Bool, true, All, IfOk, OnOk, bit_and, length};
+ghost use Rattle.std.specs.Simd.Lanes.{zip2};
+ghost use Rattle.mine_vertical.specs.Bits.{MOST_WORDS, shared_bits, shared_in_chunks, words_from};
+
+use std::alloc::AllocError;
+use std::simd::prelude::*;
+
+/// The bits that chunks of words share, counted by lanes.
+fn shared_by_lanes(first: &[[u64; 4]], second: &[[u64; 4]]) -> u64
+    requires same { length first.now ≡ length second.now }
+    requires wide { All (λ words. length words ≡ 4) first.now × All (λ words. length words ≡ 4) second.now }
+    requires few { shared_in_chunks first.now second.now ≤ MOST_WORDS * 64 }
+    ensures { result ≡ shared_in_chunks first.now second.now }
+{
+    let mut lanes = u64x4::splat(0);
+    for (at, words) in first.iter().enumerate() {
+        let both = u64x4::from_array(*words) & u64x4::from_array(second[at]);
+        lanes = lanes.strict_add(both.count_ones());
+    }
+    lanes.strict_reduce_sum()
+}
+
+/// The bits that words share, counted word by word.
+fn shared_by_words(first: &[u64], second: &[u64]) -> u64
+    requires same { length first.now ≡ length second.now }
+    requires few { length first.now ≤ MOST_WORDS }
+    ensures { result ≡ shared_bits first.now second.now }
+{
+    let mut count = 0;
+    for (at, word) in first.iter().enumerate() {
+        count += u64::from((word & second[at]).count_ones());
+    }
+    count
+}
+
+/// At how many bit places two rows of words both have a one.
+pub fn and_count(a: &[u64], b: &[u64]) -> u64
+    requires same { length a.now ≡ length b.now }
+    requires few { length a.now ≤ MOST_WORDS }
+    ensures { result ≡ shared_bits a.now b.now }
+{
+    let (chunks, rest) = a.as_chunks::<4>();
+    let (other_chunks, other_rest) = b.as_chunks::<4>();
+    shared_by_lanes(chunks, other_chunks) + shared_by_words(rest, other_rest)
+}
+
+/// Sets the bit of a place.
+pub fn set_bit(words: &mut [u64], place: usize)
+    requires { place / 64 < length words.old }
+    ensures long { length words.new ≡ length words.old }
+    ensures set { (test with_place : ℕ → Bool) → words.old ≡ words_from test 0 (length words.old)
+        → with_place place ≡ true → ((other : ℕ) → other ≢ place → with_place other ≡ test other)
+        → words.new ≡ words_from with_place 0 (length words.old) }
+{
+    words[place / 64] |= 1 << (place % 64);
+}
+
+/// The words that two rows share, in the place of other words, and how many ones they have.
+pub fn share_words(words: &mut Vec<u64>, x: &[u64], y: &[u64]) -> Result<u64, AllocError>
+    requires same { length x.now ≡ length y.now }
+    requires few { length x.now ≤ MOST_WORDS }
+    ensures words { OnOk result (words.new.items ≡ zip2 bit_and x.now y.now) }
+    ensures ones { IfOk result (λ ones. ones ≡ shared_bits x.now y.now) }
+{
+    words.clear();
+    let mut ones = 0;
+    for (at, word) in x.iter().enumerate() {
+        let both = word & y[at];
+        ones += u64::from(both.count_ones());
+        words.push(both)?;
+    }
+    Ok(ones)
+}
