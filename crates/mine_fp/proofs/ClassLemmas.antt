@@ -46,7 +46,7 @@ module _ (all : ClassesAreAll) (listed : ClassesAreListed) (value : RankBaskets)
   abbrev classes_from : ℕ → ℕ → List (List Counted)
   classes_from first count = map (class_of value.baskets (Count least)) (range_with_len first count)
 
-  ranks_are_below : RanksAreBelow value.ranks value.baskets
+  pub ranks_are_below : RanksAreBelow value.ranks value.baskets
   ranks_are_below rank here = within value.baskets (recursion_from_All (IsRankBasket value.ranks) value.baskets are.places) (Member-from_Contains rank (flat_map (λ place. place.basket) value.baskets) here)
     where
       within : (places : List Weighted) → AllByRecursion (IsRankBasket value.ranks) places → Member rank (flat_map (λ place. place.basket) places) → rank < value.ranks

@@ -4,10 +4,11 @@ use Rattle.std.specs.List.{Contains}
 use Rattle.std.proofs.lemmas.Bool.{leb-true, le-leb}
 use Rattle.std.proofs.lemmas.List.{append-nil}
 use Rattle.std.proofs.lemmas.List.Elements.{All-weaker, recursion_from_All}
-use Rattle.basket_core.specs.Codes.{Coding, decoded_set}
+use Rattle.basket_core.specs.Codes.{Coding, IsCodedPlace, IsCoding, decoded_set}
 use Rattle.basket_core.specs.Depth.{HasSetOfSize}
 use Rattle.basket_sets.specs.declared.counted.Counted.{Counted}
 use Rattle.basket_sets.specs.declared.minimum.Minimum.TheVariants.{Count}
+use Rattle.basket_sets.specs.Database.{HasWeight}
 use Rattle.basket_sets.specs.Frequent.{IsNonemptySet, counted, is_frequent}
 use Rattle.basket_sets.specs.Itemset.{rising}
 use Rattle.basket_sets.specs.Support.{support_of}
@@ -18,7 +19,10 @@ use Rattle.mine_classes.specs.Mined.{ListsHaveClassSize, class_size}
 use Rattle.mine_classes.specs.Ordered.{RankBaskets}
 use Rattle.mine_fp.specs.Forest.{AreInForest}
 use Rattle.mine_fp.specs.Level.{as_items}
+use Rattle.mine_fp.specs.Trees.{class_trees, has_tree, rank_trees}
 use Rattle.mine_fp.proofs.ClassLemmas.{listed_long}
+use Rattle.mine_fp.proofs.StraightLemmas.{ArePlain, same_tree}
+use Rattle.mine_fp.proofs.TreesLemmas.{passed_as_many, ranked_plain, same_passed}
 
 one_test : (a b : Bool) → (b ≡ true → a ≡ true) → (a && b) ≡ b
 one_test true b h = refl
@@ -56,6 +60,21 @@ module _ (coding : Coding) (least : ℕ) (runs : RankBaskets) (are : AreInForest
       let lists = listed runs.baskets (Count least) rank in
       let s = at_Member (IsOfRuns rank) has.0 list (recursion_from_All (IsOfRuns rank) list lists.sound) (Member-from_Contains has.0 list has.1) in
       (counted coding.baskets has.0.set, (listed coding.baskets coding.minimum rank).complete has.0.set s.0 s.1 (sym (tests has.0.set) ∙ s.2), has.2)
+
+  coding_plain : IsCoding coding → ArePlain coding.baskets
+  coding_plain is place m = (
+    (at_Member (IsCodedPlace coding.items) place coding.baskets (recursion_from_All (IsCodedPlace coding.items) coding.baskets is.places) m).0,
+    at_Member HasWeight place coding.baskets (recursion_from_All HasWeight coding.baskets is.weights) m,
+  )
+
+  -- the trees of a class of the forest's baskets are those of the coding
+  pub trees_settled : IsCoding coding → ClassesAreListed → (rank : ℕ) → rank_trees runs.baskets least rank ≡ class_trees coding rank
+  trees_settled is listed rank =
+      let list = class_of runs.baskets (Count least) rank in
+      same_passed (λ set. has_tree runs.baskets (Count least) set) (λ set. has_tree coding.baskets coding.minimum set)
+      (same_tree runs.baskets coding.baskets (Count least) coding.minimum (ranked_plain runs are.ranked) (coding_plain is) tests are.supports) list
+      ∙ passed_as_many (λ set. has_tree coding.baskets coding.minimum set) coding.baskets coding.minimum rank list (class_of coding.baskets coding.minimum rank)
+      (class_settled rank list (listed runs.baskets (Count least) rank)) (listed coding.baskets coding.minimum rank)
 
 -- sets of ranks as items
 pub decoded_items : (items names suffix : List ℕ) (sets : List Counted) → names ≡ items → suffix ≡ [] → map (as_items names suffix) sets ≡ map (decoded_set items) sets

@@ -1,7 +1,7 @@
 -- The sets of a conditional database as items, and the support of a rank.
 use Rattle.std.proofs.Common.{◌≡◌, ℕ, ◌+◌, ◌<◌, ◌≤◌, true, false, Bool, List, [], ◌∷◌, ◌++◌, length, get_or, map, cond, refl, sym, ap, ◌∙◌, subst, inl, inr, arith, ltb, zero-add, ◌&&◌, zero, suc}
 use Rattle.std.specs.List.{filter, range_with_len, sum_by}
-use Rattle.std.proofs.lemmas.Bool.{and_parts, ltb-true}
+use Rattle.std.proofs.lemmas.Bool.{and_parts, cases_lt, ltb-true}
 use Rattle.std.proofs.lemmas.List.{get_or-map, get_or_default, length-map}
 use Rattle.std.specs.Ordering.{nat_cmp}
 use Rattle.std.proofs.lemmas.List.FromFn.{length-range_with_len}
@@ -60,7 +60,7 @@ runs_weigh ranks baskets rank runs are = sym (weights_of ranks runs) ∙ sym (ar
 -- ---- sets as items
 
 -- lists of the same items have one rising list
-rising_same : (xs ys : List ℕ) → ((z : ℕ) → Member z xs → Member z ys) → ((z : ℕ) → Member z ys → Member z xs) → rising xs ≡ rising ys
+pub rising_same : (xs ys : List ℕ) → ((z : ℕ) → Member z xs → Member z ys) → ((z : ℕ) → Member z ys → Member z xs) → rising xs ≡ rising ys
 rising_same xs ys into back = rising_is xs (rising ys) (rising-rises ys) (λ z m. Member-into_rising ys z (into z m)) (λ z m. back z (Member-rising ys z m))
 
 module _ (names kept suffix : List ℕ) (rank : ℕ) where
@@ -121,17 +121,17 @@ module _ (names kept suffix : List ℕ) (rank : ℕ) where
 
 -- ---- sets of a rising list's numbers
 
-at_place : (items : List ℕ) (k : ℕ) → k < length items → Member (get_or items k 0) items
+pub at_place : (items : List ℕ) (k : ℕ) → k < length items → Member (get_or items k 0) items
 at_place items k here = Member-from_Contains (get_or items k 0) items (k, here, get_or_default items k (get_or items k 0) 0 here)
 
-less_at : (items : List ℕ) → IsRising items → (i j : ℕ) → i < j → j < length items → get_or items i 0 < get_or items j 0
+pub less_at : (items : List ℕ) → IsRising items → (i j : ℕ) → i < j → j < length items → get_or items i 0 < get_or items j 0
 less_at [] up i j less here = absurd (omega arith)
 less_at (x ∷ items) up i zero less here = absurd (omega arith)
 less_at (x ∷ items) up zero (suc j) less here = first_below x items up (get_or items j 0) (at_place items j (omega arith))
 less_at (x ∷ items) up (suc i) (suc j) less here = less_at items (rest_rises x items up) i j (omega arith) (omega arith)
 
 -- the numbers at rising places of a rising list rise
-placed_rise : (items set : List ℕ) → IsRising items → IsRising set → AllBelow (length items) set → IsRising (map (λ k. get_or items k 0) set)
+pub placed_rise : (items set : List ℕ) → IsRising items → IsRising set → AllBelow (length items) set → IsRising (map (λ k. get_or items k 0) set)
 placed_rise items [] up over within = nil_rises
 placed_rise items (k ∷ set) up over within =
     cons_rises (get_or items k 0) (map (λ j. get_or items j 0) set)
@@ -155,7 +155,19 @@ range_from a zero y m = absurd m
 range_from a (suc n) y (inl e) = omega arith
 range_from a (suc n) y (inr m) = let low = range_from (a + 1) n y m in omega arith
 
-range_rises : (a n : ℕ) → IsRising (range_with_len a n)
+pub Member-into_range : (a n y : ℕ) → a ≤ y → y < a + n → Member y (range_with_len a n)
+Member-into_range a zero y low high = absurd (omega arith)
+Member-into_range a (suc n) y low high = elim (cases_lt a y) [
+  | inl more ↦ inr (Member-into_range (a + 1) n y (omega arith) (omega arith))
+  | inr less ↦ inl (omega arith)
+]
+
+pub range_within : (a n y : ℕ) → Member y (range_with_len a n) → y < a + n
+range_within a zero y m = absurd m
+range_within a (suc n) y (inl e) = omega arith
+range_within a (suc n) y (inr m) = let high = range_within (a + 1) n y m in omega arith
+
+pub range_rises : (a n : ℕ) → IsRising (range_with_len a n)
 range_rises a zero = nil_rises
 range_rises a (suc n) = cons_rises a (range_with_len (a + 1) n) (λ y m. let low = range_from (a + 1) n y m in omega arith) (range_rises (a + 1) n)
 

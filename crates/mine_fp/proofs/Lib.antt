@@ -6,3 +6,8 @@ mod NodeLemmas
 mod InsertLemmas
 mod BaseLemmas
 mod TreeCountLemmas
+mod StraightLemmas
+mod InnerLemmas
+mod TreesLemmas
+mod PathLemmas
+mod ChoiceLemmas

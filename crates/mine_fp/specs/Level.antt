@@ -1,11 +1,13 @@
 -- Sets that are found within a conditional database, as items.
 use Rattle.std.specs.Prelude.{◌≡◌, ◌≤◌, ◌+◌, ◌-◌, ◌++◌, ℕ, List, length, map, slice_index_or}
+use Rattle.std.specs.List.{flat_map}
 use Rattle.basket_core.specs.Codes.{IsCoding, decoded_place}
 use Rattle.basket_sets.specs.declared.counted.Counted.{Counted}
 use Rattle.basket_sets.specs.declared.minimum.Minimum.TheVariants.{Count}
 use Rattle.basket_sets.specs.Frequent.{ListsOnce}
 use Rattle.basket_sets.specs.Itemset.{rising}
-use Rattle.mine_classes.specs.Classes.{ListsClass}
+use Rattle.mine_classes.specs.declared.span.Span.{Span}
+use Rattle.mine_classes.specs.Classes.{ListClasses, ListsClass}
 use Rattle.mine_classes.specs.Conditional.{conditional}
 use Rattle.mine_classes.specs.Ordered.{AreRankBaskets, HaveSameWeights}
 use Rattle.mine_classes.specs.Pairs.{kept_ranks}
@@ -38,6 +40,19 @@ pub record ListsAllAsItems (level : Level) (old new : List Counted) : Type 0 whe
   pub sets : List Counted
   pub listed : ListsOnce level.runs.baskets (Count level.least) sets
   pub added : new ≡ old ++ map (as_items level.names.items level.suffix.items) sets
+
+-- the classes of the ranks below one stand, as items, from a place on
+pub record HasLower (level : Level) (rank start : ℕ) (found : List Counted) : Type 0 where
+  pub before : List Counted
+  pub classes : List (List Counted)
+  pub long : length before ≡ start
+  pub ranks : length classes ≡ rank
+  pub listed : ListClasses level.runs.baskets (Count level.least) classes
+  pub are : found ≡ before ++ map (as_items level.names.items level.suffix.items) (flat_map (λ class. class) classes)
+
+-- a run ends where it starts or later
+abbrev pub IsOrdered : Span → Type 0
+IsOrdered run = run.start ≤ run.end
 
 -- a level is of the conditional database of a rank of another
 pub record IsBelow (level : Level) (rank : ℕ) (items : List ℕ) (inner : Level) : Type 0 where

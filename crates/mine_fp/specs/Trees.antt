@@ -4,6 +4,7 @@ use Rattle.std.specs.List.{flat_map, list_all, range_with_len, sum_by}
 use Rattle.basket_core.specs.Codes.{Coding, IsCoding}
 use Rattle.basket_sets.specs.declared.weighted.Weighted.{Weighted}
 use Rattle.basket_sets.specs.declared.minimum.Minimum.{Minimum}
+use Rattle.basket_sets.specs.declared.minimum.Minimum.TheVariants.{Count}
 use Rattle.basket_sets.specs.Frequent.{frequent_of, is_frequent}
 use Rattle.basket_sets.specs.Itemset.{contains}
 use Rattle.mine_classes.specs.Classes.{class_of}
@@ -36,6 +37,19 @@ upper_parts (first ∷ second ∷ others) = (second ∷ others) ∷ upper_parts 
 -- whether a tree is made for a frequent set: no upper part has a single branch, from which the set would be read off
 abbrev pub has_tree : List Weighted → Minimum → List ℕ → Bool
 has_tree baskets minimum set = list_all (λ part. not (is_straight baskets minimum part)) (upper_parts set)
+
+-- how many trees are made for the class of a rank, by a least support
+abbrev pub rank_trees : List Weighted → ℕ → ℕ → ℕ
+rank_trees baskets least rank = length (filter (λ c. has_tree baskets (Count least) c.set) (class_of baskets (Count least) rank))
+
+-- whether each basket that has a rank has the lower ones too: the prefix tree of such baskets is a single branch
+abbrev pub is_branch : List Weighted → Bool
+is_branch baskets = list_all (λ place. list_all (λ rank. contains place.basket (range_with_len 0 rank)) place.basket) baskets
+
+-- how many trees are made below that of the baskets: none where it is a single branch
+abbrev pub inner_trees : List Weighted → ℕ → ℕ
+inner_trees baskets least =
+    if is_branch baskets then 0 else length (filter (λ c. has_tree baskets (Count least) c.set) (frequent_of baskets (Count least)))
 
 -- how many trees are made for a class of coded baskets
 abbrev pub class_trees : Coding → ℕ → ℕ

@@ -2,6 +2,7 @@
 ghost use Rattle.std.specs.Prelude.{◌≡◌, ◌≤◌, ◌<◌, ◌+◌, ◌⊎◌, [], ℕ, Err, IfOk, IsTrue, false, length};
 ghost use Rattle.basket_core.specs.declared.fault.MineFault.TheVariants.{TooMany};
 ghost use Rattle.mine_classes.specs.Mined.{ListsClassItems, RanksAreFrequent, class_size};
+ghost use Rattle.mine_fp.specs.Trees.{class_trees};
 
 use crate::level::{Found, Level, Tables};
 use basket_core::{Coded, Counted, Itemset, MineFault, Tally};
@@ -72,7 +73,7 @@ pub fn fp_class<T: Tally>(
     requires rank { rank < length forest.now.items }
     requires going { T.is_over tally.old ≡ false }
     ensures listed { IfOk result (λ mined. ListsClassItems forest.now rank mined.0.items) }
-    ensures trees { IfOk result (λ mined. mined.1 ≤ length mined.0.items) }
+    ensures trees { IfOk result (λ mined. mined.1 ≡ class_trees forest.now rank) }
     ensures told { IfOk result (λ mined. T.told_of tally.new ≡ T.told_of tally.old + length mined.0.items) }
     ensures going_on { IfOk result (λ mined. T.is_over tally.new ≡ false) }
     ensures too_many { (limit : ℕ) → result ≡ Err (TooMany limit) → (limit ≡ T.limit_of tally.old)
@@ -83,8 +84,10 @@ pub fn fp_class<T: Tally>(
     classes_are_listed();
     deep_classes_are_large();
     lists_have_class_size();
-    // Nothing is read here: the call brings its contract, which says that the limit fits a word.
+    // Nothing is read here: the calls bring their contracts, which say that the limit fits a word, and
+    // that the baskets are a coding's.
     let _limit = tally.limit();
+    let _baskets = forest.coded.baskets();
     let mut tables = Tables::new(alloc, forest.level.runs.ranks())?;
     let mut found = Found {
         sets: Vec::new(alloc),

@@ -11,11 +11,12 @@ ghost use Rattle.basket_sets.specs.Support.{support_of};
 ghost use Rattle.mine_classes.specs.declared.span.Span.{Span as Run};
 ghost use Rattle.mine_classes.specs.Classes.{class_of};
 ghost use Rattle.mine_fp.specs.Level.{IsBelow, IsLevel, ListsClassAsItems, ListsAllAsItems, missing};
+ghost use Rattle.mine_fp.specs.Trees.{inner_trees, rank_trees};
 
 use basket_core::{Counted, Itemset, MineFault, Tally};
 use mine_classes::laws::{
-    classes_are_all, classes_are_listed, classes_by_codings, lists_have_class_size,
-    rare_ranks_have_no_class,
+    classes_are_all, classes_are_listed, classes_by_codings, conditional_supports,
+    lists_have_class_size, rare_ranks_have_no_class,
 };
 use mine_classes::{Conditional, Places, Runs, Span, Sums};
 use std::alloc::{AllocError, Global};
@@ -76,10 +77,11 @@ impl Level {
         requires rank { rank < self.now.runs.ranks }
         requires sums { tables.old.sums ≡ self.now.runs.ranks }
         requires places { tables.old.places ≡ self.now.runs.ranks }
-        requires trees { found.old.trees ≤ vec_len found.old.sets }
+        requires few { found.old.trees ≤ vec_len found.old.sets }
         requires going { T.is_over tally.old ≡ false }
         ensures listed { OnOk result (ListsClassAsItems self.now rank found.old.sets.items found.new.sets.items) }
-        ensures trees { OnOk result (found.new.trees ≤ vec_len found.new.sets) }
+        ensures trees { OnOk result (found.new.trees ≡ found.old.trees + rank_trees self.now.runs.baskets self.now.least rank) }
+        ensures few { OnOk result (found.new.trees ≤ vec_len found.new.sets) }
         ensures sums { OnOk result (tables.new.sums ≡ self.now.runs.ranks) }
         ensures places { OnOk result (tables.new.places ≡ self.now.runs.ranks) }
         ensures told { OnOk result (T.told_of tally.new + vec_len found.old.sets ≡ T.told_of tally.old + vec_len found.new.sets) }
@@ -92,6 +94,7 @@ impl Level {
         classes_are_listed();
         classes_by_codings();
         lists_have_class_size();
+        conditional_supports();
         rare_ranks_have_no_class();
         let support = self.support(rank);
         if support < self.least {
@@ -104,8 +107,7 @@ impl Level {
                 limit: tally.limit(),
             });
         }
-        let inner = self.below(alloc, rank, tables, items)?;
-        found.trees += 1;
+        let inner = self.below(alloc, rank, tables, items, &mut found.trees)?;
         inner.classes(alloc, found, tally)
     }
 
@@ -118,10 +120,11 @@ impl Level {
         tally: &mut T,
     ) -> Result<(), MineFault>
         requires level { IsLevel self.now }
-        requires trees { found.old.trees ≤ vec_len found.old.sets }
+        requires few { found.old.trees ≤ vec_len found.old.sets }
         requires going { T.is_over tally.old ≡ false }
         ensures listed { OnOk result (ListsAllAsItems self.now found.old.sets.items found.new.sets.items) }
-        ensures trees { OnOk result (found.new.trees ≤ vec_len found.new.sets) }
+        ensures trees { OnOk result (found.new.trees ≡ found.old.trees + inner_trees self.now.runs.baskets self.now.least) }
+        ensures few { OnOk result (found.new.trees ≤ vec_len found.new.sets) }
         ensures told { OnOk result (T.told_of tally.new + vec_len found.old.sets ≡ T.told_of tally.old + vec_len found.new.sets) }
         ensures going_on { OnOk result (T.is_over tally.new ≡ false) }
         ensures too_many { (limit : ℕ) → result ≡ Err (TooMany limit) → (limit ≡ T.limit_of tally.old)
@@ -131,6 +134,9 @@ impl Level {
     {
         classes_are_all();
         classes_are_listed();
+        if self.is_branch() {
+            return self.read_off(alloc, found, tally);
+        }
         let mut tables = Tables::new(alloc, self.runs.ranks())?;
         for rank in 0..self.runs.ranks() {
             self.class(alloc, rank, &mut tables, found, tally)?;
@@ -139,7 +145,7 @@ impl Level {
     }
 
     /// The support of a rank.
-    fn support(&self, rank: u32) -> u64
+    pub fn support(&self, rank: u32) -> u64
         requires { rank < self.now.runs.ranks }
         ensures { result ≡ support_of self.now.runs.baskets (rank ∷ []) }
     {
@@ -148,7 +154,7 @@ impl Level {
     }
 
     /// The item of a rank, and those that each set gets.
-    fn items_with(&self, alloc: Global, rank: u32) -> Result<Vec<u32>, AllocError>
+    pub fn items_with(&self, alloc: Global, rank: u32) -> Result<Vec<u32>, AllocError>
         requires { rank < vec_len self.now.names }
         ensures { IfOk result (λ items. items.items ≡ slice_index self.now.names.items rank ∷ self.now.suffix.items) }
     {
@@ -158,21 +164,24 @@ impl Level {
         Ok(items)
     }
 
-    /// The conditional database of a rank, each set in which gets the items.
+    /// The conditional database of a rank, each set in which gets the items: one more tree.
     fn below(
         &self,
         alloc: Global,
         rank: u32,
         tables: &mut Tables,
         items: Vec<u32>,
+        trees: &mut u64,
     ) -> Result<Level, AllocError>
         requires rank { rank < self.now.runs.ranks }
         requires named { vec_len self.now.names ≡ self.now.runs.ranks }
         requires sums { tables.old.sums ≡ self.now.runs.ranks }
         requires places { tables.old.places ≡ self.now.runs.ranks }
+        requires few { trees.old < 18446744073709551615 }
         ensures below { IfOk result (λ inner. IsBelow self.now rank items.items inner) }
         ensures sums { tables.new.sums ≡ tables.old.sums }
         ensures places { tables.new.places ≡ tables.old.places }
+        ensures trees { OnOk result (trees.new ≡ trees.old + 1) }
     {
         let pairs = self.runs.pairs(alloc, &mut tables.sums, rank, self.least)?;
         let conditional = Conditional::of(
@@ -184,8 +193,10 @@ impl Level {
             &pairs,
         )?;
         let names = named(alloc, &self.names, conditional.ranks())?;
+        let runs = Runs::of(alloc, conditional.into_baskets())?;
+        *trees += 1;
         Ok(Level {
-            runs: Runs::of(alloc, conditional.into_baskets())?,
+            runs,
             names,
             suffix: items,
             least: self.least,
@@ -218,7 +229,7 @@ fn named(alloc: Global, names: &[u32], ranks: &[u32]) -> Result<Vec<u32>, AllocE
 }
 
 /// Tells a frequent set of items to the tally, and adds it to those found.
-fn tell<T: Tally>(
+pub fn tell<T: Tally>(
     alloc: Global,
     items: &[u32],
     count: u64,

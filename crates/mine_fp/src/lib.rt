@@ -2,6 +2,7 @@
 //! databases.
 #![tactic(auto)]
 
+mod branch;
 mod forest;
 pub mod laws;
 mod level;

@@ -1,13 +1,13 @@
 use Rattle.std.proofs.Common.{◌≡◌, ◌+◌, ◌++◌, length, map, ap, ◌∙◌, subst, inl, inr, arith, Err}
 use Rattle.std.proofs.lemmas.Result.{err_from_is_err_and}
-use Rattle.basket_core.specs.Codes.{Coding}
+use Rattle.basket_core.specs.Codes.{Coding, IsCoding}
 use Rattle.basket_core.specs.declared.fault.MineFault.TheVariants.{TooMany}
 use Rattle.basket_core.specs.Depth.{HasSetOfSize}
 use Rattle.basket_sets.specs.declared.minimum.Minimum.TheVariants.{Count}
 use Rattle.mine_classes.specs.Classes.{class_of}
 use Rattle.mine_fp.specs.Forest.{AreInForest}
 use Rattle.mine_fp.specs.Level.{as_items, missing}
-use Rattle.mine_fp.proofs.ForestLemmas.{class_deep, class_settled, class_sizes, decoded_items}
+use Rattle.mine_fp.proofs.ForestLemmas.{class_deep, class_settled, class_sizes, decoded_items, trees_settled}
 use Rattle.mine_fp.proofs.forest.fp_class.Goals as goal
 
 pub returns-in_err-class-clause-too_many : goal.returns-in_err-class-clause-too_many
@@ -55,3 +55,10 @@ returns-clause-at_most g c =
     let size = class_sizes c.args.forest.now level.least level.runs are c.classes_are_listed.ensures c.lists_have_class_size.ensures c.args.rank in
     let most = c.in_ok-class.ensures.at_most in
     omega arith
+
+pub returns-clause-trees : goal.returns-clause-trees
+returns-clause-trees g c =
+    let level = c.forest.inside.level in
+    let are = subst (λ (v : Coding). AreInForest v level.least level.runs) c.forest.view_is c.forest.invariant.0 in
+    let is = subst IsCoding c.forest.view_is c.baskets-baskets.ensures.coding in
+    omega (arith, c.in_ok-class.ensures.trees, trees_settled c.args.forest.now level.least level.runs are is c.classes_are_listed.ensures c.args.rank)

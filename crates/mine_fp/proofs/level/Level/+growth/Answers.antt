@@ -1,15 +1,18 @@
-use Rattle.std.proofs.Common.{◌≡◌, ◌+◌, ◌≤◌, ◌++◌, ◌∷◌, [], List, length, map, refl, sym, ap, ◌∙◌, subst, inl, inr, arith, Err}
-use Rattle.std.specs.List.{flat_map}
+use Rattle.std.proofs.Common.{◌≡◌, ◌+◌, ◌≤◌, ◌++◌, ◌∷◌, [], List, cond, filter, length, map, refl, sym, ap, ◌∙◌, subst, inl, inr, arith, Err}
+use Rattle.std.specs.List.{flat_map, range_with_len, sum_by}
 use Rattle.std.proofs.lemmas.List.{append-nil, length-append, length-map}
 use Rattle.std.proofs.lemmas.Result.{err_from_is_err_and, on_ok_weaker}
 use Rattle.basket_core.specs.Depth.{HasSetOfSize}
 use Rattle.basket_sets.specs.declared.counted.Counted.{Counted}
 use Rattle.basket_sets.specs.declared.minimum.Minimum.TheVariants.{Count}
+use Rattle.basket_sets.specs.Frequent.{frequent_of}
 use Rattle.basket_sets.specs.Itemset.{rising}
 use Rattle.basket_sets.proofs.theory.Frequent.{once_is_as_long}
 use Rattle.mine_classes.specs.Classes.{ListsClass, class_of}
 use Rattle.mine_fp.specs.Level.{IsBelow, as_items, missing}
+use Rattle.mine_fp.specs.Trees.{has_tree, inner_trees, rank_trees}
 use Rattle.mine_fp.proofs.ClassLemmas.{alone_is_one, all_once, class_grown, class_long, class_some, classes_fit, deeper, frequent_of_size, inner_has_fewer, inner_is_level, met_by, more_all, more_classes, rare_by}
+use Rattle.mine_fp.proofs.TreesLemmas.{class_trees_are, more_trees, rare_trees, trees_of_ranks}
 use Rattle.mine_fp.proofs.level.Level.+growth.Goals as goal
 
 pub class-returns-then-support-self-clause-listed :
@@ -22,6 +25,15 @@ class-returns-then-support-self-clause-listed g t c =
           (rare_by level.runs.baskets level.least c.args.rank c.support-support.result c.support-support.ensures c.if-support-self.true);
       added = sym (append-nil c.args.found.now.sets.items);
     }
+
+pub class-returns-then-support-self-clause-trees :
+    goal.class-returns-then-support-self-clause-trees
+class-returns-then-support-self-clause-trees g t c =
+    let level = c.args.self.now in
+    let rare = c.rare_ranks_have_no_class.ensures level.runs.baskets (Count level.least) c.args.rank
+    (rare_by level.runs.baskets level.least c.args.rank c.support-support.result c.support-support.ensures c.if-support-self.true) in
+    let none = rare_trees level.runs.baskets level.least c.args.rank c.classes_are_listed.ensures rare in
+    omega arith
 
 pub class-returns-in_err-tell-clause-at_most : goal.class-returns-in_err-tell-clause-at_most
 class-returns-in_err-tell-clause-at_most g t c =
@@ -70,7 +82,7 @@ class-classes-requires g t c κs within =
         (
           inner_is_level level c.args.rank c.in_ok-items.items.items c.in_ok-inner.inner c.requires.level below short,
           (
-            omega (arith, c.requires.trees, c.in_ok-tell.ensures.trees, ap length c.in_ok-tell.ensures.added, length-append c.args.found.now.sets.items (told ∷ []), c.tell.new.found.sets.ok.0, c.args.found.now.sets.ok.0),
+            omega (arith, c.requires.few, c.in_ok-tell.ensures.trees, c.in_ok-inner.ensures.trees, ap length c.in_ok-tell.ensures.added, length-append c.args.found.now.sets.items (told ∷ []), c.tell.new.found.sets.ok.0, c.args.found.now.sets.ok.0),
             c.in_ok-tell.ensures.going_on,
           ),
         ),
@@ -87,6 +99,15 @@ class-returns-clause-listed g t c =
     (class_grown level c.args.rank inner below c.classes_by_codings.ensures met c.args.found.now.sets.items _ c.classes.new.found.sets.items c.deref.result.now c.support-support.result
     (c.deref.ensures.value ∙ c.in_ok-items.ensures) c.support-support.ensures c.in_ok-tell.ensures.added)
     c.classes.ensures.listed
+
+pub class-returns-clause-trees : goal.class-returns-clause-trees
+class-returns-clause-trees g t c =
+    let level = c.args.self.now in
+    let inner = c.in_ok-inner.inner in
+    let met = met_by level.runs.baskets level.least c.args.rank c.support-support.result c.support-support.ensures c.requires.level.some c.if-support-self.false in
+    let below = subst (λ l. IsBelow level c.args.rank l inner) c.in_ok-items.ensures c.in_ok-inner.ensures.below in
+    let all = class_trees_are level c.args.rank inner c.requires.level below c.classes_by_codings.ensures met c.classes_are_listed.ensures c.conditional_supports.ensures in
+    on_ok_weaker c.classes.result (λ made. omega (arith, made, all, c.in_ok-inner.ensures.trees, c.in_ok-tell.ensures.trees)) c.classes.ensures.trees
 
 pub class-returns-clause-too_many : goal.class-returns-clause-too_many
 class-returns-clause-too_many g t c = λ limit e.
@@ -116,10 +137,36 @@ class-returns-clause-at_most g t c =
     let most = c.classes.ensures.at_most in
     omega arith
 
+pub classes-returns-then-is_branch-clause-trees :
+    goal.classes-returns-then-is_branch-clause-trees
+classes-returns-then-is_branch-clause-trees g t c =
+    let level = c.args.self.now in
+    let none : inner_trees level.runs.baskets level.least ≡ 0 =
+    ap (λ b. cond b 0 (length (filter (λ (s : Counted). has_tree level.runs.baskets (Count level.least) s.set) (frequent_of level.runs.baskets (Count level.least))))) (sym c.is_branch.ensures ∙ c.if-is_branch.true) in
+    on_ok_weaker c.read_off.result (λ l. omega (arith, none, c.read_off.ensures.trees)) c.read_off.ensures.listed
+
+pub classes-returns-then-is_branch-clause-few :
+    goal.classes-returns-then-is_branch-clause-few
+classes-returns-then-is_branch-clause-few g t c =
+    let level = c.args.self.now in
+    let named = as_items level.names.items level.suffix.items in
+    on_ok_weaker c.read_off.result
+    (λ l. omega (
+      arith,
+      c.requires.few,
+      c.read_off.ensures.trees,
+      ap length l.added,
+      length-append c.args.found.now.sets.items (map named l.sets),
+      c.read_off.new.found.sets.ok.0,
+      c.args.found.now.sets.ok.0,
+    ))
+    c.read_off.ensures.listed
+
 pub classes-loop-rank-init : goal.classes-loop-rank-init
 classes-loop-rank-init g t c = record {
   listed = ([], refl, λ rank below. absurd (omega arith), sym (append-nil c.args.found.now.sets.items));
-  trees = c.requires.trees;
+  trees = omega arith;
+  few = c.requires.few;
   sums = c.in_ok-tables.ensures.sums ∙ c.ranks.ensures;
   places = c.in_ok-tables.ensures.places ∙ c.ranks.ensures;
   told = refl;
@@ -168,7 +215,8 @@ classes-loop-rank-preserved g t c =
         more_classes level.runs.baskets level.least classes next.sets so_far.listed.2 (subst (λ rank. ListsClass level.runs.baskets (Count level.least) rank next.sets) (sym so_far.listed.1) next.listed),
         more_all level.names.items level.suffix.items c.args.found.now.sets.items c.loop-rank.found.sets.items c.class.new.found.sets.items classes next.sets so_far.listed.3 next.added,
       );
-      trees = now.trees;
+      trees = omega (arith, now.trees, so_far.trees, more_trees level.runs.baskets level.least c.loop-rank.rank);
+      few = now.few;
       sums = now.sums;
       places = now.places;
       told = omega (arith, now.told, so_far.told);
@@ -200,3 +248,14 @@ classes-returns-clause-at_most g t c =
     let size = once_is_as_long level.runs.baskets (Count level.least) all once in
     let long = ap length so_far.listed.3 ∙ length-append c.args.found.now.sets.items (map named all) in
     omega (arith, so_far.told, size, long, length-map all named, c.loop-rank.found.sets.ok.0, c.args.found.now.sets.ok.0)
+
+pub classes-returns-clause-trees : goal.classes-returns-clause-trees
+classes-returns-clause-trees g t c =
+    let level = c.args.self.now in
+    let so_far = c.loop-rank.invariant in
+    let last : c.loop-rank.rank ≡ level.runs.ranks = omega (arith, c.loop-rank-test.false, c.ranks-rank-end.ensures, c.loop-rank.auto.rank-end) in
+    let all = ap (λ n. sum_by (rank_trees level.runs.baskets level.least) (range_with_len 0 n)) last
+    ∙ trees_of_ranks c.classes_are_all.ensures c.classes_are_listed.ensures level.runs c.requires.level.ranked level.least in
+    let own : inner_trees level.runs.baskets level.least ≡ length (filter (λ (s : Counted). has_tree level.runs.baskets (Count level.least) s.set) (frequent_of level.runs.baskets (Count level.least))) =
+    ap (λ b. cond b 0 (length (filter (λ (s : Counted). has_tree level.runs.baskets (Count level.least) s.set) (frequent_of level.runs.baskets (Count level.least))))) (sym c.is_branch.ensures ∙ c.if-is_branch.false) in
+    omega (arith, so_far.trees, all, own)

@@ -1,9 +1,10 @@
 use Rattle.std.proofs.Common.{◌≡◌, ◌≤◌, ◌+◌, ◌*◌, ◌++◌, List, false, length, map, vec_len}
-use Rattle.std.specs.List.{flat_map}
+use Rattle.std.specs.List.{flat_map, range_with_len, sum_by}
 use Rattle.basket_sets.specs.declared.counted.Counted.{Counted}
 use Rattle.basket_sets.specs.declared.minimum.Minimum.TheVariants.{Count}
 use Rattle.mine_classes.specs.Classes.{ListClasses}
 use Rattle.mine_fp.specs.Level.{as_items}
+use Rattle.mine_fp.specs.Trees.{rank_trees}
 use Rattle.mine_fp.proofs.level.Level.+growth.Given as goal
 
 abbrev pub decreases-class : goal.decreases-class
@@ -16,7 +17,8 @@ abbrev pub invariant-classes-loop-rank : goal.invariant-classes-loop-rank
 invariant-classes-loop-rank g l = record {
   listed : (classes : List (List Counted)) × (length classes ≡ l.rank) × ListClasses l.self.runs.baskets (Count l.self.least) classes
       × (l.found.sets.items ≡ l.fn.found.sets.items ++ map (as_items l.self.names.items l.self.suffix.items) (flat_map (λ class. class) classes));
-  trees : l.found.trees ≤ vec_len l.found.sets;
+  trees : l.found.trees ≡ l.fn.found.trees + sum_by (rank_trees l.self.runs.baskets l.self.least) (range_with_len 0 l.rank);
+  few : l.found.trees ≤ vec_len l.found.sets;
   sums : l.tables.sums ≡ l.self.runs.ranks;
   places : l.tables.places ≡ l.self.runs.ranks;
   told : g.T.Tally.told_of l.tally + vec_len l.fn.found.sets ≡ g.T.Tally.told_of l.fn.tally + vec_len l.found.sets;

@@ -18,7 +18,7 @@ returns-clause-below c =
     let level = c.args.self.now in
     let made = c.in_ok-conditional in
     let kept = made.ensures.ranks in
-    let baskets = c.in_ok-of.ensures in
+    let baskets = c.in_ok-runs.ensures in
     let others = ap (λ v. v.baskets) baskets ∙ c.into_baskets.ensures.baskets in
     record {
       ranks = ap (λ v. v.ranks) baskets ∙ c.into_baskets.ensures.ranks ∙ ap length kept;

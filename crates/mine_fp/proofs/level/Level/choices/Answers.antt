@@ -1,0 +1,112 @@
+use Rattle.std.proofs.Common.{◌≡◌, ◌<◌, ◌+◌, ◌-◌, ◌++◌, ◌∷◌, [], List, get_or, length, map, take, sym, ap, ◌∙◌, subst, arith}
+use Rattle.std.specs.List.{flat_map}
+use Rattle.std.proofs.Math.Seq.{take-length}
+use Rattle.std.proofs.lemmas.List.{append-nil, get_or_default, length-append, length-map}
+use Rattle.basket_sets.specs.declared.counted.Counted.{Counted}
+use Rattle.basket_sets.specs.declared.minimum.Minimum.TheVariants.{Count}
+use Rattle.basket_sets.specs.Itemset.{rising}
+use Rattle.mine_classes.specs.Classes.{ListsClass}
+use Rattle.mine_fp.specs.Level.{as_items}
+use Rattle.mine_fp.proofs.ChoiceLemmas.{choices_are_class, choices_long, chosen, chosen_more}
+use Rattle.mine_fp.proofs.ClassLemmas.{met_by, rare_by}
+use Rattle.mine_fp.proofs.level.Level.choices.Goals as goal
+
+pub returns-then-support-self-clause-listed : goal.returns-then-support-self-clause-listed
+returns-then-support-self-clause-listed g c =
+    let level = c.args.self.now in
+    record {
+      sets = [];
+      listed = c.rare_ranks_have_no_class.ensures level.runs.baskets (Count level.least) c.args.rank
+          (rare_by level.runs.baskets level.least c.args.rank c.support-support.result c.support-support.ensures c.if-support-self.true);
+      added = sym (append-nil c.args.found.now.sets.items);
+    }
+
+pub returns-in_err-tell-clause-at_most : goal.returns-in_err-tell-clause-at_most
+returns-in_err-tell-clause-at_most g c =
+    let level = c.args.self.now in
+    let met = met_by level.runs.baskets level.least c.args.rank c.support-support.result c.support-support.ensures c.requires.level.some c.if-support-self.false in
+    let lower = c.requires.lower in
+    let sets = flat_map (λ (class : List Counted). class) lower.classes in
+    let size = choices_long level.runs.baskets level.least c.args.rank c.requires.branch met c.conditional_supports.ensures c.classes_are_all.ensures c.classes_are_conditional.ensures lower.classes lower.ranks lower.listed c.lists_have_class_size.ensures in
+    let most = c.in_err-tell.ensures.at_most in
+    omega arith
+
+pub returns-in_err-put-clause-at_most : goal.returns-in_err-put-clause-at_most
+returns-in_err-put-clause-at_most g c =
+    let level = c.args.self.now in
+    let met = met_by level.runs.baskets level.least c.args.rank c.support-support.result c.support-support.ensures c.requires.level.some c.if-support-self.false in
+    let lower = c.requires.lower in
+    let sets = flat_map (λ (class : List Counted). class) lower.classes in
+    let size = choices_long level.runs.baskets level.least c.args.rank c.requires.branch met c.conditional_supports.ensures c.classes_are_all.ensures c.classes_are_conditional.ensures lower.classes lower.ranks lower.listed c.lists_have_class_size.ensures in
+    let named = as_items level.names.items level.suffix.items in
+    let long = ap length lower.are ∙ length-append lower.before (map named sets) in
+    omega (arith, c.loop-at.invariant.told, size, long, lower.long, length-map sets named, c.loop-at-test.true, c.len-end.ensures, c.loop-at.auto.at, c.args.found.now.sets.ok.0)
+
+pub returns-in_err-tell-2-clause-at_most : goal.returns-in_err-tell-2-clause-at_most
+returns-in_err-tell-2-clause-at_most g c =
+    let level = c.args.self.now in
+    let met = met_by level.runs.baskets level.least c.args.rank c.support-support.result c.support-support.ensures c.requires.level.some c.if-support-self.false in
+    let lower = c.requires.lower in
+    let sets = flat_map (λ (class : List Counted). class) lower.classes in
+    let size = choices_long level.runs.baskets level.least c.args.rank c.requires.branch met c.conditional_supports.ensures c.classes_are_all.ensures c.classes_are_conditional.ensures lower.classes lower.ranks lower.listed c.lists_have_class_size.ensures in
+    let named = as_items level.names.items level.suffix.items in
+    let long = ap length lower.are ∙ length-append lower.before (map named sets) in
+    let most = c.in_err-tell-2.ensures.at_most in
+    omega (arith, most, c.loop-at.invariant.told, size, long, lower.long, length-map sets named, c.loop-at-test.true, c.len-end.ensures, c.loop-at.auto.at, c.args.found.now.sets.ok.0)
+
+pub loop-at-preserved : goal.loop-at-preserved
+loop-at-preserved g c =
+    let level = c.args.self.now in
+    let so_far = c.loop-at.invariant in
+    let now = c.in_ok-tell-2.ensures in
+    let at = c.loop-at.at in
+    let item = c.index-in-loop-at.result.now in
+    let named = as_items level.names.items level.suffix.items in
+    let put = c.deref-in-loop-at.ensures.value ∙ c.in_ok-put.ensures ∙ ap (λ l. l ++ item ∷ []) (c.items.ensures.items ∙ ap (λ (x : Counted). x.set) c.index.ensures) in
+    let name : item ≡ get_or level.names.items c.args.rank 0 =
+    c.index-in-loop-at.ensures ∙ get_or_default level.names.items c.args.rank item 0 (omega (arith, c.requires.rank, c.requires.level.names)) in
+    record {
+      sets = λ classes before long are.
+          let sets = flat_map (λ (class : List Counted). class) classes in
+          let whole = ap length are ∙ length-append before (map named sets) in
+          let here : at - c.args.start < length sets =
+          omega (arith, whole, long, length-map sets named, c.loop-at-test.true, c.len-end.ensures, c.loop-at.auto.at, c.args.found.now.sets.ok.0) in
+          chosen_more level.names.items level.suffix.items c.args.rank c.support-support.result item at (at - c.args.start) c.index.result.now before c.args.found.now.sets.items
+          c.loop-at.found.sets.items c.tell-in-loop-at.new.found.sets.items sets here (omega (arith, long, c.loop-at.auto.at)) are name (so_far.sets classes before long are)
+          (now.added ∙ (λ i. c.loop-at.found.sets.items ++ record { set = rising (put i); count = c.support-support.result } ∷ []))
+          ∙ (let next : at - c.args.start + 1 ≡ at + 1 - c.args.start = omega (arith, c.loop-at.auto.at) in
+          ap (λ n. c.args.found.now.sets.items ++ map named (chosen c.args.rank c.support-support.result (take n sets))) next);
+      trees = now.trees ∙ so_far.trees;
+      told = omega (arith, now.told, so_far.told, c.loop-at.auto.at);
+      going_on = now.going_on;
+      limit = now.limit ∙ so_far.limit;
+    }
+
+pub returns-clause-listed : goal.returns-clause-listed
+returns-clause-listed g c =
+    let level = c.args.self.now in
+    let met = met_by level.runs.baskets level.least c.args.rank c.support-support.result c.support-support.ensures c.requires.level.some c.if-support-self.false in
+    let lower = c.requires.lower in
+    let sets = flat_map (λ (class : List Counted). class) lower.classes in
+    let class = choices_are_class level.runs.baskets level.least c.args.rank c.requires.branch met c.conditional_supports.ensures c.classes_are_all.ensures c.classes_are_conditional.ensures lower.classes lower.ranks lower.listed in
+    let named = as_items level.names.items level.suffix.items in
+    let long = ap length lower.are ∙ length-append lower.before (map named sets) in
+    let whole : c.loop-at.at - c.args.start ≡ length sets =
+    omega (arith, long, lower.long, length-map sets named, c.loop-at-test.false, c.len-end.ensures, c.loop-at.auto.at, c.loop-at.auto.at-end, c.args.found.now.sets.ok.0) in
+    record {
+      sets = chosen c.args.rank c.support-support.result sets;
+      listed = subst (λ n. ListsClass level.runs.baskets (Count level.least) c.args.rank (chosen c.args.rank n sets)) (sym c.support-support.ensures) class;
+      added = c.loop-at.invariant.sets lower.classes lower.before lower.long lower.are
+          ∙ ap (λ l. c.args.found.now.sets.items ++ map named (chosen c.args.rank c.support-support.result l)) (ap (λ n. take n sets) whole ∙ take-length sets);
+    }
+
+pub returns-clause-at_most : goal.returns-clause-at_most
+returns-clause-at_most g c =
+    let level = c.args.self.now in
+    let met = met_by level.runs.baskets level.least c.args.rank c.support-support.result c.support-support.ensures c.requires.level.some c.if-support-self.false in
+    let lower = c.requires.lower in
+    let sets = flat_map (λ (class : List Counted). class) lower.classes in
+    let size = choices_long level.runs.baskets level.least c.args.rank c.requires.branch met c.conditional_supports.ensures c.classes_are_all.ensures c.classes_are_conditional.ensures lower.classes lower.ranks lower.listed c.lists_have_class_size.ensures in
+    let named = as_items level.names.items level.suffix.items in
+    let long = ap length lower.are ∙ length-append lower.before (map named sets) in
+    omega (arith, c.loop-at.invariant.told, size, long, lower.long, length-map sets named, c.loop-at-test.false, c.len-end.ensures, c.loop-at.auto.at, c.loop-at.auto.at-end, c.args.found.now.sets.ok.0)
