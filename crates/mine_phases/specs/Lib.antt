@@ -2,3 +2,5 @@ pub mod Share
 pub mod Placed
 pub mod Counting
 pub mod Level
+pub mod Found
+pub mod Classes

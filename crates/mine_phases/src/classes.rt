@@ -1,0 +1,197 @@
+//! The phase that mines class by class, with one limit over all workers.
+ghost use Rattle.std.specs.Prelude.{◌≡◌, ◌≤◌, ◌<◌, ◌+◌, ◌⊎◌, ℕ, Err, IfOk, IsTrue, false, length, nat_lt, slice_index};
+ghost use Rattle.std.specs.List.{flat_map};
+ghost use Rattle.basket_core.specs.declared.fault.MineFault.TheVariants.{TooMany};
+ghost use Rattle.basket_core.specs.Codes.{frequent_of_coding};
+ghost use Rattle.basket_core.specs.Listing.{listing_of};
+ghost use Rattle.mine_round.specs.Record.{unused};
+ghost use Rattle.mine_phases.specs.Classes.{AreMined, HasLargeClass, IsClassShare, IsWorkOfAll, piece_size, ranks_of};
+ghost use Rattle.mine_phases.specs.Found.{CountsSets, still};
+
+use crate::class_miner::ClassMiner;
+use crate::found::{Found, Start};
+use crate::gate::Gate;
+use crate::joined::{Class, joined};
+use crate::placed::collected;
+use crate::share::{Share, claim_piece, numbered, parted};
+use basket_core::{Coded, Frequent, MineFault, Tally, shard};
+use mine_classes::laws::{class_items_are_all, class_sizes_add_up, lists_have_class_size};
+use mine_round::{Collector, Round, RoundSeat};
+use std::alloc::Global;
+use std::marker::Brand;
+use std::thread;
+use std::thread::Threads;
+
+/// The phase as its workers see it.
+#[derive(Drop)]
+struct Classes<'a, M, G> {
+    round: &'a Round,
+    pieces: u32,
+    ranks: u32,
+    miner: &'a M,
+    limit: u32,
+    phase: u32,
+    gate: &'a G,
+}
+
+impl<M: ClassMiner, G: Gate> Classes<'_, M, G> {
+    /// What a worker does: it mines the classes of each piece that it claims, until none is left, or
+    /// it sees more sets than the limit, or it finds no memory.
+    fn share(&self, alloc: Global, worker: u32, seat: RoundSeat) -> Share<Vec<(u32, Vec<Class>)>>
+        requires own { seat.round ≡ self.now.round.now.id }
+        requires unused { seat.held ≡ unused 1 1 }
+        requires pieces { (1 ≤ self.now.pieces) × (self.now.round.now.pieces ≡ self.now.pieces) }
+        requires counter { self.now.round.now.counters ≡ 1 }
+        requires ranks { self.now.ranks ≡ length (M.coding_of self.now.miner.now).items }
+        ensures { IsClassShare self.now.round.now (M.coding_of self.now.miner.now) (M.is_work self.now.miner.now) self.now.limit self.now.pieces result }
+    {
+        let mut seat = seat;
+        let mut values = Vec::new(alloc);
+        while !self.is_over(&mut seat) {
+            let Some(piece) =
+                claim_piece(self.round, &mut seat, self.gate, self.phase, worker)
+            else {
+                return Share {
+                    seat,
+                    values: Ok(values),
+                };
+            };
+            let (back, mined) = self.piece::<Brand>(alloc, piece, seat);
+            seat = back;
+            let kept = match mined {
+                Ok(classes) => values.push((piece, classes)).map_err(|_| MineFault::Memory),
+                Err(fault) => Err(fault),
+            };
+            if let Err(fault) = kept {
+                return Share {
+                    seat,
+                    values: Err(fault),
+                };
+            }
+        }
+        Share {
+            seat,
+            values: Err(MineFault::TooMany { limit: self.limit }),
+        }
+    }
+
+    /// Whether the workers have found more sets than the limit.
+    fn is_over(&self, seat: &mut RoundSeat) -> bool
+        requires counts { CountsSets self.now.round.now seat.old }
+        ensures counts { CountsSets self.now.round.now seat.new }
+        ensures same { still seat.new ≡ still seat.old }
+        ensures added { seat.new.held.added ≡ seat.old.held.added }
+        ensures over { result ≡ nat_lt self.now.limit (slice_index seat.new.held.seen 0) }
+    {
+        self.round.read(seat, 0) > u64::from(self.limit)
+    }
+
+    /// The classes of a piece, told by a seat.
+    fn piece<S: Start>(
+        &self,
+        alloc: Global,
+        piece: u32,
+        seat: RoundSeat,
+    ) -> (RoundSeat, Result<Vec<Class>, MineFault>)
+        requires start { seat ≡ S.start }
+        requires counts { CountsSets self.now.round.now seat }
+        requires few { slice_index seat.held.seen 0 ≤ self.now.limit }
+        requires piece { piece < self.now.pieces }
+        requires ranks { self.now.ranks ≡ length (M.coding_of self.now.miner.now).items }
+        ensures counts { CountsSets self.now.round.now result.0 }
+        ensures same { still result.0 ≡ still seat }
+        ensures mined { IfOk result.1 (λ classes. AreMined (M.coding_of self.now.miner.now) (M.is_work self.now.miner.now) (ranks_of (M.coding_of self.now.miner.now) self.now.pieces piece) classes.items) }
+        ensures told { IfOk result.1 (λ _. slice_index result.0.held.added 0 ≡ slice_index seat.held.added 0 + piece_size (M.coding_of self.now.miner.now) self.now.pieces piece) }
+        ensures few { IfOk result.1 (λ _. slice_index result.0.held.seen 0 ≤ self.now.limit) }
+        ensures at_most { slice_index result.0.held.added 0 ≤ slice_index seat.held.added 0 + piece_size (M.coding_of self.now.miner.now) self.now.pieces piece }
+        ensures too_many { (most : ℕ) → result.1 ≡ Err (TooMany most)
+            → (most ≡ self.now.limit) × ((self.now.limit < slice_index result.0.held.seen 0) ⊎ HasLargeClass (M.coding_of self.now.miner.now) self.now.limit) }
+    {
+        let mut tally = Found::<S>::new(self.round, seat, self.limit);
+        let classes = self.classes(alloc, piece, &mut tally);
+        (tally.into_seat(), classes)
+    }
+
+    /// The classes of a piece, told to a tally.
+    fn classes<T: Tally>(
+        &self,
+        alloc: Global,
+        piece: u32,
+        tally: &mut T,
+    ) -> Result<Vec<Class>, MineFault>
+        requires going { T.is_over tally.old ≡ false }
+        requires piece { piece < self.now.pieces }
+        requires ranks { self.now.ranks ≡ length (M.coding_of self.now.miner.now).items }
+        ensures mined { IfOk result (λ classes. AreMined (M.coding_of self.now.miner.now) (M.is_work self.now.miner.now) (ranks_of (M.coding_of self.now.miner.now) self.now.pieces piece) classes.items) }
+        ensures told { IfOk result (λ _. T.told_of tally.new ≡ T.told_of tally.old + piece_size (M.coding_of self.now.miner.now) self.now.pieces piece) }
+        ensures going_on { IfOk result (λ _. T.is_over tally.new ≡ false) }
+        ensures too_many { (most : ℕ) → result ≡ Err (TooMany most)
+            → (most ≡ T.limit_of tally.old) × (IsTrue (T.is_over tally.new) ⊎ HasLargeClass (M.coding_of self.now.miner.now) most) }
+        ensures at_most { T.told_of tally.new ≤ T.told_of tally.old + piece_size (M.coding_of self.now.miner.now) self.now.pieces piece }
+        ensures limit { T.limit_of tally.new ≡ T.limit_of tally.old }
+    {
+        lists_have_class_size();
+        let (start, end) = shard(piece, self.pieces, self.ranks as usize);
+        let mut classes = Vec::with_capacity(alloc, end - start)?;
+        for rank in start..end {
+            let class = self.miner.class(alloc, rank as u32, tally)?;
+            classes.push_reserved(class);
+        }
+        Ok(classes)
+    }
+}
+
+/// The list of the frequent sets, mined class by class by so many workers over so many pieces of the
+/// ranks, where it is no longer than the limit, and how much work that took. The workers share one
+/// count of the sets that they find, and each stops where it sees more than the limit.
+pub fn mine_shared<'a, R: Threads + Sync, G: Gate + Sync, M: ClassMiner + Sync>(
+    rt: &R,
+    alloc: Global,
+    coded: &Coded,
+    miner: &'a M,
+    limit: u32,
+    phase: u32,
+    workers: u32,
+    pieces: u32,
+    gate: &'a G,
+) -> Result<(Frequent, u64), MineFault>
+    requires coding { M.coding_of miner.now ≡ coded.now }
+    requires workers { (1 ≤ workers) × (workers ≤ 64) }
+    requires pieces { (1 ≤ pieces) × (pieces ≤ 65536) }
+    ensures list { IfOk result (λ mined. mined.0 ≡ listing_of coded.now) }
+    ensures within { IfOk result (λ mined. length mined.0.sets ≤ limit) }
+    ensures work { IfOk result (λ mined. IsWorkOfAll (M.is_work miner.now) (length coded.now.items) mined.1) }
+    ensures too_many { (most : ℕ) → result ≡ Err (TooMany most) → (most ≡ limit) × (limit < length (frequent_of_coding coded.now)) }
+{
+    class_items_are_all();
+    class_sizes_add_up();
+    let _baskets = coded.baskets();
+    let (round, seats) = Round::new(alloc, pieces, 1, workers)?;
+    let collector = Collector::new(alloc, pieces)?;
+    let back = Vec::with_capacity(alloc, seats.len())?;
+    let lists = Vec::with_capacity(alloc, seats.len())?;
+    let classes = Classes {
+        round: &round,
+        pieces,
+        ranks: coded.ranks(),
+        miner,
+        limit,
+        phase,
+        gate,
+    };
+    let lent = &classes;
+    let shares = thread::map_vec(
+        rt,
+        numbered(alloc, seats)?,
+        &|job: (u32, RoundSeat)| -> Share<Vec<(u32, Vec<Class>)>>
+            requires { (job.1.round ≡ lent.now.round.now.id) × (job.1.held ≡ unused 1 1) × (1 ≤ lent.now.pieces) × (lent.now.round.now.pieces ≡ lent.now.pieces) × (lent.now.round.now.counters ≡ 1) × (lent.now.ranks ≡ length (M.coding_of lent.now.miner.now).items) }
+            ensures { IsClassShare lent.entry.now.round.now (M.coding_of lent.entry.now.miner.now) (M.is_work lent.entry.now.miner.now) lent.entry.now.limit lent.entry.now.pieces result }
+        { lent.share(alloc, job.0, job.1) },
+    )?;
+    let (seats, values) = parted(shares, back, lists);
+    let Ok(_) = round.close(seats) else {
+        unreachable!()
+    };
+    let (classes, work) = joined(alloc, collected(collector, values?), coded.ranks())?;
+    Ok((Frequent::of_classes(alloc, coded, classes)?, work))
+}
