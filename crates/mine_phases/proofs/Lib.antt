@@ -3,3 +3,5 @@ mod Claims
 mod Parts
 mod Shares
 mod Supports
+mod Mining
+mod Sharing

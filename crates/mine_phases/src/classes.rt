@@ -48,8 +48,7 @@ impl<M: ClassMiner, G: Gate> Classes<'_, M, G> {
         let mut seat = seat;
         let mut values = Vec::new(alloc);
         while !self.is_over(&mut seat) {
-            let Some(piece) =
-                claim_piece(self.round, &mut seat, self.gate, self.phase, worker)
+            let Some(piece) = claim_piece(self.round, &mut seat, self.gate, self.phase, worker)
             else {
                 return Share {
                     seat,
@@ -58,16 +57,19 @@ impl<M: ClassMiner, G: Gate> Classes<'_, M, G> {
             };
             let (back, mined) = self.piece::<Brand>(alloc, piece, seat);
             seat = back;
-            let kept = match mined {
-                Ok(classes) => values.push((piece, classes)).map_err(|_| MineFault::Memory),
-                Err(fault) => Err(fault),
-            };
-            if let Err(fault) = kept {
-                return Share {
+            let classes = match mined {
+                Ok(classes) => classes,
+                Err(fault) => return Share {
                     seat,
                     values: Err(fault),
+                },
+            };
+            let Ok(()) = values.push((piece, classes)) else {
+                return Share {
+                    seat,
+                    values: Err(MineFault::Memory),
                 };
-            }
+            };
         }
         Share {
             seat,
@@ -192,6 +194,7 @@ pub fn mine_shared<'a, R: Threads + Sync, G: Gate + Sync, M: ClassMiner + Sync>(
     let Ok(_) = round.close(seats) else {
         unreachable!()
     };
-    let (classes, work) = joined(alloc, collected(collector, values?), coded.ranks())?;
+    let values = values?;
+    let (classes, work) = joined(alloc, collected(collector, values), coded.ranks())?;
     Ok((Frequent::of_classes(alloc, coded, classes)?, work))
 }

@@ -1,0 +1,23 @@
+use Rattle.std.proofs.Common.{◌≡◌, ◌≤◌, ◌-◌, slice_index}
+use Rattle.std.specs.Prelude.{All}
+use Rattle.std.specs.List.{sum_by}
+use Rattle.mine_phases.specs.Classes.{AreMined, piece_size, ranks_of}
+use Rattle.mine_phases.specs.Found.{CountsSets}
+use Rattle.mine_phases.specs.Share.{pieces_of}
+use Rattle.mine_phases.proofs.Claims.{behind}
+use Rattle.mine_phases.proofs.classes.Classes.share.Given as goal
+
+abbrev pub invariant-loop-alloc : goal.invariant-loop-alloc
+invariant-loop-alloc g l = record {
+  counts : CountsSets l.self.round.now l.seat;
+  within : behind l.seat.held.claimed ≤ l.self.pieces;
+  claimed : pieces_of l.values.items ≡ l.seat.held.claimed;
+  mined : All (λ value. AreMined (g.M.ClassMiner.coding_of l.self.miner.now) (g.M.ClassMiner.is_work l.self.miner.now) (ranks_of (g.M.ClassMiner.coding_of l.self.miner.now) l.self.pieces value.0) value.1.items) l.values.items;
+  told : slice_index l.seat.held.added 0 ≡ sum_by (piece_size (g.M.ClassMiner.coding_of l.self.miner.now) l.self.pieces) l.seat.held.claimed;
+}
+
+abbrev pub decreases-loop-alloc : goal.decreases-loop-alloc
+decreases-loop-alloc g l = l.self.pieces - behind l.seat.held.claimed
+
+abbrev pub ghosts-piece : goal.ghosts-piece
+ghosts-piece g a = record { start = a.seat }
