@@ -9,7 +9,7 @@ use Rattle.std.proofs.lemmas.List.Sums.{sum_by-append, sum_by_push}
 use Rattle.basket_core.specs.Codes.{Coding}
 use Rattle.basket_core.specs.Shards.{shard_start}
 use Rattle.basket_sets.specs.declared.counted.Counted.{Counted}
-use Rattle.mine_classes.specs.Mined.{ListsClassItems, class_size}
+use Rattle.mine_classes.specs.Mined.{ListsClassItems}
 use Rattle.mine_phases.specs.Classes.{AreMined, ranks_of}
 
 -- ---- numbers one after another

@@ -1,5 +1,5 @@
 -- What all workers of a phase of classes have told and mined together.
-use Rattle.std.proofs.Common.{◌≡◌, ◌≤◌, ◌<◌, ◌+◌, ◌++◌, ◌⊎◌, ℕ, suc, zero, List, [], ◌∷◌, map, fold, get_or, length, max, min, Option, Some, None, Ok, Err, Result, refl, ap, sym, ◌∙◌, subst, inl, inr, arith}
+use Rattle.std.proofs.Common.{◌≡◌, ◌≤◌, ◌<◌, ◌+◌, ◌⊎◌, ℕ, suc, zero, List, [], ◌∷◌, map, fold, get_or, length, min, Option, Some, None, Ok, Err, Result, refl, ap, sym, ◌∙◌, subst, inl, inr, arith}
 use Rattle.std.specs.Prelude.{All, IsPermutation, Vec, slice_index}
 use Rattle.std.specs.Global.{Global}
 use Rattle.std.specs.List.{flat_map, range_with_len, sum, sum_by}
@@ -8,7 +8,6 @@ use Rattle.std.proofs.lemmas.List.Elements.{All-head, All-tail}
 use Rattle.std.proofs.lemmas.List.Folds.{flat_map-map}
 use Rattle.std.proofs.lemmas.List.Sorted.{sum_by-IsPermutation}
 use Rattle.std.proofs.lemmas.List.Sums.{sum_by-append, sum_by-cons}
-use Rattle.std.proofs.lemmas.Simd.{map-map}
 use Rattle.basket_core.proofs.theory.Shards.{shards_are_all}
 use Rattle.basket_core.specs.Codes.{Coding, IsCoding, baskets_of, frequent_of_coding}
 use Rattle.basket_core.specs.declared.fault.MineFault.{MineFault}
@@ -18,10 +17,10 @@ use Rattle.basket_sets.specs.Frequent.{ListsOnce}
 use Rattle.mine_classes.specs.Mined.{ClassItemsAreAll, ClassSizesAddUp, ListsClassItems, class_size}
 use Rattle.mine_round.specs.RoundView.{RoundView}
 use Rattle.mine_round.specs.SeatView.{SeatView}
-use Rattle.mine_round.specs.Totals.{added_by, claimed_by, greatest_by, seen_by}
+use Rattle.mine_round.specs.Totals.{added_by, claimed_by, seen_by}
 use Rattle.mine_phases.specs.declared.share.Share.{Share}
 use Rattle.mine_phases.specs.Classes.{AreMined, HasLargeClass, IsClassShare, IsWorkOfAll, MOST_WORK, piece_size, ranks_of}
-use Rattle.mine_phases.specs.Share.{fault_after, fault_of, worse}
+use Rattle.mine_phases.specs.Share.{fault_after, fault_of}
 use Rattle.mine_phases.proofs.Mining.{mined_append, sum_fits, sum_more}
 
 -- ---- the fault to tell

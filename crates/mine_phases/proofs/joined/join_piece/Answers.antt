@@ -1,4 +1,4 @@
-use Rattle.std.proofs.Common.{◌≡◌, ℕ, Vec, Global, ap, arith, map}
+use Rattle.std.proofs.Common.{ℕ, Vec, Global, ap, arith, map}
 use Rattle.std.specs.List.{sum}
 use Rattle.std.specs.Vec.Iter.{into_iter_items}
 use Rattle.std.proofs.lemmas.List.{nil_from_length}

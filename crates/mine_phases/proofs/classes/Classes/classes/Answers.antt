@@ -1,9 +1,9 @@
-use Rattle.std.proofs.Common.{◌≡◌, ◌≤◌, ◌<◌, ◌+◌, ◌-◌, ◌++◌, ◌∷◌, [], ap, sym, ◌∙◌, subst, arith, length}
+use Rattle.std.proofs.Common.{◌≡◌, ◌<◌, ◌+◌, ◌-◌, ◌∷◌, [], ap, sym, ◌∙◌, subst, arith, length}
 use Rattle.std.specs.List.{range_with_len, sum_by}
 use Rattle.std.proofs.lemmas.List.{length-append}
 use Rattle.basket_core.specs.Codes.{Coding}
-use Rattle.mine_classes.specs.Mined.{ListsClassItems, class_size}
-use Rattle.mine_phases.specs.Classes.{AreMined, ranks_of}
+use Rattle.mine_classes.specs.Mined.{class_size}
+use Rattle.mine_phases.specs.Classes.{AreMined}
 use Rattle.mine_phases.proofs.Mining.{mined_next, ranks_are, sum_fits, sum_next}
 use Rattle.mine_phases.proofs.classes.Classes.classes.Goals as goal
 
