@@ -1,17 +1,14 @@
 -- A walk over a run of nodes: for each item in turn a node with it is looked for behind the last that was found, and counted.
-use Rattle.std.proofs.Common.{◌≡◌, ◌≢◌, ℕ, ◌+◌, ◌-◌, ◌<◌, ◌≤◌, ◌^◌, Bool, true, false, ◌&&◌, ◌||◌, List, length, take, drop, get_or, set, cond, refl, sym, ap, ◌∙◌, subst, inl, inr, ◌⊎◌, arith, zero, suc, Result, Ok, Err, MatchResult}
+use Rattle.std.proofs.Common.{◌≡◌, ◌≢◌, ℕ, ◌+◌, ◌-◌, ◌<◌, ◌≤◌, ◌^◌, Bool, true, false, ◌&&◌, ◌||◌, List, length, take, drop, get_or, set, cond, refl, sym, ap, ◌∙◌, subst, inl, inr, ◌⊎◌, arith, zero, suc}
 use Rattle.std.specs.List.{AllWithin}
-use Rattle.std.specs.List.Sorted.{IsBinarySearchResult}
-use Rattle.std.specs.Ordering.{nat_cmp}
 use Rattle.std.proofs.lemmas.Bool.{cases_lt, cases_eq, eq-eqb, ne_eqb, and_left}
 use Rattle.std.proofs.lemmas.List.{get_or-set_same, get_or-set_other, get_or-take, get_or-drop, length-drop, length-take, get_or_default, take_all, take_rest}
-use Rattle.std.proofs.lemmas.List.Sorted.{searched}
 use Rattle.std.proofs.lemmas.Map.Keys.{below_from_sorted, non_decreasing_from_sorted, sorted_from_strictly_increasing}
 use Rattle.basket_sets.specs.Itemset.{IsRising, has}
 use Rattle.basket_sets.proofs.theory.Rising.{has_more, has_place, not_before}
 use Rattle.basket_sets.proofs.theory.Members.{Contains-from_Member}
 use Rattle.basket_sets.proofs.theory.Rising.{Member-from_has}
-use Rattle.mine_apriori.proofs.ContainLemmas.{same_truth, take_rises}
+use Rattle.mine_apriori.proofs.ContainLemmas.{same_truth}
 use Rattle.mine_apriori.specs.Run.{CountsBelow, RisesWithin, AddsWithin, IsMissingAt}
 
 pub rises_by_places : (items : List ℕ) → IsRising items → (i j : ℕ) → i ≤ j → j < length items → get_or items i 0 ≤ get_or items j 0

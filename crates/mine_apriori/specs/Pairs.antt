@@ -1,5 +1,5 @@
 -- Supports of pairs of ranks, first by the greater rank of a pair, then by the lesser.
-use Rattle.std.specs.Prelude.{◌+◌, ◌++◌, ◌-◌, ◌==◌, ℕ, List, [], ◌∷◌, filter, length, map}
+use Rattle.std.specs.Prelude.{◌≡◌, ◌+◌, ◌++◌, ◌-◌, ◌==◌, ℕ, List, [], ◌∷◌, filter, length, map}
 use Rattle.std.specs.List.{range_with_len}
 use Rattle.std.specs.declared.vec.Vec.{Vec}
 use Rattle.std.specs.declared.alloc.Global.{Global}
@@ -7,7 +7,8 @@ use Rattle.basket_core.specs.Codes.{Coding}
 use Rattle.basket_sets.specs.declared.weighted.Weighted.{Weighted}
 use Rattle.basket_sets.specs.Counts.{AllBelow}
 use Rattle.basket_sets.specs.Frequent.{is_frequent}
-use Rattle.basket_sets.specs.Support.{support_of}
+use Rattle.basket_sets.specs.Minimum.{IsLeastSupport}
+use Rattle.basket_sets.specs.Support.{support_of, total_of}
 use Rattle.mine_classes.specs.Pairs.{pairs_of}
 
 -- the lists in a list
@@ -17,6 +18,12 @@ lists_of lists = map (λ list. list.items) lists
 -- for each rank below a number the ranks below it that are frequent together with it, by a least support, each with the support of the pair
 abbrev pub pairs_by_greater : List Weighted → ℕ → ℕ → List (List (ℕ × ℕ))
 pairs_by_greater baskets least count = map (pairs_of baskets least) (range_with_len 0 count)
+
+-- the pairs of each rank of a coding, by the least support that meets its minimum
+pub record ArePairs (coding : Coding) (lists : List (List (ℕ × ℕ))) : Type 0 where
+  pub least : ℕ
+  pub settles : IsLeastSupport coding.minimum (total_of coding.baskets) least
+  pub pairs : lists ≡ pairs_by_greater coding.baskets least (length coding.items)
 
 -- of the ranks below a number those above a rank that are frequent together with it
 abbrev pub partners : Coding → ℕ → ℕ → List ℕ

@@ -5,12 +5,14 @@ ghost use Rattle.basket_core.specs.Codes.{IsCoding, baskets_of, decoded_set};
 ghost use Rattle.basket_sets.specs.Counts.{AllBelow};
 ghost use Rattle.basket_sets.specs.Frequent.{counted, is_frequent};
 ghost use Rattle.basket_core.specs.Listing.{listing_of};
-ghost use Rattle.basket_sets.specs.Support.{support_of};
+ghost use Rattle.basket_sets.specs.Support.{items_of, support_of};
 ghost use Rattle.mine_apriori.specs.Levels.{AreFound, AreTooMany, asked_of, level_of, levels_up_to, wanted};
+ghost use Rattle.mine_apriori.specs.Pairs.{ArePairs, lists_of};
+ghost use Rattle.mine_apriori.specs.Shard.{IsRegular};
 ghost use Rattle.mine_apriori.specs.Work.{candidate_count, candidates_of_size, candidates_up_to};
 
 use crate::join::candidates;
-use crate::pairs::frequent_pairs;
+use crate::pairs::{by_lesser, frequent_pairs};
 use crate::shard::count_shard;
 use basket_core::{Coded, Counted, Frequent, Itemset, MineFault, count_items};
 use std::alloc::{AllocError, Global};
@@ -110,19 +112,83 @@ fn frequent_ranks(alloc: Global, coded: &Coded) -> Result<Found, AllocError>
     Ok(found)
 }
 
-/// Adds the frequent sets of two ranks. They are counted where they occur, and no list of all pairs
-/// is made.
-fn add_second_level(alloc: Global, coded: &Coded, found: &mut Found) -> Result<(), AllocError>
+/// Adds the frequent sets of two ranks, from the pairs of each rank with lesser ones.
+fn add_second_level(
+    alloc: Global,
+    coded: &Coded,
+    pairs: &[Vec<(u32, u64)>],
+    found: &mut Found,
+) -> Result<(), AllocError>
     requires coding { IsCoding coded.now }
+    requires pairs { ArePairs coded.now (lists_of pairs.now) }
     requires found { AreFound coded.now 1 found.old }
     ensures sets { OnOk result (found.new.sets.items ≡ found.old.sets.items ++ level_of coded.now 2) }
     ensures found { OnOk result (AreFound coded.now 2 found.new) }
 {
-    let lists = frequent_pairs(alloc, coded)?;
+    let lists = by_lesser(alloc, pairs)?;
     for (rank, pairs) in lists.iter().enumerate() {
         found.add_pairs(alloc, rank as u32, pairs)?;
     }
     Ok(())
+}
+
+/// The frequent items, from which a search goes on once the frequent pairs are known.
+#[derive(Debug, Drop)]
+pub struct FirstLevel<'a> {
+    coded: &'a Coded,
+    limit: u32,
+    found: Found,
+}
+
+impl<'a> Model for FirstLevel<'a> {
+    ghost use Rattle.std.specs.Prelude.{◌≤◌, length};
+    ghost use Rattle.basket_core.specs.Codes.{IsCoding};
+    ghost use Rattle.mine_apriori.specs.Levels.{AreFound, Search};
+
+    ghost Value = { Search };
+
+    ghost view = { λ first. record { coding = first.coded.now; limit = first.limit; size = 1 } };
+
+    ghost invariant = { λ first. IsCoding first.coded.now × AreFound first.coded.now 1 first.found × (length first.found.sets.items ≤ first.limit) };
+}
+
+impl<'a> FirstLevel<'a> {
+    /// The frequent items, where they are no more than the limit.
+    pub fn of(alloc: Global, coded: &'a Coded, limit: u32) -> Result<Self, MineFault>
+        ensures ok { IfOk result (λ first. first ≡ record { coding = coded.now; limit = limit; size = 1 }) }
+        ensures too_many { (most : ℕ) → result ≡ Err (TooMany most) → (most ≡ limit) × AreTooMany coded.now limit }
+    {
+        let found = frequent_ranks(alloc, coded)?;
+        if found.sets.len() > limit as usize {
+            return Err(MineFault::TooMany { limit });
+        }
+        Ok(FirstLevel {
+            coded,
+            limit,
+            found,
+        })
+    }
+
+    /// The search that has found the frequent items and pairs. The pairs are for each rank the ranks
+    /// below it that are frequent together with it, each with the support of the pair.
+    pub fn with_pairs(
+        self,
+        alloc: Global,
+        pairs: &[Vec<(u32, u64)>],
+    ) -> Result<Levels<'a>, MineFault>
+        requires { ArePairs self.coding (lists_of pairs.now) }
+        ensures ok { IfOk result (λ levels. levels ≡ record { coding = self.entry.coding; limit = self.entry.limit; size = 2 }) }
+        ensures too_many { (most : ℕ) → result ≡ Err (TooMany most) → (most ≡ self.entry.limit) × AreTooMany self.entry.coding self.entry.limit }
+    {
+        let FirstLevel {
+            coded,
+            limit,
+            mut found,
+        } = self;
+        let last = found.sets.len();
+        add_second_level(alloc, coded, pairs, &mut found)?;
+        Levels::ask(alloc, coded, limit, 2, found, last, pairs_of(last as u64))
+    }
 }
 
 /// A search for the frequent sets, level by level (Agrawal and Srikant 1994): a level is those of
@@ -195,27 +261,14 @@ impl<'a> Levels<'a> {
         })
     }
 
-    /// The search that has found the frequent items and pairs, without a list of all pairs.
-    fn with_pairs(alloc: Global, coded: &'a Coded, limit: u32) -> Result<Self, MineFault>
-        ensures ok { IfOk result (λ levels. levels ≡ record { coding = coded.now; limit = limit; size = 2 }) }
-        ensures too_many { (most : ℕ) → result ≡ Err (TooMany most) → (most ≡ limit) × AreTooMany coded.now limit }
-    {
-        let mut found = frequent_ranks(alloc, coded)?;
-        let last = found.sets.len();
-        if last > limit as usize {
-            return Err(MineFault::TooMany { limit });
-        }
-        add_second_level(alloc, coded, &mut found)?;
-        Levels::ask(alloc, coded, limit, 2, found, last, pairs_of(last as u64))
-    }
-
     /// The search at its end, where nothing is asked any more.
     pub fn searched(alloc: Global, coded: &'a Coded, limit: u32) -> Result<Self, MineFault>
         ensures search { IfOk result (λ levels. (levels.coding ≡ coded.now) × (levels.limit ≡ limit)) }
         ensures done { IfOk result (λ levels. asked_of levels.coding levels.size ≡ []) }
         ensures too_many { (most : ℕ) → result ≡ Err (TooMany most) → (most ≡ limit) × AreTooMany coded.now limit }
     {
-        let mut levels = Levels::with_pairs(alloc, coded, limit)?;
+        let first = FirstLevel::of(alloc, coded, limit)?;
+        let mut levels = first.with_pairs(alloc, &frequent_pairs(alloc, coded)?)?;
         while !levels.asked().is_empty() {
             let counts = count_shard(alloc, coded.baskets(), levels.asked())?;
             levels = levels.answer(alloc, &counts)?;
@@ -228,6 +281,8 @@ impl<'a> Levels<'a> {
     pub fn asked(&self) -> &[Itemset]
         ensures asked { result.now ≡ asked_of self.now.coding self.now.size }
         ensures candidates { result.now ≡ candidates_of_size self.now.coding.baskets self.now.coding.minimum (self.now.size + 1) }
+        ensures regular { IsRegular result.now }
+        ensures more { asked_of self.now.coding self.now.size ≢ [] → self.now.size < length (items_of self.now.coding.baskets) }
     {
         &self.asked
     }

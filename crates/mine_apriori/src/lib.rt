@@ -21,6 +21,7 @@ mod used;
 pub mod worked;
 
 pub use join::candidates;
-pub use levels::{Levels, apriori};
+pub use levels::{FirstLevel, Levels, apriori};
+pub use pairs::frequent_pairs;
 pub use shard::count_shard;
 pub use tree::CandidateTree;

@@ -1,36 +1,22 @@
 //! The frequent pairs of ranks, without a list of all pairs.
 ghost use Rattle.std.specs.Prelude.{◌≡◌, ◌<◌, ◌≤◌, ◌++◌, ◌^◌, ℕ, [], All, IfOk, OnOk, length, replicate, slice_index_or};
 ghost use Rattle.basket_core.specs.Codes.{IsCoding};
-ghost use Rattle.mine_apriori.specs.Pairs.{AreBelow, all_lesser, lists_of, pairs_at, pairs_by_greater, pairs_by_lesser};
+ghost use Rattle.mine_apriori.specs.Pairs.{AreBelow, ArePairs, all_lesser, lists_of, pairs_at, pairs_by_greater};
 
 use crate::triangle::pairs_by_triangle;
 use basket_core::Coded;
 use mine_classes::{Ordered, Runs, Sums};
 use std::alloc::{AllocError, Global};
 
-/// For each rank the ranks above it that are frequent together with it, rising, each with the
+/// For each rank the ranks below it that are frequent together with it, rising, each with the
 /// support of the pair. Time and memory follow the baskets and these pairs, however many ranks
 /// there are.
 pub fn frequent_pairs(alloc: Global, coded: &Coded) -> Result<Vec<Vec<(u32, u64)>>, AllocError>
-    requires { IsCoding coded.now }
-    ensures { IfOk result (λ lists. lists_of lists.items ≡ pairs_by_lesser coded.now) }
+    ensures { IfOk result (λ lists. ArePairs coded.now (lists_of lists.items)) }
 {
+    let baskets = coded.baskets();
     let least = coded.minimum().least(coded.total());
-    by_lesser(alloc, &counted_pairs(alloc, coded, least)?)
-}
-
-/// For each rank the ranks below it that are frequent together with it, rising, each with the
-/// support of the pair.
-fn counted_pairs(
-    alloc: Global,
-    coded: &Coded,
-    least: u64,
-) -> Result<Vec<Vec<(u32, u64)>>, AllocError>
-    requires coding { IsCoding coded.now }
-    requires some { 1 ≤ least }
-    ensures { IfOk result (λ lists. lists_of lists.items ≡ pairs_by_greater coded.now.baskets least (length coded.now.items)) }
-{
-    if has_small_triangle(coded) {
+    if is_small_triangle(coded.ranks(), baskets.len()) {
         return pairs_by_triangle(alloc, coded, least);
     }
     let runs = Runs::of(alloc, Ordered::of_coded(alloc, coded)?)?;
@@ -39,9 +25,9 @@ fn counted_pairs(
 
 /// Whether a count for each pair of ranks takes no more memory than the baskets, of which there are
 /// two lists: those of items, and those of ranks.
-fn has_small_triangle(coded: &Coded) -> bool {
-    let ranks = u64::from(coded.ranks());
-    ranks * ranks / 2 <= (coded.baskets().len() as u64).saturating_mul(16)
+fn is_small_triangle(ranks: u32, baskets: usize) -> bool {
+    let ranks = u64::from(ranks);
+    ranks * ranks / 2 <= (baskets as u64).saturating_mul(16)
 }
 
 /// The same from the runs of the baskets, one rank after another.
@@ -58,7 +44,7 @@ fn pairs_by_runs(alloc: Global, runs: &Runs, least: u64) -> Result<Vec<Vec<(u32,
 }
 
 /// The pairs of each rank with lesser ones, as those of each rank with greater ones.
-fn by_lesser(alloc: Global, lists: &[Vec<(u32, u64)>]) -> Result<Vec<Vec<(u32, u64)>>, AllocError>
+pub fn by_lesser(alloc: Global, lists: &[Vec<(u32, u64)>]) -> Result<Vec<Vec<(u32, u64)>>, AllocError>
     requires few { length lists.now < 2 ^ 32 }
     requires below { All (AreBelow (length lists.now)) (lists_of lists.now) }
     ensures { IfOk result (λ pairs. lists_of pairs.items ≡ all_lesser (lists_of lists.now)) }

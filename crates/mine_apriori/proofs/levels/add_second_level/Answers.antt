@@ -6,17 +6,30 @@ use Rattle.std.proofs.lemmas.List.{map-append}
 use Rattle.std.proofs.lemmas.List.FromFn.{get_or-map-range_with_len, length-map-range_with_len}
 use Rattle.basket_sets.specs.Support.{support_of}
 use Rattle.mine_apriori.specs.Levels.{level_of}
-use Rattle.mine_apriori.specs.Pairs.{lists_of, pairs_with}
+use Rattle.mine_apriori.specs.Pairs.{AreBelow, all_lesser, lists_of, pairs_by_greater, pairs_with}
 use Rattle.mine_apriori.proofs.LevelsLemmas.{up_to_next}
-use Rattle.mine_apriori.proofs.PairLemmas.{counts_of_first, list_at, lists_long, pairs_above, pairs_from, pairs_of_first, second_level}
+use Rattle.mine_apriori.proofs.PairLemmas.{counts_of_first, lesser_all, list_at, lists_long, pairs_above, pairs_below, pairs_long, pairs_from, pairs_of_first, second_level}
 use Rattle.mine_apriori.proofs.levels.add_second_level.Goals as goal
+
+pub by_lesser-requires-clause-few : goal.by_lesser-requires-clause-few
+by_lesser-requires-clause-few c =
+    let coding = c.args.coded.now in
+    omega (arith, lists_long c.args.pairs.now, ap length c.requires.pairs.pairs, pairs_long coding.baskets c.requires.pairs.least (length coding.items), c.requires.coding.few)
+
+pub by_lesser-requires-clause-below : goal.by_lesser-requires-clause-below
+by_lesser-requires-clause-below c =
+    let coding = c.args.coded.now in
+    let least = c.requires.pairs.least in
+    let lists = c.requires.pairs.pairs in
+    let long : length coding.items ≡ length c.args.pairs.now = omega (arith, lists_long c.args.pairs.now, ap length lists, pairs_long coding.baskets least (length coding.items)) in
+    subst (λ l. All (AreBelow (length c.args.pairs.now)) l) (sym lists) (subst (λ n. All (AreBelow n) (pairs_by_greater coding.baskets least (length coding.items))) long (pairs_below coding least (length coding.items)))
 
 pub overflow_cast-rank : goal.overflow_cast-rank
 overflow_cast-rank c =
     let coding = c.args.coded.now in
     let count = length coding.items in
     let rank = c.loop-rank.rank in
-    let lists = ap lists_of c.deref-pairs-items.ensures.value ∙ c.in_ok-lists.ensures in
+    let lists = ap lists_of c.deref-pairs-items.ensures.value ∙ c.in_ok-lists.ensures ∙ ap all_lesser c.requires.pairs.pairs ∙ lesser_all coding c.requires.pairs.least c.requires.pairs.settles in
     let long : length c.deref-pairs-items.result.now ≡ count = omega (arith, lists_long c.deref-pairs-items.result.now, ap length lists, length-map-range_with_len (pairs_with coding count) 0 count) in
     record { fits = omega (arith, c.loop-rank-test.true, long, c.requires.coding.few) }
 
@@ -25,7 +38,7 @@ add_pairs-requires c =
     let coding = c.args.coded.now in
     let count = length coding.items in
     let rank = c.loop-rank.rank in
-    let lists = ap lists_of c.deref-pairs-items.ensures.value ∙ c.in_ok-lists.ensures in
+    let lists = ap lists_of c.deref-pairs-items.ensures.value ∙ c.in_ok-lists.ensures ∙ ap all_lesser c.requires.pairs.pairs ∙ lesser_all coding c.requires.pairs.least c.requires.pairs.settles in
     let long : length c.deref-pairs-items.result.now ≡ count = omega (arith, lists_long c.deref-pairs-items.result.now, ap length lists, length-map-range_with_len (pairs_with coding count) 0 count) in
     let below : rank < count = omega (arith, c.loop-rank-test.true, long) in
     let pairs : c.deref.result.now ≡ pairs_with coding count rank = c.deref.ensures.value ∙ ap (λ (v : Vec (ℕ × ℕ) Global). v.items) c.pairs-item.is
@@ -38,7 +51,7 @@ loop-rank-preserved c =
     let coding = c.args.coded.now in
     let count = length coding.items in
     let rank = c.loop-rank.rank in
-    let lists = ap lists_of c.deref-pairs-items.ensures.value ∙ c.in_ok-lists.ensures in
+    let lists = ap lists_of c.deref-pairs-items.ensures.value ∙ c.in_ok-lists.ensures ∙ ap all_lesser c.requires.pairs.pairs ∙ lesser_all coding c.requires.pairs.least c.requires.pairs.settles in
     let long : length c.deref-pairs-items.result.now ≡ count = omega (arith, lists_long c.deref-pairs-items.result.now, ap length lists, length-map-range_with_len (pairs_with coding count) 0 count) in
     let below : rank < count = omega (arith, c.loop-rank-test.true, long) in
     let pairs : c.deref.result.now ≡ pairs_with coding count rank = c.deref.ensures.value ∙ ap (λ (v : Vec (ℕ × ℕ) Global). v.items) c.pairs-item.is
@@ -64,7 +77,7 @@ returns-clause-sets c =
     let coding = c.args.coded.now in
     let count = length coding.items in
     let rank = c.loop-rank.rank in
-    let lists = ap lists_of c.deref-pairs-items.ensures.value ∙ c.in_ok-lists.ensures in
+    let lists = ap lists_of c.deref-pairs-items.ensures.value ∙ c.in_ok-lists.ensures ∙ ap all_lesser c.requires.pairs.pairs ∙ lesser_all coding c.requires.pairs.least c.requires.pairs.settles in
     let long : length c.deref-pairs-items.result.now ≡ count = omega (arith, lists_long c.deref-pairs-items.result.now, ap length lists, length-map-range_with_len (pairs_with coding count) 0 count) in
     let none : count - rank ≡ 0 = omega (arith, c.loop-rank-test.false, long) in
     sym (append-nil c.loop-rank.found.sets.items) ∙ ap (λ n. c.loop-rank.found.sets.items ++ pairs_from coding rank n) (sym none)
@@ -75,7 +88,7 @@ returns-clause-found c =
     let coding = c.args.coded.now in
     let count = length coding.items in
     let rank = c.loop-rank.rank in
-    let lists = ap lists_of c.deref-pairs-items.ensures.value ∙ c.in_ok-lists.ensures in
+    let lists = ap lists_of c.deref-pairs-items.ensures.value ∙ c.in_ok-lists.ensures ∙ ap all_lesser c.requires.pairs.pairs ∙ lesser_all coding c.requires.pairs.least c.requires.pairs.settles in
     let long : length c.deref-pairs-items.result.now ≡ count = omega (arith, lists_long c.deref-pairs-items.result.now, ap length lists, length-map-range_with_len (pairs_with coding count) 0 count) in
     let none : count - rank ≡ 0 = omega (arith, c.loop-rank-test.false, long) in
     record {
