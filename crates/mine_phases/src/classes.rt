@@ -9,6 +9,7 @@ ghost use Rattle.mine_phases.specs.Classes.{AreMined, HasLargeClass, IsClassShar
 ghost use Rattle.mine_phases.specs.Found.{CountsSets, still};
 
 use crate::class_miner::ClassMiner;
+use crate::cutting::Cutting;
 use crate::found::{Found, Start};
 use crate::gate::Gate;
 use crate::joined::{Class, joined};
@@ -153,13 +154,10 @@ pub fn mine_shared<'a, R: Threads + Sync, G: Gate + Sync, M: ClassMiner + Sync>(
     miner: &'a M,
     limit: u32,
     phase: u32,
-    workers: u32,
-    pieces: u32,
+    cutting: Cutting,
     gate: &'a G,
 ) -> Result<(Frequent, u64), MineFault>
     requires coding { M.coding_of miner.now ≡ coded.now }
-    requires workers { (1 ≤ workers) × (workers ≤ 64) }
-    requires pieces { (1 ≤ pieces) × (pieces ≤ 65536) }
     ensures list { IfOk result (λ mined. mined.0 ≡ listing_of coded.now) }
     ensures within { IfOk result (λ mined. length mined.0.sets ≤ limit) }
     ensures work { IfOk result (λ mined. IsWorkOfAll (M.is_work miner.now) (length coded.now.items) mined.1) }
@@ -168,13 +166,13 @@ pub fn mine_shared<'a, R: Threads + Sync, G: Gate + Sync, M: ClassMiner + Sync>(
     class_items_are_all();
     class_sizes_add_up();
     let _baskets = coded.baskets();
-    let (round, seats) = Round::new(alloc, pieces, 1, workers)?;
-    let collector = Collector::new(alloc, pieces)?;
+    let (round, seats) = Round::new(alloc, cutting.pieces, 1, cutting.workers)?;
+    let collector = Collector::new(alloc, cutting.pieces)?;
     let back = Vec::with_capacity(alloc, seats.len())?;
     let lists = Vec::with_capacity(alloc, seats.len())?;
     let classes = Classes {
         round: &round,
-        pieces,
+        pieces: cutting.pieces,
         ranks: coded.ranks(),
         miner,
         limit,

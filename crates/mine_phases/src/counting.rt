@@ -6,6 +6,7 @@ ghost use Rattle.basket_sets.specs.Database.{MOST_WEIGHT};
 ghost use Rattle.basket_sets.specs.Support.{total_of};
 ghost use Rattle.mine_phases.specs.Counting.{CountsParts, CountParts, IsCountShare};
 
+use crate::cutting::Cutting;
 use crate::gate::Gate;
 use crate::placed::collected;
 use crate::share::{Share, claim_piece, numbered, parted};
@@ -94,22 +95,19 @@ pub fn count_shared<'a, R: Threads + Sync, G: Gate + Sync>(
     rt: &R,
     alloc: Global,
     baskets: &'a [Weighted],
-    workers: u32,
-    pieces: u32,
+    cutting: Cutting,
     gate: &'a G,
 ) -> Result<Vec<(u32, u64)>, AllocError>
-    requires workers { (1 ≤ workers) × (workers ≤ 64) }
-    requires pieces { (1 ≤ pieces) × (pieces ≤ 65536) }
     requires light { total_of baskets.now ≤ MOST_WEIGHT }
     ensures counts { IfOk result (λ counts. counts.items ≡ item_supports baskets.now) }
 {
-    let (round, seats) = Round::new(alloc, pieces, 0, workers)?;
-    let collector = Collector::new(alloc, pieces)?;
+    let (round, seats) = Round::new(alloc, cutting.pieces, 0, cutting.workers)?;
+    let collector = Collector::new(alloc, cutting.pieces)?;
     let back = Vec::with_capacity(alloc, seats.len())?;
     let lists = Vec::with_capacity(alloc, seats.len())?;
     let counting = Counting {
         round: &round,
-        pieces,
+        pieces: cutting.pieces,
         baskets,
         gate,
     };

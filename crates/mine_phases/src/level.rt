@@ -7,6 +7,7 @@ ghost use Rattle.mine_apriori.specs.Sizes.{AreOfOneSize};
 ghost use Rattle.mine_phases.specs.Level.{AddsSupports, IsLevelShare};
 ghost use Rattle.mine_round.specs.Record.{unused};
 
+use crate::cutting::Cutting;
 use crate::gate::Gate;
 use crate::share::{Share, claim_piece, numbered, parted};
 use basket_core::{Itemset, MineFault, Weighted, shard};
@@ -94,25 +95,22 @@ pub fn count_level<'a, 's, R: Threads + Sync, G: Gate + Sync>(
     baskets: &'a [Weighted],
     sets: &'s [Itemset],
     phase: u32,
-    workers: u32,
-    pieces: u32,
+    cutting: Cutting,
     gate: &'a G,
 ) -> Result<Vec<u64>, AllocError>
     requires sized { AreOfOneSize sets.now }
     requires in_order { IsInReportOrder sets.now }
-    requires workers { (1 ≤ workers) × (workers ≤ 64) }
-    requires pieces { (1 ≤ pieces) × (pieces ≤ 65536) }
     requires light { total_of baskets.now ≤ MOST_WEIGHT }
     ensures { IfOk result (λ counts. counts.items ≡ map (support_of baskets.now) sets.now) }
 {
     let tree = CandidateTree::of(alloc, sets)?;
-    let (round, seats) = Round::new(alloc, pieces, sets.len(), workers)?;
+    let (round, seats) = Round::new(alloc, cutting.pieces, sets.len(), cutting.workers)?;
     let back = Vec::with_capacity(alloc, seats.len())?;
     let done = Vec::with_capacity(alloc, seats.len())?;
     let level = Level {
         round: &round,
         tree: &tree,
-        pieces,
+        pieces: cutting.pieces,
         baskets,
         phase,
         gate,

@@ -10,6 +10,7 @@
 mod class_miner;
 mod classes;
 mod counting;
+mod cutting;
 mod found;
 mod gate;
 mod joined;
@@ -20,6 +21,7 @@ mod share;
 pub use class_miner::ClassMiner;
 pub use classes::mine_shared;
 pub use counting::count_shared;
+pub use cutting::Cutting;
 pub use gate::{Gate, Open};
 pub use level::count_level;
 

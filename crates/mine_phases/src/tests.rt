@@ -1,7 +1,7 @@
 //! What the phases answer, whoever does the work. What is asserted holds whatever the schedule.
 ghost use Rattle.std.specs.Prelude.{◌≤◌};
 
-use crate::{Gate, Open, count_level, count_shared};
+use crate::{Cutting, Gate, Open, count_level, count_shared};
 use basket_core::{Database, Itemset};
 use std::alloc::{AllocError, Global};
 use std::sync::atomic::{AtomicU64, Ordering};
@@ -50,7 +50,13 @@ fn items<R: Threads + Sync>(
     requires pieces { (1 ≤ pieces) × (pieces ≤ 65536) }
 {
     let database = database(alloc, NINE_BASKETS)?;
-    Ok(count_shared(rt, alloc, database.baskets(), workers, pieces, &Open)?)
+    Ok(count_shared(
+        rt,
+        alloc,
+        database.baskets(),
+        Cutting::new(workers, pieces),
+        &Open,
+    )?)
 }
 
 #[test]
@@ -79,10 +85,10 @@ fn workers_count_the_items(rt: HostRuntime) -> Result<(), Fail> {
 fn many_workers_and_one_basket_or_none(rt: HostRuntime) -> Result<(), Fail> {
     let alloc = rt.alloc();
     let one = database(alloc, &[&[4_294_967_295]])?;
-    let counts = count_shared(&rt, alloc, one.baskets(), 64, 16, &Open)?;
+    let counts = count_shared(&rt, alloc, one.baskets(), Cutting::new(64, 16), &Open)?;
     assert_eq!(rt; counts.as_slice(), [(4_294_967_295, 1)].as_slice());
     let none = database(alloc, &[])?;
-    assert!(rt; count_shared(&rt, alloc, none.baskets(), 2, 16, &Open)?.is_empty());
+    assert!(rt; count_shared(&rt, alloc, none.baskets(), Cutting::new(2, 16), &Open)?.is_empty());
     Ok(())
 }
 
@@ -106,8 +112,7 @@ fn pair<R: Threads + Sync, G: Gate + Sync>(
         database.baskets(),
         &sets,
         2,
-        workers,
-        pieces,
+        Cutting::new(workers, pieces),
         gate,
     )?;
     Ok(counts)
@@ -174,7 +179,7 @@ fn two_workers_count_items_at_once(rt: HostRuntime) -> Result<(), Fail> {
     let alloc = rt.alloc();
     let database = database(alloc, NINE_BASKETS)?;
     let gate = Meeting::new();
-    let counts = count_shared(&rt, alloc, database.baskets(), 2, 2, &gate)?;
+    let counts = count_shared(&rt, alloc, database.baskets(), Cutting::new(2, 2), &gate)?;
     assert_eq!(rt; counts.as_slice(), ITEMS.as_slice());
     assert!(rt; gate.met());
     Ok(())

@@ -33,7 +33,7 @@ map_vec-requires-after_bounds g c κs within i x below is =
     let fresh = c.in_ok-round.ensures.unused i x.1 short in (
       ap (λ (s : SeatView). s.round) (sym seat) ∙ fresh.0,
       ap (λ (s : SeatView). s.held) (sym seat) ∙ fresh.1,
-      c.requires.pieces.0,
+      c.args.cutting.some_pieces.0,
       c.in_ok-round.ensures.round.0,
       c.in_ok-round.ensures.round.1,
       c.ranks.ensures ∙ ap (λ (k : Coding). length k.items) (sym c.requires.coding),
@@ -52,7 +52,7 @@ pub returns-in_err-values-clause-too_many : goal.returns-in_err-values-clause-to
 returns-in_err-values-clause-too_many g c most e =
     let coding : Coding = g.M.ClassMiner.coding_of c.args.miner.now in
     let shares = c.in_ok-shares.shares.items in
-    let all : All (IsClassShare c.in_ok-round.round coding (g.M.ClassMiner.is_work c.args.miner.now) c.args.limit c.args.pieces) shares =
+    let all : All (IsClassShare c.in_ok-round.round coding (g.M.ClassMiner.is_work c.args.miner.now) c.args.limit c.args.cutting.pieces) shares =
     λ k d below. (c.in_ok-shares.ensures.each k d (omega (arith, c.in_ok-shares.ensures.len))).1.call.met in
     let p = err_from_is_err_and c.from_residual-in_err-values.result c.from_residual-in_err-values.ensures.1 in
     let both = sym p.1 ∙ e in
@@ -60,23 +60,23 @@ returns-in_err-values-clause-too_many g c most e =
     let told : fault_of (map (λ (s : Pieces). s.values) shares) ≡ Some (TooMany most) = rw (c.in_err-values.was ∙ ap Err (sym p.2 ∙ fault)) at c.parted-seats.ensures.fault in
     let first : 0 < length c.in-Ok.field-0.counters.items = omega (arith, c.in-Ok.ensures.counters, c.in-Ok.field-0.counters.ok, c.in_ok-round.ensures.round.1) in
     subst (λ k. (most ≡ c.args.limit) × (c.args.limit < length (frequent_of_coding k))) c.requires.coding
-    (too_many_are c.in_ok-round.round coding (g.M.ClassMiner.is_work c.args.miner.now) c.args.limit c.args.pieces shares c.parted-seats.result.0.items most _ c.in-Ok.field-0.claimed
-    c.requires.pieces.0 (subst IsCoding (sym c.requires.coding) c.baskets-baskets.ensures.coding) c.class_sizes_add_up.ensures c.parted-seats.ensures.seats all c.in-Ok.ensures.claimed
+    (too_many_are c.in_ok-round.round coding (g.M.ClassMiner.is_work c.args.miner.now) c.args.limit c.args.cutting.pieces shares c.parted-seats.result.0.items most _ c.in-Ok.field-0.claimed
+    c.args.cutting.some_pieces.0 (subst IsCoding (sym c.requires.coding) c.baskets-baskets.ensures.coding) c.class_sizes_add_up.ensures c.parted-seats.ensures.seats all c.in-Ok.ensures.claimed
     (omega (arith, c.in-Ok.ensures.within, c.in_ok-round.ensures.round.0)) (c.in-Ok.ensures.sums 0 first) (c.in-Ok.ensures.greatest 0 first) told)
 
 pub collected-requires-clause-each : goal.collected-requires-clause-each
 collected-requires-clause-each g c =
     let shares = c.in_ok-shares.shares.items in
     let lists = c.in_ok-values.values.items in
-    let P = MinesPieces (g.M.ClassMiner.coding_of c.args.miner.now) (g.M.ClassMiner.is_work c.args.miner.now) c.args.limit c.args.pieces in
+    let P = MinesPieces (g.M.ClassMiner.coding_of c.args.miner.now) (g.M.ClassMiner.is_work c.args.miner.now) c.args.limit c.args.cutting.pieces in
     let says : All (Says P) shares = λ k d below. (c.in_ok-shares.ensures.each k d (omega (arith, c.in_ok-shares.ensures.len))).1.call.met.values in
     let all : map Ok lists ≡ map (λ (s : Pieces). s.values) shares = rw c.in_ok-values.was at c.parted-seats.ensures.lists in
     let seats = c.parted-seats.ensures.seats in
-    let some : 1 ≤ length shares = omega (arith, c.in_ok-shares.ensures.len, ap length c.in_ok-numbered.ensures, length-map c.in_ok-numbered.field-0.items (λ worker. worker.1), c.in_ok-round.ensures.seats, c.requires.workers.0) in
+    let some : 1 ≤ length shares = omega (arith, c.in_ok-shares.ensures.len, ap length c.in_ok-numbered.ensures, length-map c.in_ok-numbered.field-0.items (λ worker. worker.1), c.in_ok-round.ensures.seats, c.args.cutting.some_workers.0) in
     let ended = c.in-Ok.ensures.ended (subst (λ l. Any (λ (s : SeatView). 0 < s.held.past) l) (sym seats) (some_ended P (λ seat values says. says.ended) shares lists some all says)) in
     let claimed : claimed_by c.parted-seats.result.0.items ≡ flat_map (λ list. pieces_of list.items) lists =
     ap claimed_by seats ∙ sym (pieces_are_claimed P (λ seat values says. says.claimed) shares lists all says) in
-    let whole : c.in-Ok.field-0.claimed ≡ length c.in_ok-collector.collector = ended ∙ c.in_ok-round.ensures.round.0 ∙ sym (ap length c.in_ok-collector.ensures ∙ length-replicate c.args.pieces None) in
+    let whole : c.in-Ok.field-0.claimed ≡ length c.in_ok-collector.collector = ended ∙ c.in_ok-round.ensures.round.0 ∙ sym (ap length c.in_ok-collector.ensures ∙ length-replicate c.args.cutting.pieces None) in
     subst (λ n. IsPermutation (flat_map (λ list. pieces_of list.items) lists) (range_with_len 0 n)) whole
     (subst (λ l. IsPermutation l (range_with_len 0 c.in-Ok.field-0.claimed)) claimed c.in-Ok.ensures.claimed)
 
@@ -95,8 +95,8 @@ pub of_classes-requires : goal.of_classes-requires
 of_classes-requires g c =
     let coding : Coding = g.M.ClassMiner.coding_of c.args.miner.now in
     let is_work = g.M.ClassMiner.is_work c.args.miner.now in
-    let mined = mined_all coding is_work c.args.limit c.args.pieces c.in_ok-collector.collector c.in_ok-shares.shares.items c.in_ok-values.values.items c.collected.result.items
-    c.requires.pieces.0 c.in_ok-collector.ensures (omega (arith, c.collected.ensures.count, c.collected.result.ok)) (rw c.in_ok-values.was at c.parted-seats.ensures.lists)
+    let mined = mined_all coding is_work c.args.limit c.args.cutting.pieces c.in_ok-collector.collector c.in_ok-shares.shares.items c.in_ok-values.values.items c.collected.result.items
+    c.args.cutting.some_pieces.0 c.in_ok-collector.ensures (omega (arith, c.collected.ensures.count, c.collected.result.ok)) (rw c.in_ok-values.was at c.parted-seats.ensures.lists)
     (λ k d below. (c.in_ok-shares.ensures.each k d (omega (arith, c.in_ok-shares.ensures.len))).1.call.met.values) c.collected.ensures.values in
     let once = once_of_all coding is_work _ c.class_items_are_all.ensures (subst IsCoding (sym c.requires.coding) c.baskets-baskets.ensures.coding) mined in
     subst (λ (k : Coding). ListsOnce (baskets_of k) k.minimum (flat_map (λ (class : Vec Counted Global). class.items) c.in_ok-classes.classes.items)) c.requires.coding
@@ -105,7 +105,7 @@ of_classes-requires g c =
 pub returns-clause-within : goal.returns-clause-within
 returns-clause-within g c =
     let coding : Coding = g.M.ClassMiner.coding_of c.args.miner.now in
-    let pieces = c.args.pieces in
+    let pieces = c.args.cutting.pieces in
     let shares = c.in_ok-shares.shares.items in
     let lists = c.in_ok-values.values.items in
     let seats = c.parted-seats.result.0.items in
@@ -123,12 +123,12 @@ returns-clause-within g c =
       ap length c.in_ok-numbered.ensures,
       length-map c.in_ok-numbered.field-0.items (λ worker. worker.1),
       c.in_ok-round.ensures.seats,
-      c.requires.workers.0,
+      c.args.cutting.some_workers.0,
     ) in
     let ended = c.in-Ok.ensures.ended (some_seat Told (λ s. 0 < s.held.past) (λ seat says. says.ended) seats some by_seats) ∙ c.in_ok-round.ensures.round.0 in
     let claimed = subst (λ n. IsPermutation (claimed_by seats) (range_with_len 0 n)) ended c.in-Ok.ensures.claimed in
     let first : 0 < length c.in-Ok.field-0.counters.items = omega (arith, c.in-Ok.ensures.counters, c.in-Ok.field-0.counters.ok, c.in_ok-round.ensures.round.1) in
-    let few = no_more_than_limit coding c.args.limit pieces seats _ c.requires.pieces.0 (subst IsCoding (sym c.requires.coding) c.baskets-baskets.ensures.coding) c.class_sizes_add_up.ensures by_seats claimed
+    let few = no_more_than_limit coding c.args.limit pieces seats _ c.args.cutting.some_pieces.0 (subst IsCoding (sym c.requires.coding) c.baskets-baskets.ensures.coding) c.class_sizes_add_up.ensures by_seats claimed
     (c.in-Ok.ensures.sums 0 first) (c.in-Ok.ensures.greatest 0 first) in
     let same = ap (λ (k : Coding). length (frequent_of_coding k)) c.requires.coding in
     let long = ap (λ (listing : Listing). length listing.sets) c.in_ok-of_classes.ensures in
@@ -138,7 +138,7 @@ pub returns-clause-work : goal.returns-clause-work
 returns-clause-work g c =
     let coding : Coding = g.M.ClassMiner.coding_of c.args.miner.now in
     let is_work = g.M.ClassMiner.is_work c.args.miner.now in
-    let mined = mined_all coding is_work c.args.limit c.args.pieces c.in_ok-collector.collector c.in_ok-shares.shares.items c.in_ok-values.values.items c.collected.result.items
-    c.requires.pieces.0 c.in_ok-collector.ensures (omega (arith, c.collected.ensures.count, c.collected.result.ok)) (rw c.in_ok-values.was at c.parted-seats.ensures.lists)
+    let mined = mined_all coding is_work c.args.limit c.args.cutting.pieces c.in_ok-collector.collector c.in_ok-shares.shares.items c.in_ok-values.values.items c.collected.result.items
+    c.args.cutting.some_pieces.0 c.in_ok-collector.ensures (omega (arith, c.collected.ensures.count, c.collected.result.ok)) (rw c.in_ok-values.was at c.parted-seats.ensures.lists)
     (λ k d below. (c.in_ok-shares.ensures.each k d (omega (arith, c.in_ok-shares.ensures.len))).1.call.met.values) c.collected.ensures.values in
     subst (λ (k : Coding). IsWorkOfAll is_work (length k.items) c.in_ok-classes.work) c.requires.coding (work_of_all coding is_work _ _ mined c.in_ok-classes.ensures.work)

@@ -25,7 +25,7 @@ map_vec-requires-after_bounds g c κs within i x below is =
     let unused = c.in_ok-round.ensures.unused i x.1 short in
     let own = ap (λ (s : SeatView). s.round) (sym seat) ∙ unused.0 in
     let none = ap (λ (s : SeatView). s.held.claimed) (sym seat) ∙ ap (λ h. h.claimed) unused.1 in
-    (own, none, c.requires.pieces.0, c.in_ok-round.ensures.round.0, c.requires.light)
+    (own, none, c.args.cutting.some_pieces.0, c.in_ok-round.ensures.round.0, c.requires.light)
 
 pub close-requires : goal.close-requires
 close-requires g c = record {
@@ -44,15 +44,15 @@ pub collected-requires-clause-each : goal.collected-requires-clause-each
 collected-requires-clause-each g c =
     let shares = c.in_ok-shares.shares.items in
     let lists = c.in-Ok-values.lists.items in
-    let P = Counted c.args.baskets.now c.args.pieces in
+    let P = Counted c.args.baskets.now c.args.cutting.pieces in
     let says : All (Says P) shares = λ k d below. (c.in_ok-shares.ensures.each k d (omega (arith, c.in_ok-shares.ensures.len))).1.call.met.values in
     let all : map Ok lists ≡ map (λ (s : Share (Vec (ℕ × Vec (ℕ × ℕ) Global) Global)). s.values) shares = rw c.in-Ok-values.is at c.parted-seats.ensures.lists in
     let seats = c.parted-seats.ensures.seats in
-    let some : 1 ≤ length shares = omega (arith, c.in_ok-shares.ensures.len, ap length c.in_ok-numbered.ensures, length-map c.in_ok-numbered.field-0.items (λ worker. worker.1), c.in_ok-round.ensures.seats, c.requires.workers.0) in
+    let some : 1 ≤ length shares = omega (arith, c.in_ok-shares.ensures.len, ap length c.in_ok-numbered.ensures, length-map c.in_ok-numbered.field-0.items (λ worker. worker.1), c.in_ok-round.ensures.seats, c.args.cutting.some_workers.0) in
     let ended = c.in-Ok.ensures.ended (subst (λ l. Any (λ (s : SeatView). 0 < s.held.past) l) (sym seats) (some_ended P (λ seat values says. says.ended) shares lists some all says)) in
     let claimed : claimed_by c.parted-seats.result.0.items ≡ flat_map (λ list. pieces_of list.items) lists =
     ap claimed_by seats ∙ sym (pieces_are_claimed P (λ seat values says. says.claimed) shares lists all says) in
-    let whole : c.in-Ok.field-0.claimed ≡ length c.in_ok-collector.collector = ended ∙ c.in_ok-round.ensures.round.0 ∙ sym (ap length c.in_ok-collector.ensures ∙ length-replicate c.args.pieces None) in
+    let whole : c.in-Ok.field-0.claimed ≡ length c.in_ok-collector.collector = ended ∙ c.in_ok-round.ensures.round.0 ∙ sym (ap length c.in_ok-collector.ensures ∙ length-replicate c.args.cutting.pieces None) in
     subst (λ n. IsPermutation (flat_map (λ list. pieces_of list.items) lists) (range_with_len 0 n)) whole
     (subst (λ l. IsPermutation l (range_with_len 0 c.in-Ok.field-0.claimed)) claimed c.in-Ok.ensures.claimed)
 
@@ -68,14 +68,14 @@ counted_parts baskets pieces places shares lists values some vacant count all sa
 
 pub add_up-requires : goal.add_up-requires
 add_up-requires g c =
-    let counted = counted_parts c.args.baskets.now c.args.pieces c.in_ok-collector.collector c.in_ok-shares.shares.items c.in-Ok-values.lists.items c.collected.result.items
-    c.requires.pieces.0 c.in_ok-collector.ensures (omega (arith, c.collected.ensures.count, c.collected.result.ok)) (rw c.in-Ok-values.is at c.parted-seats.ensures.lists)
+    let counted = counted_parts c.args.baskets.now c.args.cutting.pieces c.in_ok-collector.collector c.in_ok-shares.shares.items c.in-Ok-values.lists.items c.collected.result.items
+    c.args.cutting.some_pieces.0 c.in_ok-collector.ensures (omega (arith, c.collected.ensures.count, c.collected.result.ok)) (rw c.in-Ok-values.is at c.parted-seats.ensures.lists)
     (λ k d below. (c.in_ok-shares.ensures.each k d (omega (arith, c.in_ok-shares.ensures.len))).1.call.met.values) c.collected.ensures.values in
     (c.args.baskets.now, subst (λ l. CountParts c.args.baskets.now (map (λ list. list.items) l)) (sym c.deref.ensures.value) counted, c.requires.light)
 
 pub returns : goal.returns
 returns g c =
-    let counted = counted_parts c.args.baskets.now c.args.pieces c.in_ok-collector.collector c.in_ok-shares.shares.items c.in-Ok-values.lists.items c.collected.result.items
-    c.requires.pieces.0 c.in_ok-collector.ensures (omega (arith, c.collected.ensures.count, c.collected.result.ok)) (rw c.in-Ok-values.is at c.parted-seats.ensures.lists)
+    let counted = counted_parts c.args.baskets.now c.args.cutting.pieces c.in_ok-collector.collector c.in_ok-shares.shares.items c.in-Ok-values.lists.items c.collected.result.items
+    c.args.cutting.some_pieces.0 c.in_ok-collector.ensures (omega (arith, c.collected.ensures.count, c.collected.result.ok)) (rw c.in-Ok-values.is at c.parted-seats.ensures.lists)
     (λ k d below. (c.in_ok-shares.ensures.each k d (omega (arith, c.in_ok-shares.ensures.len))).1.call.met.values) c.collected.ensures.values in
     record { counts = c.add_up.ensures c.args.baskets.now (subst (λ l. CountParts c.args.baskets.now (map (λ list. list.items) l)) (sym c.deref.ensures.value) counted) }

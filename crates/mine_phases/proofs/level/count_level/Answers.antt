@@ -22,7 +22,7 @@ map_vec-requires-after_bounds g c κs within i x below is =
     let long = ap length (sym c.in_ok-tree.ensures) in (
       ap (λ (s : SeatView). s.round) (sym seat) ∙ fresh.0,
       ap (λ (s : SeatView). s.held) (sym seat) ∙ fresh.1 ∙ ap (unused 1) long,
-      c.requires.pieces.0,
+      c.args.cutting.some_pieces.0,
       c.in_ok-round.ensures.round.0,
       c.in_ok-round.ensures.round.1 ∙ long,
       c.requires.light,
@@ -41,7 +41,7 @@ pub returns-in-Ok-ended : goal.returns-in-Ok-ended
 returns-in-Ok-ended g c =
     let shares = c.in_ok-shares.shares.items in
     let baskets = c.args.baskets.now in
-    let pieces = c.args.pieces in
+    let pieces = c.args.cutting.pieces in
     let sets = c.in_ok-tree.tree in
     let P : SeatView → Type 0 = AddsSupports baskets pieces sets in
     let all : map Ok c.in-Ok-ended.field-0.items ≡ map (λ (s : Share (Unit {0})). s.values) shares = rw c.in-Ok-ended.is at c.parted-seats.ensures.lists in
@@ -56,11 +56,11 @@ returns-in-Ok-ended g c =
       ap length c.in_ok-numbered.ensures,
       length-map c.in_ok-numbered.field-0.items (λ worker. worker.1),
       c.in_ok-round.ensures.seats,
-      c.requires.workers.0,
+      c.args.cutting.some_workers.0,
     ) in
     let ended = c.in-Ok.ensures.ended (some_seat P (λ s. 0 < s.held.past) (λ seat says. says.ended) c.parted-seats.result.0.items some seats) ∙ c.in_ok-round.ensures.round.0 in
     let claimed = subst (λ n. IsPermutation (claimed_by c.parted-seats.result.0.items) (range_with_len 0 n)) ended c.in-Ok.ensures.claimed in
     let long : length c.in-Ok.totals.counters.items ≡ length sets =
     omega (arith, c.in-Ok.ensures.counters, c.in-Ok.totals.counters.ok, c.in_ok-round.ensures.round.1, ap length c.in_ok-tree.ensures) in
-    totals_are_supports baskets pieces sets c.parted-seats.result.0.items c.in-Ok.totals.counters.items c.requires.pieces.0 long seats claimed (λ k below. c.in-Ok.ensures.sums k below)
+    totals_are_supports baskets pieces sets c.parted-seats.result.0.items c.in-Ok.totals.counters.items c.args.cutting.some_pieces.0 long seats claimed (λ k below. c.in-Ok.ensures.sums k below)
     ∙ ap (map (support_of baskets)) c.in_ok-tree.ensures
