@@ -5,3 +5,4 @@ mod Shares
 mod Supports
 mod Mining
 mod Sharing
+mod PairParts

@@ -4,3 +4,4 @@ pub mod Counting
 pub mod Level
 pub mod Found
 pub mod Classes
+pub mod Pairs

@@ -7,10 +7,12 @@ ghost use Rattle.mine_apriori.specs.Levels.{AreTooMany, asked_of};
 ghost use Rattle.mine_apriori.specs.Pairs.{ArePairs, lists_of};
 ghost use Rattle.mine_apriori.specs.Work.{candidate_count};
 
+use crate::cutting::Cutting;
 use crate::gate::Gate;
 use crate::level::count_level;
 use crate::pairs::count_pairs;
 use basket_core::{Coded, Frequent, MineFault};
+use mine_apriori::laws::pairs_by_supports;
 use mine_apriori::{FirstLevel, Levels, frequent_pairs};
 use mine_classes::{Ordered, Runs};
 use std::alloc::{AllocError, Global};
@@ -24,19 +26,48 @@ fn pairs<R: Threads + Sync, G: Gate + Sync>(
     rt: &R,
     alloc: Global,
     coded: &Coded,
-    workers: u32,
-    pieces: u32,
+    cutting: Cutting,
     gate: &G,
 ) -> Result<Vec<Vec<(u32, u64)>>, AllocError>
-    requires workers { (1 ≤ workers) × (workers ≤ 64) }
-    requires pieces { (1 ≤ pieces) × (pieces ≤ 65536) }
     ensures { IfOk result (λ lists. ArePairs coded.now (lists_of lists.items)) }
 {
-    if workers == 1 {
+    if cutting.workers == 1 {
         return frequent_pairs(alloc, coded);
     }
+    pairs_by_supports();
     let _coding = coded.baskets();
     let least = coded.minimum().least(coded.total());
     let runs = Runs::of(alloc, Ordered::of_coded(alloc, coded)?)?;
-    count_pairs(rt, alloc, &runs, least, workers, pieces, gate)
+    count_pairs(rt, alloc, &runs, least, cutting, gate)
+}
+
+/// The list of the frequent sets, where it is no longer than the limit, and the number of candidates
+/// (Agrawal and Srikant 1994), found by so many workers: the pairs over so many parts of the ranks,
+/// and the supports of the candidates of each level over so many parts of the baskets.
+pub fn apriori_shared<R: Threads + Sync, G: Gate + Sync>(
+    rt: &R,
+    alloc: Global,
+    coded: &Coded,
+    limit: u32,
+    cutting: Cutting,
+    gate: &G,
+) -> Result<(Frequent, u64), MineFault>
+    ensures ok { IfOk result (λ mined. mined.0 ≡ listing_of coded.now) }
+    ensures candidates { IfOk result (λ mined. mined.1 ≡ candidate_count (baskets_of coded.now) coded.now.minimum) }
+    ensures within { IfOk result (λ mined. length mined.0.sets ≤ limit) }
+    ensures too_many { (most : ℕ) → result ≡ Err (TooMany most) → (most ≡ limit) × AreTooMany coded.now limit }
+{
+    let first = FirstLevel::of(alloc, coded, limit)?;
+    let pairs = pairs(rt, alloc, coded, cutting, gate)?;
+    let mut levels = first.with_pairs(alloc, &pairs)?;
+    let mut phase = FIRST_OF_LEVELS;
+    while !levels.asked().is_empty() {
+        let baskets = coded.baskets();
+        let sets = levels.asked();
+        let counts = count_level(rt, alloc, baskets, sets, phase, cutting, gate)?;
+        levels = levels.answer(alloc, &counts)?;
+        phase = phase.saturating_add(1);
+    }
+    let candidates = levels.counted();
+    Ok((levels.finish(alloc)?, candidates))
 }

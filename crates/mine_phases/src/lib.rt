@@ -2,11 +2,13 @@
 //! baskets or the ranks are cut into so many parts, and what is found doesn't depend on which
 //! worker takes which.
 //!
-//! `counting` counts the items, `level` the candidates of Apriori, and `classes` mines class by class
-//! with a `class_miner`, whose sets are told to the tally `found`. `share` is what a worker hands
-//! back, `placed` puts the values of pieces in their order, and workers pass a `gate` with each piece.
+//! `counting` counts the items. Of `apriori`, `pairs` finds the frequent pairs, and `level` counts the
+//! candidates of a level. `classes` mines class by class with a `class_miner`, whose sets are told to
+//! the tally `found`. `share` is what a worker hands back, `placed` puts the values of pieces in their
+//! order, and workers pass a `gate` with each piece.
 #![tactic(auto)]
 
+mod apriori;
 mod class_miner;
 mod classes;
 mod counting;
@@ -15,15 +17,18 @@ mod found;
 mod gate;
 mod joined;
 mod level;
+mod pairs;
 mod placed;
 mod share;
 
+pub use apriori::apriori_shared;
 pub use class_miner::ClassMiner;
 pub use classes::mine_shared;
 pub use counting::count_shared;
 pub use cutting::Cutting;
 pub use gate::{Gate, Open};
 pub use level::count_level;
+pub use pairs::count_pairs;
 
 #[cfg(test)]
 mod tests;

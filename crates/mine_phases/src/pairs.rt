@@ -5,6 +5,7 @@ ghost use Rattle.std.specs.List.{flat_map, slice_range};
 ghost use Rattle.mine_apriori.specs.Pairs.{lists_of};
 ghost use Rattle.mine_phases.specs.Pairs.{IsPairsShare, PairsParts, pairs_in};
 
+use crate::cutting::Cutting;
 use crate::gate::Gate;
 use crate::placed::collected;
 use crate::share::{Share, claim_piece, numbered, parted};
@@ -111,21 +112,18 @@ pub fn count_pairs<'a, R: Threads + Sync, G: Gate + Sync>(
     alloc: Global,
     runs: &'a Runs,
     least: u64,
-    workers: u32,
-    pieces: u32,
+    cutting: Cutting,
     gate: &'a G,
 ) -> Result<Vec<Vec<(u32, u64)>>, AllocError>
-    requires workers { (1 ≤ workers) × (workers ≤ 64) }
-    requires pieces { (1 ≤ pieces) × (pieces ≤ 65536) }
     ensures { IfOk result (λ pairs. lists_of pairs.items ≡ pairs_in runs.now least) }
 {
-    let (round, seats) = Round::new(alloc, pieces, 0, workers)?;
-    let collector = Collector::new(alloc, pieces)?;
+    let (round, seats) = Round::new(alloc, cutting.pieces, 0, cutting.workers)?;
+    let collector = Collector::new(alloc, cutting.pieces)?;
     let back = Vec::with_capacity(alloc, seats.len())?;
     let lists = Vec::with_capacity(alloc, seats.len())?;
     let pairing = Pairing {
         round: &round,
-        pieces,
+        pieces: cutting.pieces,
         runs,
         least,
         gate,
