@@ -23,6 +23,9 @@ use std::marker::Brand;
 use std::thread;
 use std::thread::Threads;
 
+/// The number of the phase: the items were counted before.
+const PHASE: u32 = 2;
+
 /// The phase as its workers see it.
 #[derive(Drop)]
 struct Classes<'a, M, G> {
@@ -31,7 +34,6 @@ struct Classes<'a, M, G> {
     ranks: u32,
     miner: &'a M,
     limit: u32,
-    phase: u32,
     gate: &'a G,
 }
 
@@ -49,8 +51,7 @@ impl<M: ClassMiner, G: Gate> Classes<'_, M, G> {
         let mut seat = seat;
         let mut values = Vec::new(alloc);
         while !self.is_over(&mut seat) {
-            let Some(piece) = claim_piece(self.round, &mut seat, self.gate, self.phase, worker)
-            else {
+            let Some(piece) = claim_piece(self.round, &mut seat, self.gate, PHASE, worker) else {
                 return Share {
                     seat,
                     values: Ok(values),
@@ -153,7 +154,6 @@ pub fn mine_shared<'a, R: Threads + Sync, G: Gate + Sync, M: ClassMiner + Sync>(
     coded: &Coded,
     miner: &'a M,
     limit: u32,
-    phase: u32,
     cutting: Cutting,
     gate: &'a G,
 ) -> Result<(Frequent, u64), MineFault>
@@ -176,7 +176,6 @@ pub fn mine_shared<'a, R: Threads + Sync, G: Gate + Sync, M: ClassMiner + Sync>(
         ranks: coded.ranks(),
         miner,
         limit,
-        phase,
         gate,
     };
     let lent = &classes;
