@@ -10,3 +10,4 @@ mod JoinLemmas
 mod BitLemmas
 mod WordLemmas
 mod PlaneLemmas
+mod MarkLemmas

@@ -8,3 +8,4 @@ pub mod Siblings
 pub mod Joins
 pub mod Bits
 pub mod Planes
+pub mod Marks

@@ -1,9 +1,10 @@
-ghost use Rattle.std.specs.Prelude.{◌≡◌, IfOk};
+ghost use Rattle.std.specs.Prelude.{◌≡◌, [], IfOk};
 ghost use Rattle.basket_sets.specs.Itemset.{AllBelow};
 ghost use Rattle.mine_vertical.specs.Bits.{words_of};
 ghost use Rattle.mine_vertical.specs.Rows.{IsBitRow};
 
 use crate::bits::{set_bit, share_words};
+use crate::marks::Marks;
 use crate::row::Row;
 use crate::weights::Weights;
 use std::alloc::{AllocError, Global};
@@ -30,6 +31,8 @@ fn bits_of_cover(alloc: Global, cover: &[u32], places: u32) -> Result<Vec<u64>, 
 impl Row for BitRow {
     ghost stands = { IsBitRow };
 
+    ghost marked = { λ row. [] };
+
     fn first(alloc: Global, cover: &[u32], weights: &Weights) -> Result<Self, AllocError> {
         Ok(BitRow {
             words: bits_of_cover(alloc, cover, weights.places())?,
@@ -42,6 +45,30 @@ impl Row for BitRow {
         let ones = share_words(&mut words, &x.words, &y.words)?;
         let count = weights.weight_of_bits(&words, ones);
         Ok(BitRow { words, count })
+    }
+
+    fn empty(alloc: Global) -> Self {
+        BitRow {
+            words: Vec::new(alloc),
+            count: 0,
+        }
+    }
+
+    fn to_mark(&self) -> &[u32] {
+        &[]
+    }
+
+    fn join(
+        &mut self,
+        x: &Self,
+        y: &Self,
+        _marks: &Marks,
+        weights: &Weights,
+    ) -> Result<(), AllocError> {
+        weights.bounds();
+        let ones = share_words(&mut self.words, &x.words, &y.words)?;
+        self.count = weights.weight_of_bits(&self.words, ones);
+        Ok(())
     }
 
     fn count(&self) -> u64 {

@@ -1,6 +1,7 @@
 ghost use Rattle.mine_vertical.specs.Rows.{IsDiffList};
 
 use crate::cover::{lacking_places, places_below};
+use crate::marks::Marks;
 use crate::row::Row;
 use crate::weights::Weights;
 use std::alloc::{AllocError, Global};
@@ -15,6 +16,8 @@ pub struct DiffList {
 impl Row for DiffList {
     ghost stands = { IsDiffList };
 
+    ghost marked = { λ row. row.missing.items };
+
     fn first(alloc: Global, cover: &[u32], weights: &Weights) -> Result<Self, AllocError> {
         let all = places_below(alloc, weights.places())?;
         Ok(DiffList {
@@ -27,6 +30,30 @@ impl Row for DiffList {
         let missing = lacking_places(alloc, &y.missing, &x.missing)?;
         let count = x.count - weights.weight(&missing);
         Ok(DiffList { missing, count })
+    }
+
+    fn empty(alloc: Global) -> Self {
+        DiffList {
+            missing: Vec::new(alloc),
+            count: 0,
+        }
+    }
+
+    fn to_mark(&self) -> &[u32] {
+        &self.missing
+    }
+
+    fn join(
+        &mut self,
+        x: &Self,
+        y: &Self,
+        marks: &Marks,
+        weights: &Weights,
+    ) -> Result<(), AllocError> {
+        weights.bounds();
+        marks.leave(&y.missing, &mut self.missing)?;
+        self.count = x.count - weights.weight(&self.missing);
+        Ok(())
     }
 
     fn count(&self) -> u64 {

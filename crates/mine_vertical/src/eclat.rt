@@ -5,6 +5,7 @@ ghost use Rattle.mine_vertical.specs.Joins.{class_joins};
 ghost use Rattle.mine_classes.specs.Mined.{ListsClassItems, RanksAreFrequent, class_size};
 
 use crate::mined::Mined;
+use crate::room::Room;
 use crate::row::Row;
 use crate::search::Search;
 use crate::siblings::{class_siblings, support_of_rank};
@@ -60,6 +61,7 @@ pub fn eclat_class<R: Row, T: Tally>(
         weights: &weights,
         least,
     };
-    search.extend(alloc, &siblings, &mut path, &mut mined, tally)?;
+    let mut room = Room::new(alloc, &weights)?;
+    search.extend(alloc, &siblings, &mut path, &mut mined, tally, &mut room)?;
     Ok((mined.sets, mined.joins))
 }

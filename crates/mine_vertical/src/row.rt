@@ -1,7 +1,9 @@
-ghost use Rattle.std.specs.Prelude.{◌≡◌, ℕ, List, IfOk, length};
+ghost use Rattle.std.specs.Prelude.{◌≡◌, ℕ, List, IfOk, OnOk, length};
 ghost use Rattle.basket_sets.specs.Itemset.{AllBelow, IsRising};
-ghost use Rattle.mine_vertical.specs.Cover.{all_places, common, cover_weight};
+ghost use Rattle.mine_vertical.specs.Cover.{IsCover, all_places, common, cover_weight};
+ghost use Rattle.mine_vertical.specs.Marks.{IsMarked};
 
+use crate::marks::Marks;
 use crate::weights::Weights;
 use std::alloc::{AllocError, Global};
 
@@ -10,6 +12,9 @@ use std::alloc::{AllocError, Global};
 pub trait Row: Drop {
     /// Whether a row over weights stands, beside a parent's cover, for a cover.
     ghost stands: { List ℕ → List ℕ → List ℕ → Self → Type 0 };
+
+    /// The places of a row that are marked.
+    ghost marked: { Self → List ℕ };
 
     /// The row of a cover beside all places.
     fn first(alloc: Global, cover: &[u32], weights: &Weights) -> Result<Self, AllocError>
@@ -21,6 +26,27 @@ pub trait Row: Drop {
     fn joined(alloc: Global, x: &Self, y: &Self, weights: &Weights) -> Result<Self, AllocError>
         requires { (parent : List ℕ) × (first : List ℕ) × (second : List ℕ) × stands weights.now parent first x.now × stands weights.now parent second y.now }
         ensures { IfOk result (λ row. (parent first second : List ℕ) → stands weights.now parent first x.now → stands weights.now parent second y.now → stands weights.now first (common first second) row) };
+
+    /// A row that stands for nothing yet, for `join` to make another of.
+    fn empty(alloc: Global) -> Self;
+
+    /// The places that are marked while the row is joined with others.
+    fn to_mark(&self) -> &[u32]
+        ensures places { result.now ≡ marked self.now }
+        ensures covers { (weights parent cover : List ℕ) → stands weights parent cover self.now → IsCover weights (marked self.now) };
+
+    /// Becomes the row of what two covers share, beside the first of them, whose places are marked.
+    /// Both stand beside one parent.
+    fn join(
+        &mut self,
+        x: &Self,
+        y: &Self,
+        marks: &Marks,
+        weights: &Weights,
+    ) -> Result<(), AllocError>
+        requires rows { (parent : List ℕ) × (first : List ℕ) × (second : List ℕ) × stands weights.now parent first x.now × stands weights.now parent second y.now }
+        requires marks { IsMarked weights.now (marked x.now) marks.now }
+        ensures { OnOk result ((parent first second : List ℕ) → stands weights.now parent first x.now → stands weights.now parent second y.now → stands weights.now first (common first second) self.new) };
 
     /// What the cover weighs.
     fn count(&self) -> u64

@@ -3,10 +3,12 @@ ghost use Rattle.std.specs.Prelude.{◌≡◌, ◌≤◌, ◌<◌, ◌+◌, ◌*
 ghost use Rattle.basket_core.specs.declared.fault.MineFault.TheVariants.{TooMany};
 ghost use Rattle.basket_sets.specs.declared.weighted.Weighted.{Weighted as Basket};
 ghost use Rattle.mine_vertical.specs.Cover.{weights_of};
+ghost use Rattle.mine_vertical.specs.Marks.{IsMarked};
 ghost use Rattle.mine_vertical.specs.Search.{FewJoins, IsNode, IsSibling, Node, found_at, is_met};
 ghost use Rattle.mine_vertical.specs.Walk.{joins_below, sets_below};
 
 use crate::mined::Mined;
+use crate::room::Room;
 use crate::row::Row;
 use crate::weights::Weights;
 use basket_core::{Coded, Itemset, MineFault, Tally};
@@ -35,28 +37,36 @@ impl Search<'_> {
         alloc: Global,
         sibling: &Sibling<R>,
         others: &[Sibling<R>],
+        room: &mut Room<R>,
         joins: &mut u64,
     ) -> Result<Vec<Sibling<R>>, AllocError>
         requires rows { (baskets : List Basket) × (set : List ℕ) × (self.now.weights.now ≡ weights_of baskets) × IsSibling R.stands baskets set sibling.now × All (IsSibling R.stands baskets set) others.now }
         requires some { 1 ≤ self.now.least }
         requires few { joins.old + length others.now ≤ 18446744073709551615 }
+        requires clear { IsMarked self.now.weights.now [] room.old.marks }
         ensures ranks { IfOk result (λ below. (baskets : List Basket) (set : List ℕ) → self.now.weights.now ≡ weights_of baskets → IsSibling R.stands baskets set sibling.now → All (IsSibling R.stands baskets set) others.now
             → map (λ other. other.rank) below.items ≡ filter (λ rank. is_met baskets self.now.least (rank ∷ sibling.now.rank ∷ set)) (map (λ other. other.rank) others.now)) }
         ensures rows { IfOk result (λ below. (baskets : List Basket) (set : List ℕ) → self.now.weights.now ≡ weights_of baskets → IsSibling R.stands baskets set sibling.now → All (IsSibling R.stands baskets set) others.now
             → All (IsSibling R.stands baskets (sibling.now.rank ∷ set)) below.items) }
         ensures joins { OnOk result (joins.new ≡ joins.old + length others.now) }
+        ensures clear { OnOk result (IsMarked self.now.weights.now [] room.new.marks) }
     {
+        room.marks.mark(sibling.row.to_mark(), self.weights);
         let mut below = Vec::new(alloc);
         for other in others {
-            let row = R::joined(alloc, &sibling.row, &other.row, self.weights)?;
+            let mut row = room.row(alloc);
+            row.join(&sibling.row, &other.row, &room.marks, self.weights)?;
             *joins += 1;
             if row.count() >= self.least {
                 below.push(Sibling {
                     rank: other.rank,
                     row,
                 })?;
+            } else {
+                room.rows.push(row)?;
             }
         }
+        room.marks.clear(sibling.row.to_mark());
         Ok(below)
     }
 
@@ -69,11 +79,13 @@ impl Search<'_> {
         path: &mut Vec<u32>,
         mined: &mut Mined,
         tally: &mut T,
+        room: &mut Room<R>,
     ) -> Result<(), MineFault>
         requires node { (node : Node) × IsNode R.stands self.now.weights.now self.now.least siblings.now path.old.items (length self.now.coded.now.items) node }
         requires some { 1 ≤ self.now.least }
         requires going { T.is_over tally.old ≡ false }
         requires few { FewJoins mined.old.joins (length mined.old.sets.items) }
+        requires clear { IsMarked self.now.weights.now [] room.old.marks }
         ensures sets { OnOk result ((node : Node) → IsNode R.stands self.now.weights.now self.now.least siblings.now path.old.items (length self.now.coded.now.items) node
             → mined.new.sets.items ≡ mined.old.sets.items ++ map (found_at self.now.coded.now.items node) (sets_below (is_met node.baskets self.now.least) node.below node.set)) }
         ensures joins { OnOk result ((node : Node) → IsNode R.stands self.now.weights.now self.now.least siblings.now path.old.items (length self.now.coded.now.items) node
@@ -88,14 +100,16 @@ impl Search<'_> {
         ensures at_most { (node : Node) → IsNode R.stands self.now.weights.now self.now.least siblings.now path.old.items (length self.now.coded.now.items) node
             → T.told_of tally.new ≤ T.told_of tally.old + length (sets_below (is_met node.baskets self.now.least) node.below node.set) }
         ensures limit { T.limit_of tally.new ≡ T.limit_of tally.old }
+        ensures clear { OnOk result (IsMarked self.now.weights.now [] room.new.marks) }
     {
         for (at, sibling) in siblings.iter().enumerate() {
             path.push(sibling.rank)?;
             let set = Itemset::from_items(alloc, path)?;
             let count = sibling.row.count();
             mined.add(self.coded.decode(set), count, tally)?;
-            let below = self.joined(alloc, sibling, &siblings[..at], &mut mined.joins)?;
-            self.extend(alloc, &below, path, mined, tally)?;
+            let below = self.joined(alloc, sibling, &siblings[..at], room, &mut mined.joins)?;
+            self.extend(alloc, &below, path, mined, tally, room)?;
+            room.take_back(below);
             path.pop();
         }
         Ok(())

@@ -1,6 +1,7 @@
 ghost use Rattle.mine_vertical.specs.Rows.{IsTidList};
 
 use crate::cover::common_places;
+use crate::marks::Marks;
 use crate::row::Row;
 use crate::weights::Weights;
 use std::alloc::{AllocError, Global};
@@ -15,6 +16,8 @@ pub struct TidList {
 impl Row for TidList {
     ghost stands = { IsTidList };
 
+    ghost marked = { λ row. row.places.items };
+
     fn first(alloc: Global, cover: &[u32], weights: &Weights) -> Result<Self, AllocError> {
         Ok(TidList {
             places: cover.to_vec(alloc)?,
@@ -26,6 +29,29 @@ impl Row for TidList {
         let places = common_places(alloc, &x.places, &y.places)?;
         let count = weights.weight(&places);
         Ok(TidList { places, count })
+    }
+
+    fn empty(alloc: Global) -> Self {
+        TidList {
+            places: Vec::new(alloc),
+            count: 0,
+        }
+    }
+
+    fn to_mark(&self) -> &[u32] {
+        &self.places
+    }
+
+    fn join(
+        &mut self,
+        x: &Self,
+        y: &Self,
+        marks: &Marks,
+        weights: &Weights,
+    ) -> Result<(), AllocError> {
+        weights.bounds();
+        self.count = marks.keep(&y.places, &mut self.places)?;
+        Ok(())
     }
 
     fn count(&self) -> u64 {

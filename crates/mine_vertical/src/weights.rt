@@ -1,5 +1,5 @@
 //! Weights of places.
-ghost use Rattle.std.specs.Prelude.{◌≡◌, ◌≤◌, ℕ, List, All, IfOk, length, sum};
+ghost use Rattle.std.specs.Prelude.{◌≡◌, ◌≤◌, ◌<◌, ℕ, List, All, IfOk, length, slice_index, sum};
 ghost use Rattle.basket_sets.specs.Database.{MOST_WEIGHT};
 ghost use Rattle.basket_sets.specs.Itemset.{AllBelow, IsRising};
 ghost use Rattle.mine_vertical.specs.Cover.{IsCover, cover_weight};
@@ -58,6 +58,23 @@ impl Weights {
         ensures { result ≡ length self.now }
     {
         self.weights.len() as u32
+    }
+
+    /// What a place weighs.
+    pub fn of_place(&self, place: u32) -> u64
+        requires { place < length self.now }
+        ensures { result ≡ slice_index self.now place }
+    {
+        self.weights[place as usize]
+    }
+
+    /// What holds of all weights: they are few, none is 0, and no cover is heavy.
+    pub(crate) fn bounds(&self)
+        ensures few { length self.now ≤ MOST_PLACES }
+        ensures some { All (λ weight. 1 ≤ weight) self.now }
+        ensures light { (cover : List ℕ) → IsCover self.now cover → cover_weight self.now cover ≤ MOST_WEIGHT }
+    {
+        let _ = self.weights.len();
     }
 
     /// What some places weigh together.

@@ -66,6 +66,17 @@ returns-in_err-path-clause-at_most g c =
     rank (conditional least all rank) (λ set. refl) enough in
     omega (arith, c.add.ensures.told)
 
+pub returns-in_err-room-clause-at_most : goal.returns-in_err-room-clause-at_most
+returns-in_err-room-clause-at_most g c =
+    let coding = c.args.vertical.now in
+    let rank = c.args.rank in
+    let least = c.least-least.result in
+    let all = c.runs-runs.result.now.baskets in
+    let enough : least ≤ support_of all (rank ∷ []) = omega (arith, c.if-support-least.false, c.support_of_rank-support.ensures) in
+    let size = whole_size coding least all c.least-least.ensures c.runs-runs.ensures.weights c.conditional_supports.ensures c.supports_settle_frequent.ensures c.classes_are_conditional.ensures c.lists_have_class_size.ensures
+    rank (conditional least all rank) (λ set. refl) enough in
+    omega (arith, c.add.ensures.told)
+
 pub extend-requires-clause-node : goal.extend-requires-clause-node
 extend-requires-clause-node g c =
     let coding = c.args.vertical.now in

@@ -8,6 +8,8 @@ use Rattle.basket_core.specs.declared.fault.MineFault.TheVariants.{TooMany}
 use Rattle.basket_sets.specs.Itemset.{AllBelow, rising}
 use Rattle.basket_sets.specs.declared.counted.Counted.{Counted}
 use Rattle.mine_vertical.specs.Cover.{cover_of}
+use Rattle.mine_vertical.specs.declared.marks.Marks.{Marks}
+use Rattle.mine_vertical.specs.Marks.{IsMarked}
 use Rattle.mine_vertical.specs.Search.{IsNode, IsSibling, found_at, is_met, ranks_at}
 use Rattle.mine_vertical.specs.Walk.{kept_below}
 use Rattle.mine_vertical.proofs.SearchLemmas.{counted_row, sibling_at}
@@ -200,7 +202,7 @@ extend-requires g t c = λ κs lives.
           lives.1,
           (
             (child node sibling.rank, inner),
-            (c.requires.some, (c.in_ok-add.ensures.going_on, omega (arith, c.in_ok-below.ensures.joins, c.add.ensures.joins, c.loop-at.invariant.few))),
+            (c.requires.some, (c.in_ok-add.ensures.going_on, (omega (arith, c.in_ok-below.ensures.joins, c.add.ensures.joins, c.loop-at.invariant.few), c.in_ok-below.ensures.clear))),
           ),
         ),
       ),
@@ -279,6 +281,7 @@ loop-at-preserved g t c =
     record {
       path = pop_path path c.extend.new.path.items c.pop.new.self.items sibling.rank (c.in_ok-extend.ensures.path ∙ pushed)
           (c.pop.ensures.rest ∙ ap (λ n. take (n - 1) c.extend.new.path.items) c.extend.new.path.ok.0);
+      clear = subst (λ (marks : Marks). IsMarked weights [] marks) (sym c.take_back.ensures) c.in_ok-extend.ensures.clear;
       going = c.in_ok-extend.ensures.going_on;
       limit = c.extend.ensures.limit ∙ c.add.ensures.limit ∙ c.loop-at.invariant.limit;
       told = omega (arith, c.in_ok-extend.ensures.told, c.add.ensures.told, c.loop-at.invariant.told, longer);

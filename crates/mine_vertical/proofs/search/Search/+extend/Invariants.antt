@@ -1,5 +1,6 @@
-use Rattle.std.proofs.Common.{◌≡◌, ◌+◌, ◌++◌, false, length, map, take}
+use Rattle.std.proofs.Common.{◌≡◌, [], ◌+◌, ◌++◌, false, length, map, take}
 use Rattle.std.specs.List.{flat_map, sum_by}
+use Rattle.mine_vertical.specs.Marks.{IsMarked}
 use Rattle.mine_vertical.specs.Search.{FewJoins, IsNode, Node, found_at, is_met}
 use Rattle.mine_vertical.specs.Walk.{kept_below}
 use Rattle.mine_vertical.proofs.WalkLemmas.{branch, branch_joins}
@@ -11,6 +12,7 @@ decreases-extend g l = length l.siblings.now
 abbrev pub invariant-loop-at : goal.invariant-loop-at
 invariant-loop-at g l = record {
   path : l.path.items ≡ l.initial.path.items;
+  clear : IsMarked l.self.weights.now [] l.room.marks;
   going : g.T.Tally.is_over l.tally ≡ false;
   limit : g.T.Tally.limit_of l.tally ≡ g.T.Tally.limit_of l.initial.tally;
   told : g.T.Tally.told_of l.tally + length l.initial.mined.sets.items ≡ g.T.Tally.told_of l.initial.tally + length l.mined.sets.items;

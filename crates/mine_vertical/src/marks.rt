@@ -1,0 +1,82 @@
+//! Places of a row that are marked while the row is joined with others.
+ghost use Rattle.std.specs.Prelude.{◌≡◌, ◌≤◌, ◌<◌, [], ℕ, List, IfOk, OnOk, filter, length, nat_lt, not, slice_index};
+ghost use Rattle.std.specs.List.{sum_by};
+ghost use Rattle.basket_sets.specs.Database.{MOST_WEIGHT};
+ghost use Rattle.basket_sets.specs.Itemset.{AllBelow};
+ghost use Rattle.mine_vertical.specs.Cover.{IsCover};
+ghost use Rattle.mine_vertical.specs.Marks.{IsMarked};
+
+use crate::weights::Weights;
+use std::alloc::{AllocError, Global};
+
+/// The weight of each place that is marked, by the place's number, and 0 for the others.
+#[derive(Debug, Drop)]
+pub struct Marks {
+    pub weights: Vec<u64>,
+}
+
+impl Marks {
+    /// No place is marked.
+    pub fn new(alloc: Global, places: u32) -> Result<Self, AllocError>
+        ensures { IfOk result (λ marks. (weights : List ℕ) → length weights ≡ places → IsMarked weights [] marks) }
+    {
+        Ok(Marks {
+            weights: vec![in alloc; 0u64; places as usize]?,
+        })
+    }
+
+    /// Marks places.
+    pub fn mark(&mut self, places: &[u32], weights: &Weights)
+        requires covers { IsCover weights.now places.now }
+        requires clear { IsMarked weights.now [] self.old }
+        ensures { IsMarked weights.now places.now self.new }
+    {
+        for place in places {
+            self.weights[*place as usize] = weights.of_place(*place);
+        }
+    }
+
+    /// Takes the marks of places away.
+    pub fn clear(&mut self, places: &[u32])
+        requires { AllBelow (length self.old.weights.items) places.now }
+        ensures { (weights : List ℕ) → IsMarked weights places.now self.old → IsMarked weights [] self.new }
+    {
+        for place in places {
+            self.weights[*place as usize] = 0;
+        }
+    }
+
+    /// Keeps those of some places that are marked, in the place of other places. The answer is what
+    /// they weigh.
+    pub fn keep(&self, places: &[u32], kept: &mut Vec<u32>) -> Result<u64, AllocError>
+        requires below { AllBelow (length self.now.weights.items) places.now }
+        requires light { sum_by (λ place. slice_index self.now.weights.items place) places.now ≤ MOST_WEIGHT }
+        ensures places { OnOk result (kept.new.items ≡ filter (λ place. nat_lt 0 (slice_index self.now.weights.items place)) places.now) }
+        ensures sum { IfOk result (λ sum. sum ≡ sum_by (λ place. slice_index self.now.weights.items place) places.now) }
+    {
+        kept.clear();
+        let mut sum = 0;
+        for place in places {
+            let weight = self.weights[*place as usize];
+            if weight > 0 {
+                kept.push(*place)?;
+                sum += weight;
+            }
+        }
+        Ok(sum)
+    }
+
+    /// Keeps those of some places that are not marked, in the place of other places.
+    pub fn leave(&self, places: &[u32], kept: &mut Vec<u32>) -> Result<(), AllocError>
+        requires { AllBelow (length self.now.weights.items) places.now }
+        ensures { OnOk result (kept.new.items ≡ filter (λ place. not (nat_lt 0 (slice_index self.now.weights.items place))) places.now) }
+    {
+        kept.clear();
+        for place in places {
+            if self.weights[*place as usize] == 0 {
+                kept.push(*place)?;
+            }
+        }
+        Ok(())
+    }
+}
