@@ -1,5 +1,5 @@
 -- Sets that are found within a conditional database, as items.
-use Rattle.std.specs.Prelude.{◌≡◌, ◌≤◌, ◌+◌, ◌-◌, ◌++◌, ℕ, List, length, map, slice_index_or}
+use Rattle.std.specs.Prelude.{◌≡◌, ◌≤◌, ◌+◌, ◌-◌, ◌++◌, ℕ, List, [], ◌∷◌, length, map, slice_index_or}
 use Rattle.std.specs.List.{flat_map}
 use Rattle.basket_core.specs.Codes.{IsCoding, decoded_place}
 use Rattle.basket_sets.specs.declared.counted.Counted.{Counted}
@@ -49,6 +49,12 @@ pub record HasLower (level : Level) (rank start : ℕ) (found : List Counted) : 
   pub ranks : length classes ≡ rank
   pub listed : ListClasses level.runs.baskets (Count level.least) classes
   pub are : found ≡ before ++ map (as_items level.names.items level.suffix.items) (flat_map (λ class. class) classes)
+
+-- a set that stands at a place is added once more, with one more item and with its own count
+pub record IsChosen (at item count : ℕ) (old new : List Counted) : Type 0 where
+  pub chosen : Counted
+  pub stands : slice_index_or old at chosen ≡ chosen
+  pub added : new ≡ old ++ record { set = rising (chosen.set ++ item ∷ []); count = count } ∷ []
 
 -- a run ends where it starts or later
 abbrev pub IsOrdered : Span → Type 0

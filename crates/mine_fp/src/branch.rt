@@ -6,7 +6,7 @@ ghost use Rattle.basket_sets.specs.declared.minimum.Minimum.TheVariants.{Count};
 ghost use Rattle.basket_sets.specs.Frequent.{frequent_of};
 ghost use Rattle.mine_classes.specs.declared.span.Span.{Span as Run};
 ghost use Rattle.mine_classes.specs.Classes.{class_of};
-ghost use Rattle.mine_fp.specs.Level.{HasLower, IsLevel, IsOrdered, ListsClassAsItems, ListsAllAsItems};
+ghost use Rattle.mine_fp.specs.Level.{HasLower, IsChosen, IsLevel, IsOrdered, ListsClassAsItems, ListsAllAsItems};
 ghost use Rattle.mine_fp.specs.Trees.{is_branch};
 
 use crate::level::{Found, Level, tell};
@@ -56,8 +56,8 @@ impl Level {
         classes_are_all();
         classes_are_listed();
         let start = found.sets.len();
-        for rank in 0..self.runs.ranks() {
-            self.choices(alloc, rank, start, found, tally)?;
+        for last in 0..self.runs.ranks() {
+            self.choices(alloc, last, start, found, tally)?;
         }
         Ok(())
     }
@@ -98,13 +98,9 @@ impl Level {
         let end = found.sets.len();
         let mut items = self.items_with(alloc, rank)?;
         tell(alloc, &items, support, found, tally)?;
+        let item = self.names[rank as usize];
         for at in start..end {
-            put(
-                &mut items,
-                found.sets[at].set.items(),
-                self.names[rank as usize],
-            )?;
-            tell(alloc, &items, support, found, tally)?;
+            choose(alloc, &mut items, at, item, support, found, tally)?;
         }
         Ok(())
     }
@@ -116,6 +112,31 @@ fn are_whole(runs: &[Span], depth: u32) -> bool
     ensures { result ≡ list_all (λ (run : Run). run.end - run.start == depth) runs.now }
 {
     runs.iter().all(|run| run.end - run.start == depth)
+}
+
+/// Tells a set that was found with one more item, and how often it occurs. The list of items is room
+/// that is used again.
+fn choose<T: Tally>(
+    alloc: Global,
+    items: &mut Vec<u32>,
+    at: usize,
+    item: u32,
+    count: u64,
+    found: &mut Found,
+    tally: &mut T,
+) -> Result<(), MineFault>
+    requires at { at < vec_len found.old.sets }
+    requires going { T.is_over tally.old ≡ false }
+    ensures added { OnOk result (IsChosen at item count found.old.sets.items found.new.sets.items) }
+    ensures trees { found.new.trees ≡ found.old.trees }
+    ensures told { OnOk result (T.told_of tally.new ≡ T.told_of tally.old + 1) }
+    ensures going_on { OnOk result (T.is_over tally.new ≡ false) }
+    ensures too_many { (limit : ℕ) → result ≡ Err (TooMany limit) → (limit ≡ T.limit_of tally.old) × IsTrue (T.is_over tally.new) }
+    ensures at_most { T.told_of tally.new ≤ T.told_of tally.old + 1 }
+    ensures limit { T.limit_of tally.new ≡ T.limit_of tally.old }
+{
+    put(items, found.sets[at].set.items(), item)?;
+    tell(alloc, items, count, found, tally)
 }
 
 /// The items of a set, and one more, in place of those that are there.

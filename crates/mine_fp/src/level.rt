@@ -165,7 +165,7 @@ impl Level {
     }
 
     /// The conditional database of a rank, each set in which gets the items: one more tree.
-    fn below(
+    pub fn below(
         &self,
         alloc: Global,
         rank: u32,

@@ -31,8 +31,8 @@ returns-in_err-tell-clause-at_most g c =
     let most = c.in_err-tell.ensures.at_most in
     omega arith
 
-pub returns-in_err-put-clause-at_most : goal.returns-in_err-put-clause-at_most
-returns-in_err-put-clause-at_most g c =
+pub returns-in_err-choose-clause-at_most : goal.returns-in_err-choose-clause-at_most
+returns-in_err-choose-clause-at_most g c =
     let level = c.args.self.now in
     let met = met_by level.runs.baskets level.least c.args.rank c.support-support.result c.support-support.ensures c.requires.level.some c.if-support-self.false in
     let lower = c.requires.lower in
@@ -40,40 +40,28 @@ returns-in_err-put-clause-at_most g c =
     let size = choices_long level.runs.baskets level.least c.args.rank c.requires.branch met c.conditional_supports.ensures c.classes_are_all.ensures c.classes_are_conditional.ensures lower.classes lower.ranks lower.listed c.lists_have_class_size.ensures in
     let named = as_items level.names.items level.suffix.items in
     let long = ap length lower.are ∙ length-append lower.before (map named sets) in
-    omega (arith, c.loop-at.invariant.told, size, long, lower.long, length-map sets named, c.loop-at-test.true, c.len-end.ensures, c.loop-at.auto.at, c.args.found.now.sets.ok.0)
-
-pub returns-in_err-tell-2-clause-at_most : goal.returns-in_err-tell-2-clause-at_most
-returns-in_err-tell-2-clause-at_most g c =
-    let level = c.args.self.now in
-    let met = met_by level.runs.baskets level.least c.args.rank c.support-support.result c.support-support.ensures c.requires.level.some c.if-support-self.false in
-    let lower = c.requires.lower in
-    let sets = flat_map (λ (class : List Counted). class) lower.classes in
-    let size = choices_long level.runs.baskets level.least c.args.rank c.requires.branch met c.conditional_supports.ensures c.classes_are_all.ensures c.classes_are_conditional.ensures lower.classes lower.ranks lower.listed c.lists_have_class_size.ensures in
-    let named = as_items level.names.items level.suffix.items in
-    let long = ap length lower.are ∙ length-append lower.before (map named sets) in
-    let most = c.in_err-tell-2.ensures.at_most in
+    let most = c.in_err-choose.ensures.at_most in
     omega (arith, most, c.loop-at.invariant.told, size, long, lower.long, length-map sets named, c.loop-at-test.true, c.len-end.ensures, c.loop-at.auto.at, c.args.found.now.sets.ok.0)
 
 pub loop-at-preserved : goal.loop-at-preserved
 loop-at-preserved g c =
     let level = c.args.self.now in
     let so_far = c.loop-at.invariant in
-    let now = c.in_ok-tell-2.ensures in
+    let now = c.in_ok-choose.ensures in
     let at = c.loop-at.at in
-    let item = c.index-in-loop-at.result.now in
+    let item = c.index-item.result.now in
     let named = as_items level.names.items level.suffix.items in
-    let put = c.deref-in-loop-at.ensures.value ∙ c.in_ok-put.ensures ∙ ap (λ l. l ++ item ∷ []) (c.items.ensures.items ∙ ap (λ (x : Counted). x.set) c.index.ensures) in
     let name : item ≡ get_or level.names.items c.args.rank 0 =
-    c.index-in-loop-at.ensures ∙ get_or_default level.names.items c.args.rank item 0 (omega (arith, c.requires.rank, c.requires.level.names)) in
+    c.index-item.ensures ∙ get_or_default level.names.items c.args.rank item 0 (omega (arith, c.requires.rank, c.requires.level.names)) in
     record {
       sets = λ classes before long are.
           let sets = flat_map (λ (class : List Counted). class) classes in
           let whole = ap length are ∙ length-append before (map named sets) in
           let here : at - c.args.start < length sets =
           omega (arith, whole, long, length-map sets named, c.loop-at-test.true, c.len-end.ensures, c.loop-at.auto.at, c.args.found.now.sets.ok.0) in
-          chosen_more level.names.items level.suffix.items c.args.rank c.support-support.result item at (at - c.args.start) c.index.result.now before c.args.found.now.sets.items
-          c.loop-at.found.sets.items c.tell-in-loop-at.new.found.sets.items sets here (omega (arith, long, c.loop-at.auto.at)) are name (so_far.sets classes before long are)
-          (now.added ∙ (λ i. c.loop-at.found.sets.items ++ record { set = rising (put i); count = c.support-support.result } ∷ []))
+          chosen_more level.names.items level.suffix.items c.args.rank c.support-support.result item at (at - c.args.start) now.added.chosen before c.args.found.now.sets.items
+          c.loop-at.found.sets.items c.choose.new.found.sets.items sets here (omega (arith, long, c.loop-at.auto.at)) are name (so_far.sets classes before long are)
+          (now.added.added ∙ (λ i. c.loop-at.found.sets.items ++ record { set = rising ((sym now.added.stands i).set ++ item ∷ []); count = c.support-support.result } ∷ []))
           ∙ (let next : at - c.args.start + 1 ≡ at + 1 - c.args.start = omega (arith, c.loop-at.auto.at) in
           ap (λ n. c.args.found.now.sets.items ++ map named (chosen c.args.rank c.support-support.result (take n sets))) next);
       trees = now.trees ∙ so_far.trees;
