@@ -1,10 +1,7 @@
-use Rattle.std.proofs.Common.{◌≡◌, ◌≢◌, [], eqb, length, sym, ap, subst, ◌∙◌, arith}
+use Rattle.std.proofs.Common.{◌≢◌, [], eqb, length, sym, ap, ◌∙◌, arith}
 use Rattle.std.proofs.lemmas.Bool.{true≢false}
-use Rattle.basket_sets.specs.Order.{IsInReportOrder}
 use Rattle.basket_sets.specs.Support.{items_of}
 use Rattle.mine_apriori.specs.Levels.{asked_of}
-use Rattle.mine_apriori.specs.Shard.{IsRegular}
-use Rattle.mine_apriori.specs.Sizes.{AreOfOneSize}
 use Rattle.mine_phases.proofs.apriori.apriori_shared.Goals as goal
 
 pub loop-cutting-smaller : goal.loop-cutting-smaller

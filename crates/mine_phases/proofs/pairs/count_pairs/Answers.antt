@@ -1,5 +1,5 @@
-use Rattle.std.proofs.Common.{◌≡◌, ℕ, ◌≤◌, ◌<◌, ap, sym, ◌∙◌, subst, arith, map, length, get_or, List, Ok, Option, Some, None, replicate}
-use Rattle.std.specs.Prelude.{All, Any, IfOk, IsPermutation, Vec}
+use Rattle.std.proofs.Common.{◌≡◌, ℕ, ◌≤◌, ◌<◌, ap, sym, ◌∙◌, subst, arith, map, length, get_or, List, Ok, None}
+use Rattle.std.specs.Prelude.{All, Any, IsPermutation, Vec}
 use Rattle.std.specs.List.{flat_map, range_with_len}
 use Rattle.std.specs.Global.{Global}
 use Rattle.std.proofs.lemmas.List.{get_or-map, length-map, length-replicate}
@@ -11,7 +11,6 @@ use Rattle.basket_core.specs.Shards.{shard_of}
 use Rattle.mine_apriori.specs.Pairs.{lists_of}
 use Rattle.mine_classes.specs.Ordered.{RankBaskets}
 use Rattle.mine_phases.specs.Pairs.{PairsParts, pairs_in}
-use Rattle.mine_phases.specs.Placed.{placed}
 use Rattle.mine_phases.specs.Share.{pieces_of}
 use Rattle.mine_phases.proofs.PairParts.{lists_of_parts, parts_by_piece}
 use Rattle.mine_phases.proofs.Shares.{Says, all_values, pieces_are_claimed, some_ended}

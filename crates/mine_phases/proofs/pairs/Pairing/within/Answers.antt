@@ -1,9 +1,8 @@
-use Rattle.std.proofs.Common.{◌≡◌, ℕ, ◌+◌, ◌-◌, ◌≤◌, ◌<◌, ◌++◌, ◌∷◌, [], length, take, drop, get_or, map, sym, ap, subst, ◌∙◌, arith}
+use Rattle.std.proofs.Common.{ℕ, ◌++◌, ◌∷◌, [], sym, ap, ◌∙◌, arith}
 use Rattle.std.specs.List.{slice_range}
-use Rattle.mine_classes.specs.Pairs.{pairs_of}
-use Rattle.mine_apriori.specs.Pairs.{lists_of, pairs_by_greater}
+use Rattle.mine_apriori.specs.Pairs.{lists_of}
 use Rattle.mine_phases.specs.Pairs.{pairs_in}
-use Rattle.mine_phases.proofs.PairParts.{one_more, pairs_at}
+use Rattle.mine_phases.proofs.PairParts.{pairs_at}
 use Rattle.std.proofs.lemmas.List.{map-append}
 use Rattle.std.specs.declared.vec.Vec.{Vec}
 use Rattle.std.specs.declared.alloc.Global.{Global}
