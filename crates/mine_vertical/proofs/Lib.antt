@@ -11,3 +11,4 @@ mod BitLemmas
 mod WordLemmas
 mod PlaneLemmas
 mod MarkLemmas
+mod CoversLemmas

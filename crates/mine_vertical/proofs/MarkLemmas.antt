@@ -21,24 +21,24 @@ none_marked zero (suc place) = refl
 none_marked (suc n) zero = refl
 none_marked (suc n) (suc place) = none_marked n place
 
-set_same : (xs : List ℕ) (i v : ℕ) → i < length xs → get_or (set xs i v) i 0 ≡ v
-set_same [] i v here = absurd (omega arith)
-set_same (x ∷ xs) zero v here = refl
-set_same (x ∷ xs) (suc i) v here = set_same xs i v (omega arith)
+set_same : {X : Type 0} (d : X) (xs : List X) (i : ℕ) (v : X) → i < length xs → get_or (set xs i v) i d ≡ v
+set_same d [] i v here = absurd (omega arith)
+set_same d (x ∷ xs) zero v here = refl
+set_same d (x ∷ xs) (suc i) v here = set_same d xs i v (omega arith)
 
-set_other : (xs : List ℕ) (i v k : ℕ) → (i ≡ k → ⊥) → get_or (set xs i v) k 0 ≡ get_or xs k 0
-set_other [] zero v k differ = refl
-set_other [] (suc i) v k differ = refl
-set_other (x ∷ xs) zero v zero differ = absurd (differ refl)
-set_other (x ∷ xs) zero v (suc k) differ = refl
-set_other (x ∷ xs) (suc i) v zero differ = refl
-set_other (x ∷ xs) (suc i) v (suc k) differ = set_other xs i v k (λ e. differ (ap suc e))
+set_other : {X : Type 0} (d : X) (xs : List X) (i : ℕ) (v : X) (k : ℕ) → (i ≡ k → ⊥) → get_or (set xs i v) k d ≡ get_or xs k d
+set_other d [] zero v k differ = refl
+set_other d [] (suc i) v k differ = refl
+set_other d (x ∷ xs) zero v zero differ = absurd (differ refl)
+set_other d (x ∷ xs) zero v (suc k) differ = refl
+set_other d (x ∷ xs) (suc i) v zero differ = refl
+set_other d (x ∷ xs) (suc i) v (suc k) differ = set_other d xs i v k (λ e. differ (ap suc e))
 
 -- a list with another element
-pub set_at : (xs : List ℕ) (i v k : ℕ) → i < length xs → get_or (set xs i v) k 0 ≡ cond (eqb i k) v (get_or xs k 0)
-set_at xs i v k here = elim (cases_eq i k) [
-  | inl e ↦ (ap (λ j. get_or (set xs i v) j 0) (sym e) ∙ set_same xs i v here ∙ sym (ap (λ b. cond b v (get_or xs k 0)) (eq-eqb i k e)))
-  | inr differ ↦ (set_other xs i v k differ ∙ sym (ap (λ b. cond b v (get_or xs k 0)) (ne_eqb i k differ)))
+pub set_at : {X : Type 0} (d : X) (xs : List X) (i : ℕ) (v : X) (k : ℕ) → i < length xs → get_or (set xs i v) k d ≡ cond (eqb i k) v (get_or xs k d)
+set_at d xs i v k here = elim (cases_eq i k) [
+  | inl e ↦ (ap (λ j. get_or (set xs i v) j d) (sym e) ∙ set_same d xs i v here ∙ sym (ap (λ b. cond b v (get_or xs k d)) (eq-eqb i k e)))
+  | inr differ ↦ (set_other d xs i v k differ ∙ sym (ap (λ b. cond b v (get_or xs k d)) (ne_eqb i k differ)))
 ]
 
 pub one_marked : (weights places items : List ℕ) (i place : ℕ) → i < length places → get_or places i 0 < length items
@@ -46,7 +46,7 @@ pub one_marked : (weights places items : List ℕ) (i place : ℕ) → i < lengt
     → get_or (set items (get_or places i 0) (get_or weights (get_or places i 0) 0)) place 0 ≡ cond (has (take (i + 1) places) place) (get_or weights place 0) 0
 one_marked weights places items i place here below before =
     let p : ℕ = get_or places i 0 in
-    set_at items p (get_or weights p 0) place below ∙ ap (cond (eqb p place) (get_or weights p 0)) before
+    set_at 0 items p (get_or weights p 0) place below ∙ ap (cond (eqb p place) (get_or weights p 0)) before
     ∙ at (eqb p place) (has (take i places) place) refl
     ∙ ap (λ b. cond b (get_or weights place 0) 0) (sym (has_more places i place here))
   where
@@ -61,7 +61,7 @@ pub one_cleared : (places items : List ℕ) (i place old : ℕ) → i < length p
     → get_or (set items (get_or places i 0) 0) place 0 ≡ cond (has (take (i + 1) places) place) 0 old
 one_cleared places items i place old here below before =
     let p : ℕ = get_or places i 0 in
-    set_at items p 0 place below ∙ ap (cond (eqb p place) 0) before ∙ at (eqb p place) (has (take i places) place)
+    set_at 0 items p 0 place below ∙ ap (cond (eqb p place) 0) before ∙ at (eqb p place) (has (take i places) place)
     ∙ ap (λ b. cond b 0 old) (sym (has_more places i place here))
   where
     at : (e b : Bool) → cond e 0 (cond b 0 old) ≡ cond (b || e) 0 old

@@ -9,3 +9,4 @@ pub mod Joins
 pub mod Bits
 pub mod Planes
 pub mod Marks
+pub mod Covers

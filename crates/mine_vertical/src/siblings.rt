@@ -1,16 +1,17 @@
 //! The siblings that a class begins with: the ranks that are frequent together with its rank.
-ghost use Rattle.std.specs.Prelude.{◌≡◌, ◌≤◌, ◌<◌, [], ◌∷◌, List, ℕ, All, IfOk, length, map, sum, sum_by};
+ghost use Rattle.std.specs.Prelude.{◌≡◌, ◌≤◌, ◌<◌, [], ◌∷◌, List, ℕ, All, IfOk, OnOk, length, map, replicate, sum, sum_by};
 ghost use Rattle.basket_core.specs.Codes.{IsCoding, baskets_of, decoded_place};
 ghost use Rattle.basket_sets.specs.declared.minimum.Minimum.TheVariants.{Count};
 ghost use Rattle.basket_sets.specs.declared.weighted.Weighted.{Weighted as Basket};
 ghost use Rattle.basket_sets.specs.Database.{HasWeight, MOST_WEIGHT};
-ghost use Rattle.basket_sets.specs.Itemset.{IsRising};
+ghost use Rattle.basket_sets.specs.Itemset.{AllBelow, IsRising};
 ghost use Rattle.basket_sets.specs.Support.{support_of, total_of};
 ghost use Rattle.mine_classes.specs.Conditional.{conditional};
 ghost use Rattle.mine_classes.specs.Ordered.{AreRankBaskets, HaveSameWeights};
 ghost use Rattle.mine_classes.specs.Pairs.{kept_ranks};
 ghost use Rattle.mine_classes.specs.Span.{IsWithin, baskets_at};
 ghost use Rattle.mine_vertical.specs.Cover.{cover_of, weights_of};
+ghost use Rattle.mine_vertical.specs.Covers.{AreCovers, HasPlace, covers_in};
 ghost use Rattle.mine_vertical.specs.Search.{IsSibling};
 ghost use Rattle.mine_vertical.specs.Siblings.{AreClassSiblings};
 
@@ -52,20 +53,46 @@ fn weights_at(alloc: Global, spans: &[Span]) -> Result<Weights, AllocError>
     Weights::of(alloc, &weights)
 }
 
-/// The cover of a rank.
-fn cover(alloc: Global, rank: u32, ranks: &[u32], spans: &[Span]) -> Result<Vec<u32>, AllocError>
-    requires within { All (IsWithin (length ranks.now)) spans.now }
-    requires rises { All (λ basket. IsRising basket.basket) (baskets_at ranks.now spans.now) }
-    requires few { length spans.now ≤ 4294967295 }
-    ensures { IfOk result (λ cover. cover.items ≡ cover_of (baskets_at ranks.now spans.now) (rank ∷ [])) }
+/// An empty cover for each rank below a number.
+fn no_covers(alloc: Global, count: usize) -> Result<Vec<Vec<u32>>, AllocError>
+    ensures { IfOk result (λ covers. covers_in covers.items ≡ replicate count []) }
 {
-    let mut cover = Vec::new(alloc);
-    for (place, span) in spans.iter().enumerate() {
-        if span.of(ranks).binary_search(&rank).is_ok() {
-            cover.push(place as u32)?;
-        }
+    let mut covers = Vec::with_capacity(alloc, count)?;
+    for _rank in 0..count {
+        covers.push(Vec::new(alloc))?;
     }
-    Ok(cover)
+    Ok(covers)
+}
+
+/// Adds a place to the covers of the ranks of its basket.
+fn add_place(covers: &mut [Vec<u32>], place: u32, basket: &[u32]) -> Result<(), AllocError>
+    requires rises { IsRising basket.now }
+    requires below { AllBelow (length covers.old) basket.now }
+    ensures { OnOk result (HasPlace place basket.now (covers_in covers.old) (covers_in covers.new)) }
+{
+    for rank in basket {
+        covers[*rank as usize].push(place)?;
+    }
+    Ok(())
+}
+
+/// The cover of each rank below a number, in one pass.
+fn covers_of_ranks(
+    alloc: Global,
+    count: usize,
+    ranks: &[u32],
+    spans: &[Span],
+) -> Result<Vec<Vec<u32>>, AllocError>
+    requires within { All (IsWithin (length ranks.now)) spans.now }
+    requires rises { All (λ basket. IsRising basket.basket × AllBelow count basket.basket) (baskets_at ranks.now spans.now) }
+    requires few { length spans.now ≤ 4294967295 }
+    ensures { IfOk result (λ covers. AreCovers (baskets_at ranks.now spans.now) count (covers_in covers.items)) }
+{
+    let mut covers = no_covers(alloc, count)?;
+    for (place, span) in spans.iter().enumerate() {
+        add_place(&mut covers, place as u32, span.of(ranks))?;
+    }
+    Ok(covers)
 }
 
 /// The siblings of the ranks that are kept, whose numbers in the baskets are their places.
@@ -83,12 +110,12 @@ fn siblings_of<R: Row>(
     ensures ranks { IfOk result (λ siblings. map (λ sibling. sibling.rank) siblings.items ≡ kept.now) }
     ensures rows { IfOk result (λ siblings. All (IsSibling R.stands (map (decoded_place kept.now) (baskets_at ranks.now spans.now)) []) siblings.items) }
 {
+    let covers = covers_of_ranks(alloc, kept.len(), ranks, spans)?;
     let mut siblings = Vec::with_capacity(alloc, kept.len())?;
     for (place, rank) in kept.iter().enumerate() {
-        let cover = cover(alloc, place as u32, ranks, spans)?;
         siblings.push(Sibling {
             rank: *rank,
-            row: R::first(alloc, &cover, weights)?,
+            row: R::first(alloc, &covers[place], weights)?,
         })?;
     }
     Ok(siblings)

@@ -1,4 +1,4 @@
-use Rattle.std.proofs.Common.{◌++◌, ◌∷◌, [], get_or, map, subst, sym, ap, ◌∙◌}
+use Rattle.std.proofs.Common.{◌++◌, ◌∷◌, [], get_or, length, map, subst, sym, ap, ◌∙◌}
 use Rattle.std.specs.Prelude.{All}
 use Rattle.std.proofs.lemmas.List.{map-append, take_more}
 use Rattle.std.proofs.lemmas.List.Elements.{All-push, recursion_from_All}
@@ -7,23 +7,21 @@ use Rattle.mine_classes.specs.Span.{baskets_at}
 use Rattle.mine_vertical.specs.Cover.{IsCover, all_places, cover_of, weights_of}
 use Rattle.mine_vertical.specs.Search.{IsSibling}
 use Rattle.mine_vertical.proofs.CoverLemmas.{cover_covers, cover_of_none}
+use Rattle.mine_vertical.proofs.CoversLemmas.{one_cover}
 use Rattle.mine_vertical.proofs.SearchLemmas.{ranks}
-use Rattle.mine_vertical.proofs.SiblingLemmas.{decoded_cover, decoded_weights, spans_rise}
+use Rattle.mine_vertical.proofs.SiblingLemmas.{decoded_cover, decoded_weights}
 use Rattle.mine_vertical.proofs.siblings.siblings_of.Goals as goal
-
-pub cover-requires-clause-rises : goal.cover-requires-clause-rises
-cover-requires-clause-rises g c = spans_rise c.args.kept.now c.args.ranks.now c.args.spans.now c.requires.coding.places
 
 pub first-requires-clause-rises : goal.first-requires-clause-rises
 first-requires-clause-rises g c =
     let baskets = baskets_at c.args.ranks.now c.args.spans.now in
-    (subst (IsCover (weights_of baskets)) (sym (c.deref.ensures.value ∙ c.in_ok-cover.ensures)) (cover_covers baskets (c.loop-place.place ∷ []))).rises
+    (subst (IsCover (weights_of baskets)) (sym (c.deref.ensures.value ∙ one_cover (baskets_at c.args.ranks.now c.args.spans.now) (length c.args.kept.now) c.in_ok-covers.covers.items c.loop-place.place c.index.result.now c.in_ok-covers.ensures c.loop-place-test.true c.index.ensures)) (cover_covers baskets (c.loop-place.place ∷ []))).rises
 
 pub first-requires-clause-below : goal.first-requires-clause-below
 first-requires-clause-below g c =
     let baskets = baskets_at c.args.ranks.now c.args.spans.now in
     (subst (λ w. IsCover w c.deref.result.now) (sym c.requires.weights)
-    (subst (IsCover (weights_of baskets)) (sym (c.deref.ensures.value ∙ c.in_ok-cover.ensures)) (cover_covers baskets (c.loop-place.place ∷ [])))).below
+    (subst (IsCover (weights_of baskets)) (sym (c.deref.ensures.value ∙ one_cover (baskets_at c.args.ranks.now c.args.spans.now) (length c.args.kept.now) c.in_ok-covers.covers.items c.loop-place.place c.index.result.now c.in_ok-covers.ensures c.loop-place-test.true c.index.ensures)) (cover_covers baskets (c.loop-place.place ∷ [])))).below
 
 pub loop-place-preserved : goal.loop-place-preserved
 loop-place-preserved g c =
@@ -36,7 +34,7 @@ loop-place-preserved g c =
     let row = c.in_ok-first.field-0 in
     let weights = c.requires.weights ∙ sym (decoded_weights kept baskets) in
     let parent = ap all_places weights ∙ sym (cover_of_none decoded) in
-    let cover = c.deref.ensures.value ∙ c.in_ok-cover.ensures
+    let cover = c.deref.ensures.value ∙ one_cover (baskets_at c.args.ranks.now c.args.spans.now) (length c.args.kept.now) c.in_ok-covers.covers.items c.loop-place.place c.index.result.now c.in_ok-covers.ensures c.loop-place-test.true c.index.ensures
     ∙ sym (decoded_cover kept baskets c.requires.coding.distinct (recursion_from_All (IsCodedPlace kept) baskets c.requires.coding.places) l c.loop-place-test.true) in
     let is : stands (weights_of decoded) (cover_of decoded []) (cover_of decoded (rank ∷ [])) row =
     subst (λ w. stands w (cover_of decoded []) (cover_of decoded (rank ∷ [])) row) weights
