@@ -114,8 +114,8 @@ fn are_whole(runs: &[Span], depth: u32) -> bool
     runs.iter().all(|run| run.end - run.start == depth)
 }
 
-/// Tells a set that was found with one more item, and how often it occurs. The list of items is room
-/// that is used again.
+/// Tells a set that was found, with one more item and a count of its own. The list of items is room,
+/// used again from set to set.
 fn choose<T: Tally>(
     alloc: Global,
     items: &mut Vec<u32>,

@@ -62,8 +62,8 @@ fn items_of(alloc: Global, coded: &Coded) -> Result<Vec<u32>, AllocError>
 }
 
 /// The sets of the class of a rank, as items, each once with its support (Han, Pei and Yin 2000), and
-/// how many conditional trees were made for them. Each set is told to the tally as soon as it is known
-/// to be frequent.
+/// how many conditional trees were made for them: none below one that is a single branch, from which
+/// the sets are read off. Each set is told to the tally as soon as it is known to be frequent.
 pub fn fp_class<T: Tally>(
     alloc: Global,
     forest: &Forest<'_>,
