@@ -20,9 +20,8 @@ use Rattle.clap.proofs.ValueTestLemmas.{Accepts-accepts, accepts-Accepts}
 use Rattle.clap.proofs.WalkLemmas.{first_value-rows, one_text-rows}
 use Rattle.basket.proofs.NamesLemmas.{same_line}
 use Rattle.basket.proofs.HelpLemmas.{help_told}
-use Rattle.basket.specs.Plan.{GREATEST_LIMIT}
 use Rattle.basket.specs.declared.command.Choices.{Choices}
-use Rattle.basket.specs.Command.{IsNamed, asks_help, is_answer, command_line, flag_in, line_with, limit_in, limit_of, plan_of_command, plan_of_words, where_taken}
+use Rattle.basket.specs.Command.{IsNamed, asks_help, is_answer, command_line, flag_in, line_with, number_in, number_of, plan_of_command, plan_of_words, where_taken}
 
 -- ---- values
 
@@ -49,17 +48,20 @@ skips text name taken rest never = go (bytes_eq text name) (λ e. never ((bytes_
 abbrev pub IsRead : Text → Type 0
 IsRead text = IsNumeral 10 (without_leading_plus text) × (digits_value 10 (without_leading_plus text) < 4294967296)
 
-limit_said : (text : Text) → IsRead text → 1 ≤ digits_value 10 (without_leading_plus text) → Some (digits_value 10 (without_leading_plus text)) ≡ limit_of text
-limit_said text reads least =
-    let yes = Accepts-accepts false (parser.Unsigned 1 GREATEST_LIMIT) text (reads.0, omega (arith, reads.1), least, omega (arith, reads.1)) in
-    sym (ap (λ (b : Bool). if b then Some (digits_value 10 (without_leading_plus text)) else None) yes)
+module _ (most : ℕ) where
+  number_said : (text : Text) → IsRead text → 1 ≤ digits_value 10 (without_leading_plus text) → digits_value 10 (without_leading_plus text) ≤ most
+      → Some (digits_value 10 (without_leading_plus text)) ≡ number_of most text
+  number_said text reads least greatest =
+      let yes = Accepts-accepts false (parser.Unsigned 1 most) text (reads.0, omega (arith, reads.1), least, greatest) in
+      sym (ap (λ (b : Bool). if b then Some (digits_value 10 (without_leading_plus text)) else None) yes)
 
-limit_unsaid : (text : Text) → (IsRead text → 1 ≤ digits_value 10 (without_leading_plus text) → ⊥) → None ≡ limit_of text
-limit_unsaid text never = go (is_unsigned_in 1 GREATEST_LIMIT text) (λ e. let h = accepts-Accepts false (parser.Unsigned 1 GREATEST_LIMIT) text e in never (h.0, omega (arith, h.3)) h.2)
-  where
-    go : (b : Bool) → (b ≡ true → ⊥) → None ≡ (if b then Some (digits_value 10 (without_leading_plus text)) else None)
-    go true h = absurd (h refl)
-    go false h = refl
+  number_unsaid : most < 4294967296 → (text : Text)
+      → (IsRead text → 1 ≤ digits_value 10 (without_leading_plus text) → digits_value 10 (without_leading_plus text) ≤ most → ⊥) → None ≡ number_of most text
+  number_unsaid small text never = go (is_unsigned_in 1 most text) (λ e. let h = accepts-Accepts false (parser.Unsigned 1 most) text e in never (h.0, omega (arith, h.3, small)) h.2 h.3)
+    where
+      go : (b : Bool) → (b ≡ true → ⊥) → None ≡ (if b then Some (digits_value 10 (without_leading_plus text)) else None)
+      go true h = absurd (h refl)
+      go false h = refl
 
 -- a flag
 pub flag_some : (f : Found) (name : Text) (value : Option (Bor Text)) → option_map (λ s. s.now) value ≡ first_value f name → (text : Bor Text) → value ≡ Some text
@@ -71,36 +73,38 @@ pub flag_none : (f : Found) (name : Text) (value : Option (Bor Text)) → option
 flag_none f name value e was = sym
     (ap (λ o. unwrap_or (option_map (λ t. bytes_eq t (codes "true")) o) false) (sym (first_value-rows f name) ∙ sym e ∙ ap (option_map (λ s. s.now)) was))
 
-module _ (f : Found) where
-  limit_rows : option_and_then limit_of (one_text f (codes "limit")) ≡ limit_in (rows_of f)
-  limit_rows = ap (option_and_then limit_of) (one_text-rows f (codes "limit"))
+module _ (f : Found) (name : Text) (most : ℕ) where
+  number_rows : option_and_then (number_of most) (one_text f name) ≡ number_in name most (rows_of f)
+  number_rows = ap (option_and_then (number_of most)) (one_text-rows f name)
 
-  pub limit_some : (v : ℕ) → ((text : Text) → one_text f (codes "limit") ≡ Some text → IsRead text × (v ≡ digits_value 10 (without_leading_plus text)))
-      → (one_text f (codes "limit") ≡ None → ⊥) → 1 ≤ v → Some v ≡ limit_in (rows_of f)
-  limit_some v reads none least = go (one_text f (codes "limit")) reads none ∙ limit_rows
+  pub number_some : (v : ℕ) → ((text : Text) → one_text f name ≡ Some text → IsRead text × (v ≡ digits_value 10 (without_leading_plus text)))
+      → (one_text f name ≡ None → ⊥) → 1 ≤ v → v ≤ most → Some v ≡ number_in name most (rows_of f)
+  number_some v reads none least greatest = go (one_text f name) reads none ∙ number_rows
     where
-      go : (o : Option Text) → ((text : Text) → o ≡ Some text → IsRead text × (v ≡ digits_value 10 (without_leading_plus text))) → (o ≡ None → ⊥) → Some v ≡ option_and_then limit_of o
+      go : (o : Option Text) → ((text : Text) → o ≡ Some text → IsRead text × (v ≡ digits_value 10 (without_leading_plus text))) → (o ≡ None → ⊥)
+          → Some v ≡ option_and_then (number_of most) o
       go None reads none = absurd (none refl)
       go (Some text) reads none =
           let h = reads text refl in
-          ap Some h.1 ∙ limit_said text h.0 (omega (arith, h.1, least))
+          ap Some h.1 ∙ number_said most text h.0 (omega (arith, h.1, least)) (omega (arith, h.1, greatest))
 
-  pub limit_low : (v : ℕ) → ((text : Text) → one_text f (codes "limit") ≡ Some text → IsRead text × (v ≡ digits_value 10 (without_leading_plus text)))
-      → v < 1 → None ≡ limit_in (rows_of f)
-  limit_low v reads low = go (one_text f (codes "limit")) reads ∙ limit_rows
-    where
-      go : (o : Option Text) → ((text : Text) → o ≡ Some text → IsRead text × (v ≡ digits_value 10 (without_leading_plus text))) → None ≡ option_and_then limit_of o
-      go None reads = refl
-      go (Some text) reads =
-          let h = reads text refl in
-          limit_unsaid text (λ _ least. omega (arith, h.1, least, low))
+  module _ (small : most < 4294967296) where
+    pub number_out : (v : ℕ) → ((text : Text) → one_text f name ≡ Some text → IsRead text × (v ≡ digits_value 10 (without_leading_plus text)))
+        → (1 ≤ v → v ≤ most → ⊥) → None ≡ number_in name most (rows_of f)
+    number_out v reads out = go (one_text f name) reads ∙ number_rows
+      where
+        go : (o : Option Text) → ((text : Text) → o ≡ Some text → IsRead text × (v ≡ digits_value 10 (without_leading_plus text))) → None ≡ option_and_then (number_of most) o
+        go None reads = refl
+        go (Some text) reads =
+            let h = reads text refl in
+            number_unsaid most small text (λ _ least greatest. out (omega (arith, h.1, least)) (omega (arith, h.1, greatest)))
 
-  pub limit_none : ((text : Text) → one_text f (codes "limit") ≡ Some text → IsRead text → ⊥) → None ≡ limit_in (rows_of f)
-  limit_none never = go (one_text f (codes "limit")) never ∙ limit_rows
-    where
-      go : (o : Option Text) → ((text : Text) → o ≡ Some text → IsRead text → ⊥) → None ≡ option_and_then limit_of o
-      go None never = refl
-      go (Some text) never = limit_unsaid text (λ reads _. never text refl reads)
+    pub number_none : ((text : Text) → one_text f name ≡ Some text → IsRead text → ⊥) → None ≡ number_in name most (rows_of f)
+    number_none never = go (one_text f name) never ∙ number_rows
+      where
+        go : (o : Option Text) → ((text : Text) → o ≡ Some text → IsRead text → ⊥) → None ≡ option_and_then (number_of most) o
+        go None never = refl
+        go (Some text) never = number_unsaid most small text (λ reads _ _. never text refl reads)
 
 -- ---- the line
 

@@ -1,5 +1,4 @@
 mod Fronts
-mod ClassesLemmas
 mod MiningLemmas
 mod InputLemmas
 mod EngineLemmas

@@ -13,9 +13,16 @@ use Rattle.basket_core.proofs.theory.Depth.{deep_sets_are_many}
 use Rattle.basket_sets.specs.Database.{merged_of}
 use Rattle.basket_sets.specs.Minimum.{meets}
 use Rattle.basket_sets.proofs.theory.Merging.{merging_keeps_supports}
-use Rattle.mine_classes.specs.Mined.{ClassSizesAddUp, CodedRanksAreFrequent, RanksAreFrequent, class_size}
+use Rattle.mine_classes.specs.Mined.{CodedRanksAreFrequent, RanksAreFrequent}
+use Rattle.mine_fp.specs.Trees.{ClassTreesAddUp, class_trees, trees_of}
+use Rattle.mine_phases.specs.Classes.{IsWorkOfAll, MOST_WORK}
 use Rattle.mine_vertical.specs.Joins.{ClassJoinsAddUp, class_joins, is_join, joins_of, sets_of_ranks}
-use Rattle.basket.specs.Classes.{IsJoins, IsTrees, IsWorkOfAll, MOST_WORK}
+use Rattle.basket.specs.Classes.{IsJoins, IsTrees}
+use Rattle.basket.specs.Mining.{join_work}
+use Rattle.basket.specs.declared.mining.Work.{Work}
+use Rattle.basket_core.specs.Listing.{Listing, listing_of}
+use Rattle.basket_core.specs.declared.fault.MineFault.{MineFault}
+use Rattle.std.specs.Prelude.{IfOk, Ok, Err, Result}
 use Rattle.mine_apriori.specs.Work.{candidate_count, CandidatesBySets}
 
 module _ (database : List Weighted) (minimum : Minimum) (coding : Coding) (made : coding ≡ merged_coding (coding_of database minimum)) where
@@ -48,15 +55,6 @@ sum_is f first (x ∷ each) are =
     let rest = sum_is f (first + 1) each (λ k below. are (suc k) (omega arith) ∙ ap f (omega arith)) in
     sum_by-cons (λ n. n) x each ∙ (λ i. head i + rest i) ∙ sym (sum_by-cons f first (range_with_len (first + 1) (length each)))
 
-sum_within : (f : ℕ → ℕ) (first : ℕ) (each : List ℕ) → ((k : ℕ) → k < length each → get_or each k 0 ≤ f (first + k)) → sum each ≤ sum_by f (range_with_len first (length each))
-sum_within f first [] are = omega arith
-sum_within f first (x ∷ each) are =
-    let head : x ≤ f first = subst (λ n. x ≤ f n) (omega arith) (are 0 (omega arith)) in
-    let rest = sum_within f (first + 1) each (λ k below. subst (λ n. get_or each k 0 ≤ f n) (omega arith) (are (suc k) (omega arith))) in
-    let a = sum_by-cons (λ n. n) x each in
-    let b = sum_by-cons f first (range_with_len (first + 1) (length each)) in
-    omega (arith, head, rest, a, b)
-
 -- a set is a join over merged baskets where it is one
 join_same : (coding : Coding) (set : List ℕ) → is_join (merged_of coding.baskets) coding.minimum set ≡ is_join coding.baskets coding.minimum set
 join_same coding [] = refl
@@ -80,9 +78,22 @@ module _ (database : List Weighted) (minimum : Minimum) (coding : Coding) (made 
       ∙ ap (λ n. sum_by (class_joins coding) (range_with_len 0 n)) so.long
       ∙ adds coding ∙ ap joins_of made ∙ joins_same (coding_of database minimum))
 
-  pub trees_are : (total : ℕ) → IsCoding coding → ClassSizesAddUp → IsWorkOfAll (IsTrees coding) (length coding.items) total → total ≤ length (frequent_of database minimum)
+  pub trees_are : (total : ℕ) → IsCoding coding → ClassTreesAddUp → IsWorkOfAll (IsTrees coding) (length coding.items) total → total ≡ min (trees_of (merged_coding (coding_of database minimum))) MOST_WORK
   trees_are total is adds so =
-      let few = sum_within (class_size coding) 0 so.each (λ k below. subst (λ n. get_or so.each k 0 ≤ class_size coding n) (omega arith) (so.works k (subst (λ n. k < n) so.long below))) in
-      let all = ap (λ n. sum_by (class_size coding) (range_with_len 0 n)) so.long ∙ adds coding is ∙ ap length (list_is database minimum coding made) in
-      let a = so.added in
-      omega (arith, few, all, a)
+      so.added ∙ ap (λ n. min n MOST_WORK)
+      (sum_is (class_trees coding) 0 so.each (λ k below. let e : k ≡ 0 + k = omega arith in so.works k (subst (λ n. k < n) so.long below) ∙ ap (class_trees coding) e)
+      ∙ ap (λ n. sum_by (class_trees coding) (range_with_len 0 n)) so.long ∙ adds coding is ∙ ap trees_of made)
+
+  -- what is answered for the coding is answered for the database
+  pub sets_are : (result : Result (Listing × Work) MineFault) → IfOk result (λ mined. mined.0 ≡ listing_of coding) → IfOk result (λ mined. mined.0.sets ≡ frequent_of database minimum)
+  sets_are (Ok mined) is = ap (λ f. f.sets) is ∙ list_is database minimum coding made
+  sets_are (Err fault) is = is
+
+  pub totals_are : (result : Result (Listing × Work) MineFault) → IfOk result (λ mined. mined.0 ≡ listing_of coding) → IfOk result (λ mined. mined.0.total ≡ total_of database)
+  totals_are (Ok mined) is = ap (λ f. f.total) is ∙ total_is database minimum coding made
+  totals_are (Err fault) is = is
+
+  pub work_is : (result : Result (Listing × Work) MineFault) → IfOk result (λ mined. (baskets : List Weighted) (bound : Minimum) → coding ≡ merged_coding (coding_of baskets bound) → mined.1 ≡ join_work baskets bound)
+      → IfOk result (λ mined. mined.1 ≡ join_work database minimum)
+  work_is (Ok mined) is = is database minimum made
+  work_is (Err fault) is = is

@@ -19,12 +19,13 @@ use Rattle.basket.specs.Plan.{GREATEST_LIMIT, Planned}
 use Rattle.basket.specs.declared.command.Choices.{Choices}
 use Rattle.basket.specs.declared.command.PlanFault.{PlanFault}
 use Rattle.basket.specs.declared.command.PlanFault.TheVariants.{Memory, Usage, Help}
+use Rattle.basket.specs.declared.plan.TheConstants.{MOST_PIECES, MOST_WORKERS}
 use Rattle.basket.specs.declared.plan.Ask.{Ask}
 use Rattle.basket.specs.declared.plan.Ask.TheVariants.{Items, Sets, Closed, Maximal, Rules}
 use Rattle.basket.specs.declared.plan.Form.{Form}
 use Rattle.basket.specs.declared.plan.Form.TheVariants.{Fimi, Baskets, Single}
 use Rattle.basket.specs.declared.plan.Miner.{Miner}
-use Rattle.basket.specs.declared.plan.Miner.TheVariants.{Apriori, Eclat, EclatDiff, FpGrowth}
+use Rattle.basket.specs.declared.plan.Miner.TheVariants.{Apriori, Eclat, EclatDiff, EclatBits, FpGrowth}
 
 -- ---- the options, the commands, and the whole line
 
@@ -32,8 +33,9 @@ use Rattle.basket.specs.declared.plan.Miner.TheVariants.{Apriori, Eclat, EclatDi
 abbrev pub option : Text → Rule
 option name = record (new_rule name) { long = Some name; value_names = 1; action = Some action.Set }
 
-abbrev pub min_option : Rule
-min_option = record (option (codes "min")) { required = true }
+-- an option that has to be given
+abbrev pub required : Text → Rule
+required name = record (option name) { required = true }
 
 -- texts as `clap` holds them: behind references, of which only the texts count
 abbrev pub Names : Type 0
@@ -47,22 +49,22 @@ choice name names default = record (option name) { parser = Some (parser.Names n
 abbrev pub flag : Text → Rule
 flag name = record (new_rule name) { long = Some name; action = Some action.SetTrue }
 
-abbrev pub limit_option : Rule
-limit_option = record (option (codes "limit")) { parser = Some (parser.Unsigned 1 GREATEST_LIMIT); defaults = codes "4294967295" ∷ [] }
-
-abbrev pub conf_option : Rule
-conf_option = record (option (codes "conf")) { required = true }
+-- an option of a whole number from 1 to the greatest, and which it is if it isn't given
+abbrev pub number : Text → ℕ → Text → Rule
+number name most default = record (option name) { parser = Some (parser.Unsigned 1 most); defaults = default ∷ [] }
 
 -- the options that all commands have, and some more
 abbrev pub options_and : Choices → List Rule → List Rule
 options_and choices more =
-    min_option
+    required (codes "min")
     ∷ choice (codes "form") choices.forms (codes "fimi")
     ∷ choice (codes "sep") choices.separators (codes "comma")
     ∷ flag (codes "header")
     ∷ flag (codes "weight")
     ∷ choice (codes "miner") choices.miners (codes "apriori")
-    ∷ limit_option
+    ∷ number (codes "limit") GREATEST_LIMIT (codes "4294967295")
+    ∷ number (codes "workers") MOST_WORKERS (codes "1")
+    ∷ number (codes "pieces") MOST_PIECES (codes "16")
     ∷ more
 
 -- a command of a name, with some more options
@@ -73,7 +75,7 @@ abbrev pub command_app : Choices → Text → App
 command_app choices name = command_with choices name []
 
 abbrev pub rules_app : Choices → App
-rules_app choices = command_with choices (codes "rules") (conf_option ∷ [])
+rules_app choices = command_with choices (codes "rules") (required (codes "conf") ∷ [])
 
 -- all commands, where the names of miners, forms and separators lie as given
 abbrev pub line_with : Choices → App
@@ -90,7 +92,7 @@ line_with choices = record {
 
 -- the miners by the names that the command line has for them
 abbrev pub miner_names : List Text
-miner_names = codes "apriori" ∷ codes "eclat" ∷ codes "eclat-diff" ∷ codes "fpgrowth" ∷ []
+miner_names = codes "apriori" ∷ codes "eclat" ∷ codes "eclat-diff" ∷ codes "eclat-bits" ∷ codes "fpgrowth" ∷ []
 
 -- the forms of an input
 abbrev pub form_names : List Text
@@ -123,7 +125,8 @@ miner_of text =
     if bytes_eq text (codes "apriori") then Some Apriori
     else (if bytes_eq text (codes "eclat") then Some Eclat
     else (if bytes_eq text (codes "eclat-diff") then Some EclatDiff
-    else (if bytes_eq text (codes "fpgrowth") then Some FpGrowth else None)))
+    else (if bytes_eq text (codes "eclat-bits") then Some EclatBits
+    else (if bytes_eq text (codes "fpgrowth") then Some FpGrowth else None))))
 
 abbrev pub form_of : Text → Option Form
 form_of text =
@@ -139,9 +142,9 @@ separator_of text =
     else (if bytes_eq text (codes "tab") then Some 9
     else (if bytes_eq text (codes "pipe") then Some 124 else None)))
 
--- the number that one or more digits write, maybe after a plus, from 1 to the greatest limit
-abbrev pub limit_of : Text → Option ℕ
-limit_of text = if is_unsigned_in 1 GREATEST_LIMIT text then Some (digits_value 10 (without_leading_plus text)) else None
+-- the number that one or more digits write, maybe after a plus, from 1 to the greatest
+abbrev pub number_of : ℕ → Text → Option ℕ
+number_of most text = if is_unsigned_in 1 most text then Some (digits_value 10 (without_leading_plus text)) else None
 
 -- what the option's value among the matches says
 abbrev pub min_in : List Row → Option Minimum
@@ -160,8 +163,17 @@ sep_in rows = option_and_then separator_of (first_of (codes "sep") rows)
 abbrev pub flag_in : Text → List Row → Bool
 flag_in name rows = unwrap_or (option_map (λ text. bytes_eq text (codes "true")) (first_of name rows)) false
 
+abbrev pub number_in : Text → ℕ → List Row → Option ℕ
+number_in name most rows = option_and_then (number_of most) (one_of name rows)
+
 abbrev pub limit_in : List Row → Option ℕ
-limit_in rows = option_and_then limit_of (one_of (codes "limit") rows)
+limit_in rows = number_in (codes "limit") GREATEST_LIMIT rows
+
+abbrev pub workers_in : List Row → Option ℕ
+workers_in rows = number_in (codes "workers") MOST_WORKERS rows
+
+abbrev pub pieces_in : List Row → Option ℕ
+pieces_in rows = number_in (codes "pieces") MOST_PIECES rows
 
 abbrev pub conf_in : List Row → Option (ℕ × ℕ)
 conf_in rows = option_and_then share_of (first_of (codes "conf") rows)
@@ -185,7 +197,9 @@ plan_of_rows name rows =
     option_and_then (λ form.
     option_and_then (λ separator.
     option_and_then (λ miner.
-    option_map (λ limit. record {
+    option_and_then (λ limit.
+    option_and_then (λ workers.
+    option_map (λ pieces. record {
       question = record {
         ask = ask;
         minimum = minimum;
@@ -196,7 +210,11 @@ plan_of_rows name rows =
         weighted = flag_in (codes "weight") rows;
       };
       miner = miner;
+      workers = workers;
+      pieces = pieces;
     })
+    (pieces_in rows))
+    (workers_in rows))
     (limit_in rows))
     (miner_in rows))
     (sep_in rows))

@@ -14,10 +14,12 @@ pub record Question : Type 0 where
   pub header : Bool
   pub weighted : Bool
 
--- a question, and the miner that is to answer it
+-- a question, the miner that is to answer it, how many workers share the mining, and how many pieces it is cut into
 pub record Planned : Type 0 where
   pub question : Question
   pub miner : Miner
+  pub workers : ℕ
+  pub pieces : ℕ
 
 -- the greatest limit
 abbrev pub GREATEST_LIMIT : ℕ

@@ -3,11 +3,11 @@ ghost use Rattle.std.specs.Prelude.{◌≡◌, ◌≢◌, IfErr, IfOk, codes, fa
 ghost use Rattle.clap.specs.Words.{app_of, kind_of, rule_of};
 ghost use Rattle.clap.specs.declared.builder.command.Command.TheViews.{out-Command as fields_of};
 ghost use Rattle.basket.specs.declared.command.PlanFault.TheVariants.{Memory};
-ghost use Rattle.basket.specs.Command.{IsNamed, asks_help, choice, command_app, conf_option, flag, is_answer, is_help, limit_option, line_with, min_option, plan_of_words, rules_app};
+ghost use Rattle.basket.specs.Command.{IsNamed, asks_help, choice, command_app, flag, is_answer, is_help, line_with, number, plan_of_words, required, rules_app};
 ghost use Rattle.basket.specs.Status.{plan_status_of};
 
 use crate::help;
-use crate::plan::Plan;
+use crate::plan::{MOST_PIECES, MOST_WORKERS, Plan};
 use crate::values::plan_from;
 use clap::builder::ValueParser;
 use clap::error::ErrorKind;
@@ -67,7 +67,7 @@ fn all_choices() -> Choices<'static>
     ensures { IsNamed result }
 {
     Choices {
-        miners: &["apriori", "eclat", "eclat-diff", "fpgrowth"],
+        miners: &["apriori", "eclat", "eclat-diff", "eclat-bits", "fpgrowth"],
         forms: &["fimi", "baskets", "single"],
         separators: &["comma", "semicolon", "tab", "pipe"],
     }
@@ -124,30 +124,30 @@ fn command<'a>(
     ensures options { IfOk result (λ command. app_of command ≡ command_app choices.entry name.now) }
     ensures local { IfOk result (λ command. (fields_of command).has_globals ≡ false) }
 {
+    let Choices {
+        miners,
+        forms,
+        separators,
+    } = choices;
     Command::new(alloc, name)
         .about(about)
         .after_help(example)
-        .arg(min_option(alloc))?
-        .arg(choice(alloc, "form", "F", help::FORM_HELP, choices.forms, "fimi"))?
-        .arg(choice(
-            alloc,
-            "sep",
-            "S",
-            help::SEP_HELP,
-            choices.separators,
-            "comma",
-        ))?
+        .arg(required(alloc, "min", "M", help::MIN_HELP))?
+        .arg(choice(alloc, "form", "F", help::FORM_HELP, forms, "fimi"))?
+        .arg(choice(alloc, "sep", "S", help::SEP_HELP, separators, "comma"))?
         .arg(flag(alloc, "header", help::HEADER_HELP))?
         .arg(flag(alloc, "weight", help::WEIGHT_HELP))?
-        .arg(choice(
+        .arg(choice(alloc, "miner", "A", help::MINER_HELP, miners, "apriori"))?
+        .arg(number(
             alloc,
-            "miner",
-            "A",
-            help::MINER_HELP,
-            choices.miners,
-            "apriori",
+            "limit",
+            "L",
+            help::LIMIT_HELP,
+            u32::MAX,
+            "4294967295",
         ))?
-        .arg(limit_option(alloc))
+        .arg(number(alloc, "workers", "W", help::WORKERS_HELP, MOST_WORKERS, "1"))?
+        .arg(number(alloc, "pieces", "P", help::PIECES_HELP, MOST_PIECES, "16"))
 }
 
 fn rules_command<'a>(alloc: Global, choices: Choices<'a>) -> Result<Command<'a>, AllocError>
@@ -161,17 +161,18 @@ fn rules_command<'a>(alloc: Global, choices: Choices<'a>) -> Result<Command<'a>,
         help::RULES_EXAMPLE,
         choices,
     )?
-    .arg(conf_option(alloc))
+    .arg(required(alloc, "conf", "C", help::CONF_HELP))
 }
 
-fn min_option<'a>(alloc: Global) -> Arg<'a>
-    ensures rule { rule_of result ≡ min_option }
+/// An option that has to be given.
+fn required<'a>(alloc: Global, name: &'a str, value: &'a str, help: &'a str) -> Arg<'a>
+    ensures rule { rule_of result ≡ required name.now }
     ensures local { result.global ≡ false }
 {
-    Arg::new(alloc, "min")
-        .long("min")
-        .value_name("M")
-        .help(help::MIN_HELP)
+    Arg::new(alloc, name)
+        .long(name)
+        .value_name(value)
+        .help(help)
         .required(true)
         .action(ArgAction::Set)
 }
@@ -207,28 +208,24 @@ fn flag<'a>(alloc: Global, name: &'a str, help: &'a str) -> Arg<'a>
         .action(ArgAction::SetTrue)
 }
 
-fn limit_option<'a>(alloc: Global) -> Arg<'a>
-    ensures rule { rule_of result ≡ limit_option }
+/// An option whose value is a whole number from 1 to the greatest.
+fn number<'a>(
+    alloc: Global,
+    name: &'a str,
+    value: &'a str,
+    help: &'a str,
+    most: u32,
+    default: &'a str,
+) -> Arg<'a>
+    ensures rule { rule_of result ≡ number name.now most default.now }
     ensures local { result.global ≡ false }
 {
-    Arg::new(alloc, "limit")
-        .long("limit")
-        .value_name("L")
-        .help(help::LIMIT_HELP)
-        .value_parser(ValueParser::unsigned(1, u64::from(u32::MAX)))
-        .default_value("4294967295")
-        .action(ArgAction::Set)
-}
-
-fn conf_option<'a>(alloc: Global) -> Arg<'a>
-    ensures rule { rule_of result ≡ conf_option }
-    ensures local { result.global ≡ false }
-{
-    Arg::new(alloc, "conf")
-        .long("conf")
-        .value_name("C")
-        .help(help::CONF_HELP)
-        .required(true)
+    Arg::new(alloc, name)
+        .long(name)
+        .value_name(value)
+        .help(help)
+        .value_parser(ValueParser::unsigned(1, u64::from(most)))
+        .default_value(default)
         .action(ArgAction::Set)
 }
 

@@ -10,16 +10,18 @@ use crate::input::Input;
 use crate::mining::mine;
 use crate::plan::{Ask, Plan};
 use crate::write::write_all;
-use basket_core::{MineFault, Sink, Source, count_items};
+use basket_core::{MineFault, Sink, Source};
 use basket_read::ReadFault;
 use basket_report::{items_report, rules_report, sets_report};
 use basket_rules::{closed, maximal};
+use mine_phases::{Open, count_shared};
 use std::alloc::Global;
 use std::random::RandomSource;
+use std::thread::Threads;
 
 /// Reads the input to its end and writes the report that the plan asks for. The whole report is
 /// made before its first byte is written, and a flush ends the run.
-pub fn run<R: RandomSource, S: Source, W: Sink>(
+pub fn run<R: RandomSource + Threads + Sync, S: Source, W: Sink>(
     rt: &R,
     alloc: Global,
     plan: &Plan,
@@ -48,7 +50,7 @@ pub fn run<R: RandomSource, S: Source, W: Sink>(
         Ok(input) => input,
         Err(fault) => return Err(RunFault::Input(fault)),
     };
-    let report = match report(alloc, &input, plan) {
+    let report = match report(rt, alloc, &input, plan) {
         Ok(report) => report,
         Err(fault) => return Err(RunFault::Mine(fault)),
     };
@@ -57,7 +59,12 @@ pub fn run<R: RandomSource, S: Source, W: Sink>(
 }
 
 /// The report that the plan asks for over the baskets.
-fn report(alloc: Global, input: &Input, plan: &Plan) -> Result<Vec<u8>, MineFault>
+fn report<R: Threads + Sync>(
+    rt: &R,
+    alloc: Global,
+    input: &Input,
+    plan: &Plan,
+) -> Result<Vec<u8>, MineFault>
     ensures ok { IfOk result (λ report. outcome_for input.now plan.now.question ≡ Ok report.items) }
     ensures err { (fault : MiningFault) → result ≡ Err fault → fault ≢ MineFault.Memory → outcome_for input.now plan.now.question ≡ Err fault }
 {
@@ -65,24 +72,24 @@ fn report(alloc: Global, input: &Input, plan: &Plan) -> Result<Vec<u8>, MineFaul
     let style = input.style(plan.sep());
     match plan.ask() {
         Ask::Items => {
-            let counts = count_items(alloc, database.baskets())?;
+            let counts = count_shared(rt, alloc, database.baskets(), plan.cutting(), &Open)?;
             let minimum = plan.minimum();
             Ok(items_report(alloc, &counts, minimum, database.total(), style)?)
         }
         Ask::Sets => {
-            let (frequent, _) = mine(alloc, database, plan)?;
+            let (frequent, _) = mine(rt, alloc, database, plan, &Open)?;
             Ok(sets_report(alloc, frequent.sets(), style)?)
         }
         Ask::Closed => {
-            let (frequent, _) = mine(alloc, database, plan)?;
+            let (frequent, _) = mine(rt, alloc, database, plan, &Open)?;
             Ok(sets_report(alloc, &closed(alloc, &frequent)?, style)?)
         }
         Ask::Maximal => {
-            let (frequent, _) = mine(alloc, database, plan)?;
+            let (frequent, _) = mine(rt, alloc, database, plan, &Open)?;
             Ok(sets_report(alloc, &maximal(alloc, &frequent)?, style)?)
         }
         Ask::Rules(above, below) => {
-            let (frequent, _) = mine(alloc, database, plan)?;
+            let (frequent, _) = mine(rt, alloc, database, plan, &Open)?;
             Ok(rules_report(alloc, &frequent, (above, below), style)?)
         }
     }

@@ -94,6 +94,12 @@ pub const MINER_HELP: &str = "How the sets are found; the report doesn't depend 
 pub const LIMIT_HELP: &str = "How many sets there may be, from 1 to 4294967295; \
 where there are more, none is written (`items` has no limit)";
 
+pub const WORKERS_HELP: &str =
+    "How many threads share the mining, from 1 to 64; the report doesn't depend on it";
+
+pub const PIECES_HELP: &str =
+    "How many pieces the mining is cut into, from 1 to 65536; the report doesn't depend on it";
+
 pub const FORM_HELP: &str = "How standard input is written (`basket --help` shows it)";
 
 pub const SEP_HELP: &str = "What stands between the fields of CSV, also in the report";

@@ -2,7 +2,6 @@
 #![tactic(auto)]
 
 mod class_miner;
-mod classes;
 mod command;
 mod engine;
 mod fault;
@@ -20,5 +19,6 @@ pub use basket_report::{Style, sets_report};
 pub use command::{PlanFault, plan_of, plan_status};
 pub use engine::run;
 pub use fault::{RunFault, status_of};
+pub use mine_phases::{Gate, Open};
 pub use mining::{Work, mine};
 pub use plan::{Ask, Form, Miner, Plan};

@@ -1,21 +1,27 @@
 //! The frequent sets of a database.
-ghost use Rattle.std.specs.Prelude.{◌≡◌, ◌<◌, ◌≤◌, ◌+◌, ◌^◌, ℕ, Err, IfOk, length};
-ghost use Rattle.basket.specs.Mining.{IsWorkOf};
+ghost use Rattle.std.specs.Prelude.{◌≡◌, ◌<◌, ◌≤◌, ◌+◌, ◌^◌, ℕ, List, Err, IfOk, length};
+ghost use Rattle.basket.specs.Mining.{IsWorkOf, join_work};
 ghost use Rattle.basket_core.specs.declared.fault.MineFault.TheVariants.{TooMany};
+ghost use Rattle.basket_core.specs.Codes.{coding_of, frequent_of_coding, merged_coding};
+ghost use Rattle.basket_core.specs.Listing.{listing_of};
+ghost use Rattle.basket_sets.specs.declared.minimum.Minimum.{Minimum as Bound};
+ghost use Rattle.basket_sets.specs.declared.weighted.Weighted.{Weighted as Basket};
 ghost use Rattle.basket_sets.specs.Frequent.{frequent_of};
 ghost use Rattle.basket_sets.specs.Support.{total_of};
 
-use crate::class_miner::{Covers, Differences, Growth};
-use crate::classes::by_classes;
+use crate::class_miner::{Growth, Joining};
 use crate::plan::{Miner, Plan};
-use basket_core::{Coded, Database, Frequent, MineFault, deep};
-use mine_apriori::apriori;
+use basket_core::{Coded, Codes, Database, Frequent, MineFault, Minimum, deep};
 use mine_apriori::laws::candidates_by_sets;
-use mine_classes::laws::{class_sizes_add_up, coded_ranks_are_frequent};
+use mine_classes::laws::coded_ranks_are_frequent;
 use mine_fp::Forest;
-use mine_vertical::Vertical;
+use mine_fp::laws::class_trees_add_up;
+use mine_phases::{Cutting, Gate, apriori_shared, count_shared, mine_shared};
 use mine_vertical::laws::class_joins_add_up;
-use std::alloc::Global;
+use mine_vertical::{BitRow, DiffList, Row, TidList, Vertical};
+use std::alloc::{AllocError, Global};
+use std::marker::PhantomData;
+use std::thread::Threads;
 
 /// How much a miner did. The numbers of the miners that weren't asked for are 0.
 #[derive(Clone, Copy, Debug, PartialEq, Eq)]
@@ -61,8 +67,15 @@ impl Work {
 }
 
 /// The list of the frequent sets, where it is no longer than the plan's limit, and how much the
-/// plan's miner did for it.
-pub fn mine(alloc: Global, database: &Database, plan: &Plan) -> Result<(Frequent, Work), MineFault>
+/// plan's miner did for it. The plan's workers pass the gate with each piece of their work, in the
+/// phase that counts the items, which is 1, and in those of the miner.
+pub fn mine<R: Threads + Sync, G: Gate + Sync>(
+    rt: &R,
+    alloc: Global,
+    database: &Database,
+    plan: &Plan,
+    gate: &G,
+) -> Result<(Frequent, Work), MineFault>
     ensures sets { IfOk result (λ mined. mined.0.sets ≡ frequent_of database.now plan.now.question.minimum) }
     ensures total { IfOk result (λ mined. mined.0.total ≡ total_of database.now) }
     ensures within { IfOk result (λ mined. length mined.0.sets ≤ plan.now.question.limit) }
@@ -71,37 +84,70 @@ pub fn mine(alloc: Global, database: &Database, plan: &Plan) -> Result<(Frequent
         → (most ≡ plan.now.question.limit) × (plan.now.question.limit < length (frequent_of database.now plan.now.question.minimum)) }
 {
     let limit = plan.limit();
-    let coded = Coded::of(alloc, database, plan.minimum())?.merged(alloc)?;
+    let cutting = plan.cutting();
+    let coded = coded(rt, alloc, database, plan.minimum(), cutting, gate)?;
     if deep(alloc, &coded, settling_size(limit))? {
         return Err(MineFault::TooMany { limit });
     }
     match plan.miner() {
         Miner::Apriori => {
-            let (frequent, candidates) = apriori(alloc, &coded, limit)?;
+            let (frequent, candidates) =
+                apriori_shared(rt, alloc, &coded, limit, cutting, gate)?;
             candidates_by_sets();
             Ok((frequent, Work::of_candidates(candidates)))
         }
-        Miner::Eclat => {
-            coded_ranks_are_frequent();
-            class_joins_add_up();
-            let miner = Covers(Vertical::of(alloc, &coded)?);
-            let (frequent, joins) = by_classes(alloc, &coded, &miner, limit)?;
-            Ok((frequent, Work::of_joins(joins)))
-        }
-        Miner::EclatDiff => {
-            coded_ranks_are_frequent();
-            class_joins_add_up();
-            let miner = Differences(Vertical::of(alloc, &coded)?);
-            let (frequent, joins) = by_classes(alloc, &coded, &miner, limit)?;
-            Ok((frequent, Work::of_joins(joins)))
-        }
+        Miner::Eclat => joined::<R, G, TidList>(rt, alloc, &coded, limit, cutting, gate),
+        Miner::EclatDiff => joined::<R, G, DiffList>(rt, alloc, &coded, limit, cutting, gate),
+        Miner::EclatBits => joined::<R, G, BitRow>(rt, alloc, &coded, limit, cutting, gate),
         Miner::FpGrowth => {
-            class_sizes_add_up();
+            class_trees_add_up();
+            let _coding = coded.baskets();
             let miner = Growth(Forest::of(alloc, &coded)?);
-            let (frequent, trees) = by_classes(alloc, &coded, &miner, limit)?;
+            let (frequent, trees) =
+                mine_shared(rt, alloc, &coded, &miner, limit, cutting, gate)?;
             Ok((frequent, Work::of_trees(trees)))
         }
     }
+}
+
+/// The merged baskets of a database, coded. Workers count the items.
+fn coded<R: Threads + Sync, G: Gate + Sync>(
+    rt: &R,
+    alloc: Global,
+    database: &Database,
+    minimum: Minimum,
+    cutting: Cutting,
+    gate: &G,
+) -> Result<Coded, AllocError>
+    ensures { IfOk result (λ coded. coded ≡ merged_coding (coding_of database.now minimum)) }
+{
+    let counts = count_shared(rt, alloc, database.baskets(), cutting, gate)?;
+    let codes = Codes::of(alloc, &counts, database.total(), minimum)?;
+    codes.code(alloc, database)?.merged(alloc)
+}
+
+/// The list of the frequent sets by Eclat over rows of one type, and how many joins were made for it.
+fn joined<R: Threads + Sync, G: Gate + Sync, T: Row + Sync>(
+    rt: &R,
+    alloc: Global,
+    coded: &Coded,
+    limit: u32,
+    cutting: Cutting,
+    gate: &G,
+) -> Result<(Frequent, Work), MineFault>
+    ensures list { IfOk result (λ mined. mined.0 ≡ listing_of coded.now) }
+    ensures within { IfOk result (λ mined. length mined.0.sets ≤ limit) }
+    ensures work { IfOk result (λ mined. (database : List Basket) (minimum : Bound) → coded.now ≡ merged_coding (coding_of database minimum) → mined.1 ≡ join_work database minimum) }
+    ensures too_many { (most : ℕ) → result ≡ Err (TooMany most) → (most ≡ limit) × (limit < length (frequent_of_coding coded.now)) }
+{
+    coded_ranks_are_frequent();
+    class_joins_add_up();
+    let miner = Joining::<T> {
+        vertical: Vertical::of(alloc, coded)?,
+        rows: PhantomData,
+    };
+    let (frequent, joins) = mine_shared(rt, alloc, coded, &miner, limit, cutting, gate)?;
+    Ok((frequent, Work::of_joins(joins)))
 }
 
 /// The least number of items of a set that has more nonempty subsets than the limit.

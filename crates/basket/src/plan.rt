@@ -1,9 +1,17 @@
 ghost use Rattle.std.specs.Prelude.{◌≡◌, ◌≤◌, IsTrue, false};
 ghost use Rattle.basket.specs.Plan.{GREATEST_LIMIT, is_separator};
+ghost use Rattle.basket.specs.declared.plan.TheConstants.{MOST_PIECES, MOST_WORKERS};
 ghost use Rattle.basket_sets.specs.Minimum.{IsMinimum};
 
 use basket_core::Minimum;
+use mine_phases::Cutting;
 use std::marker::Model;
+
+/// The greatest number of workers.
+pub const MOST_WORKERS: u32 = 64;
+
+/// The greatest number of pieces.
+pub const MOST_PIECES: u32 = 65_536;
 
 /// What a report lists.
 #[derive(Clone, Copy, Debug, PartialEq, Eq)]
@@ -40,6 +48,8 @@ pub enum Miner {
     Eclat,
     /// Class by class, over difference lists (Zaki and Gouda 2003).
     EclatDiff,
+    /// Class by class, over bit rows.
+    EclatBits,
     /// Class by class, within conditional databases (Han, Pei and Yin 2000).
     FpGrowth,
 }
@@ -48,6 +58,8 @@ pub enum Miner {
 #[derive(Clone, Copy, Debug, PartialEq, Eq)]
 pub struct Plan {
     limit: u32,
+    workers: u32,
+    pieces: u32,
     sep: u8,
     header: bool,
     weight: bool,
@@ -60,6 +72,7 @@ pub struct Plan {
 impl Model for Plan {
     ghost use Rattle.std.specs.Prelude.{◌≤◌, IsTrue};
     ghost use Rattle.basket.specs.Plan.{Planned, is_separator};
+    ghost use Rattle.basket.specs.declared.plan.TheConstants.{MOST_PIECES, MOST_WORKERS};
     ghost use Rattle.basket_sets.specs.Minimum.{IsMinimum};
 
     ghost Value = { Planned };
@@ -67,9 +80,12 @@ impl Model for Plan {
     ghost view = { λ plan. record {
       question = record { ask = plan.ask; minimum = plan.minimum; limit = plan.limit; form = plan.form; separator = plan.sep; header = plan.header; weighted = plan.weight };
       miner = plan.miner;
+      workers = plan.workers;
+      pieces = plan.pieces;
     } };
 
-    ghost invariant = { λ plan. IsMinimum plan.minimum × (1 ≤ plan.limit) × IsTrue (is_separator plan.sep) };
+    ghost invariant = { λ plan. IsMinimum plan.minimum × (1 ≤ plan.limit) × IsTrue (is_separator plan.sep)
+        × (1 ≤ plan.workers) × (plan.workers ≤ MOST_WORKERS) × (1 ≤ plan.pieces) × (plan.pieces ≤ MOST_PIECES) };
 
     ghost inverse = { λ plan. let q = plan.question in record {
       ask = q.ask;
@@ -80,23 +96,29 @@ impl Model for Plan {
       header = q.header;
       weight = q.weighted;
       miner = plan.miner;
+      workers = plan.workers;
+      pieces = plan.pieces;
     } };
 }
 
 impl Plan {
     /// A plan with the defaults of the command line: FIMI, and for CSV commas, no header and no
-    /// weights; the greatest limit; Apriori.
+    /// weights; the greatest limit; Apriori, by one worker over 16 pieces.
     pub fn of(ask: Ask, minimum: Minimum) -> Self
         requires { IsMinimum minimum }
         ensures { result ≡ record {
           question = record { ask = ask; minimum = minimum; limit = GREATEST_LIMIT; form = Form.Fimi; separator = 44; header = false; weighted = false };
           miner = Miner.Apriori;
+          workers = 1;
+          pieces = 16;
         } }
     {
         Plan {
             ask,
             minimum,
             limit: u32::MAX,
+            workers: 1,
+            pieces: 16,
             form: Form::Fimi,
             sep: b',',
             header: false,
@@ -200,5 +222,44 @@ impl Plan {
         ensures { result ≡ record self { miner = miner } }
     {
         Plan { miner, ..self }
+    }
+
+    /// How many threads share the mining. No report depends on it.
+    pub fn workers(&self) -> u32
+        ensures value { result ≡ self.now.workers }
+        ensures within { (1 ≤ result) × (result ≤ MOST_WORKERS) }
+    {
+        self.workers
+    }
+
+    /// The plan with another number of workers.
+    pub fn with_workers(self, workers: u32) -> Self
+        requires { (1 ≤ workers) × (workers ≤ MOST_WORKERS) }
+        ensures { result ≡ record self { workers = workers } }
+    {
+        Plan { workers, ..self }
+    }
+
+    /// Into how many pieces each phase of the mining is cut. No report depends on it.
+    pub fn pieces(&self) -> u32
+        ensures value { result ≡ self.now.pieces }
+        ensures within { (1 ≤ result) × (result ≤ MOST_PIECES) }
+    {
+        self.pieces
+    }
+
+    /// How the work of each phase is cut.
+    pub fn cutting(&self) -> Cutting
+        ensures { (result.workers ≡ self.now.workers) × (result.pieces ≡ self.now.pieces) }
+    {
+        Cutting::new(self.workers, self.pieces)
+    }
+
+    /// The plan with another number of pieces.
+    pub fn with_pieces(self, pieces: u32) -> Self
+        requires { (1 ≤ pieces) × (pieces ≤ MOST_PIECES) }
+        ensures { result ≡ record self { pieces = pieces } }
+    {
+        Plan { pieces, ..self }
     }
 }

@@ -8,17 +8,21 @@ use std::io;
 use std::process::Abort;
 use std::random::RandomSource;
 use std::test::Fail;
+use std::thread::Threads;
 
 mod items;
 mod named;
 mod rules;
 mod sets;
+mod threads;
 mod words;
 
-/// A runtime that has no random bytes.
-struct NoRandomBytes;
+/// A runtime that has threads and no random bytes.
+struct NoRandomBytes<'a, R>(&'a R);
 
-impl RandomSource for NoRandomBytes {
+impl<R: Threads> Threads for NoRandomBytes<'_, R> {}
+
+impl<R> RandomSource for NoRandomBytes<'_, R> {
     fn fill_bytes(&self, _bytes: &mut [u8]) -> io::Result<()> {
         Err(io::Error::from(io::ErrorKind::Unsupported))
     }
@@ -30,7 +34,8 @@ const NINE_ITEMS: &[u8] = b"1 (6)\n2 (7)\n3 (6)\n4 (2)\n5 (2)\n";
 
 /// Runs what the words ask for. Want of memory is a failure of its own, after which nothing may be
 /// written.
-fn run_words<S: Source>(
+fn run_words<R: Threads + Sync, S: Source>(
+    rt: &R,
     alloc: Global,
     words: &[&str],
     reader: &mut S,
@@ -40,7 +45,7 @@ fn run_words<S: Source>(
     requires writer { ⟦<MemSink as Sink>⟧.has_failed writer.old ≡ false }
 {
     let plan = plan_of(alloc, words)?;
-    match run(&NoRandomBytes, alloc, &plan, reader, writer) {
+    match run(&NoRandomBytes(rt), alloc, &plan, reader, writer) {
         Err(RunFault::Input(ReadFault::Memory) | RunFault::Mine(MineFault::Memory)) => {
             match writer.bytes().is_empty() {
                 true => Err(Fail::from(AllocError)),
@@ -52,14 +57,15 @@ fn run_words<S: Source>(
 }
 
 /// Runs the words over the input, and answers what a sink took, and the fault.
-fn ran(
+fn ran<R: Threads + Sync>(
+    rt: &R,
     alloc: Global,
     words: &[&str],
     input: &[u8],
 ) -> Result<(MemSink, Result<(), RunFault>), Fail> {
     let mut reader = MemSource::new(input, 7, None);
     let mut writer = MemSink::new(alloc, 300, 100, false)?;
-    let result = run_words(alloc, words, &mut reader, &mut writer)?;
+    let result = run_words(rt, alloc, words, &mut reader, &mut writer)?;
     Ok((writer, result))
 }
 

@@ -1,12 +1,12 @@
 //! What the values of the options say.
 ghost use Rattle.std.specs.Prelude.{◌≡◌, ◌≢◌, ◌≤◌, IfErr, IfOk, IfSome, IsTrue, false};
 ghost use Rattle.clap.specs.Words.{found_of, rows_of, subcommand_rows_of};
-ghost use Rattle.basket.specs.Command.{ask_in, conf_in, flag_in, form_in, is_help, limit_in, min_in, miner_in, plan_of_command, sep_in};
+ghost use Rattle.basket.specs.Command.{ask_in, conf_in, flag_in, form_in, is_help, min_in, miner_in, number_in, plan_of_command, sep_in};
 ghost use Rattle.basket.specs.Plan.{is_separator};
 ghost use Rattle.basket_sets.specs.Minimum.{IsMinimum};
 
 use crate::command::PlanFault;
-use crate::plan::{Ask, Form, Miner, Plan};
+use crate::plan::{Ask, Form, MOST_PIECES, MOST_WORKERS, Miner, Plan};
 use basket_core::{Minimum, parse_minimum, parse_share};
 use clap::ArgMatches;
 use std::alloc::{AllocError, Global};
@@ -35,8 +35,14 @@ pub fn plan_from(alloc: Global, matches: &ArgMatches<'_>) -> Result<Plan, PlanFa
     let Some(miner) = miner_in(options) else {
         return Err(usage(alloc, "basket: bad value for --miner\n")?);
     };
-    let Some(limit) = limit_in(options) else {
+    let Some(limit) = number_in("limit", u32::MAX, options) else {
         return Err(usage(alloc, "basket: bad value for --limit\n")?);
+    };
+    let Some(workers) = number_in("workers", MOST_WORKERS, options) else {
+        return Err(usage(alloc, "basket: bad value for --workers\n")?);
+    };
+    let Some(pieces) = number_in("pieces", MOST_PIECES, options) else {
+        return Err(usage(alloc, "basket: bad value for --pieces\n")?);
     };
     Ok(
         Plan::of(ask, minimum)
@@ -45,6 +51,8 @@ pub fn plan_from(alloc: Global, matches: &ArgMatches<'_>) -> Result<Plan, PlanFa
             .with_header(flag_in("header", options))
             .with_weight(flag_in("weight", options))
             .with_miner(miner)
+            .with_workers(workers)
+            .with_pieces(pieces)
             .with_limit(limit),
     )
 }
@@ -86,6 +94,7 @@ fn miner_in(options: &ArgMatches<'_>) -> Option<Miner>
         "apriori" => Some(Miner::Apriori),
         "eclat" => Some(Miner::Eclat),
         "eclat-diff" => Some(Miner::EclatDiff),
+        "eclat-bits" => Some(Miner::EclatBits),
         "fpgrowth" => Some(Miner::FpGrowth),
         _ => None,
     }
@@ -125,12 +134,13 @@ fn flag_in(name: &str, options: &ArgMatches<'_>) -> bool
     }
 }
 
-fn limit_in(options: &ArgMatches<'_>) -> Option<u32>
-    ensures found { result ≡ limit_in (rows_of (found_of options.now)) }
-    ensures in_range { IfSome result (λ limit. 1 ≤ limit) }
+/// The number of the option of a name, from 1 to the greatest.
+fn number_in(name: &str, most: u32, options: &ArgMatches<'_>) -> Option<u32>
+    ensures found { result ≡ number_in name.now most (rows_of (found_of options.now)) }
+    ensures in_range { IfSome result (λ number. (1 ≤ number) × (number ≤ most)) }
 {
-    match options.get_one::<u32>("limit") {
-        Some(limit) if limit >= 1 => Some(limit),
+    match options.get_one::<u32>(name) {
+        Some(number) if 1 <= number && number <= most => Some(number),
         _ => None,
     }
 }

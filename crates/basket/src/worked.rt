@@ -10,13 +10,13 @@ ghost use Rattle.basket_sets.specs.declared.minimum.Minimum.TheVariants.{Count, 
 /// `sets --min 2` asks for the sets of count 2, with the default limit and miner.
 pub fn sets_at_two()
     ensures { plan_of_words (codes "sets" ∷ codes "--min" ∷ codes "2" ∷ [])
-        ≡ Some (record { question = record { ask = Sets; minimum = Count 2; limit = GREATEST_LIMIT; form = Fimi; separator = 44; header = false; weighted = false }; miner = Apriori }) }
+        ≡ Some (record { question = record { ask = Sets; minimum = Count 2; limit = GREATEST_LIMIT; form = Fimi; separator = 44; header = false; weighted = false }; miner = Apriori; workers = 1; pieces = 16 }) }
 {}
 
 /// `items --limit=5 --min 5%` asks for the items of a share of 5 in 100.
 pub fn items_at_a_share()
     ensures { plan_of_words (codes "items" ∷ codes "--limit=5" ∷ codes "--min" ∷ codes "5%" ∷ [])
-        ≡ Some (record { question = record { ask = Items; minimum = Share 5 100; limit = 5; form = Fimi; separator = 44; header = false; weighted = false }; miner = Apriori }) }
+        ≡ Some (record { question = record { ask = Items; minimum = Share 5 100; limit = 5; form = Fimi; separator = 44; header = false; weighted = false }; miner = Apriori; workers = 1; pieces = 16 }) }
 {}
 
 /// `sets --form baskets --sep semicolon --weight --min 2` asks for sets of names.
@@ -25,6 +25,8 @@ pub fn sets_of_names()
         ≡ Some (record {
           question = record { ask = Sets; minimum = Count 2; limit = GREATEST_LIMIT; form = Baskets; separator = 59; header = false; weighted = true };
           miner = Apriori;
+          workers = 1;
+          pieces = 16;
         }) }
 {}
 

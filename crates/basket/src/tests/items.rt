@@ -19,6 +19,7 @@ fn reports(rt: HostRuntime) -> Result<(), Fail> {
         let mut reader = MemSource::new(input, 7, None);
         let mut writer = MemSink::new(rt.alloc(), 100, 100, false)?;
         let result = run_words(
+            &rt,
             rt.alloc(),
             &["items", "--min", minimum],
             &mut reader,
@@ -72,6 +73,7 @@ fn refused_inputs(rt: HostRuntime) -> Result<(), Fail> {
         let mut reader = MemSource::new(input, 1, None);
         let mut writer = MemSink::new(rt.alloc(), 100, 100, false)?;
         let result = run_words(
+            &rt,
             rt.alloc(),
             &["items", "--min", "1"],
             &mut reader,
@@ -103,6 +105,7 @@ fn readers_that_fail(rt: HostRuntime) -> Result<(), Fail> {
         let mut reader = MemSource::new(input, 1, Some(reads));
         let mut writer = MemSink::new(rt.alloc(), 100, 100, false)?;
         let result = run_words(
+            &rt,
             rt.alloc(),
             &["items", "--min", "1"],
             &mut reader,
@@ -129,6 +132,7 @@ fn writers(rt: HostRuntime) -> Result<(), Fail> {
         let mut reader = MemSource::new(NINE_BASKETS, 100, None);
         let mut writer = MemSink::new(rt.alloc(), room, piece, flush_fails)?;
         let result = run_words(
+            &rt,
             rt.alloc(),
             &["items", "--min", "2"],
             &mut reader,

@@ -46,7 +46,7 @@ fn baskets_of_names(rt: HostRuntime) -> Result<(), Fail> {
         (&["sets", "--form", "baskets", "--min", "1"], b"", b""),
     ];
     for (words, input, want) in cases {
-        let (writer, result) = ran(rt.alloc(), words, input)?;
+        let (writer, result) = ran(&rt, rt.alloc(), words, input)?;
         assert_eq!(rt; result, Ok(()));
         assert_eq!(rt; writer.bytes(), want);
     }
@@ -80,7 +80,7 @@ fn receipts(rt: HostRuntime) -> Result<(), Fail> {
         ),
     ];
     for (words, input, want) in cases {
-        let (writer, result) = ran(rt.alloc(), words, input)?;
+        let (writer, result) = ran(&rt, rt.alloc(), words, input)?;
         assert_eq!(rt; result, Ok(()));
         assert_eq!(rt; writer.bytes(), want);
     }
@@ -99,7 +99,7 @@ fn separators(rt: HostRuntime) -> Result<(), Fail> {
     ];
     for (sep, input, want) in cases {
         let words = ["items", "--form", "baskets", "--sep", sep, "--min", "1"];
-        let (writer, result) = ran(rt.alloc(), &words, input)?;
+        let (writer, result) = ran(&rt, rt.alloc(), &words, input)?;
         assert_eq!(rt; result, Ok(()));
         assert_eq!(rt; writer.bytes(), want, "{sep}");
     }
@@ -130,7 +130,7 @@ fn faults(rt: HostRuntime) -> Result<(), Fail> {
     ];
     for (words, input, fault, text) in cases {
         let fault = RunFault::Input(fault);
-        let (writer, result) = ran(rt.alloc(), words, input)?;
+        let (writer, result) = ran(&rt, rt.alloc(), words, input)?;
         assert_eq!(rt; result, Err(fault));
         assert_eq!(rt; writer.bytes(), b"".as_slice());
         assert_eq!(rt; fault.to_string(rt.alloc())?.as_str(), text);
@@ -146,7 +146,7 @@ fn readers_that_fail(rt: HostRuntime) -> Result<(), Fail> {
         let mut reader = MemSource::new(input, 1, Some(2));
         let mut writer = MemSink::new(rt.alloc(), 100, 100, false)?;
         let words = ["items", "--form", form, "--min", "1"];
-        let result = run_words(rt.alloc(), &words, &mut reader, &mut writer)?;
+        let result = run_words(&rt, rt.alloc(), &words, &mut reader, &mut writer)?;
         assert_eq!(rt; result, Err(RunFault::Input(ReadFault::Read)));
         assert_eq!(rt; writer.bytes(), b"".as_slice());
     }

@@ -24,7 +24,7 @@ fn nine_baskets(rt: HostRuntime) -> Result<(), Fail> {
     ];
     for (words, want) in cases {
         for input in [NINE_BASKETS, WEIGHTED_BASKETS] {
-            let (writer, result) = ran(rt.alloc(), words, input)?;
+            let (writer, result) = ran(&rt, rt.alloc(), words, input)?;
             assert_eq!(rt; result, Ok(()));
             assert_eq!(rt; writer.bytes(), want);
         }
@@ -61,7 +61,7 @@ fn small_inputs(rt: HostRuntime) -> Result<(), Fail> {
         ),
     ];
     for (words, input, want) in cases {
-        let (writer, result) = ran(rt.alloc(), words, input)?;
+        let (writer, result) = ran(&rt, rt.alloc(), words, input)?;
         assert_eq!(rt; result, Ok(()));
         assert_eq!(rt; writer.bytes(), want);
     }
@@ -76,7 +76,7 @@ fn too_many_sets(rt: HostRuntime) -> Result<(), Fail> {
         &["rules", "--min", "2", "--limit", "12", "--conf", "1/1"],
     ];
     for words in cases {
-        let (writer, result) = ran(rt.alloc(), words, NINE_BASKETS)?;
+        let (writer, result) = ran(&rt, rt.alloc(), words, NINE_BASKETS)?;
         assert_eq!(rt;
             result,
             Err(RunFault::Mine(MineFault::TooMany { limit: 12 }))

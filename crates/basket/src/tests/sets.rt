@@ -2,7 +2,7 @@
 use super::*;
 use itoa::Buffer;
 
-const THIRTEEN_SETS: &[u8] =
+pub const THIRTEEN_SETS: &[u8] =
     b"1 (6)\n2 (7)\n3 (6)\n4 (2)\n5 (2)\n1 2 (4)\n1 3 (4)\n1 5 (2)\n2 3 (4)\n2 4 (2)\n2 5 (2)\n1 2 3 (2)\n1 2 5 (2)\n";
 
 const SEVEN_SETS: &[u8] = b"1 (1)\n2 (1)\n3 (1)\n1 2 (1)\n1 3 (1)\n2 3 (1)\n1 2 3 (1)\n";
@@ -34,7 +34,7 @@ fn nine_baskets(rt: HostRuntime) -> Result<(), Fail> {
         (&["items", "--min", "2", "--limit", "1"], NINE_ITEMS),
     ];
     for (words, want) in cases {
-        let (writer, result) = ran(rt.alloc(), words, NINE_BASKETS)?;
+        let (writer, result) = ran(&rt, rt.alloc(), words, NINE_BASKETS)?;
         assert_eq!(rt; result, Ok(()));
         assert_eq!(rt; writer.bytes(), want);
     }
@@ -53,7 +53,7 @@ fn small_inputs(rt: HostRuntime) -> Result<(), Fail> {
     ];
     for (input, want) in cases {
         let words = ["sets", "--min", "1", "--limit", "7"];
-        let (writer, result) = ran(rt.alloc(), &words, input)?;
+        let (writer, result) = ran(&rt, rt.alloc(), &words, input)?;
         assert_eq!(rt; result, Ok(()));
         assert_eq!(rt; writer.bytes(), want);
     }
@@ -72,7 +72,7 @@ fn weights(rt: HostRuntime) -> Result<(), Fail> {
         ),
     ];
     for (input, minimum, want) in cases {
-        let (writer, result) = ran(rt.alloc(), &["sets", "--min", minimum], input)?;
+        let (writer, result) = ran(&rt, rt.alloc(), &["sets", "--min", minimum], input)?;
         assert_eq!(rt; result, Ok(()));
         assert_eq!(rt; writer.bytes(), want);
     }
@@ -93,7 +93,7 @@ fn pairs_that_are_in_no_basket(rt: HostRuntime) -> Result<(), Fail> {
         want.extend_from_slice(number)?;
         want.extend_from_slice(b" (2)\n")?;
     }
-    let (writer, result) = ran(rt.alloc(), &["sets", "--min", "2"], &input)?;
+    let (writer, result) = ran(&rt, rt.alloc(), &["sets", "--min", "2"], &input)?;
     assert_eq!(rt; result, Ok(()));
     assert_eq!(rt; writer.bytes(), want.as_slice());
     Ok(())
@@ -123,7 +123,7 @@ fn too_many_sets(rt: HostRuntime) -> Result<(), Fail> {
     ];
     for (words, input, limit, text) in cases {
         let fault = RunFault::Mine(MineFault::TooMany { limit });
-        let (writer, result) = ran(rt.alloc(), words, input)?;
+        let (writer, result) = ran(&rt, rt.alloc(), words, input)?;
         assert_eq!(rt; result, Err(fault));
         assert_eq!(rt; writer.bytes(), b"".as_slice());
         assert_eq!(rt; fault.to_string(rt.alloc())?.as_str(), text);
@@ -144,7 +144,7 @@ fn large_basket(rt: HostRuntime) -> Result<(), Fail> {
     let mut reader = MemSource::new(&input, 65_536, None);
     let mut writer = MemSink::new(rt.alloc(), 100, 100, false)?;
     let words = ["sets", "--min", "1"];
-    let result = run_words(rt.alloc(), &words, &mut reader, &mut writer)?;
+    let result = run_words(&rt, rt.alloc(), &words, &mut reader, &mut writer)?;
     let fault = RunFault::Mine(MineFault::TooMany { limit: 4294967295 });
     assert_eq!(rt; result, Err(fault));
     assert_eq!(rt; writer.bytes(), b"".as_slice());

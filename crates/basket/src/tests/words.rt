@@ -7,14 +7,16 @@ Writes each set of items that is in enough baskets, with the number of those bas
 Usage: basket sets [OPTIONS] --min <M>
 
 Options:
-      --min <M>    The least count of a set to be listed: a number, as 20, or a share of all baskets, as 5% or 1/200
-      --form <F>   How standard input is written (`basket --help` shows it) [default: fimi] [possible values: fimi, baskets, single]
-      --sep <S>    What stands between the fields of CSV, also in the report [default: comma] [possible values: comma, semicolon, tab, pipe]
-      --header     Leaves out the first record of CSV
-      --weight     Takes the first field of each CSV basket for its weight, from 1 to 4294967295
-      --miner <A>  How the sets are found; the report doesn't depend on it [default: apriori] [possible values: apriori, eclat, eclat-diff, fpgrowth]
-      --limit <L>  How many sets there may be, from 1 to 4294967295; where there are more, none is written (`items` has no limit) [default: 4294967295]
-  -h, --help       Print help
+      --min <M>      The least count of a set to be listed: a number, as 20, or a share of all baskets, as 5% or 1/200
+      --form <F>     How standard input is written (`basket --help` shows it) [default: fimi] [possible values: fimi, baskets, single]
+      --sep <S>      What stands between the fields of CSV, also in the report [default: comma] [possible values: comma, semicolon, tab, pipe]
+      --header       Leaves out the first record of CSV
+      --weight       Takes the first field of each CSV basket for its weight, from 1 to 4294967295
+      --miner <A>    How the sets are found; the report doesn't depend on it [default: apriori] [possible values: apriori, eclat, eclat-diff, eclat-bits, fpgrowth]
+      --limit <L>    How many sets there may be, from 1 to 4294967295; where there are more, none is written (`items` has no limit) [default: 4294967295]
+      --workers <W>  How many threads share the mining, from 1 to 64; the report doesn't depend on it [default: 1]
+      --pieces <P>   How many pieces the mining is cut into, from 1 to 65536; the report doesn't depend on it [default: 16]
+  -h, --help         Print help
 
 Standard output gets one line for each set: its items and, in parentheses, its count.
 Sets of one item come first, then those of two, and so on, each size in the order of
@@ -59,7 +61,7 @@ fn bad_minimums(rt: HostRuntime) -> Result<(), Fail> {
 
 #[test]
 fn bad_words(rt: HostRuntime) -> Result<(), Fail> {
-    let cases: [(&[&str], &str); 12] = [
+    let cases: [(&[&str], &str); 16] = [
         (&[], "Usage: basket <COMMAND>\n"),
         (&["things"], "'things'"),
         (&["items"], "--min <M>"),
@@ -75,6 +77,10 @@ fn bad_words(rt: HostRuntime) -> Result<(), Fail> {
             "'4294967296'",
         ),
         (&["sets", "--min", "1", "--limit", "x"], "'x'"),
+        (&["sets", "--min", "1", "--workers", "0"], "'0'"),
+        (&["sets", "--min", "1", "--workers", "65"], "'65'"),
+        (&["sets", "--min", "1", "--pieces", "0"], "'0'"),
+        (&["sets", "--min", "1", "--pieces", "65537"], "'65537'"),
     ];
     for (words, part) in cases {
         let fault = refused(rt.alloc(), words)?;
@@ -135,5 +141,7 @@ fn plan_of_sets(rt: HostRuntime) -> Result<(), Fail> {
     assert_eq!(rt; plan.ask(), Ask::Sets);
     assert_eq!(rt; plan.miner(), Miner::Apriori);
     assert_eq!(rt; plan.limit(), 4294967295);
+    assert_eq!(rt; plan.workers(), 1);
+    assert_eq!(rt; plan.pieces(), 16);
     Ok(())
 }

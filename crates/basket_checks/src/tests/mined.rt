@@ -1,11 +1,19 @@
 //! Each miner beside the plain one.
 use super::{NINE_BASKETS, Row, database};
 use crate::plain_sets;
-use basket::{Ask, Plan, mine};
-use basket_core::{Coded, Database, Itemset, MineFault, parse_minimum};
-use mine_apriori::apriori;
+use basket::{Ask, Miner, Open, Plan, mine};
+use basket_core::{Database, Itemset, MineFault, parse_minimum};
 use std::alloc::{AllocError, Global};
 use std::test::Fail;
+use std::thread::Threads;
+
+const MINERS: [Miner; 5] = [
+    Miner::Apriori,
+    Miner::Eclat,
+    Miner::EclatDiff,
+    Miner::EclatBits,
+    Miner::FpGrowth,
+];
 
 const MINIMUMS: [&str; 8] = ["1", "2", "3", "7", "22%", "2/9", "50%", "1/1"];
 
@@ -61,21 +69,30 @@ fn mixed(alloc: Global, seed: u64) -> Result<Database, Fail> {
     Ok(database)
 }
 
-/// Compares `mine` and Apriori with the plain miner.
-fn compare(alloc: Global, database: &Database, text: &str) -> Result<(), Fail> {
+/// Compares what each miner finds, however many workers share it, with the plain miner's list.
+fn compare<R: Threads + Sync>(
+    rt: &R,
+    alloc: Global,
+    database: &Database,
+    text: &str,
+) -> Result<(), Fail> {
     let plan = plan(text)?;
     let plain = plain_sets(alloc, database, plan.minimum())?;
-    let (mined, work) = mine(alloc, database, &plan)?;
-    let coded = Coded::of(alloc, database, plan.minimum())?;
-    let (levels, candidates) = apriori(alloc, &coded, plan.limit())?;
-    if mined.sets() != plain.as_slice() || levels.sets() != plain.as_slice() {
-        return Err(Fail::new("the lists are the same"));
-    }
-    if work.candidates != candidates || work.joins != 0 || work.trees != 0 {
-        return Err(Fail::new("the work is the same"));
-    }
-    if mined.total() != database.total() || levels.total() != database.total() {
-        return Err(Fail::new("the weights are the same"));
+    for miner in MINERS {
+        let mut known = None;
+        for (workers, pieces) in [(1, 16), (2, 1), (7, 3)] {
+            let plan = plan
+                .with_miner(miner)
+                .with_workers(workers)
+                .with_pieces(pieces);
+            let (mined, work) = mine(rt, alloc, database, &plan, &Open)?;
+            if mined.sets() != plain.as_slice() || mined.total() != database.total() {
+                return Err(Fail::new("the lists are the same"));
+            }
+            if *known.get_or_insert(work) != work {
+                return Err(Fail::new("the work is the same"));
+            }
+        }
     }
     Ok(())
 }
@@ -85,7 +102,7 @@ fn small_inputs(rt: HostRuntime) -> Result<(), Fail> {
     for rows in INPUTS {
         let database = database(rt.alloc(), rows)?;
         for text in MINIMUMS {
-            compare(rt.alloc(), &database, text)?;
+            compare(&rt, rt.alloc(), &database, text)?;
         }
     }
     Ok(())
@@ -96,30 +113,39 @@ fn mixed_inputs(rt: HostRuntime) -> Result<(), Fail> {
     for seed in [1, 2, 3] {
         let database = mixed(rt.alloc(), seed)?;
         for text in ["2", "5", "20%", "50%"] {
-            compare(rt.alloc(), &database, text)?;
+            compare(&rt, rt.alloc(), &database, text)?;
         }
     }
     Ok(())
 }
 
+/// Whether each miner tells that thirteen sets are more than the limit.
+fn refused<R: Threads + Sync>(
+    rt: &R,
+    alloc: Global,
+    database: &Database,
+    plan: &Plan,
+) -> Result<bool, Fail> {
+    for miner in MINERS {
+        match mine(rt, alloc, database, &plan.with_miner(miner), &Open) {
+            Err(MineFault::TooMany { limit }) if limit == plan.limit() => {}
+            Err(MineFault::Memory) => return Err(Fail::from(AllocError)),
+            _ => return Ok(false),
+        }
+    }
+    Ok(true)
+}
+
 #[test]
 fn limits(rt: HostRuntime) -> Result<(), Fail> {
     let database = database(rt.alloc(), NINE_BASKETS)?;
-    let plan = plan("2")?;
-    for limit in [1, 4, 5, 6, 11, 12] {
-        match mine(rt.alloc(), &database, &plan.with_limit(limit)) {
-            Err(MineFault::TooMany { limit: told }) => assert_eq!(rt; told, limit),
-            _ => return Err(Fail::new("thirteen sets are too many")),
+    for (workers, pieces) in [(1, 1), (2, 16), (7, 2)] {
+        let plan = plan("2")?.with_workers(workers).with_pieces(pieces);
+        for limit in [1, 4, 5, 6, 11, 12] {
+            assert!(rt; refused(&rt, rt.alloc(), &database, &plan.with_limit(limit))?);
         }
-    }
-    for limit in [13, 14] {
-        assert_eq!(rt;
-            mine(rt.alloc(), &database, &plan.with_limit(limit))?
-                .0
-                .sets()
-                .len(),
-            13
-        );
+        let (mined, _) = mine(&rt, rt.alloc(), &database, &plan.with_limit(13), &Open)?;
+        assert_eq!(rt; mined.sets().len(), 13);
     }
     Ok(())
 }

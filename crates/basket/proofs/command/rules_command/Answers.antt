@@ -6,8 +6,8 @@ use Rattle.basket.proofs.command.rules_command.Goals as goal
 
 pub returns-clause-options : goal.returns-clause-options
 returns-clause-options c =
-    IfOk-weaker c.arg.result _ _ (λ command added. added.shape c.conf_option.ensures.local ∙ ap₂ with_rule c.in_ok-command.ensures.options c.conf_option.ensures.rule) c.arg.ensures
+    IfOk-weaker c.arg.result _ _ (λ command added. added.shape c.required.ensures.local ∙ ap₂ with_rule c.in_ok-command.ensures.options c.required.ensures.rule) c.arg.ensures
 
 pub returns-clause-local : goal.returns-clause-local
 returns-clause-local c =
-    IfOk-weaker c.arg.result _ _ (λ command added. stays_local _ _ _ added.globals c.conf_option.ensures.local c.in_ok-command.ensures.local) c.arg.ensures
+    IfOk-weaker c.arg.result _ _ (λ command added. stays_local _ _ _ added.globals c.required.ensures.local c.in_ok-command.ensures.local) c.arg.ensures
