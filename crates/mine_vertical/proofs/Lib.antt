@@ -12,3 +12,4 @@ mod WordLemmas
 mod PlaneLemmas
 mod MarkLemmas
 mod CoversLemmas
+mod WorkedLemmas

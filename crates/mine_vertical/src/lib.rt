@@ -21,6 +21,7 @@ mod siblings;
 mod tids;
 mod vertical;
 mod weights;
+pub mod worked;
 
 pub use bit_rows::BitRow;
 pub use bits::and_count;

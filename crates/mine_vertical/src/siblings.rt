@@ -3,14 +3,14 @@ ghost use Rattle.std.specs.Prelude.{◌≡◌, ◌≤◌, ◌<◌, [], ◌∷◌
 ghost use Rattle.basket_core.specs.Codes.{IsCoding, baskets_of, decoded_place};
 ghost use Rattle.basket_sets.specs.declared.minimum.Minimum.TheVariants.{Count};
 ghost use Rattle.basket_sets.specs.declared.weighted.Weighted.{Weighted as Basket};
-ghost use Rattle.basket_sets.specs.Database.{HasWeight, MOST_WEIGHT};
+ghost use Rattle.basket_sets.specs.Database.{MOST_WEIGHT};
 ghost use Rattle.basket_sets.specs.Itemset.{AllBelow, IsRising};
-ghost use Rattle.basket_sets.specs.Support.{support_of, total_of};
+ghost use Rattle.basket_sets.specs.Support.{support_of};
 ghost use Rattle.mine_classes.specs.Conditional.{conditional};
-ghost use Rattle.mine_classes.specs.Ordered.{AreRankBaskets, HaveSameWeights};
+ghost use Rattle.mine_classes.specs.Ordered.{HaveSameWeights};
 ghost use Rattle.mine_classes.specs.Pairs.{kept_ranks};
 ghost use Rattle.mine_classes.specs.Span.{IsWithin, baskets_at};
-ghost use Rattle.mine_vertical.specs.Cover.{cover_of, weights_of};
+ghost use Rattle.mine_vertical.specs.Cover.{weights_of};
 ghost use Rattle.mine_vertical.specs.Covers.{AreCovers, HasPlace, covers_in};
 ghost use Rattle.mine_vertical.specs.Search.{IsSibling};
 ghost use Rattle.mine_vertical.specs.Siblings.{AreClassSiblings};

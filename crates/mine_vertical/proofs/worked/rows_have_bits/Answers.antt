@@ -1,12 +1,12 @@
 use Rattle.std.proofs.Common.{refl}
 use Rattle.mine_vertical.specs.Bits.{word_at}
 use Rattle.mine_vertical.specs.Planes.{bits_of}
-use Rattle.mine_vertical.proofs.laws.rows_have_bits.Goals as goal
+use Rattle.mine_vertical.proofs.worked.rows_have_bits.Goals as goal
 
 pub returns-clause-row : goal.returns-clause-row
 unfolding word_at
 returns-clause-row c = refl
 
-pub returns-clause-bits : goal.returns-clause-bits
+pub returns-clause-planes : goal.returns-clause-planes
 unfolding bits_of
-returns-clause-bits c = refl
+returns-clause-planes c = refl
