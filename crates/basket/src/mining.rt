@@ -91,8 +91,7 @@ pub fn mine<R: Threads + Sync, G: Gate + Sync>(
     }
     match plan.miner() {
         Miner::Apriori => {
-            let (frequent, candidates) =
-                apriori_shared(rt, alloc, &coded, limit, cutting, gate)?;
+            let (frequent, candidates) = apriori_shared(rt, alloc, &coded, limit, cutting, gate)?;
             candidates_by_sets();
             Ok((frequent, Work::of_candidates(candidates)))
         }
@@ -103,8 +102,7 @@ pub fn mine<R: Threads + Sync, G: Gate + Sync>(
             class_trees_add_up();
             let _coding = coded.baskets();
             let miner = Growth(Forest::of(alloc, &coded)?);
-            let (frequent, trees) =
-                mine_shared(rt, alloc, &coded, &miner, limit, cutting, gate)?;
+            let (frequent, trees) = mine_shared(rt, alloc, &coded, &miner, limit, cutting, gate)?;
             Ok((frequent, Work::of_trees(trees)))
         }
     }

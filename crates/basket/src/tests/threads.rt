@@ -51,7 +51,16 @@ fn sets_by_workers(rt: HostRuntime) -> Result<(), Fail> {
     for workers in ["1", "2", "7"] {
         for pieces in ["1", "2", "16"] {
             let ask = ["sets", "--min", "2", "--limit", "13"];
-            assert!(rt; all_write(&rt, rt.alloc(), &ask, workers, pieces, super::sets::THIRTEEN_SETS)?);
+            assert!(rt;
+                all_write(
+                    &rt,
+                    rt.alloc(),
+                    &ask,
+                    workers,
+                    pieces,
+                    super::sets::THIRTEEN_SETS
+                )?
+            );
         }
     }
     Ok(())
@@ -144,7 +153,8 @@ fn mined_by_two<R: Threads + Sync>(
     let mut database = Database::new(alloc);
     for row in ROWS {
         let basket = Itemset::from_items(alloc, row)?;
-        let room = database.len() < Database::MAX_BASKETS && database.total() < Database::MAX_WEIGHT;
+        let room = database.len() < Database::MAX_BASKETS
+            && database.total() < Database::MAX_WEIGHT;
         if !basket.is_empty() && room {
             database.push(basket, 1).map_err(|_| AllocError)?;
         }
