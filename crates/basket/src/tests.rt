@@ -18,6 +18,7 @@ mod threads;
 mod words;
 
 /// A runtime that has threads and no random bytes.
+#[derive(Drop)]
 struct NoRandomBytes<'a, R>(&'a R);
 
 impl<R: Threads> Threads for NoRandomBytes<'_, R> {}

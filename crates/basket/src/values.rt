@@ -1,7 +1,7 @@
 //! What the values of the options say.
 ghost use Rattle.std.specs.Prelude.{◌≡◌, ◌≢◌, ◌≤◌, IfErr, IfOk, IfSome, IsTrue, false};
 ghost use Rattle.clap.specs.Words.{found_of, rows_of, subcommand_rows_of};
-ghost use Rattle.basket.specs.Command.{ask_in, conf_in, flag_in, form_in, is_help, min_in, miner_in, number_in, plan_of_command, sep_in};
+ghost use Rattle.basket.specs.Command.{ask_in, conf_in, flag_in, form_in, is_help, min_in, miner_in, number_in, plan_of_command, plan_of_rows, sep_in};
 ghost use Rattle.basket.specs.Plan.{is_separator};
 ghost use Rattle.basket_sets.specs.Minimum.{IsMinimum};
 
@@ -20,30 +20,29 @@ pub fn plan_from(alloc: Global, matches: &ArgMatches<'_>) -> Result<Plan, PlanFa
     let Some((name, options)) = matches.subcommand() else {
         return Err(usage(alloc, "basket: no command\n")?);
     };
-    let Some(minimum) = min_in(options) else {
-        return Err(usage(alloc, "basket: bad value for --min\n")?);
-    };
-    let Some(ask) = ask_in(name, options) else {
-        return Err(usage(alloc, "basket: bad value for --conf\n")?);
-    };
-    let Some(form) = form_in(options) else {
-        return Err(usage(alloc, "basket: bad value for --form\n")?);
-    };
-    let Some(sep) = sep_in(options) else {
-        return Err(usage(alloc, "basket: bad value for --sep\n")?);
-    };
-    let Some(miner) = miner_in(options) else {
-        return Err(usage(alloc, "basket: bad value for --miner\n")?);
-    };
-    let Some(limit) = number_in("limit", u32::MAX, options) else {
-        return Err(usage(alloc, "basket: bad value for --limit\n")?);
-    };
-    let Some(workers) = number_in("workers", MOST_WORKERS, options) else {
-        return Err(usage(alloc, "basket: bad value for --workers\n")?);
-    };
-    let Some(pieces) = number_in("pieces", MOST_PIECES, options) else {
-        return Err(usage(alloc, "basket: bad value for --pieces\n")?);
-    };
+    match plan_in(name, options) {
+        Ok(plan) => Ok(plan),
+        Err(text) => Err(usage(alloc, text)?),
+    }
+}
+
+/// The plan of a command with its options, or the text to print of a value that says nothing.
+fn plan_in(name: &str, options: &ArgMatches<'_>) -> Result<Plan, &'static str>
+    ensures made { IfOk result (λ plan. plan_of_rows name.now (rows_of (found_of options.now)) ≡ Some plan) }
+    ensures refused { IfErr result (λ _. plan_of_rows name.now (rows_of (found_of options.now)) ≡ None) }
+{
+    let minimum = min_in(options).ok_or("basket: bad value for --min\n")?;
+    let ask = ask_in(name, options).ok_or("basket: bad value for --conf\n")?;
+    let form = form_in(options).ok_or("basket: bad value for --form\n")?;
+    let sep = sep_in(options).ok_or("basket: bad value for --sep\n")?;
+    let miner = miner_in(options).ok_or("basket: bad value for --miner\n")?;
+    let limit = number_in("limit", u32::MAX, options).ok_or("basket: bad value for --limit\n")?;
+    let workers = number_in("workers", MOST_WORKERS, options).ok_or(
+        "basket: bad value for --workers\n",
+    )?;
+    let pieces = number_in("pieces", MOST_PIECES, options).ok_or(
+        "basket: bad value for --pieces\n",
+    )?;
     Ok(
         Plan::of(ask, minimum)
             .with_form(form)

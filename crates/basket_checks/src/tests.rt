@@ -3,7 +3,6 @@ mod codes;
 mod databases;
 mod depth;
 mod fault;
-mod frequent;
 mod growth;
 mod itemset;
 mod join;

@@ -7,13 +7,15 @@ use std::alloc::AllocError;
 use std::env;
 use std::io::ErrorKind;
 use std::process::ExitCode;
+use std::random::RandomSource;
+use std::thread::Threads;
 
 /// The status where a reader or a writer failed.
 const BROKEN: u8 = 4;
 
 fn main(rt: HostRuntime) -> ExitCode {
     let status = match plan(&rt) {
-        Ok(plan) => report(&rt, &plan),
+        Ok(plan) => report(&rt, &rt, &plan),
         Err(fault) => explain(&rt, &fault),
     };
     ExitCode::from(status)
@@ -34,11 +36,12 @@ fn no_text(rt: &HostRuntime) -> Result<String, AllocError> {
     String::from_str(rt.alloc(), "basket: the command line is not UTF-8 text\n")
 }
 
-/// Writes the report of standard input to standard output, and answers the exit status.
-fn report(rt: &HostRuntime, plan: &Plan) -> u8 {
+/// Writes the report of standard input to standard output, and answers the exit status. The workers
+/// are threads of the second runtime.
+fn report<R: RandomSource + Threads + Sync>(rt: &HostRuntime, threads: &R, plan: &Plan) -> u8 {
     let mut reader = StdSource::new(rt.stdin());
     let mut writer = StdSink::new(rt.stdout());
-    match run(rt, rt.alloc(), plan, &mut reader, &mut writer) {
+    match run(threads, rt.alloc(), plan, &mut reader, &mut writer) {
         Ok(()) => 0,
         Err(fault) => {
             // Where standard error takes nothing, the status still tells the fault.

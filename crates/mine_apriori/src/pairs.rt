@@ -44,7 +44,10 @@ fn pairs_by_runs(alloc: Global, runs: &Runs, least: u64) -> Result<Vec<Vec<(u32,
 }
 
 /// The pairs of each rank with lesser ones, as those of each rank with greater ones.
-pub fn by_lesser(alloc: Global, lists: &[Vec<(u32, u64)>]) -> Result<Vec<Vec<(u32, u64)>>, AllocError>
+pub fn by_lesser(
+    alloc: Global,
+    lists: &[Vec<(u32, u64)>],
+) -> Result<Vec<Vec<(u32, u64)>>, AllocError>
     requires few { length lists.now < 2 ^ 32 }
     requires below { All (AreBelow (length lists.now)) (lists_of lists.now) }
     ensures { IfOk result (λ pairs. lists_of pairs.items ≡ all_lesser (lists_of lists.now)) }

@@ -27,12 +27,12 @@ const ROWS: [&[u32]; 9] = [
 const TURNS: u64 = 1_000_000_000;
 
 /// Whether each miner, shared by so many workers over so many pieces, writes this for the nine baskets.
-fn all_write<R: Threads + Sync>(
+fn all_write<'a, R: Threads + Sync>(
     rt: &R,
     alloc: Global,
-    ask: &[&str],
-    workers: &str,
-    pieces: &str,
+    ask: &[&'a str],
+    workers: &'a str,
+    pieces: &'a str,
     want: &[u8],
 ) -> Result<bool, Fail> {
     for (miner, _, _) in MINERS {
@@ -83,7 +83,7 @@ fn many_workers_for_one_basket(rt: HostRuntime) -> Result<(), Fail> {
     let words = ["sets", "--min", "1", "--workers", "64", "--pieces", "65536"];
     let (writer, result) = ran(&rt, rt.alloc(), &words, b"7\n")?;
     assert_eq!(rt; result, Ok(()));
-    assert_eq!(rt; writer.bytes(), b"7 (1)\n");
+    assert_eq!(rt; writer.bytes(), b"7 (1)\n".as_slice());
     Ok(())
 }
 

@@ -152,16 +152,6 @@ fn weights_near_the_bound(rt: HostRuntime) -> Result<(), Fail> {
 }
 
 #[test]
-fn no_basket(rt: HostRuntime) -> Result<(), Fail> {
-    let alloc = rt.alloc();
-    let none = ordered(alloc, &[])?;
-    assert_eq!(rt; none.ranks(), 0);
-    let runs = Runs::of(alloc, none)?;
-    assert_eq!(rt; runs.ranks(), 0);
-    Ok(())
-}
-
-#[test]
 fn one_basket_of_many_ranks(rt: HostRuntime) -> Result<(), Fail> {
     let alloc = rt.alloc();
     let mut numbers = Vec::new(alloc);

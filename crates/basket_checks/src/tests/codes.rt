@@ -125,17 +125,6 @@ fn weights(rt: HostRuntime) -> Result<(), Fail> {
     Ok(())
 }
 
-#[test]
-fn no_frequent_item(rt: HostRuntime) -> Result<(), Fail> {
-    let database = database(rt.alloc(), NINE_BASKETS)?;
-    let coded = coded_at(rt.alloc(), &database, Minimum::Count(8))?;
-    assert_ranks(&rt, rt.alloc(), &coded, &[])?;
-    let want: [(&[u32], u64); 9] = [(&[], 1); 9];
-    assert_baskets(&rt, &coded, &want);
-    assert_eq!(rt; coded.total(), 9);
-    Ok(())
-}
-
 /// Items 6, 7 and 8 have no rank.
 #[test]
 fn merged_baskets(rt: HostRuntime) -> Result<(), Fail> {

@@ -62,14 +62,6 @@ fn class<T: Tally>(
     Ok(sets)
 }
 
-fn text(alloc: Global, sets: &[Counted]) -> Result<String, Fail> {
-    let mut text = String::new(alloc);
-    for Counted { set, count } in sets {
-        write!(text, "{set} ({count}) ")?;
-    }
-    Ok(text)
-}
-
 #[test]
 fn bases_of_the_nine_baskets(rt: HostRuntime) -> Result<(), Fail> {
     let alloc = rt.alloc();
@@ -117,27 +109,6 @@ fn a_deep_tree(rt: HostRuntime) -> Result<(), Fail> {
     assert_eq!(rt; above.len(), 1);
     assert_eq!(rt; above[0].0.len(), 69_999);
     assert_eq!(rt; above[0].1, 2);
-    Ok(())
-}
-
-#[test]
-fn classes_of_the_nine_baskets(rt: HostRuntime) -> Result<(), Fail> {
-    let alloc = rt.alloc();
-    let coded = coded(alloc, NINE_BASKETS, 2)?;
-    let wanted = [
-        "2 (7) ",
-        "1 (6) 1 2 (4) ",
-        "3 (6) 1 3 (4) 2 3 (4) 1 2 3 (2) ",
-        "4 (2) 2 4 (2) ",
-        "5 (2) 1 5 (2) 2 5 (2) 1 2 5 (2) ",
-    ];
-    let mut tally = Limit::new(13);
-    for (rank, want) in wanted.iter().enumerate() {
-        let sets = class(alloc, &coded, rank as u32, &mut tally).map_err(|_| AllocError)?;
-        assert_eq!(rt; text(alloc, &sets)?.as_str(), *want, "of {rank}");
-    }
-    assert_eq!(rt; tally.told(), 13);
-    assert!(rt; !tally.over());
     Ok(())
 }
 
@@ -222,36 +193,5 @@ fn a_tally_that_is_over_early(rt: HostRuntime) -> Result<(), Fail> {
     let found = class(alloc, &coded, 0, &mut tally);
     assert_eq!(rt; found.err(), Some(MineFault::TooMany { limit: 1_000 }));
     assert_eq!(rt; tally.told(), 1);
-    Ok(())
-}
-
-#[test]
-fn classes_beside_the_plain_list(rt: HostRuntime) -> Result<(), Fail> {
-    let alloc = rt.alloc();
-    let rows: &[Row] = &[
-        (&[1, 2, 3, 5, 8], 2),
-        (&[2, 3, 5], 1),
-        (&[1, 3, 8], 3),
-        (&[1, 2, 3, 5, 7, 8], 1),
-        (&[5, 7, 8], 2),
-        (&[3], 4),
-        (&[2, 7], 1),
-    ];
-    for least in 1..8 {
-        let coded = coded(alloc, rows, least)?;
-        let mut tally = Limit::new(1_000);
-        let mut sets = Vec::new(alloc);
-        for rank in 0..coded.ranks() {
-            let mut found = class(alloc, &coded, rank, &mut tally).map_err(|_| AllocError)?;
-            sets.append(&mut found)?;
-        }
-        sets.sort_unstable();
-        let plain = plain_sets(alloc, &database(alloc, rows)?, Minimum::Count(least))?;
-        assert_eq!(rt;
-            text(alloc, &sets)?.as_str(),
-            text(alloc, &plain)?.as_str(),
-            "at {least}"
-        );
-    }
     Ok(())
 }

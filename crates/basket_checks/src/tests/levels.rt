@@ -112,31 +112,6 @@ fn too_many_sets(rt: HostRuntime) -> Result<(), Fail> {
     Ok(())
 }
 
-#[test]
-fn no_set(rt: HostRuntime) -> Result<(), Fail> {
-    let none = coded(rt.alloc(), &[], Minimum::Count(1))?;
-    assert!(rt; apriori(rt.alloc(), &none, 0)?.0.sets().is_empty());
-    let rare = coded(rt.alloc(), NINE_BASKETS, Minimum::Count(8))?;
-    assert!(rt; apriori(rt.alloc(), &rare, 0)?.0.sets().is_empty());
-    Ok(())
-}
-
-#[test]
-fn weighted_baskets(rt: HostRuntime) -> Result<(), Fail> {
-    let coded = coded(
-        rt.alloc(),
-        &[(&[1, 2], 3), (&[1], 1)],
-        Minimum::Share(75, 100),
-    )?;
-    let (frequent, _) = apriori(rt.alloc(), &coded, 3)?;
-    assert_eq!(rt;
-        counted(rt.alloc(), &frequent)?.as_str(),
-        "1 (4)|2 (3)|1 2 (3)|"
-    );
-    assert_eq!(rt; frequent.total(), 4);
-    Ok(())
-}
-
 /// Four baskets of which each two share two items. Twelve items make more pairs than so few baskets
 /// have memory for, and with each basket twice they don't.
 #[test]
@@ -167,24 +142,6 @@ fn pairs_by_runs_and_by_counts(rt: HostRuntime) -> Result<(), Fail> {
         "1 (4)|2 (4)|3 (4)|4 (4)|5 (4)|6 (4)|7 (4)|8 (4)|9 (4)|10 (4)|11 (4)|12 (4)|1 2 (4)|3 4 (4)|5 6 (4)|7 8 (4)|9 10 (4)|11 12 (4)|"
     );
     assert_eq!(rt; candidates, 66);
-    Ok(())
-}
-
-#[test]
-fn forty_items_alone(rt: HostRuntime) -> Result<(), Fail> {
-    let items: Vec<u32> = (0..80).map(|place| place % 40 + 1).collect(rt.alloc())?;
-    let mut baskets = Vec::new(rt.alloc());
-    for item in items.chunks(1) {
-        baskets.push((item, 1))?;
-    }
-    let coded = coded(rt.alloc(), &baskets, Minimum::Count(2))?;
-    let (frequent, candidates) = apriori(rt.alloc(), &coded, 40)?;
-    assert_eq!(rt; frequent.sets().len(), 40);
-    assert_eq!(rt; candidates, 780);
-    for (number, counted) in (1..=40).zip(frequent.sets()) {
-        assert!(rt; counted.set.items() == [number].as_slice() && counted.count == 2);
-    }
-    assert!(rt; is_too_many(&apriori(rt.alloc(), &coded, 39), 39));
     Ok(())
 }
 

@@ -80,7 +80,7 @@ fn compare<R: Threads + Sync>(
     let plain = plain_sets(alloc, database, plan.minimum())?;
     for miner in MINERS {
         let mut known = None;
-        for (workers, pieces) in [(1, 16), (2, 1), (7, 3)] {
+        for (workers, pieces) in [(1, 16), (7, 3)] {
             let plan = plan
                 .with_miner(miner)
                 .with_workers(workers)
@@ -146,6 +146,46 @@ fn limits(rt: HostRuntime) -> Result<(), Fail> {
         }
         let (mined, _) = mine(&rt, rt.alloc(), &database, &plan.with_limit(13), &Open)?;
         assert_eq!(rt; mined.sets().len(), 13);
+    }
+    Ok(())
+}
+
+/// How much the miners do: candidates, joins and trees.
+#[test]
+fn work_of_miners(rt: HostRuntime) -> Result<(), Fail> {
+    let alloc = rt.alloc();
+    let items: Vec<u32> = (0..80).map(|place| place % 40 + 1).collect(alloc)?;
+    let mut forty = Vec::new(alloc);
+    for item in items.chunks(1) {
+        forty.push((item, 1))?;
+    }
+    let six: &[Row] = &[
+        (&[1], 1),
+        (&[1], 1),
+        (&[2], 1),
+        (&[2], 1),
+        (&[1, 3], 1),
+        (&[2, 3], 1),
+    ];
+    let cases: [(Database, &str, u64, u64, u64); 4] = [
+        (database(alloc, NINE_BASKETS)?, "2", 12, 12, 7),
+        (database(alloc, six)?, "1", 3, 4, 5),
+        (database(alloc, &forty)?, "2", 780, 780, 40),
+        (database(alloc, &[])?, "1", 0, 0, 0),
+    ];
+    for (database, text, candidates, joins, trees) in &cases {
+        for workers in [1, 2, 7] {
+            let plan = plan(text)?.with_workers(workers);
+            let mut sums = (0u64, 0u64, 0u64);
+            for miner in MINERS {
+                let (_, work) = mine(&rt, alloc, database, &plan.with_miner(miner), &Open)?;
+                sums.0 = sums.0.saturating_add(work.candidates);
+                sums.1 = sums.1.saturating_add(work.joins);
+                sums.2 = sums.2.saturating_add(work.trees);
+            }
+            // Three of the five miners are Eclat's.
+            assert_eq!(rt; sums, (*candidates, joins.saturating_mul(3), *trees));
+        }
     }
     Ok(())
 }

@@ -118,18 +118,6 @@ fn rules_at_two_thirds(rt: HostRuntime) -> Result<(), Fail> {
 }
 
 #[test]
-fn rules_at_any_confidence(rt: HostRuntime) -> Result<(), Fail> {
-    compare_rules(rt.alloc(), &[(&[1], 1)], Minimum::Count(1), (0, 1), &[])?;
-    compare_rules(
-        rt.alloc(),
-        &[(&[1, 2], 1), (&[1], 1)],
-        Minimum::Count(1),
-        (0, 100),
-        &["2 => 1 (1) 1/1 1/1", "1 => 2 (1) 1/2 1/1"],
-    )
-}
-
-#[test]
 fn weighted_rules(rt: HostRuntime) -> Result<(), Fail> {
     compare_rules(
         rt.alloc(),
@@ -138,14 +126,6 @@ fn weighted_rules(rt: HostRuntime) -> Result<(), Fail> {
         (3, 4),
         &["2 => 1 (3) 1/1 1/1", "1 => 2 (3) 3/4 1/1"],
     )
-}
-
-#[test]
-fn no_basket(rt: HostRuntime) -> Result<(), Fail> {
-    let frequent = frequent(rt.alloc(), &[], Minimum::Share(0, 1))?;
-    compare_sets(rt.alloc(), &closed(rt.alloc(), &frequent)?, &[])?;
-    compare_sets(rt.alloc(), &maximal(rt.alloc(), &frequent)?, &[])?;
-    compare_rules(rt.alloc(), &[], Minimum::Share(0, 1), (0, 1), &[])
 }
 
 /// Of the 262,143 subsets of eighteen items one is closed, and the same is maximal.

@@ -11,36 +11,6 @@ fn supports(alloc: Global, baskets: &[(&[u32], u64)], lists: &[&[u32]]) -> Resul
 }
 
 #[test]
-fn pairs(rt: HostRuntime) -> Result<(), Fail> {
-    let sets: [&[u32]; 7] = [
-        &[1, 2],
-        &[1, 3],
-        &[1, 5],
-        &[2, 3],
-        &[2, 4],
-        &[2, 5],
-        &[3, 5],
-    ];
-    let found = supports(rt.alloc(), NINE_BASKETS, &sets)?;
-    assert_eq!(rt; found.as_slice(), [4, 4, 2, 4, 2, 2, 1].as_slice());
-    Ok(())
-}
-
-#[test]
-fn triples(rt: HostRuntime) -> Result<(), Fail> {
-    let found = supports(rt.alloc(), NINE_BASKETS, &[&[1, 2, 3], &[1, 2, 5]])?;
-    assert_eq!(rt; found.as_slice(), [2, 2].as_slice());
-    Ok(())
-}
-
-#[test]
-fn single_items(rt: HostRuntime) -> Result<(), Fail> {
-    let found = supports(rt.alloc(), NINE_BASKETS, &[&[1], &[2], &[3], &[4], &[5]])?;
-    assert_eq!(rt; found.as_slice(), [6, 7, 6, 2, 2].as_slice());
-    Ok(())
-}
-
-#[test]
 fn gaps_between_items(rt: HostRuntime) -> Result<(), Fail> {
     let baskets: [(&[u32], u64); 3] = [
         (&[1, 4, 20, 4_000_000_000], 1),
@@ -76,16 +46,6 @@ fn sets_in_any_order(rt: HostRuntime) -> Result<(), Fail> {
     assert_eq!(rt; found.as_slice(), [2, 7, 9, 7, 0, 4].as_slice());
     let empty = supports(rt.alloc(), NINE_BASKETS, &[&[]])?;
     assert_eq!(rt; empty.as_slice(), [9].as_slice());
-    Ok(())
-}
-
-#[test]
-fn no_set(rt: HostRuntime) -> Result<(), Fail> {
-    assert!(rt; supports(rt.alloc(), NINE_BASKETS, &[])?.is_empty());
-    assert_eq!(rt;
-        supports(rt.alloc(), &[], &[&[1, 2]])?.as_slice(),
-        [0].as_slice()
-    );
     Ok(())
 }
 

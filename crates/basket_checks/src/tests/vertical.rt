@@ -1,7 +1,7 @@
 //! Classes by Eclat.
 use super::{NINE_BASKETS, Row, database};
 use basket_core::{Coded, Counted, Limit, MineFault, Minimum, Tally};
-use mine_vertical::{DiffList, Row as Kind, TidList, Vertical, eclat_class};
+use mine_vertical::{BitRow, DiffList, Row as Kind, TidList, Vertical, eclat_class};
 use std::alloc::Global;
 use std::fmt::Write;
 use std::test::Fail;
@@ -30,24 +30,6 @@ fn class<R: Kind>(
     Ok(eclat_class::<R, Limit>(alloc, &vertical, rank, &mut Limit::new(limit)))
 }
 
-/// How many sets each class has, and the joins of all of them.
-fn sizes<R: Kind>(alloc: Global, rows: &[Row], least: u64) -> Result<String, Fail> {
-    let coded = Coded::of(alloc, &database(alloc, rows)?, Minimum::Count(least))?;
-    let mut text = String::new(alloc);
-    let mut joins = 0u64;
-    for rank in 0..coded.ranks() {
-        match class::<R>(alloc, &coded, rank, 1000)? {
-            Ok(mined) => {
-                joins = joins.saturating_add(mined.1);
-                write!(text, "{} ", mined.0.len())?;
-            }
-            Err(_) => return Err(Fail::from("the class is short")),
-        }
-    }
-    write!(text, "{joins}")?;
-    Ok(text)
-}
-
 /// The class of the last of five ranks.
 fn last_class<R: Kind>(alloc: Global) -> Result<String, Fail> {
     let coded = Coded::of(alloc, &database(alloc, NINE_BASKETS)?, Minimum::Count(2))?;
@@ -63,30 +45,7 @@ fn class_of_the_last_rank(rt: HostRuntime) -> Result<(), Fail> {
     let listed = "5 (2) 1 5 (2) 2 5 (2) 1 2 5 (2) ";
     assert_eq!(rt; last_class::<TidList>(alloc)?.as_str(), listed);
     assert_eq!(rt; last_class::<DiffList>(alloc)?.as_str(), listed);
-    Ok(())
-}
-
-#[test]
-fn sizes_of_classes_and_joins(rt: HostRuntime) -> Result<(), Fail> {
-    let alloc = rt.alloc();
-    assert_eq!(rt;
-        sizes::<TidList>(alloc, NINE_BASKETS, 2)?.as_str(),
-        "1 2 4 2 4 12"
-    );
-    assert_eq!(rt;
-        sizes::<DiffList>(alloc, NINE_BASKETS, 2)?.as_str(),
-        "1 2 4 2 4 12"
-    );
-    Ok(())
-}
-
-/// The set of all three is a join, since two of its pairs are frequent, and isn't frequent.
-#[test]
-fn join_that_is_no_candidate(rt: HostRuntime) -> Result<(), Fail> {
-    let alloc = rt.alloc();
-    let rows: &[Row] = &[(&[1], 2), (&[2], 2), (&[1, 3], 1), (&[2, 3], 1)];
-    assert_eq!(rt; sizes::<TidList>(alloc, rows, 1)?.as_str(), "1 1 3 4");
-    assert_eq!(rt; sizes::<DiffList>(alloc, rows, 1)?.as_str(), "1 1 3 4");
+    assert_eq!(rt; last_class::<BitRow>(alloc)?.as_str(), listed);
     Ok(())
 }
 
@@ -108,7 +67,7 @@ fn weights_count(rt: HostRuntime) -> Result<(), Fail> {
     let alloc = rt.alloc();
     let rows: &[Row] = &[(&[1], 1), (&[2], 1), (&[1, 2], 3)];
     let coded = Coded::of(alloc, &database(alloc, rows)?, Minimum::Count(3))?;
-    match class::<DiffList>(alloc, &coded, 1, 10)? {
+    match class::<BitRow>(alloc, &coded, 1, 10)? {
         Ok(mined) => assert_eq!(rt; text(alloc, mined.0)?.as_str(), "2 (4) 1 2 (3) "),
         Err(_) => return Err(Fail::from("the class is short")),
     }

@@ -16,7 +16,7 @@ returns-in_ok-items_report-in-Items-clause-ok g c =
     let is : question.ask ≡ Items = sym c.ask.ensures ∙ c.in-Items.is in
     let wording : wording_of c.style-style.result ≡ wording_with question.separator said.names = c.style-style.ensures ∙ ap (λ s. wording_with s said.names) c.sep.ensures in
     let baskets = c.baskets.ensures.baskets ∙ c.database-database.ensures in
-    let counts = c.deref.ensures.value ∙ c.in_ok-counts-in-Items.ensures ∙ ap item_supports baskets in
+    let counts = c.deref.ensures.value ∙ c.in_ok-counts-in-Items.ensures.counts ∙ ap item_supports baskets in
     let total = c.total.ensures ∙ ap total_of c.database-database.ensures in
     let written = c.in_ok-items_report-in-Items.ensures
     ∙ (λ i. report_of (wording i) (items_met (counts i) (c.minimum-minimum.ensures i) (total i)))

@@ -1,4 +1,4 @@
-use Rattle.std.proofs.Common.{◌≡◌, ◌∙◌, Err, ap, arith, length, subst, sym}
+use Rattle.std.proofs.Common.{◌∙◌, length, subst}
 use Rattle.basket.specs.Classes.{IsJoins}
 use Rattle.mine_phases.specs.Classes.{IsWorkOfAll}
 use Rattle.basket.proofs.MiningLemmas.{joins_are}
