@@ -9,8 +9,6 @@ mod help;
 mod input;
 mod mining;
 mod plan;
-#[cfg(test)]
-mod tests;
 mod values;
 pub mod worked;
 mod write;

@@ -1,6 +1,8 @@
-//! The stage bench: how long each stage of `basket sets` takes over a FIMI input.
+//! The stage bench: how long each stage of `basket sets` takes over a FIMI input, and how long each
+//! miner takes with one, two and four workers.
 #![tactic(auto)]
 
+mod shared;
 mod stage;
 
 use anyhow::Context;
@@ -8,13 +10,16 @@ use basket::{Style, sets_report};
 use basket_core::{Coded, MemSource, Minimum, parse_minimum};
 use basket_read::read_fimi;
 use mine_apriori::Levels;
+use shared::print_miners;
 use stage::{Times, print_stages};
 use std::io::Read;
+use std::thread::Threads;
 use std::time::Instant;
 use std::{env, fs};
 
 const USAGE: &str = "usage: basket_bench MINIMUM RUNS < INPUT
-Times reading, coding, mining, the list and the report of a FIMI input, so many times over.
+Times reading, coding, Apriori, the list and the report of a FIMI input, so many times over, and
+from the baskets to the list each miner by 1, 2 and 4 workers.
 ";
 
 fn main(rt: HostRuntime) -> anyhow::Result<()> {
@@ -26,7 +31,7 @@ fn main(rt: HostRuntime) -> anyhow::Result<()> {
                 .as_str()
                 .parse::<u32>()
                 .context("not a number of runs")?;
-            bench(&rt, minimum, runs)
+            bench(&rt, &rt, minimum, runs)
         }
         _ => {
             print!(&rt; "{USAGE}")?;
@@ -35,8 +40,14 @@ fn main(rt: HostRuntime) -> anyhow::Result<()> {
     }
 }
 
-/// Takes standard input in, runs the stages over it, and prints their times.
-fn bench(rt: &HostRuntime, minimum: Minimum, runs: u32) -> anyhow::Result<()> {
+/// Takes standard input in, runs the stages over it, and prints their times. The workers are threads
+/// of the second runtime.
+fn bench<R: Threads + Sync>(
+    rt: &HostRuntime,
+    threads: &R,
+    minimum: Minimum,
+    runs: u32,
+) -> anyhow::Result<()> {
     let mut input = Vec::new(rt.alloc());
     rt.stdin().read_to_end(&mut input)?;
     let mut all = Vec::new(rt.alloc());
@@ -44,6 +55,10 @@ fn bench(rt: &HostRuntime, minimum: Minimum, runs: u32) -> anyhow::Result<()> {
         all.push(timed(rt, &input, minimum)?)?;
     }
     print_stages(rt, &all)?;
+    let database = read_fimi(rt.alloc(), &mut MemSource::new(&input, usize::MAX, None)).context(
+        "the input was not read",
+    )?;
+    print_miners(rt, threads, &database, minimum, runs)?;
     if let Ok(status) = fs::read_to_string(rt, "/proc/self/status") {
         // The most memory that the process has had.
         for line in status

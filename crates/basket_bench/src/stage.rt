@@ -45,7 +45,8 @@ pub fn print_stages(rt: &(impl Print + AllocGlobal), all: &[Times]) -> anyhow::R
     )
 }
 
-fn print_stage(rt: &impl Print, name: &str, mut times: Vec<Duration>) -> anyhow::Result<()> {
+/// Prints a name with the least and the median of some times.
+pub fn print_stage(rt: &impl Print, name: &str, mut times: Vec<Duration>) -> anyhow::Result<()> {
     times.sort_unstable();
     if let (Some(least), Some(median)) = (times.first(), times.get(times.len() / 2)) {
         println!(rt;

@@ -1,13 +1,14 @@
 mod classes;
 mod codes;
+mod csv;
 mod databases;
 mod depth;
 mod fault;
+mod fimi;
 mod growth;
 mod itemset;
 mod join;
 mod levels;
-mod mined;
 mod minimum;
 mod plain;
 mod rules;
@@ -47,6 +48,14 @@ fn database(alloc: Global, baskets: &[(&[u32], u64)]) -> Result<Database, Fail> 
         }
     }
     Ok(database)
+}
+
+/// Whether the baskets are these, each with its weight.
+fn has(database: &Database, rows: &[Row]) -> bool {
+    database.len() == rows.len()
+        && database.baskets().iter().zip(rows).all(|(place, (items, weight))| {
+            place.basket.items() == *items && place.weight == *weight
+        })
 }
 
 /// The sets of the numbers.

@@ -16,6 +16,3 @@ pub mod worked;
 
 pub use names::Names;
 pub use read::{read_baskets, read_single};
-
-#[cfg(test)]
-mod tests;

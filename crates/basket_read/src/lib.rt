@@ -15,6 +15,3 @@ pub mod worked;
 pub use fault::ReadFault;
 pub use parts::FimiParts;
 pub use read::{MAX_BLOCK, read_fimi, read_fimi_by};
-
-#[cfg(test)]
-mod tests;

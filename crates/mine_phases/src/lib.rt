@@ -29,6 +29,3 @@ pub use cutting::Cutting;
 pub use gate::{Gate, Open};
 pub use level::count_level;
 pub use pairs::count_pairs;
-
-#[cfg(test)]
-mod tests;

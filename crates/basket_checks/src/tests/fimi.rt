@@ -1,18 +1,9 @@
-use super::*;
-use basket_sets::Database;
-use basket_stream::MemSource;
+//! Inputs in FIMI text.
+use super::{Row, has};
+use basket_core::{Database, MemSource};
+use basket_read::{FimiParts, ReadFault, read_fimi, read_fimi_by};
 use std::alloc::AllocError;
-use std::test::*;
-
-type Row<'a> = (&'a [u32], u64);
-
-/// Whether the baskets are these, each with its weight.
-fn has(database: &Database, rows: &[Row<'_>]) -> bool {
-    database.len() == rows.len()
-        && database.baskets().iter().zip(rows).all(|(place, (items, weight))| {
-            place.basket.items() == *items && place.weight == *weight
-        })
-}
+use std::test::Fail;
 
 /// The sizes of the blocks, none of which matters.
 const BLOCKS: [usize; 4] = [1, 2, 3, 65_536];
@@ -23,7 +14,7 @@ fn byte(line: u32, byte: u8) -> ReadFault {
 
 #[test]
 fn good_texts(rt: HostRuntime) -> Result<(), Fail> {
-    let rows: [(&[u8], &[Row<'_>]); 7] = [
+    let rows: [(&[u8], &[Row]); 7] = [
         (b"", &[]),
         (b"\xEF\xBB\xBF\r\n \n", &[]),
         (b"7 7 007\n", &[(&[7], 1)]),
@@ -83,7 +74,7 @@ fn bad_texts(rt: HostRuntime) {
 
 #[test]
 fn good_pieces(rt: HostRuntime) -> Result<(), Fail> {
-    let rows: [(&[&[u8]], Row<'_>); 2] = [
+    let rows: [(&[&[u8]], Row); 2] = [
         (&[b"1", b"2 3", b"\n"], (&[3, 12], 1)),
         (&[b"\xEF", b"", b"\xBB\xBF7"], (&[7], 1)),
     ];

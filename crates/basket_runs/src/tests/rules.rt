@@ -3,12 +3,12 @@ use super::*;
 
 const WEIGHTED_BASKETS: &[u8] = b"1 2 5\n2 4\n2x 2 3\n1x 1 2 4\n02x1 3\n1 2 3 5\n1 2 3\n";
 
-const NINE_CLOSED: &[u8] =
+pub const NINE_CLOSED: &[u8] =
     b"1 (6)\n2 (7)\n3 (6)\n1 2 (4)\n1 3 (4)\n2 3 (4)\n2 4 (2)\n1 2 3 (2)\n1 2 5 (2)\n";
 
-const THREE_MAXIMAL: &[u8] = b"2 4 (2)\n1 2 3 (2)\n1 2 5 (2)\n";
+pub const THREE_MAXIMAL: &[u8] = b"2 4 (2)\n1 2 3 (2)\n1 2 5 (2)\n";
 
-const SIX_RULES: &[u8] =
+pub const SIX_RULES: &[u8] =
     b"5 => 1 (2) 1/1 3/2\n4 => 2 (2) 1/1 9/7\n5 => 2 (2) 1/1 9/7\n2 5 => 1 (2) 1/1 3/2\n1 5 => 2 (2) 1/1 9/7\n5 => 1 2 (2) 1/1 9/4\n";
 
 const TEN_RULES: &[u8] =

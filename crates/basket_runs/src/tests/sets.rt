@@ -1,6 +1,5 @@
 //! Runs of `sets`.
 use super::*;
-use itoa::Buffer;
 
 pub const THIRTEEN_SETS: &[u8] =
     b"1 (6)\n2 (7)\n3 (6)\n4 (2)\n5 (2)\n1 2 (4)\n1 3 (4)\n1 5 (2)\n2 3 (4)\n2 4 (2)\n2 5 (2)\n1 2 3 (2)\n1 2 5 (2)\n";
@@ -81,18 +80,13 @@ fn weights(rt: HostRuntime) -> Result<(), Fail> {
 
 #[test]
 fn pairs_that_are_in_no_basket(rt: HostRuntime) -> Result<(), Fail> {
-    let mut input = Vec::new(rt.alloc());
     let mut want = Vec::new(rt.alloc());
+    let mut buffer = Buffer::new();
     for item in 1..41u32 {
-        let mut buffer = Buffer::new();
-        let number = buffer.format(item).as_bytes();
-        for _ in 0..2 {
-            input.extend_from_slice(number)?;
-            input.push(b'\n')?;
-        }
-        want.extend_from_slice(number)?;
+        want.extend_from_slice(buffer.format(item).as_bytes())?;
         want.extend_from_slice(b" (2)\n")?;
     }
+    let input = forty_items(rt.alloc())?;
     let (writer, result) = ran(&rt, rt.alloc(), &["sets", "--min", "2"], &input)?;
     assert_eq!(rt; result, Ok(()));
     assert_eq!(rt; writer.bytes(), want.as_slice());

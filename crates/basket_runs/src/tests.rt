@@ -1,8 +1,11 @@
 ghost use Rattle.std.specs.Prelude.{◌≡◌, false};
 
-use super::*;
-use basket_core::{MemSink, MemSource, MineFault, Sink, Source};
-use basket_read::ReadFault;
+use basket::{
+    Ask, Gate, Miner, Open, Plan, PlanFault, RunFault, mine, plan_of, plan_status, run, status_of,
+};
+use basket_core::{Database, MemSink, MemSource, MineFault, Sink, Source, parse_minimum};
+use basket_read::{ReadFault, read_fimi};
+use itoa::Buffer;
 use std::alloc::{AllocError, Global};
 use std::io;
 use std::process::Abort;
@@ -10,12 +13,14 @@ use std::random::RandomSource;
 use std::test::Fail;
 use std::thread::Threads;
 
+mod gates;
 mod items;
+mod mined;
 mod named;
 mod rules;
 mod sets;
-mod threads;
 mod words;
+mod workers;
 
 /// A runtime that has threads and no random bytes.
 #[derive(Drop)]
@@ -32,6 +37,43 @@ impl<R> RandomSource for NoRandomBytes<'_, R> {
 const NINE_BASKETS: &[u8] = b"1 2 5\n2 4\n2 3\n1 2 4\n1 3\n2 3\n1 3\n1 2 3 5\n1 2 3\n";
 
 const NINE_ITEMS: &[u8] = b"1 (6)\n2 (7)\n3 (6)\n4 (2)\n5 (2)\n";
+
+const MINERS: [(&str, Miner); 5] = [
+    ("apriori", Miner::Apriori),
+    ("eclat", Miner::Eclat),
+    ("eclat-diff", Miner::EclatDiff),
+    ("eclat-bits", Miner::EclatBits),
+    ("fpgrowth", Miner::FpGrowth),
+];
+
+/// The baskets of a good text.
+fn database(alloc: Global, text: &[u8]) -> Result<Database, Fail> {
+    let mut reader = MemSource::new(text, 65_536, None);
+    match read_fimi(alloc, &mut reader) {
+        Ok(database) => Ok(database),
+        Err(ReadFault::Memory) => Err(Fail::from(AllocError)),
+        Err(_) => Err(Fail::new("the text is good")),
+    }
+}
+
+/// A plan for the frequent sets.
+fn plan(minimum: &str) -> Result<Plan, Fail> {
+    match parse_minimum(minimum) {
+        Some(minimum) => Ok(Plan::of(Ask::Sets, minimum)),
+        None => Err(Fail::new("the text is a minimum")),
+    }
+}
+
+/// Each of the numbers 1 to 40 on two lines of its own.
+fn forty_items(alloc: Global) -> Result<Vec<u8>, AllocError> {
+    let mut text = Vec::new(alloc);
+    let mut buffer = Buffer::new();
+    for place in 2..82u32 {
+        text.extend_from_slice(buffer.format(place / 2).as_bytes())?;
+        text.push(b'\n')?;
+    }
+    Ok(text)
+}
 
 /// Runs what the words ask for. Want of memory is a failure of its own, after which nothing may be
 /// written.

@@ -1,13 +1,12 @@
-use super::*;
+//! Inputs in CSV.
+use super::{Row, has};
+use basket_core::{Database, MemSource};
+use basket_csv::{Names, read_baskets, read_single};
 use basket_read::ReadFault;
-use basket_sets::Database;
-use basket_stream::MemSource;
 use std::alloc::{AllocError, Global};
 use std::io;
 use std::random::RandomSource;
-use std::test::*;
-
-type Row<'a> = (&'a [u32], u64);
+use std::test::Fail;
 
 /// A runtime that has no random bytes.
 struct NoRandomBytes;
@@ -27,13 +26,10 @@ fn known<T: Drop>(answer: Result<T, ReadFault>) -> Result<Result<T, ReadFault>, 
 }
 
 /// Whether the baskets are these, each with its weight, and the names these.
-fn is(read: &(Database, Names), rows: &[Row<'_>], names: &[&str]) -> bool {
+fn is(read: &(Database, Names), rows: &[Row], names: &[&str]) -> bool {
     let (database, found) = read;
-    database.len() == rows.len()
+    has(database, rows)
         && found.len() == names.len()
-        && database.baskets().iter().zip(rows).all(|(place, (items, weight))| {
-            place.basket.items() == *items && place.weight == *weight
-        })
         && (0u32..)
             .zip(names)
             .all(|(number, name)| found.get(number) == Some(*name))
@@ -42,7 +38,7 @@ fn is(read: &(Database, Names), rows: &[Row<'_>], names: &[&str]) -> bool {
 
 #[test]
 fn baskets_of_names(rt: HostRuntime) -> Result<(), Fail> {
-    let rows: [(&[u8], u8, bool, &[Row<'_>], &[&str]); 11] = [
+    let rows: [(&[u8], u8, bool, &[Row], &[&str]); 11] = [
         (b"", b',', false, &[], &[]),
         (
             b"\"semi, skim\", bread,,\n\"semi, skim\", bread,,\n",
@@ -119,7 +115,7 @@ fn baskets_of_names(rt: HostRuntime) -> Result<(), Fail> {
 
 #[test]
 fn weighted_baskets(rt: HostRuntime) -> Result<(), Fail> {
-    let rows: [(&[u8], &[Row<'_>], &[&str]); 3] = [
+    let rows: [(&[u8], &[Row], &[&str]); 3] = [
         (
             b"2,bread,milk\n1,bread\n",
             &[(&[0, 1], 2), (&[0], 1)],
@@ -141,7 +137,7 @@ fn weighted_baskets(rt: HostRuntime) -> Result<(), Fail> {
 
 #[test]
 fn baskets_by_id(rt: HostRuntime) -> Result<(), Fail> {
-    let rows: [(&[u8], bool, &[Row<'_>], &[&str]); 5] = [
+    let rows: [(&[u8], bool, &[Row], &[&str]); 5] = [
         (b" a,milk\na ,milk\n", false, &[(&[0], 1)], &["milk"]),
         (
             b"b,milk\na,bread\nb,bread\n",
