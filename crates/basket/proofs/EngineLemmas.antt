@@ -10,7 +10,7 @@ use Rattle.basket.specs.Input.{Answers, Said, said_of}
 use Rattle.basket.specs.declared.fault.RunFault.{RunFault}
 use Rattle.basket.specs.declared.fault.RunFault.TheVariants.{Input, Mine, Write}
 use Rattle.basket.specs.Outcome.{outcome_of, outcome_for, of_mining}
-use Rattle.basket.specs.Plan.{Question}
+use Rattle.basket_plan.specs.Plan.{Question}
 use Rattle.basket.specs.Engine.{WritesReport, WritesFront, RefusesSets}
 
 abbrev input_fault : ReadFault → Result Unit RunFault → ReadFault

@@ -8,7 +8,7 @@ use Rattle.basket_core.specs.declared.fault.MineFault.TheVariants as mine
 use Rattle.basket.specs.declared.fault.RunFault.TheVariants.{Input, Mine}
 use Rattle.basket.specs.Input.{FailsIn}
 use Rattle.basket.specs.Outcome.{outcome}
-use Rattle.basket.specs.Plan.{Question}
+use Rattle.basket_plan.specs.Plan.{Question}
 
 -- the writer took the report of what the reader had left, and nothing else
 abbrev pub WritesReport : Option (List ℕ) → Question → Option (List ℕ) → Option (List ℕ) → Type 0

@@ -7,9 +7,9 @@ use Rattle.basket_read.specs.declared.fault.ReadFault.TheVariants.{Memory, Read}
 use Rattle.basket_read.specs.Fimi.{fimi_of}
 use Rattle.basket_read.specs.Read.{FailsAfter}
 use Rattle.basket_report.specs.Style.{Wording, Numbered, Named as ByNames}
-use Rattle.basket.specs.declared.plan.Form.{Form}
-use Rattle.basket.specs.declared.plan.Form.TheVariants.{Fimi, Baskets, Single}
-use Rattle.basket.specs.Plan.{Question}
+use Rattle.basket_plan.specs.declared.plan.Form.{Form}
+use Rattle.basket_plan.specs.declared.plan.Form.TheVariants.{Fimi, Baskets, Single}
+use Rattle.basket_plan.specs.Plan.{Question}
 
 -- baskets, and of CSV the names of their items
 pub record Said : Type 0 where

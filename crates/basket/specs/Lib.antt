@@ -1,8 +1,6 @@
-pub mod Plan
 pub mod Input
 pub mod Status
 pub mod Classes
 pub mod Mining
 pub mod Outcome
 pub mod Engine
-pub mod Command

@@ -1,8 +1,8 @@
 -- How much a miner does for the frequent sets of a database.
 use Rattle.std.specs.Prelude.{◌≡◌, List, min}
 use Rattle.basket.specs.declared.mining.Work.{Work}
-use Rattle.basket.specs.declared.plan.Miner.{Miner}
-use Rattle.basket.specs.declared.plan.Miner.TheVariants.{Apriori, Eclat, EclatDiff, EclatBits, FpGrowth}
+use Rattle.basket_plan.specs.declared.plan.Miner.{Miner}
+use Rattle.basket_plan.specs.declared.plan.Miner.TheVariants.{Apriori, Eclat, EclatDiff, EclatBits, FpGrowth}
 use Rattle.basket_core.specs.Codes.{coding_of, merged_coding}
 use Rattle.basket_sets.specs.declared.minimum.Minimum.{Minimum}
 use Rattle.basket_sets.specs.declared.weighted.Weighted.{Weighted}

@@ -12,10 +12,10 @@ use Rattle.basket_report.specs.Report.{report_of, rules_report_of}
 use Rattle.basket_report.specs.Style.{Wording}
 use Rattle.basket.specs.declared.fault.RunFault.{RunFault}
 use Rattle.basket.specs.declared.fault.RunFault.TheVariants.{Input, Mine}
-use Rattle.basket.specs.declared.plan.Ask.{Ask}
-use Rattle.basket.specs.declared.plan.Ask.TheVariants.{Items, Sets, Closed, Maximal, Rules}
+use Rattle.basket_plan.specs.declared.plan.Ask.{Ask}
+use Rattle.basket_plan.specs.declared.plan.Ask.TheVariants.{Items, Sets, Closed, Maximal, Rules}
 use Rattle.basket.specs.Input.{Said, said_of, wording_with}
-use Rattle.basket.specs.Plan.{Question}
+use Rattle.basket_plan.specs.Plan.{Question}
 
 -- the text of what is asked for
 abbrev pub text_of : Wording → Ask → List Weighted → Minimum → List ℕ

@@ -1,19 +1,11 @@
--- The exit statuses of the program.
+-- The exit status after a run.
 use Rattle.std.specs.Prelude.{ℕ}
 use Rattle.basket_core.specs.declared.fault.MineFault.{MineFault}
 use Rattle.basket_core.specs.declared.fault.MineFault.TheVariants as mine
 use Rattle.basket_read.specs.declared.fault.ReadFault.{ReadFault}
 use Rattle.basket_read.specs.declared.fault.ReadFault.TheVariants as read
-use Rattle.basket.specs.declared.command.PlanFault.{PlanFault}
-use Rattle.basket.specs.declared.command.PlanFault.TheVariants.{Memory, Usage, Help}
 use Rattle.basket.specs.declared.fault.RunFault.{RunFault}
 use Rattle.basket.specs.declared.fault.RunFault.TheVariants.{Input, Mine, Write}
-
--- the status after words that make no plan: 6 for want of memory, 2 for a mistake, 0 for help
-abbrev pub plan_status_of : PlanFault → ℕ
-plan_status_of Memory = 6
-plan_status_of (Usage text) = 2
-plan_status_of (Help text) = 0
 
 -- the status after an input that was not read: 6 for want of memory, 4 where the reader failed, else 3
 abbrev pub status_after_input : ReadFault → ℕ

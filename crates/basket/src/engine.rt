@@ -7,10 +7,10 @@ ghost use Rattle.basket.specs.Outcome.{outcome_for};
 
 use crate::fault::RunFault;
 use crate::input::Input;
-use crate::mining::mine;
-use crate::plan::{Ask, Plan};
+use crate::mining::{cutting, mine};
 use crate::write::write_all;
 use basket_core::{MineFault, Sink, Source};
+use basket_plan::{Ask, Plan};
 use basket_read::ReadFault;
 use basket_report::{items_report, rules_report, sets_report};
 use basket_rules::{closed, maximal};
@@ -72,7 +72,7 @@ fn report<R: Threads + Sync>(
     let style = input.style(plan.sep());
     match plan.ask() {
         Ask::Items => {
-            let counts = count_shared(rt, alloc, database.baskets(), plan.cutting(), &Open)?;
+            let counts = count_shared(rt, alloc, database.baskets(), cutting(plan), &Open)?;
             let minimum = plan.minimum();
             Ok(items_report(alloc, &counts, minimum, database.total(), style)?)
         }

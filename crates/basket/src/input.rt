@@ -3,9 +3,9 @@ ghost use Rattle.std.specs.Prelude.{◌≡◌, true, false, Err, IfErr, IfSome, 
 ghost use Rattle.basket.specs.Input.{Answers, FailsIn, named, numbered, said_of, wording_with};
 ghost use Rattle.basket_report.specs.Style.{wording_of};
 
-use crate::plan::{Form, Plan};
 use basket_core::{Database, Source};
 use basket_csv::{Names, read_baskets, read_single};
+use basket_plan::{Form, Plan};
 use basket_read::{ReadFault, read_fimi};
 use basket_report::Style;
 use std::alloc::Global;

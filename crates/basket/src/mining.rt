@@ -10,8 +10,8 @@ ghost use Rattle.basket_sets.specs.Frequent.{frequent_of};
 ghost use Rattle.basket_sets.specs.Support.{total_of};
 
 use crate::class_miner::{Growth, Joining};
-use crate::plan::{Miner, Plan};
 use basket_core::{Coded, Codes, Database, Frequent, MineFault, Minimum, deep};
+use basket_plan::{Miner, Plan};
 use mine_apriori::laws::candidates_by_sets;
 use mine_classes::laws::coded_ranks_are_frequent;
 use mine_fp::Forest;
@@ -84,7 +84,7 @@ pub fn mine<R: Threads + Sync, G: Gate + Sync>(
         → (most ≡ plan.now.question.limit) × (plan.now.question.limit < length (frequent_of database.now plan.now.question.minimum)) }
 {
     let limit = plan.limit();
-    let cutting = plan.cutting();
+    let cutting = cutting(plan);
     let coded = coded(rt, alloc, database, plan.minimum(), cutting, gate)?;
     if deep(alloc, &coded, settling_size(limit))? {
         return Err(MineFault::TooMany { limit });
@@ -106,6 +106,11 @@ pub fn mine<R: Threads + Sync, G: Gate + Sync>(
             Ok((frequent, Work::of_trees(trees)))
         }
     }
+}
+
+/// How the work of each phase is cut.
+pub fn cutting(plan: &Plan) -> Cutting {
+    Cutting::new(plan.workers(), plan.pieces())
 }
 
 /// The merged baskets of a database, coded. Workers count the items.

@@ -5,7 +5,7 @@ use Rattle.basket_report.specs.Style.{wording_of}
 use Rattle.basket_sets.specs.Counts.{item_supports}
 use Rattle.basket_sets.specs.Support.{total_of}
 use Rattle.basket_sets.proofs.theory.Items.{frequent_items_are_counted}
-use Rattle.basket.specs.declared.plan.Ask.TheVariants.{Items}
+use Rattle.basket_plan.specs.declared.plan.Ask.TheVariants.{Items}
 use Rattle.basket.specs.Input.{wording_with}
 use Rattle.basket.proofs.engine.report.Goals as goal
 

@@ -3,7 +3,7 @@ use Rattle.std.proofs.lemmas.Result.{err_from_is_err_and}
 use Rattle.basket_core.specs.declared.fault.MineFault.TheVariants.{TooMany}
 use Rattle.basket_core.specs.Codes.{coding_of, merged_coding}
 use Rattle.basket.specs.Classes.{IsTrees}
-use Rattle.basket.specs.declared.plan.Miner.TheVariants.{Apriori, Eclat, EclatDiff, EclatBits, FpGrowth}
+use Rattle.basket_plan.specs.declared.plan.Miner.TheVariants.{Apriori, Eclat, EclatDiff, EclatBits, FpGrowth}
 use Rattle.mine_phases.specs.Classes.{IsWorkOfAll}
 use Rattle.basket.proofs.MiningLemmas.{count_is, list_is, sets_are, settled, total_is, totals_are, trees_are, work_is}
 use Rattle.basket.proofs.mining.mine.Goals as goal

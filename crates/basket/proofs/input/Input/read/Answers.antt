@@ -1,7 +1,7 @@
 use Rattle.std.proofs.Common.{◌≡◌, ◌∙◌, sym}
 use Rattle.basket_csv.specs.Csv.{baskets_of_csv, pairs_of_csv}
 use Rattle.basket_read.specs.Fimi.{fimi_of}
-use Rattle.basket.specs.declared.plan.Form.TheVariants.{Fimi, Baskets, Single}
+use Rattle.basket_plan.specs.declared.plan.Form.TheVariants.{Fimi, Baskets, Single}
 use Rattle.basket.proofs.InputLemmas.{csv_answers, csv_err, csv_fails, fimi_answers, fimi_fails, still_csv_read, still_err, still_read}
 use Rattle.basket.proofs.input.Input.read.Goals as goal
 

@@ -1,0 +1,151 @@
+-- What the options' values say, as `clap` gives them, and the plan that they make.
+use Rattle.std.proofs.Common.{◌≡◌, ◌∙◌, ◌<◌, ◌≤◌, ◌||◌, inl, inr, ℕ, List, [], ◌∷◌, Bool, true, false, option_map, Option, Some, None, refl, sym, subst, ap, ap₂, arith}
+use Rattle.std.specs.Prelude.{option_and_then, codes, if◌then◌else◌, unwrap_or}
+use Rattle.std.specs.Borrow.{Bor}
+use Rattle.std.specs.List.{list_any}
+use Rattle.std.specs.Str.{bytes_eq}
+use Rattle.std.specs.Str.Parse.{IsNumeral, digits_value, without_leading_plus}
+use Rattle.std.proofs.lemmas.Slice.Eq.{bytes_eq-Decides}
+use Rattle.clap.specs.Words.{App, Row, Text, first_of, first_value, is_simple, one_text, rows_of, subcommand_of}
+use Rattle.clap.specs.Values.{kind_of}
+use Rattle.clap.specs.Kinds.{HasKind, Kinds}
+use Rattle.clap.specs.Faults.{fault_of, is_simple_and_free}
+use Rattle.clap.specs.ValueTests.{is_unsigned_in}
+use Rattle.clap.specs.declared.error.Error.{Error}
+use Rattle.clap.specs.declared.error.kind.ErrorKind.TheVariants.{OutOfMemory}
+use Rattle.clap.specs.declared.builder.value_parser.ValueParser.TheVariants as parser
+use Rattle.clap.specs.declared.parser.matches.Found.{Found}
+use Rattle.clap.proofs.OnLiterals.{clap_on_literals}
+use Rattle.clap.proofs.ValueTestLemmas.{Accepts-accepts, accepts-Accepts}
+use Rattle.clap.proofs.WalkLemmas.{first_value-rows, one_text-rows}
+use Rattle.basket_plan.proofs.NamesLemmas.{same_line}
+use Rattle.basket_plan.proofs.HelpLemmas.{help_told}
+use Rattle.basket_plan.specs.declared.command.Choices.{Choices}
+use Rattle.basket_plan.specs.Command.{IsNamed, asks_help, is_answer, command_line, flag_in, line_with, number_in, number_of, plan_of_command, plan_of_words, where_taken}
+
+-- ---- values
+
+-- a value that `clap` gives, and one that it doesn't give, as read from the rows
+module _ {A : Type 0} (read : Text → Option A) (f : Found) (id : Text) (value : Option (Bor Text)) (e : option_map (λ s. s.now) value ≡ first_value f id) where
+  from_rows : option_and_then read (first_of id (rows_of f)) ≡ option_and_then read (option_map (λ s. s.now) value)
+  from_rows = ap (option_and_then read) (sym (first_value-rows f id) ∙ sym e)
+
+  pub read_none : value ≡ None → None ≡ option_and_then read (first_of id (rows_of f))
+  read_none was = sym (from_rows ∙ ap (λ v. option_and_then read (option_map (λ s. s.now) v)) was)
+
+  pub read_some : (text : Bor Text) → value ≡ Some text → read text.now ≡ option_and_then read (first_of id (rows_of f))
+  read_some text was = sym (from_rows ∙ ap (λ v. option_and_then read (option_map (λ s. s.now) v)) was)
+
+-- a text that isn't a name is not taken for it
+pub skips : {A : Type 0} (text name : Text) (taken rest : Option A) → (text ≡ name → ⊥) → (if bytes_eq text name then taken else rest) ≡ rest
+skips text name taken rest never = go (bytes_eq text name) (λ e. never ((bytes_eq-Decides text name).0 e))
+  where
+    go : (b : Bool) → (b ≡ true → ⊥) → (if b then taken else rest) ≡ rest
+    go true h = absurd (h refl)
+    go false h = refl
+
+-- the text is read as a `u32`
+abbrev pub IsRead : Text → Type 0
+IsRead text = IsNumeral 10 (without_leading_plus text) × (digits_value 10 (without_leading_plus text) < 4294967296)
+
+module _ (most : ℕ) where
+  number_said : (text : Text) → IsRead text → 1 ≤ digits_value 10 (without_leading_plus text) → digits_value 10 (without_leading_plus text) ≤ most
+      → Some (digits_value 10 (without_leading_plus text)) ≡ number_of most text
+  number_said text reads least greatest =
+      let yes = Accepts-accepts false (parser.Unsigned 1 most) text (reads.0, omega (arith, reads.1), least, greatest) in
+      sym (ap (λ (b : Bool). if b then Some (digits_value 10 (without_leading_plus text)) else None) yes)
+
+  number_unsaid : most < 4294967296 → (text : Text)
+      → (IsRead text → 1 ≤ digits_value 10 (without_leading_plus text) → digits_value 10 (without_leading_plus text) ≤ most → ⊥) → None ≡ number_of most text
+  number_unsaid small text never = go (is_unsigned_in 1 most text) (λ e. let h = accepts-Accepts false (parser.Unsigned 1 most) text e in never (h.0, omega (arith, h.3, small)) h.2 h.3)
+    where
+      go : (b : Bool) → (b ≡ true → ⊥) → None ≡ (if b then Some (digits_value 10 (without_leading_plus text)) else None)
+      go true h = absurd (h refl)
+      go false h = refl
+
+-- a flag
+pub flag_some : (f : Found) (name : Text) (value : Option (Bor Text)) → option_map (λ s. s.now) value ≡ first_value f name → (text : Bor Text) → value ≡ Some text
+    → bytes_eq text.now (codes "true") ≡ flag_in name (rows_of f)
+flag_some f name value e text was = sym
+    (ap (λ o. unwrap_or (option_map (λ t. bytes_eq t (codes "true")) o) false) (sym (first_value-rows f name) ∙ sym e ∙ ap (option_map (λ s. s.now)) was))
+
+pub flag_none : (f : Found) (name : Text) (value : Option (Bor Text)) → option_map (λ s. s.now) value ≡ first_value f name → value ≡ None → false ≡ flag_in name (rows_of f)
+flag_none f name value e was = sym
+    (ap (λ o. unwrap_or (option_map (λ t. bytes_eq t (codes "true")) o) false) (sym (first_value-rows f name) ∙ sym e ∙ ap (option_map (λ s. s.now)) was))
+
+module _ (f : Found) (name : Text) (most : ℕ) where
+  number_rows : option_and_then (number_of most) (one_text f name) ≡ number_in name most (rows_of f)
+  number_rows = ap (option_and_then (number_of most)) (one_text-rows f name)
+
+  pub number_some : (v : ℕ) → ((text : Text) → one_text f name ≡ Some text → IsRead text × (v ≡ digits_value 10 (without_leading_plus text)))
+      → (one_text f name ≡ None → ⊥) → 1 ≤ v → v ≤ most → Some v ≡ number_in name most (rows_of f)
+  number_some v reads none least greatest = go (one_text f name) reads none ∙ number_rows
+    where
+      go : (o : Option Text) → ((text : Text) → o ≡ Some text → IsRead text × (v ≡ digits_value 10 (without_leading_plus text))) → (o ≡ None → ⊥)
+          → Some v ≡ option_and_then (number_of most) o
+      go None reads none = absurd (none refl)
+      go (Some text) reads none =
+          let h = reads text refl in
+          ap Some h.1 ∙ number_said most text h.0 (omega (arith, h.1, least)) (omega (arith, h.1, greatest))
+
+  module _ (small : most < 4294967296) where
+    pub number_out : (v : ℕ) → ((text : Text) → one_text f name ≡ Some text → IsRead text × (v ≡ digits_value 10 (without_leading_plus text)))
+        → (1 ≤ v → v ≤ most → ⊥) → None ≡ number_in name most (rows_of f)
+    number_out v reads out = go (one_text f name) reads ∙ number_rows
+      where
+        go : (o : Option Text) → ((text : Text) → o ≡ Some text → IsRead text × (v ≡ digits_value 10 (without_leading_plus text))) → None ≡ option_and_then (number_of most) o
+        go None reads = refl
+        go (Some text) reads =
+            let h = reads text refl in
+            number_unsaid most small text (λ _ least greatest. out (omega (arith, h.1, least)) (omega (arith, h.1, greatest)))
+
+    pub number_none : ((text : Text) → one_text f name ≡ Some text → IsRead text → ⊥) → None ≡ number_in name most (rows_of f)
+    number_none never = go (one_text f name) never ∙ number_rows
+      where
+        go : (o : Option Text) → ((text : Text) → o ≡ Some text → IsRead text → ⊥) → None ≡ option_and_then (number_of most) o
+        go None never = refl
+        go (Some text) never = number_unsaid most small text (λ reads _ _. never text refl reads)
+
+-- ---- the line
+
+pub stays_local : (old new global : Bool) → new ≡ (old || global) → global ≡ false → old ≡ false → new ≡ false
+stays_local old new global e g o = e ∙ ap₂ (λ a b. a || b) o g
+
+simple_line : (choices : Choices) → is_simple_and_free (line_with choices) ≡ true
+unfolding clap_on_literals
+simple_line choices = refl
+
+simple_app : (choices : Choices) → is_simple (line_with choices) ≡ true
+unfolding clap_on_literals
+simple_app choices = refl
+
+module _ (choices : Choices) (named : IsNamed choices) (app : App) (is : app ≡ line_with choices) (words : List Text) where
+  simple : is_simple_and_free app ≡ true
+  simple = ap is_simple_and_free is ∙ simple_line choices
+
+  same_faults : fault_of app words ≡ fault_of command_line words
+  same_faults = ap (λ a. fault_of a words) is ∙ (same_line choices named words).0
+
+  pub plan_taken : (entered : Option (Text × List Row)) → (is_simple_and_free app ≡ true → fault_of app words ≡ [])
+      → (is_simple app ≡ true → entered ≡ subcommand_of app words) → plan_of_words words ≡ plan_of_command entered
+  plan_taken entered takes enters =
+      let faults : fault_of command_line words ≡ [] = sym same_faults ∙ takes simple in
+      let found : subcommand_of command_line words ≡ entered = sym (same_line choices named words).1 ∙ (ap (λ a. subcommand_of a words) (sym is) ∙ sym (enters (ap is_simple is ∙ simple_app choices))) in
+      ap₂ (λ (kinds : Kinds) (e : Option (Text × List Row)). where_taken kinds (plan_of_command e)) faults found
+
+  pub plan_refused : (e : Error) → (is_simple_and_free app ≡ true → HasKind (fault_of app words) e) → (kind_of e ≡ OutOfMemory → ⊥) → plan_of_words words ≡ None
+  plan_refused e fails has_memory = go (fault_of command_line words) (subst (λ (kinds : Kinds). HasKind kinds e) same_faults (fails simple))
+    where
+      go : (kinds : Kinds) → HasKind kinds e → where_taken kinds (plan_of_command (subcommand_of command_line words)) ≡ None
+      go [] (inl memory) = absurd (has_memory memory)
+      go [] (inr among) = absurd among
+      go (k ∷ ks) h = refl
+
+  pub no_help : (is_simple_and_free app ≡ true → fault_of app words ≡ []) → asks_help words ≡ false
+  no_help takes = ap (list_any is_answer) (sym same_faults ∙ takes simple)
+
+  pub help_refused : (e : Error) → (is_simple_and_free app ≡ true → HasKind (fault_of app words) e) → (kind_of e ≡ OutOfMemory → ⊥) → asks_help words ≡ is_answer (kind_of e)
+  help_refused e fails has_memory = elim (subst (λ (kinds : Kinds). HasKind kinds e) same_faults (fails simple)) [
+    | inl memory ↦ absurd (has_memory memory)
+    | inr among ↦ help_told (kind_of e) words among
+  ]

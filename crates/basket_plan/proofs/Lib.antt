@@ -1,0 +1,4 @@
+mod NamesWalkLemmas
+mod NamesLemmas
+mod HelpLemmas
+mod CommandLemmas

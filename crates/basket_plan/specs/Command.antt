@@ -1,0 +1,254 @@
+-- The command line as `clap` sees it, and the plan that words make.
+use Rattle.std.specs.Prelude.{◌≡◌, List, [], ◌∷◌, ℕ, Bool, true, false, map, codes, if◌then◌else◌, option_and_then, option_map, unwrap_or, Option, Some, None}
+use Rattle.std.specs.Borrow.{Bor}
+use Rattle.std.specs.List.{list_any}
+use Rattle.std.specs.Str.{bytes_eq}
+use Rattle.std.specs.Str.Parse.{digits_value, without_leading_plus}
+use Rattle.clap.specs.Words.{App, Row, Rule, Text, first_of, new_rule, one_of, subcommand_of}
+use Rattle.clap.specs.Simple.{new_shape}
+use Rattle.clap.specs.Kinds.{Kinds}
+use Rattle.clap.specs.Faults.{fault_of}
+use Rattle.clap.specs.ValueTests.{is_unsigned_in}
+use Rattle.clap.specs.declared.builder.action.ArgAction.TheVariants as action
+use Rattle.clap.specs.declared.builder.value_parser.ValueParser.TheVariants as parser
+use Rattle.clap.specs.declared.error.kind.ErrorKind.{ErrorKind}
+use Rattle.clap.specs.declared.error.kind.ErrorKind.TheVariants as kind
+use Rattle.basket_sets.specs.Minimum.{minimum_of, share_of}
+use Rattle.basket_sets.specs.declared.minimum.Minimum.{Minimum}
+use Rattle.basket_plan.specs.Plan.{GREATEST_LIMIT, Planned}
+use Rattle.basket_plan.specs.declared.command.Choices.{Choices}
+use Rattle.basket_plan.specs.declared.command.PlanFault.{PlanFault}
+use Rattle.basket_plan.specs.declared.command.PlanFault.TheVariants.{Memory, Usage, Help}
+use Rattle.basket_plan.specs.declared.plan.TheConstants.{MOST_PIECES, MOST_WORKERS}
+use Rattle.basket_plan.specs.declared.plan.Ask.{Ask}
+use Rattle.basket_plan.specs.declared.plan.Ask.TheVariants.{Items, Sets, Closed, Maximal, Rules}
+use Rattle.basket_plan.specs.declared.plan.Form.{Form}
+use Rattle.basket_plan.specs.declared.plan.Form.TheVariants.{Fimi, Baskets, Single}
+use Rattle.basket_plan.specs.declared.plan.Miner.{Miner}
+use Rattle.basket_plan.specs.declared.plan.Miner.TheVariants.{Apriori, Eclat, EclatDiff, EclatBits, FpGrowth}
+
+-- ---- the options, the commands, and the whole line
+
+-- the option `--name`, which takes one value
+abbrev pub option : Text → Rule
+option name = record (new_rule name) { long = Some name; value_names = 1; action = Some action.Set }
+
+-- an option that has to be given
+abbrev pub required : Text → Rule
+required name = record (option name) { required = true }
+
+-- texts as `clap` holds them: behind references, of which only the texts count
+abbrev pub Names : Type 0
+Names = Bor (List (Bor Text))
+
+-- an option of one of these names, and which it is if it isn't given
+abbrev pub choice : Text → Names → Text → Rule
+choice name names default = record (option name) { parser = Some (parser.Names names); defaults = default ∷ [] }
+
+-- the flag `--name`, which takes no value
+abbrev pub flag : Text → Rule
+flag name = record (new_rule name) { long = Some name; action = Some action.SetTrue }
+
+-- an option of a whole number from 1 to the greatest, and which it is if it isn't given
+abbrev pub number : Text → ℕ → Text → Rule
+number name most default = record (option name) { parser = Some (parser.Unsigned 1 most); defaults = default ∷ [] }
+
+-- the options that all commands have, and some more
+abbrev pub options_and : Choices → List Rule → List Rule
+options_and choices more =
+    required (codes "min")
+    ∷ choice (codes "form") choices.forms (codes "fimi")
+    ∷ choice (codes "sep") choices.separators (codes "comma")
+    ∷ flag (codes "header")
+    ∷ flag (codes "weight")
+    ∷ choice (codes "miner") choices.miners (codes "apriori")
+    ∷ number (codes "limit") GREATEST_LIMIT (codes "4294967295")
+    ∷ number (codes "workers") MOST_WORKERS (codes "1")
+    ∷ number (codes "pieces") MOST_PIECES (codes "16")
+    ∷ more
+
+-- a command of a name, with some more options
+abbrev pub command_with : Choices → Text → List Rule → App
+command_with choices name more = record { top = record (new_shape name) { rules = options_and choices more }; subs = [] }
+
+abbrev pub command_app : Choices → Text → App
+command_app choices name = command_with choices name []
+
+abbrev pub rules_app : Choices → App
+rules_app choices = command_with choices (codes "rules") (required (codes "conf") ∷ [])
+
+-- all commands, where the names of miners, forms and separators lie as given
+abbrev pub line_with : Choices → App
+line_with choices = record {
+  top = record (new_shape (codes "basket")) { is_leaf = false; no_binary_name = true; subcommand_required = true; disable_help_subcommand = true };
+  subs =
+      (command_app choices (codes "items")).top
+      ∷ (command_app choices (codes "sets")).top
+      ∷ (command_app choices (codes "closed")).top
+      ∷ (command_app choices (codes "maximal")).top
+      ∷ (rules_app choices).top
+      ∷ [];
+}
+
+-- the miners by the names that the command line has for them
+abbrev pub miner_names : List Text
+miner_names = codes "apriori" ∷ codes "eclat" ∷ codes "eclat-diff" ∷ codes "eclat-bits" ∷ codes "fpgrowth" ∷ []
+
+-- the forms of an input
+abbrev pub form_names : List Text
+form_names = codes "fimi" ∷ codes "baskets" ∷ codes "single" ∷ []
+
+-- the separators of CSV
+abbrev pub separator_names : List Text
+separator_names = codes "comma" ∷ codes "semicolon" ∷ codes "tab" ∷ codes "pipe" ∷ []
+
+-- names that lie somewhere are these
+abbrev pub AreNames : Names → List Text → Type 0
+AreNames names texts = map (λ name. name.now) names.now ≡ texts
+
+-- the names that options choose from are those of the miners, of the forms and of the separators
+abbrev pub IsNamed : Choices → Type 0
+IsNamed choices = AreNames choices.miners miner_names × AreNames choices.forms form_names × AreNames choices.separators separator_names
+
+-- names that lie nowhere
+abbrev pub nowhere : List Text → Names
+nowhere names = record { ref_ptr = (0, 0); now = map (λ name. record { ref_ptr = (0, 0); now = name }) names }
+
+-- all commands; what `clap` makes of words doesn't depend on where the names lie
+abbrev pub command_line : App
+command_line = line_with (record { miners = nowhere miner_names; forms = nowhere form_names; separators = nowhere separator_names })
+
+-- ---- what the values say
+
+abbrev pub miner_of : Text → Option Miner
+miner_of text =
+    if bytes_eq text (codes "apriori") then Some Apriori
+    else (if bytes_eq text (codes "eclat") then Some Eclat
+    else (if bytes_eq text (codes "eclat-diff") then Some EclatDiff
+    else (if bytes_eq text (codes "eclat-bits") then Some EclatBits
+    else (if bytes_eq text (codes "fpgrowth") then Some FpGrowth else None))))
+
+abbrev pub form_of : Text → Option Form
+form_of text =
+    if bytes_eq text (codes "fimi") then Some Fimi
+    else (if bytes_eq text (codes "baskets") then Some Baskets
+    else (if bytes_eq text (codes "single") then Some Single else None))
+
+-- the byte of a separator
+abbrev pub separator_of : Text → Option ℕ
+separator_of text =
+    if bytes_eq text (codes "comma") then Some 44
+    else (if bytes_eq text (codes "semicolon") then Some 59
+    else (if bytes_eq text (codes "tab") then Some 9
+    else (if bytes_eq text (codes "pipe") then Some 124 else None)))
+
+-- the number that one or more digits write, maybe after a plus, from 1 to the greatest
+abbrev pub number_of : ℕ → Text → Option ℕ
+number_of most text = if is_unsigned_in 1 most text then Some (digits_value 10 (without_leading_plus text)) else None
+
+-- what the option's value among the matches says
+abbrev pub min_in : List Row → Option Minimum
+min_in rows = option_and_then minimum_of (first_of (codes "min") rows)
+
+abbrev pub miner_in : List Row → Option Miner
+miner_in rows = option_and_then miner_of (first_of (codes "miner") rows)
+
+abbrev pub form_in : List Row → Option Form
+form_in rows = option_and_then form_of (first_of (codes "form") rows)
+
+abbrev pub sep_in : List Row → Option ℕ
+sep_in rows = option_and_then separator_of (first_of (codes "sep") rows)
+
+-- whether a flag is given
+abbrev pub flag_in : Text → List Row → Bool
+flag_in name rows = unwrap_or (option_map (λ text. bytes_eq text (codes "true")) (first_of name rows)) false
+
+abbrev pub number_in : Text → ℕ → List Row → Option ℕ
+number_in name most rows = option_and_then (number_of most) (one_of name rows)
+
+abbrev pub limit_in : List Row → Option ℕ
+limit_in rows = number_in (codes "limit") GREATEST_LIMIT rows
+
+abbrev pub workers_in : List Row → Option ℕ
+workers_in rows = number_in (codes "workers") MOST_WORKERS rows
+
+abbrev pub pieces_in : List Row → Option ℕ
+pieces_in rows = number_in (codes "pieces") MOST_PIECES rows
+
+abbrev pub conf_in : List Row → Option (ℕ × ℕ)
+conf_in rows = option_and_then share_of (first_of (codes "conf") rows)
+
+-- ---- the plan
+
+-- what the command of a name asks for: rules are asked for with a confidence
+abbrev pub ask_in : Text → List Row → Option Ask
+ask_in name rows =
+    if bytes_eq name (codes "items") then Some Items
+    else (if bytes_eq name (codes "sets") then Some Sets
+    else (if bytes_eq name (codes "closed") then Some Closed
+    else (if bytes_eq name (codes "maximal") then Some Maximal
+    else (if bytes_eq name (codes "rules") then option_map (λ share. Rules share.0 share.1) (conf_in rows) else None))))
+
+-- the plan of a command with the matches of its options: none where an option's value says nothing
+abbrev pub plan_of_rows : Text → List Row → Option Planned
+plan_of_rows name rows =
+    option_and_then (λ minimum.
+    option_and_then (λ ask.
+    option_and_then (λ form.
+    option_and_then (λ separator.
+    option_and_then (λ miner.
+    option_and_then (λ limit.
+    option_and_then (λ workers.
+    option_map (λ pieces. record {
+      question = record {
+        ask = ask;
+        minimum = minimum;
+        limit = limit;
+        form = form;
+        separator = separator;
+        header = flag_in (codes "header") rows;
+        weighted = flag_in (codes "weight") rows;
+      };
+      miner = miner;
+      workers = workers;
+      pieces = pieces;
+    })
+    (pieces_in rows))
+    (workers_in rows))
+    (limit_in rows))
+    (miner_in rows))
+    (sep_in rows))
+    (form_in rows))
+    (ask_in name rows))
+    (min_in rows)
+
+-- the plan of the command that words enter
+abbrev pub plan_of_command : Option (Text × List Row) → Option Planned
+plan_of_command entered = option_and_then (λ found. plan_of_rows found.0 found.1) entered
+
+-- `clap` takes the words where no kind of error comes
+abbrev pub where_taken : Kinds → Option Planned → Option Planned
+where_taken [] plan = plan
+where_taken (kind ∷ rest) plan = None
+
+-- the plan that words make, the program's name not among them
+abbrev pub plan_of_words : List Text → Option Planned
+plan_of_words words = where_taken (fault_of command_line words) (plan_of_command (subcommand_of command_line words))
+
+-- ---- help
+
+-- `clap` has a text that was asked for: help, or a version
+abbrev pub is_answer : ErrorKind → Bool
+is_answer kind.DisplayHelp = true
+is_answer kind.DisplayVersion = true
+is_answer _ = false
+
+-- the words ask for help
+abbrev pub asks_help : List Text → Bool
+asks_help words = list_any is_answer (fault_of command_line words)
+
+-- the fault is help that was asked for
+abbrev pub is_help : PlanFault → Bool
+is_help Memory = false
+is_help (Usage text) = false
+is_help (Help text) = true

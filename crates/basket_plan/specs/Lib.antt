@@ -1,0 +1,3 @@
+pub mod Plan
+pub mod Status
+pub mod Command

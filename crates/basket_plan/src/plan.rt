@@ -1,0 +1,257 @@
+ghost use Rattle.std.specs.Prelude.{◌≡◌, ◌≤◌, IsTrue, false};
+ghost use Rattle.basket_plan.specs.Plan.{GREATEST_LIMIT, is_separator};
+ghost use Rattle.basket_plan.specs.declared.plan.TheConstants.{MOST_PIECES, MOST_WORKERS};
+ghost use Rattle.basket_sets.specs.Minimum.{IsMinimum};
+
+use basket_sets::Minimum;
+use std::marker::Model;
+
+/// The greatest number of workers.
+pub const MOST_WORKERS: u32 = 64;
+
+/// The greatest number of pieces.
+pub const MOST_PIECES: u32 = 65_536;
+
+/// What a report lists.
+#[derive(Clone, Copy, Debug, PartialEq, Eq)]
+pub enum Ask {
+    /// The frequent items.
+    Items,
+    /// The frequent sets.
+    Sets,
+    /// Those of them of which no proper superset has the same support.
+    Closed,
+    /// Those of them of which no proper superset is frequent.
+    Maximal,
+    /// The association rules of at least this confidence, a numerator and a denominator.
+    Rules(u32, u32),
+}
+
+/// How an input is written.
+#[derive(Clone, Copy, Debug, PartialEq, Eq)]
+pub enum Form {
+    /// Lines of the numbers of items, a basket each.
+    Fimi,
+    /// CSV records of the names of items, a basket each.
+    Baskets,
+    /// CSV records of the id of a basket and the name of an item in it.
+    Single,
+}
+
+/// How the frequent sets are found. No report depends on it.
+#[derive(Clone, Copy, Debug, PartialEq, Eq)]
+pub enum Miner {
+    /// Level by level (Agrawal and Srikant 1994).
+    Apriori,
+    /// Class by class, over covers (Zaki 2000).
+    Eclat,
+    /// Class by class, over difference lists (Zaki and Gouda 2003).
+    EclatDiff,
+    /// Class by class, over bit rows.
+    EclatBits,
+    /// Class by class, within conditional databases (Han, Pei and Yin 2000).
+    FpGrowth,
+}
+
+/// What is asked of an input, with every number in its range, and how it is to be found.
+#[derive(Clone, Copy, Debug, PartialEq, Eq)]
+pub struct Plan {
+    limit: u32,
+    workers: u32,
+    pieces: u32,
+    sep: u8,
+    header: bool,
+    weight: bool,
+    ask: Ask,
+    minimum: Minimum,
+    form: Form,
+    miner: Miner,
+}
+
+impl Model for Plan {
+    ghost use Rattle.std.specs.Prelude.{◌≤◌, IsTrue};
+    ghost use Rattle.basket_plan.specs.Plan.{Planned, is_separator};
+    ghost use Rattle.basket_plan.specs.declared.plan.TheConstants.{MOST_PIECES, MOST_WORKERS};
+    ghost use Rattle.basket_sets.specs.Minimum.{IsMinimum};
+
+    ghost Value = { Planned };
+
+    ghost view = { λ plan. record {
+      question = record { ask = plan.ask; minimum = plan.minimum; limit = plan.limit; form = plan.form; separator = plan.sep; header = plan.header; weighted = plan.weight };
+      miner = plan.miner;
+      workers = plan.workers;
+      pieces = plan.pieces;
+    } };
+
+    ghost invariant = { λ plan. IsMinimum plan.minimum × (1 ≤ plan.limit) × IsTrue (is_separator plan.sep)
+        × (1 ≤ plan.workers) × (plan.workers ≤ MOST_WORKERS) × (1 ≤ plan.pieces) × (plan.pieces ≤ MOST_PIECES) };
+
+    ghost inverse = { λ plan. let q = plan.question in record {
+      ask = q.ask;
+      minimum = q.minimum;
+      limit = q.limit;
+      form = q.form;
+      sep = q.separator;
+      header = q.header;
+      weight = q.weighted;
+      miner = plan.miner;
+      workers = plan.workers;
+      pieces = plan.pieces;
+    } };
+}
+
+impl Plan {
+    /// A plan with the defaults of the command line: FIMI, and for CSV commas, no header and no
+    /// weights; the greatest limit; Apriori, by one worker over 16 pieces.
+    pub fn of(ask: Ask, minimum: Minimum) -> Self
+        requires { IsMinimum minimum }
+        ensures { result ≡ record {
+          question = record { ask = ask; minimum = minimum; limit = GREATEST_LIMIT; form = Form.Fimi; separator = 44; header = false; weighted = false };
+          miner = Miner.Apriori;
+          workers = 1;
+          pieces = 16;
+        } }
+    {
+        Plan {
+            ask,
+            minimum,
+            limit: u32::MAX,
+            workers: 1,
+            pieces: 16,
+            form: Form::Fimi,
+            sep: b',',
+            header: false,
+            weight: false,
+            miner: Miner::Apriori,
+        }
+    }
+
+    pub fn ask(&self) -> Ask
+        ensures { result ≡ self.now.question.ask }
+    {
+        self.ask
+    }
+
+    pub fn minimum(&self) -> Minimum
+        ensures { result ≡ self.now.question.minimum }
+    {
+        self.minimum
+    }
+
+    /// How many frequent sets there may be. It doesn't count where items are asked for.
+    pub fn limit(&self) -> u32
+        ensures { result ≡ self.now.question.limit }
+    {
+        self.limit
+    }
+
+    /// The plan with another limit.
+    pub fn with_limit(self, limit: u32) -> Self
+        requires { 1 ≤ limit }
+        ensures { result ≡ record self { question = record self.question { limit = limit } } }
+    {
+        Plan { limit, ..self }
+    }
+
+    pub fn form(&self) -> Form
+        ensures { result ≡ self.now.question.form }
+    {
+        self.form
+    }
+
+    /// The plan with another form of the input.
+    pub fn with_form(self, form: Form) -> Self
+        ensures { result ≡ record self { question = record self.question { form = form } } }
+    {
+        Plan { form, ..self }
+    }
+
+    /// The byte between the fields of CSV, in the input and in the report: a comma, a semicolon, a
+    /// tab or a bar.
+    pub fn sep(&self) -> u8
+        ensures { result ≡ self.now.question.separator }
+    {
+        self.sep
+    }
+
+    /// The plan with another such byte.
+    pub fn with_sep(self, sep: u8) -> Self
+        requires { IsTrue (is_separator sep) }
+        ensures { result ≡ record self { question = record self.question { separator = sep } } }
+    {
+        Plan { sep, ..self }
+    }
+
+    /// Whether the first record of CSV is left out.
+    pub fn header(&self) -> bool
+        ensures { result ≡ self.now.question.header }
+    {
+        self.header
+    }
+
+    /// The plan with or without a header.
+    pub fn with_header(self, header: bool) -> Self
+        ensures { result ≡ record self { question = record self.question { header = header } } }
+    {
+        Plan { header, ..self }
+    }
+
+    /// Whether the first field of a CSV basket is its weight. It doesn't count for the other forms.
+    pub fn weight(&self) -> bool
+        ensures { result ≡ self.now.question.weighted }
+    {
+        self.weight
+    }
+
+    /// The plan with or without weights.
+    pub fn with_weight(self, weight: bool) -> Self
+        ensures { result ≡ record self { question = record self.question { weighted = weight } } }
+    {
+        Plan { weight, ..self }
+    }
+
+    pub fn miner(&self) -> Miner
+        ensures { result ≡ self.now.miner }
+    {
+        self.miner
+    }
+
+    /// The plan with another miner.
+    pub fn with_miner(self, miner: Miner) -> Self
+        ensures { result ≡ record self { miner = miner } }
+    {
+        Plan { miner, ..self }
+    }
+
+    /// How many threads share the mining. No report depends on it.
+    pub fn workers(&self) -> u32
+        ensures value { result ≡ self.now.workers }
+        ensures within { (1 ≤ result) × (result ≤ MOST_WORKERS) }
+    {
+        self.workers
+    }
+
+    /// The plan with another number of workers.
+    pub fn with_workers(self, workers: u32) -> Self
+        requires { (1 ≤ workers) × (workers ≤ MOST_WORKERS) }
+        ensures { result ≡ record self { workers = workers } }
+    {
+        Plan { workers, ..self }
+    }
+
+    /// Into how many pieces each phase of the mining is cut. No report depends on it.
+    pub fn pieces(&self) -> u32
+        ensures value { result ≡ self.now.pieces }
+        ensures within { (1 ≤ result) × (result ≤ MOST_PIECES) }
+    {
+        self.pieces
+    }
+
+    /// The plan with another number of pieces.
+    pub fn with_pieces(self, pieces: u32) -> Self
+        requires { (1 ≤ pieces) × (pieces ≤ MOST_PIECES) }
+        ensures { result ≡ record self { pieces = pieces } }
+    {
+        Plan { pieces, ..self }
+    }
+}
