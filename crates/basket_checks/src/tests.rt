@@ -1,3 +1,5 @@
+ghost use Rattle.std.specs.Prelude.{nat_lt};
+
 mod classes;
 mod codes;
 mod csv;
@@ -10,14 +12,13 @@ mod itemset;
 mod join;
 mod levels;
 mod minimum;
-mod plain;
 mod rules;
 mod stream;
 mod tally;
 mod tree;
 mod vertical;
 
-use basket_core::{Database, Itemset};
+use basket_core::{Coded, Database, Itemset, Minimum, Tally};
 use std::alloc::{AllocError, Global};
 use std::test::Fail;
 
@@ -50,12 +51,54 @@ fn database(alloc: Global, baskets: &[(&[u32], u64)]) -> Result<Database, Fail> 
     Ok(database)
 }
 
+/// The numbers from 1 to 70,000.
+fn many_numbers(alloc: Global) -> Result<Vec<u32>, AllocError> {
+    (1..70_001).collect(alloc)
+}
+
+/// One basket of these numbers, as ranks.
+fn long_basket(alloc: Global) -> Result<Coded, Fail> {
+    let database = database(alloc, &[(&many_numbers(alloc)?, 1)])?;
+    Ok(Coded::of(alloc, &database, Minimum::Count(1))?)
+}
+
 /// Whether the baskets are these, each with its weight.
 fn has(database: &Database, rows: &[Row]) -> bool {
     database.len() == rows.len()
         && database.baskets().iter().zip(rows).all(|(place, (items, weight))| {
             place.basket.items() == *items && place.weight == *weight
         })
+}
+
+/// A tally that is over with the first set, as when others have found many.
+#[derive(Drop)]
+struct Early {
+    told: u64,
+}
+
+impl Tally for Early {
+    ghost limit_of = { λ _. 1000 };
+
+    ghost told_of = { λ t. t.told };
+
+    ghost is_over = { λ t. nat_lt 0 t.told };
+
+    fn limit(&self) -> u32 {
+        1_000
+    }
+
+    fn told(&self) -> u64 {
+        self.told
+    }
+
+    fn over(&self) -> bool {
+        self.told > 0
+    }
+
+    fn tell(&mut self) -> bool {
+        self.told += 1;
+        false
+    }
 }
 
 /// The sets of the numbers.

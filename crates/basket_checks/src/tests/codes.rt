@@ -82,18 +82,6 @@ fn nine_baskets(rt: HostRuntime) -> Result<(), Fail> {
     Ok(())
 }
 
-#[test]
-fn decoded_ranks(rt: HostRuntime) -> Result<(), Fail> {
-    let database = database(rt.alloc(), NINE_BASKETS)?;
-    let coded = coded_at(rt.alloc(), &database, Minimum::Count(2))?;
-    let set = decoded(rt.alloc(), &coded, &[0, 1, 4])?.ok_or("no ranks")?;
-    assert_eq!(rt; set.items(), [1, 2, 5].as_slice());
-    assert!(rt; set.copied(rt.alloc())? == set);
-    let none = decoded(rt.alloc(), &coded, &[])?.ok_or("no ranks")?;
-    assert!(rt; none.is_empty());
-    Ok(())
-}
-
 /// Most of the numbers are far above the table, and some have no rank.
 #[test]
 fn sparse_numbers(rt: HostRuntime) -> Result<(), Fail> {
@@ -111,41 +99,5 @@ fn sparse_numbers(rt: HostRuntime) -> Result<(), Fail> {
     let want: [(&[u32], u64); 4] = [(&[0, 1], 2), (&[0, 1, 2], 1), (&[2], 1), (&[], 1)];
     assert_baskets(&rt, &coded, &want);
     assert_eq!(rt; coded.total(), 5);
-    Ok(())
-}
-
-/// One heavy basket counts more than two light ones.
-#[test]
-fn weights(rt: HostRuntime) -> Result<(), Fail> {
-    let database = database(rt.alloc(), &[(&[3], 3), (&[1, 2], 1), (&[1], 1)])?;
-    let coded = coded_at(rt.alloc(), &database, Minimum::Share(2, 5))?;
-    assert_ranks(&rt, rt.alloc(), &coded, &[3, 1])?;
-    let want: [(&[u32], u64); 3] = [(&[0], 3), (&[1], 1), (&[1], 1)];
-    assert_baskets(&rt, &coded, &want);
-    Ok(())
-}
-
-/// Items 6, 7 and 8 have no rank.
-#[test]
-fn merged_baskets(rt: HostRuntime) -> Result<(), Fail> {
-    let database = database(
-        rt.alloc(),
-        &[
-            (&[1, 2], 2),
-            (&[3, 6], 1),
-            (&[1, 2, 6], 1),
-            (&[7], 1),
-            (&[3], 3),
-            (&[8], 1),
-        ],
-    )?;
-    let coded = Coded::of(rt.alloc(), &database, Minimum::Count(3))?;
-    assert_ranks(&rt, rt.alloc(), &coded, &[3, 1, 2])?;
-    let merged = coded.merged(rt.alloc())?;
-    assert_ranks(&rt, rt.alloc(), &merged, &[3, 1, 2])?;
-    let want: [(&[u32], u64); 3] = [(&[1, 2], 3), (&[0], 4), (&[], 2)];
-    assert_baskets(&rt, &merged, &want);
-    assert_eq!(rt; merged.total(), 9);
-    assert_eq!(rt; merged.minimum(), Minimum::Count(3));
     Ok(())
 }

@@ -3,24 +3,6 @@ use basket_core::{Itemset, count_items, support};
 use std::test::Fail;
 
 #[test]
-fn supports(rt: HostRuntime) -> Result<(), Fail> {
-    let database = database(rt.alloc(), NINE_BASKETS)?;
-    assert_eq!(rt; database.total(), 9);
-    let sets: [(&[u32], u64); 5] = [
-        (&[], 9),
-        (&[2], 7),
-        (&[1, 2], 4),
-        (&[1, 2, 5], 2),
-        (&[3, 4], 0),
-    ];
-    for (set, want) in sets {
-        let set = Itemset::from_items(rt.alloc(), set)?;
-        assert_eq!(rt; support(&database, &set), want, "of {set}");
-    }
-    Ok(())
-}
-
-#[test]
 fn merged_baskets(rt: HostRuntime) -> Result<(), Fail> {
     let database = database(rt.alloc(), NINE_BASKETS)?;
     let merged = database.merged(rt.alloc())?;

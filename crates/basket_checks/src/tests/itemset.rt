@@ -3,21 +3,14 @@ use std::cmp::Ordering;
 use std::test::Fail;
 
 #[test]
-fn sets(rt: HostRuntime) -> Result<(), Fail> {
+fn set_beyond_the_inline_items(rt: HostRuntime) -> Result<(), Fail> {
     let numbers = [14, 7, 7, 3, u32::MAX, 0, 9, 3, 10, 2, 11, 12, 13, 8, 1];
-    let set = Itemset::from_items(rt.alloc(), &numbers)?;
-    let rising = [0, 1, 2, 3, 7, 8, 9, 10, 11, 12, 13, 14, u32::MAX];
+    let set = Itemset::from_items(rt.alloc(), &numbers)?.copied(rt.alloc())?;
     assert!(rt; set.len() > INLINE_ITEMS);
-    assert_eq!(rt; set.items(), rising.as_slice());
     assert_eq!(rt;
         set.to_string(rt.alloc())?.as_str(),
         "0 1 2 3 7 8 9 10 11 12 13 14 4294967295"
     );
-    assert!(rt; set.contains(4_294_967_295) && !set.contains(4));
-    let part = Itemset::from_items(rt.alloc(), &[13, 0])?;
-    assert!(rt; set.holds(&part) && !part.holds(&set));
-    assert!(rt; part.holds(&Itemset::from_items(rt.alloc(), &[])?));
-    assert!(rt; set.copied(rt.alloc())? == set);
     Ok(())
 }
 

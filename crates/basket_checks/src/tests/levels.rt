@@ -50,19 +50,6 @@ fn is_too_many(answer: &Result<(Frequent, u64), MineFault>, limit: u32) -> bool 
     matches!(answer, Err(MineFault::TooMany { limit: told }) if *told == limit)
 }
 
-#[test]
-fn thirteen_sets(rt: HostRuntime) -> Result<(), Fail> {
-    let coded = coded(rt.alloc(), NINE_BASKETS, Minimum::Count(2))?;
-    let (frequent, candidates) = apriori(rt.alloc(), &coded, 13)?;
-    assert_eq!(rt;
-        counted(rt.alloc(), &frequent)?.as_str(),
-        "1 (6)|2 (7)|3 (6)|4 (2)|5 (2)|1 2 (4)|1 3 (4)|1 5 (2)|2 3 (4)|2 4 (2)|2 5 (2)|1 2 3 (2)|1 2 5 (2)|"
-    );
-    assert_eq!(rt; frequent.total(), 9);
-    assert_eq!(rt; candidates, 12);
-    Ok(())
-}
-
 /// Of the ranks 0 to 4, which are the items 2, 1, 3, 4 and 5.
 #[test]
 fn asked_sets(rt: HostRuntime) -> Result<(), Fail> {
@@ -84,31 +71,6 @@ fn asked_sets(rt: HostRuntime) -> Result<(), Fail> {
         return Err(Fail::new("the sets of three items make no candidate"));
     }
     assert_eq!(rt; levels.finish(rt.alloc())?.sets().len(), 13);
-    Ok(())
-}
-
-#[test]
-fn nothing_asked(rt: HostRuntime) -> Result<(), Fail> {
-    let coded = coded(rt.alloc(), NINE_BASKETS, Minimum::Count(7))?;
-    let levels = Levels::start(rt.alloc(), &coded, 1)?;
-    if !levels.asked().is_empty() {
-        return Err(Fail::new("one item makes no candidate"));
-    }
-    let counts = count_shard(rt.alloc(), coded.baskets(), levels.asked())?;
-    let levels = levels.answer(rt.alloc(), &counts)?;
-    assert!(rt; levels.asked().is_empty());
-    Ok(())
-}
-
-#[test]
-fn too_many_sets(rt: HostRuntime) -> Result<(), Fail> {
-    let coded = coded(rt.alloc(), NINE_BASKETS, Minimum::Count(2))?;
-    for limit in [0, 1, 4, 5, 10, 11, 12] {
-        assert!(rt;
-            is_too_many(&apriori(rt.alloc(), &coded, limit), limit),
-            "at {limit}"
-        );
-    }
     Ok(())
 }
 

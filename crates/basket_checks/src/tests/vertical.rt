@@ -1,5 +1,5 @@
 //! Classes by Eclat.
-use super::{NINE_BASKETS, Row, database};
+use super::{Early, NINE_BASKETS, database, long_basket};
 use basket_core::{Coded, Counted, Limit, MineFault, Minimum, Tally};
 use mine_vertical::{BitRow, DiffList, Row as Kind, TidList, Vertical, eclat_class};
 use std::alloc::Global;
@@ -49,27 +49,33 @@ fn class_of_the_last_rank(rt: HostRuntime) -> Result<(), Fail> {
     Ok(())
 }
 
-#[test]
-fn class_longer_than_the_limit(rt: HostRuntime) -> Result<(), Fail> {
-    let alloc = rt.alloc();
+/// What is told to a tally that is over early, whatever the rows.
+fn told_early<R: Kind>(alloc: Global) -> Result<u64, Fail> {
     let coded = Coded::of(alloc, &database(alloc, NINE_BASKETS)?, Minimum::Count(2))?;
-    for limit in 0..4 {
-        match class::<TidList>(alloc, &coded, 4, limit)? {
-            Err(MineFault::TooMany { limit: found }) => assert_eq!(rt; found, limit),
-            _ => return Err(Fail::from("the class is longer than the limit")),
-        }
+    let vertical = Vertical::of(alloc, &coded)?;
+    let mut tally = Early { told: 0 };
+    if coded.ranks() == 0 {
+        return Err(Fail::from("no such rank"));
     }
+    match eclat_class::<R, Early>(alloc, &vertical, 0, &mut tally) {
+        Err(MineFault::TooMany { limit: 1_000 }) => Ok(tally.told()),
+        _ => Err(Fail::from("the tally is over")),
+    }
+}
+
+#[test]
+fn a_tally_that_is_over_early(rt: HostRuntime) -> Result<(), Fail> {
+    assert_eq!(rt; told_early::<TidList>(rt.alloc())?, 1);
+    assert_eq!(rt; told_early::<DiffList>(rt.alloc())?, 1);
+    assert_eq!(rt; told_early::<BitRow>(rt.alloc())?, 1);
     Ok(())
 }
 
 #[test]
-fn weights_count(rt: HostRuntime) -> Result<(), Fail> {
-    let alloc = rt.alloc();
-    let rows: &[Row] = &[(&[1], 1), (&[2], 1), (&[1, 2], 3)];
-    let coded = Coded::of(alloc, &database(alloc, rows)?, Minimum::Count(3))?;
-    match class::<BitRow>(alloc, &coded, 1, 10)? {
-        Ok(mined) => assert_eq!(rt; text(alloc, mined.0)?.as_str(), "2 (4) 1 2 (3) "),
-        Err(_) => return Err(Fail::from("the class is short")),
+fn a_class_of_a_long_basket(rt: HostRuntime) -> Result<(), Fail> {
+    let coded = long_basket(rt.alloc())?;
+    match class::<TidList>(rt.alloc(), &coded, 69_999, 1_000)? {
+        Err(MineFault::TooMany { limit: 1_000 }) => Ok(()),
+        _ => Err(Fail::from("the class is longer than the limit")),
     }
-    Ok(())
 }
