@@ -1,14 +1,15 @@
 -- Places of ranks in a rising list.
-use Rattle.std.proofs.Common.{◌≡◌, ℕ, ◌+◌, ◌<◌, ◌≤◌, Bool, true, false, ◌||◌, List, [], ◌∷◌, ◌++◌, Option, Some, None, length, take, get_or, set, map, eqb, refl, sym, ap, ◌∙◌, subst, inl, inr, arith, zero-add, zero, suc}
+use Rattle.std.proofs.Common.{◌≡◌, ◌≢◌, ℕ, ◌+◌, ◌<◌, ◌≤◌, Bool, true, false, ◌||◌, List, [], ◌∷◌, ◌++◌, Option, Some, None, length, take, get_or, set, map, cond, eqb, refl, sym, ap, ◌∙◌, subst, inl, inr, arith, add-zero, zero-add, zero, suc}
 use Rattle.std.specs.Prelude.{All, replicate}
 use Rattle.std.specs.List.{AllByRecursion, cons_option, filter_map}
 use Rattle.std.specs.Option.{option_to_list}
-use Rattle.std.proofs.lemmas.Bool.{cases_Bool, cases_eq, cases_lt, eq-eqb, true≢false}
+use Rattle.std.proofs.lemmas.Bool.{cases_Bool, cases_eq, cases_lt, eq-eqb, ne_eqb, true≢false}
 use Rattle.std.proofs.lemmas.List.{ext_get_or, get_or_default, get_or-map, get_or-replicate, get_or-set_same, get_or-set_other, get_or-take, length-map, length-replicate, length-take, map-append, take_more}
 use Rattle.std.proofs.lemmas.List.Elements.{All-from_recursion, recursion_from_All}
 use Rattle.basket_sets.specs.declared.weighted.Weighted.{Weighted}
-use Rattle.basket_core.specs.Codes.{coded, coded_place}
+use Rattle.basket_core.specs.Codes.{coded, coded_place, rank_from, rank_of}
 use Rattle.basket_core.proofs.theory.Coding.{coded_place_is, coded_total, from_ranks, into_ranks, ranks_rise}
+use Rattle.basket_sets.specs.Counts.{AllBelow}
 use Rattle.basket_sets.specs.Database.{MOST_WEIGHT, weighted}
 use Rattle.basket_sets.specs.Itemset.{IsRising, has}
 use Rattle.basket_sets.proofs.theory.Members.{Member, Contains-from_Member}
@@ -16,36 +17,94 @@ use Rattle.basket_sets.proofs.theory.Rising.{Member-from_has, has-from_Member, c
 use Rattle.mine_classes.specs.declared.span.Span.{Span}
 use Rattle.mine_classes.specs.declared.ordered.Entry.{Entry}
 use Rattle.mine_classes.specs.Ordered.{AreRankBaskets, IsRankBasket, entry_place, entry_places}
-use Rattle.mine_classes.specs.Places.{ArePlaces, placed, places_in}
+use Rattle.mine_classes.specs.Places.{ArePlaces, placed, places_in, slots_in}
 use Rattle.mine_classes.specs.Span.{IsWithin, basket_at, baskets_at}
 use Rattle.mine_classes.proofs.OrderedLemmas.{pushed_basket}
 use Rattle.mine_classes.proofs.PairLemmas.{has_more}
-use Rattle.mine_classes.proofs.RunLemmas.{rising_at}
+use Rattle.mine_classes.proofs.RunLemmas.{Member-at, rising_at}
 
 pub place_le : (xs : List ℕ) (k : ℕ) → IsRising xs → k < length xs → k ≤ get_or xs k 0
 place_le xs zero up here = omega arith
 place_le xs (suc k) up here = let less = rising_at xs k (suc k) up (omega arith) here in let rest = place_le xs k up (omega arith) in omega arith
 
--- ---- putting places, and taking them away
+-- ---- the place of a rank
 
 neither : (a b : Bool) → (a || b) ≡ false → (a ≡ false) × (b ≡ false)
 neither true b h = absurd (true≢false h)
 neither false b h = (refl, h)
 
+rank_from_at : (number : ℕ) (kept : List ℕ) (k : ℕ) → IsRising kept → k < length kept → rank_from number kept (get_or kept k 0) ≡ Some (number + k)
+rank_from_at number [] k up here = absurd (omega arith)
+rank_from_at number (x ∷ kept) zero up here = ap (λ b. cond b (Some number) (rank_from (number + 1) kept x)) (eq-eqb x x refl) ∙ ap Some (sym (add-zero number))
+rank_from_at number (x ∷ kept) (suc k) up here =
+    let within : k < length kept = omega arith in
+    let above = first_below x kept up (get_or kept k 0) (Member-at kept k within) in
+    ap (λ b. cond b (Some number) (rank_from (number + 1) kept (get_or kept k 0))) (ne_eqb x (get_or kept k 0) (λ same. absurd (omega arith)))
+    ∙ rank_from_at (number + 1) kept k (rest_rises x kept up) within ∙ (let e : number + 1 + k ≡ number + suc k = omega arith in ap Some e)
+
+rank_from_none : (number : ℕ) (kept : List ℕ) (rank : ℕ) → has kept rank ≡ false → rank_from number kept rank ≡ None
+rank_from_none number [] rank missing = refl
+rank_from_none number (x ∷ kept) rank missing =
+    let both = neither (eqb x rank) (has kept rank) missing in
+    ap (λ b. cond b (Some number) (rank_from (number + 1) kept rank)) both.0 ∙ rank_from_none (number + 1) kept rank both.1
+
+pub rank_at : (kept : List ℕ) (k : ℕ) → IsRising kept → k < length kept → rank_of kept (get_or kept k 0) ≡ Some k
+rank_at kept k up here = rank_from_at 0 kept k up here ∙ ap Some (zero-add k)
+
+pub rank_missing : (kept : List ℕ) (rank : ℕ) → ((k : ℕ) → k < length kept → get_or kept k 0 ≢ rank) → rank_of kept rank ≡ None
+rank_missing kept rank nowhere = elim (cases_Bool (has kept rank)) [
+  | inl e ↦ (let c = Contains-from_Member rank kept (Member-from_has kept rank e) in absurd (nowhere c.0 c.1 (get_or_default kept c.0 0 rank c.1 ∙ c.2)))
+  | inr e ↦ rank_from_none 0 kept rank e
+]
+
+-- it is in the table where that has a slot for it
+pub slot_is : (kept : List ℕ) (places : List (Option ℕ)) (rank : ℕ) → IsRising kept → ArePlaces kept places → rank < length places → get_or places rank None ≡ rank_of kept rank
+slot_is kept places rank up are inside = elim (cases_Bool (has kept rank)) [
+  | inl e ↦
+      (let c = Contains-from_Member rank kept (Member-from_has kept rank e) in
+      let at : get_or kept c.0 0 ≡ rank = get_or_default kept c.0 0 rank c.1 ∙ c.2 in
+      ap (λ r. get_or places r None) (sym at) ∙ are.at c.0 c.1 (subst (λ r. r < length places) (sym at) inside) ∙ sym (ap (rank_of kept) (sym at) ∙ rank_at kept c.0 up c.1))
+  | inr e ↦ are.none rank e ∙ sym (rank_from_none 0 kept rank e)
+]
+
+-- with no table there is no slot
+pub no_slots : (kept : List ℕ) → ArePlaces kept []
+no_slots kept = record {
+  at = λ k here inside. absurd (omega arith);
+  none = λ rank missing. refl;
+}
+
+-- ---- putting places, and taking them away
+
 pub place_more : (kept : List ℕ) (i : ℕ) (places : List (Option ℕ)) → IsRising kept → i < length kept → get_or kept i 0 < length places → ArePlaces (take i kept) places
     → ArePlaces (take (i + 1) kept) (set places (get_or kept i 0) (Some i))
 place_more kept i places up here inside are = record {
-  at = λ k below. (let within : k < i + 1 = omega (arith, below, length-take (i + 1) kept) in
-      ap (λ r. get_or (set places (get_or kept i 0) (Some i)) r None) (get_or-take (i + 1) kept k 0 within) ∙ (elim (cases_lt k i) [
+  at = λ k below slot. (let within : k < i + 1 = omega (arith, below, length-take (i + 1) kept) in
+      let same = get_or-take (i + 1) kept k 0 within in
+      ap (λ r. get_or (set places (get_or kept i 0) (Some i)) r None) same ∙ (elim (cases_lt k i) [
         | inl less ↦ (let rises = rising_at kept k i up less here in
-            get_or-set_other places (get_or kept i 0) (get_or kept k 0) (Some i) None (λ same. absurd (omega arith))
-            ∙ ap (λ r. get_or places r None) (sym (get_or-take i kept k 0 less)) ∙ are.at k (omega (arith, length-take i kept)))
+            let before = get_or-take i kept k 0 less in
+            get_or-set_other places (get_or kept i 0) (get_or kept k 0) (Some i) None (λ e. absurd (omega arith))
+            ∙ ap (λ r. get_or places r None) (sym before) ∙ are.at k (omega (arith, length-take i kept)) (omega (arith, rises, before, inside)))
         | inr last ↦ (let is : i ≡ k = omega arith in
             subst (λ j. get_or (set places (get_or kept i 0) (Some i)) (get_or kept j 0) None ≡ Some j) is (get_or-set_same places (get_or kept i 0) (Some i) None inside))
       ]));
   none = λ rank missing.
       let both = neither (has (take i kept) rank) (eqb (get_or kept i 0) rank) (sym (has_more kept i rank here) ∙ missing) in
       get_or-set_other places (get_or kept i 0) rank (Some i) None (λ same. true≢false (sym (eq-eqb (get_or kept i 0) rank (sym same)) ∙ both.1)) ∙ are.none rank both.0;
+}
+
+-- a rank that has no slot
+pub place_missed : (kept : List ℕ) (i : ℕ) (places : List (Option ℕ)) → i < length kept → length places ≤ get_or kept i 0 → ArePlaces (take i kept) places → ArePlaces (take (i + 1) kept) places
+place_missed kept i places here outside are = record {
+  at = λ k below slot. (let within : k < i + 1 = omega (arith, below, length-take (i + 1) kept) in
+      let same = get_or-take (i + 1) kept k 0 within in
+      elim (cases_lt k i) [
+        | inl less ↦ (let before = get_or-take i kept k 0 less in
+            ap (λ r. get_or places r None) (same ∙ sym before) ∙ are.at k (omega (arith, length-take i kept)) (omega (arith, same, before, slot)))
+        | inr last ↦ (let is : i ≡ k = omega arith in let at = ap (λ j. get_or kept j 0) is in absurd (omega arith))
+      ]);
+  none = λ rank missing. are.none rank (neither (has (take i kept) rank) (eqb (get_or kept i 0) rank) (sym (has_more kept i rank here) ∙ missing)).0;
 }
 
 pub all_none : (count : ℕ) (places : List (Option ℕ)) → length places ≡ count → ((rank : ℕ) → get_or places rank None ≡ None) → places ≡ replicate count None
@@ -66,56 +125,66 @@ filter_map-push h (first ∷ xs) x = ap (cons_option (h first)) (filter_map-push
     at None = refl
     at (Some y) = refl
 
-pub places_more : (places : List (Option ℕ)) (basket : List ℕ) (i : ℕ) → i < length basket
-    → places_in places (take (i + 1) basket) ≡ places_in places (take i basket) ++ option_to_list (get_or places (get_or basket i 0) None)
-places_more places basket i here = ap (places_in places) (take_more basket i 0 here) ∙ filter_map-push (λ rank. get_or places rank None) (take i basket) (get_or basket i 0)
+pub places_more : (h : ℕ → Option ℕ) (basket : List ℕ) (i : ℕ) → i < length basket
+    → filter_map h (take (i + 1) basket) ≡ filter_map h (take i basket) ++ option_to_list (h (get_or basket i 0))
+places_more h basket i here = ap (filter_map h) (take_more basket i 0 here) ∙ filter_map-push h (take i basket) (get_or basket i 0)
+
+-- from a table that has a slot for each of its ranks
+pub slots_are : (kept : List ℕ) (places : List (Option ℕ)) (basket : List ℕ) → IsRising kept → ArePlaces kept places → AllBelow (length places) basket → slots_in places basket ≡ places_in kept basket
+slots_are kept places basket up are below = go basket (λ rank m. below rank (has-from_Member basket rank m))
+  where
+    go : (ranks : List ℕ) → ((rank : ℕ) → Member rank ranks → rank < length places) → slots_in places ranks ≡ places_in kept ranks
+    go [] inside = refl
+    go (first ∷ ranks) inside =
+        ap (λ o. cons_option o (slots_in places ranks)) (slot_is kept places first up are (inside first (inl refl)))
+        ∙ ap (cons_option (rank_of kept first)) (go ranks (λ rank m. inside rank (inr m)))
 
 -- ---- places as a coding
 
-module _ (kept : List ℕ) (places : List (Option ℕ)) (up : IsRising kept) (are : ArePlaces kept places) where
+module _ (kept : List ℕ) (up : IsRising kept) where
   -- a rank that has a place stands there
-  stands : (rank place : ℕ) → get_or places rank None ≡ Some place → (place < length kept) × (get_or kept place 0 ≡ rank)
+  stands : (rank place : ℕ) → rank_of kept rank ≡ Some place → (place < length kept) × (get_or kept place 0 ≡ rank)
   stands rank place is = elim (cases_Bool (has kept rank)) [
     | inl e ↦
         (let c = Contains-from_Member rank kept (Member-from_has kept rank e) in
         let at = get_or_default kept c.0 0 rank c.1 ∙ c.2 in
-        let same : c.0 ≡ place = some_same (sym (are.at c.0 c.1) ∙ ap (λ r. get_or places r None) at ∙ is) in
+        let same : c.0 ≡ place = some_same (sym (rank_at kept c.0 up c.1) ∙ ap (rank_of kept) at ∙ is) in
         (subst (λ k. k < length kept) same c.1, ap (λ k. get_or kept k 0) (sym same) ∙ at))
-    | inr e ↦ (let no : None ≡ Some place = sym (are.none rank e) ∙ is in absurd cc)
+    | inr e ↦ (let no : None ≡ Some place = sym (rank_from_none 0 kept rank e) ∙ is in absurd cc)
   ]
     where
       some_same : {a b : ℕ} → Some a ≡ Some b → a ≡ b
       some_same e = cc
 
-  from_places : (basket : List ℕ) (place : ℕ) → Member place (places_in places basket) → (rank : ℕ) × Member rank basket × (get_or places rank None ≡ Some place)
+  from_places : (basket : List ℕ) (place : ℕ) → Member place (places_in kept basket) → (rank : ℕ) × Member rank basket × (rank_of kept rank ≡ Some place)
   from_places [] place m = absurd m
-  from_places (first ∷ basket) place m = at (get_or places first None) refl (from_places basket place) m
+  from_places (first ∷ basket) place m = at (rank_of kept first) refl (from_places basket place) m
     where
-      later : (rank : ℕ) × Member rank basket × (get_or places rank None ≡ Some place) → (rank : ℕ) × Member rank (first ∷ basket) × (get_or places rank None ≡ Some place)
+      later : (rank : ℕ) × Member rank basket × (rank_of kept rank ≡ Some place) → (rank : ℕ) × Member rank (first ∷ basket) × (rank_of kept rank ≡ Some place)
       later r = (r.0, inr r.1, r.2)
 
-      at : (o : Option ℕ) → get_or places first None ≡ o → (Member place (places_in places basket) → (rank : ℕ) × Member rank basket × (get_or places rank None ≡ Some place))
-          → Member place (cons_option o (places_in places basket)) → (rank : ℕ) × Member rank (first ∷ basket) × (get_or places rank None ≡ Some place)
+      at : (o : Option ℕ) → rank_of kept first ≡ o → (Member place (places_in kept basket) → (rank : ℕ) × Member rank basket × (rank_of kept rank ≡ Some place))
+          → Member place (cons_option o (places_in kept basket)) → (rank : ℕ) × Member rank (first ∷ basket) × (rank_of kept rank ≡ Some place)
       at None e rest n = later (rest n)
       at (Some y) e rest (inl same) = (first, inl refl, e ∙ ap Some same)
       at (Some y) e rest (inr n) = later (rest n)
 
-  into_places : (basket : List ℕ) (rank place : ℕ) → Member rank basket → get_or places rank None ≡ Some place → Member place (places_in places basket)
+  into_places : (basket : List ℕ) (rank place : ℕ) → Member rank basket → rank_of kept rank ≡ Some place → Member place (places_in kept basket)
   into_places [] rank place m is = absurd m
   into_places (first ∷ basket) rank place (inl same) is =
-      subst (λ o. Member place (cons_option o (places_in places basket))) (sym (ap (λ r. get_or places r None) same ∙ is)) (inl refl)
-  into_places (first ∷ basket) rank place (inr m) is = at (get_or places first None) (into_places basket rank place m is)
+      subst (λ o. Member place (cons_option o (places_in kept basket))) (sym (ap (rank_of kept) same ∙ is)) (inl refl)
+  into_places (first ∷ basket) rank place (inr m) is = at (rank_of kept first) (into_places basket rank place m is)
     where
-      at : (o : Option ℕ) → Member place (places_in places basket) → Member place (cons_option o (places_in places basket))
+      at : (o : Option ℕ) → Member place (places_in kept basket) → Member place (cons_option o (places_in kept basket))
       at None n = n
       at (Some y) n = inr n
 
   -- the places of a rising basket rise
-  places_rise : (basket : List ℕ) → IsRising basket → IsRising (places_in places basket)
+  places_rise : (basket : List ℕ) → IsRising basket → IsRising (places_in kept basket)
   places_rise [] rises = nil_rises
-  places_rise (first ∷ basket) rises = at (get_or places first None) refl (places_rise basket (rest_rises first basket rises))
+  places_rise (first ∷ basket) rises = at (rank_of kept first) refl (places_rise basket (rest_rises first basket rises))
     where
-      above : (y : ℕ) → get_or places first None ≡ Some y → (z : ℕ) → Member z (places_in places basket) → y < z
+      above : (y : ℕ) → rank_of kept first ≡ Some y → (z : ℕ) → Member z (places_in kept basket) → y < z
       above y e z m = elim (cases_lt y z) [
         | inl less ↦ less
         | inr not ↦
@@ -134,24 +203,24 @@ module _ (kept : List ℕ) (places : List (Option ℕ)) (up : IsRising kept) (ar
             | inr differ ↦ (let less = rising_at kept i j up (omega arith) here in omega arith)
           ]
 
-      at : (o : Option ℕ) → get_or places first None ≡ o → IsRising (places_in places basket) → IsRising (cons_option o (places_in places basket))
+      at : (o : Option ℕ) → rank_of kept first ≡ o → IsRising (places_in kept basket) → IsRising (cons_option o (places_in kept basket))
       at None e rest = rest
-      at (Some y) e rest = cons_rises y (places_in places basket) (above y e) rest
+      at (Some y) e rest = cons_rises y (places_in kept basket) (above y e) rest
 
   -- they are the basket coded by the list
-  pub places_are_coded : (basket : List ℕ) → IsRising basket → places_in places basket ≡ coded kept basket
-  places_are_coded basket rises = same_rising (places_in places basket) (coded kept basket) (places_rise basket rises) (ranks_rise 0 kept basket)
+  pub places_are_coded : (basket : List ℕ) → IsRising basket → places_in kept basket ≡ coded kept basket
+  places_are_coded basket rises = same_rising (places_in kept basket) (coded kept basket) (places_rise basket rises) (ranks_rise 0 kept basket)
       (λ place m. let r = from_places basket place m in
       let s = stands r.0 place r.2 in
       subst (λ n. Member n (coded kept basket)) (zero-add place) (into_ranks 0 kept basket place s.0 (has-from_Member basket (get_or kept place 0) (subst (λ x. Member x basket) (sym s.1) r.1))))
       (λ place m. let r = from_ranks 0 kept basket place m in
       let same : place ≡ r.0 = r.2 ∙ zero-add r.0 in
-      into_places basket (get_or kept r.0 0) place (Member-from_has basket (get_or kept r.0 0) r.3) (are.at r.0 r.1 ∙ ap Some (sym same)))
+      into_places basket (get_or kept r.0 0) place (Member-from_has basket (get_or kept r.0 0) r.3) (rank_at kept r.0 up r.1 ∙ ap Some (sym same)))
 
-  pub all_coded : (count : ℕ) (baskets : List Weighted) → AllByRecursion (IsRankBasket count) baskets → map (placed places) baskets ≡ map (coded_place kept) baskets
+  pub all_coded : (count : ℕ) (baskets : List Weighted) → AllByRecursion (IsRankBasket count) baskets → map (placed kept) baskets ≡ map (coded_place kept) baskets
   all_coded count [] all = refl
   all_coded count (place ∷ baskets) all =
-      ap (λ l. weighted l place.weight ∷ map (placed places) baskets) (places_are_coded place.basket all.0.rises)
+      ap (λ l. weighted l place.weight ∷ map (placed kept) baskets) (places_are_coded place.basket all.0.rises)
       ∙ ap (λ rest. coded_place kept place ∷ rest) (all_coded count baskets all.1)
 
 -- coded baskets of ranks are baskets of ranks
@@ -175,18 +244,18 @@ within_push n m spans span le all one = All-from_recursion (IsWithin m) (spans +
     go [] each = (one, tt)
     go (x ∷ xs) each = (record { ordered = each.0.ordered; within = (let inside = each.0.within in omega arith) }, go xs each.1)
 
-pub placed_more : (ranks locals : List ℕ) (places : List (Option ℕ)) (baskets spans : List Span) (i : ℕ) (d span : Span) → i < length baskets → All (IsWithin (length locals)) spans
-    → (more : List ℕ) → more ≡ places_in places (basket_at ranks (get_or baskets i d)).basket → span.start ≡ length locals → span.end ≡ length locals + length more → span.weight ≡ (get_or baskets i d).weight
-    → baskets_at locals spans ≡ map (placed places) (take i (baskets_at ranks baskets))
-    → baskets_at (locals ++ more) (spans ++ span ∷ []) ≡ map (placed places) (take (i + 1) (baskets_at ranks baskets))
-placed_more ranks locals places baskets spans i d span here within more is start end weight so_far =
+pub placed_more : (ranks locals kept : List ℕ) (baskets spans : List Span) (i : ℕ) (d span : Span) → i < length baskets → All (IsWithin (length locals)) spans
+    → (more : List ℕ) → more ≡ places_in kept (basket_at ranks (get_or baskets i d)).basket → span.start ≡ length locals → span.end ≡ length locals + length more → span.weight ≡ (get_or baskets i d).weight
+    → baskets_at locals spans ≡ map (placed kept) (take i (baskets_at ranks baskets))
+    → baskets_at (locals ++ more) (spans ++ span ∷ []) ≡ map (placed kept) (take (i + 1) (baskets_at ranks baskets))
+placed_more ranks locals kept baskets spans i d span here within more is start end weight so_far =
     pushed_basket locals more spans span within start end
     ∙ ap (λ l. l ++ weighted more span.weight ∷ []) so_far
-    ∙ ap (λ l. map (placed places) (take i (baskets_at ranks baskets)) ++ weighted l span.weight ∷ []) is
-    ∙ ap (λ w. map (placed places) (take i (baskets_at ranks baskets)) ++ weighted (places_in places (basket_at ranks (get_or baskets i d)).basket) w ∷ []) weight
-    ∙ sym (ap (map (placed places)) (take_more (baskets_at ranks baskets) i (basket_at ranks d) (omega (arith, length-map baskets (basket_at ranks))))
-    ∙ map-append (placed places) (take i (baskets_at ranks baskets)) (get_or (baskets_at ranks baskets) i (basket_at ranks d) ∷ [])
-    ∙ ap (λ p. map (placed places) (take i (baskets_at ranks baskets)) ++ placed places p ∷ []) (get_or-map (basket_at ranks) baskets i d (basket_at ranks d) here))
+    ∙ ap (λ l. map (placed kept) (take i (baskets_at ranks baskets)) ++ weighted l span.weight ∷ []) is
+    ∙ ap (λ w. map (placed kept) (take i (baskets_at ranks baskets)) ++ weighted (places_in kept (basket_at ranks (get_or baskets i d)).basket) w ∷ []) weight
+    ∙ sym (ap (map (placed kept)) (take_more (baskets_at ranks baskets) i (basket_at ranks d) (omega (arith, length-map baskets (basket_at ranks))))
+    ∙ map-append (placed kept) (take i (baskets_at ranks baskets)) (get_or (baskets_at ranks baskets) i (basket_at ranks d) ∷ [])
+    ∙ ap (λ p. map (placed kept) (take i (baskets_at ranks baskets)) ++ placed kept p ∷ []) (get_or-map (basket_at ranks) baskets i d (basket_at ranks d) here))
 
 pub entries_at_more : (ranks : List ℕ) (spans : List Span) (i : ℕ) (d : Span) (entries : List Entry) (entry : Entry) → i < length spans
     → entry_place entry ≡ basket_at ranks (get_or spans i d) → entry_places entries ≡ take i (baskets_at ranks spans) → entry_places (entries ++ entry ∷ []) ≡ take (i + 1) (baskets_at ranks spans)

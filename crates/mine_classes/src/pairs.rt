@@ -3,30 +3,38 @@ ghost use Rattle.std.specs.Prelude.{◌≡◌, ◌≤◌, ◌<◌, ◌+◌, ℕ,
 ghost use Rattle.basket_sets.specs.Counts.{AllBelow};
 ghost use Rattle.basket_sets.specs.Database.{MOST_WEIGHT};
 ghost use Rattle.basket_sets.specs.Itemset.{IsRising, rising};
+ghost use Rattle.basket_sets.specs.Support.{items_of};
 ghost use Rattle.mine_classes.specs.Ordered.{AreRankBaskets};
-ghost use Rattle.mine_classes.specs.Pairs.{AreSums, WithBasket, is_met, ranks_met, weight_with};
+ghost use Rattle.mine_classes.specs.Pairs.{AreSums, WithBasket, is_met, items_met, named_pair, ranks_met, weight_with};
 ghost use Rattle.mine_classes.specs.Span.{IsWithin, baskets_at};
 
-use crate::span::Span;
+use crate::places::coded_spans;
+use crate::span::{Span, table_pays};
 use basket_core::Itemset;
 use std::alloc::{AllocError, Global};
 use std::marker::Model;
 
-/// A sum for each rank, used again from rank to rank.
+/// A sum for each rank, used again from rank to rank. The sums stand in a table once it is worth its
+/// cost. Before that, each call has sums for its own ranks alone.
 #[derive(Debug, Drop)]
 pub struct Sums {
+    count: u32,
+    /// How many ranks were looked up while there was no table.
+    seen: usize,
+    /// A sum of 0 for each rank, or nothing where there is no table yet.
     sums: Vec<u64>,
     found: Vec<u32>,
 }
 
 impl Model for Sums {
-    ghost use Rattle.std.specs.Prelude.{ℕ, [], ◌≡◌, length, replicate};
+    ghost use Rattle.std.specs.Prelude.{ℕ, [], ◌≡◌, ◌<◌, length, replicate};
 
     ghost Value = { ℕ };
 
-    ghost view = { λ s. length s.sums.items };
+    ghost view = { λ s. s.count };
 
-    ghost invariant = { λ s. (s.sums.items ≡ replicate (length s.sums.items) 0) × (s.found.items ≡ []) };
+    ghost invariant = { λ s. (0 < length s.sums.items → length s.sums.items ≡ s.count)
+        × (s.sums.items ≡ replicate (length s.sums.items) 0) × (s.found.items ≡ []) };
 }
 
 impl Sums {
@@ -35,7 +43,9 @@ impl Sums {
         ensures { IfOk result (λ sums. sums ≡ count) }
     {
         Ok(Sums {
-            sums: vec![in alloc; 0; count as usize]?,
+            count,
+            seen: 0,
+            sums: Vec::new(alloc),
             found: Vec::new(alloc),
         })
     }
@@ -54,14 +64,92 @@ impl Sums {
         ensures met { IfOk result (λ met. met.items ≡ ranks_met self.old least (baskets_at ranks.now baskets.now)) }
         ensures sums { self.new ≡ self.old }
     {
-        let summed = add_up(&mut self.sums, &mut self.found, ranks, baskets);
-        let met = match summed {
-            Ok(()) => met(alloc, &self.sums, &self.found, least),
-            Err(error) => Err(error),
-        };
-        clear(&mut self.sums, &mut self.found);
-        met
+        if self.sums.is_empty() && table_pays(self.count, &mut self.seen, baskets) {
+            self.sums = vec![in alloc; 0; self.count as usize]?;
+        }
+        if self.sums.is_empty() {
+            return met_by_search(alloc, ranks, baskets, least);
+        }
+        met_by_table(
+            alloc,
+            &mut self.sums,
+            &mut self.found,
+            ranks,
+            baskets,
+            least,
+        )
     }
+}
+
+/// The ranks that are met, by a table of sums, which are 0 before and after.
+fn met_by_table(
+    alloc: Global,
+    sums: &mut [u64],
+    found: &mut Vec<u32>,
+    ranks: &[u32],
+    baskets: &[Span],
+    least: u64,
+) -> Result<Vec<(u32, u64)>, AllocError>
+    requires zero { sums.old ≡ replicate (length sums.old) 0 }
+    requires none { found.old.items ≡ [] }
+    requires within { All (IsWithin (length ranks.now)) baskets.now }
+    requires ranked { AreRankBaskets (record { ranks = length sums.old; baskets = baskets_at ranks.now baskets.now }) }
+    ensures met { IfOk result (λ met. met.items ≡ ranks_met (length sums.old) least (baskets_at ranks.now baskets.now)) }
+    ensures sums { sums.new ≡ replicate (length sums.old) 0 }
+    ensures found { found.new.items ≡ [] }
+{
+    let summed = add_up(sums, found, ranks, baskets);
+    let met = match summed {
+        Ok(()) => met(alloc, sums, found, least),
+        Err(error) => Err(error),
+    };
+    clear(sums, found);
+    met
+}
+
+/// The ranks that are met, by a table for those alone that stand in the baskets, which are numbered
+/// anew: a table for all ranks would have far more sums than they need.
+fn met_by_search(
+    alloc: Global,
+    ranks: &[u32],
+    baskets: &[Span],
+    least: u64,
+) -> Result<Vec<(u32, u64)>, AllocError>
+    requires within { All (IsWithin (length ranks.now)) baskets.now }
+    requires ranked { (count : ℕ) × AreRankBaskets (record { ranks = count; baskets = baskets_at ranks.now baskets.now }) }
+    ensures { IfOk result (λ met. met.items ≡ items_met least (baskets_at ranks.now baskets.now)) }
+{
+    let list = distinct_ranks(alloc, ranks, baskets)?;
+    let mut locals = Vec::new(alloc);
+    let spans = coded_spans(alloc, &mut locals, &[], list.items(), ranks, baskets)?;
+    let mut sums = vec![in alloc; 0; list.len()]?;
+    let mut found = Vec::new(alloc);
+    let met = met_by_table(alloc, &mut sums, &mut found, &locals, &spans, least)?;
+    named(alloc, list.items(), &met)
+}
+
+/// The ranks that stand in the baskets, rising.
+fn distinct_ranks(alloc: Global, ranks: &[u32], baskets: &[Span]) -> Result<Itemset, AllocError>
+    requires { All (IsWithin (length ranks.now)) baskets.now }
+    ensures { IfOk result (λ found. found ≡ items_of (baskets_at ranks.now baskets.now)) }
+{
+    let mut found = Vec::new(alloc);
+    for basket in baskets {
+        found.extend_from_slice(basket.of(ranks))?;
+    }
+    Itemset::from_items(alloc, &found)
+}
+
+/// The pairs of ranks that are given by their places in a list.
+fn named(alloc: Global, list: &[u32], met: &[(u32, u64)]) -> Result<Vec<(u32, u64)>, AllocError>
+    requires { AllBelow (length list.now) (map (λ pair. pair.0) met.now) }
+    ensures { IfOk result (λ pairs. pairs.items ≡ map (named_pair list.now) met.now) }
+{
+    let mut pairs = Vec::with_capacity(alloc, met.len())?;
+    for (at, sum) in met {
+        pairs.push((list[*at as usize], *sum))?;
+    }
+    Ok(pairs)
 }
 
 /// Adds the weights of baskets to the sums of their ranks.

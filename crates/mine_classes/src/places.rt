@@ -1,31 +1,37 @@
 //! Baskets of the ranks that stand in a list, by their places there.
-ghost use Rattle.std.specs.Prelude.{◌≡◌, ◌++◌, [], None, All, IfOk, OnOk, length, map, replicate};
-ghost use Rattle.basket_core.specs.Codes.{coded_place};
+ghost use Rattle.std.specs.Prelude.{◌≡◌, ◌<◌, ◌++◌, [], None, All, IfOk, OnOk, length, map, replicate};
+ghost use Rattle.basket_core.specs.Codes.{coded_place, rank_of};
 ghost use Rattle.basket_sets.specs.Counts.{AllBelow};
 ghost use Rattle.basket_sets.specs.Itemset.{IsRising};
 ghost use Rattle.mine_classes.specs.Ordered.{AreRankBaskets, HaveSameWeights, entry_places};
-ghost use Rattle.mine_classes.specs.Places.{ArePlaces, placed, places_in};
+ghost use Rattle.mine_classes.specs.Places.{ArePlaces, placed, places_in, slots_in};
 ghost use Rattle.mine_classes.specs.Span.{IsWithin, baskets_at};
 
 use crate::ordered::{Entry, Ordered};
-use crate::span::{Span, place};
+use crate::span::{Span, place, table_pays};
 use std::alloc::{AllocError, Global};
 use std::marker::Model;
 
-/// A place for each rank, used again from rank to rank.
+/// A place for each rank, used again from rank to rank. The places stand in a table once it is worth
+/// its cost. Before that, each is searched for.
 #[derive(Debug, Drop)]
 pub struct Places {
+    count: u32,
+    /// How many ranks were looked up while there was no table.
+    seen: usize,
+    /// An empty slot for each rank, or nothing where there is no table yet.
     of: Vec<Option<u32>>,
 }
 
 impl Model for Places {
-    ghost use Rattle.std.specs.Prelude.{ℕ, None, ◌≡◌, length, replicate};
+    ghost use Rattle.std.specs.Prelude.{ℕ, None, ◌≡◌, ◌<◌, length, replicate};
 
     ghost Value = { ℕ };
 
-    ghost view = { λ p. length p.of.items };
+    ghost view = { λ p. p.count };
 
-    ghost invariant = { λ p. p.of.items ≡ replicate (length p.of.items) None };
+    ghost invariant = { λ p. (0 < length p.of.items → length p.of.items ≡ p.count)
+        × (p.of.items ≡ replicate (length p.of.items) None) };
 }
 
 impl Places {
@@ -34,7 +40,9 @@ impl Places {
         ensures { IfOk result (λ places. places ≡ count) }
     {
         Ok(Places {
-            of: vec![in alloc; None; count as usize]?,
+            count,
+            seen: 0,
+            of: Vec::new(alloc),
         })
     }
 
@@ -56,42 +64,72 @@ impl Places {
         ensures weights { IfOk result (λ ordered. HaveSameWeights (map (coded_place kept.now) (baskets_at ranks.now baskets.now)) ordered.baskets) }
         ensures places { self.new ≡ self.old }
     {
+        if self.of.is_empty() && table_pays(self.count, &mut self.seen, baskets) {
+            self.of = vec![in alloc; None; self.count as usize]?;
+        }
         put(&mut self.of, kept);
         let mut locals = Vec::new(alloc);
-        let coded = coded_spans(alloc, &mut locals, &self.of, ranks, baskets);
+        let coded = coded_spans(alloc, &mut locals, &self.of, kept, ranks, baskets);
         take_away(&mut self.of, kept);
         let entries = entries_at(alloc, &locals, &coded?)?;
         Ordered::of_entries(alloc, place(kept.len())?, entries)
     }
 }
 
-/// Puts the place of each rank of the list.
+/// Puts the place of each rank of the list that the table has a slot for.
 fn put(of: &mut [Option<u32>], kept: &[u32])
     requires none { of.old ≡ replicate (length of.old) None }
     requires rises { IsRising kept.now }
-    requires below { AllBelow (length of.old) kept.now }
     ensures { ArePlaces kept.now of.new }
 {
     for (at, rank) in kept.iter().enumerate() {
-        of[*rank as usize] = Some(at as u32);
+        if (*rank as usize) < of.len() {
+            of[*rank as usize] = Some(at as u32);
+        }
     }
 }
 
 /// Takes the places away.
 fn take_away(of: &mut [Option<u32>], kept: &[u32])
-    requires places { ArePlaces kept.now of.old }
-    requires below { AllBelow (length of.old) kept.now }
+    requires { ArePlaces kept.now of.old }
     ensures { of.new ≡ replicate (length of.old) None }
 {
     for rank in kept {
-        of[*rank as usize] = None;
+        if (*rank as usize) < of.len() {
+            of[*rank as usize] = None;
+        }
     }
 }
 
-/// Adds the places of the ranks of a basket that have one.
-fn add_places(locals: &mut Vec<u32>, of: &[Option<u32>], basket: &[u32]) -> Result<(), AllocError>
+/// The place of a rank in the list.
+fn place_of(kept: &[u32], rank: u32) -> Option<u32>
+    requires { IsRising kept.now }
+    ensures { result ≡ rank_of kept.now rank }
+{
+    match kept.binary_search(&rank) {
+        Ok(at) => Some(at as u32),
+        Err(_) => None,
+    }
+}
+
+/// Adds the places of the ranks of a basket that have one, each by a search.
+fn add_by_search(locals: &mut Vec<u32>, kept: &[u32], basket: &[u32]) -> Result<(), AllocError>
+    requires { IsRising kept.now }
+    ensures { OnOk result (locals.new.items ≡ locals.old.items ++ places_in kept.now basket.now) }
+{
+    for rank in basket {
+        match place_of(kept, *rank) {
+            Some(at) => locals.push(at)?,
+            None => {}
+        }
+    }
+    Ok(())
+}
+
+/// Adds what the table has for the ranks of a basket.
+fn add_by_table(locals: &mut Vec<u32>, of: &[Option<u32>], basket: &[u32]) -> Result<(), AllocError>
     requires { AllBelow (length of.now) basket.now }
-    ensures { OnOk result (locals.new.items ≡ locals.old.items ++ places_in of.now basket.now) }
+    ensures { OnOk result (locals.new.items ≡ locals.old.items ++ slots_in of.now basket.now) }
 {
     for rank in basket {
         match of[*rank as usize] {
@@ -102,24 +140,46 @@ fn add_places(locals: &mut Vec<u32>, of: &[Option<u32>], basket: &[u32]) -> Resu
     Ok(())
 }
 
-/// The baskets as places, one after another, and where each stands.
-fn coded_spans(
+/// Adds the places of the ranks of a basket that have one.
+fn add_places(
+    locals: &mut Vec<u32>,
+    of: &[Option<u32>],
+    kept: &[u32],
+    basket: &[u32],
+) -> Result<(), AllocError>
+    requires places { ArePlaces kept.now of.now }
+    requires rises { IsRising kept.now }
+    requires below { 0 < length of.now → AllBelow (length of.now) basket.now }
+    ensures { OnOk result (locals.new.items ≡ locals.old.items ++ places_in kept.now basket.now) }
+{
+    if of.is_empty() {
+        add_by_search(locals, kept, basket)
+    } else {
+        add_by_table(locals, of, basket)
+    }
+}
+
+/// The baskets as places in the list, one after another, and where each stands.
+pub fn coded_spans(
     alloc: Global,
     locals: &mut Vec<u32>,
     of: &[Option<u32>],
+    kept: &[u32],
     ranks: &[u32],
     baskets: &[Span],
 ) -> Result<Vec<Span>, AllocError>
     requires none { locals.old.items ≡ [] }
+    requires places { ArePlaces kept.now of.now }
+    requires rises { IsRising kept.now }
     requires within { All (IsWithin (length ranks.now)) baskets.now }
-    requires ranked { AreRankBaskets (record { ranks = length of.now; baskets = baskets_at ranks.now baskets.now }) }
+    requires ranked { 0 < length of.now → AreRankBaskets (record { ranks = length of.now; baskets = baskets_at ranks.now baskets.now }) }
     ensures within { IfOk result (λ spans. All (IsWithin (length locals.new.items)) spans.items) }
-    ensures placed { IfOk result (λ spans. baskets_at locals.new.items spans.items ≡ map (placed of.now) (baskets_at ranks.now baskets.now)) }
+    ensures placed { IfOk result (λ spans. baskets_at locals.new.items spans.items ≡ map (placed kept.now) (baskets_at ranks.now baskets.now)) }
 {
     let mut spans = Vec::with_capacity(alloc, baskets.len())?;
     for basket in baskets {
         let start = place(locals.len())?;
-        add_places(locals, of, basket.of(ranks))?;
+        add_places(locals, of, kept, basket.of(ranks))?;
         let end = place(locals.len())?;
         spans.push(basket.moved(start, end))?;
     }

@@ -7,5 +7,5 @@ use Rattle.mine_classes.proofs.places.coded_spans.Given as goal
 abbrev pub invariant-loop-basket : goal.invariant-loop-basket
 invariant-loop-basket l = record {
   within : All (IsWithin (length l.locals.items)) l.spans.items;
-  placed : baskets_at l.locals.items l.spans.items ≡ map (placed l.of) (take l.basket-index (baskets_at l.ranks l.baskets));
+  placed : baskets_at l.locals.items l.spans.items ≡ map (placed l.kept) (take l.basket-index (baskets_at l.ranks l.baskets));
 }

@@ -11,5 +11,5 @@ returns c =
     let whole = take_all c.loop-rank.rank-index kept c.loop-rank-test.false in
     all_none (length c.args.of.now) c.loop-rank.of c.loop-rank.auto.of (λ rank. elim (cases_Bool (has kept rank)) [
       | inl e ↦ c.loop-rank.invariant.done rank (ap (λ l. has l rank) whole ∙ e)
-      | inr e ↦ c.loop-rank.invariant.none rank (c.requires.places.none rank e)
+      | inr e ↦ c.loop-rank.invariant.none rank (c.requires.none rank e)
     ])

@@ -1,0 +1,28 @@
+use Rattle.std.proofs.Common.{◌≡◌, ℕ, List, filter, get_or, length, map, sym, subst, ap, ◌∙◌}
+use Rattle.std.specs.Prelude.{IfOk}
+use Rattle.std.proofs.lemmas.Result.{IfOk-weaker}
+use Rattle.basket_sets.specs.Itemset.{rising}
+use Rattle.mine_classes.specs.Pairs.{is_met, ranks_met}
+use Rattle.mine_classes.specs.Span.{baskets_at}
+use Rattle.mine_classes.proofs.SumLemmas.{met_is}
+use Rattle.mine_classes.proofs.pairs.met_by_table.Goals as goal
+use Rattle.mine_classes.proofs.pairs.met_by_table.Goals.{in-Ok, in-Err}
+
+-- the ranks of the list that are met, with their sums
+abbrev listed : ℕ → List ℕ → List ℕ → List (ℕ × ℕ)
+listed least sums found = map (λ rank. (rank, get_or sums rank 0)) (rising (filter (λ rank. is_met least (get_or sums rank 0)) found))
+
+pub returns-clause-met : goal.returns-clause-met
+returns-clause-met c =
+    let count = length c.args.sums.now in
+    let least = c.args.least in
+    let baskets = baskets_at c.args.ranks.now c.args.baskets.now in
+    elim c.match-summed.branch [
+      | in-Ok w ↦
+          (let sums = c.add_up-summed.new.sums in
+          let found = c.add_up-summed.new.found.items in
+          subst (λ r. IfOk r (λ met. met.items ≡ ranks_met count least baskets)) (sym w.met-is)
+          (IfOk-weaker w.met-met.result (λ met. met.items ≡ listed least sums w.deref.result.now) (λ met. met.items ≡ ranks_met count least baskets)
+          (λ met is. is ∙ ap (listed least sums) w.deref.ensures.value ∙ met_is count least sums found baskets w.in-Ok.ensures.sums w.in-Ok.ensures.added) w.met-met.ensures))
+      | in-Err w ↦ subst (λ r. IfOk r (λ met. met.items ≡ ranks_met count least baskets)) (sym w.met-is) tt
+    ]
