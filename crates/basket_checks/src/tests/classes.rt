@@ -73,6 +73,22 @@ fn conditional_databases_of_the_nine_baskets(rt: HostRuntime) -> Result<(), Fail
     Ok(())
 }
 
+/// Forty pairs of ranks, so that a class holds little beside all ranks and makes no table for them.
+#[test]
+fn short_paths_among_many_ranks(rt: HostRuntime) -> Result<(), Fail> {
+    let alloc = rt.alloc();
+    let numbers: Vec<u32> = (0..80).collect(alloc)?;
+    let mut rows = Vec::new(alloc);
+    for pair in numbers.chunks(2) {
+        rows.push((pair, 2))?;
+    }
+    let coded = Coded::of(alloc, &database(alloc, &rows)?, Minimum::Count(2))?;
+    let found = conditional(alloc, Ordered::of_coded(alloc, &coded)?, 79, 2)?;
+    assert_eq!(rt; found.ranks(), [78].as_slice());
+    assert_eq!(rt; baskets(alloc, found.into_baskets())?.as_str(), "0 (2) ");
+    Ok(())
+}
+
 #[test]
 fn weights_near_the_bound(rt: HostRuntime) -> Result<(), Fail> {
     let alloc = rt.alloc();
