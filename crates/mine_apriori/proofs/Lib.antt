@@ -17,6 +17,7 @@ mod SupportLemmas
 mod RegularLemmas
 mod LevelsLemmas
 mod MarkLemmas
+mod PlaceLemmas
 mod TriangleLemmas
 mod PairLemmas
 mod WorkLemmas

@@ -6,7 +6,7 @@ use Rattle.std.specs.List.{All, filter, range_with_len}
 use Rattle.std.proofs.lemmas.Bool.{cases_eq, cases_lt, eq-eqb, ne_eqb, lt-ltb, le-leb, leb-true}
 use Rattle.std.specs.declared.vec.Vec.{Vec}
 use Rattle.std.specs.declared.alloc.Global.{Global}
-use Rattle.std.proofs.lemmas.List.{map-append, map-id, map-set, length-map, get_or-map, get_or-set_same, get_or-set_other, take_more}
+use Rattle.std.proofs.lemmas.List.{map-append, map-set, length-map, get_or-map, get_or-set_same, get_or-set_other, take_more}
 use Rattle.std.proofs.lemmas.List.Elements.{All-from_recursion, filter-append}
 use Rattle.std.proofs.lemmas.List.Kept.{IsStrictlySortedBy-filter}
 use Rattle.std.proofs.lemmas.List.FromFn.{map-range_with_len_more, length-range_with_len, length-map-range_with_len, get_or-map-range_with_len}
@@ -31,6 +31,7 @@ use Rattle.mine_classes.specs.Pairs.{pairs_of}
 use Rattle.mine_apriori.specs.Pairs.{pairs_by_greater, partners, pairs_with, pairs_by_lesser, pairs_at, lesser_from, all_lesser, lists_of, AreBelow}
 use Rattle.mine_apriori.specs.Levels.{level_of}
 use Rattle.mine_apriori.proofs.LevelsLemmas.{from_level, into_level, level_in_order}
+use Rattle.mine_apriori.proofs.PlaceLemmas.{range_more}
 use Rattle.mine_apriori.proofs.TriangleLemmas.{below_at}
 
 -- ---- ranges
@@ -39,11 +40,6 @@ pub Member-range : (x first count : ℕ) → Member x (range_with_len first coun
 Member-range x first zero m = absurd m
 Member-range x first (suc count) (inl e) = (omega (arith, e), omega (arith, e))
 Member-range x first (suc count) (inr m) = let r = Member-range x (first + 1) count m in (omega (arith, r.0), omega (arith, r.1))
-
-pub range_more : (first count : ℕ) → range_with_len first (count + 1) ≡ range_with_len first count ++ (first + count) ∷ []
-range_more first count =
-    sym (map-id (range_with_len first (count + 1))) ∙ map-range_with_len_more (λ x. x) first count (first + count) refl
-    ∙ ap (λ l. l ++ (first + count) ∷ []) (map-id (range_with_len first count))
 
 filter_none : (p : ℕ → Bool) (xs : List ℕ) → ((x : ℕ) → Member x xs → p x ≡ false) → filter p xs ≡ []
 filter_none p [] none = refl
@@ -179,7 +175,7 @@ module _ (coding : Coding) (least : ℕ) (settles : IsLeastSupport coding.minimu
         (let long : count + 1 - (lesser + 1) ≡ count - (lesser + 1) + 1 = omega arith in
         let last : lesser + 1 + (count - (lesser + 1)) ≡ count = omega arith in
         ap (λ n. map (with lesser) (filter (frequent lesser) (range_with_len (lesser + 1) n))) long
-        ∙ ap (λ l. map (with lesser) (filter (frequent lesser) l)) (range_more (lesser + 1) (count - (lesser + 1)) ∙ ap (λ n. range_with_len (lesser + 1) (count - (lesser + 1)) ++ n ∷ []) last)
+        ∙ ap (λ l. map (with lesser) (filter (frequent lesser) l)) (range_more (lesser + 1) (count - (lesser + 1)) count last)
         ∙ ap (map (with lesser)) (filter-append (frequent lesser) (range_with_len (lesser + 1) (count - (lesser + 1))) (count ∷ []))
         ∙ map-append (with lesser) (filter (frequent lesser) (range_with_len (lesser + 1) (count - (lesser + 1)))) (cond (frequent lesser count) (count ∷ []) [])
         ∙ ap (λ l. pairs_with coding count lesser ++ l) (sym (added_below lesser count less)))

@@ -1,24 +1,25 @@
 -- Counts of pairs, one basket after another.
-use Rattle.std.proofs.Common.{◌≡◌, ℕ, ◌+◌, ◌<◌, ◌≤◌, Bool, true, false, ◌&&◌, ◌||◌, List, [], ◌∷◌, ◌++◌, append-nil, length, take, get_or, map, set, cond, eqb, leb, refl, sym, ap, ◌∙◌, subst, inl, inr, arith, zero, suc, add-zero}
-use Rattle.std.proofs.lemmas.Bool.{cases_Bool, cases_eq, eq-eqb, ne_eqb, le-leb, lt-leb, leb-true, lt-ltb}
-use Rattle.std.specs.Prelude.{replicate}
+use Rattle.std.proofs.Common.{◌≡◌, ◌≢◌, ℕ, ◌+◌, ◌-◌, ◌<◌, ◌≤◌, Bool, true, false, ◌&&◌, ◌||◌, List, [], ◌∷◌, ◌++◌, append-nil, length, take, drop, get_or, map, set, cond, eqb, leb, refl, sym, ap, ◌∙◌, subst, inl, inr, arith, zero, suc, add-zero, zero-add}
+use borrow.Rule.Slice.PartMut.{put_mid}
+use Rattle.std.proofs.lemmas.Bool.{cases_Bool, cases_eq, cases_lt, eq-eqb, ne_eqb, le-leb, lt-leb, leb-true, lt-ltb}
+use Rattle.std.specs.Prelude.{IsTrue, replicate}
 use Rattle.std.specs.List.{filter, range_with_len}
-use Rattle.std.proofs.lemmas.List.{get_or-set_same, get_or-set_other, length-set, length-replicate, get_or-replicate, map-append, map-id}
+use Rattle.std.proofs.lemmas.List.{ext_get_or, get_or-drop, get_or-map, get_or-replicate, get_or-set_same, get_or-set_other, get_or-take, get_or_default, length-drop, length-map, length-replicate, length-take-le, map-append}
 use Rattle.std.proofs.lemmas.List.Elements.{filter-append}
-use Rattle.std.proofs.lemmas.List.FromFn.{map-range_with_len_more, length-map-range_with_len, get_or-map-range_with_len}
 use Rattle.std.proofs.lemmas.List.Sums.{sum_by_more, sum_by_more_le}
-use Rattle.basket_core.specs.Codes.{Coding, IsCoding}
+use Rattle.std.proofs.lemmas.Slice.{between-put_mid, drop-put_mid, take-put_mid_below}
 use Rattle.basket_sets.specs.declared.weighted.Weighted.{Weighted}
 use Rattle.basket_sets.specs.Counts.{AllBelow}
 use Rattle.basket_sets.specs.Database.{MOST_WEIGHT}
 use Rattle.basket_sets.specs.Itemset.{IsRising, has}
-use Rattle.basket_sets.specs.Support.{support_of, weight_at}
+use Rattle.basket_sets.specs.Support.{support_of, total_of, weight_at}
 use Rattle.basket_sets.proofs.theory.Members.{Member, Member-filter}
 use Rattle.basket_sets.proofs.theory.Rising.{Member-from_has, first_below, rest_rises, has_more, has_place, not_before}
 use Rattle.basket_sets.proofs.theory.Support.{support_falls}
 use Rattle.mine_classes.specs.Conditional.{is_kept}
 use Rattle.mine_classes.specs.Pairs.{WithBasket, is_met, pairs_of}
-use Rattle.mine_apriori.specs.Triangle.{count_at, IsTriangle, AreSupports, WithPairs}
+use Rattle.mine_apriori.specs.Triangle.{AreSupports, HaveRows, WithPairs, WithSupports, all_pairs, place_of}
+use Rattle.mine_apriori.proofs.PlaceLemmas.{find_pair, pair_at, pair_of, range_more, row_before}
 
 pub below_at : (count : ℕ) (ranks : List ℕ) (k : ℕ) → AllBelow count ranks → k < length ranks → get_or ranks k 0 < count
 below_at count ranks k below here = below (get_or ranks k 0) (has_place ranks k here)
@@ -80,49 +81,85 @@ before_below (first ∷ ranks) (suc place) rank up here (inr m) = before_below r
 pub before_all_below : (ranks : List ℕ) (place : ℕ) → IsRising ranks → place < length ranks → AllBelow (get_or ranks place 0) (take place ranks)
 before_all_below ranks place up here rank h = before_below ranks place rank up here (Member-from_has (take place ranks) rank h)
 
+-- ---- a part of the counts written
+
+module _ (start k : ℕ) (now row : List ℕ) (within : start + k ≤ length now) (long : length row ≡ k) where
+  at_below : (n : ℕ) → n < start → get_or (put_mid start k now row) n 0 ≡ get_or now n 0
+  at_below n less =
+      sym (get_or-take start (put_mid start k now row) n 0 less) ∙ ap (λ l. get_or l n 0) (take-put_mid_below start k now row start (omega arith) (omega arith)) ∙ get_or-take start now n 0 less
+
+  at_above : (n : ℕ) → start + k ≤ n → get_or (put_mid start k now row) n 0 ≡ get_or now n 0
+  at_above n le =
+      let behind : start + k + (n - (start + k)) ≡ n = omega arith in
+      ap (λ m. get_or (put_mid start k now row) m 0) (sym behind)
+      ∙ sym (get_or-drop (start + k) (put_mid start k now row) (n - (start + k)) 0)
+      ∙ ap (λ l. get_or l (n - (start + k)) 0) (drop-put_mid start k now row (start + k) (omega arith) (omega arith) long)
+      ∙ get_or-drop (start + k) now (n - (start + k)) 0 ∙ ap (λ m. get_or now m 0) behind
+
+  at_row : (n : ℕ) → n < k → get_or (put_mid start k now row) (start + n) 0 ≡ get_or row n 0
+  at_row n less =
+      sym (get_or-drop start (put_mid start k now row) n 0) ∙ sym (get_or-take k (drop start (put_mid start k now row)) n 0 less)
+      ∙ ap (λ l. get_or l n 0) (ap (λ m. take m (drop start (put_mid start k now row))) (let e : k ≡ start + k - start = omega arith in e) ∙ between-put_mid start k now row (start + k) (omega arith) (omega arith))
+
+pub row_at : (start k : ℕ) (counts : List ℕ) (n : ℕ) → n < k → get_or (take k (drop start counts)) n 0 ≡ get_or counts (start + n) 0
+row_at start k counts n less = get_or-take k (drop start counts) n 0 less ∙ get_or-drop start counts n 0
+
+pub row_long : (start k : ℕ) (counts : List ℕ) → start + k ≤ length counts → length (take k (drop start counts)) ≡ k
+row_long start k counts within = length-take-le k (drop start counts) (omega (arith, length-drop start counts))
+
 -- the counts once those of the first ranks of a basket have its weight
-pub record WithFirst (count : ℕ) (ranks : List ℕ) (weight : ℕ) (old : List (List ℕ)) (place : ℕ) (now : List (List ℕ)) : Type 0 where
-  pub triangle : IsTriangle count now
-  pub counted : (greater lesser : ℕ) → greater < count → lesser < greater → count_at now greater lesser ≡ count_at old greater lesser + cond (has (take place ranks) greater && has ranks lesser) weight 0
+abbrev pub WithFirst : List ℕ → ℕ → List ℕ → ℕ → List ℕ → Type 0
+WithFirst ranks weight old place now = (greater lesser : ℕ) → lesser < greater → place_of greater lesser < length old
+    → get_or now (place_of greater lesser) 0 ≡ get_or old (place_of greater lesser) 0 + cond (has (take place ranks) greater && has ranks lesser) weight 0
 
-module _ (count : ℕ) (ranks : List ℕ) (weight : ℕ) (old : List (List ℕ)) (up : IsRising ranks) where
-  pub first_begins : IsTriangle count old → WithFirst count ranks weight old 0 old
-  first_begins is = record { triangle = is; counted = λ greater lesser here less. sym (add-zero (count_at old greater lesser)) }
+module _ (ranks : List ℕ) (weight : ℕ) (old : List ℕ) (up : IsRising ranks) where
+  pub first_begins : WithFirst ranks weight old 0 old
+  first_begins greater lesser less within = sym (add-zero (get_or old (place_of greater lesser) 0))
 
-  module _ (place : ℕ) (now : List (List ℕ)) (first : WithFirst count ranks weight old place now) (here : place < length ranks) (within : get_or ranks place 0 < count) where
+  module _ (place : ℕ) (now : List ℕ) (same : length now ≡ length old) (first : WithFirst ranks weight old place now) (here : place < length ranks)
+      (within : place_of (get_or ranks place 0) (get_or ranks place 0) ≤ length old) where
     abbrev rank : ℕ
     rank = get_or ranks place 0
 
     -- the counts of the rank at the place are as they were
-    pub untouched : (lesser : ℕ) → lesser < rank → count_at now rank lesser ≡ count_at old rank lesser
-    untouched lesser less = first.counted rank lesser within less
-        ∙ ap (λ b. count_at old rank lesser + cond (b && has ranks lesser) weight 0) (not_before ranks place up here) ∙ add-zero (count_at old rank lesser)
+    pub untouched : (lesser : ℕ) → lesser < rank → get_or now (place_of rank lesser) 0 ≡ get_or old (place_of rank lesser) 0
+    untouched lesser less = first rank lesser less (omega arith)
+        ∙ ap (λ b. get_or old (place_of rank lesser) 0 + cond (b && has ranks lesser) weight 0) (not_before ranks place up here) ∙ add-zero (get_or old (place_of rank lesser) 0)
 
-    pub first_more : (row : List ℕ) → length row ≡ rank → WithBasket (take place ranks) weight (get_or now rank []) row → WithFirst count ranks weight old (place + 1) (set now rank row)
-    first_more row long added = record {
-      triangle = record {
-        long = length-set now rank row ∙ first.triangle.long;
-        wide = λ greater below. elim (cases_eq greater rank) [
-          | inl e ↦ ap (λ r. length (get_or (set now rank row) r [])) e ∙ ap length (get_or-set_same now rank row [] (omega (arith, first.triangle.long))) ∙ long ∙ sym e
-          | inr differ ↦ ap length (get_or-set_other now rank greater row [] differ) ∙ first.triangle.wide greater below
-        ];
-      };
-      counted = λ greater lesser below less. elim (cases_eq greater rank) [
-        | inl e ↦ subst (λ r. lesser < r → count_at (set now rank row) r lesser ≡ count_at old r lesser + cond (has (take (place + 1) ranks) r && has ranks lesser) weight 0) (sym e) (at lesser) less
-        | inr differ ↦ ap (λ l. get_or l lesser 0) (get_or-set_other now rank greater row [] differ) ∙ first.counted greater lesser below less
-            ∙ ap (λ b. count_at old greater lesser + cond (b && has ranks lesser) weight 0)
-            (sym (has_more ranks place greater here ∙ ap (λ b. has (take place ranks) greater || b) (ne_eqb rank greater (λ e. differ (sym e))) ∙ or_false (has (take place ranks) greater)))
-      ];
-    }
+    -- the other ranks have the weight once it is added at this one as they had it before
+    other_rank : (greater lesser : ℕ) → greater ≢ rank
+        → get_or old (place_of greater lesser) 0 + cond (has (take place ranks) greater && has ranks lesser) weight 0 ≡ get_or old (place_of greater lesser) 0 + cond (has (take (place + 1) ranks) greater && has ranks lesser) weight 0
+    other_rank greater lesser differ = ap (λ b. get_or old (place_of greater lesser) 0 + cond (b && has ranks lesser) weight 0)
+        (sym (has_more ranks place greater here ∙ ap (λ b. has (take place ranks) greater || b) (ne_eqb rank greater (λ e. differ (sym e))) ∙ or_false (has (take place ranks) greater)))
+
+    pub first_more : (start k : ℕ) (row : List ℕ) → start ≡ length (all_pairs rank) → k ≡ rank → length row ≡ k → WithBasket (take place ranks) weight (take k (drop start now)) row
+        → WithFirst ranks weight old (place + 1) (put_mid start k now row)
+    first_more start k row begins wide long added greater lesser less inside = elim (cases_lt greater rank) [
+      | inl before ↦
+          (let first_row = row_before greater rank before in
+          at_below start k now row fits long (place_of greater lesser) (omega arith) ∙ first greater lesser less inside
+          ∙ other_rank greater lesser (λ e. omega (arith, e, before)))
+      | inr from ↦ elim (cases_lt rank greater) [
+        | inl behind ↦
+            (let last_row = row_before rank greater behind in
+            at_above start k now row fits long (place_of greater lesser) (omega arith) ∙ first greater lesser less inside
+            ∙ other_rank greater lesser (λ e. omega (arith, e, behind)))
+        | inr to ↦
+            (let e : greater ≡ rank = omega arith in
+            subst (λ r. lesser < r → get_or (put_mid start k now row) (place_of r lesser) 0 ≡ get_or old (place_of r lesser) 0 + cond (has (take (place + 1) ranks) r && has ranks lesser) weight 0) (sym e) (at lesser) less)
+      ]
+    ]
       where
-        at : (lesser : ℕ) → lesser < rank → count_at (set now rank row) rank lesser ≡ count_at old rank lesser + cond (has (take (place + 1) ranks) rank && has ranks lesser) weight 0
+        fits : start + k ≤ length now
+        fits = omega arith
+
+        at : (lesser : ℕ) → lesser < rank → get_or (put_mid start k now row) (place_of rank lesser) 0 ≡ get_or old (place_of rank lesser) 0 + cond (has (take (place + 1) ranks) rank && has ranks lesser) weight 0
         at lesser less =
-            let wide = first.triangle.wide rank within in
-            ap (λ l. get_or l lesser 0) (get_or-set_same now rank row [] (omega (arith, first.triangle.long)))
-            ∙ added lesser (omega arith)
-            ∙ ap (λ n. n + cond (has (take place ranks) lesser) weight 0) (untouched lesser less)
-            ∙ ap (λ b. count_at old rank lesser + cond b weight 0) (front_has ranks place lesser up here less)
-            ∙ ap (λ b. count_at old rank lesser + cond (b && has ranks lesser) weight 0)
+            ap (λ n. get_or (put_mid start k now row) (n + lesser) 0) (sym begins) ∙ at_row start k now row fits long lesser (omega arith)
+            ∙ added lesser (omega (arith, row_long start k now fits))
+            ∙ ap (λ n. n + cond (has (take place ranks) lesser) weight 0) (row_at start k now lesser (omega arith) ∙ ap (λ n. get_or now (n + lesser) 0) begins ∙ untouched lesser less)
+            ∙ ap (λ b. get_or old (place_of rank lesser) 0 + cond b weight 0) (front_has ranks place lesser up here less)
+            ∙ ap (λ b. get_or old (place_of rank lesser) 0 + cond (b && has ranks lesser) weight 0)
             (sym (has_more ranks place rank here ∙ ap (λ b. has (take place ranks) rank || b) (eq-eqb rank rank refl) ∙ or_true (has (take place ranks) rank)))
 
 -- ---- the counts of all baskets
@@ -133,38 +170,55 @@ both true false = refl
 both false true = refl
 both false false = refl
 
-pub supports_more : (baskets : List Weighted) (i count : ℕ) (d : Weighted) (old new : List (List ℕ)) → i < length baskets → AreSupports (take i baskets) count old
-    → IsTriangle count new → WithPairs count (get_or baskets i d).basket (get_or baskets i d).weight old new → AreSupports (take (i + 1) baskets) count new
-supports_more baskets i count d old new here are triangle with = record {
-  triangle = triangle;
-  counts = λ greater lesser below less.
+-- the counts with the supports of the pairs in some baskets added
+abbrev pub WithPairSupports : List Weighted → List ℕ → List ℕ → Type 0
+WithPairSupports baskets old new = (greater lesser : ℕ) → lesser < greater → place_of greater lesser < length old
+    → get_or new (place_of greater lesser) 0 ≡ get_or old (place_of greater lesser) 0 + support_of baskets (lesser ∷ greater ∷ [])
+
+pub supports_begin : (old : List ℕ) → WithPairSupports [] old old
+supports_begin old greater lesser less within = sym (add-zero (get_or old (place_of greater lesser) 0))
+
+module _ (baskets : List Weighted) (i : ℕ) (d : Weighted) (old now : List ℕ) (here : i < length baskets) (same : length now ≡ length old) (so_far : WithPairSupports (take i baskets) old now) where
+  pub supports_more : (new : List ℕ) → WithPairs (get_or baskets i d).basket (get_or baskets i d).weight now new → WithPairSupports (take (i + 1) baskets) old new
+  supports_more new with greater lesser less within =
       let place = get_or baskets i d in
-      with greater lesser below less
-      ∙ ap (λ n. n + cond (has place.basket greater && has place.basket lesser) place.weight 0) (are.counts greater lesser below less)
-      ∙ ap (λ b. support_of (take i baskets) (lesser ∷ greater ∷ []) + cond b place.weight 0) (both (has place.basket greater) (has place.basket lesser))
-      ∙ sym (sum_by_more (weight_at (lesser ∷ greater ∷ [])) baskets i d here);
-}
+      let before = so_far greater lesser less within in
+      let more = sum_by_more (weight_at (lesser ∷ greater ∷ [])) baskets i d here in
+      let added = with greater lesser less (omega arith) ∙ ap (λ b. get_or now (place_of greater lesser) 0 + cond b place.weight 0) (both (has place.basket greater) (has place.basket lesser)) in
+      omega (arith, before, more, added)
 
-pub supports_light : (coding : Coding) → IsCoding coding → (i count : ℕ) (d : Weighted) (rows : List (List ℕ)) → i < length coding.baskets → AreSupports (take i coding.baskets) count rows
-    → (greater lesser : ℕ) → greater < count → lesser < greater → count_at rows greater lesser + (get_or coding.baskets i d).weight ≤ MOST_WEIGHT
-supports_light coding is i count d rows here are greater lesser below less =
-    let fall = support_falls (take i coding.baskets) (lesser ∷ greater ∷ []) [] refl in
-    let all = sum_by_more_le (weight_at []) coding.baskets i d here in
-    omega (arith, are.counts greater lesser below less, fall, all, is.light)
+  pub supports_light : (count : ℕ) → length old ≡ length (all_pairs count) → ((k : ℕ) → k < length old → get_or old k 0 + total_of baskets ≤ MOST_WEIGHT)
+      → (k : ℕ) → k < length now → get_or now k 0 + (get_or baskets i d).weight ≤ MOST_WEIGHT
+  supports_light count long light k within =
+      let found = find_pair count k (omega arith) in
+      let place = found.place in
+      let before = so_far found.greater found.lesser found.less (omega arith) in
+      let fall = support_falls (take i baskets) (found.lesser ∷ found.greater ∷ []) [] refl in
+      let all = sum_by_more_le (weight_at []) baskets i d here in
+      let most = light k (omega arith) in
+      omega (arith, ap (λ p. get_or now p 0) place, ap (λ p. get_or old p 0) place, before, fall, all, most)
 
--- ---- before the first basket
+pub have_rows : (count : ℕ) (counts basket : List ℕ) → length counts ≡ length (all_pairs count) → AllBelow count basket → HaveRows counts basket
+have_rows count counts basket long below k d here =
+    let row = row_before (get_or basket k d) count (below (get_or basket k d) (subst (λ x. IsTrue (has basket x)) (get_or_default basket k 0 d here) (has_place basket k here))) in omega arith
 
-pub no_supports : (count : ℕ) (rows : List (List ℕ)) → rows ≡ map (λ rank. replicate rank 0) (range_with_len 0 count) → AreSupports [] count rows
-no_supports count rows same = record {
-  triangle = record {
-    long = ap length same ∙ length-map-range_with_len (λ rank. replicate rank 0) 0 count;
-    wide = λ rank below. ap length (at rank below) ∙ length-replicate rank 0;
-  };
-  counts = λ greater lesser below less. ap (λ l. get_or l lesser 0) (at greater below) ∙ get_or-replicate greater lesser 0 0 less;
-}
-  where
-    at : (rank : ℕ) → rank < count → get_or rows rank [] ≡ replicate rank 0
-    at rank below = ap (λ l. get_or l rank []) same ∙ get_or-map-range_with_len (λ r. replicate r 0) 0 count rank rank [] below (omega arith)
+pub supports_by_place : (baskets : List Weighted) (old new : List ℕ) → WithPairSupports baskets old new → WithSupports baskets old new
+supports_by_place baskets old new with count k here within =
+    let found = find_pair count k here in
+    let place = found.place in
+    ap (λ p. get_or new p 0) place ∙ with found.greater found.lesser found.less (omega arith)
+    ∙ ap (λ p. get_or old p 0 + support_of baskets (found.lesser ∷ found.greater ∷ [])) (sym place)
+    ∙ ap (λ set. get_or old k 0 + support_of baskets set) (sym (pair_of count k found))
+
+-- counts from 0 on are the supports
+pub counts_are_supports : (baskets : List Weighted) (count : ℕ) (old new : List ℕ) → old ≡ replicate (length (all_pairs count)) 0 → length new ≡ length old → WithSupports baskets old new → AreSupports baskets count new
+counts_are_supports baskets count old new none same with =
+    let long = ap length none ∙ length-replicate (length (all_pairs count)) 0 in
+    ext_get_or 0 new (map (support_of baskets) (all_pairs count)) (same ∙ long ∙ sym (length-map (all_pairs count) (support_of baskets)))
+    (λ k within. with count k (omega arith) (omega arith)
+    ∙ ap (λ n. n + support_of baskets (get_or (all_pairs count) k [])) (ap (λ l. get_or l k 0) none ∙ get_or-replicate (length (all_pairs count)) k 0 0 (omega arith))
+    ∙ zero-add (support_of baskets (get_or (all_pairs count) k []))
+    ∙ sym (get_or-map (support_of baskets) (all_pairs count) k [] 0 (omega arith)))
 
 -- ---- the pairs of a rank
 
@@ -198,7 +252,7 @@ module _ (least : ℕ) (row : List ℕ) (rank : ℕ) (some : 1 ≤ least) where
   with other = (other, get_or row other 0)
 
   met_more : map with (filter passes (range_with_len 0 (rank + 1))) ≡ map with (filter passes (range_with_len 0 rank)) ++ map with (cond (passes rank) (rank ∷ []) [])
-  met_more = ap (λ l. map with (filter passes l)) (sym (map-id (range_with_len 0 (rank + 1))) ∙ map-range_with_len_more (λ x. x) 0 rank rank (omega arith) ∙ ap (λ l. l ++ rank ∷ []) (map-id (range_with_len 0 rank)))
+  met_more = ap (λ l. map with (filter passes l)) (range_more 0 rank rank (omega arith))
       ∙ ap (map with) (filter-append passes (range_with_len 0 rank) (rank ∷ []))
       ∙ map-append with (filter passes (range_with_len 0 rank)) (cond (passes rank) (rank ∷ []) [])
 
@@ -209,15 +263,23 @@ module _ (least : ℕ) (row : List ℕ) (rank : ℕ) (some : 1 ≤ least) where
   met_no low = sym (met_more ∙ ap (λ b. map with (filter passes (range_with_len 0 rank)) ++ map with (cond b (rank ∷ []) [])) (sym (least_met least (get_or row rank 0) some) ∙ lt-leb least (get_or row rank 0) low)
       ∙ append-nil (map with (filter passes (range_with_len 0 rank))))
 
-pub row_pairs : (baskets : List Weighted) (least count : ℕ) (rows : List (List ℕ)) (greater : ℕ) (row : List ℕ) → AreSupports baskets count rows → greater < count → row ≡ get_or rows greater []
-    → map (λ rank. (rank, get_or row rank 0)) (filter (λ rank. is_met least (get_or row rank 0)) (range_with_len 0 (length row))) ≡ pairs_of baskets least greater
-row_pairs baskets least count rows greater row are below is =
-    ap (λ n. map (λ rank. (rank, get_or row rank 0)) (filter (λ rank. is_met least (get_or row rank 0)) (range_with_len 0 n))) (ap length is ∙ are.triangle.wide greater below)
-    ∙ ap (map (λ rank. (rank, get_or row rank 0))) (filter_same (λ rank. is_met least (get_or row rank 0)) (is_kept baskets least greater) (range_with_len 0 greater)
-    (λ lesser m. let r = Member-range lesser 0 greater m in let less : lesser < greater = omega (arith, r) in
-    ap (is_met least) (support lesser less) ∙ ap (λ b. b && is_met least (support_of baskets (lesser ∷ greater ∷ []))) (sym (lt-ltb lesser greater less))))
-    ∙ map_same (λ rank. (rank, get_or row rank 0)) (λ other. (other, support_of baskets (other ∷ greater ∷ []))) (filter (is_kept baskets least greater) (range_with_len 0 greater))
-    (λ lesser m. ap (λ n. (lesser, n)) (support lesser (let r = Member-range lesser 0 greater (Member-filter (is_kept baskets least greater) lesser (range_with_len 0 greater) m).0 in omega arith)))
-  where
-    support : (lesser : ℕ) → lesser < greater → get_or row lesser 0 ≡ support_of baskets (lesser ∷ greater ∷ [])
-    support lesser less = ap (λ l. get_or l lesser 0) is ∙ are.counts greater lesser below less
+-- the supports of the pairs of a rank
+module _ (baskets : List Weighted) (count : ℕ) (supports : List ℕ) (greater : ℕ) (are : AreSupports baskets count supports) (below : greater < count) where
+  pub row_within : place_of greater greater ≤ length supports
+  row_within = let row = row_before greater count below in omega (arith, row, ap length are, length-map (all_pairs count) (support_of baskets))
+
+  pub row_pairs : (least : ℕ) (row : List ℕ) → row ≡ take greater (drop (length (all_pairs greater)) supports)
+      → map (λ rank. (rank, get_or row rank 0)) (filter (λ rank. is_met least (get_or row rank 0)) (range_with_len 0 (length row))) ≡ pairs_of baskets least greater
+  row_pairs least row is =
+      ap (λ n. map (λ rank. (rank, get_or row rank 0)) (filter (λ rank. is_met least (get_or row rank 0)) (range_with_len 0 n))) (ap length is ∙ row_long (length (all_pairs greater)) greater supports row_within)
+      ∙ ap (map (λ rank. (rank, get_or row rank 0))) (filter_same (λ rank. is_met least (get_or row rank 0)) (is_kept baskets least greater) (range_with_len 0 greater)
+      (λ lesser m. let r = Member-range lesser 0 greater m in let less : lesser < greater = omega (arith, r) in
+      ap (is_met least) (support lesser less) ∙ ap (λ b. b && is_met least (support_of baskets (lesser ∷ greater ∷ []))) (sym (lt-ltb lesser greater less))))
+      ∙ map_same (λ rank. (rank, get_or row rank 0)) (λ other. (other, support_of baskets (other ∷ greater ∷ []))) (filter (is_kept baskets least greater) (range_with_len 0 greater))
+      (λ lesser m. ap (λ n. (lesser, n)) (support lesser (let r = Member-range lesser 0 greater (Member-filter (is_kept baskets least greater) lesser (range_with_len 0 greater) m).0 in omega arith)))
+    where
+      support : (lesser : ℕ) → lesser < greater → get_or row lesser 0 ≡ support_of baskets (lesser ∷ greater ∷ [])
+      support lesser less =
+          let within = row_before greater count below in
+          ap (λ l. get_or l lesser 0) is ∙ row_at (length (all_pairs greater)) greater supports lesser less ∙ ap (λ l. get_or l (place_of greater lesser) 0) are
+          ∙ get_or-map (support_of baskets) (all_pairs count) (place_of greater lesser) [] 0 (omega arith) ∙ ap (support_of baskets) (pair_at count greater lesser below less)

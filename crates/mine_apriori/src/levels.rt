@@ -14,6 +14,7 @@ ghost use Rattle.mine_apriori.specs.Work.{candidate_count, candidates_of_size, c
 use crate::join::candidates;
 use crate::pairs::{by_lesser, frequent_pairs};
 use crate::shard::count_shard;
+use crate::triangle::pair_count;
 use basket_core::{Coded, Counted, Frequent, Itemset, MineFault, count_items};
 use std::alloc::{AllocError, Global};
 use std::marker::Model;
@@ -187,7 +188,15 @@ impl<'a> FirstLevel<'a> {
         } = self;
         let last = found.sets.len();
         add_second_level(alloc, coded, pairs, &mut found)?;
-        Levels::ask(alloc, coded, limit, 2, found, last, pairs_of(last as u64))
+        Levels::ask(
+            alloc,
+            coded,
+            limit,
+            2,
+            found,
+            last,
+            pair_count(last as u32) as u64,
+        )
     }
 }
 
@@ -331,14 +340,6 @@ impl<'a> Levels<'a> {
         classes.push(found.decoded(alloc, coded)?)?;
         Ok(Frequent::of_classes(alloc, coded, classes)?)
     }
-}
-
-/// How many pairs so many ranks make.
-fn pairs_of(ranks: u64) -> u64
-    requires { ranks < 2 ^ 32 }
-    ensures { result ≡ ranks * (ranks - 1) / 2 }
-{
-    ranks * ranks.saturating_sub(1) / 2
 }
 
 /// The list of the frequent sets, where it is no longer than the limit, and the number of candidates

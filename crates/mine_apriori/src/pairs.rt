@@ -1,9 +1,8 @@
 //! The frequent pairs of ranks, without a list of all pairs.
-ghost use Rattle.std.specs.Prelude.{◌≡◌, ◌<◌, ◌≤◌, ◌++◌, ◌^◌, ℕ, [], All, IfOk, OnOk, length, replicate, slice_index_or};
-ghost use Rattle.basket_core.specs.Codes.{IsCoding};
+ghost use Rattle.std.specs.Prelude.{◌≡◌, ◌<◌, ◌≤◌, ◌↔◌, ◌*◌, ◌/◌, ◌++◌, ◌^◌, ℕ, [], All, IfOk, IsTrue, OnOk, length, replicate, slice_index_or};
 ghost use Rattle.mine_apriori.specs.Pairs.{AreBelow, ArePairs, all_lesser, lists_of, pairs_at, pairs_by_greater};
 
-use crate::triangle::pairs_by_triangle;
+use crate::triangle::{Triangle, pairs_of_supports};
 use basket_core::Coded;
 use mine_classes::{Ordered, Runs, Sums};
 use std::alloc::{AllocError, Global};
@@ -14,20 +13,30 @@ use std::alloc::{AllocError, Global};
 pub fn frequent_pairs(alloc: Global, coded: &Coded) -> Result<Vec<Vec<(u32, u64)>>, AllocError>
     ensures { IfOk result (λ lists. ArePairs coded.now (lists_of lists.items)) }
 {
-    let baskets = coded.baskets();
-    let least = coded.minimum().least(coded.total());
-    if is_small_triangle(coded.ranks(), baskets.len()) {
-        return pairs_by_triangle(alloc, coded, least);
+    if is_small_triangle(coded.ranks(), coded.baskets().len()) {
+        return pairs_by_triangle(alloc, coded);
     }
+    let least = coded.minimum().least(coded.total());
     let runs = Runs::of(alloc, Ordered::of_coded(alloc, coded)?)?;
     pairs_by_runs(alloc, &runs, least)
 }
 
 /// Whether a count for each pair of ranks takes no more memory than the baskets, of which there are
 /// two lists: those of items, and those of ranks.
-fn is_small_triangle(ranks: u32, baskets: usize) -> bool {
+pub fn is_small_triangle(ranks: u32, baskets: usize) -> bool
+    ensures { IsTrue result ↔ (ranks * ranks / 2 ≤ 16 * baskets) }
+{
     let ranks = u64::from(ranks);
     ranks * ranks / 2 <= (baskets as u64).saturating_mul(16)
+}
+
+/// The same from a count for each pair of ranks.
+fn pairs_by_triangle(alloc: Global, coded: &Coded) -> Result<Vec<Vec<(u32, u64)>>, AllocError>
+    ensures { IfOk result (λ lists. ArePairs coded.now (lists_of lists.items)) }
+{
+    let mut triangle = Triangle::new(alloc, coded.ranks())?;
+    triangle.add(coded.baskets());
+    pairs_of_supports(alloc, coded, triangle.counts())
 }
 
 /// The same from the runs of the baskets, one rank after another.

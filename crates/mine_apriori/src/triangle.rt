@@ -1,32 +1,116 @@
 //! A count for each pair of ranks.
-ghost use Rattle.std.specs.Prelude.{◌≡◌, ◌<◌, ◌≤◌, ◌+◌, ◌^◌, ℕ, [], IfOk, filter, length, map, slice_index};
+ghost use Rattle.std.specs.Prelude.{◌≡◌, ◌<◌, ◌≤◌, ◌+◌, ◌-◌, ◌*◌, ◌/◌, ◌^◌, ℕ, All, IfOk, filter, length, map, replicate, slice_index};
 ghost use Rattle.std.specs.List.{range_with_len};
 ghost use Rattle.basket_core.specs.Codes.{IsCoding};
 ghost use Rattle.basket_sets.specs.Counts.{AllBelow};
 ghost use Rattle.basket_sets.specs.Database.{MOST_WEIGHT};
 ghost use Rattle.basket_sets.specs.Itemset.{IsRising};
+ghost use Rattle.basket_sets.specs.Support.{total_of};
 ghost use Rattle.mine_classes.specs.Pairs.{WithBasket, is_met};
-ghost use Rattle.mine_apriori.specs.Pairs.{lists_of, pairs_by_greater};
-ghost use Rattle.mine_apriori.specs.Triangle.{AreSupports, IsTriangle, WithPairs, count_at};
+ghost use Rattle.mine_apriori.specs.Pairs.{ArePairs, lists_of};
+ghost use Rattle.mine_apriori.specs.Triangle.{AreSupports, HaveCounts, HaveRows, WithPairs, WithSupports, all_pairs};
 
-use basket_core::Coded;
+use basket_core::{Coded, Weighted};
 use std::alloc::{AllocError, Global};
+use std::marker::Model;
+
+/// A count for each pair of ranks, first by the greater rank of a pair, then by the lesser.
+#[derive(Debug, Drop)]
+pub struct Triangle {
+    counts: Vec<u64>,
+}
+
+impl Model for Triangle {
+    ghost use Rattle.std.specs.Prelude.{ℕ, List};
+
+    ghost Value = { List ℕ };
+
+    ghost view = { λ triangle. triangle.counts.items };
+}
+
+impl Triangle {
+    /// The pairs of so many ranks, each counted 0 times.
+    pub fn new(alloc: Global, ranks: u32) -> Result<Self, AllocError>
+        ensures { IfOk result (λ triangle. triangle ≡ replicate (length (all_pairs ranks)) 0) }
+    {
+        Ok(Triangle {
+            counts: vec![in alloc; 0; pair_count(ranks)]?,
+        })
+    }
+
+    /// Counts the pairs of some more baskets.
+    pub fn add(&mut self, baskets: &[Weighted])
+        requires below { HaveCounts self.old baskets.now }
+        requires light { (k : ℕ) → k < length self.old → slice_index self.old k + total_of baskets.now ≤ MOST_WEIGHT }
+        ensures sized { length self.new ≡ length self.old }
+        ensures added { WithSupports baskets.now self.old self.new }
+    {
+        for place in baskets {
+            count_basket(&mut self.counts, place.basket.items(), place.weight);
+        }
+    }
+
+    pub fn counts(&self) -> &[u64]
+        ensures { result.now ≡ self.now }
+    {
+        &self.counts
+    }
+}
+
+/// Adds a weight at each pair of ranks of a basket.
+fn count_basket(counts: &mut [u64], ranks: &[u32], weight: u64)
+    requires rises { IsRising ranks.now }
+    requires rows { HaveRows counts.old ranks.now }
+    requires light { (k : ℕ) → k < length counts.old → slice_index counts.old k + weight ≤ MOST_WEIGHT }
+    ensures { WithPairs ranks.now weight counts.old counts.new }
+{
+    for (place, rank) in ranks.iter().enumerate() {
+        let start = pair_count(*rank);
+        let end = start + *rank as usize;
+        count_below(&mut counts[start..end], &ranks[..place], weight);
+    }
+}
+
+/// Adds a weight at each of the ranks.
+fn count_below(row: &mut [u64], ranks: &[u32], weight: u64)
+    requires rises { IsRising ranks.now }
+    requires below { AllBelow (length row.old) ranks.now }
+    requires light { (rank : ℕ) → rank < length row.old → slice_index row.old rank + weight ≤ MOST_WEIGHT }
+    ensures { WithBasket ranks.now weight row.old row.new }
+{
+    for rank in ranks {
+        row[*rank as usize] += weight;
+    }
+}
+
+/// How many pairs so many ranks make.
+pub fn pair_count(ranks: u32) -> usize
+    ensures number { result ≡ ranks * (ranks - 1) / 2 }
+    ensures pairs { result ≡ length (all_pairs ranks) }
+{
+    let ranks = ranks as usize;
+    ranks * ranks.saturating_sub(1) / 2
+}
 
 /// For each rank the ranks below it that are frequent together with it, rising, each with the
-/// support of the pair, from a count for each pair.
-pub fn pairs_by_triangle(
+/// support of the pair, from the supports of all pairs, first by the greater rank, then by the
+/// lesser.
+pub fn pairs_of_supports(
     alloc: Global,
     coded: &Coded,
-    least: u64,
+    supports: &[u64],
 ) -> Result<Vec<Vec<(u32, u64)>>, AllocError>
     requires coding { IsCoding coded.now }
-    requires some { 1 ≤ least }
-    ensures { IfOk result (λ lists. lists_of lists.items ≡ pairs_by_greater coded.now.baskets least (length coded.now.items)) }
+    requires supports { AreSupports coded.now.baskets (length coded.now.items) supports.now }
+    ensures { IfOk result (λ lists. ArePairs coded.now (lists_of lists.items)) }
 {
-    let rows = counted(alloc, coded)?;
-    let mut lists = Vec::with_capacity(alloc, rows.len())?;
-    for row in &rows {
+    let least = coded.minimum().least(coded.total());
+    let mut lists = Vec::with_capacity(alloc, coded.ranks() as usize)?;
+    let mut later = supports;
+    for rank in 0..coded.ranks() {
+        let (row, rest) = later.split_at(rank as usize);
         lists.push(met(alloc, row, least)?)?;
+        later = rest;
     }
     Ok(lists)
 }
@@ -45,52 +129,4 @@ fn met(alloc: Global, row: &[u64], least: u64) -> Result<Vec<(u32, u64)>, AllocE
         }
     }
     Ok(pairs)
-}
-
-/// The support of each pair of ranks, by one pass over the baskets.
-fn counted(alloc: Global, coded: &Coded) -> Result<Vec<Vec<u64>>, AllocError>
-    ensures { IfOk result (λ rows. AreSupports coded.now.baskets (length coded.now.items) (lists_of rows.items)) }
-{
-    let mut rows = no_counts(alloc, coded.ranks())?;
-    for place in coded.baskets() {
-        count_basket(&mut rows, place.basket.items(), place.weight);
-    }
-    Ok(rows)
-}
-
-/// A triangle of zeros.
-fn no_counts(alloc: Global, ranks: u32) -> Result<Vec<Vec<u64>>, AllocError>
-    ensures { IfOk result (λ rows. AreSupports [] ranks (lists_of rows.items)) }
-{
-    let mut rows = Vec::with_capacity(alloc, ranks as usize)?;
-    for rank in 0..ranks {
-        rows.push(vec![in alloc; 0; rank as usize]?)?;
-    }
-    Ok(rows)
-}
-
-/// Adds a weight at each pair of ranks of a basket.
-fn count_basket(rows: &mut [Vec<u64>], ranks: &[u32], weight: u64)
-    requires triangle { IsTriangle (length rows.old) (lists_of rows.old) }
-    requires rises { IsRising ranks.now }
-    requires below { AllBelow (length rows.old) ranks.now }
-    requires light { (greater lesser : ℕ) → greater < length rows.old → lesser < greater → count_at (lists_of rows.old) greater lesser + weight ≤ MOST_WEIGHT }
-    ensures triangle { IsTriangle (length rows.old) (lists_of rows.new) }
-    ensures counted { WithPairs (length rows.old) ranks.now weight (lists_of rows.old) (lists_of rows.new) }
-{
-    for (place, rank) in ranks.iter().enumerate() {
-        count_below(&mut rows[*rank as usize], &ranks[..place], weight);
-    }
-}
-
-/// Adds a weight at each of the ranks.
-fn count_below(row: &mut [u64], ranks: &[u32], weight: u64)
-    requires rises { IsRising ranks.now }
-    requires below { AllBelow (length row.old) ranks.now }
-    requires light { (rank : ℕ) → rank < length row.old → slice_index row.old rank + weight ≤ MOST_WEIGHT }
-    ensures { WithBasket ranks.now weight row.old row.new }
-{
-    for rank in ranks {
-        row[*rank as usize] += weight;
-    }
 }

@@ -9,4 +9,4 @@ ask-requires-clause-counted c =
     let found = c.self.inside.found in
     let more : length found.sets.items ≡ length (level_of coding 1) = ap length c.self.invariant.1.sets in
     let last : c.len-last.result ≡ length (level_of coding 1) = omega (arith, c.len-last.ensures, more, found.sets.ok) in
-    c.pairs_of.ensures ∙ ap (λ n. n * (n - 1) / 2) last ∙ sym (pair_count coding)
+    c.pair_count.ensures.number ∙ ap (λ n. n * (n - 1) / 2) last ∙ sym (pair_count coding)
