@@ -77,7 +77,7 @@ pub record HasAdded (baskets : List Weighted) (pieces : ℕ) (sets : List (List 
   pub each : (k : ℕ) → k < length sets → slice_index added k ≡ sum_by (part_support baskets pieces (get_or sets k [])) claimed
   pub bounded : (k : ℕ) → k < length sets → IsBounded baskets pieces (get_or sets k []) claimed
 
-index_zero : (n k : ℕ) → slice_index (replicate n 0) k ≡ 0
+pub index_zero : (n k : ℕ) → slice_index (replicate n 0) k ≡ 0
 index_zero zero k = refl
 index_zero (suc n) zero = refl
 index_zero (suc n) (suc k) = index_zero n k
@@ -88,6 +88,39 @@ nothing_added baskets pieces sets = record {
   each = λ k below. index_zero (length sets) k;
   bounded = λ k below. omega arith;
 }
+
+-- what was added is far below what a counter holds
+pub added_fits : (baskets : List Weighted) (pieces : ℕ) (sets : List (List ℕ)) (claimed added : List ℕ) → HasAdded baskets pieces sets claimed added → total_of baskets ≤ MOST_WEIGHT
+    → (k : ℕ) → k < length sets → slice_index added k ≤ 2 ^ 40
+added_fits baskets pieces sets claimed added has light k within =
+    let each = has.each k within in
+    let bounded = has.bounded k within in
+    let most = front_is_light baskets pieces (get_or sets k []) (behind claimed) light in omega arith
+
+-- one part more
+module _ (baskets : List Weighted) (pieces : ℕ) (sets : List (List ℕ)) (claimed added : List ℕ) (piece : ℕ) (some : 1 ≤ pieces) (below : All (λ x. x < piece) claimed)
+    (before : HasAdded baskets pieces sets claimed added) where
+  pub part_fits : total_of baskets ≤ MOST_WEIGHT → (k : ℕ) → k < length added → slice_index added k + total_of (shard_of piece pieces baskets) ≤ MOST_WEIGHT
+  part_fits light k within =
+      let set = get_or sets k [] in
+      let short : k < length sets = omega (arith, before.sized) in
+      let each = before.each k short in
+      let bounded = before.bounded k short in
+      let le = front-le baskets pieces set some (behind claimed) piece (behind-le claimed piece below) in
+      let fall = support_falls (take (shard_start piece pieces (length baskets)) baskets) set [] refl in
+      let step = front_more baskets pieces [] some piece in
+      let most = front_is_light baskets pieces [] (piece + 1) light in omega arith
+
+  pub part_added : (now : List ℕ) → length now ≡ length added → ((k : ℕ) → k < length sets → slice_index now k ≡ slice_index added k + part_support baskets pieces (get_or sets k []) piece)
+      → HasAdded baskets pieces sets (claimed ++ piece ∷ []) now
+  part_added now long each = record {
+    sized = long ∙ before.sized;
+    each = λ k within.
+        let a = before.each k within in
+        let e = each k within in
+        let push = sum_by_push (part_support baskets pieces (get_or sets k [])) claimed piece in omega arith;
+    bounded = λ k within. bounded_next baskets pieces (get_or sets k []) some claimed piece below (before.bounded k within);
+  }
 
 module _ (baskets : List Weighted) (pieces : ℕ) (sets : List (List ℕ)) (claimed added counts : List ℕ) (piece : ℕ) (some : 1 ≤ pieces) (below : All (λ x. x < piece) claimed)
     (counted : counts ≡ map (support_of (shard_of piece pieces baskets)) sets) (before : HasAdded baskets pieces sets claimed added) where
@@ -106,15 +139,8 @@ module _ (baskets : List Weighted) (pieces : ℕ) (sets : List (List ℕ)) (clai
 
   pub added_next : (now : List ℕ) → length now ≡ length added → ((k : ℕ) → k < length counts → slice_index now k ≡ slice_index added k + slice_index counts k)
       → HasAdded baskets pieces sets (claimed ++ piece ∷ []) now
-  added_next now long each = record {
-    sized = long ∙ before.sized;
-    each = λ k within.
-        let a = before.each k within in
-        let b = count_at k within in
-        let e = each k (omega (arith, counts_long)) in
-        let push = sum_by_push (part_support baskets pieces (get_or sets k [])) claimed piece in omega arith;
-    bounded = λ k within. bounded_next baskets pieces (get_or sets k []) some claimed piece below (before.bounded k within);
-  }
+  added_next now long each = part_added baskets pieces sets claimed added piece some below before now long
+      (λ k within. let b = count_at k within in let e = each k (omega (arith, counts_long)) in omega arith)
 
 -- ---- what all seats added
 

@@ -11,9 +11,10 @@ use crate::cutting::Cutting;
 use crate::gate::Gate;
 use crate::level::count_level;
 use crate::pairs::count_pairs;
+use crate::triangle::count_triangle;
 use basket_core::{Coded, Frequent, MineFault};
 use mine_apriori::laws::pairs_by_supports;
-use mine_apriori::{FirstLevel, Levels, frequent_pairs};
+use mine_apriori::{FirstLevel, Levels, is_small_triangle, pairs_of_supports};
 use mine_classes::{Ordered, Runs};
 use std::alloc::{AllocError, Global};
 use std::thread::Threads;
@@ -21,7 +22,8 @@ use std::thread::Threads;
 /// The number of the phase that counts the candidates of three items.
 const FIRST_OF_LEVELS: u32 = 3;
 
-/// The frequent pairs of ranks. One worker counts them in one part.
+/// The frequent pairs of ranks. The workers count each pair of ranks where these are few, and
+/// otherwise only the pairs that occur, rank by rank.
 fn pairs<R: Threads + Sync, G: Gate + Sync>(
     rt: &R,
     alloc: Global,
@@ -31,11 +33,11 @@ fn pairs<R: Threads + Sync, G: Gate + Sync>(
 ) -> Result<Vec<Vec<(u32, u64)>>, AllocError>
     ensures { IfOk result (λ lists. ArePairs coded.now (lists_of lists.items)) }
 {
-    if cutting.workers == 1 {
-        return frequent_pairs(alloc, coded);
+    if is_small_triangle(coded.ranks(), coded.baskets().len()) {
+        let supports = count_triangle(rt, alloc, coded, cutting, gate)?;
+        return pairs_of_supports(alloc, coded, &supports);
     }
     pairs_by_supports();
-    let _coding = coded.baskets();
     let least = coded.minimum().least(coded.total());
     let runs = Runs::of(alloc, Ordered::of_coded(alloc, coded)?)?;
     count_pairs(rt, alloc, &runs, least, cutting, gate)

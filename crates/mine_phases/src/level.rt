@@ -1,5 +1,5 @@
 //! A level of Apriori, whose candidates have a counter each that the workers share.
-ghost use Rattle.std.specs.Prelude.{◌≡◌, ◌≤◌, ◌<◌, ◌+◌, ◌^◌, ℕ, [], IfOk, length, map, slice_index, slice_index_or};
+ghost use Rattle.std.specs.Prelude.{◌≡◌, ◌≤◌, IfOk, length, map};
 ghost use Rattle.basket_sets.specs.Database.{MOST_WEIGHT};
 ghost use Rattle.basket_sets.specs.Order.{IsInReportOrder};
 ghost use Rattle.basket_sets.specs.Support.{support_of, total_of};
@@ -9,7 +9,7 @@ ghost use Rattle.mine_round.specs.Record.{unused};
 
 use crate::cutting::Cutting;
 use crate::gate::Gate;
-use crate::share::{Share, claim_piece, numbered, parted};
+use crate::share::{Share, add_counts, claim_piece, numbered, parted};
 use basket_core::{Itemset, MineFault, Weighted, shard};
 use mine_apriori::CandidateTree;
 use mine_round::{Round, RoundSeat};
@@ -66,24 +66,6 @@ impl<G: Gate> Level<'_, '_, '_, G> {
             add_counts(self.round, seat, &counts);
         }
         Ok(())
-    }
-}
-
-/// Adds each count to the counter of its place.
-fn add_counts(round: &Round, seat: &mut RoundSeat, counts: &[u64])
-    requires own { seat.old.round ≡ round.now.id }
-    requires counters { round.now.counters ≡ length counts.now }
-    requires sized { length seat.old.held.added ≡ length counts.now }
-    requires room { (k : ℕ) → k < length counts.now → slice_index seat.old.held.added k + slice_index counts.now k ≤ 2 ^ 40 }
-    ensures own { seat.new.round ≡ seat.old.round }
-    ensures claimed { seat.new.held.claimed ≡ seat.old.held.claimed }
-    ensures sized { length seat.new.held.added ≡ length seat.old.held.added }
-    ensures added { (k : ℕ) → k < length counts.now → slice_index seat.new.held.added k ≡ slice_index seat.old.held.added k + slice_index counts.now k }
-{
-    for (counter, count) in counts.iter().enumerate() {
-        if *count > 0 {
-            round.add(seat, counter, *count);
-        }
     }
 }
 

@@ -20,6 +20,7 @@ mod level;
 mod pairs;
 mod placed;
 mod share;
+mod triangle;
 
 pub use apriori::apriori_shared;
 pub use class_miner::ClassMiner;

@@ -16,8 +16,8 @@ use std::alloc::{AllocError, Global};
 use std::thread;
 use std::thread::Threads;
 
-/// The number of the phase.
-const PHASE: u32 = 2;
+/// The number of the phase that finds the pairs.
+pub const PHASE: u32 = 2;
 
 /// For each of some ranks the ranks below it that are frequent together with it, rising, each with
 /// the support of the pair.

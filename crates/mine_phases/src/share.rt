@@ -1,5 +1,5 @@
 //! What the workers of a phase hand back, and what it is together.
-ghost use Rattle.std.specs.Prelude.{◌≡◌, ◌≤◌, ◌<◌, ◌^◌, [], map, vec_len, vec_capacity, MatchResult, Ok, Some, None, length, IfOk, IfSome, IfNone, EachIndex};
+ghost use Rattle.std.specs.Prelude.{◌≡◌, ◌≤◌, ◌<◌, ◌+◌, ◌^◌, ℕ, [], map, vec_len, vec_capacity, MatchResult, Ok, Some, None, length, IfOk, IfSome, IfNone, EachIndex, slice_index};
 ghost use Rattle.mine_phases.specs.Share.{fault_of, worse};
 ghost use Rattle.mine_round.specs.Record.{with_piece, with_end_seen};
 ghost use Rattle.mine_round.specs.Words.{ClaimedBelow};
@@ -48,6 +48,25 @@ pub fn claim_piece<G: Gate>(
     let piece = round.claim(seat)?;
     gate.pass(phase, worker, piece);
     Some(piece)
+}
+
+/// Adds each count to the counter of its place.
+pub fn add_counts(round: &Round, seat: &mut RoundSeat, counts: &[u64])
+    requires own { seat.old.round ≡ round.now.id }
+    requires counters { round.now.counters ≡ length counts.now }
+    requires sized { length seat.old.held.added ≡ length counts.now }
+    requires room { (k : ℕ) → k < length counts.now → slice_index seat.old.held.added k + slice_index counts.now k ≤ 2 ^ 40 }
+    ensures own { seat.new.round ≡ seat.old.round }
+    ensures claimed { seat.new.held.claimed ≡ seat.old.held.claimed }
+    ensures past { seat.new.held.past ≡ seat.old.held.past }
+    ensures sized { length seat.new.held.added ≡ length seat.old.held.added }
+    ensures added { (k : ℕ) → k < length counts.now → slice_index seat.new.held.added k ≡ slice_index seat.old.held.added k + slice_index counts.now k }
+{
+    for (counter, count) in counts.iter().enumerate() {
+        if *count > 0 {
+            round.add(seat, counter, *count);
+        }
+    }
 }
 
 /// The fault to tell, where one was found before: that there are too many sets, before want of

@@ -1,0 +1,71 @@
+use Rattle.std.proofs.Common.{◌≡◌, ◌≤◌, ◌<◌, ap, sym, ◌∙◌, subst, arith, map, length, get_or, Ok}
+use Rattle.std.specs.Prelude.{All, IfOk, IsPermutation}
+use Rattle.std.specs.List.{range_with_len}
+use Rattle.std.proofs.lemmas.List.{get_or-map, length-map}
+use Rattle.std.proofs.lemmas.List.Elements.{All-map, All-same}
+use Rattle.mine_apriori.specs.Triangle.{AreSupports, all_pairs}
+use Rattle.mine_round.specs.Record.{unused}
+use Rattle.mine_round.specs.SeatView.{SeatView}
+use Rattle.mine_round.specs.Totals.{claimed_by}
+use Rattle.mine_phases.specs.declared.share.Share.{Share}
+use Rattle.mine_phases.specs.Level.{AddsSupports}
+use Rattle.mine_phases.proofs.Shares.{each_seat, some_seat}
+use Rattle.mine_phases.proofs.Supports.{totals_are_supports}
+use Rattle.mine_phases.proofs.triangle.count_triangle.Goals as goal
+use Rattle.mine_phases.proofs.triangle.count_triangle.Goals.{in-Ok-ended, in-Err}
+
+pub map_vec-requires-after_bounds : goal.map_vec-requires-after_bounds
+map_vec-requires-after_bounds g c κs within i x below is =
+    let seats = c.in_ok-round.seats.items in
+    let seat : get_or seats i x.1 ≡ x.1 = ap (λ l. get_or l i x.1) (sym c.in_ok-numbered.ensures) ∙ get_or-map (λ worker. worker.1) c.in_ok-numbered.field-0.items i x x.1 below ∙ ap (λ w. w.1) (sym is) in
+    let short : i < length seats = omega (arith, ap length c.in_ok-numbered.ensures, length-map c.in_ok-numbered.field-0.items (λ worker. worker.1)) in
+    let fresh = c.in_ok-round.ensures.unused i x.1 short in
+    let counters = c.pair_count-counters.ensures.pairs ∙ ap (λ n. length (all_pairs n)) c.ranks.ensures in (
+      ap (λ (s : SeatView). s.round) (sym seat) ∙ fresh.0,
+      ap (λ (s : SeatView). s.held) (sym seat) ∙ fresh.1 ∙ ap (unused 1) counters,
+      c.args.cutting.some_pieces.0,
+      c.in_ok-round.ensures.round.0,
+      c.in_ok-round.ensures.round.1 ∙ counters,
+    )
+
+pub close-requires : goal.close-requires
+close-requires g c = record {
+  own =
+      let Own : SeatView → Type 0 = λ s. s.round ≡ c.in_ok-round.round.id in
+      All-same Own _ _ c.parted-seats.ensures.seats
+      (All-map Own (λ (s : Share (Unit {0})). s.seat) c.in_ok-shares.shares.items
+      (λ k d below. (c.in_ok-shares.ensures.each k d (omega (arith, c.in_ok-shares.ensures.len))).1.call.met.own));
+}
+
+pub returns : goal.returns
+returns g c =
+    let baskets = c.args.coded.now.baskets in
+    let count = length c.args.coded.now.items in
+    let sets = all_pairs count in
+    let pieces = c.args.cutting.pieces in
+    let shares = c.in_ok-shares.shares.items in
+    let P : SeatView → Type 0 = AddsSupports baskets pieces sets in
+    elim c.match-ended.branch [
+      | in-Ok-ended w ↦
+          (let all : map Ok w.in-Ok-ended.field-0.items ≡ map (λ (s : Share (Unit {0})). s.values) shares = rw w.in-Ok-ended.is at c.parted-seats.ensures.lists in
+          let says : All P (map (λ (s : Share (Unit {0})). s.seat) shares) = each_seat P shares w.in-Ok-ended.field-0.items all
+          (λ k d below. (c.in_ok-shares.ensures.each k d (omega (arith, c.in_ok-shares.ensures.len))).1.call.met.values) in
+          let seats = All-same P _ _ c.parted-seats.ensures.seats says in
+          let some : 1 ≤ length c.parted-seats.result.0.items = omega (
+            arith,
+            ap length c.parted-seats.ensures.seats,
+            length-map shares (λ (s : Share (Unit {0})). s.seat),
+            c.in_ok-shares.ensures.len,
+            ap length c.in_ok-numbered.ensures,
+            length-map c.in_ok-numbered.field-0.items (λ worker. worker.1),
+            c.in_ok-round.ensures.seats,
+            c.args.cutting.some_workers.0,
+          ) in
+          let ended = c.in-Ok.ensures.ended (some_seat P (λ s. 0 < s.held.past) (λ seat says. says.ended) c.parted-seats.result.0.items some seats) ∙ c.in_ok-round.ensures.round.0 in
+          let claimed = subst (λ n. IsPermutation (claimed_by c.parted-seats.result.0.items) (range_with_len 0 n)) ended c.in-Ok.ensures.claimed in
+          let counters = c.in_ok-round.ensures.round.1 ∙ c.pair_count-counters.ensures.pairs ∙ ap (λ n. length (all_pairs n)) c.ranks.ensures in
+          let long : length c.in-Ok.totals.counters.items ≡ length sets = omega (arith, c.in-Ok.ensures.counters, c.in-Ok.totals.counters.ok, counters) in
+          subst (λ r. IfOk r (λ supports. AreSupports baskets count supports.items)) (sym w.result-is)
+          (totals_are_supports baskets pieces sets c.parted-seats.result.0.items c.in-Ok.totals.counters.items c.args.cutting.some_pieces.0 long seats claimed (λ k below. c.in-Ok.ensures.sums k below)))
+      | in-Err w ↦ rw w.result-is tt
+    ]

@@ -1,0 +1,106 @@
+//! The pairs of few ranks, each of which has a counter that the workers share.
+ghost use Rattle.std.specs.Prelude.{◌≡◌, ◌≤◌, IfOk, length, map};
+ghost use Rattle.basket_sets.specs.Support.{support_of};
+ghost use Rattle.mine_apriori.specs.Triangle.{AreSupports, all_pairs};
+ghost use Rattle.mine_phases.specs.Level.{AddsSupports, IsLevelShare};
+ghost use Rattle.mine_round.specs.Record.{unused};
+
+use crate::cutting::Cutting;
+use crate::gate::Gate;
+use crate::pairs::PHASE;
+use crate::share::{Share, add_counts, claim_piece, numbered, parted};
+use basket_core::{Coded, MineFault, shard};
+use mine_apriori::{Triangle, pair_count};
+use mine_round::{Round, RoundSeat};
+use std::alloc::{AllocError, Global};
+use std::thread;
+use std::thread::Threads;
+
+/// The phase as its workers see it.
+#[derive(Drop)]
+struct Counting<'a, G> {
+    round: &'a Round,
+    pieces: u32,
+    coded: &'a Coded,
+    gate: &'a G,
+}
+
+impl<G: Gate> Counting<'_, G> {
+    /// What a worker does: it counts the pairs in each part that it claims, and adds the counts of
+    /// all to the counters once no part is left.
+    fn share(&self, alloc: Global, worker: u32, mut seat: RoundSeat) -> Share<()>
+        requires own { seat.round ≡ self.now.round.now.id }
+        requires unused { seat.held ≡ unused 1 (length (all_pairs (length self.now.coded.now.items))) }
+        requires pieces { (1 ≤ self.now.pieces) × (self.now.round.now.pieces ≡ self.now.pieces) }
+        requires counters { self.now.round.now.counters ≡ length (all_pairs (length self.now.coded.now.items)) }
+        ensures { IsLevelShare self.now.round.now self.now.coded.now.baskets self.now.pieces (all_pairs (length self.now.coded.now.items)) result }
+    {
+        let values = match self.add_supports(alloc, worker, &mut seat) {
+            Ok(()) => Ok(()),
+            Err(AllocError) => Err(MineFault::Memory),
+        };
+        Share { seat, values }
+    }
+
+    fn add_supports(
+        &self,
+        alloc: Global,
+        worker: u32,
+        seat: &mut RoundSeat,
+    ) -> Result<(), AllocError>
+        requires own { seat.old.round ≡ self.now.round.now.id }
+        requires unused { seat.old.held ≡ unused 1 (length (all_pairs (length self.now.coded.now.items))) }
+        requires pieces { (1 ≤ self.now.pieces) × (self.now.round.now.pieces ≡ self.now.pieces) }
+        requires counters { self.now.round.now.counters ≡ length (all_pairs (length self.now.coded.now.items)) }
+        ensures own { seat.new.round ≡ seat.old.round }
+        ensures added { IfOk result (λ _. AddsSupports self.now.coded.now.baskets self.now.pieces (all_pairs (length self.now.coded.now.items)) seat.new) }
+    {
+        let baskets = self.coded.baskets();
+        let mut triangle = Triangle::new(alloc, self.coded.ranks())?;
+        while let Some(piece) = claim_piece(self.round, seat, self.gate, PHASE, worker) {
+            let (start, end) = shard(piece, self.pieces, baskets.len());
+            triangle.add(&baskets[start..end]);
+        }
+        add_counts(self.round, seat, triangle.counts());
+        Ok(())
+    }
+}
+
+/// The support of each pair of ranks, counted by so many workers over so many parts of the baskets.
+pub fn count_triangle<'a, R: Threads + Sync, G: Gate + Sync>(
+    rt: &R,
+    alloc: Global,
+    coded: &'a Coded,
+    cutting: Cutting,
+    gate: &'a G,
+) -> Result<Vec<u64>, AllocError>
+    ensures { IfOk result (λ supports. AreSupports coded.now.baskets (length coded.now.items) supports.items) }
+{
+    let counters = pair_count(coded.ranks());
+    let (round, seats) = Round::new(alloc, cutting.pieces, counters, cutting.workers)?;
+    let back = Vec::with_capacity(alloc, seats.len())?;
+    let done = Vec::with_capacity(alloc, seats.len())?;
+    let counting = Counting {
+        round: &round,
+        pieces: cutting.pieces,
+        coded,
+        gate,
+    };
+    let lent = &counting;
+    let shares = thread::map_vec(
+        rt,
+        numbered(alloc, seats)?,
+        &|job: (u32, RoundSeat)| -> Share<()>
+            requires { (job.1.round ≡ lent.now.round.now.id) × (job.1.held ≡ unused 1 (length (all_pairs (length lent.now.coded.now.items)))) × (1 ≤ lent.now.pieces) × (lent.now.round.now.pieces ≡ lent.now.pieces) × (lent.now.round.now.counters ≡ length (all_pairs (length lent.now.coded.now.items))) }
+            ensures { IsLevelShare lent.entry.now.round.now lent.entry.now.coded.now.baskets lent.entry.now.pieces (all_pairs (length lent.entry.now.coded.now.items)) result }
+        { lent.share(alloc, job.0, job.1) },
+    )?;
+    let (seats, ended) = parted(shares, back, done);
+    let Ok(totals) = round.close(seats) else {
+        unreachable!()
+    };
+    match ended {
+        Ok(_) => Ok(totals.counters),
+        Err(_) => Err(AllocError),
+    }
+}
