@@ -1,14 +1,21 @@
 -- Numbers by first appearance.
-use Rattle.std.proofs.Common.{◌≡◌, ℕ, suc, ◌+◌, ◌<◌, Bool, true, false, cond, not, ◌||◌, eqb, ltb, String, List, [], ◌∷◌, ◌++◌, map, length, fold, Some, None, refl, sym, ap, ◌∙◌, arith}
-use Rattle.std.specs.List.{list_any, list_all, position, position_or_len}
-use Rattle.std.specs.Str.{bytes_eq}
-use Rattle.std.specs.String.{string_bytes, string_eq}
-use Rattle.std.proofs.lemmas.Bool.{ltb-true, eqb-true, or_left, or_right, and_parts, and_from}
+use Rattle.std.proofs.Common.{◌≡◌, ℕ, zero, suc, ◌+◌, ◌<◌, Bool, true, false, cond, not, ◌||◌, eqb, ltb, String, List, [], ◌∷◌, ◌++◌, map, length, fold, slice_get, Some, None, is_some, unwrap_or, refl, sym, ap, subst, ◌∙◌, arith}
+use Rattle.std.specs.Bool.{then_some}
+use Rattle.std.specs.Cmp.{IsEquivalence}
+use Rattle.std.specs.List.{IsDistinct, list_any, list_all, position, position_or_len}
+use Rattle.std.specs.Str.{IsUtf8, bytes_eq}
+use Rattle.std.specs.Option.{IfSome}
+use Rattle.std.specs.String.{string_bytes, string_eq, string_eq_equiv}
+use Rattle.std.proofs.lemmas.Bool.{true≢false, ltb-true, lt-ltb, eqb-true, or_left, or_right, and_parts, and_from}
 use Rattle.std.proofs.lemmas.List.{map-append}
+use Rattle.std.proofs.lemmas.List.Elements.{All-from_recursion}
 use Rattle.std.proofs.lemmas.List.Folds.{position_or_len_push, list_any-append}
+use Rattle.std.proofs.lemmas.Map.Keys.{IsDistinct-head, IsDistinct-tail}
+use Rattle.std.proofs.lemmas.Option.{slice_get_within, get_or_from_slice_get}
 use Rattle.std.proofs.lemmas.Slice.Eq.{bytes_eq-Decides}
+use Rattle.std.proofs.lemmas.Str.{is_utf8-from_IsUtf8}
 use Rattle.indexmap.specs.IndexSet.{insert_key}
-use Rattle.basket_csv.specs.Names.{with_name, number_in}
+use Rattle.basket_csv.specs.Names.{with_name, number_in, IsKnown}
 
 -- ---- a test of a list's images
 
@@ -94,6 +101,38 @@ new_place keys new_keys key names name place view text new e =
     let same : map string_bytes new_keys ≡ with_name names name = ap (map string_bytes) new ∙ inserted keys key ∙ ap (λ ns. with_name ns (string_bytes key)) (sym view) ∙ ap (with_name names) text in
     let old : place ≡ number_in names name = e ∙ sym (place_of_map string_bytes (bytes_eq (string_bytes key)) keys) ∙ ap (λ ns. number_in ns (string_bytes key)) (sym view) ∙ ap (number_in names) text in
     (same, old ∙ sym (number_stays names name) ∙ ap (λ ns. number_in ns name) (sym same))
+
+-- among keys of which no two are equal, a key's place is the one at which it stands
+own_place : {K : Type 0} {eq : K → K → Bool} → IsEquivalence eq → (keys : List K) (place : ℕ) (key : K) → IsDistinct eq keys → slice_get keys place ≡ Some key → position_or_len (eq key) keys ≡ place
+own_place laws [] place key d e = absurd (true≢false (sym (ap is_some e)))
+own_place {K} {eq} laws (k ∷ keys) zero key d e =
+    let same : k ≡ key = ap (λ found. unwrap_or found k) e in
+    ap (λ b. cond (not b) (1 + position_or_len (eq key) keys) 0) (ap (eq key) same ∙ laws.refl key)
+own_place {K} {eq} laws (k ∷ keys) (suc place) key d e =
+    let apart = All-from_recursion (λ other. eq k other ≡ false) keys (IsDistinct-head eq k keys d) place key (slice_get_within keys place key e) in
+    let other : eq key k ≡ false = laws.symm key k ∙ ap (eq k) (sym (get_or_from_slice_get keys place key key e)) ∙ apart in
+    let rest = own_place laws keys place key (IsDistinct-tail eq k keys d) e in
+    ap (λ b. cond (not b) (1 + position_or_len (eq key) keys) 0) other ∙ omega (arith, rest)
+
+-- the place of a name that stands at it
+pub place_of_key : {Z : Type 0} (keys : List (String Z)) (names : List (List ℕ)) (key : String Z) (place : ℕ)
+    → names ≡ map string_bytes keys → IsDistinct string_eq keys → slice_get keys place ≡ Some key
+    → (names ≡ with_name names (string_bytes key)) × (place ≡ number_in names (string_bytes key))
+place_of_key keys names key place view distinct e =
+    let at = own_place string_eq_equiv keys place key distinct e in
+    let below = slice_get_within keys place key e in
+    known_place keys names (string_bytes key) place view
+    (ap (λ b. cond b (Some (position_or_len (string_eq key) keys)) None) (lt-ltb (position_or_len (string_eq key) keys) (length keys) (omega arith)) ∙ ap Some at)
+
+-- what is answered of a name that stands at a place: the place, if it is the name that was asked for
+pub place_if_same : {Z : Type 0} (keys : List (String Z)) (names : List (List ℕ)) (name : List ℕ) (key : String Z) (place : ℕ) (same : Bool)
+    → names ≡ map string_bytes keys → IsDistinct string_eq keys → slice_get keys place ≡ Some key → IsUtf8 (string_bytes key) → same ≡ bytes_eq (string_bytes key) name
+    → IfSome (then_some same place) (IsKnown names name)
+place_if_same keys names name key place true view distinct e text is =
+    let found = place_of_key keys names key place view distinct e in
+    subst (λ bytes. IsKnown names bytes place) ((bytes_eq-Decides (string_bytes key) name).0 (sym is))
+    (record { text = is_utf8-from_IsUtf8 (string_bytes key) text; stay = found.0; place = found.1 })
+place_if_same keys names name key place false view distinct e text is = tt
 
 -- ---- a name keeps its number
 

@@ -1,22 +1,25 @@
 -- Pairs of an id and a name, one after another.
-use Rattle.std.proofs.Common.{◌≡◌, ℕ, zero, suc, ◌+◌, ◌≤◌, ◌<◌, Bool, true, false, cond, not, ◌&&◌, ◌||◌, List, [], ◌∷◌, ◌++◌, length, map, set, get_or, ltb, Some, None, Result, Ok, Err, refl, sym, ap, ◌∙◌, subst, arith}
+use Rattle.std.proofs.Common.{◌≡◌, ℕ, zero, suc, ◌+◌, ◌≤◌, ◌<◌, Bool, true, false, cond, not, ◌&&◌, ◌||◌, List, [], ◌∷◌, ◌++◌, length, map, filter, set, get_or, ltb, Some, None, Result, Ok, Err, refl, sym, ap, ◌∙◌, subst, arith}
 use Rattle.std.specs.List.{flat_map, list_all, list_any}
 use Rattle.std.specs.Str.{bytes_eq, is_utf8}
 use Rattle.std.proofs.lemmas.Bool.{and_parts, and_from, and_left, and_right}
 use Rattle.std.proofs.lemmas.List.{map-append}
+use Rattle.std.proofs.lemmas.List.Elements.{filter-append}
 use Rattle.std.proofs.lemmas.List.Folds.{list_all-append, flat_map-map}
 use Rattle.std.proofs.lemmas.List.Sums.{fold-append}
 use Rattle.basket_sets.specs.declared.weighted.Weighted.{Weighted}
 use Rattle.basket_read.specs.declared.fault.ReadFault.{ReadFault}
 use Rattle.basket_read.specs.declared.fault.ReadFault.TheVariants.{NotText, ShortRecord}
-use Rattle.basket_read.specs.Fimi.{basket_of_numbers, if_light}
+use Rattle.basket_read.specs.Fimi.{basket_of_numbers, if_light, is_nil}
 use Rattle.basket_csv.specs.Read.{Answers}
 use Rattle.basket_csv.specs.declared.pairs.Pairs.{Pairs}
-use Rattle.basket_csv.specs.Csv.{Named, field_in, is_text, pair_fault, with_names, with_pair, gather, names_of_pairs}
+use Rattle.basket_csv.specs.Csv.{Named, field_in, is_text, pair_fault, pair_of, pairs_of, with_names, with_pair, gather, names_of_pairs}
+use Rattle.basket_csv.specs.Field.{trimmed}
 use Rattle.basket_csv.specs.Names.{with_name, in_order, number_in}
+use Rattle.basket_csv.specs.Row.{IsKnownPair}
 use Rattle.basket_csv.specs.Pairs.{HasPairs, added_at, numbers_of, are_among}
 use Rattle.basket_csv.proofs.BasketLemmas.{no_text_first}
-use Rattle.basket_csv.proofs.RowLemmas.{nothing_is_text}
+use Rattle.basket_csv.proofs.RowLemmas.{known_some, nothing_is_text}
 use Rattle.basket_csv.proofs.NamesLemmas.{among, among_more, among_with, numbers_stay, number_stays}
 
 -- ---- a number that was added to a group
@@ -127,6 +130,28 @@ paired old new pairs id name number place a b c d e h =
       known = ap (λ ns. are_among ns (gather (pairs ++ (id, name) ∷ []))) names ∙ ap (are_among (with_name before name)) all
           ∙ among_with_pair (with_name before name) (gather pairs) id name (among_with before name) (among_goes_on before name (gather pairs) h.known);
     }
+
+pairs_more : (rows : List (List (List ℕ))) (row : List (List ℕ)) → is_nil (trimmed (field_in row 1)) ≡ false → pairs_of (rows ++ row ∷ []) ≡ pairs_of rows ++ pair_of row ∷ []
+pairs_more rows row some =
+    let has_name : List ℕ × List ℕ → Bool = λ pair. not (is_nil pair.1) in
+    ap (filter has_name) (map-append pair_of rows (row ∷ [])) ∙ filter-append has_name (map pair_of rows) (pair_of row ∷ [])
+    ∙ ap (λ b. pairs_of rows ++ cond (not b) (pair_of row ∷ []) []) some
+
+-- a record of a known id and a known name, whose numbers were added
+pub known_paired : {S H : Type 0} (old new : Pairs S H) (rows : List (List (List ℕ))) (row : List (List ℕ)) (place number : ℕ)
+    → new.names ≡ old.names → new.ids ≡ old.ids → map (λ group. group.items) new.groups.items ≡ added_at (map (λ group. group.items) old.groups.items) place number
+    → IsKnownPair old.ids old.names row place number → HasPairs old (pairs_of rows) → HasPairs new (pairs_of (rows ++ row ∷ []))
+known_paired old new rows row place number names ids groups known h =
+    let id = known.id in
+    let name = known.name in
+    let id_is = sym id.trimmed in
+    let name_is = sym name.trimmed in
+    let all = pairs_more rows row (known_some old.names (field_in row 1) number name) in
+    subst (HasPairs new) (sym all)
+    (paired old new (pairs_of rows) (trimmed (field_in row 0)) (trimmed (field_in row 1)) number place
+    (names ∙ name.known.stay ∙ ap (with_name old.names) name_is) (name.known.place ∙ ap (λ ns. number_in ns (field_in row 1)) (sym names) ∙ ap (number_in new.names) name_is)
+    (ids ∙ id.known.stay ∙ ap (with_name old.ids) id_is) (id.known.place ∙ ap (λ ns. number_in ns (field_in row 0)) (sym ids) ∙ ap (number_in new.ids) id_is)
+    groups h)
 
 -- ---- the baskets of the groups
 

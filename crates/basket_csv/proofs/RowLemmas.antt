@@ -1,13 +1,14 @@
 -- The fields of a record, one after another.
-use Rattle.std.proofs.Common.{◌≡◌, ℕ, zero, suc, ◌+◌, ◌≤◌, ◌<◌, Bool, true, false, cond, not, ◌&&◌, List, [], ◌∷◌, ◌++◌, length, map, filter, drop, get_or, Option, Some, None, fold, eqb, Bor, refl, sym, ap, ◌∙◌, append_assoc, arith}
-use Rattle.std.specs.Option.{MatchOption, is_some}
+use Rattle.std.proofs.Common.{◌≡◌, ℕ, zero, suc, ◌+◌, ◌≤◌, ◌<◌, Bool, true, false, cond, not, ◌&&◌, List, [], ◌∷◌, ◌++◌, length, map, filter, drop, get_or, Option, Some, None, fold, eqb, Bor, refl, sym, ap, subst, ◌∙◌, append_assoc, arith}
+use Rattle.std.specs.Option.{IfSome, MatchOption, is_some}
 use Rattle.std.specs.Str.{is_utf8, chars}
 use Rattle.std.proofs.lemmas.Bool.{ne_eqb}
 use Rattle.std.proofs.lemmas.List.{drop_all, at_drop_more}
 use Rattle.csv.specs.Records.{field_at}
 use Rattle.basket_read.specs.Fimi.{is_nil}
 use Rattle.basket_csv.specs.Field.{trimmed}
-use Rattle.basket_csv.specs.Names.{with_name, number_in}
+use Rattle.basket_csv.specs.Names.{with_name, number_in, IsKnown}
+use Rattle.basket_csv.specs.Row.{IsKnownField}
 use Rattle.basket_csv.proofs.NamesLemmas.{among, among_with, number_in_all}
 use Rattle.basket_csv.specs.Csv.{field_in, is_text, names_of}
 
@@ -24,6 +25,13 @@ unfolding field_at
 field_missing [] place e = refl
 field_missing (first ∷ fields) zero e = absurd cc
 field_missing (first ∷ fields) (suc place) e = field_missing fields place e
+
+-- a field that is a known name as it stands
+pub known_field : (result : Option ℕ) (names : List (List ℕ)) (field found : List ℕ) → field ≡ found → trimmed found ≡ found → 0 < length found
+    → IfSome result (IsKnown names found) → IfSome result (IsKnownField names field)
+known_field None names field found e is some h = tt
+known_field (Some number) names field found e is some h =
+    subst (λ f. IsKnownField names f number) (sym e) (record { known = h; trimmed = is; some = some })
 
 -- nothing is UTF-8
 pub nothing_is_text : is_utf8 [] ≡ true
@@ -108,3 +116,15 @@ module _ (fields : List (List ℕ)) (first place : ℕ) (before names : List (Li
         numbers = h.numbers ∙ ap (λ ns. numbers ++ map (number_in all) ns) same ∙ ap (λ k. numbers ++ k ∷ map (number_in all) rest) stays
             ∙ sym (append_assoc numbers (number ∷ []) (map (number_in all) rest));
       }
+
+pub known_some : (names : List (List ℕ)) (field : List ℕ) (number : ℕ) → IsKnownField names field number → is_nil (trimmed field) ≡ false
+known_some names field number known =
+    ap is_nil known.trimmed ∙ nil_test field false (sym (ne_eqb (length field) 0 (λ z. absurd (let l = known.some in omega arith))))
+
+pub known_name : (fields : List (List ℕ)) (first place : ℕ) (before names : List (List ℕ)) (numbers : List ℕ) (number : ℕ) → place < length fields
+    → IsKnownField names (get_or fields place []) number → NumbersUpTo fields first place before names numbers
+    → NumbersUpTo fields first (place + 1) before names (numbers ++ number ∷ [])
+known_name fields first place before names numbers number below known h =
+    let field = get_or fields place [] in
+    let same = sym known.trimmed in
+    one_name fields first place before names numbers below known.known.text h names number (known_some names field number known) (known.known.stay ∙ ap (with_name names) same) (known.known.place ∙ ap (number_in names) same)

@@ -2,6 +2,7 @@ pub mod Field
 pub mod Names
 pub mod Records
 pub mod Csv
+pub mod Row
 pub mod Input
 pub mod Gathered
 pub mod Read

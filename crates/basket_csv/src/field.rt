@@ -51,6 +51,15 @@ pub fn trim(text: &str) -> &str
     &rest[..end_spaces(rest.as_bytes())]
 }
 
+/// Whether a field is a name as it stands: it is not empty, and has no spaces and tabs at its ends.
+#[inline]
+pub fn is_name(field: &[u8]) -> bool
+    ensures trimmed { result ≡ true → trimmed field.now ≡ field.now }
+    ensures some { result ≡ true → 0 < length field.now }
+{
+    !field.is_empty() && front_spaces(field) == 0 && end_spaces(field) == field.len()
+}
+
 /// The text of a field, if it is UTF-8.
 #[inline]
 pub fn text_of(field: &[u8]) -> Option<&str>

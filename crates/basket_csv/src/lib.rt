@@ -9,6 +9,7 @@ pub mod laws;
 mod names;
 mod pairs;
 mod read;
+mod recent;
 mod records;
 mod row;
 mod weight;

@@ -1,7 +1,8 @@
 //! Names, and their numbers by first appearance.
-ghost use Rattle.std.specs.Prelude.{◌≡◌, ◌↔◌, [], length, slice_get, option_map, IsTrue, IfOk, IfErr, OnOk};
-ghost use Rattle.basket_csv.specs.Names.{number_in, with_name};
+ghost use Rattle.std.specs.Prelude.{◌≡◌, ◌↔◌, [], length, slice_get, option_map, IsTrue, IfOk, IfErr, IfSome, OnOk};
+ghost use Rattle.basket_csv.specs.Names.{number_in, with_name, IsKnown};
 
+use crate::recent::{Recent, hash_of};
 use basket_read::ReadFault;
 use indexmap::IndexSet;
 use std::alloc::{AllocError, Global};
@@ -51,6 +52,7 @@ impl Names {
 pub struct Numbering<S: BuildHasher> {
     alloc: Global,
     names: IndexSet<String, S>,
+    recent: Recent,
 }
 
 impl<S: BuildHasher> Model for Numbering<S> {
@@ -69,6 +71,7 @@ impl<S: BuildHasher> Numbering<S> {
         Numbering {
             alloc,
             names: IndexSet::with_hasher(alloc, hasher),
+            recent: Recent::new(alloc),
         }
     }
 
@@ -79,12 +82,36 @@ impl<S: BuildHasher> Numbering<S> {
         ensures number { IfOk result (λ number. number ≡ number_in self.new name.now) }
         ensures err { IfErr result (λ fault. fault ≡ ReadFault.Memory) }
     {
+        let hash = hash_of(name.as_bytes());
+        if let Some(number) = self.recent_number(hash, name.as_bytes()) {
+            return Ok(number);
+        }
         let place = self.place(name)?;
         match u32::try_from(place) {
-            Ok(number) => Ok(number),
+            Ok(number) => {
+                self.recent.keep(self.alloc, hash, number)?;
+                Ok(number)
+            }
             // An input is too short for so many names.
             Err(_) => Err(ReadFault::Memory),
         }
+    }
+
+    /// The number of a known name, if it was found of late.
+    #[inline]
+    pub fn known(&self, name: &[u8]) -> Option<u32>
+        ensures { IfSome result (IsKnown self.now name.now) }
+    {
+        self.recent_number(hash_of(name), name)
+    }
+
+    #[inline]
+    fn recent_number(&self, hash: u64, name: &[u8]) -> Option<u32>
+        ensures { IfSome result (IsKnown self.now name.now) }
+    {
+        let number = self.recent.number(hash)?;
+        let known = self.names.as_slice().get(number as usize)?;
+        (known.as_str().as_bytes() == name).then_some(number)
     }
 
     #[inline]
@@ -106,7 +133,7 @@ impl<S: BuildHasher + Drop> Numbering<S> {
     pub fn into_names(self) -> Result<Names, AllocError>
         ensures { IfOk result (λ names. names ≡ self) }
     {
-        let Numbering { alloc, names } = self;
+        let Numbering { alloc, names, .. } = self;
         Ok(Names {
             names: names.into_iter().collect(alloc)?,
         })

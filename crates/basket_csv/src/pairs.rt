@@ -1,5 +1,5 @@
 //! Records that have a basket's id and a name each.
-ghost use Rattle.std.specs.Prelude.{◌≡◌, ◌≤◌, ◌+◌, List, ℕ, [], ◌∷◌, ◌++◌, length, map, None, Some, MatchResult, OnOk, IfOk, IfErr};
+ghost use Rattle.std.specs.Prelude.{◌≡◌, ◌≤◌, ◌+◌, List, ℕ, [], ◌∷◌, ◌++◌, length, map, None, Some, MatchResult, OnOk, IfOk, IfErr, IfSome};
 ghost use Rattle.std.specs.List.{flat_map};
 ghost use Rattle.csv.specs.Records.{fields_of};
 ghost use Rattle.basket_read.specs.Fimi.{basket_of_numbers, if_light, MOST_BYTES};
@@ -8,23 +8,28 @@ ghost use Rattle.basket_csv.specs.Csv.{pair_fault, pairs_of, fault_from, baskets
 ghost use Rattle.basket_csv.specs.Gathered.{HasGathered};
 ghost use Rattle.basket_csv.specs.Read.{Answers};
 ghost use Rattle.basket_csv.specs.Records.{records_of, records_left, records_taken, IsReading};
+ghost use Rattle.basket_csv.specs.Row.{IsKnownPair};
 ghost use Rattle.basket_csv.specs.Pairs.{HasPairs, added_at};
 
 use crate::field::trim;
 use crate::gathered::Gathered;
 use crate::names::{Names, Numbering};
 use crate::records::Records;
-use crate::row::{is_text_from, text_at};
+use crate::row::{is_text_from, known_number, text_at};
 use basket_read::ReadFault;
 use basket_sets::Database;
 use csv::ByteRecord;
+use smallvec::SmallVec;
 use std::alloc::{AllocError, Global};
 use std::hash::BuildHasher;
+
+/// The numbers of the names of an id. Most have few, which need no allocation.
+type Group = SmallVec<u32, 12>;
 
 /// Adds a number to the group at a place, or to a new one behind all.
 fn add_number(
     alloc: Global,
-    groups: &mut Vec<Vec<u32>>,
+    groups: &mut Vec<Group>,
     place: usize,
     number: u32,
 ) -> Result<(), AllocError>
@@ -34,14 +39,14 @@ fn add_number(
         group.push(number)?;
         return Ok(());
     }
-    let mut group = Vec::new(alloc);
+    let mut group = Group::new(alloc);
     group.push(number)?;
     groups.push(group)?;
     Ok(())
 }
 
 /// The baskets of groups of numbers, each of weight 1.
-fn gathered_from(alloc: Global, groups: &[Vec<u32>]) -> Result<Gathered, ReadFault>
+fn gathered_from(alloc: Global, groups: &[Group]) -> Result<Gathered, ReadFault>
     ensures baskets { IfOk result (λ gathered. HasGathered gathered (flat_map (λ group. basket_of_numbers group.items 1) groups.now)) }
     ensures err { IfErr result (λ fault. fault ≡ ReadFault.Memory) }
 {
@@ -58,7 +63,7 @@ pub struct Pairs<S: BuildHasher> {
     alloc: Global,
     names: Numbering<S>,
     ids: Numbering<S>,
-    groups: Vec<Vec<u32>>,
+    groups: Vec<Group>,
 }
 
 impl<S: BuildHasher + Copy> Pairs<S> {
@@ -86,11 +91,29 @@ impl<S: BuildHasher> Pairs<S> {
         Ok(())
     }
 
+    /// The numbers of the id and the name of a record, if these are its two fields as they stand, and
+    /// both were found of late.
+    #[inline]
+    fn known_pair(&self, row: &ByteRecord) -> Option<(u32, u32)>
+        ensures { IfSome result (λ pair. IsKnownPair self.now.ids self.now.names (fields_of row.now) pair.0 pair.1) }
+    {
+        if row.len() != 2 {
+            return None;
+        }
+        let id = known_number(row, 0, &self.ids)?;
+        let name = known_number(row, 1, &self.names)?;
+        Some((id, name))
+    }
+
     /// Adds the pair of a record, if it has a name.
     fn add(&mut self, nth: u32, row: &ByteRecord) -> Result<(), ReadFault>
         ensures fault { MatchResult result (λ _. pair_fault nth (fields_of row.now) ≡ None) (λ fault. Tells fault (pair_fault nth (fields_of row.now))) }
         ensures read { (rows : List (List (List ℕ))) → HasPairs self.old (pairs_of rows) → OnOk result (HasPairs self.new (pairs_of (rows ++ fields_of row.now ∷ []))) }
     {
+        if let Some((place, number)) = self.known_pair(row) {
+            add_number(self.alloc, &mut self.groups, place as usize, number)?;
+            return Ok(());
+        }
         let Some(id) = text_at(row, 0) else {
             return Err(ReadFault::NotText { nth });
         };

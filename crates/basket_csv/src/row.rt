@@ -1,11 +1,12 @@
 //! The texts and the names in a record.
-ghost use Rattle.std.specs.Prelude.{◌≡◌, ◌≤◌, drop, map, fold, MatchOption, IfOk, IfErr, true, false, ℕ};
+ghost use Rattle.std.specs.Prelude.{◌≡◌, ◌≤◌, drop, map, fold, MatchOption, IfOk, IfErr, IfSome, true, false, ℕ};
 ghost use Rattle.std.specs.Str.{is_utf8};
 ghost use Rattle.csv.specs.Records.{fields_of};
 ghost use Rattle.basket_csv.specs.Csv.{field_in, is_text, names_of};
 ghost use Rattle.basket_csv.specs.Names.{number_in, with_name};
+ghost use Rattle.basket_csv.specs.Row.{IsKnownField};
 
-use crate::field::{text_of, trim};
+use crate::field::{is_name, text_of, trim};
 use crate::names::Numbering;
 use basket_read::ReadFault;
 use csv::ByteRecord;
@@ -20,6 +21,23 @@ pub fn text_at(row: &ByteRecord, place: usize) -> Option<&str>
     match row.get(place) {
         Some(field) => text_of(field),
         None => Some(""),
+    }
+}
+
+/// The number of the name in a field, if the field is the name and no more, and it was found of late.
+#[inline]
+pub fn known_number<S: BuildHasher>(
+    row: &ByteRecord,
+    place: usize,
+    names: &Numbering<S>,
+) -> Option<u32>
+    ensures { IfSome result (IsKnownField names.now (field_in (fields_of row.now) place)) }
+{
+    let field = row.get(place)?;
+    if is_name(field) {
+        names.known(field)
+    } else {
+        None
     }
 }
 
@@ -49,6 +67,10 @@ pub fn number_names<S: BuildHasher>(
 {
     numbers.clear();
     for place in first..row.len() {
+        if let Some(number) = known_number(row, place, names) {
+            numbers.push(number)?;
+            continue;
+        }
         let Some(text) = text_at(row, place) else {
             return Ok(false);
         };
