@@ -6,7 +6,7 @@ mod shared;
 mod stage;
 
 use anyhow::Context;
-use basket::{Style, sets_report};
+use basket::{Ask, Plan, Style, sets_report};
 use basket_core::{Coded, MemSource, Minimum, parse_minimum};
 use basket_read::read_fimi;
 use mine_apriori::Levels;
@@ -31,7 +31,7 @@ fn main(rt: HostRuntime) -> anyhow::Result<()> {
                 .as_str()
                 .parse::<u32>()
                 .context("not a number of runs")?;
-            bench(&rt, &rt, minimum, runs)
+            bench(&rt, &rt, Plan::of(Ask::Sets, minimum), runs)
         }
         _ => {
             print!(&rt; "{USAGE}")?;
@@ -45,20 +45,20 @@ fn main(rt: HostRuntime) -> anyhow::Result<()> {
 fn bench<R: Threads + Sync>(
     rt: &HostRuntime,
     threads: &R,
-    minimum: Minimum,
+    plan: Plan,
     runs: u32,
 ) -> anyhow::Result<()> {
     let mut input = Vec::new(rt.alloc());
     rt.stdin().read_to_end(&mut input)?;
     let mut all = Vec::new(rt.alloc());
     for _ in 0..runs {
-        all.push(timed(rt, &input, minimum)?)?;
+        all.push(timed(rt, &input, plan.minimum())?)?;
     }
     print_stages(rt, &all)?;
     let database = read_fimi(rt.alloc(), &mut MemSource::new(&input, usize::MAX, None)).context(
         "the input was not read",
     )?;
-    print_miners(rt, threads, &database, minimum, runs)?;
+    print_miners(rt, threads, &database, plan, runs)?;
     if let Ok(status) = fs::read_to_string(rt, "/proc/self/status") {
         // The most memory that the process has had.
         for line in status

@@ -1,8 +1,8 @@
 //! The times of mining by several workers.
 use crate::stage::print_stage;
 use anyhow::Context;
-use basket::{Ask, Miner, Open, Plan, mine};
-use basket_core::{Database, Minimum};
+use basket::{Miner, Open, Plan, mine};
+use basket_core::Database;
 use std::thread::Threads;
 use std::time::{Duration, Instant};
 
@@ -19,16 +19,28 @@ pub fn print_miners<R: Threads + Sync>(
     rt: &HostRuntime,
     threads: &R,
     database: &Database,
-    minimum: Minimum,
+    plan: Plan,
     runs: u32,
 ) -> anyhow::Result<()> {
     for (name, miner) in MINERS {
-        let plan = Plan::of(Ask::Sets, minimum).with_miner(miner);
-        for workers in [1, 2, 4] {
-            let times = mined(rt, threads, database, &plan.with_workers(workers), runs)?;
-            let name = format!(in rt.alloc(); "{name} by {workers}")?;
-            print_stage(rt, name.as_str(), times)?;
-        }
+        print_workers(rt, threads, database, name, plan.with_miner(miner), runs)?;
+    }
+    Ok(())
+}
+
+/// The same of one miner.
+fn print_workers<R: Threads + Sync>(
+    rt: &HostRuntime,
+    threads: &R,
+    database: &Database,
+    name: &str,
+    plan: Plan,
+    runs: u32,
+) -> anyhow::Result<()> {
+    for plan in [plan, plan.with_workers(2), plan.with_workers(4)] {
+        let times = mined(rt, threads, database, &plan, runs)?;
+        let name = format!(in rt.alloc(); "{name} by {}", plan.workers())?;
+        print_stage(rt, name.as_str(), times)?;
     }
     Ok(())
 }

@@ -1,6 +1,6 @@
 -- Supports over the parts of a list of baskets: those that a seat has added are bounded by the support in the baskets before the next part, and all together are the supports in the baskets.
-use Rattle.std.proofs.Common.{◌≡◌, ℕ, zero, suc, ◌+◌, ◌-◌, ◌^◌, ◌<◌, ◌≤◌, List, [], ◌∷◌, ◌++◌, map, take, length, get_or, replicate, refl, ap, sym, ◌∙◌, arith, add-zero}
-use Rattle.std.specs.Prelude.{All, IsPermutation, slice_index}
+use Rattle.std.proofs.Common.{◌≡◌, ℕ, zero, suc, ◌+◌, ◌-◌, ◌^◌, ◌<◌, ◌≤◌, List, [], ◌∷◌, ◌++◌, map, take, length, get_or, replicate, Ok, refl, ap, sym, ◌∙◌, subst, arith, add-zero}
+use Rattle.std.specs.Prelude.{All, Any, IsPermutation, slice_index}
 use Rattle.std.specs.List.{range_with_len, sum_by}
 use Rattle.std.proofs.lemmas.List.{get_or-map, length-map, length-replicate}
 use Rattle.std.proofs.lemmas.List.Elements.{All-head, All-tail}
@@ -16,7 +16,9 @@ use Rattle.basket_sets.specs.Support.{support_of, total_of, weight_at}
 use Rattle.mine_round.specs.SeatView.{SeatView}
 use Rattle.mine_round.specs.Totals.{added_by, claimed_by}
 use Rattle.mine_phases.specs.Level.{AddsSupports, part_support}
+use Rattle.mine_phases.specs.declared.share.Share.{Share}
 use Rattle.mine_phases.proofs.Claims.{behind, behind-le, behind_push}
+use Rattle.mine_phases.proofs.Shares.{Ends, each_seat, some_seat}
 
 sum_by-map : {X Y : Type 0} (f : Y → ℕ) (g : X → Y) (xs : List X) → sum_by f (map g xs) ≡ sum_by (λ x. f (g x)) xs
 sum_by-map f g [] = refl
@@ -162,7 +164,7 @@ same_at (x ∷ xs) (y ∷ ys) long each =
     let rest = same_at xs ys (omega arith) (λ k within. each (suc k) (omega arith)) in λ i. first i ∷ rest i
 
 -- the totals of the counters are the supports in all baskets
-pub totals_are_supports : (baskets : List Weighted) (pieces : ℕ) (sets : List (List ℕ)) (seats : List SeatView) (totals : List ℕ) → 1 ≤ pieces → length totals ≡ length sets
+totals_are_supports : (baskets : List Weighted) (pieces : ℕ) (sets : List (List ℕ)) (seats : List SeatView) (totals : List ℕ) → 1 ≤ pieces → length totals ≡ length sets
     → All (AddsSupports baskets pieces sets) seats → IsPermutation (claimed_by seats) (range_with_len 0 pieces)
     → ((k : ℕ) → k < length totals → slice_index totals k ≡ added_by seats k) → totals ≡ map (support_of baskets) sets
 totals_are_supports baskets pieces sets seats totals some long all claimed each =
@@ -173,3 +175,14 @@ totals_are_supports baskets pieces sets seats totals some long all claimed each 
     ∙ sym (sum_by-IsPermutation (part_support baskets pieces (get_or sets k [])) (claimed_by seats) (range_with_len 0 pieces) claimed)
     ∙ parts_are_all baskets pieces (get_or sets k []) some
     ∙ sym (get_or-map (support_of baskets) sets k [] 0 short))
+
+-- where each worker came to its end, the totals are the supports in all baskets
+pub shares_are_supports : (baskets : List Weighted) (pieces : ℕ) (sets : List (List ℕ)) (shares : List (Share (Unit {0}))) (done : List (Unit {0})) (seats : List SeatView) (all : ℕ) (totals : List ℕ)
+    → 1 ≤ pieces → 1 ≤ length shares → map Ok done ≡ map (λ share. share.values) shares → All (Ends (AddsSupports baskets pieces sets)) shares → seats ≡ map (λ share. share.seat) shares
+    → (Any (λ seat. 0 < seat.held.past) seats → all ≡ pieces) → IsPermutation (claimed_by seats) (range_with_len 0 all) → length totals ≡ length sets
+    → ((k : ℕ) → k < length totals → slice_index totals k ≡ added_by seats k) → totals ≡ map (support_of baskets) sets
+shares_are_supports baskets pieces sets shares done seats all totals some worked ends says same ended claimed long each =
+    let P : SeatView → Type 0 = AddsSupports baskets pieces sets in
+    let adds : All P seats = subst (All P) (sym same) (each_seat P shares done ends says) in
+    let whole = ended (some_seat P (λ seat. 0 < seat.held.past) (λ seat says. says.ended) seats (omega (arith, ap length same, length-map shares (λ share. share.seat))) adds) in
+    totals_are_supports baskets pieces sets seats totals some long adds (subst (λ n. IsPermutation (claimed_by seats) (range_with_len 0 n)) whole claimed) each

@@ -5,3 +5,4 @@ pub mod Level
 pub mod Found
 pub mod Classes
 pub mod Pairs
+pub mod Triangle

@@ -2,10 +2,10 @@
 //! baskets or the ranks are cut into so many parts, and what is found doesn't depend on which
 //! worker takes which.
 //!
-//! `counting` counts the items. Of `apriori`, `pairs` finds the frequent pairs, and `level` counts the
-//! candidates of a level. `classes` mines class by class with a `class_miner`, whose sets are told to
-//! the tally `found`. `share` is what a worker hands back, `placed` puts the values of pieces in their
-//! order, and workers pass a `gate` with each piece.
+//! `counting` counts the items. Of `apriori`, `triangle` counts the pairs of few ranks, `pairs` finds
+//! the frequent pairs of many, and `level` counts the candidates of a level. `classes` mines class by
+//! class with a `class_miner`, whose sets are told to the tally `found`. `share` is what a worker hands
+//! back, `placed` puts the values of pieces in their order, and workers pass a `gate` with each piece.
 #![tactic(auto)]
 
 mod apriori;

@@ -1,8 +1,9 @@
 //! The pairs of few ranks, each of which has a counter that the workers share.
 ghost use Rattle.std.specs.Prelude.{◌≡◌, ◌≤◌, IfOk, length, map};
 ghost use Rattle.basket_sets.specs.Support.{support_of};
-ghost use Rattle.mine_apriori.specs.Triangle.{AreSupports, all_pairs};
+ghost use Rattle.mine_apriori.specs.Triangle.{AreSupports};
 ghost use Rattle.mine_phases.specs.Level.{AddsSupports, IsLevelShare};
+ghost use Rattle.mine_phases.specs.Triangle.{rank_pairs};
 ghost use Rattle.mine_round.specs.Record.{unused};
 
 use crate::cutting::Cutting;
@@ -30,10 +31,10 @@ impl<G: Gate> Counting<'_, G> {
     /// all to the counters once no part is left.
     fn share(&self, alloc: Global, worker: u32, mut seat: RoundSeat) -> Share<()>
         requires own { seat.round ≡ self.now.round.now.id }
-        requires unused { seat.held ≡ unused 1 (length (all_pairs (length self.now.coded.now.items))) }
+        requires unused { seat.held ≡ unused 1 (length (rank_pairs self.now.coded.now)) }
         requires pieces { (1 ≤ self.now.pieces) × (self.now.round.now.pieces ≡ self.now.pieces) }
-        requires counters { self.now.round.now.counters ≡ length (all_pairs (length self.now.coded.now.items)) }
-        ensures { IsLevelShare self.now.round.now self.now.coded.now.baskets self.now.pieces (all_pairs (length self.now.coded.now.items)) result }
+        requires counters { self.now.round.now.counters ≡ length (rank_pairs self.now.coded.now) }
+        ensures { IsLevelShare self.now.round.now self.now.coded.now.baskets self.now.pieces (rank_pairs self.now.coded.now) result }
     {
         let values = match self.add_supports(alloc, worker, &mut seat) {
             Ok(()) => Ok(()),
@@ -49,11 +50,11 @@ impl<G: Gate> Counting<'_, G> {
         seat: &mut RoundSeat,
     ) -> Result<(), AllocError>
         requires own { seat.old.round ≡ self.now.round.now.id }
-        requires unused { seat.old.held ≡ unused 1 (length (all_pairs (length self.now.coded.now.items))) }
+        requires unused { seat.old.held ≡ unused 1 (length (rank_pairs self.now.coded.now)) }
         requires pieces { (1 ≤ self.now.pieces) × (self.now.round.now.pieces ≡ self.now.pieces) }
-        requires counters { self.now.round.now.counters ≡ length (all_pairs (length self.now.coded.now.items)) }
+        requires counters { self.now.round.now.counters ≡ length (rank_pairs self.now.coded.now) }
         ensures own { seat.new.round ≡ seat.old.round }
-        ensures added { IfOk result (λ _. AddsSupports self.now.coded.now.baskets self.now.pieces (all_pairs (length self.now.coded.now.items)) seat.new) }
+        ensures added { IfOk result (λ _. AddsSupports self.now.coded.now.baskets self.now.pieces (rank_pairs self.now.coded.now) seat.new) }
     {
         let baskets = self.coded.baskets();
         let mut triangle = Triangle::new(alloc, self.coded.ranks())?;
@@ -91,8 +92,8 @@ pub fn count_triangle<'a, R: Threads + Sync, G: Gate + Sync>(
         rt,
         numbered(alloc, seats)?,
         &|job: (u32, RoundSeat)| -> Share<()>
-            requires { (job.1.round ≡ lent.now.round.now.id) × (job.1.held ≡ unused 1 (length (all_pairs (length lent.now.coded.now.items)))) × (1 ≤ lent.now.pieces) × (lent.now.round.now.pieces ≡ lent.now.pieces) × (lent.now.round.now.counters ≡ length (all_pairs (length lent.now.coded.now.items))) }
-            ensures { IsLevelShare lent.entry.now.round.now lent.entry.now.coded.now.baskets lent.entry.now.pieces (all_pairs (length lent.entry.now.coded.now.items)) result }
+            requires { (job.1.round ≡ lent.now.round.now.id) × (job.1.held ≡ unused 1 (length (rank_pairs lent.now.coded.now))) × (1 ≤ lent.now.pieces) × (lent.now.round.now.pieces ≡ lent.now.pieces) × (lent.now.round.now.counters ≡ length (rank_pairs lent.now.coded.now)) }
+            ensures { IsLevelShare lent.entry.now.round.now lent.entry.now.coded.now.baskets lent.entry.now.pieces (rank_pairs lent.entry.now.coded.now) result }
         { lent.share(alloc, job.0, job.1) },
     )?;
     let (seats, ended) = parted(shares, back, done);

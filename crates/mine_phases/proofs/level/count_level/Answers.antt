@@ -1,16 +1,11 @@
-use Rattle.std.proofs.Common.{◌≡◌, ◌≤◌, ◌<◌, ap, sym, ◌∙◌, subst, arith, map, length, get_or, Ok}
-use Rattle.std.specs.Prelude.{All, IsPermutation}
-use Rattle.std.specs.List.{range_with_len}
+use Rattle.std.proofs.Common.{◌≡◌, ◌≤◌, ◌<◌, ap, sym, ◌∙◌, arith, map, length, get_or, Ok}
 use Rattle.std.proofs.lemmas.List.{get_or-map, length-map}
 use Rattle.std.proofs.lemmas.List.Elements.{All-map, All-same}
 use Rattle.basket_sets.specs.Support.{support_of}
 use Rattle.mine_round.specs.Record.{unused}
 use Rattle.mine_round.specs.SeatView.{SeatView}
-use Rattle.mine_round.specs.Totals.{claimed_by}
 use Rattle.mine_phases.specs.declared.share.Share.{Share}
-use Rattle.mine_phases.specs.Level.{AddsSupports}
-use Rattle.mine_phases.proofs.Shares.{each_seat, some_seat}
-use Rattle.mine_phases.proofs.Supports.{totals_are_supports}
+use Rattle.mine_phases.proofs.Supports.{shares_are_supports}
 use Rattle.mine_phases.proofs.level.count_level.Goals as goal
 
 pub map_vec-requires-after_bounds : goal.map_vec-requires-after_bounds
@@ -41,26 +36,12 @@ pub returns-in-Ok-ended : goal.returns-in-Ok-ended
 returns-in-Ok-ended g c =
     let shares = c.in_ok-shares.shares.items in
     let baskets = c.args.baskets.now in
-    let pieces = c.args.cutting.pieces in
     let sets = c.in_ok-tree.tree in
-    let P : SeatView → Type 0 = AddsSupports baskets pieces sets in
     let all : map Ok c.in-Ok-ended.field-0.items ≡ map (λ (s : Share (Unit {0})). s.values) shares = rw c.in-Ok-ended.is at c.parted-seats.ensures.lists in
-    let says : All P (map (λ (s : Share (Unit {0})). s.seat) shares) = each_seat P shares c.in-Ok-ended.field-0.items all
-    (λ k d below. (c.in_ok-shares.ensures.each k d (omega (arith, c.in_ok-shares.ensures.len))).1.call.met.values) in
-    let seats = All-same P _ _ c.parted-seats.ensures.seats says in
-    let some : 1 ≤ length c.parted-seats.result.0.items = omega (
-      arith,
-      ap length c.parted-seats.ensures.seats,
-      length-map shares (λ (s : Share (Unit {0})). s.seat),
-      c.in_ok-shares.ensures.len,
-      ap length c.in_ok-numbered.ensures,
-      length-map c.in_ok-numbered.field-0.items (λ worker. worker.1),
-      c.in_ok-round.ensures.seats,
-      c.args.cutting.some_workers.0,
-    ) in
-    let ended = c.in-Ok.ensures.ended (some_seat P (λ s. 0 < s.held.past) (λ seat says. says.ended) c.parted-seats.result.0.items some seats) ∙ c.in_ok-round.ensures.round.0 in
-    let claimed = subst (λ n. IsPermutation (claimed_by c.parted-seats.result.0.items) (range_with_len 0 n)) ended c.in-Ok.ensures.claimed in
+    let some : 1 ≤ length shares = omega (arith, c.in_ok-shares.ensures.len, ap length c.in_ok-numbered.ensures, length-map c.in_ok-numbered.field-0.items (λ worker. worker.1), c.in_ok-round.ensures.seats, c.args.cutting.some_workers.0) in
     let long : length c.in-Ok.totals.counters.items ≡ length sets =
     omega (arith, c.in-Ok.ensures.counters, c.in-Ok.totals.counters.ok, c.in_ok-round.ensures.round.1, ap length c.in_ok-tree.ensures) in
-    totals_are_supports baskets pieces sets c.parted-seats.result.0.items c.in-Ok.totals.counters.items c.args.cutting.some_pieces.0 long seats claimed (λ k below. c.in-Ok.ensures.sums k below)
+    shares_are_supports baskets c.args.cutting.pieces sets shares c.in-Ok-ended.field-0.items c.parted-seats.result.0.items c.in-Ok.totals.claimed c.in-Ok.totals.counters.items
+    c.args.cutting.some_pieces.0 some all (λ k d below. (c.in_ok-shares.ensures.each k d (omega (arith, c.in_ok-shares.ensures.len))).1.call.met.values)
+    c.parted-seats.ensures.seats (λ any. c.in-Ok.ensures.ended any ∙ c.in_ok-round.ensures.round.0) c.in-Ok.ensures.claimed long (λ k below. c.in-Ok.ensures.sums k below)
     ∙ ap (map (support_of baskets)) c.in_ok-tree.ensures

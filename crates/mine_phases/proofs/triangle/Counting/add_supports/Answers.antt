@@ -1,7 +1,7 @@
 use Rattle.std.proofs.Common.{◌+◌, ap, sym, ◌∙◌, refl, subst, arith, length, get_or, slice_index, []}
 use Rattle.basket_core.specs.Shards.{shard_of}
 use Rattle.basket_sets.specs.Support.{support_of, total_of}
-use Rattle.mine_apriori.specs.Triangle.{all_pairs}
+use Rattle.mine_phases.specs.Triangle.{rank_pairs}
 use Rattle.mine_phases.proofs.Claims.{behind, behind-le, behind_push}
 use Rattle.mine_phases.proofs.Parts.{part_is}
 use Rattle.mine_phases.proofs.Supports.{HasAdded, added_fits, index_zero, part_added, part_fits}
@@ -13,7 +13,7 @@ add-requires-clause-light g c k below =
     let coding = c.args.self.now.coded.now in
     let piece = c.in-Some.piece in
     let part = part_is c.baskets-baskets.result.now _ _ piece pieces _ refl c.shard-start.ensures.start c.shard-start.ensures.end ∙ ap (shard_of piece pieces) c.baskets-baskets.ensures.baskets in
-    let fits = part_fits coding.baskets pieces (all_pairs (length coding.items)) c.loop-piece.seat.held.claimed c.loop-piece.triangle piece c.requires.pieces.0 c.in-Some.ensures.rises c.loop-piece.invariant.counted
+    let fits = part_fits coding.baskets pieces (rank_pairs coding) c.loop-piece.seat.held.claimed c.loop-piece.triangle piece c.requires.pieces.0 c.in-Some.ensures.rises c.loop-piece.invariant.counted
     c.baskets-baskets.ensures.coding.light k below in
     let weight = ap total_of part in omega arith
 
@@ -30,7 +30,7 @@ loop-piece-preserved g c =
     let was = c.loop-piece.invariant in
     let pieces = c.args.self.now.pieces in
     let coding = c.args.self.now.coded.now in
-    let sets = all_pairs (length coding.items) in
+    let sets = rank_pairs coding in
     let piece = c.in-Some.piece in
     let claim = c.in-Some.ensures.piece.1 in
     let high = ap (λ h. behind h.claimed) claim ∙ behind_push before.claimed piece c.in-Some.ensures.rises in
@@ -50,7 +50,7 @@ pub add_counts-requires-clause-room : goal.add_counts-requires-clause-room
 add_counts-requires-clause-room g c k below =
     let pieces = c.args.self.now.pieces in
     let coding = c.args.self.now.coded.now in
-    let sets = all_pairs (length coding.items) in
+    let sets = rank_pairs coding in
     let was = c.loop-piece.invariant in
     let same = c.counts.ensures in
     let fits = added_fits coding.baskets pieces sets c.loop-piece.seat.held.claimed c.loop-piece.triangle was.counted c.baskets-baskets.ensures.coding.light k (omega (arith, below, ap length same, was.counted.sized)) in

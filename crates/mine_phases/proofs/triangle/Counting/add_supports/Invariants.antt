@@ -1,6 +1,6 @@
 use Rattle.std.proofs.Common.{◌≡◌, ◌≤◌, ◌-◌, length}
 use Rattle.std.specs.Prelude.{replicate}
-use Rattle.mine_apriori.specs.Triangle.{all_pairs}
+use Rattle.mine_phases.specs.Triangle.{rank_pairs}
 use Rattle.mine_phases.proofs.Claims.{behind}
 use Rattle.mine_phases.proofs.Supports.{HasAdded}
 use Rattle.mine_phases.proofs.triangle.Counting.add_supports.Given as goal
@@ -9,8 +9,8 @@ abbrev pub invariant-loop-piece : goal.invariant-loop-piece
 invariant-loop-piece g l = record {
   own : l.seat.round ≡ l.fn.seat.round;
   within : behind l.seat.held.claimed ≤ l.self.pieces;
-  none : l.seat.held.added ≡ replicate (length (all_pairs (length l.self.coded.now.items))) 0;
-  counted : HasAdded l.self.coded.now.baskets l.self.pieces (all_pairs (length l.self.coded.now.items)) l.seat.held.claimed l.triangle;
+  none : l.seat.held.added ≡ replicate (length (rank_pairs l.self.coded.now)) 0;
+  counted : HasAdded l.self.coded.now.baskets l.self.pieces (rank_pairs l.self.coded.now) l.seat.held.claimed l.triangle;
 }
 
 abbrev pub decreases-loop-piece : goal.decreases-loop-piece
