@@ -12,6 +12,7 @@ mod keys;
 pub mod laws;
 mod ranks;
 mod shards;
+mod sizes;
 mod tally;
 pub mod worked;
 

@@ -1,11 +1,11 @@
-ghost use Rattle.std.specs.Prelude.{◌≡◌, ◌≤◌, [], ◌↔◌, length, map, slice_index_or, IsTrue, IsOk, IfOk, nat_eq};
+ghost use Rattle.std.specs.Prelude.{◌≡◌, ◌≤◌, ◌<◌, [], ◌↔◌, length, map, slice_index_or, IsTrue, IsOk, IfOk, nat_eq};
 ghost use Rattle.std.specs.Cmp.{partial_equiv_from_equiv};
 ghost use Rattle.std.specs.Cmp.Lexicographic.{pointwise, nat_list_eq_equiv};
 ghost use Rattle.std.specs.Hash as fed;
 ghost use Rattle.std.specs.Ordering.{as_partial_cmp};
 ghost use Rattle.std.proofs.Common.{refl};
 ghost use Rattle.basket_sets.specs.Order.{report_order, report_order_total, report_order_ties, report_order_partial, items_fed_alike};
-ghost use Rattle.basket_sets.specs.Itemset.{AllBelow, IsRising, has, contains, rising};
+ghost use Rattle.basket_sets.specs.Itemset.{AllBelow, IsRising, has, contains, rising, with_item};
 ghost use Rattle.basket_sets.specs.declared.itemset.TheConstants.{INLINE_ITEMS};
 
 use smallvec::SmallVec;
@@ -81,6 +81,18 @@ impl Itemset {
         let Itemset { mut items } = self;
         rename(items.as_mut_slice(), names);
         Itemset::of_numbers(items)
+    }
+
+    /// The set with one item more, or the same where the item is there.
+    pub fn with(&self, alloc: Global, item: u32) -> Result<Self, AllocError>
+        ensures ok { IfOk result (λ more. more ≡ with_item item self.now) }
+        ensures short { length self.now < INLINE_ITEMS → IsOk result }
+    {
+        let mut items = SmallVec::from_slice(alloc, self.items.as_slice())?;
+        if let Err(place) = self.items().binary_search(&item) {
+            items.insert(place, item)?;
+        }
+        Ok(Itemset { items })
     }
 
     /// The items, strictly rising.

@@ -1,5 +1,5 @@
 -- Rising lists of items, what they have, and what they contain.
-use Rattle.std.proofs.Common.{◌≡◌, ◌≢◌, ℕ, ◌+◌, ◌<◌, ◌≤◌, Bool, true, false, ◌||◌, List, [], ◌∷◌, ◌++◌, length, cond, eqb, ltb, refl, sym, ap, ◌∙◌, subst, inl, inr, ◌⊎◌, arith, get_or, take, Result, Ok, Err, is_ok}
+use Rattle.std.proofs.Common.{◌≡◌, ◌≢◌, ℕ, zero, suc, ◌+◌, ◌<◌, ◌≤◌, Bool, true, false, ◌||◌, List, [], ◌∷◌, ◌++◌, length, cond, eqb, ltb, refl, sym, ap, ◌∙◌, subst, inl, inr, ◌⊎◌, arith, get_or, take, Result, Ok, Err, is_ok}
 use Rattle.std.specs.declared.cmp.Ordering.TheVariants.{Less, Equal, Greater}
 use Rattle.std.specs.Ordering.{nat_cmp}
 use Rattle.std.specs.Cmp.{nat_cmp_total}
@@ -9,7 +9,7 @@ use Rattle.std.proofs.Math.Bool.{or-false, or_assoc}
 use Rattle.std.proofs.lemmas.Bool.Decides.{nat_tests}
 use Rattle.basket_sets.specs.Itemset.{IsRising, has, contains, with_item, rising}
 use Rattle.std.specs.List.Sorted.{IsBinarySearchResult, IsPermutation, IsSorted}
-use Rattle.std.specs.List.{Contains, IsAllAdjacentAnswer, dedup}
+use Rattle.std.specs.List.{Contains, IsAllAdjacentAnswer, dedup, insert}
 use Rattle.std.proofs.lemmas.List.{get_or_default, get_or-take, length-take, take_more}
 use Rattle.std.proofs.lemmas.List.Kept.{Contains-dedup_nat, Contains-from_dedup}
 use Rattle.std.proofs.lemmas.List.Sorted.{searched, Contains-permutation, IsPermutation-sym}
@@ -248,6 +248,35 @@ rising-dedup numbers sorted moved up = sym (rising_is numbers (dedup eqb sorted)
 -- what a search answers: a place of the item, or that no place has it
 pub found_at : (items : List ℕ) (item found : ℕ) → IsRising items → IsBinarySearchResult (λ y. nat_cmp y item) items (Ok found) → (found < length items) × (get_or items found 0 ≡ item)
 found_at items item found up is = searched items item (Ok found) is (rises_by_places items up)
+
+-- a rising list with an item put at its place
+pub inserted_is : (items : List ℕ) (place item : ℕ) → place ≤ length items → ((k : ℕ) → k < place → get_or items k 0 < item)
+    → ((k : ℕ) → place ≤ k → k < length items → item < get_or items k 0) → insert items place item ≡ with_item item items
+inserted_is [] zero item short below above = refl
+inserted_is [] (suc place) item short below above = absurd (omega (arith, short))
+inserted_is (x ∷ items) zero item short below above =
+    sym (ap (λ p. cond p (item ∷ x ∷ items) (cond (eqb item x) (x ∷ items) (x ∷ with_item item items))) (lt-ltb item x (above 0 (omega arith) (omega arith))))
+inserted_is (x ∷ items) (suc place) item short below above =
+    let first : x < item = below 0 (omega arith) in
+    let not_less : ltb item x ≡ false = false_from_ne_true _ (λ h. let less = ltb-true item x h in omega arith) in
+    let not_equal : eqb item x ≡ false = false_from_ne_true _ (λ h. let same = eqb-true item x h in omega arith) in
+    ap (λ l. x ∷ l) (inserted_is items place item (omega arith) (λ k less. below (suc k) (omega arith)) (λ k more inside. above (suc k) (omega arith) (omega arith)))
+    ∙ sym (ap (λ p. cond p (item ∷ x ∷ items) (cond (eqb item x) (x ∷ items) (x ∷ with_item item items))) not_less
+    ∙ ap (λ q. cond q (x ∷ items) (x ∷ with_item item items)) not_equal)
+
+-- a rising list with an item that a search found, or with one put where it has to stand
+pub with_found : (items : List ℕ) (item found : ℕ) → IsRising items → IsBinarySearchResult (λ y. nat_cmp y item) items (Ok found) → items ≡ with_item item items
+with_found items item found up is = same_rising items (with_item item items) up (with_item-rises item items up)
+    (λ z m. Member-into_with_item item items z (inr m))
+    (λ z m. elim (Member-with_item item items z m) [
+      | inl e ↦ Member-from_has items z (subst (λ y. has items y ≡ true) e (sym (search_is_has items item (Ok found) up is)))
+      | inr n ↦ n
+    ])
+
+pub with_put : (items : List ℕ) (item place : ℕ) → IsRising items → IsBinarySearchResult (λ y. nat_cmp y item) items (Err place)
+    → (place ≤ length items) × (insert items place item ≡ with_item item items)
+with_put items item place up is =
+    let s = searched items item (Err place) is (rises_by_places items up) in (s.0, inserted_is items place item s.0 s.1 s.2)
 
 -- an item that was not found stands nowhere
 pub found_nowhere : (items : List ℕ) (item place : ℕ) → IsRising items → IsBinarySearchResult (λ y. nat_cmp y item) items (Err place) → (k : ℕ) → k < length items → get_or items k 0 ≢ item
