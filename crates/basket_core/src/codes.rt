@@ -1,5 +1,5 @@
 //! The frequent items by rank, and baskets as lists of ranks.
-ghost use Rattle.std.specs.Prelude.{◌≡◌, List, ℕ, IfOk, length, map, slice_index_or};
+ghost use Rattle.std.specs.Prelude.{◌≡◌, ◌<◌, List, ℕ, IfOk, length, map, slice_index_or};
 ghost use Rattle.basket_sets.specs.Counts.{AllBelow};
 ghost use Rattle.basket_core.specs.Codes.{IsCoding, coded_place, coding_of, decoded, merged_coding, ranking_of, ranks_of_counts};
 ghost use Rattle.basket_sets.specs.Itemset.{IsRising};
@@ -152,6 +152,14 @@ impl Coded {
     /// The greatest frequent item, or 0 where there is none.
     pub(crate) fn greatest_item(&self) -> u32 {
         self.items.iter().copied().max().unwrap_or(0)
+    }
+
+    /// The item of a rank.
+    pub fn item(&self, rank: u32) -> u32
+        requires { rank < length self.now.items }
+        ensures { result ≡ slice_index_or self.now.items rank 0 }
+    {
+        self.items[rank as usize]
     }
 
     /// The set of the items of the ranks. It takes the room of the ranks.

@@ -8,6 +8,7 @@ ghost use Rattle.basket_sets.specs.Order.{report_order, report_order_total, repo
 ghost use Rattle.basket_sets.specs.Itemset.{AllBelow, IsRising, has, contains, rising, with_item};
 ghost use Rattle.basket_sets.specs.declared.itemset.TheConstants.{INLINE_ITEMS};
 
+use crate::short::put_in_order;
 use smallvec::SmallVec;
 use std::alloc::{AllocError, Global};
 use std::cmp::Ordering;
@@ -19,7 +20,7 @@ use std::marker::Model;
 pub const INLINE_ITEMS: usize = 12;
 
 /// Whether each number is below the next, as they are in most files.
-fn is_rising(numbers: &[u32]) -> bool
+pub fn is_rising(numbers: &[u32]) -> bool
     ensures { IsTrue result ↔ IsRising numbers.now }
 {
     numbers.is_sorted_by(|number, next| number < next)
@@ -65,7 +66,7 @@ impl Itemset {
     fn of_numbers(mut items: SmallVec<u32, { INLINE_ITEMS }>) -> Self
         ensures { result ≡ rising items.items }
     {
-        if !is_rising(items.as_slice()) {
+        if !is_rising(items.as_slice()) && !put_in_order(items.as_mut_slice()) {
             items.as_mut_slice().sort_unstable();
             items.dedup();
         }

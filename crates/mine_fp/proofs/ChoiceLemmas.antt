@@ -11,10 +11,10 @@ use Rattle.basket_sets.specs.declared.counted.Counted.{Counted}
 use Rattle.basket_sets.specs.declared.minimum.Minimum.TheVariants.{Count}
 use Rattle.basket_sets.specs.Database.{weighted}
 use Rattle.basket_sets.specs.Frequent.{IsNonemptySet, ListsOnce, counted, is_frequent}
-use Rattle.basket_sets.specs.Itemset.{IsRising, has, rising}
+use Rattle.basket_sets.specs.Itemset.{IsRising, has, with_item}
 use Rattle.basket_sets.specs.Support.{support_of, total_of}
 use Rattle.basket_sets.proofs.theory.Members.{All-from_Member, Contains-from_Member, Member, Member-append, Member-append_left, Member-append_right, Member-filter, Member-from_Contains, Member-from_map, Member-map, at_Member}
-use Rattle.basket_sets.proofs.theory.Rising.{Member-into_rising, Member-rising, contains_each, first_below, has-from_Member, has_each, rest_rises, same_test}
+use Rattle.basket_sets.proofs.theory.Rising.{contains_each, first_below, has-from_Member, has_each, rest_rises, same_test}
 use Rattle.basket_sets.proofs.theory.Support.{meets_more, support_falls}
 use Rattle.mine_classes.specs.Classes.{ClassesAreAll, ClassesAreConditional, ListClasses, ListsClass, RanksAreBelow, class_of, ends_in, extended, with_rank}
 use Rattle.mine_classes.specs.Conditional.{ConditionalSupports, conditional, is_kept}
@@ -166,46 +166,38 @@ module _ (baskets : List Weighted) (least rank : ℕ) (one : is_branch baskets �
 -- ---- as items
 
 pub chosen_items : (names suffix : List ℕ) (rank support : ℕ) (c : Counted) (item : ℕ) → item ≡ get_or names rank 0
-    → record { set = rising ((as_items names suffix c).set ++ item ∷ []); count = support } ≡ as_items names suffix (with_rank rank (recounted support c))
+    → record { set = with_item item (as_items names suffix c).set; count = support } ≡ as_items names suffix (with_rank rank (recounted support c))
 chosen_items names suffix rank support c item is =
-    let told = rising (map (λ k. get_or names k 0) c.set ++ suffix) ++ item ∷ [] in
-    let whole = map (λ k. get_or names k 0) (c.set ++ rank ∷ []) ++ suffix in
-    let same = rising_same told whole into back in
+    let same = rising_same (item ∷ map (λ k. get_or names k 0) c.set ++ suffix) (map (λ k. get_or names k 0) (c.set ++ rank ∷ []) ++ suffix) into back in
     λ i. record { set = same i; count = support }
   where
-    into : (z : ℕ) → Member z (rising (map (λ k. get_or names k 0) c.set ++ suffix) ++ item ∷ []) → Member z (map (λ k. get_or names k 0) (c.set ++ rank ∷ []) ++ suffix)
-    into z m = elim (Member-append z (rising (map (λ k. get_or names k 0) c.set ++ suffix)) (item ∷ []) m) [
-      | inl n ↦ elim (Member-append z (map (λ k. get_or names k 0) c.set) suffix (Member-rising (map (λ k. get_or names k 0) c.set ++ suffix) z n)) [
-        | inl o ↦
-            (let d = Member-from_map (λ k. get_or names k 0) z c.set o in
-            Member-append_left z (map (λ k. get_or names k 0) (c.set ++ rank ∷ [])) suffix
-            (subst (λ x. Member x (map (λ k. get_or names k 0) (c.set ++ rank ∷ []))) d.2 (Member-map (λ k. get_or names k 0) d.0 (c.set ++ rank ∷ []) (Member-append_left d.0 c.set (rank ∷ []) d.1))))
-        | inr o ↦ Member-append_right z (map (λ k. get_or names k 0) (c.set ++ rank ∷ [])) suffix o
-      ]
-      | inr (inl e) ↦ Member-append_left z (map (λ k. get_or names k 0) (c.set ++ rank ∷ [])) suffix
-          (subst (λ x. Member x (map (λ k. get_or names k 0) (c.set ++ rank ∷ []))) (sym is ∙ e) (Member-map (λ k. get_or names k 0) rank (c.set ++ rank ∷ []) (Member-append_right rank c.set (rank ∷ []) (inl refl))))
-      | inr (inr n) ↦ absurd n
+    into : (z : ℕ) → Member z (item ∷ map (λ k. get_or names k 0) c.set ++ suffix) → Member z (map (λ k. get_or names k 0) (c.set ++ rank ∷ []) ++ suffix)
+    into z (inl e) = Member-append_left z (map (λ k. get_or names k 0) (c.set ++ rank ∷ [])) suffix
+        (subst (λ x. Member x (map (λ k. get_or names k 0) (c.set ++ rank ∷ []))) (sym is ∙ e) (Member-map (λ k. get_or names k 0) rank (c.set ++ rank ∷ []) (Member-append_right rank c.set (rank ∷ []) (inl refl))))
+    into z (inr n) = elim (Member-append z (map (λ k. get_or names k 0) c.set) suffix n) [
+      | inl o ↦
+          (let d = Member-from_map (λ k. get_or names k 0) z c.set o in
+          Member-append_left z (map (λ k. get_or names k 0) (c.set ++ rank ∷ [])) suffix
+          (subst (λ x. Member x (map (λ k. get_or names k 0) (c.set ++ rank ∷ []))) d.2 (Member-map (λ k. get_or names k 0) d.0 (c.set ++ rank ∷ []) (Member-append_left d.0 c.set (rank ∷ []) d.1))))
+      | inr o ↦ Member-append_right z (map (λ k. get_or names k 0) (c.set ++ rank ∷ [])) suffix o
     ]
 
-    back : (z : ℕ) → Member z (map (λ k. get_or names k 0) (c.set ++ rank ∷ []) ++ suffix) → Member z (rising (map (λ k. get_or names k 0) c.set ++ suffix) ++ item ∷ [])
+    back : (z : ℕ) → Member z (map (λ k. get_or names k 0) (c.set ++ rank ∷ []) ++ suffix) → Member z (item ∷ map (λ k. get_or names k 0) c.set ++ suffix)
     back z m = elim (Member-append z (map (λ k. get_or names k 0) (c.set ++ rank ∷ [])) suffix m) [
       | inl n ↦
           (let d = Member-from_map (λ k. get_or names k 0) z (c.set ++ rank ∷ []) n in
           elim (Member-append d.0 c.set (rank ∷ []) d.1) [
-            | inl o ↦ Member-append_left z (rising (map (λ k. get_or names k 0) c.set ++ suffix)) (item ∷ [])
-                (Member-into_rising (map (λ k. get_or names k 0) c.set ++ suffix) z
-                (Member-append_left z (map (λ k. get_or names k 0) c.set) suffix (subst (λ x. Member x (map (λ k. get_or names k 0) c.set)) d.2 (Member-map (λ k. get_or names k 0) d.0 c.set o))))
-            | inr (inl e) ↦ Member-append_right z (rising (map (λ k. get_or names k 0) c.set ++ suffix)) (item ∷ []) (inl (is ∙ ap (λ k. get_or names k 0) e ∙ d.2))
+            | inl o ↦ inr (Member-append_left z (map (λ k. get_or names k 0) c.set) suffix (subst (λ x. Member x (map (λ k. get_or names k 0) c.set)) d.2 (Member-map (λ k. get_or names k 0) d.0 c.set o)))
+            | inr (inl e) ↦ inl (is ∙ ap (λ k. get_or names k 0) e ∙ d.2)
             | inr (inr o) ↦ absurd o
           ])
-      | inr n ↦ Member-append_left z (rising (map (λ k. get_or names k 0) c.set ++ suffix)) (item ∷ [])
-          (Member-into_rising (map (λ k. get_or names k 0) c.set ++ suffix) z (Member-append_right z (map (λ k. get_or names k 0) c.set) suffix n))
+      | inr n ↦ inr (Member-append_right z (map (λ k. get_or names k 0) c.set) suffix n)
     ]
 
 -- one more of the sets of lower ranks
 pub chosen_more : (names suffix : List ℕ) (rank support item at k : ℕ) (d : Counted) (before old now new sets : List Counted) → k < length sets → length before + k ≡ at
     → old ≡ before ++ map (as_items names suffix) sets → item ≡ get_or names rank 0 → now ≡ old ++ map (as_items names suffix) (chosen rank support (take k sets))
-    → new ≡ now ++ record { set = rising ((get_or now at d).set ++ item ∷ []); count = support } ∷ []
+    → new ≡ now ++ record { set = with_item item (get_or now at d).set; count = support } ∷ []
     → new ≡ old ++ map (as_items names suffix) (chosen rank support (take (k + 1) sets))
 chosen_more names suffix rank support item at k d before old now new sets here place is named so_far added =
     let f = as_items names suffix in
@@ -221,8 +213,8 @@ chosen_more names suffix rank support item at k d before old now new sets here p
     ∙ ap (λ n. get_or (map f sets) n d) (let e : at - length before ≡ k = omega arith in e)
     ∙ get_or-map f sets k d d here in
     let one = with_rank rank (recounted support c) in
-    let last : record { set = rising ((get_or now at d).set ++ item ∷ []); count = support } ≡ f one =
-    (λ i. record { set = rising ((found i).set ++ item ∷ []); count = support }) ∙ chosen_items names suffix rank support c item named in
+    let last : record { set = with_item item (get_or now at d).set; count = support } ≡ f one =
+    (λ i. record { set = with_item item (found i).set; count = support }) ∙ chosen_items names suffix rank support c item named in
     let more : chosen rank support (take (k + 1) sets) ≡ chosen rank support (take k sets) ++ one ∷ [] =
     ap (chosen rank support) (take_more sets k d here)
     ∙ ap (λ l. record { set = rank ∷ []; count = support } ∷ map (with_rank rank) l) (map-append (recounted support) (take k sets) (c ∷ []))

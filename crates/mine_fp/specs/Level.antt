@@ -5,7 +5,7 @@ use Rattle.basket_core.specs.Codes.{IsCoding, decoded_place}
 use Rattle.basket_sets.specs.declared.counted.Counted.{Counted}
 use Rattle.basket_sets.specs.declared.minimum.Minimum.TheVariants.{Count}
 use Rattle.basket_sets.specs.Frequent.{ListsOnce}
-use Rattle.basket_sets.specs.Itemset.{rising}
+use Rattle.basket_sets.specs.Itemset.{rising, with_item}
 use Rattle.mine_classes.specs.declared.span.Span.{Span}
 use Rattle.mine_classes.specs.Classes.{ListClasses, ListsClass}
 use Rattle.mine_classes.specs.Conditional.{conditional}
@@ -54,7 +54,7 @@ pub record HasLower (level : Level) (rank start : ℕ) (found : List Counted) : 
 pub record IsChosen (at item count : ℕ) (old new : List Counted) : Type 0 where
   pub chosen : Counted
   pub stands : slice_index_or old at chosen ≡ chosen
-  pub added : new ≡ old ++ record { set = rising (chosen.set ++ item ∷ []); count = count } ∷ []
+  pub added : new ≡ old ++ record { set = with_item item chosen.set; count = count } ∷ []
 
 -- a run ends where it starts or later
 abbrev pub IsOrdered : Span → Type 0

@@ -10,13 +10,13 @@ ghost use Rattle.mine_fp.specs.Level.{HasLower, IsChosen, IsLevel, IsOrdered, Li
 ghost use Rattle.mine_fp.specs.Trees.{is_branch};
 
 use crate::level::{Found, Level, tell};
-use basket_core::{MineFault, Tally};
+use basket_core::{Itemset, MineFault, Tally};
 use mine_classes::Span;
 use mine_classes::laws::{
     classes_are_all, classes_are_conditional, classes_are_listed, conditional_supports,
     lists_have_class_size, rare_ranks_have_no_class,
 };
-use std::alloc::{AllocError, Global};
+use std::alloc::Global;
 
 impl Level {
     /// Whether the prefix tree of the baskets is a single branch: the path of each run has all ranks
@@ -96,11 +96,11 @@ impl Level {
             return Ok(());
         }
         let end = found.sets.len();
-        let mut items = self.items_with(alloc, rank)?;
-        tell(alloc, &items, support, found, tally)?;
+        let set = Itemset::from_items(alloc, &self.items_with(alloc, rank)?)?;
+        tell(set, support, found, tally)?;
         let item = self.names[rank as usize];
         for at in start..end {
-            choose(alloc, &mut items, at, item, support, found, tally)?;
+            choose(alloc, at, item, support, found, tally)?;
         }
         Ok(())
     }
@@ -114,11 +114,9 @@ fn are_whole(runs: &[Span], depth: u32) -> bool
     runs.iter().all(|run| run.end - run.start == depth)
 }
 
-/// Tells a set that was found, with one more item and a count of its own. The list of items is room,
-/// used again from set to set.
+/// Tells a set that was found, with one more item and a count of its own.
 fn choose<T: Tally>(
     alloc: Global,
-    items: &mut Vec<u32>,
     at: usize,
     item: u32,
     count: u64,
@@ -135,16 +133,6 @@ fn choose<T: Tally>(
     ensures at_most { T.told_of tally.new ≤ T.told_of tally.old + 1 }
     ensures limit { T.limit_of tally.new ≡ T.limit_of tally.old }
 {
-    put(items, found.sets[at].set.items(), item)?;
-    tell(alloc, items, count, found, tally)
-}
-
-/// The items of a set, and one more, in place of those that are there.
-fn put(items: &mut Vec<u32>, set: &[u32], item: u32) -> Result<(), AllocError>
-    ensures { OnOk result (items.new.items ≡ set.now ++ item ∷ []) }
-{
-    items.clear();
-    items.extend_from_slice(set)?;
-    items.push(item)?;
-    Ok(())
+    let set = found.sets[at].set.with(alloc, item)?;
+    tell(set, count, found, tally)
 }

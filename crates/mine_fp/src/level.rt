@@ -6,7 +6,6 @@ ghost use Rattle.basket_sets.specs.declared.minimum.Minimum.TheVariants.{Count};
 ghost use Rattle.basket_sets.specs.Counts.{AllBelow};
 ghost use Rattle.basket_sets.specs.Database.{MOST_WEIGHT};
 ghost use Rattle.basket_sets.specs.Frequent.{frequent_of};
-ghost use Rattle.basket_sets.specs.Itemset.{rising};
 ghost use Rattle.basket_sets.specs.Support.{support_of};
 ghost use Rattle.mine_classes.specs.declared.span.Span.{Span as Run};
 ghost use Rattle.mine_classes.specs.Classes.{class_of};
@@ -101,7 +100,7 @@ impl Level {
             return Ok(());
         }
         let items = self.items_with(alloc, rank)?;
-        tell(alloc, &items, support, found, tally)?;
+        tell(Itemset::from_items(alloc, &items)?, support, found, tally)?;
         if items.len() > DEPTH {
             return Err(MineFault::TooMany {
                 limit: tally.limit(),
@@ -228,16 +227,15 @@ fn named(alloc: Global, names: &[u32], ranks: &[u32]) -> Result<Vec<u32>, AllocE
     Ok(named)
 }
 
-/// Tells a frequent set of items to the tally, and adds it to those found.
+/// Tells a frequent set to the tally, and adds it to those found.
 pub fn tell<T: Tally>(
-    alloc: Global,
-    items: &[u32],
+    set: Itemset,
     count: u64,
     found: &mut Found,
     tally: &mut T,
 ) -> Result<(), MineFault>
     requires { T.is_over tally.old ≡ false }
-    ensures added { OnOk result (found.new.sets.items ≡ found.old.sets.items ++ record { set = rising items.now; count = count } ∷ []) }
+    ensures added { OnOk result (found.new.sets.items ≡ found.old.sets.items ++ record { set = set; count = count } ∷ []) }
     ensures trees { found.new.trees ≡ found.old.trees }
     ensures told { OnOk result (T.told_of tally.new ≡ T.told_of tally.old + 1) }
     ensures going_on { OnOk result (T.is_over tally.new ≡ false) }
@@ -245,7 +243,6 @@ pub fn tell<T: Tally>(
     ensures at_most { T.told_of tally.new ≤ T.told_of tally.old + 1 }
     ensures limit { T.limit_of tally.new ≡ T.limit_of tally.old }
 {
-    let set = Itemset::from_items(alloc, items)?;
     if !tally.tell() {
         return Err(MineFault::TooMany {
             limit: tally.limit(),

@@ -22,6 +22,18 @@ use std::thread::Threads;
 /// The number of the phase that counts the candidates of three items.
 const FIRST_OF_LEVELS: u32 = 3;
 
+/// As many of the workers as may have a count for each pair of ranks of their own, since these take no
+/// more memory together than the baskets. None where not even one may.
+fn with_triangles(coded: &Coded, cutting: Cutting) -> Option<Cutting> {
+    let baskets = coded.baskets().len();
+    for workers in (1..=cutting.workers).rev() {
+        if is_small_triangle(coded.ranks(), baskets / workers as usize) {
+            return Some(Cutting::new(workers, cutting.pieces));
+        }
+    }
+    None
+}
+
 /// The frequent pairs of ranks. The workers count each pair of ranks where these are few, and
 /// otherwise only the pairs that occur, rank by rank.
 fn pairs<R: Threads + Sync, G: Gate + Sync>(
@@ -33,8 +45,8 @@ fn pairs<R: Threads + Sync, G: Gate + Sync>(
 ) -> Result<Vec<Vec<(u32, u64)>>, AllocError>
     ensures { IfOk result (λ lists. ArePairs coded.now (lists_of lists.items)) }
 {
-    if is_small_triangle(coded.ranks(), coded.baskets().len()) {
-        let supports = count_triangle(rt, alloc, coded, cutting, gate)?;
+    if let Some(fewer) = with_triangles(coded, cutting) {
+        let supports = count_triangle(rt, alloc, coded, fewer, gate)?;
         return pairs_of_supports(alloc, coded, &supports);
     }
     pairs_by_supports();

@@ -8,11 +8,11 @@ use Rattle.basket_sets.specs.declared.weighted.Weighted.{Weighted}
 use Rattle.basket_sets.specs.declared.counted.Counted.{Counted}
 use Rattle.basket_sets.specs.declared.minimum.Minimum.TheVariants.{Count}
 use Rattle.basket_sets.specs.Frequent.{IsNonemptySet, counted, is_frequent}
-use Rattle.basket_sets.specs.Itemset.{contains, rising}
+use Rattle.basket_sets.specs.Itemset.{contains}
 use Rattle.basket_sets.specs.Minimum.{IsLeastSupport}
 use Rattle.basket_sets.specs.Support.{support_of, total_of}
 use Rattle.basket_sets.proofs.theory.Members.{Member}
-use Rattle.basket_sets.proofs.theory.Rising.{Member-from_has, cons_rises, nil_rises}
+use Rattle.basket_sets.proofs.theory.Rising.{Member-from_has}
 use Rattle.basket_sets.proofs.theory.Support.{support_falls}
 use Rattle.mine_classes.specs.Classes.{ClassesAreConditional, ListsClass, RareRanksHaveNoClass, SupportsSettleFrequent, ends_in, extended, with_rank}
 use Rattle.mine_classes.specs.Conditional.{ConditionalSupports, conditional}
@@ -122,20 +122,19 @@ whole_joins coding least all is weights law rank baskets same each here =
     ∙ ap (λ n. rank + n) (sym (same_joins law all least rank baskets same coding.baskets coding.minimum (tests coding least all is weights) rank (omega arith) [] (λ item m. absurd m)))
 
 -- the search of a class begins at its rank
-pub top_is : {R : Type 0} (stands : List ℕ → List ℕ → List ℕ → R → Type 0) (all : List Weighted) (least rank : ℕ) (weights : List ℕ) (siblings : List (Sibling R)) (baskets : List Weighted) (path : List ℕ) (count : ℕ)
-    → AreClassSiblings stands all least rank weights siblings baskets → path ≡ rank ∷ [] → rank < count → count < MOST_RANKS → IsNode stands weights least siblings path count (top baskets rank)
-top_is stands all least rank weights siblings baskets path count are path_is known few = record {
+pub top_is : {R : Type 0} (stands : List ℕ → List ℕ → List ℕ → R → Type 0) (all : List Weighted) (least rank : ℕ) (weights : List ℕ) (siblings : List (Sibling R)) (baskets : List Weighted) (set items : List ℕ)
+    → AreClassSiblings stands all least rank weights siblings baskets → set ≡ decoded items (rank ∷ []) → rank < length items → length items < MOST_RANKS → IsNode stands weights least siblings set items (top baskets rank)
+top_is stands all least rank weights siblings baskets set items are set_is known few = record {
   weighs = are.weighs;
   ranks = are.ranks;
   rows = are.rows;
-  of_path = ap rising path_is;
-  rises = cons_rises rank [] (λ y m. absurd m) nil_rises;
+  of_set = set_is;
   few = few;
   known = λ item h. only item (Member-from_has (rank ∷ []) item h);
   low = λ item h. least_one item (Member-from_has (rank ∷ []) item h);
 }
   where
-    only : (item : ℕ) → Member item (rank ∷ []) → item < count
+    only : (item : ℕ) → Member item (rank ∷ []) → item < length items
     only item (inl e) = omega arith
     only item (inr m) = absurd m
 

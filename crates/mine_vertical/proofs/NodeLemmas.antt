@@ -1,5 +1,5 @@
 -- A node of a search, what is found below it so far, and the nodes that extend it.
-use Rattle.std.proofs.Common.{◌≡◌, ℕ, ◌+◌, ◌-◌, ◌<◌, ◌≤◌, Bool, true, not, suc, List, [], ◌∷◌, ◌++◌, length, get_or, take, map, refl, sym, ap, ◌∙◌, subst, inl, inr, arith, length-append, append_assoc}
+use Rattle.std.proofs.Common.{◌≡◌, ℕ, ◌+◌, ◌<◌, ◌≤◌, Bool, true, not, suc, List, [], ◌∷◌, ◌++◌, length, get_or, take, map, refl, sym, ap, ◌∙◌, subst, inl, inr, arith, length-append, append_assoc}
 use Rattle.std.specs.Prelude.{All}
 use Rattle.std.specs.List.{filter, flat_map, sum_by}
 use Rattle.std.proofs.lemmas.List.{append-nil, get_or-map, length-take-le, map-append, take-map, take_more}
@@ -8,13 +8,13 @@ use Rattle.std.proofs.lemmas.List.Filters.{length-filter_both}
 use Rattle.std.proofs.lemmas.List.Folds.{length-flat_map-take}
 use Rattle.std.proofs.lemmas.List.Sums.{sum_by-take-le, sum_by_more}
 use Rattle.std.proofs.lemmas.Grind.{flat_map-append}
-use Rattle.std.proofs.Math.Seq.{take-append_seam}
 use Rattle.basket_sets.specs.declared.weighted.Weighted.{Weighted}
 use Rattle.basket_sets.specs.declared.counted.Counted.{Counted}
 use Rattle.basket_sets.specs.declared.minimum.Minimum.TheVariants.{Count}
-use Rattle.basket_sets.specs.Itemset.{AllBelow, IsRising, rising}
-use Rattle.basket_sets.proofs.theory.Members.{Member, Member-append, Member-append_left, Member-append_right}
-use Rattle.basket_sets.proofs.theory.Rising.{Member-from_has, has-from_Member, has_place, cons_rises, contains_each, Member-into_rising, Member-rising, rising_is}
+use Rattle.basket_core.specs.Codes.{decoded}
+use Rattle.basket_sets.specs.Itemset.{AllBelow, with_item}
+use Rattle.basket_sets.proofs.theory.Members.{Member, Member-append_right}
+use Rattle.basket_sets.proofs.theory.Rising.{Member-from_has, has-from_Member, has_place, contains_each}
 use Rattle.basket_sets.proofs.theory.Support.{subsets_are_frequent}
 use Rattle.mine_vertical.specs.declared.search.Sibling.{Sibling}
 use Rattle.mine_vertical.specs.Search.{IsNode, IsSibling, Node, found_at, is_met, ranks_at}
@@ -22,32 +22,9 @@ use Rattle.mine_vertical.specs.Walk.{joins_below, kept_below, sets_below}
 use Rattle.mine_vertical.proofs.SearchLemmas.{ranks}
 use Rattle.mine_vertical.proofs.WalkLemmas.{branch, branch_joins, kept_before, kept_few, kept_lower, kept_with, sets_are_branches}
 
--- a path with one more rank, which is below the others
-push_path : (path set : List ℕ) (rank : ℕ) → rising path ≡ set → IsRising (rank ∷ set) → rising (path ++ rank ∷ []) ≡ rank ∷ set
-push_path path set rank is up = rising_is (path ++ rank ∷ []) (rank ∷ set) up
-    (λ z m. elim (Member-append z path (rank ∷ []) m) [
-      | inl n ↦ inr (subst (Member z) is (Member-into_rising path z n))
-      | inr n ↦ only z n
-    ])
-    (λ z m. back z m)
-  where
-    only : (z : ℕ) → Member z (rank ∷ []) → Member z (rank ∷ set)
-    only z (inl e) = inl e
-    only z (inr n) = absurd n
-
-    back : (z : ℕ) → Member z (rank ∷ set) → Member z (path ++ rank ∷ [])
-    back z (inl e) = Member-append_right z path (rank ∷ []) (inl e)
-    back z (inr m) = Member-append_left z path (rank ∷ []) (Member-rising path z (subst (Member z) (sym is) m))
-
 as_many : {R : Type 0} (siblings : List (Sibling R)) → length (map (λ (s : Sibling R). s.rank) siblings) ≡ length siblings
 as_many [] = refl
 as_many (s ∷ siblings) = ap suc (as_many siblings)
-
--- a path without its last rank
-pub pop_path : (path old new : List ℕ) (rank : ℕ) → old ≡ path ++ rank ∷ [] → new ≡ take (length old - 1) old → new ≡ path
-pop_path path old new rank is rest =
-    let shorter : length old - 1 ≡ length path = omega (arith, ap length is, length-append path (rank ∷ [])) in
-    rest ∙ ap (λ n. take n old) shorter ∙ ap (take (length path)) is ∙ take-append_seam path (rank ∷ [])
 
 -- the node of a set with one more rank
 abbrev pub child : Node → ℕ → Node
@@ -62,8 +39,8 @@ falls baskets least rank set other h =
     up z (inl e) = inl e
     up z (inr m) = inr (inr m)
 
-module _ {R : Type 0} (stands : List ℕ → List ℕ → List ℕ → R → Type 0) (weights : List ℕ) (least : ℕ) (siblings : List (Sibling R)) (path : List ℕ) (count : ℕ) (node : Node)
-    (is : IsNode stands weights least siblings path count node) where
+module _ {R : Type 0} (stands : List ℕ → List ℕ → List ℕ → R → Type 0) (weights : List ℕ) (least : ℕ) (siblings : List (Sibling R)) (set items : List ℕ) (node : Node)
+    (is : IsNode stands weights least siblings set items node) where
   abbrev test : List ℕ → Bool
   test = is_met node.baskets least
 
@@ -88,26 +65,23 @@ module _ {R : Type 0} (stands : List ℕ → List ℕ → List ℕ → R → Typ
   class_above : node.below ≤ node.class_rank
   class_above = is.low node.class_rank (has-from_Member (ranks_at node node.set) node.class_rank (Member-append_right node.class_rank node.set (node.class_rank ∷ []) (inl refl)))
 
-  class_known : node.class_rank < count
+  class_known : node.class_rank < length items
   class_known = is.known node.class_rank (has-from_Member (ranks_at node node.set) node.class_rank (Member-append_right node.class_rank node.set (node.class_rank ∷ []) (inl refl)))
 
-  child_rises : (rank : ℕ) → rank < node.below → IsRising (rank ∷ ranks_at node node.set)
-  child_rises rank lower = cons_rises rank (ranks_at node node.set) (λ y m. let low = is.low y (has-from_Member (ranks_at node node.set) y m) in omega arith) is.rises
+  pub child_set : (rank : ℕ) → with_item (get_or items rank 0) set ≡ decoded items (rank ∷ ranks_at node node.set)
+  child_set rank = ap (with_item (get_or items rank 0)) is.of_set
 
-  pub child_path : (rank : ℕ) (i : ℕ) → i < length siblings → get_or kept i 0 ≡ rank → rising (path ++ rank ∷ []) ≡ rank ∷ ranks_at node node.set
-  child_path rank i here at = push_path path (ranks_at node node.set) rank is.of_path (child_rises rank (rank_below i rank here at))
-
-  pub child_known : (rank : ℕ) (i : ℕ) → i < length siblings → get_or kept i 0 ≡ rank → AllBelow count (rank ∷ ranks_at node node.set)
+  pub child_known : (rank : ℕ) (i : ℕ) → i < length siblings → get_or kept i 0 ≡ rank → AllBelow (length items) (rank ∷ ranks_at node node.set)
   child_known rank i here at item h = below (Member-from_has (rank ∷ ranks_at node node.set) item h)
     where
-      below : Member item (rank ∷ ranks_at node node.set) → item < count
+      below : Member item (rank ∷ ranks_at node node.set) → item < length items
       below (inl e) = let lower = rank_below i rank here at in let above = class_above in let known = class_known in omega arith
       below (inr m) = is.known item (has-from_Member (ranks_at node node.set) item m)
 
   -- the siblings that are kept with one of them
   pub child_is : (i rank : ℕ) (others below : List (Sibling R)) → i < length siblings → get_or kept i 0 ≡ rank → others ≡ take i siblings
       → ranks stands below ≡ filter (λ other. test (other ∷ rank ∷ node.set)) (ranks stands others) → All (IsSibling stands node.baskets (rank ∷ node.set)) below
-      → IsNode stands weights least below (path ++ rank ∷ []) count (child node rank)
+      → IsNode stands weights least below (with_item (get_or items rank 0) set) items (child node rank)
   child_is i rank others below here at are kept_are rows = record {
     weighs = is.weighs;
     ranks = kept_are
@@ -116,8 +90,7 @@ module _ {R : Type 0} (stands : List ℕ → List ℕ → List ℕ → R → Typ
         ∙ kept_before test node.below node.set i (subst (λ n. i < n) long here) ∙ ap (λ n. kept_below test n node.set) at)
         ∙ sym (kept_with test rank node.set (falls node.baskets least rank node.set) rank);
     rows = rows;
-    of_path = child_path rank i here at;
-    rises = child_rises rank (rank_below i rank here at);
+    of_set = child_set rank;
     few = is.few;
     known = child_known rank i here at;
     low = λ item h. lowest item (Member-from_has (rank ∷ ranks_at node node.set) item h);
@@ -180,9 +153,9 @@ module _ {R : Type 0} (stands : List ℕ → List ℕ → List ℕ → R → Typ
       let two = ap (λ r. length (kept_below test r node.set)) at in omega arith
 
   -- what the tally was told is what is found
-  pub told_is : (items : List ℕ) (told told_before i : ℕ) (sets before : List Counted) → told + length before ≡ told_before + length sets
+  pub told_is : (told told_before i : ℕ) (sets before : List Counted) → told + length before ≡ told_before + length sets
       → sets ≡ before ++ map (found_at items node) (found_by (take i kept)) → told ≡ told_before + length (found_by (take i kept))
-  told_is items told told_before i sets before counts sets_are =
+  told_is told told_before i sets before counts sets_are =
       let one = ap length sets_are ∙ length-append before (map (found_at items node) (found_by (take i kept))) in
       let two = length_found (found_by (take i kept)) in omega arith
     where
@@ -190,15 +163,15 @@ module _ {R : Type 0} (stands : List ℕ → List ℕ → List ℕ → R → Typ
       length_found [] = refl
       length_found (x ∷ found) = ap suc (length_found found)
 
-  pub sets_long : (items : List ℕ) (i : ℕ) (sets before : List Counted) → sets ≡ before ++ map (found_at items node) (found_by (take i kept))
+  pub sets_long : (i : ℕ) (sets before : List Counted) → sets ≡ before ++ map (found_at items node) (found_by (take i kept))
       → length sets ≡ length before + length (found_by (take i kept))
-  sets_long items i sets before sets_are = told_is items (length sets) (length before) i sets before (omega arith) sets_are
+  sets_long i sets before sets_are = told_is (length sets) (length before) i sets before (omega arith) sets_are
 
   -- what one more sibling adds
-  pub sets_more : (items : List ℕ) (i rank : ℕ) (before sets with_one new : List Counted) (one : Counted) → i < length siblings → get_or kept i 0 ≡ rank
+  pub sets_more : (i rank : ℕ) (before sets with_one new : List Counted) (one : Counted) → i < length siblings → get_or kept i 0 ≡ rank
       → sets ≡ before ++ map (found_at items node) (found_by (take i kept)) → with_one ≡ sets ++ one ∷ [] → one ≡ found_at items node (rank ∷ node.set)
       → new ≡ with_one ++ map (found_at items node) (sets_below test rank (rank ∷ node.set)) → new ≡ before ++ map (found_at items node) (found_by (take (i + 1) kept))
-  sets_more items i rank before sets with_one new one here at sets_are adds is_one is_new =
+  sets_more i rank before sets with_one new one here at sets_are adds is_one is_new =
       let so_far = map (found_at items node) (found_by (take i kept)) in
       let more = map (found_at items node) (sets_below test rank (rank ∷ node.set)) in
       is_new ∙ ap (λ l. l ++ more) (adds ∙ ap (λ x. sets ++ x ∷ []) is_one ∙ ap (λ l. l ++ found_at items node (rank ∷ node.set) ∷ []) sets_are)

@@ -1,10 +1,10 @@
 -- A search below a set.
-use Rattle.std.specs.Prelude.{◌≡◌, ◌≤◌, ◌<◌, ◌+◌, ◌*◌, ◌++◌, ℕ, Bool, IsTrue, List, [], ◌∷◌, All, map}
+use Rattle.std.specs.Prelude.{◌≡◌, ◌≤◌, ◌<◌, ◌+◌, ◌*◌, ◌++◌, ℕ, Bool, IsTrue, List, [], ◌∷◌, All, length, map}
 use Rattle.basket_sets.specs.declared.weighted.Weighted.{Weighted}
 use Rattle.basket_sets.specs.declared.counted.Counted.{Counted}
 use Rattle.basket_sets.specs.declared.minimum.Minimum.TheVariants.{Count}
 use Rattle.basket_sets.specs.Frequent.{is_frequent}
-use Rattle.basket_sets.specs.Itemset.{AllBelow, IsRising, has, rising}
+use Rattle.basket_sets.specs.Itemset.{AllBelow, has}
 use Rattle.basket_sets.specs.Support.{support_of}
 use Rattle.basket_core.specs.Codes.{MOST_RANKS, decoded}
 use Rattle.mine_vertical.specs.declared.search.Sibling.{Sibling}
@@ -30,15 +30,14 @@ pub record Node : Type 0 where
 abbrev pub ranks_at : Node → List ℕ → List ℕ
 ranks_at node set = set ++ node.class_rank ∷ []
 
--- the siblings are the frequent extensions of a node's set, and the path has the ranks of the set, each below a number of ranks
-pub record IsNode {R : Type 0} (stands : List ℕ → List ℕ → List ℕ → R → Type 0) (weights : List ℕ) (least : ℕ) (siblings : List (Sibling R)) (path : List ℕ) (count : ℕ) (node : Node) : Type 0 where
+-- the siblings are the frequent extensions of a node's set, which is given as items, of the items by rank
+pub record IsNode {R : Type 0} (stands : List ℕ → List ℕ → List ℕ → R → Type 0) (weights : List ℕ) (least : ℕ) (siblings : List (Sibling R)) (set items : List ℕ) (node : Node) : Type 0 where
   pub weighs : weights ≡ weights_of node.baskets
   pub ranks : map (λ sibling. sibling.rank) siblings ≡ kept_below (is_met node.baskets least) node.below node.set
   pub rows : All (IsSibling stands node.baskets node.set) siblings
-  pub of_path : rising path ≡ ranks_at node node.set
-  pub rises : IsRising (ranks_at node node.set)
-  pub few : count < MOST_RANKS
-  pub known : AllBelow count (ranks_at node node.set)
+  pub of_set : set ≡ decoded items (ranks_at node node.set)
+  pub few : length items < MOST_RANKS
+  pub known : AllBelow (length items) (ranks_at node node.set)
   pub low : (rank : ℕ) → IsTrue (has (ranks_at node node.set) rank) → node.below ≤ rank
 
 -- how many joins may have been made where so many sets were found

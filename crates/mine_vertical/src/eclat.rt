@@ -50,18 +50,17 @@ pub fn eclat_class<R: Row, T: Tally>(
         return Ok((mined.sets, mined.joins));
     }
     let coded = vertical.coded();
-    let set = Itemset::from_items(alloc, &[rank])?;
-    mined.add(coded.decode(set), support, tally)?;
+    let set = Itemset::from_items(alloc, &[coded.item(rank)])?;
+    mined.add(set.copied(alloc)?, support, tally)?;
     let (weights, siblings) = class_siblings::<R>(alloc, runs, rank, least)?;
     // Each rank below is joined with the class's.
     mined.joins = u64::from(rank);
-    let mut path = vec![in alloc; rank; 1]?;
     let search = Search {
         coded,
         weights: &weights,
         least,
     };
     let mut room = Room::new(alloc, &weights)?;
-    search.extend(alloc, &siblings, &mut path, &mut mined, tally, &mut room)?;
+    search.extend(alloc, &siblings, &set, &mut mined, tally, &mut room)?;
     Ok((mined.sets, mined.joins))
 }

@@ -3,6 +3,7 @@ use Rattle.std.proofs.lemmas.Result.{err_from_is_err_and}
 use Rattle.basket_core.specs.Codes.{Coding, MOST_RANKS, decoded}
 use Rattle.basket_core.specs.declared.fault.MineFault.TheVariants.{TooMany}
 use Rattle.basket_sets.specs.declared.counted.Counted.{Counted}
+use Rattle.basket_sets.specs.Itemset.{rising}
 use Rattle.basket_sets.specs.Support.{support_of}
 use Rattle.mine_classes.specs.Conditional.{conditional}
 use Rattle.mine_classes.specs.Mined.{ListsClassItems}
@@ -55,17 +56,6 @@ returns-in_err-weights-clause-at_most g c =
     rank (conditional least all rank) (λ set. refl) enough in
     omega (arith, c.add.ensures.told)
 
-pub returns-in_err-path-clause-at_most : goal.returns-in_err-path-clause-at_most
-returns-in_err-path-clause-at_most g c =
-    let coding = c.args.vertical.now in
-    let rank = c.args.rank in
-    let least = c.least-least.result in
-    let all = c.runs-runs.result.now.baskets in
-    let enough : least ≤ support_of all (rank ∷ []) = omega (arith, c.if-support-least.false, c.support_of_rank-support.ensures) in
-    let size = whole_size coding least all c.least-least.ensures c.runs-runs.ensures.weights c.conditional_supports.ensures c.supports_settle_frequent.ensures c.classes_are_conditional.ensures c.lists_have_class_size.ensures
-    rank (conditional least all rank) (λ set. refl) enough in
-    omega (arith, c.add.ensures.told)
-
 pub returns-in_err-room-clause-at_most : goal.returns-in_err-room-clause-at_most
 returns-in_err-room-clause-at_most g c =
     let coding = c.args.vertical.now in
@@ -85,12 +75,12 @@ extend-requires-clause-node g c =
     let all = c.runs-runs.result.now.baskets in
     let enough : least ≤ support_of all (rank ∷ []) = omega (arith, c.if-support-least.false, c.support_of_rank-support.ensures) in
     let (baskets, are) = c.in_ok-weights.ensures in
-    let path : c.in_ok-path.path.items ≡ rank ∷ [] = c.in_ok-path.ensures.items_if_clones_equal (λ y e. e) in
     let items = c.coded-coded.result.now.items in
+    let set : c.in_ok-set.set ≡ decoded items (rank ∷ []) = c.in_ok-set.ensures.ok ∙ ap (λ item. rising (item ∷ [])) c.item.ensures in
     let known : rank < length items = omega (arith, c.requires.rank, ap (λ (k : Coding). length k.items) c.coded-coded.ensures.coded) in
     let few : length items < MOST_RANKS = omega (arith, c.coded-coded.ensures.coding.few, ap (λ (k : Coding). length k.items) c.coded-coded.ensures.coded) in
     let made = subst (λ s. AreClassSiblings g.R.Row.stands all least rank c.in_ok-weights.weights s baskets) (sym c.deref.ensures.value) are in
-    let node = top_is g.R.Row.stands all least rank c.in_ok-weights.weights c.deref.result.now baskets c.in_ok-path.path.items (length items) made path known few in
+    let node = top_is g.R.Row.stands all least rank c.in_ok-weights.weights c.deref.result.now baskets c.in_ok-set.set items made set known few in
     (top baskets rank, node)
 
 pub returns-in_err-extend-clause-too_many : goal.returns-in_err-extend-clause-too_many
@@ -103,13 +93,13 @@ returns-in_err-extend-clause-too_many g c = λ limit e.
     let (baskets, are) = c.in_ok-weights.ensures in
     let size = whole_size coding least all c.least-least.ensures c.runs-runs.ensures.weights c.conditional_supports.ensures c.supports_settle_frequent.ensures c.classes_are_conditional.ensures c.lists_have_class_size.ensures
     rank baskets are.same enough in
-    let path : c.in_ok-path.path.items ≡ rank ∷ [] = c.in_ok-path.ensures.items_if_clones_equal (λ y e. e) in
     let items = c.coded-coded.result.now.items in
+    let set : c.in_ok-set.set ≡ decoded items (rank ∷ []) = c.in_ok-set.ensures.ok ∙ ap (λ item. rising (item ∷ [])) c.item.ensures in
     let known : rank < length items = omega (arith, c.requires.rank, ap (λ (k : Coding). length k.items) c.coded-coded.ensures.coded) in
     let few : length items < MOST_RANKS = omega (arith, c.coded-coded.ensures.coding.few, ap (λ (k : Coding). length k.items) c.coded-coded.ensures.coded) in
     let made = subst (λ s. AreClassSiblings g.R.Row.stands all least rank c.in_ok-weights.weights s baskets) (sym c.deref.ensures.value) are in
-    let node = top_is g.R.Row.stands all least rank c.in_ok-weights.weights c.deref.result.now baskets c.in_ok-path.path.items (length items) made path known few in
-    let one = ap length c.in_ok-add.ensures.sets ∙ length-append c.new-mined.result.sets.items (record { set = c.decode.result; count = c.support_of_rank-support.result } ∷ []) in
+    let node = top_is g.R.Row.stands all least rank c.in_ok-weights.weights c.deref.result.now baskets c.in_ok-set.set items made set known few in
+    let one = ap length c.in_ok-add.ensures.sets ∙ length-append c.new-mined.result.sets.items (record { set = c.in_ok-copied.field-0; count = c.support_of_rank-support.result } ∷ []) in
     let none = ap length c.new-mined.ensures.sets in
     let p = err_from_is_err_and c.from_residual-in_err-extend.result c.from_residual-in_err-extend.ensures.1 in
     let both = sym p.1 ∙ e in
@@ -127,12 +117,12 @@ returns-in_err-extend-clause-at_most g c =
     let (baskets, are) = c.in_ok-weights.ensures in
     let size = whole_size coding least all c.least-least.ensures c.runs-runs.ensures.weights c.conditional_supports.ensures c.supports_settle_frequent.ensures c.classes_are_conditional.ensures c.lists_have_class_size.ensures
     rank baskets are.same enough in
-    let path : c.in_ok-path.path.items ≡ rank ∷ [] = c.in_ok-path.ensures.items_if_clones_equal (λ y e. e) in
     let items = c.coded-coded.result.now.items in
+    let set : c.in_ok-set.set ≡ decoded items (rank ∷ []) = c.in_ok-set.ensures.ok ∙ ap (λ item. rising (item ∷ [])) c.item.ensures in
     let known : rank < length items = omega (arith, c.requires.rank, ap (λ (k : Coding). length k.items) c.coded-coded.ensures.coded) in
     let few : length items < MOST_RANKS = omega (arith, c.coded-coded.ensures.coding.few, ap (λ (k : Coding). length k.items) c.coded-coded.ensures.coded) in
     let made = subst (λ s. AreClassSiblings g.R.Row.stands all least rank c.in_ok-weights.weights s baskets) (sym c.deref.ensures.value) are in
-    let node = top_is g.R.Row.stands all least rank c.in_ok-weights.weights c.deref.result.now baskets c.in_ok-path.path.items (length items) made path known few in
+    let node = top_is g.R.Row.stands all least rank c.in_ok-weights.weights c.deref.result.now baskets c.in_ok-set.set items made set known few in
     omega (arith, c.add.ensures.told, c.extend.ensures.at_most (top baskets rank) node)
 
 pub returns-clause-at_most : goal.returns-clause-at_most
@@ -145,12 +135,12 @@ returns-clause-at_most g c =
     let (baskets, are) = c.in_ok-weights.ensures in
     let size = whole_size coding least all c.least-least.ensures c.runs-runs.ensures.weights c.conditional_supports.ensures c.supports_settle_frequent.ensures c.classes_are_conditional.ensures c.lists_have_class_size.ensures
     rank baskets are.same enough in
-    let path : c.in_ok-path.path.items ≡ rank ∷ [] = c.in_ok-path.ensures.items_if_clones_equal (λ y e. e) in
     let items = c.coded-coded.result.now.items in
+    let set : c.in_ok-set.set ≡ decoded items (rank ∷ []) = c.in_ok-set.ensures.ok ∙ ap (λ item. rising (item ∷ [])) c.item.ensures in
     let known : rank < length items = omega (arith, c.requires.rank, ap (λ (k : Coding). length k.items) c.coded-coded.ensures.coded) in
     let few : length items < MOST_RANKS = omega (arith, c.coded-coded.ensures.coding.few, ap (λ (k : Coding). length k.items) c.coded-coded.ensures.coded) in
     let made = subst (λ s. AreClassSiblings g.R.Row.stands all least rank c.in_ok-weights.weights s baskets) (sym c.deref.ensures.value) are in
-    let node = top_is g.R.Row.stands all least rank c.in_ok-weights.weights c.deref.result.now baskets c.in_ok-path.path.items (length items) made path known few in
+    let node = top_is g.R.Row.stands all least rank c.in_ok-weights.weights c.deref.result.now baskets c.in_ok-set.set items made set known few in
     omega (arith, c.add.ensures.told, c.extend.ensures.at_most (top baskets rank) node)
 
 pub returns-clause-listed : goal.returns-clause-listed
@@ -161,17 +151,17 @@ returns-clause-listed g c =
     let all = c.runs-runs.result.now.baskets in
     let enough : least ≤ support_of all (rank ∷ []) = omega (arith, c.if-support-least.false, c.support_of_rank-support.ensures) in
     let (baskets, are) = c.in_ok-weights.ensures in
-    let path : c.in_ok-path.path.items ≡ rank ∷ [] = c.in_ok-path.ensures.items_if_clones_equal (λ y e. e) in
     let items = c.coded-coded.result.now.items in
+    let set : c.in_ok-set.set ≡ decoded items (rank ∷ []) = c.in_ok-set.ensures.ok ∙ ap (λ item. rising (item ∷ [])) c.item.ensures in
     let known : rank < length items = omega (arith, c.requires.rank, ap (λ (k : Coding). length k.items) c.coded-coded.ensures.coded) in
     let few : length items < MOST_RANKS = omega (arith, c.coded-coded.ensures.coding.few, ap (λ (k : Coding). length k.items) c.coded-coded.ensures.coded) in
     let made = subst (λ s. AreClassSiblings g.R.Row.stands all least rank c.in_ok-weights.weights s baskets) (sym c.deref.ensures.value) are in
-    let node = top_is g.R.Row.stands all least rank c.in_ok-weights.weights c.deref.result.now baskets c.in_ok-path.path.items (length items) made path known few in
+    let node = top_is g.R.Row.stands all least rank c.in_ok-weights.weights c.deref.result.now baskets c.in_ok-set.set items made set known few in
     let support = support_of all (rank ∷ []) in
     let found = sets_below (is_met baskets least) rank [] in
-    let set = c.decode.ensures ∙ ap (decoded items) c.in_ok-set.ensures.ok in
-    let one : Counted = record { set = c.decode.result; count = c.support_of_rank-support.result } in
-    let first : one ≡ record { set = decoded items (rank ∷ []); count = support } = λ i. record { set = set i; count = c.support_of_rank-support.ensures i } in
+    let told = c.in_ok-copied.ensures.same ∙ set in
+    let one : Counted = record { set = c.in_ok-copied.field-0; count = c.support_of_rank-support.result } in
+    let first : one ≡ record { set = decoded items (rank ∷ []); count = support } = λ i. record { set = told i; count = c.support_of_rank-support.ensures i } in
     let added = c.in_ok-add.ensures.sets ∙ ap (λ l. l ++ one ∷ []) c.new-mined.ensures.sets ∙ ap (λ x. x ∷ []) first in
     let sets = c.in_ok-extend.ensures.sets (top baskets rank) node ∙ ap (λ l. l ++ map (found_at items (top baskets rank)) found) added
     ∙ ap (λ (k : Coding). whole k.items baskets least rank support) c.coded-coded.ensures.coded in
@@ -192,11 +182,11 @@ returns-clause-joins g c = λ each.
     let all = c.runs-runs.result.now.baskets in
     let enough : least ≤ support_of all (rank ∷ []) = omega (arith, c.if-support-least.false, c.support_of_rank-support.ensures) in
     let (baskets, are) = c.in_ok-weights.ensures in
-    let path : c.in_ok-path.path.items ≡ rank ∷ [] = c.in_ok-path.ensures.items_if_clones_equal (λ y e. e) in
     let items = c.coded-coded.result.now.items in
+    let set : c.in_ok-set.set ≡ decoded items (rank ∷ []) = c.in_ok-set.ensures.ok ∙ ap (λ item. rising (item ∷ [])) c.item.ensures in
     let known : rank < length items = omega (arith, c.requires.rank, ap (λ (k : Coding). length k.items) c.coded-coded.ensures.coded) in
     let few : length items < MOST_RANKS = omega (arith, c.coded-coded.ensures.coding.few, ap (λ (k : Coding). length k.items) c.coded-coded.ensures.coded) in
     let made = subst (λ s. AreClassSiblings g.R.Row.stands all least rank c.in_ok-weights.weights s baskets) (sym c.deref.ensures.value) are in
-    let node = top_is g.R.Row.stands all least rank c.in_ok-weights.weights c.deref.result.now baskets c.in_ok-path.path.items (length items) made path known few in
+    let node = top_is g.R.Row.stands all least rank c.in_ok-weights.weights c.deref.result.now baskets c.in_ok-set.set items made set known few in
     let joins = whole_joins coding least all c.least-least.ensures c.runs-runs.ensures.weights c.conditional_supports.ensures rank baskets are.same each c.requires.rank in
     omega (arith, joins, c.in_ok-extend.ensures.joins (top baskets rank) node, c.from.ensures)

@@ -6,7 +6,6 @@ use Rattle.basket_core.specs.Depth.{HasSetOfSize}
 use Rattle.basket_sets.specs.declared.counted.Counted.{Counted}
 use Rattle.basket_sets.specs.declared.minimum.Minimum.TheVariants.{Count}
 use Rattle.basket_sets.specs.Frequent.{frequent_of}
-use Rattle.basket_sets.specs.Itemset.{rising}
 use Rattle.basket_sets.proofs.theory.Frequent.{once_is_as_long}
 use Rattle.mine_classes.specs.Classes.{ListsClass, class_of}
 use Rattle.mine_fp.specs.Level.{IsBelow, as_items, missing}
@@ -75,7 +74,7 @@ class-classes-requires g t c κs within =
     let below = c.in_ok-inner.ensures.below in
     let fewer = inner_has_fewer level c.args.rank c.in_ok-items.items.items c.in_ok-inner.inner below in
     let short : length c.in_ok-items.items.items ≤ 32 = omega (arith, c.in_ok-items.items.ok.0, c.len.ensures, c.if-len-gt-DEPTH.false) in
-    let told : Counted = record { set = rising c.deref.result.now; count = c.support-support.result } in (
+    let told : Counted = record { set = c.in_ok-from_items.field-0; count = c.support-support.result } in (
       omega (arith, c.decreases),
       (
         within,
@@ -97,7 +96,8 @@ class-returns-clause-listed g t c =
     let below = subst (λ l. IsBelow level c.args.rank l inner) c.in_ok-items.ensures c.in_ok-inner.ensures.below in
     on_ok_weaker c.classes.result
     (class_grown level c.args.rank inner below c.classes_by_codings.ensures met c.args.found.now.sets.items _ c.classes.new.found.sets.items c.deref.result.now c.support-support.result
-    (c.deref.ensures.value ∙ c.in_ok-items.ensures) c.support-support.ensures c.in_ok-tell.ensures.added)
+    (c.deref.ensures.value ∙ c.in_ok-items.ensures) c.support-support.ensures
+    (c.in_ok-tell.ensures.added ∙ (λ i. c.args.found.now.sets.items ++ record { set = c.in_ok-from_items.ensures.ok i; count = c.support-support.result } ∷ [])))
     c.classes.ensures.listed
 
 pub class-returns-clause-trees : goal.class-returns-clause-trees

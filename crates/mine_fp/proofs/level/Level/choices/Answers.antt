@@ -4,7 +4,7 @@ use Rattle.std.proofs.Math.Seq.{take-length}
 use Rattle.std.proofs.lemmas.List.{append-nil, get_or_default, length-append, length-map}
 use Rattle.basket_sets.specs.declared.counted.Counted.{Counted}
 use Rattle.basket_sets.specs.declared.minimum.Minimum.TheVariants.{Count}
-use Rattle.basket_sets.specs.Itemset.{rising}
+use Rattle.basket_sets.specs.Itemset.{with_item}
 use Rattle.mine_classes.specs.Classes.{ListsClass}
 use Rattle.mine_fp.specs.Level.{as_items}
 use Rattle.mine_fp.proofs.ChoiceLemmas.{choices_are_class, choices_long, chosen, chosen_more}
@@ -61,7 +61,7 @@ loop-at-preserved g c =
           omega (arith, whole, long, length-map sets named, c.loop-at-test.true, c.len-end.ensures, c.loop-at.auto.at, c.args.found.now.sets.ok.0) in
           chosen_more level.names.items level.suffix.items c.args.rank c.support-support.result item at (at - c.args.start) now.added.chosen before c.args.found.now.sets.items
           c.loop-at.found.sets.items c.choose.new.found.sets.items sets here (omega (arith, long, c.loop-at.auto.at)) are name (so_far.sets classes before long are)
-          (now.added.added ∙ (λ i. c.loop-at.found.sets.items ++ record { set = rising ((sym now.added.stands i).set ++ item ∷ []); count = c.support-support.result } ∷ []))
+          (now.added.added ∙ (λ i. c.loop-at.found.sets.items ++ record { set = with_item item (sym now.added.stands i).set; count = c.support-support.result } ∷ []))
           ∙ (let next : at - c.args.start + 1 ≡ at + 1 - c.args.start = omega (arith, c.loop-at.auto.at) in
           ap (λ n. c.args.found.now.sets.items ++ map named (chosen c.args.rank c.support-support.result (take n sets))) next);
       trees = now.trees ∙ so_far.trees;

@@ -1,11 +1,11 @@
-use Rattle.std.proofs.Common.{◌≡◌, ◌≤◌, ◌+◌, ◌-◌, ◌++◌, ◌∷◌, [], Err, length, map, take, subst, refl, sym, ap, ◌∙◌, inl, inr, arith, length-append}
+use Rattle.std.proofs.Common.{◌≡◌, ◌≤◌, ◌+◌, ◌++◌, ◌∷◌, [], Err, get_or, length, map, take, subst, refl, sym, ap, ◌∙◌, inl, inr, arith, length-append}
 use Rattle.std.specs.List.{sum_by}
 use Rattle.std.proofs.lemmas.List.{length-take-le, take_all}
 use Rattle.std.proofs.lemmas.List.Elements.{All-take}
 use Rattle.std.proofs.lemmas.Result.{err_from_is_err_and}
-use Rattle.basket_core.specs.Codes.{decoded}
 use Rattle.basket_core.specs.declared.fault.MineFault.TheVariants.{TooMany}
-use Rattle.basket_sets.specs.Itemset.{AllBelow, rising}
+use Rattle.basket_sets.specs.Itemset.{with_item}
+use Rattle.basket_sets.proofs.theory.Rising.{has-from_Member}
 use Rattle.basket_sets.specs.declared.counted.Counted.{Counted}
 use Rattle.mine_vertical.specs.Cover.{cover_of}
 use Rattle.mine_vertical.specs.declared.marks.Marks.{Marks}
@@ -14,35 +14,35 @@ use Rattle.mine_vertical.specs.Search.{IsNode, IsSibling, found_at, is_met, rank
 use Rattle.mine_vertical.specs.Walk.{kept_below}
 use Rattle.mine_vertical.proofs.SearchLemmas.{counted_row, sibling_at}
 use Rattle.mine_vertical.proofs.WalkLemmas.{branch_joins, joins_are_branches, sets_are_branches}
-use Rattle.mine_vertical.proofs.NodeLemmas.{child, child_is, child_known, child_path, fewer, found_by, joins_more, long, part_more, part_within, place_few, pop_path, rank_at, sets_long, sets_more, told_is}
+use Rattle.mine_vertical.proofs.NodeLemmas.{child, child_is, child_known, child_set, fewer, found_by, joins_more, long, part_more, part_within, place_few, rank_at, sets_long, sets_more, told_is}
 use Rattle.mine_vertical.proofs.search.Search.+extend.Goals as goal
 
-pub returns-in_err-push-clause-at_most : goal.returns-in_err-push-clause-at_most
-returns-in_err-push-clause-at_most g t c = λ node is.
+pub returns-in_err-longer-clause-at_most : goal.returns-in_err-longer-clause-at_most
+returns-in_err-longer-clause-at_most g t c = λ node is.
     let search = c.args.self.now in
     let stands = g.R.Row.stands in
     let weights = search.weights.now in
     let siblings = c.args.siblings.now in
-    let path = c.args.path.now.items in
+    let set = c.args.set.now in
     let items = search.coded.now.items in
     let i = c.loop-at.at in
-    let told = told_is stands weights search.least siblings path (length items) node is items (g.T.Tally.told_of c.loop-at.tally) (g.T.Tally.told_of c.args.tally.now) i
+    let told = told_is stands weights search.least siblings set items node is (g.T.Tally.told_of c.loop-at.tally) (g.T.Tally.told_of c.args.tally.now) i
     c.loop-at.mined.sets.items c.args.mined.now.sets.items c.loop-at.invariant.told (c.loop-at.invariant.sets node is) in
-    let most = part_within stands weights search.least siblings path (length items) node is i in
+    let most = part_within stands weights search.least siblings set items node is i in
     omega arith
 
-pub returns-in_err-set-clause-at_most : goal.returns-in_err-set-clause-at_most
-returns-in_err-set-clause-at_most g t c = λ node is.
+pub returns-in_err-copied-clause-at_most : goal.returns-in_err-copied-clause-at_most
+returns-in_err-copied-clause-at_most g t c = λ node is.
     let search = c.args.self.now in
     let stands = g.R.Row.stands in
     let weights = search.weights.now in
     let siblings = c.args.siblings.now in
-    let path = c.args.path.now.items in
+    let set = c.args.set.now in
     let items = search.coded.now.items in
     let i = c.loop-at.at in
-    let told = told_is stands weights search.least siblings path (length items) node is items (g.T.Tally.told_of c.loop-at.tally) (g.T.Tally.told_of c.args.tally.now) i
+    let told = told_is stands weights search.least siblings set items node is (g.T.Tally.told_of c.loop-at.tally) (g.T.Tally.told_of c.args.tally.now) i
     c.loop-at.mined.sets.items c.args.mined.now.sets.items c.loop-at.invariant.told (c.loop-at.invariant.sets node is) in
-    let most = part_within stands weights search.least siblings path (length items) node is i in
+    let most = part_within stands weights search.least siblings set items node is i in
     omega arith
 
 pub returns-clause-at_most : goal.returns-clause-at_most
@@ -51,31 +51,28 @@ returns-clause-at_most g t c = λ node is.
     let stands = g.R.Row.stands in
     let weights = search.weights.now in
     let siblings = c.args.siblings.now in
-    let path = c.args.path.now.items in
+    let set = c.args.set.now in
     let items = search.coded.now.items in
     let i = c.loop-at.at in
-    let told = told_is stands weights search.least siblings path (length items) node is items (g.T.Tally.told_of c.loop-at.tally) (g.T.Tally.told_of c.args.tally.now) i
+    let told = told_is stands weights search.least siblings set items node is (g.T.Tally.told_of c.loop-at.tally) (g.T.Tally.told_of c.args.tally.now) i
     c.loop-at.mined.sets.items c.args.mined.now.sets.items c.loop-at.invariant.told (c.loop-at.invariant.sets node is) in
-    let most = part_within stands weights search.least siblings path (length items) node is i in
+    let most = part_within stands weights search.least siblings set items node is i in
     omega arith
 
-pub decode-requires : goal.decode-requires
-decode-requires g t c =
+pub item-requires : goal.item-requires
+item-requires g t c =
     let (node, is) = c.requires.node in
     let search = c.args.self.now in
     let stands = g.R.Row.stands in
     let weights = search.weights.now in
     let siblings = c.args.siblings.now in
-    let path = c.args.path.now.items in
+    let set = c.args.set.now in
     let items = search.coded.now.items in
     let i = c.loop-at.at in
     let here = c.loop-at-test.true in
     let sibling = c.index-siblings-at.result in
-    let at = rank_at stands weights search.least siblings path (length items) node is i sibling here c.index-siblings-at.is in
-    let pushed : c.push.new.self.items ≡ path ++ sibling.rank ∷ [] = c.in_ok-push.ensures.items ∙ ap (λ l. l ++ sibling.rank ∷ []) c.loop-at.invariant.path in
-    let set_is : c.in_ok-set.set ≡ sibling.rank ∷ ranks_at node node.set = c.in_ok-set.ensures.ok ∙ ap rising (c.deref.ensures.value ∙ pushed)
-    ∙ child_path stands weights search.least siblings path (length items) node is sibling.rank i here at in
-    subst (AllBelow (length items)) (sym set_is) (child_known stands weights search.least siblings path (length items) node is sibling.rank i here at)
+    let at = rank_at stands weights search.least siblings set items node is i sibling here c.index-siblings-at.is in
+    child_known stands weights search.least siblings set items node is sibling.rank i here at sibling.rank (has-from_Member (sibling.rank ∷ ranks_at node node.set) sibling.rank (inl refl))
 
 pub returns-in_err-add-clause-at_most : goal.returns-in_err-add-clause-at_most
 returns-in_err-add-clause-at_most g t c = λ node is.
@@ -83,15 +80,15 @@ returns-in_err-add-clause-at_most g t c = λ node is.
     let stands = g.R.Row.stands in
     let weights = search.weights.now in
     let siblings = c.args.siblings.now in
-    let path = c.args.path.now.items in
+    let set = c.args.set.now in
     let items = search.coded.now.items in
     let i = c.loop-at.at in
     let here = c.loop-at-test.true in
     let sibling = c.index-siblings-at.result in
-    let at = rank_at stands weights search.least siblings path (length items) node is i sibling here c.index-siblings-at.is in
-    let told = told_is stands weights search.least siblings path (length items) node is items (g.T.Tally.told_of c.loop-at.tally) (g.T.Tally.told_of c.args.tally.now) i
+    let at = rank_at stands weights search.least siblings set items node is i sibling here c.index-siblings-at.is in
+    let told = told_is stands weights search.least siblings set items node is (g.T.Tally.told_of c.loop-at.tally) (g.T.Tally.told_of c.args.tally.now) i
     c.loop-at.mined.sets.items c.args.mined.now.sets.items c.loop-at.invariant.told (c.loop-at.invariant.sets node is) in
-    let more = part_more stands weights search.least siblings path (length items) node is i sibling.rank here at in
+    let more = part_more stands weights search.least siblings set items node is i sibling.rank here at in
     omega (arith, c.add.ensures.told)
 
 pub returns-in_err-below-clause-at_most : goal.returns-in_err-below-clause-at_most
@@ -100,15 +97,15 @@ returns-in_err-below-clause-at_most g t c = λ node is.
     let stands = g.R.Row.stands in
     let weights = search.weights.now in
     let siblings = c.args.siblings.now in
-    let path = c.args.path.now.items in
+    let set = c.args.set.now in
     let items = search.coded.now.items in
     let i = c.loop-at.at in
     let here = c.loop-at-test.true in
     let sibling = c.index-siblings-at.result in
-    let at = rank_at stands weights search.least siblings path (length items) node is i sibling here c.index-siblings-at.is in
-    let told = told_is stands weights search.least siblings path (length items) node is items (g.T.Tally.told_of c.loop-at.tally) (g.T.Tally.told_of c.args.tally.now) i
+    let at = rank_at stands weights search.least siblings set items node is i sibling here c.index-siblings-at.is in
+    let told = told_is stands weights search.least siblings set items node is (g.T.Tally.told_of c.loop-at.tally) (g.T.Tally.told_of c.args.tally.now) i
     c.loop-at.mined.sets.items c.args.mined.now.sets.items c.loop-at.invariant.told (c.loop-at.invariant.sets node is) in
-    let more = part_more stands weights search.least siblings path (length items) node is i sibling.rank here at in
+    let more = part_more stands weights search.least siblings set items node is i sibling.rank here at in
     omega (arith, c.add.ensures.told)
 
 pub returns-in_err-add-clause-too_many : goal.returns-in_err-add-clause-too_many
@@ -123,14 +120,14 @@ returns-in_err-add-clause-too_many g t c = λ limit e.
           let stands = g.R.Row.stands in
           let weights = search.weights.now in
           let siblings = c.args.siblings.now in
-          let path = c.args.path.now.items in
+          let set = c.args.set.now in
           let items = search.coded.now.items in
           let i = c.loop-at.at in
           let here = c.loop-at-test.true in
           let sibling = c.index-siblings-at.result in
-          let at = rank_at stands weights search.least siblings path (length items) node is i sibling here c.index-siblings-at.is in
-          let more = part_more stands weights search.least siblings path (length items) node is i sibling.rank here at in
-          let long = sets_long stands weights search.least siblings path (length items) node is items i c.loop-at.mined.sets.items c.args.mined.now.sets.items (c.loop-at.invariant.sets node is) in
+          let at = rank_at stands weights search.least siblings set items node is i sibling here c.index-siblings-at.is in
+          let more = part_more stands weights search.least siblings set items node is i sibling.rank here at in
+          let long = sets_long stands weights search.least siblings set items node is i c.loop-at.mined.sets.items c.args.mined.now.sets.items (c.loop-at.invariant.sets node is) in
           elim why [ inl over ↦ inl over | inr less ↦ inr (omega arith) ],
     )
 
@@ -141,7 +138,7 @@ joined-requires-clause-rows g t c =
     let stands = g.R.Row.stands in
     let weights = search.weights.now in
     let siblings = c.args.siblings.now in
-    let path = c.args.path.now.items in
+    let set = c.args.set.now in
     let items = search.coded.now.items in
     let i = c.loop-at.at in
     let here = c.loop-at-test.true in
@@ -157,15 +154,15 @@ joined-requires-clause-few g t c =
     let stands = g.R.Row.stands in
     let weights = search.weights.now in
     let siblings = c.args.siblings.now in
-    let path = c.args.path.now.items in
+    let set = c.args.set.now in
     let items = search.coded.now.items in
     let i = c.loop-at.at in
     let here = c.loop-at-test.true in
     let sibling = c.index-siblings-at.result in
-    let few = place_few stands weights search.least siblings path (length items) node is i here in
+    let few = place_few stands weights search.least siblings set items node is i here in
     let most : i ≤ length siblings = omega arith in
     let before = length-take-le i siblings most in
-    let longer = ap length c.in_ok-add.ensures.sets ∙ length-append c.loop-at.mined.sets.items (record { set = c.decode.result; count = c.count-count.result } ∷ []) in
+    let one_more = ap length c.in_ok-add.ensures.sets ∙ length-append c.loop-at.mined.sets.items (record { set = c.in_ok-copied.field-0; count = c.count.result } ∷ []) in
     omega (arith, c.add.ensures.joins, c.in_ok-add.ensures.few, c.loop-at.invariant.few)
 
 pub extend-requires : goal.extend-requires
@@ -175,26 +172,26 @@ extend-requires g t c = λ κs lives.
     let stands = g.R.Row.stands in
     let weights = search.weights.now in
     let siblings = c.args.siblings.now in
-    let path = c.args.path.now.items in
+    let set = c.args.set.now in
     let items = search.coded.now.items in
     let i = c.loop-at.at in
     let here = c.loop-at-test.true in
     let sibling = c.index-siblings-at.result in
-    let at = rank_at stands weights search.least siblings path (length items) node is i sibling here c.index-siblings-at.is in
+    let at = rank_at stands weights search.least siblings set items node is i sibling here c.index-siblings-at.is in
     let all = All-take (IsSibling stands node.baskets node.set) i siblings is.rows in
     let one = sibling_at stands node.baskets node.set siblings i sibling here c.index-siblings-at.is is.rows in
     let kept_are = c.in_ok-below.ensures.ranks node.baskets node.set is.weighs one all in
-    let pushed : c.push.new.self.items ≡ path ++ sibling.rank ∷ [] = c.in_ok-push.ensures.items ∙ ap (λ l. l ++ sibling.rank ∷ []) c.loop-at.invariant.path in
+    let longer_is : c.in_ok-longer.longer ≡ with_item (get_or items sibling.rank 0) set = c.in_ok-longer.ensures.ok ∙ ap (λ item. with_item item set) c.item.ensures in
     let rows = c.in_ok-below.ensures.rows node.baskets node.set is.weighs one all in
-    let made = child_is stands weights search.least siblings path (length items) node is i sibling.rank (take i siblings) c.in_ok-below.below.items here at refl kept_are rows in
-    let inner = subst (λ p. IsNode stands weights search.least c.deref-in-loop-at.result.now p (length items) (child node sibling.rank)) (sym pushed)
-    (subst (λ s. IsNode stands weights search.least s (path ++ sibling.rank ∷ []) (length items) (child node sibling.rank)) (sym c.deref-in-loop-at.ensures.value) made) in
-    let less = fewer stands weights search.least siblings path (length items) node is i sibling.rank (take i siblings) c.in_ok-below.below.items here refl kept_are in
-    let short = ap length c.deref-in-loop-at.ensures.value in
-    let few = place_few stands weights search.least siblings path (length items) node is i here in
+    let made = child_is stands weights search.least siblings set items node is i sibling.rank (take i siblings) c.in_ok-below.below.items here at refl kept_are rows in
+    let inner = subst (λ longer. IsNode stands weights search.least c.deref.result.now longer items (child node sibling.rank)) (sym longer_is)
+    (subst (λ s. IsNode stands weights search.least s (with_item (get_or items sibling.rank 0) set) items (child node sibling.rank)) (sym c.deref.ensures.value) made) in
+    let less = fewer stands weights search.least siblings set items node is i sibling.rank (take i siblings) c.in_ok-below.below.items here refl kept_are in
+    let short = ap length c.deref.ensures.value in
+    let few = place_few stands weights search.least siblings set items node is i here in
     let most : i ≤ length siblings = omega arith in
     let before = length-take-le i siblings most in
-    let longer = ap length c.in_ok-add.ensures.sets ∙ length-append c.loop-at.mined.sets.items (record { set = c.decode.result; count = c.count-count.result } ∷ []) in (
+    let one_more = ap length c.in_ok-add.ensures.sets ∙ length-append c.loop-at.mined.sets.items (record { set = c.in_ok-copied.field-0; count = c.count.result } ∷ []) in (
       omega (arith, c.decreases, less, short),
       (
         lives.0,
@@ -214,23 +211,23 @@ returns-in_err-extend-clause-at_most g t c = λ node is.
     let stands = g.R.Row.stands in
     let weights = search.weights.now in
     let siblings = c.args.siblings.now in
-    let path = c.args.path.now.items in
+    let set = c.args.set.now in
     let items = search.coded.now.items in
     let i = c.loop-at.at in
     let here = c.loop-at-test.true in
     let sibling = c.index-siblings-at.result in
-    let at = rank_at stands weights search.least siblings path (length items) node is i sibling here c.index-siblings-at.is in
+    let at = rank_at stands weights search.least siblings set items node is i sibling here c.index-siblings-at.is in
     let all = All-take (IsSibling stands node.baskets node.set) i siblings is.rows in
     let one = sibling_at stands node.baskets node.set siblings i sibling here c.index-siblings-at.is is.rows in
     let kept_are = c.in_ok-below.ensures.ranks node.baskets node.set is.weighs one all in
-    let pushed : c.push.new.self.items ≡ path ++ sibling.rank ∷ [] = c.in_ok-push.ensures.items ∙ ap (λ l. l ++ sibling.rank ∷ []) c.loop-at.invariant.path in
+    let longer_is : c.in_ok-longer.longer ≡ with_item (get_or items sibling.rank 0) set = c.in_ok-longer.ensures.ok ∙ ap (λ item. with_item item set) c.item.ensures in
     let rows = c.in_ok-below.ensures.rows node.baskets node.set is.weighs one all in
-    let made = child_is stands weights search.least siblings path (length items) node is i sibling.rank (take i siblings) c.in_ok-below.below.items here at refl kept_are rows in
-    let inner = subst (λ p. IsNode stands weights search.least c.deref-in-loop-at.result.now p (length items) (child node sibling.rank)) (sym pushed)
-    (subst (λ s. IsNode stands weights search.least s (path ++ sibling.rank ∷ []) (length items) (child node sibling.rank)) (sym c.deref-in-loop-at.ensures.value) made) in
-    let told = told_is stands weights search.least siblings path (length items) node is items (g.T.Tally.told_of c.loop-at.tally) (g.T.Tally.told_of c.args.tally.now) i
+    let made = child_is stands weights search.least siblings set items node is i sibling.rank (take i siblings) c.in_ok-below.below.items here at refl kept_are rows in
+    let inner = subst (λ longer. IsNode stands weights search.least c.deref.result.now longer items (child node sibling.rank)) (sym longer_is)
+    (subst (λ s. IsNode stands weights search.least s (with_item (get_or items sibling.rank 0) set) items (child node sibling.rank)) (sym c.deref.ensures.value) made) in
+    let told = told_is stands weights search.least siblings set items node is (g.T.Tally.told_of c.loop-at.tally) (g.T.Tally.told_of c.args.tally.now) i
     c.loop-at.mined.sets.items c.args.mined.now.sets.items c.loop-at.invariant.told (c.loop-at.invariant.sets node is) in
-    let more = part_more stands weights search.least siblings path (length items) node is i sibling.rank here at in
+    let more = part_more stands weights search.least siblings set items node is i sibling.rank here at in
     omega (arith, c.add.ensures.told, c.extend.ensures.at_most (child node sibling.rank) inner)
 
 pub returns-in_err-extend-clause-too_many : goal.returns-in_err-extend-clause-too_many
@@ -245,23 +242,23 @@ returns-in_err-extend-clause-too_many g t c = λ limit e.
           let stands = g.R.Row.stands in
           let weights = search.weights.now in
           let siblings = c.args.siblings.now in
-          let path = c.args.path.now.items in
+          let set = c.args.set.now in
           let items = search.coded.now.items in
           let i = c.loop-at.at in
           let here = c.loop-at-test.true in
           let sibling = c.index-siblings-at.result in
-          let at = rank_at stands weights search.least siblings path (length items) node is i sibling here c.index-siblings-at.is in
+          let at = rank_at stands weights search.least siblings set items node is i sibling here c.index-siblings-at.is in
           let all = All-take (IsSibling stands node.baskets node.set) i siblings is.rows in
           let one = sibling_at stands node.baskets node.set siblings i sibling here c.index-siblings-at.is is.rows in
           let kept_are = c.in_ok-below.ensures.ranks node.baskets node.set is.weighs one all in
-          let pushed : c.push.new.self.items ≡ path ++ sibling.rank ∷ [] = c.in_ok-push.ensures.items ∙ ap (λ l. l ++ sibling.rank ∷ []) c.loop-at.invariant.path in
+          let longer_is : c.in_ok-longer.longer ≡ with_item (get_or items sibling.rank 0) set = c.in_ok-longer.ensures.ok ∙ ap (λ item. with_item item set) c.item.ensures in
           let rows = c.in_ok-below.ensures.rows node.baskets node.set is.weighs one all in
-          let made = child_is stands weights search.least siblings path (length items) node is i sibling.rank (take i siblings) c.in_ok-below.below.items here at refl kept_are rows in
-          let inner = subst (λ p. IsNode stands weights search.least c.deref-in-loop-at.result.now p (length items) (child node sibling.rank)) (sym pushed)
-          (subst (λ s. IsNode stands weights search.least s (path ++ sibling.rank ∷ []) (length items) (child node sibling.rank)) (sym c.deref-in-loop-at.ensures.value) made) in
-          let more = part_more stands weights search.least siblings path (length items) node is i sibling.rank here at in
-          let long = sets_long stands weights search.least siblings path (length items) node is items i c.loop-at.mined.sets.items c.args.mined.now.sets.items (c.loop-at.invariant.sets node is) in
-          let longer = ap length c.in_ok-add.ensures.sets ∙ length-append c.loop-at.mined.sets.items (record { set = c.decode.result; count = c.count-count.result } ∷ []) in
+          let made = child_is stands weights search.least siblings set items node is i sibling.rank (take i siblings) c.in_ok-below.below.items here at refl kept_are rows in
+          let inner = subst (λ longer. IsNode stands weights search.least c.deref.result.now longer items (child node sibling.rank)) (sym longer_is)
+          (subst (λ s. IsNode stands weights search.least s (with_item (get_or items sibling.rank 0) set) items (child node sibling.rank)) (sym c.deref.ensures.value) made) in
+          let more = part_more stands weights search.least siblings set items node is i sibling.rank here at in
+          let long = sets_long stands weights search.least siblings set items node is i c.loop-at.mined.sets.items c.args.mined.now.sets.items (c.loop-at.invariant.sets node is) in
+          let one_more = ap length c.in_ok-add.ensures.sets ∙ length-append c.loop-at.mined.sets.items (record { set = c.in_ok-copied.field-0; count = c.count.result } ∷ []) in
           elim (why (child node sibling.rank) inner) [ inl over ↦ inl over | inr less ↦ inr (omega arith) ],
     )
 
@@ -271,48 +268,44 @@ loop-at-preserved g t c =
     let stands = g.R.Row.stands in
     let weights = search.weights.now in
     let siblings = c.args.siblings.now in
-    let path = c.args.path.now.items in
+    let set = c.args.set.now in
     let items = search.coded.now.items in
     let i = c.loop-at.at in
     let here = c.loop-at-test.true in
     let sibling = c.index-siblings-at.result in
-    let pushed : c.push.new.self.items ≡ path ++ sibling.rank ∷ [] = c.in_ok-push.ensures.items ∙ ap (λ l. l ++ sibling.rank ∷ []) c.loop-at.invariant.path in
-    let longer = ap length c.in_ok-add.ensures.sets ∙ length-append c.loop-at.mined.sets.items (record { set = c.decode.result; count = c.count-count.result } ∷ []) in
+    let longer_is : c.in_ok-longer.longer ≡ with_item (get_or items sibling.rank 0) set = c.in_ok-longer.ensures.ok ∙ ap (λ item. with_item item set) c.item.ensures in
+    let one_more = ap length c.in_ok-add.ensures.sets ∙ length-append c.loop-at.mined.sets.items (record { set = c.in_ok-copied.field-0; count = c.count.result } ∷ []) in
     record {
-      path = pop_path path c.extend.new.path.items c.pop.new.self.items sibling.rank (c.in_ok-extend.ensures.path ∙ pushed)
-          (c.pop.ensures.rest ∙ ap (λ n. take (n - 1) c.extend.new.path.items) c.extend.new.path.ok.0);
       clear = subst (λ (marks : Marks). IsMarked weights [] marks) (sym c.take_back.ensures) c.in_ok-extend.ensures.clear;
       going = c.in_ok-extend.ensures.going_on;
       limit = c.extend.ensures.limit ∙ c.add.ensures.limit ∙ c.loop-at.invariant.limit;
-      told = omega (arith, c.in_ok-extend.ensures.told, c.add.ensures.told, c.loop-at.invariant.told, longer);
+      told = omega (arith, c.in_ok-extend.ensures.told, c.add.ensures.told, c.loop-at.invariant.told, one_more);
       few = c.in_ok-extend.ensures.few;
       sets = λ node is.
-          let at = rank_at stands weights search.least siblings path (length items) node is i sibling here c.index-siblings-at.is in
+          let at = rank_at stands weights search.least siblings set items node is i sibling here c.index-siblings-at.is in
           let all = All-take (IsSibling stands node.baskets node.set) i siblings is.rows in
           let one = sibling_at stands node.baskets node.set siblings i sibling here c.index-siblings-at.is is.rows in
           let kept_are = c.in_ok-below.ensures.ranks node.baskets node.set is.weighs one all in
           let rows = c.in_ok-below.ensures.rows node.baskets node.set is.weighs one all in
-          let made = child_is stands weights search.least siblings path (length items) node is i sibling.rank (take i siblings) c.in_ok-below.below.items here at refl kept_are rows in
-          let inner = subst (λ p. IsNode stands weights search.least c.deref-in-loop-at.result.now p (length items) (child node sibling.rank)) (sym pushed)
-          (subst (λ s. IsNode stands weights search.least s (path ++ sibling.rank ∷ []) (length items) (child node sibling.rank)) (sym c.deref-in-loop-at.ensures.value) made) in
-          let set_is : c.in_ok-set.set ≡ sibling.rank ∷ ranks_at node node.set = c.in_ok-set.ensures.ok ∙ ap rising (c.deref.ensures.value ∙ pushed)
-          ∙ child_path stands weights search.least siblings path (length items) node is sibling.rank i here at in
-          let counts = counted_row stands node.baskets (cover_of node.baskets node.set) (sibling.rank ∷ node.set) sibling.row c.count-count.result c.count-count.ensures one in
-          let is_set = c.decode.ensures ∙ ap (decoded items) set_is in
-          let new : Counted = record { set = c.decode.result; count = c.count-count.result } in
+          let made = child_is stands weights search.least siblings set items node is i sibling.rank (take i siblings) c.in_ok-below.below.items here at refl kept_are rows in
+          let inner = subst (λ longer. IsNode stands weights search.least c.deref.result.now longer items (child node sibling.rank)) (sym longer_is)
+          (subst (λ s. IsNode stands weights search.least s (with_item (get_or items sibling.rank 0) set) items (child node sibling.rank)) (sym c.deref.ensures.value) made) in
+          let counts = counted_row stands node.baskets (cover_of node.baskets node.set) (sibling.rank ∷ node.set) sibling.row c.count.result c.count.ensures one in
+          let is_set = c.in_ok-copied.ensures.same ∙ longer_is ∙ child_set stands weights search.least siblings set items node is sibling.rank in
+          let new : Counted = record { set = c.in_ok-copied.field-0; count = c.count.result } in
           let found : new ≡ found_at items node (sibling.rank ∷ node.set) = λ k. record { set = is_set k; count = counts k } in
-          sets_more stands weights search.least siblings path (length items) node is items i sibling.rank c.args.mined.now.sets.items c.loop-at.mined.sets.items c.add.new.self.sets.items c.extend.new.mined.sets.items
+          sets_more stands weights search.least siblings set items node is i sibling.rank c.args.mined.now.sets.items c.loop-at.mined.sets.items c.add.new.self.sets.items c.extend.new.mined.sets.items
           new here at (c.loop-at.invariant.sets node is) c.in_ok-add.ensures.sets found (c.in_ok-extend.ensures.sets (child node sibling.rank) inner);
       joins = λ node is.
-          let at = rank_at stands weights search.least siblings path (length items) node is i sibling here c.index-siblings-at.is in
+          let at = rank_at stands weights search.least siblings set items node is i sibling here c.index-siblings-at.is in
           let all = All-take (IsSibling stands node.baskets node.set) i siblings is.rows in
           let one = sibling_at stands node.baskets node.set siblings i sibling here c.index-siblings-at.is is.rows in
           let kept_are = c.in_ok-below.ensures.ranks node.baskets node.set is.weighs one all in
           let rows = c.in_ok-below.ensures.rows node.baskets node.set is.weighs one all in
-          let made = child_is stands weights search.least siblings path (length items) node is i sibling.rank (take i siblings) c.in_ok-below.below.items here at refl kept_are rows in
-          let inner = subst (λ p. IsNode stands weights search.least c.deref-in-loop-at.result.now p (length items) (child node sibling.rank)) (sym pushed)
-          (subst (λ s. IsNode stands weights search.least s (path ++ sibling.rank ∷ []) (length items) (child node sibling.rank)) (sym c.deref-in-loop-at.ensures.value) made) in
-          let more = joins_more stands weights search.least siblings path (length items) node is i sibling.rank here at in
+          let made = child_is stands weights search.least siblings set items node is i sibling.rank (take i siblings) c.in_ok-below.below.items here at refl kept_are rows in
+          let inner = subst (λ longer. IsNode stands weights search.least c.deref.result.now longer items (child node sibling.rank)) (sym longer_is)
+          (subst (λ s. IsNode stands weights search.least s (with_item (get_or items sibling.rank 0) set) items (child node sibling.rank)) (sym c.deref.ensures.value) made) in
+          let more = joins_more stands weights search.least siblings set items node is i sibling.rank here at in
           let most : i ≤ length siblings = omega arith in
           let before = length-take-le i siblings most in
           omega (arith, c.in_ok-extend.ensures.joins (child node sibling.rank) inner, c.in_ok-below.ensures.joins, c.add.ensures.joins, c.loop-at.invariant.joins node is);
@@ -324,14 +317,14 @@ returns-clause-sets g t c = λ node is.
     let stands = g.R.Row.stands in
     let weights = search.weights.now in
     let siblings = c.args.siblings.now in
-    let path = c.args.path.now.items in
+    let set = c.args.set.now in
     let items = search.coded.now.items in
     let i = c.loop-at.at in
     let kept = kept_below (is_met node.baskets search.least) node.below node.set in
-    let all = take_all i kept (let n = long stands weights search.least siblings path (length items) node is in let last = c.loop-at-test.false in omega arith) in
+    let all = take_all i kept (let n = long stands weights search.least siblings set items node is in let last = c.loop-at-test.false in omega arith) in
     c.loop-at.invariant.sets node is
     ∙ ap (λ l. c.args.mined.now.sets.items ++ map (found_at items node) l)
-    (ap (found_by stands weights search.least siblings path (length items) node is) all ∙ sym (sets_are_branches (is_met node.baskets search.least) node.below node.set))
+    (ap (found_by stands weights search.least siblings set items node is) all ∙ sym (sets_are_branches (is_met node.baskets search.least) node.below node.set))
 
 pub returns-clause-joins : goal.returns-clause-joins
 returns-clause-joins g t c = λ node is.
@@ -339,11 +332,11 @@ returns-clause-joins g t c = λ node is.
     let stands = g.R.Row.stands in
     let weights = search.weights.now in
     let siblings = c.args.siblings.now in
-    let path = c.args.path.now.items in
+    let set = c.args.set.now in
     let items = search.coded.now.items in
     let i = c.loop-at.at in
     let kept = kept_below (is_met node.baskets search.least) node.below node.set in
-    let all = take_all i kept (let n = long stands weights search.least siblings path (length items) node is in let last = c.loop-at-test.false in omega arith) in
+    let all = take_all i kept (let n = long stands weights search.least siblings set items node is in let last = c.loop-at-test.false in omega arith) in
     c.loop-at.invariant.joins node is
     ∙ ap (λ n. c.args.mined.now.joins + n)
     (ap (sum_by (branch_joins (is_met node.baskets search.least) node.set)) all ∙ sym (joins_are_branches (is_met node.baskets search.least) node.below node.set))

@@ -11,15 +11,14 @@ decreases-extend g l = length l.siblings.now
 
 abbrev pub invariant-loop-at : goal.invariant-loop-at
 invariant-loop-at g l = record {
-  path : l.path.items ≡ l.initial.path.items;
   clear : IsMarked l.self.weights.now [] l.room.marks;
   going : g.T.Tally.is_over l.tally ≡ false;
   limit : g.T.Tally.limit_of l.tally ≡ g.T.Tally.limit_of l.initial.tally;
   told : g.T.Tally.told_of l.tally + length l.initial.mined.sets.items ≡ g.T.Tally.told_of l.initial.tally + length l.mined.sets.items;
   few : FewJoins l.mined.joins (length l.mined.sets.items);
-  sets : (node : Node) → IsNode g.R.Row.stands l.self.weights.now l.self.least l.siblings l.initial.path.items (length l.self.coded.now.items) node
+  sets : (node : Node) → IsNode g.R.Row.stands l.self.weights.now l.self.least l.siblings l.set l.self.coded.now.items node
       → l.mined.sets.items ≡ l.initial.mined.sets.items ++ map (found_at l.self.coded.now.items node)
       (flat_map (branch (is_met node.baskets l.self.least) node.set) (take l.at (kept_below (is_met node.baskets l.self.least) node.below node.set)));
-  joins : (node : Node) → IsNode g.R.Row.stands l.self.weights.now l.self.least l.siblings l.initial.path.items (length l.self.coded.now.items) node
+  joins : (node : Node) → IsNode g.R.Row.stands l.self.weights.now l.self.least l.siblings l.set l.self.coded.now.items node
       → l.mined.joins ≡ l.initial.mined.joins + sum_by (branch_joins (is_met node.baskets l.self.least) node.set) (take l.at (kept_below (is_met node.baskets l.self.least) node.below node.set));
 }
