@@ -66,7 +66,10 @@ impl Itemset {
     fn of_numbers(mut items: SmallVec<u32, { INLINE_ITEMS }>) -> Self
         ensures { result ≡ rising items.items }
     {
-        if !is_rising(items.as_slice()) && !put_in_order(items.as_mut_slice()) {
+        if is_rising(items.as_slice()) {
+            return Itemset { items };
+        }
+        if !put_in_order(items.as_mut_slice()) {
             items.as_mut_slice().sort_unstable();
             items.dedup();
         }

@@ -9,6 +9,7 @@ pub mod laws;
 mod merge;
 mod minimum;
 mod order;
+mod short;
 mod weighted;
 pub mod worked;
 

@@ -1,5 +1,5 @@
 -- Rising lists of items, what they have, and what they contain.
-use Rattle.std.proofs.Common.{◌≡◌, ◌≢◌, ℕ, zero, suc, ◌+◌, ◌<◌, ◌≤◌, Bool, true, false, ◌||◌, List, [], ◌∷◌, ◌++◌, length, cond, eqb, ltb, refl, sym, ap, ◌∙◌, subst, inl, inr, ◌⊎◌, arith, get_or, take, Result, Ok, Err, is_ok}
+use Rattle.std.proofs.Common.{◌≡◌, ◌≢◌, ℕ, zero, suc, ◌+◌, ◌<◌, ◌≤◌, Bool, true, false, ◌||◌, List, [], ◌∷◌, ◌++◌, length, cond, eqb, ltb, refl, sym, ap, ◌∙◌, subst, inl, inr, ◌⊎◌, arith, get_or, set, take, Result, Ok, Err, is_ok}
 use Rattle.std.specs.declared.cmp.Ordering.TheVariants.{Less, Equal, Greater}
 use Rattle.std.specs.Ordering.{nat_cmp}
 use Rattle.std.specs.Cmp.{nat_cmp_total}
@@ -181,6 +181,44 @@ length-le-contains (x ∷ set) (y ∷ items) up over into = elim (into x (inl re
     heads z (inl e) = omega arith
     heads z (inr m) = let b = first_below x set up z m in omega arith
 
+-- the rising list of some numbers is no longer than they are
+with_item-long : (a : ℕ) (xs : List ℕ) → length (with_item a xs) ≤ length xs + 1
+with_item-long a [] = omega arith
+with_item-long a (x ∷ xs) = at (with_item-long a xs) (ltb a x) (eqb a x)
+  where
+    at : length (with_item a xs) ≤ length xs + 1 → (p q : Bool) → length (cond p (a ∷ x ∷ xs) (cond q (x ∷ xs) (x ∷ with_item a xs))) ≤ length (x ∷ xs) + 1
+    at one true q = omega arith
+    at one false true = omega arith
+    at one false false = omega arith
+
+rising-long : (numbers : List ℕ) → length (rising numbers) ≤ length numbers
+rising-long [] = omega arith
+rising-long (x ∷ numbers) = let one = with_item-long x (rising numbers) in let more = rising-long numbers in omega arith
+
+-- a rising list within another that is no longer is that one
+whole_rising : (set items : List ℕ) → IsRising set → IsRising items → ((z : ℕ) → Member z set → Member z items) → length items ≤ length set → set ≡ items
+whole_rising [] [] up over into long = refl
+whole_rising [] (y ∷ items) up over into long = absurd (omega arith)
+whole_rising (x ∷ set) [] up over into long = absurd (into x (inl refl))
+whole_rising (x ∷ set) (y ∷ items) up over into long = elim (into x (inl refl)) [
+  | inl same ↦
+      (ap (λ z. z ∷ set) (sym same)
+      ∙ ap (λ l. y ∷ l) (whole_rising set items (rest_rises x set up) (rest_rises y items over)
+      (λ z m. elim (into z (inr m)) [ inl e ↦ absurd (let b = first_below x set up z m in omega arith) | inr k ↦ k ]) (omega arith)))
+  | inr later ↦ absurd (let n = length-le-contains (x ∷ set) items up (rest_rises y items over)
+      (λ z m. elim (into z m) [ inl e ↦ (let b = first_below y items over x later in let c = heads z m in absurd (omega arith)) | inr k ↦ k ]) in omega arith)
+]
+  where
+    heads : (z : ℕ) → Member z (x ∷ set) → x ≤ z
+    heads z (inl e) = omega arith
+    heads z (inr m) = let b = first_below x set up z m in omega arith
+
+-- a rising list of some of the numbers that is as long is their rising list
+pub as_long_rising : (numbers items : List ℕ) → IsRising items → ((z : ℕ) → has items z ≡ true → has numbers z ≡ true) → length items ≡ length numbers → items ≡ rising numbers
+as_long_rising numbers items up from long =
+    let short = rising-long numbers in
+    whole_rising items (rising numbers) up (rising-rises numbers) (λ z m. Member-into_rising numbers z (Member-from_has numbers z (from z (has-from_Member items z m)))) (omega arith)
+
 -- ---- a binary search of a rising list
 
 rises_by_places : (items : List ℕ) → IsRising items → (i j : ℕ) → i ≤ j → j < length items → get_or items i 0 ≤ get_or items j 0
@@ -218,6 +256,17 @@ has_more items i x below =
 -- a list has what stands in it
 pub has_place : (items : List ℕ) (i : ℕ) → i < length items → has items (get_or items i 0) ≡ true
 has_place items i below = has-from_Member items (get_or items i 0) (Member-from_Contains (get_or items i 0) items (i, below, get_or_default items i (get_or items i 0) 0 below))
+
+-- a list with an item at a place has that item and its own
+pub has-set : (items : List ℕ) (k x z : ℕ) → has (set items k x) z ≡ true → (x ≡ z) ⊎ (has items z ≡ true)
+has-set items k x z h = elim (Member-set items k (Member-from_has (set items k x) z h)) [ inl e ↦ inl e | inr m ↦ inr (has-from_Member items z m) ]
+  where
+    Member-set : (items : List ℕ) (k : ℕ) → Member z (set items k x) → (x ≡ z) ⊎ Member z items
+    Member-set [] k m = absurd m
+    Member-set (y ∷ items) zero (inl e) = inl e
+    Member-set (y ∷ items) zero (inr m) = inr (inr m)
+    Member-set (y ∷ items) (suc k) (inl e) = inr (inl e)
+    Member-set (y ∷ items) (suc k) (inr m) = elim (Member-set items k m) [ inl e ↦ inl e | inr n ↦ inr (inr n) ]
 
 -- in a rising list an item stands once
 pub not_before : (items : List ℕ) (i : ℕ) → IsRising items → i < length items → has (take i items) (get_or items i 0) ≡ false
