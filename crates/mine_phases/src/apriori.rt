@@ -24,10 +24,9 @@ const FIRST_OF_LEVELS: u32 = 3;
 
 /// As many of the workers as may have a count for each pair of ranks of their own, since these take no
 /// more memory together than the baskets. None where not even one may.
-fn with_triangles(coded: &Coded, cutting: Cutting) -> Option<Cutting> {
-    let baskets = coded.baskets().len();
+fn with_triangles(ranks: u32, baskets: usize, cutting: Cutting) -> Option<Cutting> {
     for workers in (1..=cutting.workers).rev() {
-        if is_small_triangle(coded.ranks(), baskets / workers as usize) {
+        if is_small_triangle(ranks, baskets / workers as usize) {
             return Some(Cutting::new(workers, cutting.pieces));
         }
     }
@@ -45,7 +44,7 @@ fn pairs<R: Threads + Sync, G: Gate + Sync>(
 ) -> Result<Vec<Vec<(u32, u64)>>, AllocError>
     ensures { IfOk result (λ lists. ArePairs coded.now (lists_of lists.items)) }
 {
-    if let Some(fewer) = with_triangles(coded, cutting) {
+    if let Some(fewer) = with_triangles(coded.ranks(), coded.baskets().len(), cutting) {
         let supports = count_triangle(rt, alloc, coded, fewer, gate)?;
         return pairs_of_supports(alloc, coded, &supports);
     }
