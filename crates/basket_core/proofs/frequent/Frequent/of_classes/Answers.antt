@@ -15,6 +15,6 @@ returns c =
     let by_words = c.sort_by_words.new.sets in
     let back = take_at by_words _ c.in_ok-sets.sets.len (c.sort_by_words.auto.sets ∙ c.deref_mut.ensures.len) in
     let moved = IsPermutation-trans _ _ _ (subst (λ from. IsPermutation from by_words) c.deref_mut.ensures.value c.sort_by_words.ensures)
-        (subst (λ from. IsPermutation from sets) back c.sort_unstable.ensures.permutation) in
+    (subst (λ from. IsPermutation from sets) back c.sort_unstable.ensures.permutation) in
     let sorted = sorted_is_frequent (baskets_of coding) coding.minimum _ sets once moved (sets_sorted sets c.sort_unstable.ensures.sorted) in
     λ i. record { sets = sorted i; total = c.total.ensures i }
