@@ -7,7 +7,7 @@ ghost use Rattle.mine_classes.specs.Ordered.{AreRankBaskets, HaveSameWeights, en
 ghost use Rattle.mine_classes.specs.Places.{ArePlaces, placed, places_in, slots_in};
 ghost use Rattle.mine_classes.specs.Span.{IsWithin, baskets_at};
 
-use crate::ordered::{Entry, Ordered};
+use crate::ordered::{Entry, Ordered, key_bits};
 use crate::span::{Span, place, table_pays};
 use crate::words::{WORD_RANKS, clear_bits, set_bits, words_of};
 use std::alloc::{AllocError, Global};
@@ -80,8 +80,9 @@ impl Places {
         let mut locals = Vec::new(alloc);
         let coded = coded_spans(alloc, &mut locals, &self.of, kept, ranks, baskets);
         take_away(&mut self.of, kept);
-        let entries = entries_at(alloc, &locals, &coded?)?;
-        Ordered::of_entries(alloc, place(kept.len())?, entries)
+        let count = place(kept.len())?;
+        let entries = entries_at(alloc, &locals, &coded?, key_bits(count))?;
+        Ordered::of_entries(alloc, count, entries)
     }
 
     /// The same of few ranks, where each basket is a word.
@@ -227,16 +228,15 @@ fn entries_at<'a>(
     alloc: Global,
     ranks: &'a [u32],
     spans: &[Span],
+    bits: u32,
 ) -> Result<Vec<Entry<'a>>, AllocError>
-    requires { All (IsWithin (length ranks.now)) spans.now }
+    requires within { All (IsWithin (length ranks.now)) spans.now }
+    requires bits { 1 ≤ bits }
     ensures { IfOk result (λ entries. entry_places entries.items ≡ baskets_at ranks.now spans.now) }
 {
     let mut entries = Vec::with_capacity(alloc, spans.len())?;
     for span in spans {
-        entries.push(Entry {
-            ranks: span.of(ranks),
-            weight: span.weight,
-        })?;
+        entries.push(Entry::new(span.of(ranks), span.weight, bits))?;
     }
     Ok(entries)
 }
