@@ -36,7 +36,7 @@ same_cond : (a : Bool) (n : ℕ) → cond a n n ≡ n
 same_cond true n = refl
 same_cond false n = refl
 
-cond_sum : (a : Bool) (m n : ℕ) → cond a m 0 + cond a n 0 ≡ cond a (m + n) 0
+pub cond_sum : (a : Bool) (m n : ℕ) → cond a m 0 + cond a n 0 ≡ cond a (m + n) 0
 cond_sum true m n = refl
 cond_sum false m n = refl
 

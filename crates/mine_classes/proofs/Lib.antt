@@ -8,6 +8,8 @@ mod RunLoopLemmas
 mod PairLemmas
 mod SumLemmas
 mod PlaceLemmas
+mod BitLemmas
+mod WordLemmas
 mod CodedLemmas
 mod OrderLemmas
 mod MinedLemmas

@@ -26,15 +26,15 @@ not_before basket i up here = elim (cases_Bool (has (take i basket) (get_or bask
 pub has_more : (basket : List ℕ) (i rank : ℕ) → i < length basket → has (take (i + 1) basket) rank ≡ (has (take i basket) rank || eqb (get_or basket i 0) rank)
 has_more basket i rank here = list_any_more (λ other. eqb other rank) basket i 0 here
 
-or_true : (b : Bool) → (b || true) ≡ true
+pub or_true : (b : Bool) → (b || true) ≡ true
 or_true true = refl
 or_true false = refl
 
-or_false : (b : Bool) → (b || false) ≡ b
+pub or_false : (b : Bool) → (b || false) ≡ b
 or_false true = refl
 or_false false = refl
 
-apart_eqb : (x y : ℕ) → (x ≡ y → ⊥) → eqb x y ≡ false
+pub apart_eqb : (x y : ℕ) → (x ≡ y → ⊥) → eqb x y ≡ false
 apart_eqb x y differ = elim (cases_Bool (eqb x y)) [ inl e ↦ absurd (differ (eqb-true x y e)) | inr e ↦ e ]
 
 pub with_more : (basket : List ℕ) (i weight : ℕ) (old now : List ℕ) → IsRising basket → i < length basket → get_or basket i 0 < length now → length now ≡ length old → WithBasket (take i basket) weight old now

@@ -42,7 +42,7 @@ rank_from_at number (x ∷ kept) (suc k) up here =
     ap (λ b. cond b (Some number) (rank_from (number + 1) kept (get_or kept k 0))) (ne_eqb x (get_or kept k 0) (λ same. absurd (omega arith)))
     ∙ rank_from_at (number + 1) kept k (rest_rises x kept up) within ∙ (let e : number + 1 + k ≡ number + suc k = omega arith in ap Some e)
 
-rank_from_none : (number : ℕ) (kept : List ℕ) (rank : ℕ) → has kept rank ≡ false → rank_from number kept rank ≡ None
+pub rank_from_none : (number : ℕ) (kept : List ℕ) (rank : ℕ) → has kept rank ≡ false → rank_from number kept rank ≡ None
 rank_from_none number [] rank missing = refl
 rank_from_none number (x ∷ kept) rank missing =
     let both = neither (eqb x rank) (has kept rank) missing in
@@ -143,7 +143,7 @@ slots_are kept places basket up are below = go basket (λ rank m. below rank (ha
 
 module _ (kept : List ℕ) (up : IsRising kept) where
   -- a rank that has a place stands there
-  stands : (rank place : ℕ) → rank_of kept rank ≡ Some place → (place < length kept) × (get_or kept place 0 ≡ rank)
+  pub stands : (rank place : ℕ) → rank_of kept rank ≡ Some place → (place < length kept) × (get_or kept place 0 ≡ rank)
   stands rank place is = elim (cases_Bool (has kept rank)) [
     | inl e ↦
         (let c = Contains-from_Member rank kept (Member-from_has kept rank e) in
@@ -156,7 +156,7 @@ module _ (kept : List ℕ) (up : IsRising kept) where
       some_same : {a b : ℕ} → Some a ≡ Some b → a ≡ b
       some_same e = cc
 
-  from_places : (basket : List ℕ) (place : ℕ) → Member place (places_in kept basket) → (rank : ℕ) × Member rank basket × (rank_of kept rank ≡ Some place)
+  pub from_places : (basket : List ℕ) (place : ℕ) → Member place (places_in kept basket) → (rank : ℕ) × Member rank basket × (rank_of kept rank ≡ Some place)
   from_places [] place m = absurd m
   from_places (first ∷ basket) place m = at (rank_of kept first) refl (from_places basket place) m
     where
@@ -169,7 +169,7 @@ module _ (kept : List ℕ) (up : IsRising kept) where
       at (Some y) e rest (inl same) = (first, inl refl, e ∙ ap Some same)
       at (Some y) e rest (inr n) = later (rest n)
 
-  into_places : (basket : List ℕ) (rank place : ℕ) → Member rank basket → rank_of kept rank ≡ Some place → Member place (places_in kept basket)
+  pub into_places : (basket : List ℕ) (rank place : ℕ) → Member rank basket → rank_of kept rank ≡ Some place → Member place (places_in kept basket)
   into_places [] rank place m is = absurd m
   into_places (first ∷ basket) rank place (inl same) is =
       subst (λ o. Member place (cons_option o (places_in kept basket))) (sym (ap (rank_of kept) same ∙ is)) (inl refl)
@@ -180,7 +180,7 @@ module _ (kept : List ℕ) (up : IsRising kept) where
       at (Some y) n = inr n
 
   -- the places of a rising basket rise
-  places_rise : (basket : List ℕ) → IsRising basket → IsRising (places_in kept basket)
+  pub places_rise : (basket : List ℕ) → IsRising basket → IsRising (places_in kept basket)
   places_rise [] rises = nil_rises
   places_rise (first ∷ basket) rises = at (rank_of kept first) refl (places_rise basket (rest_rises first basket rises))
     where

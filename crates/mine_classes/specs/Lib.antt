@@ -5,5 +5,6 @@ pub mod Ordered
 pub mod Runs
 pub mod Pairs
 pub mod Places
+pub mod Words
 pub mod Worked
 pub mod Mined

@@ -63,9 +63,9 @@ entry_place entry = weighted entry.ranks.now entry.weight
 abbrev pub entry_places : List Entry → List Weighted
 entry_places entries = map entry_place entries
 
--- the order of entries: by their ranks, which is lexicographic, then by weight
-abbrev pub entry_order : Weighted → Weighted → Ordering
-entry_order a b = ordering_then (slice_cmp nat_cmp a.basket b.basket) (nat_cmp a.weight b.weight)
+-- the order of entries: by their ranks, which is lexicographic, then by weight and key
+abbrev pub entry_order : Entry → Entry → Ordering
+entry_order a b = ordering_then (slice_cmp nat_cmp a.ranks.now b.ranks.now) (ordering_then (nat_cmp a.weight b.weight) (nat_cmp a.key b.key))
 
 -- each basket is lexicographically before the next, so no two are equal
 abbrev pub IsLexicographic : List Weighted → Type 0

@@ -1,5 +1,6 @@
 //! Supports of pairs of ranks.
 ghost use Rattle.std.specs.Prelude.{◌≡◌, ◌≤◌, ◌<◌, ◌+◌, ℕ, [], All, IfOk, OnOk, filter, length, map, replicate, slice_index};
+ghost use Rattle.std.specs.List.{range_with_len};
 ghost use Rattle.basket_sets.specs.Counts.{AllBelow};
 ghost use Rattle.basket_sets.specs.Database.{MOST_WEIGHT};
 ghost use Rattle.basket_sets.specs.Itemset.{IsRising, rising};
@@ -70,6 +71,9 @@ impl Sums {
         if self.sums.is_empty() {
             return met_by_search(alloc, ranks, baskets, least);
         }
+        if have_ranks(baskets, self.count as usize) {
+            return met_by_scan(alloc, &mut self.sums, ranks, baskets, least);
+        }
         met_by_table(
             alloc,
             &mut self.sums,
@@ -79,6 +83,42 @@ impl Sums {
             least,
         )
     }
+}
+
+/// Whether baskets have so many ranks together.
+fn have_ranks(baskets: &[Span], many: usize) -> bool
+    requires { (count : ℕ) × All (IsWithin count) baskets.now }
+{
+    let mut seen = 0usize;
+    for basket in baskets {
+        if seen >= many {
+            break;
+        }
+        seen = seen.saturating_add((basket.end - basket.start) as usize);
+    }
+    seen >= many
+}
+
+/// The ranks that are met, by a pass over all sums, which are 0 before and after: where they are no
+/// more than the ranks that are added up, that is faster than to list those that are not 0.
+fn met_by_scan(
+    alloc: Global,
+    sums: &mut [u64],
+    ranks: &[u32],
+    baskets: &[Span],
+    least: u64,
+) -> Result<Vec<(u32, u64)>, AllocError>
+    requires zero { sums.old ≡ replicate (length sums.old) 0 }
+    requires few { length sums.old ≤ 4294967295 }
+    requires within { All (IsWithin (length ranks.now)) baskets.now }
+    requires ranked { AreRankBaskets (record { ranks = length sums.old; baskets = baskets_at ranks.now baskets.now }) }
+    ensures met { IfOk result (λ met. met.items ≡ ranks_met (length sums.old) least (baskets_at ranks.now baskets.now)) }
+    ensures sums { sums.new ≡ replicate (length sums.old) 0 }
+{
+    add_all(sums, ranks, baskets);
+    let met = met_in_order(alloc, sums, least);
+    sums.fill(0);
+    met
 }
 
 /// The ranks that are met, by a table of sums, which are 0 before and after.
@@ -170,6 +210,44 @@ fn add_up(
         add_basket(sums, found, basket.of(ranks), basket.weight)?;
     }
     Ok(())
+}
+
+/// Adds the weights of baskets to the sums of their ranks.
+fn add_all(sums: &mut [u64], ranks: &[u32], baskets: &[Span])
+    requires zero { sums.old ≡ replicate (length sums.old) 0 }
+    requires within { All (IsWithin (length ranks.now)) baskets.now }
+    requires ranked { AreRankBaskets (record { ranks = length sums.old; baskets = baskets_at ranks.now baskets.now }) }
+    ensures { (rank : ℕ) → rank < length sums.old → slice_index sums.new rank ≡ weight_with rank (baskets_at ranks.now baskets.now) }
+{
+    for basket in baskets {
+        add_weight(sums, basket.of(ranks), basket.weight);
+    }
+}
+
+/// Adds a weight to the sum of each rank of a basket.
+fn add_weight(sums: &mut [u64], basket: &[u32], weight: u64)
+    requires rises { IsRising basket.now }
+    requires below { AllBelow (length sums.old) basket.now }
+    requires light { (rank : ℕ) → rank < length sums.old → slice_index sums.old rank + weight ≤ MOST_WEIGHT }
+    ensures { WithBasket basket.now weight sums.old sums.new }
+{
+    for rank in basket {
+        sums[*rank as usize] += weight;
+    }
+}
+
+/// The ranks whose sums are at least so much, with their sums.
+fn met_in_order(alloc: Global, sums: &[u64], least: u64) -> Result<Vec<(u32, u64)>, AllocError>
+    requires { length sums.now ≤ 4294967295 }
+    ensures { IfOk result (λ pairs. pairs.items ≡ map (λ rank. (rank, slice_index sums.now rank)) (filter (λ rank. is_met least (slice_index sums.now rank)) (range_with_len 0 (length sums.now)))) }
+{
+    let mut pairs = Vec::new(alloc);
+    for (rank, sum) in sums.iter().enumerate() {
+        if *sum >= 1 && *sum >= least {
+            pairs.push((rank as u32, *sum))?;
+        }
+    }
+    Ok(pairs)
 }
 
 /// Adds the weight of a basket to the sum of each of its ranks, and lists the ranks whose sums were 0.

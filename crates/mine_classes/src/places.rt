@@ -1,5 +1,5 @@
 //! Baskets of the ranks that stand in a list, by their places there.
-ghost use Rattle.std.specs.Prelude.{◌≡◌, ◌<◌, ◌++◌, [], None, All, IfOk, OnOk, length, map, replicate};
+ghost use Rattle.std.specs.Prelude.{◌≡◌, ◌≤◌, ◌<◌, ◌++◌, [], None, All, IfOk, OnOk, length, map, replicate};
 ghost use Rattle.basket_core.specs.Codes.{coded_place, rank_of};
 ghost use Rattle.basket_sets.specs.Counts.{AllBelow};
 ghost use Rattle.basket_sets.specs.Itemset.{IsRising};
@@ -7,8 +7,9 @@ ghost use Rattle.mine_classes.specs.Ordered.{AreRankBaskets, HaveSameWeights, en
 ghost use Rattle.mine_classes.specs.Places.{ArePlaces, placed, places_in, slots_in};
 ghost use Rattle.mine_classes.specs.Span.{IsWithin, baskets_at};
 
-use crate::ordered::{Entry, Ordered};
+use crate::ordered::{Entry, Ordered, key_bits};
 use crate::span::{Span, place, table_pays};
+use crate::words::{WORD_RANKS, clear_bits, set_bits, words_of};
 use std::alloc::{AllocError, Global};
 use std::marker::Model;
 
@@ -21,6 +22,8 @@ pub struct Places {
     seen: usize,
     /// An empty slot for each rank, or nothing where there is no table yet.
     of: Vec<Option<u32>>,
+    /// No bits for each rank, or nothing where there is no table yet.
+    bits: Vec<u64>,
 }
 
 impl Model for Places {
@@ -31,7 +34,9 @@ impl Model for Places {
     ghost view = { λ p. p.count };
 
     ghost invariant = { λ p. (0 < length p.of.items → length p.of.items ≡ p.count)
-        × (p.of.items ≡ replicate (length p.of.items) None) };
+        × (p.of.items ≡ replicate (length p.of.items) None)
+        × (0 < length p.bits.items → length p.bits.items ≡ p.count)
+        × (p.bits.items ≡ replicate (length p.bits.items) 0) };
 }
 
 impl Places {
@@ -43,6 +48,7 @@ impl Places {
             count,
             seen: 0,
             of: Vec::new(alloc),
+            bits: Vec::new(alloc),
         })
     }
 
@@ -64,6 +70,9 @@ impl Places {
         ensures weights { IfOk result (λ ordered. HaveSameWeights (map (coded_place kept.now) (baskets_at ranks.now baskets.now)) ordered.baskets) }
         ensures places { self.new ≡ self.old }
     {
+        if kept.len() <= WORD_RANKS {
+            return self.coded_by_words(alloc, kept, ranks, baskets);
+        }
         if self.of.is_empty() && table_pays(self.count, &mut self.seen, baskets) {
             self.of = vec![in alloc; None; self.count as usize]?;
         }
@@ -71,8 +80,37 @@ impl Places {
         let mut locals = Vec::new(alloc);
         let coded = coded_spans(alloc, &mut locals, &self.of, kept, ranks, baskets);
         take_away(&mut self.of, kept);
-        let entries = entries_at(alloc, &locals, &coded?)?;
-        Ordered::of_entries(alloc, place(kept.len())?, entries)
+        let count = place(kept.len())?;
+        let entries = entries_at(alloc, &locals, &coded?, key_bits(count))?;
+        Ordered::of_entries(alloc, count, entries)
+    }
+
+    /// The same of few ranks, where each basket is a word.
+    fn coded_by_words(
+        &mut self,
+        alloc: Global,
+        kept: &[u32],
+        ranks: &[u32],
+        baskets: &[Span],
+    ) -> Result<Ordered, AllocError>
+        requires few { length kept.now ≤ WORD_RANKS }
+        requires rises { IsRising kept.now }
+        requires below { AllBelow self.old kept.now }
+        requires within { All (IsWithin (length ranks.now)) baskets.now }
+        requires ranked { AreRankBaskets (record { ranks = self.old; baskets = baskets_at ranks.now baskets.now }) }
+        ensures ranks { IfOk result (λ ordered. ordered.ranks ≡ length kept.now) }
+        ensures ranked { IfOk result AreRankBaskets }
+        ensures weights { IfOk result (λ ordered. HaveSameWeights (map (coded_place kept.now) (baskets_at ranks.now baskets.now)) ordered.baskets) }
+        ensures places { self.new ≡ self.old }
+    {
+        let looked_at = !kept.is_empty() && self.bits.is_empty();
+        if looked_at && table_pays(self.count, &mut self.seen, baskets) {
+            self.bits = vec![in alloc; 0; self.count as usize]?;
+        }
+        set_bits(&mut self.bits, kept);
+        let words = words_of(alloc, &self.bits, kept, ranks, baskets);
+        clear_bits(&mut self.bits, kept);
+        Ordered::of_words(alloc, kept.len() as u32, words?)
     }
 }
 
@@ -102,7 +140,7 @@ fn take_away(of: &mut [Option<u32>], kept: &[u32])
 }
 
 /// The place of a rank in the list.
-fn place_of(kept: &[u32], rank: u32) -> Option<u32>
+pub fn place_of(kept: &[u32], rank: u32) -> Option<u32>
     requires { IsRising kept.now }
     ensures { result ≡ rank_of kept.now rank }
 {
@@ -190,16 +228,15 @@ fn entries_at<'a>(
     alloc: Global,
     ranks: &'a [u32],
     spans: &[Span],
+    bits: u32,
 ) -> Result<Vec<Entry<'a>>, AllocError>
-    requires { All (IsWithin (length ranks.now)) spans.now }
+    requires within { All (IsWithin (length ranks.now)) spans.now }
+    requires bits { 1 ≤ bits }
     ensures { IfOk result (λ entries. entry_places entries.items ≡ baskets_at ranks.now spans.now) }
 {
     let mut entries = Vec::with_capacity(alloc, spans.len())?;
     for span in spans {
-        entries.push(Entry {
-            ranks: span.of(ranks),
-            weight: span.weight,
-        })?;
+        entries.push(Entry::new(span.of(ranks), span.weight, bits))?;
     }
     Ok(entries)
 }

@@ -18,7 +18,7 @@ use std::marker::Model;
 
 /// Baskets of ranks that lie one after another, and the runs of each rank in them. A run is a place
 /// where the rank stands after some others: the ranks before it are its path, and its weight is that
-/// of the neighbours that share the path and the rank. Where the baskets are in lexicographic order,
+/// of the neighbours that share the path and the rank. Where baskets that begin alike stand together,
 /// a run is a node of their prefix tree (Han, Pei and Yin 2000).
 #[derive(Debug, Drop)]
 pub struct Runs {

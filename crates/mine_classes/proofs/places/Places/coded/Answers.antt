@@ -13,7 +13,7 @@ of_entries-requires c =
     let baskets = baskets_at c.args.ranks.now c.args.baskets.now in
     let entries = c.in_ok-entries.ensures ∙ ap (λ l. baskets_at l c.deref-3.result.now) c.deref-2.ensures.value ∙ ap (baskets_at c.coded_spans-coded.new.locals.items) c.deref-3.ensures.value
     ∙ c.in_ok-coded.ensures.placed ∙ all_coded kept c.requires.rises c.args.self.now baskets (recursion_from_All (IsRankBasket c.args.self.now) baskets c.requires.ranked.places) in
-    rw (c.in_ok-place.ensures, entries) (coded_rank_baskets kept c.args.self.now baskets c.requires.ranked)
+    rw (c.in_ok-count.ensures, entries) (coded_rank_baskets kept c.args.self.now baskets c.requires.ranked)
 
 pub returns-clause-weights : goal.returns-clause-weights
 returns-clause-weights c =

@@ -1,0 +1,169 @@
+-- The places of a basket's ranks as bits.
+use Rattle.std.proofs.Common.{◌≡◌, ◌≢◌, ℕ, ◌+◌, ◌-◌, ◌^◌, ◌<◌, ◌≤◌, ◌⊎◌, Bool, true, false, ◌||◌, List, [], ◌∷◌, Option, Some, None, length, take, get_or, set, cond, eqb, refl, sym, ap, ◌∙◌, inl, inr, arith, zero, suc}
+use Rattle.std.specs.Prelude.{bit_or, max}
+use Rattle.std.specs.Int.{bit_at}
+use Rattle.std.specs.Int.Bits.{or_zero_r}
+use Rattle.std.specs.List.{fold, range_with_len}
+use Rattle.std.proofs.lemmas.Bool.{cases_Bool, cases_eq, cases_lt, eq-eqb, or_cases, true≢false}
+use Rattle.std.proofs.lemmas.List.{get_or_past, get_or-set_same, get_or-set_other, length-set, take_all}
+use Rattle.std.proofs.lemmas.Nat.Bits.{bit_at-lt, bit_at-pow_other, bit_at-pow_same, bit_at-zero, bit_at_or}
+use Rattle.basket_core.specs.Codes.{rank_of}
+use Rattle.basket_sets.specs.Itemset.{IsRising, has}
+use Rattle.basket_sets.proofs.theory.Members.{Member, Member-filter, Member-from_filter}
+use Rattle.basket_sets.proofs.theory.Rising.{same_rising}
+use Rattle.mine_classes.specs.Places.{places_in}
+use Rattle.mine_classes.specs.declared.words.TheConstants.{WORD_RANKS}
+use Rattle.mine_classes.specs.Words.{AreBits, bits_in, has_rank, option_bit, place_bit, ranks_in}
+use Rattle.mine_classes.proofs.PairLemmas.{apart_eqb, has_more, or_false, or_true}
+use Rattle.mine_classes.proofs.PlaceLemmas.{from_places, into_places, places_rise, rank_at, rank_from_none, stands}
+use Rattle.mine_classes.proofs.SumLemmas.{Member-into_range, Member-range, filtered_range_rises}
+
+-- ---- the bits of two words together
+
+one_of_two : (x y : ℕ) → x < 2 → y < 2 → eqb (max x y) 1 ≡ (eqb x 1 || eqb y 1)
+one_of_two zero zero low high = refl
+one_of_two zero (suc zero) low high = refl
+one_of_two zero (suc (suc y)) low high = absurd (omega arith)
+one_of_two (suc zero) zero low high = refl
+one_of_two (suc zero) (suc zero) low high = refl
+one_of_two (suc zero) (suc (suc y)) low high = absurd (omega arith)
+one_of_two (suc (suc x)) y low high = absurd (omega arith)
+
+has_either : (a b rank : ℕ) → has_rank (bit_or a b) rank ≡ (has_rank a rank || has_rank b rank)
+has_either a b rank = ap (λ n. eqb n 1) (bit_at_or a b (63 - rank)) ∙ one_of_two (bit_at a (63 - rank)) (bit_at b (63 - rank)) (bit_at-lt a (63 - rank)) (bit_at-lt b (63 - rank))
+
+-- ---- the bit of a place
+
+module _ (kept : List ℕ) (up : IsRising kept) (few : length kept ≤ WORD_RANKS) where
+  place_has : (rank place : ℕ) → rank_of kept rank ≡ Some place → has_rank (place_bit kept rank) place ≡ true
+  place_has rank place is = ap (λ o. has_rank (option_bit o) place) is ∙ ap (λ n. eqb n 1) (bit_at-pow_same (63 - place))
+
+  has_place : (rank place : ℕ) → place < WORD_RANKS → has_rank (place_bit kept rank) place ≡ true → rank_of kept rank ≡ Some place
+  has_place rank place within h = at (rank_of kept rank) refl h
+    where
+      at : (o : Option ℕ) → rank_of kept rank ≡ o → has_rank (option_bit o) place ≡ true → rank_of kept rank ≡ Some place
+      at None e h = absurd (true≢false (sym h ∙ ap (λ n. eqb n 1) (bit_at-zero (63 - place))))
+      at (Some k) e h = elim (cases_eq (63 - place) (63 - k)) [
+        | inl same ↦ (let inside = (stands kept up rank k e).0 in let is : k ≡ place = omega arith in e ∙ ap Some is)
+        | inr differ ↦ absurd (true≢false (sym h ∙ ap (λ n. eqb n 1) (bit_at-pow_other (63 - k) (63 - place) differ)))
+      ]
+
+  -- ---- the bits of a basket
+
+  abbrev with_bit : ℕ → ℕ → ℕ
+  with_bit bits rank = bit_or bits (place_bit kept rank)
+
+  from_bits : (basket : List ℕ) (bits place : ℕ) → place < WORD_RANKS → has_rank (fold with_bit bits basket) place ≡ true
+      → (has_rank bits place ≡ true) ⊎ ((rank : ℕ) × Member rank basket × (rank_of kept rank ≡ Some place))
+  from_bits [] bits place within h = inl h
+  from_bits (first ∷ basket) bits place within h = elim (from_bits basket (with_bit bits first) place within h) [
+    | inl e ↦ elim (or_cases (has_rank bits place) (has_rank (place_bit kept first) place) (sym (has_either bits (place_bit kept first) place) ∙ e)) [
+      | inl old ↦ inl old
+      | inr new ↦ inr (first, inl refl, has_place first place within new)
+    ]
+    | inr r ↦ inr (r.0, inr r.1, r.2)
+  ]
+
+  bits_stay : (basket : List ℕ) (bits place : ℕ) → has_rank bits place ≡ true → has_rank (fold with_bit bits basket) place ≡ true
+  bits_stay [] bits place h = h
+  bits_stay (first ∷ basket) bits place h =
+      bits_stay basket (with_bit bits first) place (has_either bits (place_bit kept first) place ∙ ap (λ b. b || has_rank (place_bit kept first) place) h)
+
+  into_bits : (basket : List ℕ) (bits rank place : ℕ) → Member rank basket → rank_of kept rank ≡ Some place → has_rank (fold with_bit bits basket) place ≡ true
+  into_bits [] bits rank place m is = absurd m
+  into_bits (first ∷ basket) bits rank place (inl same) is = bits_stay basket (with_bit bits first) place
+      (has_either bits (place_bit kept first) place ∙ ap (λ b. has_rank bits place || b) (place_has first place (ap (rank_of kept) same ∙ is)) ∙ or_true (has_rank bits place))
+  into_bits (first ∷ basket) bits rank place (inr m) is = into_bits basket (with_bit bits first) rank place m is
+
+  -- they are those of its places
+  pub bits_are : (basket : List ℕ) → IsRising basket → ranks_in (length kept) (bits_in kept basket) ≡ places_in kept basket
+  bits_are basket rises = same_rising (ranks_in count bits) (places_in kept basket) (filtered_range_rises (has_rank bits) 0 count) (places_rise kept up basket rises) into back
+    where
+      count : ℕ
+      count = length kept
+
+      bits : ℕ
+      bits = bits_in kept basket
+
+      into : (place : ℕ) → Member place (ranks_in count bits) → Member place (places_in kept basket)
+      into place m =
+          let p = Member-filter (has_rank bits) place (range_with_len 0 count) m in
+          let r = Member-range 0 count place p.0 in
+          let high = r.1 in
+          elim (from_bits basket 0 place (omega arith) p.1) [
+            | inl none ↦ absurd (true≢false (sym none ∙ ap (λ n. eqb n 1) (bit_at-zero (63 - place))))
+            | inr s ↦ into_places kept up basket s.0 place s.1 s.2
+          ]
+
+      back : (place : ℕ) → Member place (places_in kept basket) → Member place (ranks_in count bits)
+      back place m =
+          let r = from_places kept up basket place m in
+          let inside = (stands kept up r.0 place r.2).0 in
+          Member-from_filter (has_rank bits) place (range_with_len 0 count) (Member-into_range 0 count place (omega arith) (omega arith)) (into_bits basket 0 r.0 place r.1 r.2)
+
+-- ---- a table of bits
+
+-- while it is filled, it has the bits of the ranks so far
+abbrev pub HasBits : List ℕ → ℕ → List ℕ → Type 0
+HasBits kept at of = (rank : ℕ) → rank < length of → get_or of rank 0 ≡ cond (has (take at kept) rank) (place_bit kept rank) 0
+
+bit_stays : (kept : List ℕ) (at rank : ℕ) → at < length kept → rank ≢ get_or kept at 0
+    → cond (has (take at kept) rank) (place_bit kept rank) 0 ≡ cond (has (take (at + 1) kept) rank) (place_bit kept rank) 0
+bit_stays kept at rank here differ = ap (λ b. cond b (place_bit kept rank) 0)
+    (sym (has_more kept at rank here ∙ ap (λ b. has (take at kept) rank || b) (apart_eqb (get_or kept at 0) rank (λ e. differ (sym e))) ∙ or_false (has (take at kept) rank)))
+
+pub bit_more : (kept : List ℕ) (at : ℕ) (of : List ℕ) → IsRising kept → at < length kept → get_or kept at 0 < length of → HasBits kept at of
+    → HasBits kept (at + 1) (set of (get_or kept at 0) (2 ^ (63 - at)))
+bit_more kept at of up here inside so_far rank below = elim (cases_eq rank (get_or kept at 0)) [
+  | inl e ↦
+      (let there = has_more kept at rank here ∙ ap (λ b. has (take at kept) rank || b) (eq-eqb (get_or kept at 0) rank (sym e)) ∙ or_true (has (take at kept) rank) in
+      ap (λ r. get_or (set of (get_or kept at 0) (2 ^ (63 - at))) r 0) e ∙ get_or-set_same of (get_or kept at 0) (2 ^ (63 - at)) 0 inside
+      ∙ sym (ap (λ b. cond b (place_bit kept rank) 0) there ∙ ap (place_bit kept) e ∙ ap option_bit (rank_at kept at up here)))
+  | inr differ ↦
+      get_or-set_other of (get_or kept at 0) rank (2 ^ (63 - at)) 0 differ
+      ∙ so_far rank (omega (arith, below, length-set of (get_or kept at 0) (2 ^ (63 - at)))) ∙ bit_stays kept at rank here differ
+]
+
+-- a rank that has no slot
+pub bit_missed : (kept : List ℕ) (at : ℕ) (of : List ℕ) → at < length kept → length of ≤ get_or kept at 0 → HasBits kept at of → HasBits kept (at + 1) of
+bit_missed kept at of here outside so_far rank below = so_far rank below ∙ bit_stays kept at rank here (λ e. absurd (omega arith))
+
+pub bits_whole : (kept : List ℕ) (at : ℕ) (of : List ℕ) → length kept ≤ at → HasBits kept at of → AreBits kept of
+bits_whole kept at of past so_far rank below =
+    so_far rank below ∙ ap (λ l. cond (has l rank) (place_bit kept rank) 0) (take_all at kept past) ∙ whole (has kept rank) refl
+  where
+    whole : (b : Bool) → has kept rank ≡ b → cond b (place_bit kept rank) 0 ≡ place_bit kept rank
+    whole true e = refl
+    whole false e = sym (ap option_bit (rank_from_none 0 kept rank e))
+
+-- the bits of a basket where no rank is kept
+pub no_bits : (kept basket : List ℕ) → length kept ≡ 0 → bits_in kept basket ≡ 0
+no_bits [] basket empty = none basket 0
+  where
+    none : (ranks : List ℕ) (bits : ℕ) → fold (λ bits rank. bit_or bits (place_bit [] rank)) bits ranks ≡ bits
+    none [] bits = refl
+    none (first ∷ ranks) bits = none ranks (bit_or bits 0) ∙ or_zero_r bits
+no_bits (rank ∷ kept) basket empty = absurd (omega arith)
+
+-- the bits by a table that has a slot for each rank of the basket
+pub table_bits : (kept of basket : List ℕ) → AreBits kept of → ((rank : ℕ) → Member rank basket → rank < length of)
+    → fold (λ bits rank. bit_or bits (get_or of rank 0)) 0 basket ≡ bits_in kept basket
+table_bits kept of basket are below = go basket 0 below
+  where
+    go : (ranks : List ℕ) (bits : ℕ) → ((rank : ℕ) → Member rank ranks → rank < length of)
+        → fold (λ bits rank. bit_or bits (get_or of rank 0)) bits ranks ≡ fold (λ bits rank. bit_or bits (place_bit kept rank)) bits ranks
+    go [] bits inside = refl
+    go (first ∷ ranks) bits inside =
+        go ranks (bit_or bits (get_or of first 0)) (λ rank m. inside rank (inr m))
+        ∙ ap (λ n. fold (λ bits rank. bit_or bits (place_bit kept rank)) (bit_or bits n) ranks) (are first (inside first (inl refl)))
+
+-- a table whose bits were taken away, by what it was before
+pub nothing_left : (kept of new : List ℕ) → AreBits kept of → length new ≡ length of → ((rank : ℕ) → has kept rank ≡ true → get_or new rank 0 ≡ 0)
+    → ((rank : ℕ) → get_or of rank 0 ≡ 0 → get_or new rank 0 ≡ 0) → (rank : ℕ) → get_or new rank 0 ≡ 0
+nothing_left kept of new are long done none rank = elim (cases_Bool (has kept rank)) [
+  | inl e ↦ done rank e
+  | inr e ↦ elim (cases_lt rank (length of)) [
+    | inl inside ↦ none rank (are rank inside ∙ ap option_bit (rank_from_none 0 kept rank e))
+    | inr outside ↦ none rank (get_or_past of rank 0 outside)
+  ]
+]

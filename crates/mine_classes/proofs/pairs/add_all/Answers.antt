@@ -1,0 +1,49 @@
+use Rattle.std.proofs.Common.{◌+◌, ◌<◌, length, get_or, take, cond, subst, sym, ap, ◌∙◌, arith}
+use Rattle.std.proofs.lemmas.List.{get_or-map, length-map}
+use Rattle.basket_sets.specs.declared.weighted.Weighted.{Weighted}
+use Rattle.basket_sets.specs.Counts.{AllBelow}
+use Rattle.basket_sets.specs.Itemset.{IsRising, has}
+use Rattle.mine_classes.specs.declared.span.Span.{Span}
+use Rattle.mine_classes.specs.Pairs.{weight_with}
+use Rattle.mine_classes.specs.Span.{basket_at, baskets_at}
+use Rattle.mine_classes.proofs.RunLoopLemmas.{rank_basket_at}
+use Rattle.mine_classes.proofs.SumLemmas.{sum_light, sum_more}
+use Rattle.mine_classes.proofs.pairs.add_all.Goals as goal
+
+abbrev none : Span
+none = record { start = 0; end = 0; weight = 0 }
+
+pub add_weight-requires-clause-rises : goal.add_weight-requires-clause-rises
+add_weight-requires-clause-rises c =
+    let is = rank_basket_at c.args.ranks.now (length c.args.sums.now) c.args.baskets.now c.loop-basket.basket-index none c.requires.ranked.places c.loop-basket-test.true in
+    subst IsRising (sym c.of.ensures) is.rises
+
+pub add_weight-requires-clause-below : goal.add_weight-requires-clause-below
+add_weight-requires-clause-below c =
+    let is = rank_basket_at c.args.ranks.now (length c.args.sums.now) c.args.baskets.now c.loop-basket.basket-index none c.requires.ranked.places c.loop-basket-test.true in
+    subst (AllBelow (length c.loop-basket.sums)) (sym c.of.ensures) (subst (λ n. AllBelow n (basket_at c.args.ranks.now (get_or c.args.baskets.now c.loop-basket.basket-index none)).basket) (sym c.loop-basket.auto.sums) is.below)
+
+pub add_weight-requires-clause-light : goal.add_weight-requires-clause-light
+add_weight-requires-clause-light c = λ rank here.
+    let ranks = c.args.ranks.now in
+    let spans = c.args.baskets.now in
+    let i = c.loop-basket.basket-index in
+    let is = get_or-map (basket_at ranks) spans i none (basket_at ranks none) c.loop-basket-test.true in
+    let light = sum_light (baskets_at ranks spans) i rank (basket_at ranks none) (omega (arith, length-map spans (basket_at ranks), c.loop-basket-test.true)) c.requires.ranked.light in
+    let weight = ap (λ (p : Weighted). p.weight) is in
+    let sum = c.loop-basket.invariant rank here in
+    omega (arith, light, weight, sum)
+
+pub loop-basket-preserved : goal.loop-basket-preserved
+loop-basket-preserved c = λ rank here.
+    let ranks = c.args.ranks.now in
+    let spans = c.args.baskets.now in
+    let i = c.loop-basket.basket-index in
+    let is = get_or-map (basket_at ranks) spans i none (basket_at ranks none) c.loop-basket-test.true in
+    let weight = (get_or spans i none).weight in
+    let inside : rank < length c.loop-basket.sums = omega (arith, here, c.add_weight.auto.sums) in
+    c.add_weight.ensures rank inside
+    ∙ ap (λ n. n + cond (has c.of.result.now rank) weight 0) (c.loop-basket.invariant rank inside)
+    ∙ ap (λ l. weight_with rank (take i (baskets_at ranks spans)) + cond (has l rank) weight 0) c.of.ensures
+    ∙ ap (λ (p : Weighted). weight_with rank (take i (baskets_at ranks spans)) + cond (has p.basket rank) p.weight 0) (sym is)
+    ∙ sym (sum_more (baskets_at ranks spans) i rank (basket_at ranks none) (omega (arith, length-map spans (basket_at ranks), c.loop-basket-test.true)))

@@ -1,0 +1,17 @@
+use Rattle.std.proofs.Common.{◌<◌, length, sym, inl, inr, ◌∙◌, arith}
+use Rattle.std.proofs.lemmas.Bool.{cases_lt, eq-eqb, eqb-true, true≢false}
+use Rattle.basket_sets.proofs.theory.Rising.{has-from_Member}
+use Rattle.mine_classes.proofs.BitLemmas.{no_bits, table_bits}
+use Rattle.mine_classes.proofs.words.bits_of.Goals as goal
+
+pub returns-then-is_empty : goal.returns-then-is_empty
+returns-then-is_empty c = sym (no_bits c.args.kept.now c.args.basket.now (eqb-true (length c.args.kept.now) 0 (sym c.if-is_empty.ensures)))
+
+pub returns-else-is_empty-2 : goal.returns-else-is_empty-2
+returns-else-is_empty-2 c =
+    let of = c.args.of.now in
+    let some : 0 < length of = elim (cases_lt 0 (length of)) [
+      | inl some ↦ some
+      | inr none ↦ absurd (true≢false (sym (eq-eqb (length of) 0 (omega arith)) ∙ sym c.if-is_empty-2.ensures))
+    ] in
+    c.bits_by_table.ensures ∙ table_bits c.args.kept.now of c.args.basket.now c.requires.bits (λ rank m. c.requires.below some rank (has-from_Member c.args.basket.now rank m))

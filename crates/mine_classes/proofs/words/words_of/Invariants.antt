@@ -1,0 +1,17 @@
+use Rattle.std.proofs.Common.{◌≡◌, ◌≤◌, length, map, take}
+use Rattle.std.specs.Prelude.{All}
+use Rattle.std.specs.List.{sum_by}
+use Rattle.basket_sets.specs.Support.{total_of}
+use Rattle.mine_classes.specs.declared.words.Word.{Word}
+use Rattle.mine_classes.specs.Ordered.{HaveSameWeights}
+use Rattle.mine_classes.specs.Places.{placed}
+use Rattle.mine_classes.specs.Span.{baskets_at}
+use Rattle.mine_classes.specs.Words.{word_places}
+use Rattle.mine_classes.proofs.words.words_of.Given as goal
+
+abbrev pub invariant-loop-basket : goal.invariant-loop-basket
+invariant-loop-basket l = record {
+  some : All (λ (word : Word). 1 ≤ word.weight) l.words.items;
+  light : sum_by (λ (word : Word). word.weight) l.words.items ≡ total_of (take l.basket-index (baskets_at l.ranks l.baskets));
+  weights : HaveSameWeights (map (placed l.kept) (take l.basket-index (baskets_at l.ranks l.baskets))) (word_places (length l.kept) l.words.items);
+}

@@ -1,0 +1,40 @@
+-- Baskets of up to 64 ranks, each as the bits of a word.
+use Rattle.std.specs.Prelude.{◌≡◌, ◌<◌, ◌-◌, ◌^◌, ◌==◌, ℕ, Bool, bit_or, List, Option, Some, None, filter, fold, length, map, slice_index}
+use Rattle.std.specs.Int.{bit_at}
+use Rattle.std.specs.List.{range_with_len}
+use Rattle.basket_core.specs.Codes.{rank_of}
+use Rattle.basket_sets.specs.declared.weighted.Weighted.{Weighted}
+use Rattle.basket_sets.specs.Database.{weighted}
+use Rattle.mine_classes.specs.declared.words.Word.{Word}
+
+-- whether some bits have that of a rank; rank 0 has the highest
+abbrev pub has_rank : ℕ → ℕ → Bool
+has_rank bits rank = bit_at bits (63 - rank) == 1
+
+-- the ranks below a number that some bits have
+abbrev pub ranks_in : ℕ → ℕ → List ℕ
+ranks_in count bits = filter (has_rank bits) (range_with_len 0 count)
+
+-- the basket of a word
+abbrev pub word_place : ℕ → Word → Weighted
+word_place count word = weighted (ranks_in count word.bits) word.weight
+
+abbrev pub word_places : ℕ → List Word → List Weighted
+word_places count words = map (word_place count) words
+
+-- the bit of a rank, if there is one
+abbrev pub option_bit : Option ℕ → ℕ
+option_bit None = 0
+option_bit (Some rank) = 2 ^ (63 - rank)
+
+-- the bit of a rank's place in a list
+abbrev pub place_bit : List ℕ → ℕ → ℕ
+place_bit kept rank = option_bit (rank_of kept rank)
+
+-- the bits of the places of those ranks of a basket that have one
+abbrev pub bits_in : List ℕ → List ℕ → ℕ
+bits_in kept basket = fold (λ bits rank. bit_or bits (place_bit kept rank)) 0 basket
+
+-- a table has the bit of each rank's place in a list, where it has a slot for the rank
+abbrev pub AreBits : List ℕ → List ℕ → Type 0
+AreBits kept of = (rank : ℕ) → rank < length of → slice_index of rank ≡ place_bit kept rank

@@ -1,0 +1,205 @@
+//! Baskets of up to 64 ranks, each as the bits of a word.
+ghost use Rattle.std.specs.Prelude.{◌≡◌, ◌≤◌, ◌<◌, ◌+◌, ◌-◌, ◌^◌, ◌++◌, [], ◌∷◌, ℕ, All, IfOk, IsTrue, OnOk, bit_or, fold, length, map, replicate, slice_index, slice_index_or, sum_by};
+ghost use Rattle.basket_sets.specs.Counts.{AllBelow};
+ghost use Rattle.basket_sets.specs.Database.{MOST_WEIGHT};
+ghost use Rattle.basket_sets.specs.Itemset.{IsRising};
+ghost use Rattle.mine_classes.specs.declared.words.Word.{Word as Bits};
+ghost use Rattle.mine_classes.specs.Ordered.{AreRankBaskets, HaveSameWeights};
+ghost use Rattle.mine_classes.specs.Places.{placed};
+ghost use Rattle.mine_classes.specs.Span.{IsWithin, baskets_at};
+ghost use Rattle.mine_classes.specs.Words.{AreBits, bits_in, has_rank, ranks_in, word_places};
+
+use crate::places::place_of;
+use crate::span::Span;
+use std::alloc::{AllocError, Global};
+
+/// How many ranks a word has bits for.
+pub const WORD_RANKS: usize = 64;
+
+/// A basket of up to 64 ranks: the bits of its ranks, of which rank 0 has the highest, so that
+/// baskets that begin alike stand together where words are in order.
+#[derive(Clone, Copy, Debug, PartialEq, Eq, PartialOrd, Ord)]
+pub struct Word {
+    pub bits: u64,
+    pub weight: u64,
+}
+
+impl Word {
+    /// Whether it has a rank.
+    fn has(&self, rank: u32) -> bool
+        requires { rank < WORD_RANKS }
+        ensures { result ≡ has_rank self.now.bits rank }
+    {
+        (self.bits >> (63 - rank)) % 2 == 1
+    }
+
+    /// Adds the weight of an equal word.
+    fn add_weight(&mut self, weight: u64)
+        requires { self.old.weight + weight ≤ MOST_WEIGHT }
+        ensures { self.new ≡ record { bits = self.old.bits; weight = self.old.weight + weight } }
+    {
+        self.weight += weight;
+    }
+
+    /// Adds its ranks, all below a number, to a list.
+    pub fn add_ranks(&self, ranks: &mut Vec<u32>, count: u32) -> Result<(), AllocError>
+        requires { count ≤ WORD_RANKS }
+        ensures { OnOk result (ranks.new.items ≡ ranks.old.items ++ ranks_in count self.now.bits) }
+    {
+        for rank in 0..count {
+            if self.has(rank) {
+                ranks.push(rank)?;
+            }
+        }
+        Ok(())
+    }
+}
+
+/// The bit of a rank.
+fn bit_of(rank: usize) -> u64
+    requires { rank < WORD_RANKS }
+    ensures { result ≡ 2 ^ (63 - rank) }
+{
+    1 << (63 - rank)
+}
+
+/// Sets the bit of each rank's place in the list, where the table has a slot for the rank.
+pub fn set_bits(of: &mut [u64], kept: &[u32])
+    requires none { of.old ≡ replicate (length of.old) 0 }
+    requires rises { IsRising kept.now }
+    requires few { length kept.now ≤ WORD_RANKS }
+    ensures { AreBits kept.now of.new }
+{
+    for (at, rank) in kept.iter().enumerate() {
+        if (*rank as usize) < of.len() {
+            of[*rank as usize] = bit_of(at);
+        }
+    }
+}
+
+/// Takes the bits away.
+pub fn clear_bits(of: &mut [u64], kept: &[u32])
+    requires { AreBits kept.now of.old }
+    ensures { of.new ≡ replicate (length of.old) 0 }
+{
+    for rank in kept {
+        if (*rank as usize) < of.len() {
+            of[*rank as usize] = 0;
+        }
+    }
+}
+
+/// The bits of the places of a basket's ranks, each by a search.
+fn bits_by_search(kept: &[u32], basket: &[u32]) -> u64
+    requires rises { IsRising kept.now }
+    requires few { length kept.now ≤ WORD_RANKS }
+    ensures { result ≡ bits_in kept.now basket.now }
+{
+    let mut bits = 0;
+    for rank in basket {
+        match place_of(kept, *rank) {
+            Some(at) => bits |= bit_of(at as usize),
+            None => {}
+        }
+    }
+    bits
+}
+
+/// The bits that the table has for the ranks of a basket.
+fn bits_by_table(of: &[u64], basket: &[u32]) -> u64
+    requires { AllBelow (length of.now) basket.now }
+    ensures { result ≡ fold (λ bits rank. bit_or bits (slice_index of.now rank)) 0 basket.now }
+{
+    let mut bits = 0;
+    for rank in basket {
+        bits |= of[*rank as usize];
+    }
+    bits
+}
+
+/// The bits of the places of a basket's ranks. A basket is not looked at where no rank is kept.
+fn bits_of(of: &[u64], kept: &[u32], basket: &[u32]) -> u64
+    requires bits { AreBits kept.now of.now }
+    requires rises { IsRising kept.now }
+    requires few { length kept.now ≤ WORD_RANKS }
+    requires below { 0 < length of.now → AllBelow (length of.now) basket.now }
+    ensures { result ≡ bits_in kept.now basket.now }
+{
+    if kept.is_empty() {
+        return 0;
+    }
+    if of.is_empty() {
+        bits_by_search(kept, basket)
+    } else {
+        bits_by_table(of, basket)
+    }
+}
+
+/// Whether the last word has these bits.
+fn repeats(words: &[Word], bits: u64) -> bool
+    ensures { IsTrue result → (0 < length words.now) × ((d : Bits) → (slice_index_or words.now (length words.now - 1) d).bits ≡ bits) }
+{
+    match words.last() {
+        Some(last) => last.bits == bits,
+        None => false,
+    }
+}
+
+/// Adds a word at the end, or its weight to the last one where that is equal.
+fn add(words: &mut Vec<Word>, word: Word) -> Result<(), AllocError>
+    requires some { All (λ (other : Bits). 1 ≤ other.weight) words.old.items × (1 ≤ word.weight) }
+    requires light { sum_by (λ (other : Bits). other.weight) words.old.items + word.weight ≤ MOST_WEIGHT }
+    ensures some { OnOk result (All (λ (other : Bits). 1 ≤ other.weight) words.new.items) }
+    ensures light { OnOk result (sum_by (λ (other : Bits). other.weight) words.new.items ≡ sum_by (λ (other : Bits). other.weight) words.old.items + word.weight) }
+    ensures weights { OnOk result ((count : ℕ) → HaveSameWeights (word_places count (words.old.items ++ word ∷ [])) (word_places count words.new.items)) }
+{
+    if repeats(words, word.bits) {
+        let last = words.len() - 1;
+        words[last].add_weight(word.weight);
+        return Ok(());
+    }
+    words.push(word)?;
+    Ok(())
+}
+
+/// The baskets, which are parts of a list of ranks, as the bits of the places of their ranks. Equal
+/// neighbours are merged.
+pub fn words_of(
+    alloc: Global,
+    of: &[u64],
+    kept: &[u32],
+    ranks: &[u32],
+    baskets: &[Span],
+) -> Result<Vec<Word>, AllocError>
+    requires bits { AreBits kept.now of.now }
+    requires rises { IsRising kept.now }
+    requires few { length kept.now ≤ WORD_RANKS }
+    requires within { All (IsWithin (length ranks.now)) baskets.now }
+    requires ranked { (count : ℕ) × AreRankBaskets (record { ranks = count; baskets = baskets_at ranks.now baskets.now }) × (0 < length of.now → length of.now ≡ count) }
+    ensures some { IfOk result (λ words. All (λ (word : Bits). 1 ≤ word.weight) words.items) }
+    ensures light { IfOk result (λ words. sum_by (λ (word : Bits). word.weight) words.items ≤ MOST_WEIGHT) }
+    ensures weights { IfOk result (λ words. HaveSameWeights (map (placed kept.now) (baskets_at ranks.now baskets.now)) (word_places (length kept.now) words.items)) }
+{
+    let mut words = Vec::with_capacity(alloc, baskets.len())?;
+    for basket in baskets {
+        let bits = bits_of(of, kept, basket.of(ranks));
+        let weight = basket.weight;
+        add(&mut words, Word { bits, weight })?;
+    }
+    Ok(words)
+}
+
+/// The words with equal neighbours merged.
+pub fn merged(alloc: Global, words: &[Word]) -> Result<Vec<Word>, AllocError>
+    requires some { All (λ (word : Bits). 1 ≤ word.weight) words.now }
+    requires light { sum_by (λ (word : Bits). word.weight) words.now ≤ MOST_WEIGHT }
+    ensures some { IfOk result (λ merged. All (λ (word : Bits). 1 ≤ word.weight) merged.items) }
+    ensures light { IfOk result (λ merged. sum_by (λ (word : Bits). word.weight) merged.items ≡ sum_by (λ (word : Bits). word.weight) words.now) }
+    ensures weights { IfOk result (λ merged. (count : ℕ) → HaveSameWeights (word_places count words.now) (word_places count merged.items)) }
+{
+    let mut merged = Vec::with_capacity(alloc, words.len())?;
+    for word in words {
+        add(&mut merged, *word)?;
+    }
+    Ok(merged)
+}
