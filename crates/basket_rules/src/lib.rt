@@ -9,6 +9,7 @@ pub mod laws;
 mod lookups;
 mod places;
 mod search;
+mod tree;
 pub mod worked;
 
 pub use association::{Rule, rules, rules_with, rules_with_lookups};
