@@ -1,7 +1,7 @@
 //! Association rules (Agrawal and Srikant 1994).
 ghost use Rattle.std.specs.Prelude.{◌≡◌, ◌≤◌, ◌<◌, ◌-◌, ◌*◌, ℕ, [], ◌∷◌, OnOk, IfOk, length, map, nat_le};
 ghost use Rattle.basket_core.specs.Fraction.{lowest};
-ghost use Rattle.basket_sets.specs.Itemset.{IsRising};
+ghost use Rattle.basket_sets.specs.Itemset.{IsRising, has};
 ghost use Rattle.basket_sets.specs.Order.{IsInReportOrder};
 ghost use Rattle.mine_apriori.specs.Sizes.{AreOfSize};
 ghost use Rattle.basket_rules.specs.Rules.{KeepsConfident, AreRules, AreRulesWith, IsCountIn, IsRuleFor, difference};
@@ -202,11 +202,18 @@ fn fill_difference(rest: &mut Vec<u32>, items: &[u32], set: &Itemset) -> Result<
 {
     rest.clear();
     for item in items {
-        if !set.contains(*item) {
+        if !is_one_of(*item, set.items()) {
             rest.push(*item)?;
         }
     }
     Ok(())
+}
+
+/// Whether the item is one of a few.
+fn is_one_of(item: u32, items: &[u32]) -> bool
+    ensures { result ≡ has items.now item }
+{
+    items.iter().any(|other| *other == item)
 }
 
 /// The count of the set with these items, or 0 where the list doesn't have it.
