@@ -1,4 +1,4 @@
-use Rattle.std.proofs.Common.{rules, ◌≡◌, ◌<◌, ◌≤◌, length, get_or, sym, ap, ◌∙◌, subst, arith}
+use Rattle.std.proofs.Common.{rules, ◌≡◌, ◌<◌, length, get_or, sym, ap, ◌∙◌, subst, arith}
 use Rattle.basket_rules.specs.Listed.{set_at}
 use Rattle.basket_rules.specs.Tree.{IsColumnOf}
 use Rattle.basket_rules.proofs.SearchLemmas.{set_is}

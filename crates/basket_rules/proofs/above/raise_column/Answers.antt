@@ -1,11 +1,10 @@
-use Rattle.std.proofs.Common.{◌≡◌, ◌≤◌, ◌<◌, ◌+◌, ◌++◌, [], ◌∷◌, length, max, get_or, sym, ap, ◌∙◌, subst, arith}
+use Rattle.std.proofs.Common.{◌≡◌, ◌<◌, ◌+◌, ◌++◌, [], ◌∷◌, length, max, get_or, sym, ap, ◌∙◌, subst, arith}
 use Rattle.std.proofs.lemmas.List.{length-append}
 use Rattle.basket_rules.specs.declared.tree.Node.{Node}
 use Rattle.basket_rules.specs.Above.{AreGreatestAbove, WasSeen}
 use Rattle.basket_rules.specs.Listed.{set_at, count_at}
-use Rattle.basket_rules.specs.Search.{IsMissing}
 use Rattle.basket_rules.specs.Subset.{without}
-use Rattle.basket_rules.specs.Tree.{IsPlaceOf, ArePlacesOf, IsNodeOf}
+use Rattle.basket_rules.specs.Tree.{IsPlaceOf, ArePlacesOf}
 use Rattle.basket_rules.proofs.AboveLemmas.{greater, sees_one_more, subset_missing, subset_raised}
 use Rattle.basket_rules.proofs.TreeLemmas.{places_more, place_found}
 use Rattle.basket_rules.proofs.above.raise_column.Goals as goal
