@@ -6,7 +6,7 @@ ghost use Rattle.basket_report.specs.Style.{wording_of};
 use crate::report::Report;
 use crate::style::Style;
 use basket_core::Frequent;
-use basket_rules::rules_with;
+use basket_rules::{Lookups, rules_with_lookups};
 use std::alloc::{AllocError, Global};
 
 /// The report of the rules that meet the confidence, a numerator and a denominator. The rules of one
@@ -19,9 +19,11 @@ pub fn rules_report(
 ) -> Result<Vec<u8>, AllocError>
     ensures { IfOk result (λ report. ReportsRules (wording_of style.entry) frequent.now confidence report.items) }
 {
+    let mut lookups = Lookups::of(alloc, frequent.sets())?;
     let mut report = Report::for_rules(alloc, style, frequent.sets())?;
     for number in 0..frequent.sets().len() {
-        report.put_rules(&rules_with(alloc, frequent, number, confidence)?)?;
+        let rules = rules_with_lookups(alloc, frequent, number, confidence, &mut lookups)?;
+        report.put_rules(&rules)?;
     }
     report.into_text()
 }

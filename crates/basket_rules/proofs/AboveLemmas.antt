@@ -10,7 +10,7 @@ use Rattle.basket_sets.specs.Order.{report_order, report_order_total}
 use Rattle.basket_rules.specs.Listed.{IsSorted, sets_in, set_at, count_at}
 use Rattle.basket_rules.specs.Search.{IsMissing}
 use Rattle.basket_rules.specs.Subset.{without, IsWithout}
-use Rattle.basket_rules.specs.Above.{HasAbove, WasSeen, IsGreatestAbove, AreGreatestAbove}
+use Rattle.basket_rules.specs.Above.{HasAbove, IsBefore, WasSeen, AreSized, IsGreatestAbove, AreGreatestAbove}
 
 before_is_other : (list : List Counted) (i j : ℕ) → IsSorted list → i < j → j < length list → set_at list i ≡ set_at list j → ⊥
 before_is_other list i j up less below e =
@@ -29,11 +29,16 @@ stands_once list i j up low high e = elim (cases_lt i j) [
   ]
 ]
 
-seen_before : (sets items above place : ℕ) → WasSeen sets (items + 1) above place → WasSeen sets items above place ⊎ ((above ≡ sets) × (place ≡ items))
-seen_before sets items above place (inl less) = inl (inl less)
-seen_before sets items above place (inr h) = elim (cases_lt place items) [
-  | inl less ↦ inl (inr (h.0, less))
-  | inr more ↦ inr (h.0, (let k = h.1 in omega arith))
+-- what was gone over after a step: what was before, and one item of one set
+abbrev pub SeesOneMore : (ℕ → ℕ → Type 0) → (ℕ → ℕ → Type 0) → ℕ → ℕ → Type 0
+SeesOneMore seen more number item = (above place : ℕ) → more above place → seen above place ⊎ ((above ≡ number) × (place ≡ item))
+
+pub sees_one_more : (start end items number : ℕ) → SeesOneMore (WasSeen start end items number) (WasSeen start end items (number + 1)) number items
+sees_one_more start end items number above place (inl before) = inl (inl before)
+sees_one_more start end items number above place (inr (inl front)) = inl (inr (inl front))
+sees_one_more start end items number above place (inr (inr h)) = elim (cases_lt above number) [
+  | inl less ↦ inl (inr (inr (less, h.1)))
+  | inr more ↦ inr ((let k = h.0 in omega arith), h.1)
 ]
 
 -- the greater of two numbers is one of them
@@ -45,91 +50,110 @@ greater raised a b e = elim (cases_lt a b) [
 
 -- ---- nothing seen
 
-pub nothing_seen : (list : List Counted) → AreGreatestAbove list 0 0 (replicate (length list) 0)
+pub nothing_seen : (list : List Counted) → AreGreatestAbove list (IsBefore 0) (replicate (length list) 0)
 nothing_seen list = record {
   long = length-replicate (length list) 0;
   each = λ number below. record {
     some = inl (get_or-replicate (length list) number 0 0 below);
-    most = λ up above place seen is. absurd (never above place seen);
+    most = λ up above place seen is. absurd (let k = seen in omega arith);
   };
 }
-  where
-    never : (above place : ℕ) → WasSeen 0 0 above place → ⊥
-    never above place (inl h) = omega (arith, h)
-    never above place (inr h) = let k = h.1 in omega arith
 
--- ---- a subset that the list lacks
+-- ---- the same seen in other words
 
-pub subset_missing : (list : List Counted) (sets items : ℕ) (counts : List ℕ) → AreGreatestAbove list sets items counts → IsMissing list (without items (set_at list sets))
-    → AreGreatestAbove list sets (items + 1) counts
-subset_missing list sets items counts all missing = record {
+pub seen_alike : (list : List Counted) (seen other : ℕ → ℕ → Type 0) (counts : List ℕ)
+    → ((above place : ℕ) → above < length list → place < length (set_at list above) → other above place → seen above place)
+    → AreGreatestAbove list seen counts → AreGreatestAbove list other counts
+seen_alike list seen other counts alike all = record {
   long = all.long;
   each = λ number below. let old = all.each number below in record {
     some = old.some;
-    most = λ up above place seen is. elim (seen_before sets items above place seen) [
-      | inl before ↦ old.most up above place before is
-      | inr now ↦ absurd (missing up number below (sym is.is ∙ (λ i. without (now.1 i) (set_at list (now.0 i)))))
-    ];
+    most = λ up above place h is. old.most up above place (alike above place is.listed is.within h) is;
   };
 }
 
--- ---- a subset that the list has
-
-pub subset_raised : (list : List Counted) (sets items found : ℕ) (counts : List ℕ) (raised : ℕ) → AreGreatestAbove list sets items counts
-    → IsWithout list sets items found → found < length list → get_or counts found 0 ≤ raised → count_at list sets ≤ raised
-    → (raised ≡ get_or counts found 0) ⊎ (raised ≡ count_at list sets)
-    → AreGreatestAbove list sets (items + 1) (set counts found raised)
-subset_raised list sets items found counts raised all is' within low high which = record {
-  long = length-set counts found raised ∙ all.long;
-  each = λ number below. elim (cases_eq number found) [
-    | inl same ↦ subst (λ n. IsGreatestAbove list sets (items + 1) n (get_or (set counts found raised) n 0)) (sym same)
-        (subst (IsGreatestAbove list sets (items + 1) found) (sym (get_or-set_same counts found raised 0 (omega (arith, all.long, within)))) here)
-    | inr other ↦ subst (IsGreatestAbove list sets (items + 1) number) (sym (get_or-set_other counts found number raised 0 other)) (there number below other)
-  ];
-}
+pub first_pass : (list : List Counted) (start end : ℕ) (counts : List ℕ) → AreGreatestAbove list (IsBefore start) counts → AreGreatestAbove list (WasSeen start end 0 start) counts
+first_pass list start end counts = seen_alike list (IsBefore start) (WasSeen start end 0 start) counts alike
   where
-    old : IsGreatestAbove list sets items found (get_or counts found 0)
-    old = all.each found within
+    alike : (above place : ℕ) → above < length list → place < length (set_at list above) → WasSeen start end 0 start above place → above < start
+    alike above place listed within (inl before) = before
+    alike above place listed within (inr (inl h)) = absurd (let k = h.1 in omega arith)
+    alike above place listed within (inr (inr h)) = h.0
 
-    here : IsGreatestAbove list sets (items + 1) found raised
-    here = record {
-      some = elim which [
-        | inl kept ↦ subst (λ n. (n ≡ 0) ⊎ HasAbove list found n) (sym kept) old.some
-        | inr new ↦ inr (record { above = sets; place = items; without = is'; counted = sym new })
-      ];
-      most = λ up above place seen is. elim (seen_before sets items above place seen) [
-        | inl before ↦ (let k = old.most up above place before is in omega arith)
-        | inr now ↦ (let k = ap (count_at list) now.0 in omega arith)
-      ];
-    }
-
-    there : (number : ℕ) → number < length list → number ≢ found → IsGreatestAbove list sets (items + 1) number (get_or counts number 0)
-    there number below other = let kept = all.each number below in record {
-      some = kept.some;
-      most = λ up above place seen is. elim (seen_before sets items above place seen) [
-        | inl before ↦ kept.most up above place before is
-        | inr now ↦ absurd (other (stands_once list number found up below within
-            (sym is.is ∙ (λ i. without (now.1 i) (set_at list (now.0 i))) ∙ is'.is)))
-      ];
-    }
-
--- ---- all items of a set
-
-pub all_items_seen : (list : List Counted) (sets items : ℕ) (counts : List ℕ) → length (set_at list sets) ≤ items → AreGreatestAbove list sets items counts → AreGreatestAbove list (sets + 1) 0 counts
-all_items_seen list sets items counts whole all = record {
-  long = all.long;
-  each = λ number below. let old = all.each number below in record {
-    some = old.some;
-    most = λ up above place seen is. old.most up above place (earlier above place seen number is) is;
-  };
-}
+pub next_pass : (list : List Counted) (start end items : ℕ) (counts : List ℕ) → AreGreatestAbove list (WasSeen start end items end) counts
+    → AreGreatestAbove list (WasSeen start end (items + 1) start) counts
+next_pass list start end items counts = seen_alike list (WasSeen start end items end) (WasSeen start end (items + 1) start) counts alike
   where
-    earlier : (above place : ℕ) → WasSeen (sets + 1) 0 above place → (number : ℕ) → IsWithout list above place number → WasSeen sets items above place
-    earlier above place (inr h) number is = absurd (let k = h.1 in omega arith)
-    earlier above place (inl h) number is = elim (cases_lt above sets) [
-      | inl less ↦ inl less
-      | inr more ↦ (let same : above ≡ sets = omega arith in
-          let short = ap (λ n. length (set_at list n)) same in
-          let k = is.within in
-          inr (same, omega arith))
+    alike : (above place : ℕ) → above < length list → place < length (set_at list above) → WasSeen start end (items + 1) start above place → WasSeen start end items end above place
+    alike above place listed within (inl before) = inl before
+    alike above place listed within (inr (inl h)) = elim (cases_lt place items) [
+      | inl less ↦ inr (inl (h.0, less))
+      | inr more ↦ inr (inr (h.0, (let k = h.1 in omega arith)))
     ]
+    alike above place listed within (inr (inr h)) = inl h.0
+
+pub all_passes : (list : List Counted) (start end size items : ℕ) (counts : List ℕ) → AreSized list start end size → size ≤ items
+    → AreGreatestAbove list (WasSeen start end items start) counts → AreGreatestAbove list (IsBefore end) counts
+all_passes list start end size items counts sized whole = seen_alike list (WasSeen start end items start) (IsBefore end) counts (λ above place listed within before.
+    elim (cases_lt above start) [
+      | inl less ↦ inl less
+      | inr more ↦ (let long = sized above more before in let k = within in inr (inl (before, omega arith)))
+    ])
+
+pub all_sets : (list : List Counted) (start : ℕ) (counts : List ℕ) → length list ≤ start → AreGreatestAbove list (IsBefore start) counts → AreGreatestAbove list (IsBefore (length list)) counts
+all_sets list start counts whole = seen_alike list (IsBefore start) (IsBefore (length list)) counts (λ above place listed within before. omega (arith, listed, whole))
+
+-- ---- one set without one of its items
+
+module _ (list : List Counted) (seen more : ℕ → ℕ → Type 0) (sets items : ℕ) (step : SeesOneMore seen more sets items) where
+  -- a subset that the list lacks
+  pub subset_missing : (counts : List ℕ) → AreGreatestAbove list seen counts → IsMissing list (without items (set_at list sets)) → AreGreatestAbove list more counts
+  subset_missing counts all missing = record {
+    long = all.long;
+    each = λ number below. let old = all.each number below in record {
+      some = old.some;
+      most = λ up above place now is. elim (step above place now) [
+        | inl before ↦ old.most up above place before is
+        | inr here ↦ absurd (missing up number below (sym is.is ∙ (λ i. without (here.1 i) (set_at list (here.0 i)))))
+      ];
+    };
+  }
+
+  -- a subset that the list has
+  pub subset_raised : (found : ℕ) (counts : List ℕ) (raised : ℕ) → AreGreatestAbove list seen counts
+      → IsWithout list sets items found → found < length list → get_or counts found 0 ≤ raised → count_at list sets ≤ raised
+      → (raised ≡ get_or counts found 0) ⊎ (raised ≡ count_at list sets)
+      → AreGreatestAbove list more (set counts found raised)
+  subset_raised found counts raised all is' within low high which = record {
+    long = length-set counts found raised ∙ all.long;
+    each = λ number below. elim (cases_eq number found) [
+      | inl same ↦ subst (λ n. IsGreatestAbove list more n (get_or (set counts found raised) n 0)) (sym same)
+          (subst (IsGreatestAbove list more found) (sym (get_or-set_same counts found raised 0 (omega (arith, all.long, within)))) here)
+      | inr other ↦ subst (IsGreatestAbove list more number) (sym (get_or-set_other counts found number raised 0 other)) (there number below other)
+    ];
+  }
+    where
+      old : IsGreatestAbove list seen found (get_or counts found 0)
+      old = all.each found within
+
+      here : IsGreatestAbove list more found raised
+      here = record {
+        some = elim which [
+          | inl kept ↦ subst (λ n. (n ≡ 0) ⊎ HasAbove list found n) (sym kept) old.some
+          | inr new ↦ inr (record { above = sets; place = items; without = is'; counted = sym new })
+        ];
+        most = λ up above place now is. elim (step above place now) [
+          | inl before ↦ (let k = old.most up above place before is in omega arith)
+          | inr last ↦ (let k = ap (count_at list) last.0 in omega arith)
+        ];
+      }
+
+      there : (number : ℕ) → number < length list → number ≢ found → IsGreatestAbove list more number (get_or counts number 0)
+      there number below other = let kept = all.each number below in record {
+        some = kept.some;
+        most = λ up above place now is. elim (step above place now) [
+          | inl before ↦ kept.most up above place before is
+          | inr last ↦ absurd (other (stands_once list number found up below within
+              (sym is.is ∙ (λ i. without (last.1 i) (set_at list (last.0 i))) ∙ is'.is)))
+        ];
+      }

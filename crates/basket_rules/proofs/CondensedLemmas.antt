@@ -20,7 +20,7 @@ use Rattle.basket_sets.proofs.theory.Support.{support_falls, subsets_are_frequen
 use Rattle.basket_sets.proofs.theory.Frequent.{frequent_is_unique}
 use Rattle.basket_rules.specs.Listed.{IsListingOf, IsSorted, set_at, count_at}
 use Rattle.basket_rules.specs.Subset.{without, IsWithout}
-use Rattle.basket_rules.specs.Above.{HasAbove, IsGreatestAbove, AreGreatestAbove}
+use Rattle.basket_rules.specs.Above.{HasAbove, IsGreatestAbove, AreGreatestAbove, IsBefore}
 use Rattle.basket_rules.specs.Condensed.{is_proper_superset, supersets_of, none_supported_alike, none_frequent, is_closed, is_maximal, extensions_of, OneItemMoreDecides, AreClosed, AreMaximal}
 use Rattle.basket_rules.proofs.SubsetLemmas.{each_passes, all_pass, contains_without, without_lacks, placed, item_more, contains_less, contains_with_item, with_item_lacks}
 use Rattle.basket_rules.proofs.SearchLemmas.{set_is}
@@ -154,7 +154,7 @@ module _ (baskets : List Weighted) (minimum : Minimum) (listing : Listing) (is :
       )
 
   -- a frequent set with one item more stands in the list, and its support is at most the greatest count
-  below_greatest : (k v item : ℕ) → k < length listing.sets → IsGreatestAbove listing.sets (length listing.sets) 0 k v
+  below_greatest : (k v item : ℕ) → k < length listing.sets → IsGreatestAbove listing.sets (IsBefore (length listing.sets)) k v
       → has (set_at listing.sets k) item ≡ false → is_frequent baskets minimum (with_item item (set_at listing.sets k)) ≡ true
       → support_of baskets (with_item item (set_at listing.sets k)) ≤ v
   below_greatest k v item below g lack often =
@@ -168,11 +168,11 @@ module _ (baskets : List Weighted) (minimum : Minimum) (listing : Listing) (is :
         within = subst (λ t. p.0 < length t) (sym stands) p.1;
         is = ap (without p.0) stands ∙ p.2;
       } in
-      let most = g.most is_sorted c.0 p.0 (inl c.1) w in
+      let most = g.most is_sorted c.0 p.0 c.1 w in
       let count = (entry c.0 c.1).2 ∙ ap (support_of baskets) stands in
       omega arith
 
-  pub closed_at : (k v : ℕ) → k < length listing.sets → IsGreatestAbove listing.sets (length listing.sets) 0 k v
+  pub closed_at : (k v : ℕ) → k < length listing.sets → IsGreatestAbove listing.sets (IsBefore (length listing.sets)) k v
       → is_closed baskets (set_at listing.sets k) ≡ ltb v (count_at listing.sets k)
   closed_at k v below g = same_test _ _ into back
     where
@@ -211,7 +211,7 @@ module _ (baskets : List Weighted) (minimum : Minimum) (listing : Listing) (is :
           let count = s.2 in
           absurd (omega arith))))
 
-  pub maximal_at : (k v : ℕ) → k < length listing.sets → IsGreatestAbove listing.sets (length listing.sets) 0 k v
+  pub maximal_at : (k v : ℕ) → k < length listing.sets → IsGreatestAbove listing.sets (IsBefore (length listing.sets)) k v
       → is_maximal baskets minimum (set_at listing.sets k) ≡ eqb v 0
   maximal_at k v below g = same_test _ _ into back
     where
@@ -267,7 +267,7 @@ dropped_more at list number kept c so below is fails test agrees =
 
 -- ---- all sets
 
-all_closed : (listing : Listing) (counts : List ℕ) (number : ℕ) (kept : List Counted) → length listing.sets ≤ number → AreGreatestAbove listing.sets (length listing.sets) 0 counts
+all_closed : (listing : Listing) (counts : List ℕ) (number : ℕ) (kept : List Counted) → length listing.sets ≤ number → AreGreatestAbove listing.sets (IsBefore (length listing.sets)) counts
     → IsKept (λ k c. ltb (get_or counts k 0) c.count) listing.sets number kept → AreClosed listing kept
 all_closed listing counts number kept whole above so baskets minimum is =
     so (λ c. is_closed baskets c.set) (λ k d below.
@@ -275,7 +275,7 @@ all_closed listing counts number kept whole above so baskets minimum is =
     ∙ ap (ltb (get_or counts k 0)) (get_or-map (λ (c : Counted). c.count) listing.sets k d 0 below))
     ∙ ap (filter (λ (c : Counted). is_closed baskets c.set)) (take_all number listing.sets whole ∙ is.sets)
 
-all_maximal : (listing : Listing) (counts : List ℕ) (number : ℕ) (kept : List Counted) → length listing.sets ≤ number → AreGreatestAbove listing.sets (length listing.sets) 0 counts
+all_maximal : (listing : Listing) (counts : List ℕ) (number : ℕ) (kept : List Counted) → length listing.sets ≤ number → AreGreatestAbove listing.sets (IsBefore (length listing.sets)) counts
     → IsKept (λ k c. eqb (get_or counts k 0) 0) listing.sets number kept → AreMaximal listing kept
 all_maximal listing counts number kept whole above so baskets minimum is =
     so (λ c. is_maximal baskets minimum c.set) (λ k d below.
@@ -283,11 +283,11 @@ all_maximal listing counts number kept whole above so baskets minimum is =
     ∙ ap (filter (λ (c : Counted). is_maximal baskets minimum c.set)) (take_all number listing.sets whole ∙ is.sets)
 
 pub are_closed : (listing : Listing) (list : List Counted) (counts : List ℕ) (number : ℕ) (kept : List Counted) → list ≡ listing.sets → length list ≤ number
-    → AreGreatestAbove list (length list) 0 counts → IsKept (λ k c. ltb (get_or counts k 0) c.count) list number kept → AreClosed listing kept
+    → AreGreatestAbove list (IsBefore (length list)) counts → IsKept (λ k c. ltb (get_or counts k 0) c.count) list number kept → AreClosed listing kept
 are_closed listing list counts number kept e =
-    subst (λ l. length l ≤ number → AreGreatestAbove l (length l) 0 counts → IsKept (λ k c. ltb (get_or counts k 0) c.count) l number kept → AreClosed listing kept) (sym e) (all_closed listing counts number kept)
+    subst (λ l. length l ≤ number → AreGreatestAbove l (IsBefore (length l)) counts → IsKept (λ k c. ltb (get_or counts k 0) c.count) l number kept → AreClosed listing kept) (sym e) (all_closed listing counts number kept)
 
 pub are_maximal : (listing : Listing) (list : List Counted) (counts : List ℕ) (number : ℕ) (kept : List Counted) → list ≡ listing.sets → length list ≤ number
-    → AreGreatestAbove list (length list) 0 counts → IsKept (λ k c. eqb (get_or counts k 0) 0) list number kept → AreMaximal listing kept
+    → AreGreatestAbove list (IsBefore (length list)) counts → IsKept (λ k c. eqb (get_or counts k 0) 0) list number kept → AreMaximal listing kept
 are_maximal listing list counts number kept e =
-    subst (λ l. length l ≤ number → AreGreatestAbove l (length l) 0 counts → IsKept (λ k c. eqb (get_or counts k 0) 0) l number kept → AreMaximal listing kept) (sym e) (all_maximal listing counts number kept)
+    subst (λ l. length l ≤ number → AreGreatestAbove l (IsBefore (length l)) counts → IsKept (λ k c. eqb (get_or counts k 0) 0) l number kept → AreMaximal listing kept) (sym e) (all_maximal listing counts number kept)

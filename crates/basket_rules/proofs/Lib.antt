@@ -1,6 +1,7 @@
 mod SearchLemmas
 mod SubsetLemmas
 mod AboveLemmas
+mod TreeLemmas
 mod CondensedLemmas
 mod RuleLemmas
 mod LevelLemmas

@@ -1,57 +1,184 @@
 //! What the supersets with one item more say of the sets of a list.
-ghost use Rattle.std.specs.Prelude.{◌≡◌, ◌≤◌, ◌<◌, ◌+◌, IfOk, IfSome, IfNone, length};
-ghost use Rattle.basket_rules.specs.Above.{AreGreatestAbove};
+ghost use Rattle.std.specs.Prelude.{◌≡◌, ◌≤◌, ◌<◌, IfOk, IfSome, IfNone, List, OnOk, length};
+ghost use Rattle.basket_sets.specs.declared.counted.Counted.{Counted};
+ghost use Rattle.basket_rules.specs.Above.{AreGreatestAbove, AreSized, IsBefore, WasSeen};
 ghost use Rattle.basket_rules.specs.Listed.{set_at};
 ghost use Rattle.basket_rules.specs.Search.{IsMissing};
 ghost use Rattle.basket_rules.specs.Subset.{without};
+ghost use Rattle.basket_rules.specs.Tree.{AreColumnsOf, AreNodesOf, IsColumnOf};
 
 use crate::search::find_near;
+use crate::tree::{Column, Cursor, NOWHERE, Tree, short};
 use basket_core::Counted;
 use std::alloc::{AllocError, Global};
 
+/// The sets from `start` up to `end`, which have so many items, and the place of one of these.
+#[derive(Clone, Copy, Debug)]
+struct Pass {
+    start: usize,
+    end: usize,
+    size: usize,
+    place: usize,
+}
+
 /// Beside each set of the list, the greatest count of a set of the list that has one item more, or
-/// 0 where there is none.
+/// 0 where there is none. The sets of one size are gone over together, once for each place of an item.
 pub fn greatest_above(alloc: Global, sets: &[Counted]) -> Result<Vec<u64>, AllocError>
-    ensures { IfOk result (λ counts. AreGreatestAbove sets.now (length sets.now) 0 counts.items) }
+    ensures { IfOk result (λ counts. AreGreatestAbove sets.now (IsBefore (length sets.now)) counts.items) }
 {
+    let tree = Tree::of(alloc, sets)?;
     let mut counts = vec![in alloc; 0; sets.len()]?;
-    let mut hints = Vec::new(alloc);
-    for number in 0..sets.len() {
-        let size = sets[number].set.len();
-        if hints.len() < size {
-            hints.resize(size, 0)?;
-        }
-        raise_below(sets, number, &mut hints, &mut counts);
+    let mut columns = Vec::new(alloc);
+    let mut start = 0;
+    while start < sets.len() {
+        let end = end_of_size(sets, start);
+        columns = raise_below(alloc, sets, &tree, &columns, start, end, &mut counts)?;
+        start = end;
     }
     Ok(counts)
 }
 
-/// Raises the counts beside the subsets of the set at a place that have one item less. From one set
-/// to the next the subset without the item at a place mostly moves on a little, so each place has a
-/// hint of its own.
-fn raise_below(sets: &[Counted], number: usize, hints: &mut [usize], counts: &mut [u64])
-    requires listed { number < length sets.now }
-    requires hinted { length (set_at sets.now number) ≤ length hints.old }
-    requires before { AreGreatestAbove sets.now number 0 counts.old }
-    ensures { AreGreatestAbove sets.now (number + 1) 0 counts.new }
+/// Where the sets end that have the size of the one at `start` and stand behind it.
+fn end_of_size(sets: &[Counted], start: usize) -> usize
+    requires { start < length sets.now }
+    ensures more { start < result }
+    ensures within { result ≤ length sets.now }
+    ensures sized { AreSized sets.now start result (length (set_at sets.now start)) }
 {
-    let set = &sets[number];
-    let items = set.set.items();
-    for place in 0..items.len() {
-        if let Some(below) = find_without(sets, items, place, &mut hints[place]) {
-            counts[below] = counts[below].max(set.count);
+    let size = sets[start].set.len();
+    let mut end = start + 1;
+    while end < sets.len() && sets[end].set.len() == size {
+        end += 1;
+    }
+    end
+}
+
+/// Raises the counts beside the subsets of the sets from `start` up to `end` that have one item
+/// less. Gives the columns of these sets, by those of the sets of one item less.
+fn raise_below(
+    alloc: Global,
+    sets: &[Counted],
+    tree: &Tree,
+    columns: &[Column],
+    start: usize,
+    end: usize,
+    counts: &mut [u64],
+) -> Result<Vec<Column>, AllocError>
+    requires some { start < end }
+    requires within { end ≤ length sets.now }
+    requires sized { AreSized sets.now start end (length (set_at sets.now start)) }
+    requires tree { AreNodesOf sets.now tree.now.nodes.items }
+    requires columns { AreColumnsOf sets.now columns.now }
+    requires before { AreGreatestAbove sets.now (IsBefore start) counts.old }
+    ensures columns { IfOk result (λ raised. AreColumnsOf sets.now raised.items) }
+    ensures raised { OnOk result (AreGreatestAbove sets.now (IsBefore end) counts.new) }
+{
+    let size = sets[start].set.len();
+    let none = Column::none(alloc);
+    let mut raised = Vec::with_capacity(alloc, size)?;
+    for place in 0..size {
+        let column = columns.get(place).unwrap_or(&none);
+        let pass = Pass {
+            start,
+            end,
+            size,
+            place,
+        };
+        raised.push(raise_column(alloc, sets, tree, column, pass, counts)?)?;
+    }
+    Ok(raised)
+}
+
+/// Raises the counts beside the sets of a pass without the item at its place. Gives the column of
+/// these sets, by that of the sets of one item less.
+fn raise_column(
+    alloc: Global,
+    sets: &[Counted],
+    tree: &Tree,
+    column: &Column,
+    pass: Pass,
+    counts: &mut [u64],
+) -> Result<Column, AllocError>
+    requires ordered { pass.start ≤ pass.end }
+    requires within { pass.end ≤ length sets.now }
+    requires sized { AreSized sets.now pass.start pass.end pass.size }
+    requires place { pass.place < pass.size }
+    requires tree { AreNodesOf sets.now tree.now.nodes.items }
+    requires column { IsColumnOf sets.now pass.place column.now }
+    requires before { AreGreatestAbove sets.now (WasSeen pass.start pass.end pass.place pass.start) counts.old }
+    ensures column { IfOk result (λ raised. IsColumnOf sets.now pass.place raised) }
+    ensures raised { OnOk result (AreGreatestAbove sets.now (WasSeen pass.start pass.end pass.place pass.end) counts.new) }
+{
+    let mut places = Vec::with_capacity(alloc, pass.end - pass.start)?;
+    let mut cursor = Cursor::new();
+    for number in pass.start..pass.end {
+        let below = find_below(sets, tree, column, pass, number, &mut cursor);
+        places.push(short(below))?;
+        if let Some(at) = below {
+            counts[at] = counts[at].max(tree.nodes[number].count);
         }
     }
+    Ok(Column {
+        start: pass.start,
+        places,
+    })
+}
+
+/// Where the set at `number` stands without the item at the place of the pass.
+fn find_below(
+    sets: &[Counted],
+    tree: &Tree,
+    column: &Column,
+    pass: Pass,
+    number: usize,
+    cursor: &mut Cursor,
+) -> Option<usize>
+    requires listed { number < length sets.now }
+    requires sized { length (set_at sets.now number) ≡ pass.size }
+    requires place { pass.place < pass.size }
+    requires tree { AreNodesOf sets.now tree.now.nodes.items }
+    requires column { IsColumnOf sets.now pass.place column.now }
+    ensures bound { IfSome result (λ at. at < length sets.now) }
+    ensures found { IfSome result (λ at. set_at sets.now at ≡ without pass.place (set_at sets.now number)) }
+    ensures missing { IfNone result (IsMissing sets.now (without pass.place (set_at sets.now number))) }
+{
+    match find_by_parent(tree, column, pass, number, cursor) {
+        Some(at) => Some(at),
+        None => find_without(sets, sets[number].set.items(), pass.place, &mut cursor.next),
+    }
+}
+
+/// The same by the parent in the tree. The set without its last item is the parent. The set without
+/// another is a child of the parent without that item.
+fn find_by_parent(
+    tree: &Tree,
+    column: &Column,
+    pass: Pass,
+    number: usize,
+    cursor: &mut Cursor,
+) -> Option<usize>
+    requires listed { number < length tree.now.nodes.items }
+    requires place { pass.place < pass.size }
+    ensures { (list : List Counted) → AreNodesOf list tree.now.nodes.items → IsColumnOf list pass.place column.now → length (set_at list number) ≡ pass.size
+        → IfSome result (λ at. (at < length list) × (set_at list at ≡ without pass.place (set_at list number))) }
+{
+    let node = tree.nodes[number];
+    if node.parent == NOWHERE {
+        return None;
+    }
+    if pass.place + 1 == pass.size {
+        return Some(node.parent as usize);
+    }
+    let shorter = column.place_of(node.parent);
+    if shorter == NOWHERE {
+        return None;
+    }
+    tree.child(shorter, node.last, cursor)
 }
 
 /// Where the items without the one at the place are a set of the list. The search begins at the
 /// hint, which then becomes the place where it ended.
-pub fn find_without(
-    sets: &[Counted],
-    items: &[u32],
-    place: usize,
-    hint: &mut usize,
-) -> Option<usize>
+fn find_without(sets: &[Counted], items: &[u32], place: usize, hint: &mut usize) -> Option<usize>
     requires { place < length items.now }
     ensures bound { IfSome result (λ at. at < length sets.now) }
     ensures found { IfSome result (λ at. set_at sets.now at ≡ without place items.now) }

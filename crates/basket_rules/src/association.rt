@@ -1,11 +1,14 @@
 //! Association rules (Agrawal and Srikant 1994).
 ghost use Rattle.std.specs.Prelude.{◌≡◌, ◌≤◌, ◌<◌, ◌-◌, ◌*◌, ℕ, [], ◌∷◌, OnOk, IfOk, length, map, nat_le};
 ghost use Rattle.basket_core.specs.Fraction.{lowest};
-ghost use Rattle.basket_sets.specs.Itemset.{IsRising};
+ghost use Rattle.basket_sets.specs.Itemset.{IsRising, has};
 ghost use Rattle.basket_sets.specs.Order.{IsInReportOrder};
 ghost use Rattle.mine_apriori.specs.Sizes.{AreOfSize};
 ghost use Rattle.basket_rules.specs.Rules.{KeepsConfident, AreRules, AreRulesWith, IsCountIn, IsRuleFor, difference};
 
+use crate::fractions::Fractions;
+use crate::lookups::Lookups;
+use crate::places::Places;
 use crate::search::find;
 use basket_core::{Counted, Fraction, Frequent, Itemset};
 use mine_apriori::candidates;
@@ -37,17 +40,16 @@ pub fn rules(
 ) -> Result<Vec<Rule>, AllocError>
     ensures { IfOk result (λ rules. AreRules frequent.now confidence rules.items) }
 {
+    let mut lookups = Lookups::of(alloc, frequent.sets())?;
     let mut rules = Vec::new(alloc);
     for number in 0..frequent.sets().len() {
-        let mut more = rules_with(alloc, frequent, number, confidence)?;
+        let mut more = rules_with_lookups(alloc, frequent, number, confidence, &mut lookups)?;
         rules.append(&mut more)?;
     }
     Ok(rules)
 }
 
-/// Those of the rules whose union is the set at the place. Right sides go level by level: those of
-/// one more item are made from the ones that met the confidence, and where one doesn't meet it, no
-/// larger one that has it is tried.
+/// Those of the rules whose union is the set at the place.
 pub fn rules_with(
     alloc: Global,
     frequent: &Frequent,
@@ -57,16 +59,32 @@ pub fn rules_with(
     requires { number < length frequent.now.sets }
     ensures { IfOk result (λ rules. AreRulesWith frequent.now confidence number rules.items) }
 {
+    let mut lookups = Lookups::none(alloc);
+    rules_with_lookups(alloc, frequent, number, confidence, &mut lookups)
+}
+
+/// The same for one union after another. Right sides go level by level: those of one more item are
+/// made from the ones that met the confidence, and where one doesn't meet it, no larger one that has
+/// it is tried.
+pub fn rules_with_lookups(
+    alloc: Global,
+    frequent: &Frequent,
+    number: usize,
+    confidence: (u32, u32),
+    lookups: &mut Lookups,
+) -> Result<Vec<Rule>, AllocError>
+    requires { number < length frequent.now.sets }
+    ensures { IfOk result (λ rules. AreRulesWith frequent.now confidence number rules.items) }
+{
     candidates_are_exact();
     candidates_are_in_report_order();
     candidates_are_one_larger();
     let union = &frequent.sets()[number].set;
     let mut rules = Vec::new(alloc);
-    let mut left = Vec::new(alloc);
     let mut rights = single_items(alloc, union)?;
     for size in 0..most_right_items(union) {
         let met = keep_confident(
-            alloc, frequent, number, confidence, rights, &mut left, &mut rules,
+            alloc, frequent, number, confidence, rights, lookups, &mut rules,
         )?;
         rights = candidates(alloc, &met)?;
     }
@@ -99,7 +117,7 @@ fn keep_confident(
     number: usize,
     confidence: (u32, u32),
     tried: Vec<Itemset>,
-    left: &mut Vec<u32>,
+    lookups: &mut Lookups,
     rules: &mut Vec<Rule>,
 ) -> Result<Vec<Itemset>, AllocError>
     requires { number < length frequent.now.sets }
@@ -109,7 +127,7 @@ fn keep_confident(
 {
     let mut met = Vec::new(alloc);
     for right in tried {
-        if let Some(rule) = rule_for(alloc, frequent, number, confidence, &right, left)? {
+        if let Some(rule) = rule_for(alloc, frequent, number, confidence, &right, lookups)? {
             rules.push(rule)?;
             met.push(right)?;
         }
@@ -118,14 +136,14 @@ fn keep_confident(
 }
 
 /// The rule whose sides make the set at the place, with this right side, where it meets the
-/// confidence. The left side is made in `left`, whose room is used again.
+/// confidence.
 fn rule_for(
     alloc: Global,
     frequent: &Frequent,
     number: usize,
     confidence: (u32, u32),
     right: &Itemset,
-    left: &mut Vec<u32>,
+    lookups: &mut Lookups,
 ) -> Result<Option<Rule>, AllocError>
     requires { number < length frequent.now.sets }
     ensures { IfOk result (λ found. IsRuleFor frequent.now confidence number right.now found) }
@@ -133,18 +151,23 @@ fn rule_for(
     let sets = frequent.sets();
     let union = &sets[number];
     let count = union.count;
+    let Lookups {
+        places,
+        fractions,
+        left,
+    } = lookups;
     fill_difference(left, union.set.items(), right)?;
-    let left_count = count_of(sets, left);
+    let left_count = count_of(sets, places, left);
     if !meets(confidence, count, left_count) {
         return Ok(None);
     }
-    let right_count = count_of(sets, right.items());
+    let right_count = count_of(sets, places, right.items());
     Ok(Some(Rule {
         left: Itemset::from_items(alloc, left)?,
         right: right.copied(alloc)?,
         count,
-        confidence: ratio(u128::from(count), u128::from(left_count)),
-        lift: lift(count, frequent.total(), left_count, right_count),
+        confidence: ratio(fractions, u128::from(count), u128::from(left_count)),
+        lift: lift(fractions, count, frequent.total(), left_count, right_count),
     }))
 }
 
@@ -157,10 +180,17 @@ fn meets(confidence: (u32, u32), count: u64, left_count: u64) -> bool
 }
 
 /// The lift of a rule, by the counts of its union, of all baskets and of its sides.
-fn lift(count: u64, total: u64, left_count: u64, right_count: u64) -> Fraction
+fn lift(
+    fractions: &mut Fractions,
+    count: u64,
+    total: u64,
+    left_count: u64,
+    right_count: u64,
+) -> Fraction
     ensures { 1 ≤ left_count * right_count → result ≡ lowest (count * total) (left_count * right_count) }
 {
     ratio(
+        fractions,
         u128::from(count) * u128::from(total),
         u128::from(left_count) * u128::from(right_count),
     )
@@ -172,26 +202,33 @@ fn fill_difference(rest: &mut Vec<u32>, items: &[u32], set: &Itemset) -> Result<
 {
     rest.clear();
     for item in items {
-        if !set.contains(*item) {
+        if !is_one_of(*item, set.items()) {
             rest.push(*item)?;
         }
     }
     Ok(())
 }
 
+/// Whether the item is one of a few.
+fn is_one_of(item: u32, items: &[u32]) -> bool
+    ensures { result ≡ has items.now item }
+{
+    items.iter().any(|other| *other == item)
+}
+
 /// The count of the set with these items, or 0 where the list doesn't have it.
-fn count_of(sets: &[Counted], items: &[u32]) -> u64
+fn count_of(sets: &[Counted], places: &Places, items: &[u32]) -> u64
     ensures { IsCountIn sets.now items.now result }
 {
-    match find(sets, items) {
+    match find(sets, items, places.near(items)) {
         Ok(at) => sets[at].count,
         Err(_) => 0,
     }
 }
 
 /// The fraction in lowest terms. A support of a frequent set is at least 1.
-fn ratio(numerator: u128, denominator: u128) -> Fraction
+fn ratio(fractions: &mut Fractions, numerator: u128, denominator: u128) -> Fraction
     ensures { 1 ≤ denominator → result ≡ lowest numerator denominator }
 {
-    Fraction::reduced(numerator, denominator.max(1))
+    fractions.reduced(numerator, denominator.max(1))
 }

@@ -1,5 +1,14 @@
-use Rattle.basket_rules.specs.Above.{AreGreatestAbove}
+use Rattle.std.proofs.Common.{length, ◌-◌, ◌≤◌}
+use Rattle.basket_rules.specs.Above.{AreGreatestAbove, IsBefore}
+use Rattle.basket_rules.specs.Tree.{AreColumnsOf}
 use Rattle.basket_rules.proofs.above.greatest_above.Given as goal
 
-abbrev pub invariant-loop-number : goal.invariant-loop-number
-invariant-loop-number l = AreGreatestAbove l.sets l.number 0 l.counts.items
+abbrev pub invariant-loop-start : goal.invariant-loop-start
+invariant-loop-start l = record {
+  within : l.start ≤ length l.sets;
+  columns : AreColumnsOf l.sets l.columns.items;
+  raised : AreGreatestAbove l.sets (IsBefore l.start) l.counts.items;
+}
+
+abbrev pub decreases-loop-start : goal.decreases-loop-start
+decreases-loop-start l = length l.sets - l.start

@@ -2,7 +2,7 @@ use Rattle.std.proofs.Common.{◌+◌}
 use Rattle.basket_sets.specs.Order.{IsInReportOrder}
 use Rattle.mine_apriori.specs.Sizes.{AreOfSize}
 use Rattle.basket_rules.proofs.LevelLemmas.{IsLevelAt}
-use Rattle.basket_rules.proofs.association.rules_with.Given as goal
+use Rattle.basket_rules.proofs.association.rules_with_lookups.Given as goal
 
 abbrev pub invariant-loop-size : goal.invariant-loop-size
 invariant-loop-size l = record {

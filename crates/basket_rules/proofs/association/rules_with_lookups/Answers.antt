@@ -7,7 +7,7 @@ use Rattle.mine_apriori.specs.Sizes.{AreOfSize}
 use Rattle.basket_rules.specs.Listed.{set_at}
 use Rattle.basket_rules.proofs.SearchLemmas.{set_is}
 use Rattle.basket_rules.proofs.LevelLemmas.{IsLevelAt, singles_sized, singles_sorted, first_level, more_level, all_levels}
-use Rattle.basket_rules.proofs.association.rules_with.Goals as goal
+use Rattle.basket_rules.proofs.association.rules_with_lookups.Goals as goal
 
 pub loop-size-init : goal.loop-size-init
 loop-size-init c =
