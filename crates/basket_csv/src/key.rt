@@ -11,24 +11,40 @@ const WHOLE: u32 = 16;
 /// What stands for the length of a longer name.
 pub const LONG: u32 = 17;
 
-/// The hash of a name. It has no key: names that are picked to have one hash push one another out
-/// of their bucket, and are then looked up in the map like names that aren't kept.
-#[inline]
-fn hash_of(name: &[u8]) -> u64 {
-    let mut hasher = FoldHasher::default();
-    hasher.write(name);
-    hasher.finish()
+/// The constants of `FoldHasher`.
+const STATE: u64 = 0x243f_6a88_85a3_08d3;
+
+const MULTIPLIER: u64 = 0x9e37_79b9_7f4a_7c15;
+
+/// The two halves of a product, joined by xor.
+#[inline(always)]
+fn folded_product(a: u64, b: u64) -> u64 {
+    let product = a as u128 * b as u128;
+    (product & 0xFFFF_FFFF_FFFF_FFFF) as u64 ^ (product >> 64) as u64
+}
+
+/// The hash of a name, which begins and ends with these bytes. It has no key: names that are picked
+/// to have one hash push one another out of their bucket, and are then looked up in the map like
+/// names that aren't kept.
+#[inline(always)]
+fn hash_of(name: &[u8], front: u64, back: u64) -> u64 {
+    if name.len() >= LONG as usize {
+        let mut hasher = FoldHasher::default();
+        hasher.write(name);
+        return hasher.finish();
+    }
+    folded_product(front ^ STATE, back ^ MULTIPLIER ^ name.len() as u64)
 }
 
 /// The number whose bytes these are, the lowest first.
-#[inline]
+#[inline(always)]
 fn u64_of(bytes: [u8; 8]) -> u64
     ensures { to_le_bytes w64 result ≡ bytes }
 {
     u64::from_le_bytes(bytes)
 }
 
-#[inline]
+#[inline(always)]
 fn u32_of(bytes: [u8; 4]) -> u32
     ensures { to_le_bytes w32 result ≡ bytes }
 {
@@ -36,7 +52,7 @@ fn u32_of(bytes: [u8; 4]) -> u32
 }
 
 /// The first and the last 8 bytes of a name, if it has as many.
-#[inline]
+#[inline(always)]
 fn eights_of(name: &[u8]) -> Option<(u64, u64)>
     ensures { MatchOption result (length name.now < 8) (λ ends. (8 ≤ length name.now)
         × (to_le_bytes w64 ends.0 ≡ take 8 name.now) × (to_le_bytes w64 ends.1 ≡ drop (length name.now - 8) name.now)) }
@@ -47,7 +63,7 @@ fn eights_of(name: &[u8]) -> Option<(u64, u64)>
 }
 
 /// The first and the last 4 bytes.
-#[inline]
+#[inline(always)]
 fn fours_of(name: &[u8]) -> Option<(u32, u32)>
     ensures { MatchOption result (length name.now < 4) (λ ends. (4 ≤ length name.now)
         × (to_le_bytes w32 ends.0 ≡ take 4 name.now) × (to_le_bytes w32 ends.1 ≡ drop (length name.now - 4) name.now)) }
@@ -58,7 +74,7 @@ fn fours_of(name: &[u8]) -> Option<(u32, u32)>
 }
 
 /// The first and the last 2 bytes.
-#[inline]
+#[inline(always)]
 fn twos_of(name: &[u8]) -> Option<(u16, u16)>
     ensures { MatchOption result (length name.now < 2) (λ ends. (2 ≤ length name.now)
         × (to_le_bytes w16 ends.0 ≡ take 2 name.now) × (to_le_bytes w16 ends.1 ≡ drop (length name.now - 2) name.now)) }
@@ -69,7 +85,7 @@ fn twos_of(name: &[u8]) -> Option<(u16, u16)>
 }
 
 /// The first and the last bytes of a name, as many as fit.
-#[inline]
+#[inline(always)]
 fn ends_of(name: &[u8]) -> (u64, u64)
     ensures { length name.now ≤ 16 → name_with (length name.now) result.0 result.1 ≡ name.now }
 {
@@ -99,7 +115,7 @@ pub struct Key {
 }
 
 impl Key {
-    #[inline]
+    #[inline(always)]
     pub fn of(name: &[u8]) -> Self
         ensures { IsKeyOf result name.now }
     {
@@ -108,12 +124,12 @@ impl Key {
             front,
             back,
             len: name.len().min(LONG as usize) as u32,
-            hash: hash_of(name),
+            hash: hash_of(name, front, back),
         }
     }
 
     /// Whether the key tells its name from all others.
-    #[inline]
+    #[inline(always)]
     pub fn is_whole(&self) -> bool
         ensures { IsTrue result ↔ (self.now.len ≤ WHOLE) }
     {

@@ -112,7 +112,7 @@ impl<S: BuildHasher> Numbering<S> {
         self.recent_number(&Key::of(name), name)
     }
 
-    #[inline]
+    #[inline(always)]
     fn recent_number(&self, key: &Key, name: &[u8]) -> Option<u32>
         requires { IsKeyOf key.now name.now }
         ensures { IfSome result (IsKnown self.now name.now) }

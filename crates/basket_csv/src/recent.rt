@@ -41,7 +41,7 @@ impl Slot {
     }
 
     /// Whether this is the slot of a key.
-    #[inline]
+    #[inline(always)]
     fn has(&self, key: &Key) -> bool
         ensures { IsTrue result → (self.now.front ≡ key.now.front) × (self.now.back ≡ key.now.back) × (self.now.len ≡ key.now.len) }
     {
@@ -76,7 +76,7 @@ impl Recent {
     }
 
     /// The number that a name of this key has, or may have if the name is long.
-    #[inline]
+    #[inline(always)]
     pub fn number(&self, key: &Key) -> Option<u32>
         ensures { (names : List (List ℕ)) → KeepsKnown names self.now → IfSome result (IsNumberAt names key.now) }
     {
@@ -102,7 +102,7 @@ impl Recent {
     }
 
     /// Makes room, where nothing was kept yet, or where a known name wasn't found among more names
-    /// than there are buckets. What was kept is then forgotten.
+    /// than there are buckets, but not more than there can be slots. What was kept is then forgotten.
     #[inline]
     pub fn make_room(&mut self, alloc: Global, names: usize, missed: bool) -> Result<(), AllocError>
         ensures { (all : List (List ℕ)) → KeepsKnown all self.old → KeepsKnown all self.new }
@@ -111,7 +111,7 @@ impl Recent {
         if count == 0 {
             return self.forget(alloc, FEWEST);
         }
-        if missed && names > count && count < MOST {
+        if missed && names > count && names <= 2 * MOST && count < MOST {
             return self.forget(alloc, 4 * count);
         }
         Ok(())
