@@ -11,29 +11,13 @@ const WHOLE: u32 = 16;
 /// What stands for the length of a longer name.
 pub const LONG: u32 = 17;
 
-/// The constants of `FoldHasher`.
-const STATE: u64 = 0x243f_6a88_85a3_08d3;
-
-const MULTIPLIER: u64 = 0x9e37_79b9_7f4a_7c15;
-
-/// The two halves of a product, joined by xor.
+/// The hash of a name. It has no key: names that are picked to have one hash push one another out
+/// of their bucket, and are then looked up in the map like names that aren't kept.
 #[inline(always)]
-fn folded_product(a: u64, b: u64) -> u64 {
-    let product = a as u128 * b as u128;
-    (product & 0xFFFF_FFFF_FFFF_FFFF) as u64 ^ (product >> 64) as u64
-}
-
-/// The hash of a name, which begins and ends with these bytes. It has no key: names that are picked
-/// to have one hash push one another out of their bucket, and are then looked up in the map like
-/// names that aren't kept.
-#[inline(always)]
-fn hash_of(name: &[u8], front: u64, back: u64) -> u64 {
-    if name.len() >= LONG as usize {
-        let mut hasher = FoldHasher::default();
-        hasher.write(name);
-        return hasher.finish();
-    }
-    folded_product(front ^ STATE, back ^ MULTIPLIER ^ name.len() as u64)
+fn hash_of(name: &[u8]) -> u64 {
+    let mut hasher = FoldHasher::default();
+    hasher.write(name);
+    hasher.finish()
 }
 
 /// The number whose bytes these are, the lowest first.
@@ -124,7 +108,7 @@ impl Key {
             front,
             back,
             len: name.len().min(LONG as usize) as u32,
-            hash: hash_of(name, front, back),
+            hash: hash_of(name),
         }
     }
 
