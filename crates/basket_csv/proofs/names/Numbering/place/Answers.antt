@@ -1,9 +1,15 @@
 use Rattle.std.proofs.Common.{map, refl, sym, subst}
 use Rattle.std.specs.String.{string_bytes}
 use Rattle.basket_csv.specs.Recent.{KeepsKnown}
-use Rattle.basket_csv.proofs.NamesLemmas.{new_place}
+use Rattle.basket_csv.proofs.NamesLemmas.{known_place, new_place}
 use Rattle.basket_csv.proofs.RecentLemmas.{kept_more}
 use Rattle.basket_csv.proofs.names.Numbering.place.Goals as goal
+
+pub returns-in-Some-clause-names : goal.returns-in-Some-clause-names
+returns-in-Some-clause-names g c = (known_place c.self.inside.names.keys c.args.self.now c.args.name.now c.in-Some.place (sym c.self.view_is) (sym c.in-Some.ensures.index)).0
+
+pub returns-in-Some-clause-number : goal.returns-in-Some-clause-number
+returns-in-Some-clause-number g c = (known_place c.self.inside.names.keys c.args.self.now c.args.name.now c.in-Some.place (sym c.self.view_is) (sym c.in-Some.ensures.index)).1
 
 pub returns-clause-names : goal.returns-clause-names
 returns-clause-names g c =
