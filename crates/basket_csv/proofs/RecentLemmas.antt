@@ -1,9 +1,8 @@
 -- Names that are kept with their numbers.
-use Rattle.std.proofs.Common.{◌≡◌, ℕ, true, List, sym, ap, subst, ◌∙◌}
+use Rattle.std.proofs.Common.{◌≡◌, ℕ, true, List, sym, ap, ◌∙◌}
 use Rattle.std.specs.Str.{IsUtf8}
 use Rattle.std.proofs.lemmas.List.Elements.{All-weaker}
 use Rattle.std.proofs.lemmas.Str.{is_utf8-from_IsUtf8}
-use Rattle.basket_csv.specs.declared.recent.Bucket.{Bucket}
 use Rattle.basket_csv.specs.declared.recent.Recent.{Recent}
 use Rattle.basket_csv.specs.Names.{number_in, with_name, IsKnown}
 use Rattle.basket_csv.specs.Recent.{HasKnown, KeepsKnown}

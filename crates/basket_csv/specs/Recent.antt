@@ -3,7 +3,6 @@ use Rattle.std.specs.Prelude.{◌≤◌, ℕ, List}
 use Rattle.std.specs.List.{All}
 use Rattle.basket_csv.specs.declared.key.Key.{Key}
 use Rattle.basket_csv.specs.declared.key.TheConstants.{WHOLE}
-use Rattle.basket_csv.specs.declared.recent.Bucket.{Bucket}
 use Rattle.basket_csv.specs.declared.recent.Recent.{Recent}
 use Rattle.basket_csv.specs.declared.recent.Slot.{Slot}
 use Rattle.basket_csv.specs.Key.{name_with}

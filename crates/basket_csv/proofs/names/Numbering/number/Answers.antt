@@ -1,5 +1,5 @@
-use Rattle.std.proofs.Common.{sym, subst, ap, ◌∙◌}
-use Rattle.basket_csv.specs.Names.{IsKnown, number_in}
+use Rattle.std.proofs.Common.{sym, subst, ◌∙◌}
+use Rattle.basket_csv.specs.Names.{IsKnown}
 use Rattle.basket_csv.proofs.RecentLemmas.{numbered_known}
 use Rattle.basket_csv.proofs.names.Numbering.number.Goals as goal
 
