@@ -1,4 +1,6 @@
 mod NamesLemmas
+mod KeyLemmas
+mod RecentLemmas
 mod FieldLemmas
 mod RecordLemmas
 mod GatheredLemmas

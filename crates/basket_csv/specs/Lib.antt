@@ -1,5 +1,7 @@
 pub mod Field
 pub mod Names
+pub mod Key
+pub mod Recent
 pub mod Records
 pub mod Csv
 pub mod Row

@@ -57,7 +57,8 @@ pub fn is_name(field: &[u8]) -> bool
     ensures trimmed { result ≡ true → trimmed field.now ≡ field.now }
     ensures some { result ≡ true → 0 < length field.now }
 {
-    !field.is_empty() && front_spaces(field) == 0 && end_spaces(field) == field.len()
+    let len = field.len();
+    len > 0 && !is_space(field[0]) && !is_space(field[len - 1])
 }
 
 /// The text of a field, if it is UTF-8.

@@ -5,6 +5,7 @@ mod baskets;
 mod field;
 mod gathered;
 mod input;
+mod key;
 pub mod laws;
 mod names;
 mod pairs;

@@ -1,8 +1,11 @@
 //! Names, and their numbers by first appearance.
 ghost use Rattle.std.specs.Prelude.{◌≡◌, ◌↔◌, [], length, slice_get, option_map, IsTrue, IfOk, IfErr, IfSome, OnOk};
+ghost use Rattle.basket_csv.specs.Key.{IsKeyOf};
 ghost use Rattle.basket_csv.specs.Names.{number_in, with_name, IsKnown};
+ghost use Rattle.basket_csv.specs.Recent.{IsNumberAt};
 
-use crate::recent::{Recent, hash_of};
+use crate::key::Key;
+use crate::recent::Recent;
 use basket_read::ReadFault;
 use indexmap::IndexSet;
 use std::alloc::{AllocError, Global};
@@ -53,15 +56,20 @@ pub struct Numbering<S: BuildHasher> {
     alloc: Global,
     names: IndexSet<String, S>,
     recent: Recent,
+    /// Whether the last name that was not found among the recent ones was known.
+    missed: bool,
 }
 
 impl<S: BuildHasher> Model for Numbering<S> {
     ghost use Rattle.std.specs.Prelude.{ℕ, List, map};
     ghost use Rattle.std.specs.String.{string_bytes};
+    ghost use Rattle.basket_csv.specs.Recent.{KeepsKnown};
 
     ghost Value = { List (List ℕ) };
 
     ghost view = { λ n. map string_bytes n.names.keys };
+
+    ghost invariant = { λ n. KeepsKnown (map string_bytes n.names.keys) n.recent };
 }
 
 impl<S: BuildHasher> Numbering<S> {
@@ -72,24 +80,25 @@ impl<S: BuildHasher> Numbering<S> {
             alloc,
             names: IndexSet::with_hasher(alloc, hasher),
             recent: Recent::new(alloc),
+            missed: false,
         }
     }
 
-    /// The number of a name, which is new or known. A known name costs a look-up and no allocation.
+    /// The number of a name, which is new or known. Most known names cost a look-up and no allocation.
     #[inline]
     pub fn number(&mut self, name: &str) -> Result<u32, ReadFault>
         ensures names { OnOk result (self.new ≡ with_name self.old name.now) }
         ensures number { IfOk result (λ number. number ≡ number_in self.new name.now) }
         ensures err { IfErr result (λ fault. fault ≡ ReadFault.Memory) }
     {
-        let hash = hash_of(name.as_bytes());
-        if let Some(number) = self.recent_number(hash, name.as_bytes()) {
+        let key = Key::of(name.as_bytes());
+        if let Some(number) = self.recent_number(&key, name.as_bytes()) {
             return Ok(number);
         }
         let place = self.place(name)?;
         match u32::try_from(place) {
             Ok(number) => {
-                self.recent.keep(self.alloc, hash, number)?;
+                self.keep(&key, number)?;
                 Ok(number)
             }
             // An input is too short for so many names.
@@ -102,28 +111,49 @@ impl<S: BuildHasher> Numbering<S> {
     pub fn known(&self, name: &[u8]) -> Option<u32>
         ensures { IfSome result (IsKnown self.now name.now) }
     {
-        self.recent_number(hash_of(name), name)
+        self.recent_number(&Key::of(name), name)
     }
 
-    #[inline]
-    fn recent_number(&self, hash: u64, name: &[u8]) -> Option<u32>
+    #[inline(always)]
+    fn recent_number(&self, key: &Key, name: &[u8]) -> Option<u32>
+        requires { IsKeyOf key.now name.now }
         ensures { IfSome result (IsKnown self.now name.now) }
     {
-        let number = self.recent.number(hash)?;
+        let number = self.recent.number(key)?;
+        if key.is_whole() {
+            return Some(number);
+        }
         let known = self.names.as_slice().get(number as usize)?;
         (known.as_str().as_bytes() == name).then_some(number)
     }
 
+    /// Keeps the number of a name that was not found among the recent ones.
+    #[inline]
+    fn keep(&mut self, key: &Key, number: u32) -> Result<(), AllocError>
+        requires { IsNumberAt self.old key.now number }
+        ensures { self.new ≡ self.old }
+    {
+        self.recent
+            .make_room(self.alloc, self.names.len(), self.missed)?;
+        self.recent.keep(key, number);
+        Ok(())
+    }
+
+    /// The place of a name, which is put behind all where it is new.
     #[inline]
     fn place(&mut self, name: &str) -> Result<usize, ReadFault>
         ensures names { OnOk result (self.new ≡ with_name self.old name.now) }
         ensures number { IfOk result (λ place. place ≡ number_in self.new name.now) }
         ensures err { IfErr result (λ fault. fault ≡ ReadFault.Memory) }
     {
-        if let Some(place) = self.names.get_index_of(name) {
-            return Ok(place);
+        // Mostly the next such name is known or new as the last was. A new one is looked up once.
+        if self.missed {
+            if let Some(place) = self.names.get_index_of(name) {
+                return Ok(place);
+            }
         }
-        let (place, _) = self.names.insert_full(String::from_str(self.alloc, name)?)?;
+        let (place, is_new) = self.names.insert_full(String::from_str(self.alloc, name)?)?;
+        self.missed = !is_new;
         Ok(place)
     }
 }

@@ -17,14 +17,14 @@ use crate::names::{Names, Numbering};
 use crate::records::Records;
 use crate::row::{is_text_from, known_number, text_at};
 use basket_read::ReadFault;
-use basket_sets::Database;
+use basket_sets::{Database, INLINE_ITEMS};
 use csv::ByteRecord;
 use smallvec::SmallVec;
 use std::alloc::{AllocError, Global};
 use std::hash::BuildHasher;
 
 /// The numbers of the names of an id. Most have few, which need no allocation.
-type Group = SmallVec<u32, 12>;
+type Group = SmallVec<u32, { INLINE_ITEMS }>;
 
 /// Adds a number to the group at a place, or to a new one behind all.
 fn add_number(
@@ -156,9 +156,11 @@ impl<S: BuildHasher + Drop> Pairs<S> {
         let Pairs {
             alloc,
             names,
+            ids,
             groups,
-            ..
         } = self;
+        // Their memory serves the baskets.
+        drop(ids);
         let baskets = gathered_from(alloc, &groups)?.finish()?;
         Ok((baskets, names.into_names()?))
     }

@@ -1,62 +1,132 @@
-//! The numbers of names that were found of late, which spare most look-ups in the map. Nothing is
-//! claimed of them: whoever asks compares the names.
+//! The numbers of names that were found of late, which spare most look-ups in the map.
+ghost use Rattle.std.specs.Prelude.{◌≡◌, ℕ, List, IsTrue, IfSome};
+ghost use Rattle.basket_csv.specs.Recent.{IsNumberAt, KeepsKnown};
 
+use crate::key::{Key, LONG};
 use std::alloc::{AllocError, Global};
-use std::hash::{FoldHasher, Hasher};
 
-/// How many names are kept.
-const SLOTS: usize = 16_384;
+/// How many buckets there are at first, and at most. Between these they become four times as many.
+const FEWEST: usize = 4_096;
 
-/// The hash of a name, by which it is kept. It has no key: names that are picked to have one hash
-/// push one another out of their slot, and are then looked up in the map like names that aren't kept.
-#[inline]
-pub fn hash_of(name: &[u8]) -> u64 {
-    let mut hasher = FoldHasher::default();
-    hasher.write(name);
-    hasher.finish()
-}
+const MOST: usize = 262_144;
 
-/// A name that was found: the upper half of its hash, and its number.
-#[derive(Clone, Copy, Debug, Default)]
+/// A name that was found: its key without the hash, and its number.
+#[derive(Clone, Copy, Debug)]
 struct Slot {
-    tag: u32,
+    front: u64,
+    back: u64,
+    len: u32,
     number: u32,
 }
 
-/// The numbers of names that were found of late. The lower bits of a name's hash are its slot, which
-/// is the name's that was found there last.
+/// A slot without a name. Whoever finds it compares the names, as for a long one.
+const FREE: Slot = Slot {
+    front: 0,
+    back: 0,
+    len: LONG,
+    number: 0,
+};
+
+impl Slot {
+    #[inline]
+    fn new(key: &Key, number: u32) -> Self
+        ensures { result ≡ record { front = key.now.front; back = key.now.back; len = key.now.len; number = number } }
+    {
+        Slot {
+            front: key.front,
+            back: key.back,
+            len: key.len,
+            number,
+        }
+    }
+
+    /// Whether this is the slot of a key.
+    #[inline(always)]
+    fn has(&self, key: &Key) -> bool
+        ensures { IsTrue result → (self.now.front ≡ key.now.front) × (self.now.back ≡ key.now.back) × (self.now.len ≡ key.now.len) }
+    {
+        self.front == key.front && self.back == key.back && self.len == key.len
+    }
+}
+
+/// The two names of some hashes that were found last.
+#[derive(Clone, Copy, Debug)]
+struct Bucket {
+    newer: Slot,
+    older: Slot,
+}
+
+/// The numbers of names that were found of late. The lower bits of a name's hash are its bucket.
 #[derive(Debug, Drop)]
 pub struct Recent {
-    slots: Vec<Slot>,
+    buckets: Vec<Bucket>,
+    /// The bits of a hash that are its bucket.
+    mask: usize,
 }
 
 impl Recent {
     /// Nothing is kept yet, and nothing is allocated.
-    pub fn new(alloc: Global) -> Self {
+    pub fn new(alloc: Global) -> Self
+        ensures { (names : List (List ℕ)) → KeepsKnown names result }
+    {
         Recent {
-            slots: Vec::new(alloc),
+            buckets: Vec::new(alloc),
+            mask: 0,
         }
     }
 
-    /// The number that a name of this hash may have. It may be another name's.
-    #[inline]
-    pub fn number(&self, hash: u64) -> Option<u32> {
-        let slot = self.slots.get(hash as usize % SLOTS)?;
-        (slot.tag == (hash >> 32) as u32).then_some(slot.number)
+    /// The number that a name of this key has, or may have if the name is long.
+    #[inline(always)]
+    pub fn number(&self, key: &Key) -> Option<u32>
+        ensures { (names : List (List ℕ)) → KeepsKnown names self.now → IfSome result (IsNumberAt names key.now) }
+    {
+        let bucket = self.buckets.get(key.hash as usize & self.mask)?;
+        if bucket.newer.has(key) {
+            return Some(bucket.newer.number);
+        }
+        bucket.older.has(key).then_some(bucket.older.number)
     }
 
-    /// Keeps the number of a name of this hash.
+    /// Keeps the number of a name of this key.
     #[inline]
-    pub fn keep(&mut self, alloc: Global, hash: u64, number: u32) -> Result<(), AllocError> {
-        if self.slots.is_empty() {
-            self.slots = vec![in alloc; Slot::default(); SLOTS]?;
-        }
-        if let Some(slot) = self.slots.get_mut(hash as usize % SLOTS) {
-            *slot = Slot {
-                tag: (hash >> 32) as u32,
-                number,
+    pub fn keep(&mut self, key: &Key, number: u32)
+        ensures { (names : List (List ℕ)) → IsNumberAt names key.now number → KeepsKnown names self.old → KeepsKnown names self.new }
+    {
+        let place = key.hash as usize & self.mask;
+        if let Some(bucket) = self.buckets.get_mut(place) {
+            *bucket = Bucket {
+                newer: Slot::new(key, number),
+                older: bucket.newer,
             };
         }
+    }
+
+    /// Makes room, where nothing was kept yet, or where a known name wasn't found among more names
+    /// than there are buckets, but not more than there can be slots. What was kept is then forgotten.
+    #[inline]
+    pub fn make_room(&mut self, alloc: Global, names: usize, missed: bool) -> Result<(), AllocError>
+        ensures { (all : List (List ℕ)) → KeepsKnown all self.old → KeepsKnown all self.new }
+    {
+        let count = self.buckets.len();
+        if count == 0 {
+            return self.forget(alloc, FEWEST);
+        }
+        if missed && names > count && names <= 2 * MOST && count < MOST {
+            return self.forget(alloc, 4 * count);
+        }
+        Ok(())
+    }
+
+    /// Forgets all names, and has so many buckets then.
+    fn forget(&mut self, alloc: Global, count: usize) -> Result<(), AllocError>
+        ensures { (names : List (List ℕ)) → KeepsKnown names self.old → KeepsKnown names self.new }
+    {
+        let free = Bucket {
+            newer: FREE,
+            older: FREE,
+        };
+        self.buckets = vec![in alloc; free; count]?;
+        self.mask = count.saturating_sub(1);
         Ok(())
     }
 }

@@ -1,5 +1,8 @@
-use Rattle.std.proofs.Common.{sym}
+use Rattle.std.proofs.Common.{map, refl, sym, subst}
+use Rattle.std.specs.String.{string_bytes}
+use Rattle.basket_csv.specs.Recent.{KeepsKnown}
 use Rattle.basket_csv.proofs.NamesLemmas.{known_place, new_place}
+use Rattle.basket_csv.proofs.RecentLemmas.{kept_more}
 use Rattle.basket_csv.proofs.names.Numbering.place.Goals as goal
 
 pub returns-in-Some-clause-names : goal.returns-in-Some-clause-names
@@ -17,3 +20,10 @@ pub returns-clause-number : goal.returns-clause-number
 returns-clause-number g c =
     (new_place c.self.inside.names.keys c.insert_full.new.self.keys c.in_ok-from_str.field-0 c.args.self.now c.args.name.now c.in_ok-place.place
     (sym c.self.view_is) c.in_ok-from_str.ensures.ok c.in_ok-place.ensures.keys c.in_ok-place.ensures.index).1
+
+pub invariant_of-self-2 : goal.invariant_of-self-2
+invariant_of-self-2 g c =
+    let keys = c.self.inside.names.keys in
+    let more = new_place keys c.insert_full.new.self.keys c.in_ok-from_str.field-0 (map string_bytes keys) c.args.name.now c.in_ok-place.place
+    refl c.in_ok-from_str.ensures.ok c.in_ok-place.ensures.keys c.in_ok-place.ensures.index in
+    subst (λ names. KeepsKnown names c.self.inside.recent) (sym more.0) (kept_more (map string_bytes keys) c.args.name.now c.self.inside.recent c.self.invariant)

@@ -1,4 +1,4 @@
-use Rattle.std.proofs.Common.{◌≡◌, length, slice_get, refl, sym, ap, subst, ◌∙◌}
+use Rattle.std.proofs.Common.{◌≡◌, length, map, slice_get, refl, sym, ap, subst, ◌∙◌}
 use Rattle.std.specs.Option.{IfSome}
 use Rattle.std.specs.Str.{IsUtf8, bytes_eq}
 use Rattle.std.specs.String.{string_bytes}
@@ -20,3 +20,10 @@ returns g c =
     subst (λ found. IfSome found (IsKnown names name)) (sym c.then_some.ensures)
     (place_if_same c.self.inside.names.keys names name key number c.eq.result
     (sym c.self.view_is) c.as_slice.ensures.unique (ap (λ l. slice_get l number) (sym c.as_slice.ensures.keys) ∙ at) (subst IsUtf8 text c.as_str.utf8) equal)
+
+pub returns-then-is_whole : goal.returns-then-is_whole
+returns-then-is_whole g c =
+    let number = c.in_ok-number.number in
+    let whole = c.is_whole.ensures.0 c.if-is_whole.true in
+    let known = c.in_ok-number.ensures _ c.self.invariant whole in
+    subst (λ names. IsKnown names c.args.name.now number) c.self.view_is (subst (λ name. IsKnown (map string_bytes c.self.inside.names.keys) name number) (c.requires whole) known)

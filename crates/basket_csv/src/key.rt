@@ -1,0 +1,122 @@
+//! What a name is looked up by.
+ghost use Rattle.std.specs.Prelude.{◌≡◌, ◌≤◌, ◌<◌, ◌-◌, ◌↔◌, length, take, drop, IsTrue, MatchOption};
+ghost use Rattle.std.specs.Int.{w16, w32, w64, to_le_bytes};
+ghost use Rattle.basket_csv.specs.Key.{name_with, IsKeyOf};
+
+use std::hash::{FoldHasher, Hasher};
+
+/// The greatest length of a name that its key has whole.
+const WHOLE: u32 = 16;
+
+/// What stands for the length of a longer name.
+pub const LONG: u32 = 17;
+
+/// The hash of a name. It has no key: names that are picked to have one hash push one another out
+/// of their bucket, and are then looked up in the map like names that aren't kept.
+#[inline(always)]
+fn hash_of(name: &[u8]) -> u64 {
+    let mut hasher = FoldHasher::default();
+    hasher.write(name);
+    hasher.finish()
+}
+
+/// The number whose bytes these are, the lowest first.
+#[inline(always)]
+fn u64_of(bytes: [u8; 8]) -> u64
+    ensures { to_le_bytes w64 result ≡ bytes }
+{
+    u64::from_le_bytes(bytes)
+}
+
+#[inline(always)]
+fn u32_of(bytes: [u8; 4]) -> u32
+    ensures { to_le_bytes w32 result ≡ bytes }
+{
+    u32::from_le_bytes(bytes)
+}
+
+/// The first and the last 8 bytes of a name, if it has as many.
+#[inline(always)]
+fn eights_of(name: &[u8]) -> Option<(u64, u64)>
+    ensures { MatchOption result (length name.now < 8) (λ ends. (8 ≤ length name.now)
+        × (to_le_bytes w64 ends.0 ≡ take 8 name.now) × (to_le_bytes w64 ends.1 ≡ drop (length name.now - 8) name.now)) }
+{
+    let front = name.first_chunk::<8>()?;
+    let back = name.last_chunk::<8>()?;
+    Some((u64_of(*front), u64_of(*back)))
+}
+
+/// The first and the last 4 bytes.
+#[inline(always)]
+fn fours_of(name: &[u8]) -> Option<(u32, u32)>
+    ensures { MatchOption result (length name.now < 4) (λ ends. (4 ≤ length name.now)
+        × (to_le_bytes w32 ends.0 ≡ take 4 name.now) × (to_le_bytes w32 ends.1 ≡ drop (length name.now - 4) name.now)) }
+{
+    let front = name.first_chunk::<4>()?;
+    let back = name.last_chunk::<4>()?;
+    Some((u32_of(*front), u32_of(*back)))
+}
+
+/// The first and the last 2 bytes.
+#[inline(always)]
+fn twos_of(name: &[u8]) -> Option<(u16, u16)>
+    ensures { MatchOption result (length name.now < 2) (λ ends. (2 ≤ length name.now)
+        × (to_le_bytes w16 ends.0 ≡ take 2 name.now) × (to_le_bytes w16 ends.1 ≡ drop (length name.now - 2) name.now)) }
+{
+    let front = name.first_chunk::<2>()?;
+    let back = name.last_chunk::<2>()?;
+    Some((u16::from_le_bytes(*front), u16::from_le_bytes(*back)))
+}
+
+/// The first and the last bytes of a name, as many as fit.
+#[inline(always)]
+fn ends_of(name: &[u8]) -> (u64, u64)
+    ensures { length name.now ≤ 16 → name_with (length name.now) result.0 result.1 ≡ name.now }
+{
+    if let Some(ends) = eights_of(name) {
+        return ends;
+    }
+    if let Some((front, back)) = fours_of(name) {
+        return (u64::from(front), u64::from(back));
+    }
+    if let Some((front, back)) = twos_of(name) {
+        return (u64::from(front), u64::from(back));
+    }
+    match name.first() {
+        Some(byte) => (u64::from(*byte), 0),
+        None => (0, 0),
+    }
+}
+
+/// The length of a name, its first and its last bytes, and its hash. The first three tell a name of
+/// up to 16 bytes from all others.
+#[derive(Clone, Copy, Debug)]
+pub struct Key {
+    pub front: u64,
+    pub back: u64,
+    pub len: u32,
+    pub hash: u64,
+}
+
+impl Key {
+    #[inline(always)]
+    pub fn of(name: &[u8]) -> Self
+        ensures { IsKeyOf result name.now }
+    {
+        let (front, back) = ends_of(name);
+        Key {
+            front,
+            back,
+            len: name.len().min(LONG as usize) as u32,
+            hash: hash_of(name),
+        }
+    }
+
+    /// Whether the key tells its name from all others.
+    #[inline(always)]
+    pub fn is_whole(&self) -> bool
+        ensures { IsTrue result ↔ (self.now.len ≤ WHOLE) }
+    {
+        self.len <= WHOLE
+    }
+}
