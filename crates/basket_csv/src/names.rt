@@ -56,8 +56,6 @@ pub struct Numbering<S: BuildHasher> {
     alloc: Global,
     names: IndexSet<String, S>,
     recent: Recent,
-    /// Whether the last name that was not found among the recent ones was known.
-    missed: bool,
 }
 
 impl<S: BuildHasher> Model for Numbering<S> {
@@ -80,11 +78,10 @@ impl<S: BuildHasher> Numbering<S> {
             alloc,
             names: IndexSet::with_hasher(alloc, hasher),
             recent: Recent::new(alloc),
-            missed: false,
         }
     }
 
-    /// The number of a name, which is new or known. Most known names cost a look-up and no allocation.
+    /// The number of a name, which is new or known. A known name costs a look-up and no allocation.
     #[inline]
     pub fn number(&mut self, name: &str) -> Result<u32, ReadFault>
         ensures names { OnOk result (self.new ≡ with_name self.old name.now) }
@@ -95,10 +92,11 @@ impl<S: BuildHasher> Numbering<S> {
         if let Some(number) = self.recent_number(&key, name.as_bytes()) {
             return Ok(number);
         }
+        let known = self.names.len();
         let place = self.place(name)?;
         match u32::try_from(place) {
             Ok(number) => {
-                self.keep(&key, number)?;
+                self.keep(&key, number, place < known)?;
                 Ok(number)
             }
             // An input is too short for so many names.
@@ -127,14 +125,13 @@ impl<S: BuildHasher> Numbering<S> {
         (known.as_str().as_bytes() == name).then_some(number)
     }
 
-    /// Keeps the number of a name that was not found among the recent ones.
+    /// Keeps the number of a name, which was known but missed, or is new.
     #[inline]
-    fn keep(&mut self, key: &Key, number: u32) -> Result<(), AllocError>
+    fn keep(&mut self, key: &Key, number: u32, missed: bool) -> Result<(), AllocError>
         requires { IsNumberAt self.old key.now number }
         ensures { self.new ≡ self.old }
     {
-        self.recent
-            .make_room(self.alloc, self.names.len(), self.missed)?;
+        self.recent.make_room(self.alloc, self.names.len(), missed)?;
         self.recent.keep(key, number);
         Ok(())
     }
@@ -146,14 +143,10 @@ impl<S: BuildHasher> Numbering<S> {
         ensures number { IfOk result (λ place. place ≡ number_in self.new name.now) }
         ensures err { IfErr result (λ fault. fault ≡ ReadFault.Memory) }
     {
-        // Mostly the next such name is known or new as the last was. A new one is looked up once.
-        if self.missed {
-            if let Some(place) = self.names.get_index_of(name) {
-                return Ok(place);
-            }
+        if let Some(place) = self.names.get_index_of(name) {
+            return Ok(place);
         }
-        let (place, is_new) = self.names.insert_full(String::from_str(self.alloc, name)?)?;
-        self.missed = !is_new;
+        let (place, _) = self.names.insert_full(String::from_str(self.alloc, name)?)?;
         Ok(place)
     }
 }
