@@ -28,9 +28,17 @@ fn text(alloc: Global, ranks: &[u32], spans: &[Span]) -> Result<String, Fail>
     Ok(text)
 }
 
+/// The baskets as text, sorted: no contract tells in which order a conditional database has them.
 fn baskets(alloc: Global, ordered: Ordered) -> Result<String, Fail> {
     let (_, ranks, spans) = ordered.into_parts();
-    text(alloc, &ranks, &spans)
+    let text = text(alloc, &ranks, &spans)?;
+    let mut parts: Vec<&str> = text.split_terminator(") ").collect(alloc)?;
+    parts.sort_unstable();
+    let mut sorted = String::new(alloc);
+    for part in parts {
+        write!(sorted, "{part}) ")?;
+    }
+    Ok(sorted)
 }
 
 /// The conditional database of a rank by a least support, where there is such a rank.
