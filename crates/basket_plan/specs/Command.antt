@@ -77,6 +77,13 @@ command_app choices name = command_with choices name []
 abbrev pub rules_app : Choices → App
 rules_app choices = command_with choices (codes "rules") (required (codes "conf") ∷ [])
 
+-- the line without commands
+abbrev pub bare_line : App
+bare_line = record {
+  top = record (new_shape (codes "basket")) { no_binary_name = true; subcommand_required = true; disable_help_subcommand = true };
+  subs = [];
+}
+
 -- all commands, where the names of miners, forms and separators lie as given
 abbrev pub line_with : Choices → App
 line_with choices = record {

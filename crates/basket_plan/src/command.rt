@@ -3,7 +3,7 @@ ghost use Rattle.std.specs.Prelude.{◌≡◌, ◌≢◌, IfErr, IfOk, codes, fa
 ghost use Rattle.clap.specs.Words.{app_of, kind_of, rule_of};
 ghost use Rattle.clap.specs.declared.builder.command.Command.TheViews.{out-Command as fields_of};
 ghost use Rattle.basket_plan.specs.declared.command.PlanFault.TheVariants.{Memory};
-ghost use Rattle.basket_plan.specs.Command.{IsNamed, asks_help, choice, command_app, flag, is_answer, is_help, line_with, number, plan_of_words, required, rules_app};
+ghost use Rattle.basket_plan.specs.Command.{IsNamed, asks_help, bare_line, choice, command_app, flag, is_answer, is_help, line_with, number, plan_of_words, required, rules_app};
 ghost use Rattle.basket_plan.specs.Status.{plan_status_of};
 
 use crate::help;
@@ -76,41 +76,45 @@ fn all_choices() -> Choices<'static>
 fn command_line<'a>(alloc: Global, choices: Choices<'a>) -> Result<Command<'a>, AllocError>
     ensures { IfOk result (λ command. app_of command ≡ line_with choices.entry) }
 {
-    let items = command(
-        alloc,
-        "items",
-        help::ITEMS_ABOUT,
-        help::ITEMS_EXAMPLE,
-        choices,
-    )?;
-    let sets = command(alloc, "sets", help::SETS_ABOUT, help::SETS_EXAMPLE, choices)?;
-    let closed = command(
-        alloc,
-        "closed",
-        help::CLOSED_ABOUT,
-        help::CLOSED_EXAMPLE,
-        choices,
-    )?;
-    let maximal = command(
-        alloc,
-        "maximal",
-        help::MAXIMAL_ABOUT,
-        help::MAXIMAL_EXAMPLE,
-        choices,
-    )?;
-    let rules = rules_command(alloc, choices)?;
-    Command::new(alloc, "basket")
-        .no_binary_name(true)
-        .bin_name("basket")?
-        .about(help::ABOUT)
-        .after_help(help::INPUT)
-        .subcommand_required(true)
-        .disable_help_subcommand(true)
-        .subcommand(items)?
-        .subcommand(sets)?
-        .subcommand(closed)?
-        .subcommand(maximal)?
-        .subcommand(rules)
+    bare_line(alloc)?
+        .subcommand(command(
+            alloc,
+            "items",
+            help::ITEMS_ABOUT,
+            help::ITEMS_EXAMPLE,
+            choices,
+        )?)?
+        .subcommand(command(alloc, "sets", help::SETS_ABOUT, help::SETS_EXAMPLE, choices)?)?
+        .subcommand(command(
+            alloc,
+            "closed",
+            help::CLOSED_ABOUT,
+            help::CLOSED_EXAMPLE,
+            choices,
+        )?)?
+        .subcommand(command(
+            alloc,
+            "maximal",
+            help::MAXIMAL_ABOUT,
+            help::MAXIMAL_EXAMPLE,
+            choices,
+        )?)?
+        .subcommand(rules_command(alloc, choices)?)
+}
+
+/// The command line without its commands.
+fn bare_line<'a>(alloc: Global) -> Result<Command<'a>, AllocError>
+    ensures { IfOk result (λ command. app_of command ≡ bare_line) }
+{
+    Ok(
+        Command::new(alloc, "basket")
+            .no_binary_name(true)
+            .bin_name("basket")?
+            .about(help::ABOUT)
+            .after_help(help::INPUT)
+            .subcommand_required(true)
+            .disable_help_subcommand(true),
+    )
 }
 
 /// A command with its options, which are the same for all.
