@@ -1,7 +1,12 @@
 -- What the workers of a phase hand back, and what it is together.
-use Rattle.std.specs.Prelude.{ℕ, List, map, fold, Option, Some, None, Result, Ok, Err}
+use Rattle.std.specs.Prelude.{◌≡◌, ◌<◌, ℕ, List, All, IfOk, MatchResult, Vec, length, map, fold, slice_index_or, Option, Some, None, Result, Ok, Err}
+use Rattle.std.specs.Global.{Global}
+use Rattle.std.specs.Fn.{FnReturns}
+use denote.Param.Members.{Shared}
 use Rattle.basket_core.specs.declared.fault.MineFault.{MineFault}
 use Rattle.basket_core.specs.declared.fault.MineFault.TheVariants.{Memory, TooMany}
+use Rattle.mine_round.specs.SeatView.{SeatView}
+use Rattle.mine_phases.specs.declared.share.Share.{Share}
 
 -- the pieces of values that came with them
 abbrev pub pieces_of : {X : Type 0} → List (ℕ × X) → List ℕ
@@ -21,3 +26,23 @@ fault_after fault (Err found) = worse fault found
 -- the fault to tell of some results, and none where all are well
 abbrev pub fault_of : {X : Type 0} → List (Result X MineFault) → Option MineFault
 fault_of results = fold fault_after None results
+
+module _ {F V : Type 0} (g : Shared F ((ℕ × SeatView) × Unit {0}) (Share V)) (f : F) where
+  -- f may be called with each of the seats, whatever the number of its worker
+  abbrev pub AcceptsSeats : List SeatView → Type 0
+  AcceptsSeats seats = (worker i : ℕ) (seat : SeatView) → i < length seats → seat ≡ slice_index_or seats i seat → g.pre f ((worker, seat), tt)
+
+  -- a share is what a call of f hands back
+  pub record IsHandedBack (share : Share V) : Type 0 where
+    pub worker : ℕ
+    pub seat : SeatView
+    pub call : FnReturns g f ((worker, seat), tt) share
+
+  -- some seats and some values, or a fault, are those of the shares that so many workers hand back
+  pub record ArePartsOfShares (workers : ℕ) (back : List SeatView) (values : Result (Vec V Global) MineFault) : Type 0 where
+    pub shares : List (Share V)
+    pub count : length shares ≡ workers
+    pub each : All IsHandedBack shares
+    pub seats : back ≡ map (λ share. share.seat) shares
+    pub lists : IfOk values (λ lists. map Ok lists.items ≡ map (λ share. share.values) shares)
+    pub fault : MatchResult values (λ _. fault_of (map (λ share. share.values) shares) ≡ None) (λ fault. fault_of (map (λ share. share.values) shares) ≡ Some fault)

@@ -14,13 +14,12 @@ use crate::found::{Found, Start};
 use crate::gate::Gate;
 use crate::joined::{Class, joined};
 use crate::placed::collected;
-use crate::share::{Share, claim_piece, numbered, parted};
+use crate::share::{Share, by_workers, claim_piece};
 use basket_core::{Coded, Frequent, MineFault, Tally, shard};
 use mine_classes::laws::{class_items_are_all, class_sizes_add_up, lists_have_class_size};
-use mine_round::{Collector, Round, RoundSeat};
+use mine_round::{Round, RoundSeat};
 use std::alloc::Global;
 use std::marker::Brand;
-use std::thread;
 use std::thread::Threads;
 
 /// The number of the phase: the items were counted before.
@@ -167,9 +166,6 @@ pub fn mine_shared<'a, R: Threads + Sync, G: Gate + Sync, M: ClassMiner + Sync>(
     class_sizes_add_up();
     let _baskets = coded.baskets();
     let (round, seats) = Round::new(alloc, cutting.pieces, 1, cutting.workers)?;
-    let collector = Collector::new(alloc, cutting.pieces)?;
-    let back = Vec::with_capacity(alloc, seats.len())?;
-    let lists = Vec::with_capacity(alloc, seats.len())?;
     let classes = Classes {
         round: &round,
         pieces: cutting.pieces,
@@ -179,19 +175,23 @@ pub fn mine_shared<'a, R: Threads + Sync, G: Gate + Sync, M: ClassMiner + Sync>(
         gate,
     };
     let lent = &classes;
-    let shares = thread::map_vec(
+    let (seats, values) = by_workers(
         rt,
-        numbered(alloc, seats)?,
+        alloc,
+        seats,
         &|job: (u32, RoundSeat)| -> Share<Vec<(u32, Vec<Class>)>>
             requires { (job.1.round ≡ lent.now.round.now.id) × (job.1.held ≡ unused 1 1) × (1 ≤ lent.now.pieces) × (lent.now.round.now.pieces ≡ lent.now.pieces) × (lent.now.round.now.counters ≡ 1) × (lent.now.ranks ≡ length (M.coding_of lent.now.miner.now).items) }
             ensures { IsClassShare lent.entry.now.round.now (M.coding_of lent.entry.now.miner.now) (M.is_work lent.entry.now.miner.now) lent.entry.now.limit lent.entry.now.pieces result }
         { lent.share(alloc, job.0, job.1) },
     )?;
-    let (seats, values) = parted(shares, back, lists);
     let Ok(_) = round.close(seats) else {
         unreachable!()
     };
     let values = values?;
-    let (classes, work) = joined(alloc, collected(collector, values), coded.ranks())?;
+    let (classes, work) = joined(
+        alloc,
+        collected(alloc, cutting.pieces, values)?,
+        coded.ranks(),
+    )?;
     Ok((Frequent::of_classes(alloc, coded, classes)?, work))
 }

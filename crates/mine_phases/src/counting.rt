@@ -9,11 +9,10 @@ ghost use Rattle.mine_phases.specs.Counting.{CountsParts, CountParts, IsCountSha
 use crate::cutting::Cutting;
 use crate::gate::Gate;
 use crate::placed::collected;
-use crate::share::{Share, claim_piece, numbered, parted};
+use crate::share::{Share, by_workers, claim_piece};
 use basket_core::{MineFault, Weighted, add_counts, count_items, shard};
-use mine_round::{Collector, Round, RoundSeat};
+use mine_round::{Round, RoundSeat};
 use std::alloc::{AllocError, Global};
-use std::thread;
 use std::thread::Threads;
 
 /// The number of the phase.
@@ -102,9 +101,6 @@ pub fn count_shared<'a, R: Threads + Sync, G: Gate + Sync>(
     ensures counts { IfOk result (λ counts. counts.items ≡ item_supports baskets.now) }
 {
     let (round, seats) = Round::new(alloc, cutting.pieces, 0, cutting.workers)?;
-    let collector = Collector::new(alloc, cutting.pieces)?;
-    let back = Vec::with_capacity(alloc, seats.len())?;
-    let lists = Vec::with_capacity(alloc, seats.len())?;
     let counting = Counting {
         round: &round,
         pieces: cutting.pieces,
@@ -112,20 +108,20 @@ pub fn count_shared<'a, R: Threads + Sync, G: Gate + Sync>(
         gate,
     };
     let lent = &counting;
-    let shares = thread::map_vec(
+    let (seats, values) = by_workers(
         rt,
-        numbered(alloc, seats)?,
+        alloc,
+        seats,
         &|job: (u32, RoundSeat)| -> Share<Vec<(u32, Counts)>>
             requires { (job.1.round ≡ lent.now.round.now.id) × (job.1.held.claimed ≡ []) × (1 ≤ lent.now.pieces) × (lent.now.round.now.pieces ≡ lent.now.pieces) × (total_of lent.now.baskets.now ≤ MOST_WEIGHT) }
             ensures { IsCountShare lent.entry.now.round.now lent.entry.now.baskets.now lent.entry.now.pieces result }
         { lent.share(alloc, job.0, job.1) },
     )?;
-    let (seats, values) = parted(shares, back, lists);
     let Ok(_) = round.close(seats) else {
         unreachable!()
     };
     let Ok(lists) = values else {
         return Err(AllocError);
     };
-    add_up(alloc, &collected(collector, lists))
+    add_up(alloc, &collected(alloc, cutting.pieces, lists)?)
 }

@@ -9,12 +9,11 @@ ghost use Rattle.mine_round.specs.Record.{unused};
 
 use crate::cutting::Cutting;
 use crate::gate::Gate;
-use crate::share::{Share, add_counts, claim_piece, numbered, parted};
+use crate::share::{Share, add_counts, by_workers, claim_piece};
 use basket_core::{Itemset, MineFault, Weighted, shard};
 use mine_apriori::CandidateTree;
 use mine_round::{Round, RoundSeat};
 use std::alloc::{AllocError, Global};
-use std::thread;
 use std::thread::Threads;
 
 /// The level as its workers see it.
@@ -87,8 +86,6 @@ pub fn count_level<'a, 's, R: Threads + Sync, G: Gate + Sync>(
 {
     let tree = CandidateTree::of(alloc, sets)?;
     let (round, seats) = Round::new(alloc, cutting.pieces, sets.len(), cutting.workers)?;
-    let back = Vec::with_capacity(alloc, seats.len())?;
-    let done = Vec::with_capacity(alloc, seats.len())?;
     let level = Level {
         round: &round,
         tree: &tree,
@@ -98,15 +95,15 @@ pub fn count_level<'a, 's, R: Threads + Sync, G: Gate + Sync>(
         gate,
     };
     let lent = &level;
-    let shares = thread::map_vec(
+    let (seats, ended) = by_workers(
         rt,
-        numbered(alloc, seats)?,
+        alloc,
+        seats,
         &|job: (u32, RoundSeat)| -> Share<()>
             requires { (job.1.round ≡ lent.now.round.now.id) × (job.1.held ≡ unused 1 (length lent.now.tree.now)) × (1 ≤ lent.now.pieces) × (lent.now.round.now.pieces ≡ lent.now.pieces) × (lent.now.round.now.counters ≡ length lent.now.tree.now) × (total_of lent.now.baskets.now ≤ MOST_WEIGHT) }
             ensures { IsLevelShare lent.entry.now.round.now lent.entry.now.baskets.now lent.entry.now.pieces lent.entry.now.tree.now result }
         { lent.share(alloc, job.0, job.1) },
     )?;
-    let (seats, ended) = parted(shares, back, done);
     let Ok(totals) = round.close(seats) else {
         unreachable!()
     };

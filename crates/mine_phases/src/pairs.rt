@@ -8,12 +8,11 @@ ghost use Rattle.mine_phases.specs.Pairs.{IsPairsShare, PairsParts, pairs_in};
 use crate::cutting::Cutting;
 use crate::gate::Gate;
 use crate::placed::collected;
-use crate::share::{Share, claim_piece, numbered, parted};
+use crate::share::{Share, by_workers, claim_piece};
 use basket_core::{MineFault, shard};
 use mine_classes::{Runs, Sums};
-use mine_round::{Collector, Round, RoundSeat};
+use mine_round::{Round, RoundSeat};
 use std::alloc::{AllocError, Global};
-use std::thread;
 use std::thread::Threads;
 
 /// The number of the phase that finds the pairs.
@@ -118,9 +117,6 @@ pub fn count_pairs<'a, R: Threads + Sync, G: Gate + Sync>(
     ensures { IfOk result (λ pairs. lists_of pairs.items ≡ pairs_in runs.now least) }
 {
     let (round, seats) = Round::new(alloc, cutting.pieces, 0, cutting.workers)?;
-    let collector = Collector::new(alloc, cutting.pieces)?;
-    let back = Vec::with_capacity(alloc, seats.len())?;
-    let lists = Vec::with_capacity(alloc, seats.len())?;
     let pairing = Pairing {
         round: &round,
         pieces: cutting.pieces,
@@ -129,20 +125,20 @@ pub fn count_pairs<'a, R: Threads + Sync, G: Gate + Sync>(
         gate,
     };
     let lent = &pairing;
-    let shares = thread::map_vec(
+    let (seats, values) = by_workers(
         rt,
-        numbered(alloc, seats)?,
+        alloc,
+        seats,
         &|job: (u32, RoundSeat)| -> Share<Vec<(u32, Pairs)>>
             requires { (job.1.round ≡ lent.now.round.now.id) × (job.1.held.claimed ≡ []) × (1 ≤ lent.now.pieces) × (lent.now.round.now.pieces ≡ lent.now.pieces) }
             ensures { IsPairsShare lent.entry.now.round.now lent.entry.now.runs.now lent.entry.now.least lent.entry.now.pieces result }
         { lent.share(alloc, job.0, job.1) },
     )?;
-    let (seats, values) = parted(shares, back, lists);
     let Ok(_) = round.close(seats) else {
         unreachable!()
     };
     let Ok(lists) = values else {
         return Err(AllocError);
     };
-    gathered(alloc, collected(collector, lists))
+    gathered(alloc, collected(alloc, cutting.pieces, lists)?)
 }

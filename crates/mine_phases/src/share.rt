@@ -1,6 +1,6 @@
 //! What the workers of a phase hand back, and what it is together.
 ghost use Rattle.std.specs.Prelude.{◌≡◌, ◌≤◌, ◌<◌, ◌+◌, ◌^◌, ℕ, [], map, vec_len, vec_capacity, MatchResult, Ok, Some, None, length, IfOk, IfSome, IfNone, EachIndex, slice_index};
-ghost use Rattle.mine_phases.specs.Share.{fault_of, worse};
+ghost use Rattle.mine_phases.specs.Share.{AcceptsSeats, ArePartsOfShares, fault_of, worse};
 ghost use Rattle.mine_round.specs.Record.{with_piece, with_end_seen};
 ghost use Rattle.mine_round.specs.Words.{ClaimedBelow};
 
@@ -8,6 +8,8 @@ use crate::gate::Gate;
 use basket_core::MineFault;
 use mine_round::{Round, RoundSeat};
 use std::alloc::{AllocError, Global};
+use std::thread;
+use std::thread::Threads;
 
 /// What a worker hands back: its seat, and what it found for the pieces that it claimed, or why it
 /// stopped.
@@ -18,7 +20,7 @@ pub struct Share<V> {
 }
 
 /// The seats with the numbers of their workers, from 0 on.
-pub fn numbered(alloc: Global, seats: Vec<RoundSeat>) -> Result<Vec<(u32, RoundSeat)>, AllocError>
+fn numbered(alloc: Global, seats: Vec<RoundSeat>) -> Result<Vec<(u32, RoundSeat)>, AllocError>
     requires { vec_len seats < 2 ^ 32 }
     ensures { IfOk result (λ workers. map (λ worker. worker.1) workers.items ≡ seats.items) }
 {
@@ -81,7 +83,7 @@ fn worse(fault: Option<MineFault>, found: MineFault) -> Option<MineFault>
 }
 
 /// The seats of the workers, and the values of all, or the fault to tell where one has a fault.
-pub fn parted<V: Drop>(
+fn parted<V: Drop>(
     shares: Vec<Share<V>>,
     mut seats: Vec<RoundSeat>,
     mut lists: Vec<V>,
@@ -106,4 +108,22 @@ pub fn parted<V: Drop>(
         Some(fault) => (seats, Err(fault)),
         None => (seats, Ok(lists)),
     }
+}
+
+/// Has a worker for each seat do the work, and answers the seats, and the values of all workers, or
+/// the fault to tell where one has a fault.
+pub fn by_workers<R: Threads + Sync, V: Send + Drop, F: Fn((u32, RoundSeat)) -> Share<V> + Sync>(
+    rt: &R,
+    alloc: Global,
+    seats: Vec<RoundSeat>,
+    work: &F,
+) -> Result<(Vec<RoundSeat>, Result<Vec<V>, MineFault>), AllocError>
+    requires few { vec_len seats < 2 ^ 32 }
+    requires accepted { AcceptsSeats F.Fn work.now seats.items }
+    ensures { IfOk result (λ parts. ArePartsOfShares F.Fn work.now (length seats.items) parts.0.items parts.1) }
+{
+    let back = Vec::with_capacity(alloc, seats.len())?;
+    let lists = Vec::with_capacity(alloc, seats.len())?;
+    let shares = thread::map_vec(rt, numbered(alloc, seats)?, work)?;
+    Ok(parted(shares, back, lists))
 }

@@ -9,12 +9,11 @@ ghost use Rattle.mine_round.specs.Record.{unused};
 use crate::cutting::Cutting;
 use crate::gate::Gate;
 use crate::pairs::PHASE;
-use crate::share::{Share, add_counts, claim_piece, numbered, parted};
+use crate::share::{Share, add_counts, by_workers, claim_piece};
 use basket_core::{Coded, MineFault, shard};
 use mine_apriori::{Triangle, pair_count};
 use mine_round::{Round, RoundSeat};
 use std::alloc::{AllocError, Global};
-use std::thread;
 use std::thread::Threads;
 
 /// The phase as its workers see it.
@@ -79,8 +78,6 @@ pub fn count_triangle<'a, R: Threads + Sync, G: Gate + Sync>(
 {
     let counters = pair_count(coded.ranks());
     let (round, seats) = Round::new(alloc, cutting.pieces, counters, cutting.workers)?;
-    let back = Vec::with_capacity(alloc, seats.len())?;
-    let done = Vec::with_capacity(alloc, seats.len())?;
     let counting = Counting {
         round: &round,
         pieces: cutting.pieces,
@@ -88,15 +85,15 @@ pub fn count_triangle<'a, R: Threads + Sync, G: Gate + Sync>(
         gate,
     };
     let lent = &counting;
-    let shares = thread::map_vec(
+    let (seats, ended) = by_workers(
         rt,
-        numbered(alloc, seats)?,
+        alloc,
+        seats,
         &|job: (u32, RoundSeat)| -> Share<()>
             requires { (job.1.round ≡ lent.now.round.now.id) × (job.1.held ≡ unused 1 (length (rank_pairs lent.now.coded.now))) × (1 ≤ lent.now.pieces) × (lent.now.round.now.pieces ≡ lent.now.pieces) × (lent.now.round.now.counters ≡ length (rank_pairs lent.now.coded.now)) }
             ensures { IsLevelShare lent.entry.now.round.now lent.entry.now.coded.now.baskets lent.entry.now.pieces (rank_pairs lent.entry.now.coded.now) result }
         { lent.share(alloc, job.0, job.1) },
     )?;
-    let (seats, ended) = parted(shares, back, done);
     let Ok(totals) = round.close(seats) else {
         unreachable!()
     };

@@ -1,8 +1,8 @@
-use Rattle.std.proofs.Common.{◌≡◌, ℕ, ◌≤◌, ◌<◌, ap, sym, ◌∙◌, subst, arith, map, length, get_or, List, Ok, Err, Option, Some, None, replicate}
+use Rattle.std.proofs.Common.{◌≡◌, refl, ℕ, ◌≤◌, ◌<◌, ap, sym, ◌∙◌, subst, arith, map, length, get_or, List, Ok, Err, Some, None, replicate}
 use Rattle.std.specs.Prelude.{All, Any, IsPermutation, Vec}
 use Rattle.std.specs.List.{flat_map, range_with_len}
 use Rattle.std.specs.Global.{Global}
-use Rattle.std.proofs.lemmas.List.{get_or-map, length-map, length-replicate}
+use Rattle.std.proofs.lemmas.List.{length-map}
 use Rattle.std.proofs.lemmas.List.Elements.{All-map, All-same}
 use Rattle.std.proofs.lemmas.Result.{IfOk-weaker, err_from_is_err_and}
 use Rattle.basket_core.specs.Codes.{Coding, IsCoding, baskets_of, frequent_of_coding}
@@ -25,14 +25,11 @@ use Rattle.mine_phases.proofs.classes.mine_shared.Goals as goal
 abbrev Pieces : Type 0
 Pieces = Share (Vec (ℕ × Vec (Vec Counted Global × ℕ) Global) Global)
 
-pub map_vec-requires-after_bounds : goal.map_vec-requires-after_bounds
-map_vec-requires-after_bounds g c κs within i x below is =
-    let seats = c.in_ok-round.seats.items in
-    let seat : get_or seats i x.1 ≡ x.1 = ap (λ l. get_or l i x.1) (sym c.in_ok-numbered.ensures) ∙ get_or-map (λ worker. worker.1) c.in_ok-numbered.field-0.items i x x.1 below ∙ ap (λ w. w.1) (sym is) in
-    let short : i < length seats = omega (arith, ap length c.in_ok-numbered.ensures, length-map c.in_ok-numbered.field-0.items (λ worker. worker.1)) in
-    let fresh = c.in_ok-round.ensures.unused i x.1 short in (
-      ap (λ (s : SeatView). s.round) (sym seat) ∙ fresh.0,
-      ap (λ (s : SeatView). s.held) (sym seat) ∙ fresh.1,
+pub by_workers-requires-clause-accepted : goal.by_workers-requires-clause-accepted
+by_workers-requires-clause-accepted g c κs within worker i seat below is =
+    let fresh = c.in_ok-round.ensures.unused i seat below in (
+      ap (λ (s : SeatView). s.round) is ∙ fresh.0,
+      ap (λ (s : SeatView). s.held) is ∙ fresh.1,
       c.args.cutting.some_pieces.0,
       c.in_ok-round.ensures.round.0,
       c.in_ok-round.ensures.round.1,
@@ -43,61 +40,61 @@ pub close-requires : goal.close-requires
 close-requires g c = record {
   own =
       let Own : SeatView → Type 0 = λ s. s.round ≡ c.in_ok-round.round.id in
-      All-same Own _ _ c.parted-seats.ensures.seats
-      (All-map Own (λ (s : Pieces). s.seat) c.in_ok-shares.shares.items
-      (λ k d below. (c.in_ok-shares.ensures.each k d (omega (arith, c.in_ok-shares.ensures.len))).1.call.met.own));
+      All-same Own _ _ c.in_ok-seats.ensures.seats
+      (All-map Own (λ (s : Pieces). s.seat) c.in_ok-seats.ensures.shares
+      (λ k d below. (c.in_ok-seats.ensures.each k d below).call.met.1.own));
 }
 
 pub returns-in_err-values-clause-too_many : goal.returns-in_err-values-clause-too_many
 returns-in_err-values-clause-too_many g c most e =
     let coding : Coding = g.M.ClassMiner.coding_of c.args.miner.now in
-    let shares = c.in_ok-shares.shares.items in
+    let shares = c.in_ok-seats.ensures.shares in
     let all : All (IsClassShare c.in_ok-round.round coding (g.M.ClassMiner.is_work c.args.miner.now) c.args.limit c.args.cutting.pieces) shares =
-    λ k d below. (c.in_ok-shares.ensures.each k d (omega (arith, c.in_ok-shares.ensures.len))).1.call.met in
+    λ k d below. (c.in_ok-seats.ensures.each k d below).call.met.1 in
     let p = err_from_is_err_and c.from_residual-in_err-values.result c.from_residual-in_err-values.ensures.1 in
     let both = sym p.1 ∙ e in
     let fault : p.0 ≡ TooMany most = cc in
-    let told : fault_of (map (λ (s : Pieces). s.values) shares) ≡ Some (TooMany most) = rw (c.in_err-values.was ∙ ap Err (sym p.2 ∙ fault)) at c.parted-seats.ensures.fault in
+    let told : fault_of (map (λ (s : Pieces). s.values) shares) ≡ Some (TooMany most) = rw (c.in_err-values.was ∙ ap Err (sym p.2 ∙ fault)) at c.in_ok-seats.ensures.fault in
     let first : 0 < length c.in-Ok.field-0.counters.items = omega (arith, c.in-Ok.ensures.counters, c.in-Ok.field-0.counters.ok, c.in_ok-round.ensures.round.1) in
     subst (λ k. (most ≡ c.args.limit) × (c.args.limit < length (frequent_of_coding k))) c.requires.coding
-    (too_many_are c.in_ok-round.round coding (g.M.ClassMiner.is_work c.args.miner.now) c.args.limit c.args.cutting.pieces shares c.parted-seats.result.0.items most _ c.in-Ok.field-0.claimed
-    c.args.cutting.some_pieces.0 (subst IsCoding (sym c.requires.coding) c.baskets-baskets.ensures.coding) c.class_sizes_add_up.ensures c.parted-seats.ensures.seats all c.in-Ok.ensures.claimed
+    (too_many_are c.in_ok-round.round coding (g.M.ClassMiner.is_work c.args.miner.now) c.args.limit c.args.cutting.pieces shares c.in_ok-seats.seats.items most _ c.in-Ok.field-0.claimed
+    c.args.cutting.some_pieces.0 (subst IsCoding (sym c.requires.coding) c.baskets-baskets.ensures.coding) c.class_sizes_add_up.ensures c.in_ok-seats.ensures.seats all c.in-Ok.ensures.claimed
     (omega (arith, c.in-Ok.ensures.within, c.in_ok-round.ensures.round.0)) (c.in-Ok.ensures.sums 0 first) (c.in-Ok.ensures.greatest 0 first) told)
 
-pub collected-requires-clause-each : goal.collected-requires-clause-each
-collected-requires-clause-each g c =
-    let shares = c.in_ok-shares.shares.items in
+pub collected-requires : goal.collected-requires
+collected-requires g c =
+    let shares = c.in_ok-seats.ensures.shares in
     let lists = c.in_ok-values.values.items in
     let P = MinesPieces (g.M.ClassMiner.coding_of c.args.miner.now) (g.M.ClassMiner.is_work c.args.miner.now) c.args.limit c.args.cutting.pieces in
-    let says : All (Says P) shares = λ k d below. (c.in_ok-shares.ensures.each k d (omega (arith, c.in_ok-shares.ensures.len))).1.call.met.values in
-    let all : map Ok lists ≡ map (λ (s : Pieces). s.values) shares = rw c.in_ok-values.was at c.parted-seats.ensures.lists in
-    let seats = c.parted-seats.ensures.seats in
-    let some : 1 ≤ length shares = omega (arith, c.in_ok-shares.ensures.len, ap length c.in_ok-numbered.ensures, length-map c.in_ok-numbered.field-0.items (λ worker. worker.1), c.in_ok-round.ensures.seats, c.args.cutting.some_workers.0) in
+    let says : All (Says P) shares = λ k d below. (c.in_ok-seats.ensures.each k d below).call.met.1.values in
+    let all : map Ok lists ≡ map (λ (s : Pieces). s.values) shares = rw c.in_ok-values.was at c.in_ok-seats.ensures.lists in
+    let seats = c.in_ok-seats.ensures.seats in
+    let some : 1 ≤ length shares = omega (arith, c.in_ok-seats.ensures.count, c.in_ok-round.ensures.seats, c.args.cutting.some_workers.0) in
     let ended = c.in-Ok.ensures.ended (subst (λ l. Any (λ (s : SeatView). 0 < s.held.past) l) (sym seats) (some_ended P (λ seat values says. says.ended) shares lists some all says)) in
-    let claimed : claimed_by c.parted-seats.result.0.items ≡ flat_map (λ list. pieces_of list.items) lists =
+    let claimed : claimed_by c.in_ok-seats.seats.items ≡ flat_map (λ list. pieces_of list.items) lists =
     ap claimed_by seats ∙ sym (pieces_are_claimed P (λ seat values says. says.claimed) shares lists all says) in
-    let whole : c.in-Ok.field-0.claimed ≡ length c.in_ok-collector.collector = ended ∙ c.in_ok-round.ensures.round.0 ∙ sym (ap length c.in_ok-collector.ensures ∙ length-replicate c.args.cutting.pieces None) in
+    let whole : c.in-Ok.field-0.claimed ≡ c.args.cutting.pieces = ended ∙ c.in_ok-round.ensures.round.0 in
     subst (λ n. IsPermutation (flat_map (λ list. pieces_of list.items) lists) (range_with_len 0 n)) whole
     (subst (λ l. IsPermutation l (range_with_len 0 c.in-Ok.field-0.claimed)) claimed c.in-Ok.ensures.claimed)
 
 -- the classes by piece are the classes of all ranks
-mined_all : (coding : Coding) (is_work : ℕ → ℕ → Type 0) (limit pieces : ℕ) (places : List (Option (Vec (Vec Counted Global × ℕ) Global))) (shares : List Pieces)
-    (lists : List (Vec (ℕ × Vec (Vec Counted Global × ℕ) Global) Global)) (values : List (Vec (Vec Counted Global × ℕ) Global)) → 1 ≤ pieces → places ≡ replicate pieces None → length values ≡ length places
-    → map Ok lists ≡ map (λ share. share.values) shares → All (Says (MinesPieces coding is_work limit pieces)) shares → map Some values ≡ placed places (flat_map (λ list. list.items) lists)
+mined_all : (coding : Coding) (is_work : ℕ → ℕ → Type 0) (limit pieces : ℕ) (shares : List Pieces)
+    (lists : List (Vec (ℕ × Vec (Vec Counted Global × ℕ) Global) Global)) (values : List (Vec (Vec Counted Global × ℕ) Global)) → 1 ≤ pieces → length values ≡ pieces
+    → map Ok lists ≡ map (λ share. share.values) shares → All (Says (MinesPieces coding is_work limit pieces)) shares → map Some values ≡ placed (replicate pieces None) (flat_map (λ list. list.items) lists)
     → AreMined coding is_work (range_with_len 0 (length coding.items)) (flat_map (λ value. value.items) values)
-mined_all coding is_work limit pieces places shares lists values some vacant count all says is =
+mined_all coding is_work limit pieces shares lists values some count all says is =
     let Mined : ℕ × Vec (Vec Counted Global × ℕ) Global → Type 0 = λ value. AreMined coding is_work (ranks_of coding pieces value.0) value.1.items in
-    mined_pieces coding is_work pieces values some (count ∙ ap length vacant ∙ length-replicate pieces None)
-    (λ piece d below. each_value Mined places pieces (flat_map (λ list. list.items) lists) values vacant is
+    mined_pieces coding is_work pieces values some count
+    (λ piece d below. each_value Mined (replicate pieces None) pieces (flat_map (λ list. list.items) lists) values refl is
     (all_values (MinesPieces coding is_work limit pieces) Mined (λ seat values says. says.mined) shares lists all says) piece d below)
 
 pub of_classes-requires : goal.of_classes-requires
 of_classes-requires g c =
     let coding : Coding = g.M.ClassMiner.coding_of c.args.miner.now in
     let is_work = g.M.ClassMiner.is_work c.args.miner.now in
-    let mined = mined_all coding is_work c.args.limit c.args.cutting.pieces c.in_ok-collector.collector c.in_ok-shares.shares.items c.in_ok-values.values.items c.collected.result.items
-    c.args.cutting.some_pieces.0 c.in_ok-collector.ensures (omega (arith, c.collected.ensures.count, c.collected.result.ok)) (rw c.in_ok-values.was at c.parted-seats.ensures.lists)
-    (λ k d below. (c.in_ok-shares.ensures.each k d (omega (arith, c.in_ok-shares.ensures.len))).1.call.met.values) c.collected.ensures.values in
+    let mined = mined_all coding is_work c.args.limit c.args.cutting.pieces c.in_ok-seats.ensures.shares c.in_ok-values.values.items c.in_ok-collected.field-0.items
+    c.args.cutting.some_pieces.0 (omega (arith, c.in_ok-collected.ensures.count, c.in_ok-collected.field-0.ok)) (rw c.in_ok-values.was at c.in_ok-seats.ensures.lists)
+    (λ k d below. (c.in_ok-seats.ensures.each k d below).call.met.1.values) c.in_ok-collected.ensures.values in
     let once = once_of_all coding is_work _ c.class_items_are_all.ensures (subst IsCoding (sym c.requires.coding) c.baskets-baskets.ensures.coding) mined in
     subst (λ (k : Coding). ListsOnce (baskets_of k) k.minimum (flat_map (λ (class : Vec Counted Global). class.items) c.in_ok-classes.classes.items)) c.requires.coding
     (subst (λ (l : List (Vec Counted Global)). ListsOnce (baskets_of coding) coding.minimum (flat_map (λ (class : Vec Counted Global). class.items) l)) (sym c.in_ok-classes.ensures.classes) once)
@@ -106,22 +103,20 @@ pub returns-clause-within : goal.returns-clause-within
 returns-clause-within g c =
     let coding : Coding = g.M.ClassMiner.coding_of c.args.miner.now in
     let pieces = c.args.cutting.pieces in
-    let shares = c.in_ok-shares.shares.items in
+    let shares = c.in_ok-seats.ensures.shares in
     let lists = c.in_ok-values.values.items in
-    let seats = c.parted-seats.result.0.items in
+    let seats = c.in_ok-seats.seats.items in
     let Told : SeatView → Type 0 = ToldAll (piece_size coding pieces) c.args.limit in
-    let all : map Ok lists ≡ map (λ (s : Pieces). s.values) shares = rw c.in_ok-values.was at c.parted-seats.ensures.lists in
+    let all : map Ok lists ≡ map (λ (s : Pieces). s.values) shares = rw c.in_ok-values.was at c.in_ok-seats.ensures.lists in
     let told : All Told (map (λ (s : Pieces). s.seat) shares) = each_seat Told shares lists all
     (λ k d below. IfOk-weaker (get_or shares k d).values _ (λ values. Told (get_or shares k d).seat) (λ values says. record { ended = says.ended; told = says.told; within = says.within })
-    (c.in_ok-shares.ensures.each k d (omega (arith, c.in_ok-shares.ensures.len))).1.call.met.values) in
-    let by_seats : All Told seats = All-same Told _ _ c.parted-seats.ensures.seats told in
+    (c.in_ok-seats.ensures.each k d below).call.met.1.values) in
+    let by_seats : All Told seats = All-same Told _ _ c.in_ok-seats.ensures.seats told in
     let some : 1 ≤ length seats = omega (
       arith,
-      ap length c.parted-seats.ensures.seats,
+      ap length c.in_ok-seats.ensures.seats,
       length-map shares (λ (s : Pieces). s.seat),
-      c.in_ok-shares.ensures.len,
-      ap length c.in_ok-numbered.ensures,
-      length-map c.in_ok-numbered.field-0.items (λ worker. worker.1),
+      c.in_ok-seats.ensures.count,
       c.in_ok-round.ensures.seats,
       c.args.cutting.some_workers.0,
     ) in
@@ -138,7 +133,7 @@ pub returns-clause-work : goal.returns-clause-work
 returns-clause-work g c =
     let coding : Coding = g.M.ClassMiner.coding_of c.args.miner.now in
     let is_work = g.M.ClassMiner.is_work c.args.miner.now in
-    let mined = mined_all coding is_work c.args.limit c.args.cutting.pieces c.in_ok-collector.collector c.in_ok-shares.shares.items c.in_ok-values.values.items c.collected.result.items
-    c.args.cutting.some_pieces.0 c.in_ok-collector.ensures (omega (arith, c.collected.ensures.count, c.collected.result.ok)) (rw c.in_ok-values.was at c.parted-seats.ensures.lists)
-    (λ k d below. (c.in_ok-shares.ensures.each k d (omega (arith, c.in_ok-shares.ensures.len))).1.call.met.values) c.collected.ensures.values in
+    let mined = mined_all coding is_work c.args.limit c.args.cutting.pieces c.in_ok-seats.ensures.shares c.in_ok-values.values.items c.in_ok-collected.field-0.items
+    c.args.cutting.some_pieces.0 (omega (arith, c.in_ok-collected.ensures.count, c.in_ok-collected.field-0.ok)) (rw c.in_ok-values.was at c.in_ok-seats.ensures.lists)
+    (λ k d below. (c.in_ok-seats.ensures.each k d below).call.met.1.values) c.in_ok-collected.ensures.values in
     subst (λ (k : Coding). IsWorkOfAll is_work (length k.items) c.in_ok-classes.work) c.requires.coding (work_of_all coding is_work _ _ mined c.in_ok-classes.ensures.work)

@@ -1,7 +1,8 @@
-use Rattle.std.proofs.Common.{◌≡◌, ap, sym, ◌∙◌, subst, length, Some, arith}
-use Rattle.std.specs.List.{flat_map}
+use Rattle.std.proofs.Common.{◌≡◌, ap, sym, ◌∙◌, subst, length, None, Some, replicate, arith}
+use Rattle.std.specs.Prelude.{IsPermutation}
+use Rattle.std.specs.List.{flat_map, range_with_len}
 use Rattle.std.specs.Vec.Iter.{into_iter_items}
-use Rattle.std.proofs.lemmas.List.{length-map, nil_from_length}
+use Rattle.std.proofs.lemmas.List.{length-map, length-replicate, nil_from_length}
 use Rattle.mine_phases.specs.Placed.{placed}
 use Rattle.mine_phases.specs.Share.{pieces_of}
 use Rattle.mine_phases.proofs.Placing.{AreAll, all_at_first, room_for_front, all_behind, placed-append, length-placed, none_vacant}
@@ -10,12 +11,16 @@ use Rattle.mine_phases.proofs.placed.collected.Goals as goal
 pub loop-list-init : goal.loop-list-init
 loop-list-init g c =
     let all = c.into_iter-list-iterator.ensures.into_iter_gives.0 in
+    let places = c.in_ok-collector.collector in
+    let vacant = c.in_ok-collector.ensures in
+    let count : length places ≡ c.args.pieces = ap length vacant ∙ length-replicate c.args.pieces None in
     record {
       can = tt;
       ends = tt;
-      all = subst (λ l. AreAll c.args.collector (flat_map (λ list. pieces_of list.items) l)) (sym all)
-          (all_at_first c.args.collector (flat_map (λ list. pieces_of list.items) c.args.lists.items) c.requires.vacant c.requires.each);
-      rest = ap (λ l. placed c.args.collector (flat_map (λ list. list.items) l)) all;
+      all = subst (λ l. AreAll places (flat_map (λ list. pieces_of list.items) l)) (sym all)
+          (all_at_first places (flat_map (λ list. pieces_of list.items) c.args.lists.items) (vacant ∙ ap (λ n. replicate n None) (sym count))
+          (subst (λ n. IsPermutation (flat_map (λ list. pieces_of list.items) c.args.lists.items) (range_with_len 0 n)) (sym count) c.requires));
+      rest = ap (λ l. placed places (flat_map (λ list. list.items) l)) all ∙ ap (λ p. placed p (flat_map (λ list. list.items) c.args.lists.items)) vacant;
     }
 
 pub put_all-requires : goal.put_all-requires
@@ -47,9 +52,9 @@ unreachable-requires g c =
 
 pub returns-clause-count : goal.returns-clause-count
 returns-clause-count g c =
-    let places = c.loop-list.collector in
     let left = flat_map (λ list. list.items) (into_iter_items c.loop-list.list-iterator) in
     let all = flat_map (λ list. list.items) c.args.lists.items in
-    let same : length c.in-Ok.values.items ≡ length c.args.collector =
-    sym (length-map c.in-Ok.values.items Some) ∙ ap length c.in-Ok.ensures.values ∙ sym (length-placed places left) ∙ ap length c.loop-list.invariant.rest ∙ length-placed c.args.collector all in
-    omega (arith, c.in-Ok.values.ok)
+    let same : length c.in-Ok.values.items ≡ c.args.pieces =
+    sym (length-map c.in-Ok.values.items Some) ∙ ap length c.in-Ok.ensures.values ∙ sym (length-placed c.loop-list.collector left) ∙ ap length c.loop-list.invariant.rest
+    ∙ length-placed (replicate c.args.pieces None) all ∙ length-replicate c.args.pieces None in
+    omega (arith, same, c.in-Ok.values.ok)

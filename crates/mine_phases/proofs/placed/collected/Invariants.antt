@@ -1,4 +1,4 @@
-use Rattle.std.proofs.Common.{◌≡◌}
+use Rattle.std.proofs.Common.{◌≡◌, None, replicate}
 use Rattle.std.specs.List.{flat_map}
 use Rattle.std.specs.Vec.Iter.{into_iter_items}
 use Rattle.mine_phases.specs.Placed.{placed}
@@ -11,5 +11,5 @@ invariant-loop-list g l = record {
   can : (goal.iterator-loop-list g).can_next l.list-iterator;
   ends : (goal.iterator-loop-list g).is_finite l.list-iterator;
   all : AreAll l.collector (flat_map (λ list. pieces_of list.items) (into_iter_items l.list-iterator));
-  rest : placed l.collector (flat_map (λ list. list.items) (into_iter_items l.list-iterator)) ≡ placed l.fn.collector (flat_map (λ list. list.items) l.fn.lists.items);
+  rest : placed l.collector (flat_map (λ list. list.items) (into_iter_items l.list-iterator)) ≡ placed (replicate l.fn.pieces None) (flat_map (λ list. list.items) l.fn.lists.items);
 }

@@ -1,6 +1,5 @@
-use Rattle.std.proofs.Common.{◌≡◌, ◌≤◌, ◌<◌, ap, sym, ◌∙◌, subst, arith, map, length, get_or, Ok}
+use Rattle.std.proofs.Common.{◌≡◌, ◌≤◌, ap, sym, ◌∙◌, subst, arith, map, length, Ok}
 use Rattle.std.specs.Prelude.{IfOk}
-use Rattle.std.proofs.lemmas.List.{get_or-map, length-map}
 use Rattle.std.proofs.lemmas.List.Elements.{All-map, All-same}
 use Rattle.mine_apriori.specs.Triangle.{AreSupports, all_pairs}
 use Rattle.mine_round.specs.Record.{unused}
@@ -11,15 +10,12 @@ use Rattle.mine_phases.proofs.Supports.{shares_are_supports}
 use Rattle.mine_phases.proofs.triangle.count_triangle.Goals as goal
 use Rattle.mine_phases.proofs.triangle.count_triangle.Goals.{in-Ok-ended, in-Err}
 
-pub map_vec-requires-after_bounds : goal.map_vec-requires-after_bounds
-map_vec-requires-after_bounds g c κs within i x below is =
-    let seats = c.in_ok-round.seats.items in
-    let seat : get_or seats i x.1 ≡ x.1 = ap (λ l. get_or l i x.1) (sym c.in_ok-numbered.ensures) ∙ get_or-map (λ worker. worker.1) c.in_ok-numbered.field-0.items i x x.1 below ∙ ap (λ w. w.1) (sym is) in
-    let short : i < length seats = omega (arith, ap length c.in_ok-numbered.ensures, length-map c.in_ok-numbered.field-0.items (λ worker. worker.1)) in
-    let fresh = c.in_ok-round.ensures.unused i x.1 short in
+pub by_workers-requires-clause-accepted : goal.by_workers-requires-clause-accepted
+by_workers-requires-clause-accepted g c κs within worker i seat below is =
+    let fresh = c.in_ok-round.ensures.unused i seat below in
     let counters = c.pair_count-counters.ensures.pairs ∙ ap (λ n. length (all_pairs n)) c.ranks.ensures in (
-      ap (λ (s : SeatView). s.round) (sym seat) ∙ fresh.0,
-      ap (λ (s : SeatView). s.held) (sym seat) ∙ fresh.1 ∙ ap (unused 1) counters,
+      ap (λ (s : SeatView). s.round) is ∙ fresh.0,
+      ap (λ (s : SeatView). s.held) is ∙ fresh.1 ∙ ap (unused 1) counters,
       c.args.cutting.some_pieces.0,
       c.in_ok-round.ensures.round.0,
       c.in_ok-round.ensures.round.1 ∙ counters,
@@ -29,9 +25,9 @@ pub close-requires : goal.close-requires
 close-requires g c = record {
   own =
       let Own : SeatView → Type 0 = λ s. s.round ≡ c.in_ok-round.round.id in
-      All-same Own _ _ c.parted-seats.ensures.seats
-      (All-map Own (λ (s : Share (Unit {0})). s.seat) c.in_ok-shares.shares.items
-      (λ k d below. (c.in_ok-shares.ensures.each k d (omega (arith, c.in_ok-shares.ensures.len))).1.call.met.own));
+      All-same Own _ _ c.in_ok-seats.ensures.seats
+      (All-map Own (λ (s : Share (Unit {0})). s.seat) c.in_ok-seats.ensures.shares
+      (λ k d below. (c.in_ok-seats.ensures.each k d below).call.met.1.own));
 }
 
 pub returns : goal.returns
@@ -39,16 +35,16 @@ returns g c =
     let baskets = c.args.coded.now.baskets in
     let count = length c.args.coded.now.items in
     let sets = rank_pairs c.args.coded.now in
-    let shares = c.in_ok-shares.shares.items in
+    let shares = c.in_ok-seats.ensures.shares in
     elim c.match-ended.branch [
       | in-Ok-ended w ↦
-          (let all : map Ok w.in-Ok-ended.field-0.items ≡ map (λ (s : Share (Unit {0})). s.values) shares = rw w.in-Ok-ended.is at c.parted-seats.ensures.lists in
-          let some : 1 ≤ length shares = omega (arith, c.in_ok-shares.ensures.len, ap length c.in_ok-numbered.ensures, length-map c.in_ok-numbered.field-0.items (λ worker. worker.1), c.in_ok-round.ensures.seats, c.args.cutting.some_workers.0) in
+          (let all : map Ok w.in-Ok-ended.field-0.items ≡ map (λ (s : Share (Unit {0})). s.values) shares = rw w.in-Ok-ended.is at c.in_ok-seats.ensures.lists in
+          let some : 1 ≤ length shares = omega (arith, c.in_ok-seats.ensures.count, c.in_ok-round.ensures.seats, c.args.cutting.some_workers.0) in
           let counters = c.in_ok-round.ensures.round.1 ∙ c.pair_count-counters.ensures.pairs ∙ ap (λ n. length (all_pairs n)) c.ranks.ensures in
           let long : length c.in-Ok.totals.counters.items ≡ length sets = omega (arith, c.in-Ok.ensures.counters, c.in-Ok.totals.counters.ok, counters) in
           subst (λ r. IfOk r (λ supports. AreSupports baskets count supports.items)) (sym w.result-is)
-          (shares_are_supports baskets c.args.cutting.pieces sets shares w.in-Ok-ended.field-0.items c.parted-seats.result.0.items c.in-Ok.totals.claimed c.in-Ok.totals.counters.items
-          c.args.cutting.some_pieces.0 some all (λ k d below. (c.in_ok-shares.ensures.each k d (omega (arith, c.in_ok-shares.ensures.len))).1.call.met.values)
-          c.parted-seats.ensures.seats (λ any. c.in-Ok.ensures.ended any ∙ c.in_ok-round.ensures.round.0) c.in-Ok.ensures.claimed long (λ k below. c.in-Ok.ensures.sums k below)))
+          (shares_are_supports baskets c.args.cutting.pieces sets shares w.in-Ok-ended.field-0.items c.in_ok-seats.seats.items c.in-Ok.totals.claimed c.in-Ok.totals.counters.items
+          c.args.cutting.some_pieces.0 some all (λ k d below. (c.in_ok-seats.ensures.each k d below).call.met.1.values)
+          c.in_ok-seats.ensures.seats (λ any. c.in-Ok.ensures.ended any ∙ c.in_ok-round.ensures.round.0) c.in-Ok.ensures.claimed long (λ k below. c.in-Ok.ensures.sums k below)))
       | in-Err w ↦ rw w.result-is tt
     ]
