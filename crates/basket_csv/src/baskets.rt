@@ -73,8 +73,27 @@ impl<S: BuildHasher> Baskets<S> {
         }
     }
 
+    /// Adds the baskets of all records but the header, up to the first with a fault.
+    pub fn add_all(
+        &mut self,
+        weighted: bool,
+        header: bool,
+        records: &mut Records<'_>,
+    ) -> Result<(), ReadFault>
+        requires reading { IsReading records.old }
+        requires fresh { records_taken records.old ≡ 0 }
+        ensures fault { let found = fault_from (basket_fault weighted) (first_number header) (behind_header header (records_left records.old)) in
+            MatchResult result (λ _. found ≡ None) (λ fault. Tells fault found) }
+        ensures read { HasRead self.old weighted [] → OnOk result (HasRead self.new weighted (behind_header header (records_left records.old))) }
+    {
+        if !records.pass_header(header)? {
+            return Ok(());
+        }
+        self.add_left(weighted, records)
+    }
+
     /// Adds the baskets of the records that are left, up to the first with a fault.
-    pub fn add_all(&mut self, weighted: bool, records: &mut Records<'_>) -> Result<(), ReadFault>
+    fn add_left(&mut self, weighted: bool, records: &mut Records<'_>) -> Result<(), ReadFault>
         requires { IsReading records.old }
         ensures fault { let found = fault_from (basket_fault weighted) (records_taken records.old + 1) (records_left records.old) in
             MatchResult result (λ _. found ≡ None) (λ fault. Tells fault found) }
@@ -117,9 +136,6 @@ pub fn say_baskets<S: BuildHasher + Drop>(
 {
     let mut baskets = Baskets::new(alloc, hasher);
     let mut records = Records::new(alloc, bytes, separator);
-    if !records.pass_header(header)? {
-        return baskets.finish();
-    }
-    baskets.add_all(weighted, &mut records)?;
+    baskets.add_all(weighted, header, &mut records)?;
     baskets.finish()
 }

@@ -133,8 +133,22 @@ impl<S: BuildHasher> Pairs<S> {
         self.add_pair(trim(id), name)
     }
 
+    /// Adds the pairs of all records but the header, up to the first with a fault.
+    pub fn add_all(&mut self, header: bool, records: &mut Records<'_>) -> Result<(), ReadFault>
+        requires reading { IsReading records.old }
+        requires fresh { records_taken records.old ≡ 0 }
+        ensures fault { let found = fault_from pair_fault (first_number header) (behind_header header (records_left records.old)) in
+            MatchResult result (λ _. found ≡ None) (λ fault. Tells fault found) }
+        ensures read { HasPairs self.old [] → OnOk result (HasPairs self.new (pairs_of (behind_header header (records_left records.old)))) }
+    {
+        if !records.pass_header(header)? {
+            return Ok(());
+        }
+        self.add_left(records)
+    }
+
     /// Adds the pairs of the records that are left, up to the first with a fault.
-    pub fn add_all(&mut self, records: &mut Records<'_>) -> Result<(), ReadFault>
+    fn add_left(&mut self, records: &mut Records<'_>) -> Result<(), ReadFault>
         requires { IsReading records.old }
         ensures fault { let found = fault_from pair_fault (records_taken records.old + 1) (records_left records.old) in
             MatchResult result (λ _. found ≡ None) (λ fault. Tells fault found) }
@@ -179,9 +193,6 @@ pub fn say_pairs<S: BuildHasher + Copy + Drop>(
 {
     let mut pairs = Pairs::new(alloc, hasher);
     let mut records = Records::new(alloc, bytes, separator);
-    if !records.pass_header(header)? {
-        return pairs.finish();
-    }
-    pairs.add_all(&mut records)?;
+    pairs.add_all(header, &mut records)?;
     pairs.finish()
 }

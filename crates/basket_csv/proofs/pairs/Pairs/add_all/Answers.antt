@@ -1,23 +1,25 @@
-use Rattle.std.proofs.Common.{◌∙◌, ◌++◌, ◌∷◌, []}
-use Rattle.csv.specs.Records.{fields_of}
-use Rattle.basket_csv.specs.Csv.{pair_fault}
-use Rattle.basket_csv.specs.Records.{records_left, records_taken, record_read}
-use Rattle.basket_csv.proofs.BasketLemmas.{faults_go_on, done_more}
+use Rattle.std.proofs.Common.{sym, ap, ap₂, ◌∙◌, ◌≡◌, cond, [], subst, None}
+use Rattle.std.specs.Prelude.{MatchResult, OnOk}
+use Rattle.basket_read.specs.Text.{Tells}
+use Rattle.basket_csv.specs.Pairs.{HasPairs}
+use Rattle.basket_csv.specs.Csv.{behind_header, first_number, pair_fault, pairs_of, fault_from}
+use Rattle.basket_csv.specs.Records.{records_left}
 use Rattle.basket_csv.proofs.pairs.Pairs.add_all.Goals as goal
 
-pub rows-preserved : goal.rows-preserved
-rows-preserved g c =
-    let inv = c.rows.invariant in
-    let a = c.in_ok-advance.ensures in
-    let r = c.advance.new.self in
+pub returns-then-not-branch : goal.returns-then-not-branch
+returns-then-not-branch g c =
+    let none : behind_header c.args.header (records_left c.args.records.now) ≡ [] = c.in_ok-pass_header.ensures.left ∙ ap (λ b. cond b (records_left c.pass_header.new.self) []) c.if-not-branch.true in
     record {
-      reading = a.reading c.if-branch.true;
-      faults = inv.faults ∙ faults_go_on pair_fault (records_taken c.rows.records) (records_taken r) c.taken.result (records_left c.rows.records) (records_left r)
-          (fields_of c.row.result.now) (record_read r) c.in_ok-advance.field-0 c.if-branch.true a.left a.taken c.taken.ensures c.row.ensures c.in_ok-add.ensures.fault;
-      read = λ rows h.
-          let (done, has, all) = inv.read rows h in (
-            done ++ fields_of c.row.result.now ∷ [],
-            c.in_ok-add.ensures.read done has,
-            done_more (rows ++ records_left c.args.records.now) done (records_left c.rows.records) (records_left r) (fields_of c.row.result.now) (record_read r) c.in_ok-advance.field-0 c.if-branch.true a.left c.row.ensures all,
-          );
+      fault = ap (fault_from pair_fault (first_number c.args.header)) none;
+      read = λ has. subst (λ rows. HasPairs c.args.self.now (pairs_of rows)) (sym none) has;
+    }
+
+pub returns : goal.returns
+returns g c =
+    let rows = records_left c.pass_header.new.self in
+    let all : behind_header c.args.header (records_left c.args.records.now) ≡ rows = c.in_ok-pass_header.ensures.left ∙ ap (λ b. cond b rows []) c.if-not-branch.false in
+    let same = ap₂ (fault_from pair_fault) (c.in_ok-pass_header.ensures.number c.if-not-branch.false) (sym all) in
+    record {
+      fault = subst (λ found. MatchResult c.add_left.result (λ _. found ≡ None) (λ fault. Tells fault found)) same c.add_left.ensures.fault;
+      read = λ has. subst (λ rows. OnOk c.add_left.result (HasPairs c.add_left.new.self (pairs_of rows))) (sym all) (c.add_left.ensures.read [] has);
     }

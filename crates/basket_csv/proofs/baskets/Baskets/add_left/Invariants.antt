@@ -2,7 +2,7 @@ use Rattle.std.proofs.Common.{◌≡◌, ◌+◌, ◌++◌, ℕ, List, length}
 use Rattle.basket_csv.specs.Csv.{basket_fault, fault_from}
 use Rattle.basket_csv.specs.Records.{records_left, records_taken, IsReading}
 use Rattle.basket_csv.specs.Baskets.{HasRead}
-use Rattle.basket_csv.proofs.baskets.Baskets.add_all.Given as goal
+use Rattle.basket_csv.proofs.baskets.Baskets.add_left.Given as goal
 
 abbrev pub invariant-rows : goal.invariant-rows
 invariant-rows g l = record {
