@@ -38,7 +38,7 @@ const NINE_BASKETS: &[u8] = b"1 2 5\n2 4\n2 3\n1 2 4\n1 3\n2 3\n1 3\n1 2 3 5\n1 
 
 const NINE_ITEMS: &[u8] = b"1 (6)\n2 (7)\n3 (6)\n4 (2)\n5 (2)\n";
 
-const MINERS: [(&str, Miner); 5] = [
+const MINERS: &[(&str, Miner)] = &[
     ("apriori", Miner::Apriori),
     ("eclat", Miner::Eclat),
     ("eclat-diff", Miner::EclatDiff),
@@ -110,6 +110,36 @@ fn ran<R: Threads + Sync>(
     let mut writer = MemSink::new(alloc, 300, 100, false)?;
     let result = run_words(rt, alloc, words, &mut reader, &mut writer)?;
     Ok((writer, result))
+}
+
+/// Asserts that the words write this for the input.
+fn assert_writes<R: Threads + Sync + Abort>(
+    rt: &R,
+    alloc: Global,
+    words: &[&str],
+    input: &[u8],
+    want: &[u8],
+) -> Result<(), Fail> {
+    let (writer, result) = ran(rt, alloc, words, input)?;
+    assert_eq!(rt; result, Ok(()), "{words:?}");
+    assert_eq!(rt; writer.bytes(), want, "{words:?}");
+    Ok(())
+}
+
+/// Asserts that the words write nothing for the input, and what the fault says.
+fn assert_refuses<R: Threads + Sync + Abort>(
+    rt: &R,
+    alloc: Global,
+    words: &[&str],
+    input: &[u8],
+    fault: RunFault,
+    text: &str,
+) -> Result<(), Fail> {
+    let (writer, result) = ran(rt, alloc, words, input)?;
+    assert_eq!(rt; result, Err(fault), "{words:?}");
+    assert!(rt; writer.bytes().is_empty(), "{words:?}");
+    assert_eq!(rt; fault.to_string(alloc)?.as_str(), text);
+    Ok(())
 }
 
 /// The fault of words that make no plan.

@@ -62,14 +62,14 @@ fn conditional(
 #[test]
 fn conditional_databases_of_the_nine_baskets(rt: HostRuntime) -> Result<(), Fail> {
     let alloc = rt.alloc();
-    let wanted: [(u32, &[u32], &str); 5] = [
+    let wanted: &[(u32, &[u32], &str)] = &[
         (0, &[], "(7) "),
         (1, &[0], "(2) 0 (4) "),
         (2, &[0, 1], "0 (2) 0 1 (2) 1 (2) "),
         (3, &[0], "0 (2) "),
         (4, &[0, 1], "0 1 (2) "),
     ];
-    for (rank, ranks, want) in wanted {
+    for &(rank, ranks, want) in wanted {
         let found = conditional(alloc, ordered(alloc, NINE_BASKETS)?, rank, 2)?;
         assert_eq!(rt; found.ranks(), ranks, "of {rank}");
         assert_eq!(rt;

@@ -38,7 +38,7 @@ fn is(read: &(Database, Names), rows: &[Row], names: &[&str]) -> bool {
 
 #[test]
 fn baskets_of_names(rt: HostRuntime) -> Result<(), Fail> {
-    let rows: [(&[u8], u8, bool, &[Row], &[&str]); 11] = [
+    let rows: &[(&[u8], u8, bool, &[Row], &[&str])] = &[
         (b"", b',', false, &[], &[]),
         (
             b"\"semi, skim\", bread,,\n\"semi, skim\", bread,,\n",
@@ -87,7 +87,7 @@ fn baskets_of_names(rt: HostRuntime) -> Result<(), Fail> {
             &["z", "é", "€", "𝄞"],
         ),
     ];
-    for (text, sep, header, baskets, names) in rows {
+    for &(text, sep, header, baskets, names) in rows {
         for piece in [1, 3, 65_536] {
             let mut source = MemSource::new(text, piece, None);
             let read = known(read_baskets(&rt, rt.alloc(), &mut source, sep, header, false))?;
@@ -115,7 +115,7 @@ fn baskets_of_names(rt: HostRuntime) -> Result<(), Fail> {
 
 #[test]
 fn weighted_baskets(rt: HostRuntime) -> Result<(), Fail> {
-    let rows: [(&[u8], &[Row], &[&str]); 3] = [
+    let rows: &[(&[u8], &[Row], &[&str])] = &[
         (
             b"2,bread,milk\n1,bread\n",
             &[(&[0, 1], 2), (&[0], 1)],
@@ -124,7 +124,7 @@ fn weighted_baskets(rt: HostRuntime) -> Result<(), Fail> {
         (b" 007 , 2\n4294967295\n", &[(&[0], 7)], &["2"]),
         (b"4294967295,a,a\n", &[(&[0], 4_294_967_295)], &["a"]),
     ];
-    for (text, baskets, names) in rows {
+    for &(text, baskets, names) in rows {
         let mut source = MemSource::new(text, 65_536, None);
         let read = known(read_baskets(&rt, rt.alloc(), &mut source, b',', false, true))?;
         assert!(rt;
@@ -137,7 +137,7 @@ fn weighted_baskets(rt: HostRuntime) -> Result<(), Fail> {
 
 #[test]
 fn baskets_by_id(rt: HostRuntime) -> Result<(), Fail> {
-    let rows: [(&[u8], bool, &[Row], &[&str]); 5] = [
+    let rows: &[(&[u8], bool, &[Row], &[&str])] = &[
         (b" a,milk\na ,milk\n", false, &[(&[0], 1)], &["milk"]),
         (
             b"b,milk\na,bread\nb,bread\n",
@@ -159,7 +159,7 @@ fn baskets_by_id(rt: HostRuntime) -> Result<(), Fail> {
         ),
         (b"id,name", true, &[], &[]),
     ];
-    for (text, header, baskets, names) in rows {
+    for &(text, header, baskets, names) in rows {
         let mut source = MemSource::new(text, 65_536, None);
         let read = known(read_single(&rt, rt.alloc(), &mut source, b',', header))?;
         assert!(rt;
@@ -178,7 +178,7 @@ fn baskets_by_id(rt: HostRuntime) -> Result<(), Fail> {
 
 #[test]
 fn faults_of_baskets(rt: HostRuntime) -> Result<(), Fail> {
-    let rows: [(&[u8], bool, bool, ReadFault); 9] = [
+    let rows: &[(&[u8], bool, bool, ReadFault)] = &[
         (b"a\n\xFF\n", false, false, ReadFault::NotText { nth: 2 }),
         (
             b"a\n\n\n\xFF\n",
@@ -199,7 +199,7 @@ fn faults_of_baskets(rt: HostRuntime) -> Result<(), Fail> {
         (b"x,\xFF\n", false, true, ReadFault::NotText { nth: 1 }),
         (b"\xFF,a\n", false, true, ReadFault::NotText { nth: 1 }),
     ];
-    for (text, header, weight, fault) in rows {
+    for &(text, header, weight, fault) in rows {
         let mut source = MemSource::new(text, 65_536, None);
         let read = known(read_baskets(&rt, rt.alloc(), &mut source, b',', header, weight))?;
         assert_eq!(rt; read.err(), Some(fault), "{text:?}");
@@ -209,7 +209,7 @@ fn faults_of_baskets(rt: HostRuntime) -> Result<(), Fail> {
 
 #[test]
 fn faults_of_pairs(rt: HostRuntime) -> Result<(), Fail> {
-    let rows: [(&[u8], ReadFault); 5] = [
+    let rows: &[(&[u8], ReadFault)] = &[
         (
             b"b,milk\na,bread\nb,bread\na\n",
             ReadFault::ShortRecord { nth: 4 },
@@ -219,7 +219,7 @@ fn faults_of_pairs(rt: HostRuntime) -> Result<(), Fail> {
         (b"a,\xFF\n", ReadFault::NotText { nth: 1 }),
         (b"a\n\xFF,\n", ReadFault::ShortRecord { nth: 1 }),
     ];
-    for (text, fault) in rows {
+    for &(text, fault) in rows {
         let mut source = MemSource::new(text, 65_536, None);
         let read = known(read_single(&rt, rt.alloc(), &mut source, b',', false))?;
         assert_eq!(rt; read.err(), Some(fault), "{text:?}");
@@ -239,13 +239,13 @@ fn heavy_text(alloc: Global, last: &[u8]) -> Result<Vec<u8>, AllocError> {
 
 #[test]
 fn weights_add_up(rt: HostRuntime) -> Result<(), Fail> {
-    let rows: [(&[u8], Result<u64, ReadFault>); 4] = [
+    let rows: &[(&[u8], Result<u64, ReadFault>)] = &[
         (b"255,b", Ok(1_099_511_627_775)),
         (b"256,b", Err(ReadFault::Heavy)),
         (b"256\n255,b", Ok(1_099_511_627_775)),
         (b"256,b\n0", Err(ReadFault::Weight { nth: 258 })),
     ];
-    for (last, answer) in rows {
+    for &(last, answer) in rows {
         let text = heavy_text(rt.alloc(), last)?;
         let mut source = MemSource::new(&text, 65_536, None);
         let read = known(read_baskets(&rt, rt.alloc(), &mut source, b',', false, true))?;

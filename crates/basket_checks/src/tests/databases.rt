@@ -1,12 +1,11 @@
-use super::{NINE_BASKETS, database};
+use super::{NINE_BASKETS, Row, database, has};
 use basket_core::{Itemset, count_items, support};
 use std::test::Fail;
 
 #[test]
 fn merged_baskets(rt: HostRuntime) -> Result<(), Fail> {
-    let database = database(rt.alloc(), NINE_BASKETS)?;
-    let merged = database.merged(rt.alloc())?;
-    let want: [(&[u32], u64); 7] = [
+    let merged = database(rt.alloc(), NINE_BASKETS)?.merged(rt.alloc())?;
+    let want: &[Row] = &[
         (&[1, 2, 5], 1),
         (&[2, 4], 1),
         (&[2, 3], 2),
@@ -15,11 +14,7 @@ fn merged_baskets(rt: HostRuntime) -> Result<(), Fail> {
         (&[1, 2, 3, 5], 1),
         (&[1, 2, 3], 1),
     ];
-    assert_eq!(rt; merged.len(), 7);
-    for (place, (items, weight)) in merged.baskets().iter().zip(want) {
-        assert_eq!(rt; place.basket.items(), items);
-        assert_eq!(rt; place.weight, weight);
-    }
+    assert!(rt; has(&merged, want));
     assert_eq!(rt; merged.total(), 9);
     Ok(())
 }

@@ -6,7 +6,7 @@ use std::test::Fail;
 #[test]
 fn depths(rt: HostRuntime) -> Result<(), Fail> {
     let database = database(rt.alloc(), NINE_BASKETS)?;
-    let cases = [
+    let cases = &[
         (2, 1, true),
         (2, 2, true),
         (2, 3, true),
@@ -15,7 +15,7 @@ fn depths(rt: HostRuntime) -> Result<(), Fail> {
         (3, 3, false),
         (8, 1, false),
     ];
-    for (least, depth, want) in cases {
+    for &(least, depth, want) in cases {
         let coded = coded_at(rt.alloc(), &database, Minimum::Count(least))?;
         if depth > 0 {
             assert_eq!(rt;

@@ -14,7 +14,7 @@ fn byte(line: u32, byte: u8) -> ReadFault {
 
 #[test]
 fn good_texts(rt: HostRuntime) -> Result<(), Fail> {
-    let rows: [(&[u8], &[Row]); 7] = [
+    let rows: &[(&[u8], &[Row])] = &[
         (b"", &[]),
         (b"\xEF\xBB\xBF\r\n \n", &[]),
         (b"7 7 007\n", &[(&[7], 1)]),
@@ -34,7 +34,7 @@ fn good_texts(rt: HostRuntime) -> Result<(), Fail> {
         (b"9x \n1\n", &[(&[1], 1)]),
         (b"\t10 2", &[(&[2, 10], 1)]),
     ];
-    for (text, baskets) in rows {
+    for &(text, baskets) in rows {
         for block in BLOCKS {
             let mut source = MemSource::new(text, 65_536, None);
             let database = read_fimi_by(rt.alloc(), &mut source, block)
@@ -48,7 +48,7 @@ fn good_texts(rt: HostRuntime) -> Result<(), Fail> {
 
 #[test]
 fn bad_texts(rt: HostRuntime) {
-    let rows: [(&[u8], ReadFault); 13] = [
+    let rows: &[(&[u8], ReadFault)] = &[
         (b"4294967296", ReadFault::Number { line: 1 }),
         (b"99999999999x", ReadFault::Number { line: 1 }),
         (b"18446744073709551617", ReadFault::Number { line: 1 }),
@@ -63,7 +63,7 @@ fn bad_texts(rt: HostRuntime) {
         (b"3x 4x", byte(1, 0x78)),
         (b"x 1", byte(1, 0x78)),
     ];
-    for (text, fault) in rows {
+    for &(text, fault) in rows {
         for block in BLOCKS {
             let mut source = MemSource::new(text, 65_536, None);
             let outcome = read_fimi_by(rt.alloc(), &mut source, block);
@@ -74,11 +74,11 @@ fn bad_texts(rt: HostRuntime) {
 
 #[test]
 fn good_pieces(rt: HostRuntime) -> Result<(), Fail> {
-    let rows: [(&[&[u8]], Row); 2] = [
+    let rows: &[(&[&[u8]], Row)] = &[
         (&[b"1", b"2 3", b"\n"], (&[3, 12], 1)),
         (&[b"\xEF", b"", b"\xBB\xBF7"], (&[7], 1)),
     ];
-    for (pieces, basket) in rows {
+    for &(pieces, basket) in rows {
         let mut parts = FimiParts::new(rt.alloc());
         for piece in pieces {
             assert!(rt; parts.feed(piece).is_ok());
@@ -93,12 +93,12 @@ fn good_pieces(rt: HostRuntime) -> Result<(), Fail> {
 fn bad_pieces(rt: HostRuntime) {
     let half = byte(1, 0xEF);
     let sign = byte(1, 0x2D);
-    let rows: [(&[&[u8]], &[Option<ReadFault>], ReadFault); 3] = [
+    let rows: &[(&[&[u8]], &[Option<ReadFault>], ReadFault)] = &[
         (&[b"\xEF", b"\xBB", b"1"], &[None, None, Some(half)], half),
         (&[b"\xEF"], &[None], half),
         (&[b"3 -", b"5"], &[Some(sign), Some(sign)], sign),
     ];
-    for (pieces, answers, last) in rows {
+    for &(pieces, answers, last) in rows {
         let mut parts = FimiParts::new(rt.alloc());
         for (piece, answer) in pieces.iter().zip(answers) {
             assert_eq!(rt; parts.feed(piece).err(), *answer);
@@ -109,7 +109,7 @@ fn bad_pieces(rt: HostRuntime) {
 
 #[test]
 fn each_read_fails(rt: HostRuntime) {
-    let rows: [(&[u8], u64, ReadFault); 9] = [
+    let rows: &[(&[u8], u64, ReadFault)] = &[
         (b"1 2\nx", 0, ReadFault::Read),
         (b"1 2\nx", 1, ReadFault::Read),
         (b"1 2\nx", 2, ReadFault::Read),
@@ -120,7 +120,7 @@ fn each_read_fails(rt: HostRuntime) {
         (b"\xEF\xBB", 1, byte(1, 0xEF)),
         (b"\xEF\xBB", 2, byte(1, 0xEF)),
     ];
-    for (text, reads, fault) in rows {
+    for &(text, reads, fault) in rows {
         for block in BLOCKS {
             let mut source = MemSource::new(text, 1, Some(reads));
             let outcome = read_fimi_by(rt.alloc(), &mut source, block);
@@ -141,13 +141,13 @@ fn heavy_text(rt: &HostRuntime, last: &[u8]) -> Result<Vec<u8>, AllocError> {
 
 #[test]
 fn weights_add_up(rt: HostRuntime) -> Result<(), Fail> {
-    let rows: [(&[u8], Result<u64, ReadFault>); 4] = [
+    let rows: &[(&[u8], Result<u64, ReadFault>)] = &[
         (b"255x 1", Ok(1_099_511_627_775)),
         (b"256x 1", Err(ReadFault::Heavy)),
         (b"256x 1\n1 2\n", Err(ReadFault::Heavy)),
         (b"256x 1\n-", Err(byte(258, 0x2D))),
     ];
-    for (last, answer) in rows {
+    for &(last, answer) in rows {
         let text = heavy_text(&rt, last)?;
         let mut source = MemSource::new(&text, 65_536, None);
         let outcome = read_fimi(rt.alloc(), &mut source);
@@ -170,7 +170,7 @@ fn zeros_before_a_number(rt: HostRuntime) -> Result<(), Fail> {
 
 #[test]
 fn faults_have_texts_and_numbers(rt: HostRuntime) -> Result<(), Fail> {
-    let rows: [(ReadFault, u8, &str); 9] = [
+    let rows: &[(ReadFault, u8, &str)] = &[
         (ReadFault::Memory, 1, "out of memory"),
         (ReadFault::Read, 2, "cannot read the input"),
         (
@@ -197,7 +197,7 @@ fn faults_have_texts_and_numbers(rt: HostRuntime) -> Result<(), Fail> {
         (ReadFault::Heavy, 8, "total weight above 1099511627775"),
         (ReadFault::Weight { nth: 1 }, 9, "record 1: bad weight"),
     ];
-    for (fault, number, text) in rows {
+    for &(fault, number, text) in rows {
         assert_eq!(rt; fault.number(), number);
         let shown = format!(in rt.alloc(); "{fault}")?;
         assert_eq!(rt; shown.as_str(), text);

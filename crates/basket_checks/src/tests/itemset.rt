@@ -16,13 +16,13 @@ fn set_beyond_the_inline_items(rt: HostRuntime) -> Result<(), Fail> {
 
 #[test]
 fn order(rt: HostRuntime) -> Result<(), Fail> {
-    let sets: [(&[u32], &[u32], Ordering); 4] = [
+    let sets: &[(&[u32], &[u32], Ordering)] = &[
         (&[9], &[1, 2], Ordering::Less),
         (&[2, 10], &[10, 11], Ordering::Less),
         (&[1, 3], &[1, 2], Ordering::Greater),
         (&[1, 2], &[2, 1], Ordering::Equal),
     ];
-    for (a, b, want) in sets {
+    for &(a, b, want) in sets {
         let a = Itemset::from_items(rt.alloc(), a)?;
         let b = Itemset::from_items(rt.alloc(), b)?;
         assert_eq!(rt; report_order(&a, &b), want);

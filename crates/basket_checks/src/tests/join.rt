@@ -41,7 +41,7 @@ fn candidates_from(alloc: Global, sets: &[Itemset], size: usize) -> Result<Vec<I
 
 #[test]
 fn small_sets(rt: HostRuntime) -> Result<(), Fail> {
-    let rows: [(usize, &[&[u32]], &[&[u32]]); 8] = [
+    let rows: &[(usize, &[&[u32]], &[&[u32]])] = &[
         (
             2,
             &[&[1, 2], &[1, 3], &[1, 5], &[2, 3], &[2, 4], &[2, 5]],
@@ -59,7 +59,7 @@ fn small_sets(rt: HostRuntime) -> Result<(), Fail> {
             &[&[0, 7, 4_294_967_295]],
         ),
     ];
-    for (size, sets, want) in rows {
+    for &(size, sets, want) in rows {
         let found = candidates_from(rt.alloc(), &sets_of(rt.alloc(), sets)?, size)?;
         assert!(rt; found == sets_of(rt.alloc(), want)?, "of {sets:?}");
     }

@@ -2,7 +2,7 @@ use basket_core::{Minimum, parse_minimum, parse_share};
 
 #[test]
 fn minimums(rt: HostRuntime) {
-    let texts = [
+    let texts: &[(&str, Option<Minimum>)] = &[
         ("1", Some(Minimum::Count(1))),
         ("0002", Some(Minimum::Count(2))),
         ("1099511627775", Some(Minimum::Count(1_099_511_627_775))),
@@ -31,7 +31,7 @@ fn minimums(rt: HostRuntime) {
         (" 5", None),
         ("5x", None),
     ];
-    for (text, want) in texts {
+    for &(text, want) in texts {
         assert_eq!(rt; parse_minimum(text), want, "of {text}");
     }
 }

@@ -41,7 +41,7 @@ fn one_long_basket(rt: HostRuntime) -> Result<(), Fail> {
 
 #[test]
 fn fractions(rt: HostRuntime) -> Result<(), Fail> {
-    let rows: [(u128, u128, &str); 5] = [
+    let rows: &[(u128, u128, &str)] = &[
         (18, 8, "9/4"),
         (36, 36, "1/1"),
         (0, 5, "0/1"),
@@ -53,7 +53,7 @@ fn fractions(rt: HostRuntime) -> Result<(), Fail> {
             "1125899906842624/3",
         ),
     ];
-    for (numerator, denominator, text) in rows {
+    for &(numerator, denominator, text) in rows {
         if denominator >= 1 {
             let fraction = Fraction::reduced(numerator, denominator);
             let printed = format!(in rt.alloc(); "{fraction}")?;

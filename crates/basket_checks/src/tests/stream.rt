@@ -71,16 +71,18 @@ fn sinks(rt: HostRuntime) -> Result<(), Fail> {
 }
 
 #[test]
-fn streams_of_std(rt: HostRuntime) -> Result<(), Fail> {
+fn source_of_std(rt: HostRuntime) {
     let mut source = StdSource::new(b"01234".as_slice());
     let mut buf = [0; 3];
     assert_eq!(rt; source.read(&mut buf), Ok(3));
     assert_eq!(rt; buf.as_slice(), b"012".as_slice());
     assert!(rt; !source.failed());
+}
 
+#[test]
+fn sink_of_std(rt: HostRuntime) {
     let mut sink = StdSink::new(Vec::new(rt.alloc()));
     assert_eq!(rt; sink.write(b"01"), Ok(2));
     assert!(rt; !sink.failed());
     assert_eq!(rt; sink.flush(), Ok(()));
-    Ok(())
 }

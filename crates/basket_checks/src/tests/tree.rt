@@ -12,7 +12,7 @@ fn supports(alloc: Global, baskets: &[(&[u32], u64)], lists: &[&[u32]]) -> Resul
 
 #[test]
 fn gaps_between_items(rt: HostRuntime) -> Result<(), Fail> {
-    let baskets: [(&[u32], u64); 3] = [
+    let baskets: &[(&[u32], u64)] = &[
         (&[1, 4, 20, 4_000_000_000], 1),
         (&[4, 7, 9, 20], 1),
         (&[7, 4_000_000_000, 4_294_967_295], 1),
@@ -26,7 +26,7 @@ fn gaps_between_items(rt: HostRuntime) -> Result<(), Fail> {
         &[7, 9],
         &[7, 4_294_967_295],
     ];
-    let found = supports(rt.alloc(), &baskets, &sets)?;
+    let found = supports(rt.alloc(), baskets, &sets)?;
     assert_eq!(rt; found.as_slice(), [1, 1, 2, 0, 0, 1, 1].as_slice());
     Ok(())
 }

@@ -50,9 +50,8 @@ fn class_of_the_last_rank(rt: HostRuntime) -> Result<(), Fail> {
 }
 
 /// What is told to a tally that is over early, whatever the rows.
-fn told_early<R: Kind>(alloc: Global) -> Result<u64, Fail> {
-    let coded = Coded::of(alloc, &database(alloc, NINE_BASKETS)?, Minimum::Count(2))?;
-    let vertical = Vertical::of(alloc, &coded)?;
+fn told_early<R: Kind>(alloc: Global, coded: &Coded) -> Result<u64, Fail> {
+    let vertical = Vertical::of(alloc, coded)?;
     let mut tally = Early { told: 0 };
     if coded.ranks() == 0 {
         return Err(Fail::from("no such rank"));
@@ -65,9 +64,11 @@ fn told_early<R: Kind>(alloc: Global) -> Result<u64, Fail> {
 
 #[test]
 fn a_tally_that_is_over_early(rt: HostRuntime) -> Result<(), Fail> {
-    assert_eq!(rt; told_early::<TidList>(rt.alloc())?, 1);
-    assert_eq!(rt; told_early::<DiffList>(rt.alloc())?, 1);
-    assert_eq!(rt; told_early::<BitRow>(rt.alloc())?, 1);
+    let alloc = rt.alloc();
+    let coded = Coded::of(alloc, &database(alloc, NINE_BASKETS)?, Minimum::Count(2))?;
+    assert_eq!(rt; told_early::<TidList>(alloc, &coded)?, 1);
+    assert_eq!(rt; told_early::<DiffList>(alloc, &coded)?, 1);
+    assert_eq!(rt; told_early::<BitRow>(alloc, &coded)?, 1);
     Ok(())
 }
 

@@ -89,7 +89,7 @@ impl Gate for Meeting {
 
 #[test]
 fn workers_meet_in_each_phase(rt: HostRuntime) -> Result<(), Fail> {
-    for (_, miner) in MINERS {
+    for &(_, miner) in MINERS {
         let phases = match miner {
             Miner::Apriori => 0b1110,
             _ => 0b110,

@@ -3,7 +3,7 @@ use super::*;
 
 #[test]
 fn reports(rt: HostRuntime) -> Result<(), Fail> {
-    let cases: [(&[u8], &str, &[u8]); 10] = [
+    let cases: &[(&[u8], &str, &[u8])] = &[
         (NINE_BASKETS, "2", NINE_ITEMS),
         (NINE_BASKETS, "22%", NINE_ITEMS),
         (NINE_BASKETS, "2/9", NINE_ITEMS),
@@ -15,25 +15,15 @@ fn reports(rt: HostRuntime) -> Result<(), Fail> {
         (b"7 7 007\n", "1", b"7 (1)\n"),
         (b"9x \n1\n", "1", b"1 (1)\n"),
     ];
-    for (input, minimum, want) in cases {
-        let mut reader = MemSource::new(input, 7, None);
-        let mut writer = MemSink::new(rt.alloc(), 100, 100, false)?;
-        let result = run_words(
-            &rt,
-            rt.alloc(),
-            &["items", "--min", minimum],
-            &mut reader,
-            &mut writer,
-        )?;
-        assert_eq!(rt; result, Ok(()));
-        assert_eq!(rt; writer.bytes(), want);
+    for &(input, minimum, want) in cases {
+        assert_writes(&rt, rt.alloc(), &["items", "--min", minimum], input, want)?;
     }
     Ok(())
 }
 
 #[test]
 fn refused_inputs(rt: HostRuntime) -> Result<(), Fail> {
-    let cases: [(&[u8], ReadFault, &str); 5] = [
+    let cases: &[(&[u8], ReadFault, &str)] = &[
         (
             b"4294967296",
             ReadFault::Number { line: 1 },
@@ -69,23 +59,10 @@ fn refused_inputs(rt: HostRuntime) -> Result<(), Fail> {
             "line 1: byte 0x00 is no digit or blank",
         ),
     ];
-    for (input, fault, text) in cases {
-        let mut reader = MemSource::new(input, 1, None);
-        let mut writer = MemSink::new(rt.alloc(), 100, 100, false)?;
-        let result = run_words(
-            &rt,
-            rt.alloc(),
-            &["items", "--min", "1"],
-            &mut reader,
-            &mut writer,
-        )?;
-        assert_eq!(rt; result, Err(RunFault::Input(fault)));
-        assert_eq!(rt; writer.bytes(), b"".as_slice());
-        assert_eq!(rt;
-            RunFault::Input(fault).to_string(rt.alloc())?.as_str(),
-            text
-        );
-        assert_eq!(rt; status_of(&RunFault::Input(fault)), 3);
+    for &(input, fault, text) in cases {
+        let fault = RunFault::Input(fault);
+        assert_refuses(&rt, rt.alloc(), &["items", "--min", "1"], input, fault, text)?;
+        assert_eq!(rt; status_of(&fault), 3);
     }
     Ok(())
 }
@@ -96,12 +73,12 @@ fn readers_that_fail(rt: HostRuntime) -> Result<(), Fail> {
         line: 2,
         byte: 0x78,
     };
-    let cases: [(&[u8], u64, ReadFault, u8); 3] = [
+    let cases: &[(&[u8], u64, ReadFault, u8)] = &[
         (b"1 2\n", 0, ReadFault::Read, 4),
         (b"1 2\n", 4, ReadFault::Read, 4),
         (b"1 2\nx", 5, byte, 3),
     ];
-    for (input, reads, fault, status) in cases {
+    for &(input, reads, fault, status) in cases {
         let mut reader = MemSource::new(input, 1, Some(reads));
         let mut writer = MemSink::new(rt.alloc(), 100, 100, false)?;
         let result = run_words(
@@ -121,14 +98,14 @@ fn readers_that_fail(rt: HostRuntime) -> Result<(), Fail> {
 #[test]
 fn writers(rt: HostRuntime) -> Result<(), Fail> {
     let write = Err(RunFault::Write);
-    let cases = [
+    let cases = &[
         (100, 1, false, Ok(()), NINE_ITEMS),
         (10, 100, false, write, b"1 (6)\n2 (7".as_slice()),
         (10, 3, false, write, b"1 (6)\n2 (7"),
         (100, 0, false, write, b""),
         (100, 100, true, write, NINE_ITEMS),
     ];
-    for (room, piece, flush_fails, want, written) in cases {
+    for &(room, piece, flush_fails, want, written) in cases {
         let mut reader = MemSource::new(NINE_BASKETS, 100, None);
         let mut writer = MemSink::new(rt.alloc(), room, piece, flush_fails)?;
         let result = run_words(

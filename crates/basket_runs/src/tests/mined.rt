@@ -2,9 +2,9 @@
 use super::*;
 use basket_checks::plain_sets;
 
-const MINIMUMS: [&str; 8] = ["1", "2", "3", "7", "22%", "2/9", "50%", "1/1"];
+const MINIMUMS: &[&str] = &["1", "2", "3", "7", "22%", "2/9", "50%", "1/1"];
 
-const INPUTS: [&[u8]; 6] = [
+const INPUTS: &[&[u8]] = &[
     NINE_BASKETS,
     b"",
     b"0\n2x4294967295\n3x0 4294967295\n",
@@ -41,7 +41,7 @@ fn compare<R: Threads + Sync>(
     let database = database(alloc, text)?;
     let plan = plan(minimum)?;
     let plain = plain_sets(alloc, &database, plan.minimum())?;
-    for (_, miner) in MINERS {
+    for &(_, miner) in MINERS {
         let mut known = None;
         for (workers, pieces) in [(1, 16), (7, 3)] {
             let plan = plan
@@ -62,8 +62,8 @@ fn compare<R: Threads + Sync>(
 
 #[test]
 fn small_inputs(rt: HostRuntime) -> Result<(), Fail> {
-    for text in INPUTS {
-        for minimum in MINIMUMS {
+    for &text in INPUTS {
+        for &minimum in MINIMUMS {
             compare(&rt, rt.alloc(), text, minimum)?;
         }
     }
@@ -86,25 +86,25 @@ fn mixed_inputs(rt: HostRuntime) -> Result<(), Fail> {
 fn work_of_miners(rt: HostRuntime) -> Result<(), Fail> {
     let alloc = rt.alloc();
     let forty = forty_items(alloc)?;
-    let cases: [(&[u8], &str, u64, u64, u64); 4] = [
+    let cases: &[(&[u8], &str, u64, u64, u64)] = &[
         (NINE_BASKETS, "2", 12, 12, 7),
         (b"1\n1\n2\n2\n1 3\n2 3\n", "1", 3, 4, 5),
         (&forty, "2", 780, 780, 40),
         (b"", "1", 0, 0, 0),
     ];
-    for (text, minimum, candidates, joins, trees) in &cases {
+    for &(text, minimum, candidates, joins, trees) in cases {
         let database = database(alloc, text)?;
         for workers in [1, 2, 7] {
             let plan = plan(minimum)?.with_workers(workers);
             let mut sums = (0u64, 0u64, 0u64);
-            for (_, miner) in MINERS {
+            for &(_, miner) in MINERS {
                 let (_, work) = mine(&rt, alloc, &database, &plan.with_miner(miner), &Open)?;
                 sums.0 = sums.0.saturating_add(work.candidates);
                 sums.1 = sums.1.saturating_add(work.joins);
                 sums.2 = sums.2.saturating_add(work.trees);
             }
             // Three of the five miners are Eclat's.
-            assert_eq!(rt; sums, (*candidates, joins.saturating_mul(3), *trees));
+            assert_eq!(rt; sums, (candidates, joins.saturating_mul(3), trees));
         }
     }
     Ok(())

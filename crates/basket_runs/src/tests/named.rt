@@ -7,7 +7,7 @@ const RECEIPTS: &[u8] = b"b,milk\na,bread\nb,bread\n";
 
 #[test]
 fn baskets_of_names(rt: HostRuntime) -> Result<(), Fail> {
-    let cases: [(&[&str], &[u8], &[u8]); 8] = [
+    let cases: &[(&[&str], &[u8], &[u8])] = &[
         (
             &["items", "--form", "baskets", "--min", "2"],
             SEMI_SKIM,
@@ -45,17 +45,15 @@ fn baskets_of_names(rt: HostRuntime) -> Result<(), Fail> {
         ),
         (&["sets", "--form", "baskets", "--min", "1"], b"", b""),
     ];
-    for (words, input, want) in cases {
-        let (writer, result) = ran(&rt, rt.alloc(), words, input)?;
-        assert_eq!(rt; result, Ok(()));
-        assert_eq!(rt; writer.bytes(), want);
+    for &(words, input, want) in cases {
+        assert_writes(&rt, rt.alloc(), words, input, want)?;
     }
     Ok(())
 }
 
 #[test]
 fn receipts(rt: HostRuntime) -> Result<(), Fail> {
-    let cases: [(&[&str], &[u8], &[u8]); 4] = [
+    let cases: &[(&[&str], &[u8], &[u8])] = &[
         (
             &["items", "--form", "single", "--min", "1"],
             RECEIPTS,
@@ -79,10 +77,8 @@ fn receipts(rt: HostRuntime) -> Result<(), Fail> {
             b"1,milk\n",
         ),
     ];
-    for (words, input, want) in cases {
-        let (writer, result) = ran(&rt, rt.alloc(), words, input)?;
-        assert_eq!(rt; result, Ok(()));
-        assert_eq!(rt; writer.bytes(), want);
+    for &(words, input, want) in cases {
+        assert_writes(&rt, rt.alloc(), words, input, want)?;
     }
     Ok(())
 }
@@ -90,25 +86,23 @@ fn receipts(rt: HostRuntime) -> Result<(), Fail> {
 /// A name gets quotes where it has the separator, a quote or a line feed.
 #[test]
 fn separators(rt: HostRuntime) -> Result<(), Fail> {
-    let cases: [(&str, &[u8], &[u8]); 5] = [
+    let cases: &[(&str, &[u8], &[u8])] = &[
         ("semicolon", b"a;b\na\n", b"2;a\n1;b\n"),
         ("comma", b"a;b,\"c\"\"\"\n", b"1,a;b\n1,\"c\"\"\"\n"),
         ("tab", b"a\tb,c\n", b"1\ta\n1\tb,c\n"),
         ("pipe", b"a|\"b|c\"\n", b"1|a\n1|\"b|c\"\n"),
         ("pipe", b"\"two\nlines\"\n", b"1|\"two\nlines\"\n"),
     ];
-    for (sep, input, want) in cases {
+    for &(sep, input, want) in cases {
         let words = ["items", "--form", "baskets", "--sep", sep, "--min", "1"];
-        let (writer, result) = ran(&rt, rt.alloc(), &words, input)?;
-        assert_eq!(rt; result, Ok(()));
-        assert_eq!(rt; writer.bytes(), want, "{sep}");
+        assert_writes(&rt, rt.alloc(), &words, input, want)?;
     }
     Ok(())
 }
 
 #[test]
 fn faults(rt: HostRuntime) -> Result<(), Fail> {
-    let cases: [(&[&str], &[u8], ReadFault, &str); 3] = [
+    let cases: &[(&[&str], &[u8], ReadFault, &str)] = &[
         (
             &["items", "--form", "baskets", "--min", "1"],
             b"a\n\xFF\n",
@@ -128,12 +122,9 @@ fn faults(rt: HostRuntime) -> Result<(), Fail> {
             "record 1: bad weight",
         ),
     ];
-    for (words, input, fault, text) in cases {
+    for &(words, input, fault, text) in cases {
         let fault = RunFault::Input(fault);
-        let (writer, result) = ran(&rt, rt.alloc(), words, input)?;
-        assert_eq!(rt; result, Err(fault));
-        assert_eq!(rt; writer.bytes(), b"".as_slice());
-        assert_eq!(rt; fault.to_string(rt.alloc())?.as_str(), text);
+        assert_refuses(&rt, rt.alloc(), words, input, fault, text)?;
         assert_eq!(rt; status_of(&fault), 3);
     }
     Ok(())

@@ -16,17 +16,15 @@ const TEN_RULES: &[u8] =
 
 #[test]
 fn nine_baskets(rt: HostRuntime) -> Result<(), Fail> {
-    let cases: [(&[&str], &[u8]); 4] = [
+    let cases: &[(&[&str], &[u8])] = &[
         (&["closed", "--min", "2"], NINE_CLOSED),
         (&["maximal", "--min", "2"], THREE_MAXIMAL),
         (&["rules", "--min", "2", "--conf", "7/10"], SIX_RULES),
         (&["rules", "--min", "2", "--conf", "2/3"], TEN_RULES),
     ];
-    for (words, want) in cases {
+    for &(words, want) in cases {
         for input in [NINE_BASKETS, WEIGHTED_BASKETS] {
-            let (writer, result) = ran(&rt, rt.alloc(), words, input)?;
-            assert_eq!(rt; result, Ok(()));
-            assert_eq!(rt; writer.bytes(), want);
+            assert_writes(&rt, rt.alloc(), words, input, want)?;
         }
     }
     Ok(())
@@ -34,7 +32,7 @@ fn nine_baskets(rt: HostRuntime) -> Result<(), Fail> {
 
 #[test]
 fn small_inputs(rt: HostRuntime) -> Result<(), Fail> {
-    let cases: [(&[&str], &[u8], &[u8]); 8] = [
+    let cases: &[(&[&str], &[u8], &[u8])] = &[
         (&["closed", "--min", "1"], b"", b""),
         (&["maximal", "--min", "1"], b"", b""),
         (&["rules", "--min", "1", "--conf", "1/1"], b"", b""),
@@ -60,28 +58,23 @@ fn small_inputs(rt: HostRuntime) -> Result<(), Fail> {
             b"2 => 1 (3) 1/1 1/1\n1 => 2 (3) 3/4 1/1\n",
         ),
     ];
-    for (words, input, want) in cases {
-        let (writer, result) = ran(&rt, rt.alloc(), words, input)?;
-        assert_eq!(rt; result, Ok(()));
-        assert_eq!(rt; writer.bytes(), want);
+    for &(words, input, want) in cases {
+        assert_writes(&rt, rt.alloc(), words, input, want)?;
     }
     Ok(())
 }
 
 #[test]
 fn too_many_sets(rt: HostRuntime) -> Result<(), Fail> {
-    let cases: [&[&str]; 3] = [
+    let cases: &[&[&str]] = &[
         &["closed", "--min", "2", "--limit", "12"],
         &["maximal", "--min", "2", "--limit", "12"],
         &["rules", "--min", "2", "--limit", "12", "--conf", "1/1"],
     ];
-    for words in cases {
-        let (writer, result) = ran(&rt, rt.alloc(), words, NINE_BASKETS)?;
-        assert_eq!(rt;
-            result,
-            Err(RunFault::Mine(MineFault::TooMany { limit: 12 }))
-        );
-        assert!(rt; writer.bytes().is_empty());
+    for &words in cases {
+        let fault = RunFault::Mine(MineFault::TooMany { limit: 12 });
+        let text = "more than 12 frequent itemsets";
+        assert_refuses(&rt, rt.alloc(), words, NINE_BASKETS, fault, text)?;
     }
     Ok(())
 }

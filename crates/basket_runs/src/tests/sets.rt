@@ -11,7 +11,7 @@ const THIRTY_THREE_ITEMS: &[u8] =
 
 #[test]
 fn nine_baskets(rt: HostRuntime) -> Result<(), Fail> {
-    let cases: [(&[&str], &[u8]); 10] = [
+    let cases: &[(&[&str], &[u8])] = &[
         (&["sets", "--min", "2"], THIRTEEN_SETS),
         (&["sets", "--min", "22%"], THIRTEEN_SETS),
         (&["sets", "--min", "2/9"], THIRTEEN_SETS),
@@ -32,17 +32,15 @@ fn nine_baskets(rt: HostRuntime) -> Result<(), Fail> {
         ),
         (&["items", "--min", "2", "--limit", "1"], NINE_ITEMS),
     ];
-    for (words, want) in cases {
-        let (writer, result) = ran(&rt, rt.alloc(), words, NINE_BASKETS)?;
-        assert_eq!(rt; result, Ok(()));
-        assert_eq!(rt; writer.bytes(), want);
+    for &(words, want) in cases {
+        assert_writes(&rt, rt.alloc(), words, NINE_BASKETS, want)?;
     }
     Ok(())
 }
 
 #[test]
 fn small_inputs(rt: HostRuntime) -> Result<(), Fail> {
-    let cases: [(&[u8], &[u8]); 6] = [
+    let cases: &[(&[u8], &[u8])] = &[
         (b"", b""),
         (b"\xEF\xBB\xBF\r\n \n", b""),
         (b"7 7 007\n", b"7 (1)\n"),
@@ -50,18 +48,16 @@ fn small_inputs(rt: HostRuntime) -> Result<(), Fail> {
         (b"10 2", b"2 (1)\n10 (1)\n2 10 (1)\n"),
         (b"1 2 3\n", SEVEN_SETS),
     ];
-    for (input, want) in cases {
+    for &(input, want) in cases {
         let words = ["sets", "--min", "1", "--limit", "7"];
-        let (writer, result) = ran(&rt, rt.alloc(), &words, input)?;
-        assert_eq!(rt; result, Ok(()));
-        assert_eq!(rt; writer.bytes(), want);
+        assert_writes(&rt, rt.alloc(), &words, input, want)?;
     }
     Ok(())
 }
 
 #[test]
 fn weights(rt: HostRuntime) -> Result<(), Fail> {
-    let cases: [(&[u8], &str, &[u8]); 3] = [
+    let cases: &[(&[u8], &str, &[u8])] = &[
         (b"3x 1 2\n1\n", "75%", b"1 (4)\n2 (3)\n1 2 (3)\n"),
         (b"4294967295x 1\n1\n", "4294967296", b"1 (4294967296)\n"),
         (
@@ -70,10 +66,8 @@ fn weights(rt: HostRuntime) -> Result<(), Fail> {
             THIRTEEN_SETS,
         ),
     ];
-    for (input, minimum, want) in cases {
-        let (writer, result) = ran(&rt, rt.alloc(), &["sets", "--min", minimum], input)?;
-        assert_eq!(rt; result, Ok(()));
-        assert_eq!(rt; writer.bytes(), want);
+    for &(input, minimum, want) in cases {
+        assert_writes(&rt, rt.alloc(), &["sets", "--min", minimum], input, want)?;
     }
     Ok(())
 }
@@ -87,15 +81,12 @@ fn pairs_that_are_in_no_basket(rt: HostRuntime) -> Result<(), Fail> {
         want.extend_from_slice(b" (2)\n")?;
     }
     let input = forty_items(rt.alloc())?;
-    let (writer, result) = ran(&rt, rt.alloc(), &["sets", "--min", "2"], &input)?;
-    assert_eq!(rt; result, Ok(()));
-    assert_eq!(rt; writer.bytes(), want.as_slice());
-    Ok(())
+    assert_writes(&rt, rt.alloc(), &["sets", "--min", "2"], &input, &want)
 }
 
 #[test]
 fn too_many_sets(rt: HostRuntime) -> Result<(), Fail> {
-    let cases: [(&[&str], &[u8], u32, &str); 3] = [
+    let cases: &[(&[&str], &[u8], u32, &str)] = &[
         (
             &["sets", "--min", "2", "--limit", "12"],
             NINE_BASKETS,
@@ -115,12 +106,9 @@ fn too_many_sets(rt: HostRuntime) -> Result<(), Fail> {
             "more than 4294967295 frequent itemsets",
         ),
     ];
-    for (words, input, limit, text) in cases {
+    for &(words, input, limit, text) in cases {
         let fault = RunFault::Mine(MineFault::TooMany { limit });
-        let (writer, result) = ran(&rt, rt.alloc(), words, input)?;
-        assert_eq!(rt; result, Err(fault));
-        assert_eq!(rt; writer.bytes(), b"".as_slice());
-        assert_eq!(rt; fault.to_string(rt.alloc())?.as_str(), text);
+        assert_refuses(&rt, rt.alloc(), words, input, fault, text)?;
         assert_eq!(rt; status_of(&fault), 5);
     }
     Ok(())

@@ -61,7 +61,7 @@ fn bad_minimums(rt: HostRuntime) -> Result<(), Fail> {
 
 #[test]
 fn bad_words(rt: HostRuntime) -> Result<(), Fail> {
-    let cases: [(&[&str], &str); 16] = [
+    let cases: &[(&[&str], &str)] = &[
         (&[], "Usage: basket <COMMAND>\n"),
         (&["things"], "'things'"),
         (&["items"], "--min <M>"),
@@ -82,7 +82,7 @@ fn bad_words(rt: HostRuntime) -> Result<(), Fail> {
         (&["sets", "--min", "1", "--pieces", "0"], "'0'"),
         (&["sets", "--min", "1", "--pieces", "65537"], "'65537'"),
     ];
-    for (words, part) in cases {
+    for &(words, part) in cases {
         let fault = refused(rt.alloc(), words)?;
         assert!(rt; usage_text(&fault).contains(part), "no {part}");
         assert_eq!(rt; plan_status(&fault), 2);
@@ -92,7 +92,7 @@ fn bad_words(rt: HostRuntime) -> Result<(), Fail> {
 
 #[test]
 fn help(rt: HostRuntime) -> Result<(), Fail> {
-    let cases: [(&[&str], &str); 4] = [
+    let cases: &[(&[&str], &str)] = &[
         (&["--help"], "Lists the items"),
         (&["--help"], "             \"semi, skim\",bread\n"),
         (
@@ -104,7 +104,7 @@ fn help(rt: HostRuntime) -> Result<(), Fail> {
             "printf '1 2\\n2 3\\n2\\n' | basket items --min 2\n",
         ),
     ];
-    for (words, part) in cases {
+    for &(words, part) in cases {
         let fault = refused(rt.alloc(), words)?;
         assert!(rt; help_text(&fault).contains(part), "no {part}");
         assert_eq!(rt; plan_status(&fault), 0);
@@ -122,13 +122,13 @@ fn help_of_sets(rt: HostRuntime) -> Result<(), Fail> {
 
 #[test]
 fn limits(rt: HostRuntime) -> Result<(), Fail> {
-    let cases = [
+    let cases = &[
         ("1", 1),
         ("+5", 5),
         ("0005", 5),
         ("00000000004294967295", 4294967295),
     ];
-    for (text, limit) in cases {
+    for &(text, limit) in cases {
         let plan = plan_of(rt.alloc(), &["sets", "--min", "2", "--limit", text])?;
         assert_eq!(rt; plan.limit(), limit, "{text}");
     }

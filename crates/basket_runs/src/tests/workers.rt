@@ -3,7 +3,7 @@ use super::rules::{NINE_CLOSED, SIX_RULES, THREE_MAXIMAL};
 use super::sets::THIRTEEN_SETS;
 use super::*;
 
-const ASKS: [(&[&str], &[u8]); 5] = [
+const ASKS: &[(&[&str], &[u8])] = &[
     (&["items", "--min", "2", "--limit", "1"], NINE_ITEMS),
     (&["sets", "--min", "2", "--limit", "13"], THIRTEEN_SETS),
     (&["closed", "--min", "2", "--limit", "13"], NINE_CLOSED),
@@ -14,7 +14,7 @@ const ASKS: [(&[&str], &[u8]); 5] = [
     ),
 ];
 
-const REFUSED: [&[&str]; 4] = [
+const REFUSED: &[&[&str]] = &[
     &["sets", "--min", "2", "--limit", "12"],
     &["closed", "--min", "2", "--limit", "12"],
     &["maximal", "--min", "2", "--limit", "12"],
@@ -32,7 +32,7 @@ fn all_write<'a, R: Threads + Sync>(
     end: Result<(), RunFault>,
     want: &[u8],
 ) -> Result<bool, Fail> {
-    for (miner, _) in MINERS {
+    for &(miner, _) in MINERS {
         let mut words = ask.to_vec(alloc)?;
         words.extend_from_slice(&["--miner", miner, "--workers", workers, "--pieces", pieces])?;
         let (writer, ended) = ran(rt, alloc, &words, NINE_BASKETS)?;
@@ -45,7 +45,7 @@ fn all_write<'a, R: Threads + Sync>(
 
 #[test]
 fn reports_by_workers(rt: HostRuntime) -> Result<(), Fail> {
-    for (ask, want) in ASKS {
+    for &(ask, want) in ASKS {
         for workers in ["1", "2", "7"] {
             for pieces in ["1", "2", "16"] {
                 assert!(rt; all_write(&rt, rt.alloc(), ask, workers, pieces, Ok(()), want)?);
@@ -58,7 +58,7 @@ fn reports_by_workers(rt: HostRuntime) -> Result<(), Fail> {
 #[test]
 fn too_many_sets_by_workers(rt: HostRuntime) -> Result<(), Fail> {
     let refused = Err(RunFault::Mine(MineFault::TooMany { limit: 12 }));
-    for ask in REFUSED {
+    for &ask in REFUSED {
         for workers in ["1", "2", "7"] {
             for pieces in ["1", "2", "16"] {
                 assert!(rt; all_write(&rt, rt.alloc(), ask, workers, pieces, refused, b"")?);
@@ -71,8 +71,5 @@ fn too_many_sets_by_workers(rt: HostRuntime) -> Result<(), Fail> {
 #[test]
 fn many_workers_for_one_basket(rt: HostRuntime) -> Result<(), Fail> {
     let words = ["sets", "--min", "1", "--workers", "64", "--pieces", "65536"];
-    let (writer, result) = ran(&rt, rt.alloc(), &words, b"7\n")?;
-    assert_eq!(rt; result, Ok(()));
-    assert_eq!(rt; writer.bytes(), b"7 (1)\n".as_slice());
-    Ok(())
+    assert_writes(&rt, rt.alloc(), &words, b"7\n", b"7 (1)\n")
 }
