@@ -1,10 +1,11 @@
 //! The texts of fractions that were written of late, which spares most divisions.
-ghost use Rattle.std.specs.Prelude.{◌≡◌, ◌≤◌, ◌++◌, IfOk, OnOk};
+ghost use Rattle.std.specs.Prelude.{◌≡◌, ◌≤◌, ◌++◌, ◌*◌, IfOk, OnOk, max};
 ghost use Rattle.basket_core.specs.Fraction.{lowest};
 ghost use Rattle.basket_report.specs.Texts.{ratio_text};
 
 use crate::texts::put_fraction;
 use basket_core::Fraction;
+use basket_rules::Sides;
 use std::alloc::{AllocError, Global};
 
 /// How many texts are kept.
@@ -63,8 +64,34 @@ impl Ratios {
         Ok(Ratios { alloc, slots })
     }
 
+    /// Adds the confidence of a rule, by the count of its union.
+    pub fn put_confidence(
+        &mut self,
+        report: &mut Vec<u8>,
+        count: u64,
+        sides: &Sides<'_>,
+    ) -> Result<(), AllocError>
+        ensures { OnOk result (report.new.items ≡ report.old.items ++ ratio_text (lowest count (max sides.now.left.now.count 1))) }
+    {
+        self.put(report, u128::from(count), u128::from(sides.left.count).max(1))
+    }
+
+    /// Adds the lift of a rule, by the counts of its union and of all baskets.
+    pub fn put_lift(
+        &mut self,
+        report: &mut Vec<u8>,
+        count: u64,
+        total: u64,
+        sides: &Sides<'_>,
+    ) -> Result<(), AllocError>
+        ensures { OnOk result (report.new.items ≡ report.old.items ++ ratio_text (lowest (count * total) (max (sides.now.left.now.count * sides.now.right.now.count) 1))) }
+    {
+        let apart = u128::from(sides.left.count) * u128::from(sides.right.count);
+        self.put(report, u128::from(count) * u128::from(total), apart.max(1))
+    }
+
     /// Adds the text of the fraction in lowest terms.
-    pub fn put(
+    fn put(
         &mut self,
         report: &mut Vec<u8>,
         numerator: u128,
