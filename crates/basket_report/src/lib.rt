@@ -4,6 +4,7 @@
 mod extent;
 mod items;
 mod lines;
+mod ratios;
 mod report;
 mod rules;
 mod sets;

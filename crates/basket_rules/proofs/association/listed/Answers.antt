@@ -1,0 +1,17 @@
+use Rattle.std.proofs.Common.{◌≡◌, sym, ap, ◌∙◌}
+use Rattle.std.proofs.lemmas.List.{get_or-map}
+use Rattle.basket_sets.specs.declared.counted.Counted.{Counted}
+use Rattle.basket_rules.specs.Listed.{count_at}
+use Rattle.basket_rules.proofs.AboveLemmas.{stands_once}
+use Rattle.basket_rules.proofs.SearchLemmas.{set_is}
+use Rattle.basket_rules.proofs.association.listed.Goals as goal
+
+pub returns-in-Ok-clause-counted : goal.returns-in-Ok-clause-counted
+returns-in-Ok-clause-counted c = λ up place below e.
+    let list = c.args.sets.now in
+    let at = c.in-Ok.at in
+    let same : at ≡ place = stands_once list at place up c.in-Ok.ensures.bound below (c.in-Ok.ensures.found ∙ sym e) in
+    ap (λ (x : Counted). x.count) c.index-sets-at.is ∙ sym (get_or-map (λ (x : Counted). x.count) list at c.index-sets-at.result 0 c.in-Ok.ensures.bound) ∙ ap (count_at list) same
+
+pub returns-in-Ok-clause-same : goal.returns-in-Ok-clause-same
+returns-in-Ok-clause-same c = ap (λ (x : Counted). x.set) c.index-sets-at.is ∙ sym (set_is c.args.sets.now c.in-Ok.at c.index-sets-at.result c.in-Ok.ensures.bound) ∙ c.in-Ok.ensures.found
