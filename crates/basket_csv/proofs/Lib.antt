@@ -1,6 +1,7 @@
 mod NamesLemmas
 mod KeyLemmas
 mod RecentLemmas
+mod IdLemmas
 mod FieldLemmas
 mod RecordLemmas
 mod GatheredLemmas

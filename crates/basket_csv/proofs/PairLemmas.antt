@@ -1,6 +1,7 @@
 -- Pairs of an id and a name, one after another.
 use Rattle.std.proofs.Common.{◌≡◌, ℕ, zero, suc, ◌+◌, ◌≤◌, ◌<◌, Bool, true, false, cond, not, ◌&&◌, ◌||◌, List, [], ◌∷◌, ◌++◌, length, map, filter, set, get_or, ltb, Some, None, Result, Ok, Err, refl, sym, ap, ◌∙◌, subst, arith}
 use Rattle.std.specs.List.{flat_map, list_all, list_any}
+use Rattle.std.specs.Result.{OnOk}
 use Rattle.std.specs.Str.{bytes_eq, is_utf8}
 use Rattle.std.proofs.lemmas.Bool.{and_parts, and_from, and_left, and_right}
 use Rattle.std.proofs.lemmas.List.{map-append}
@@ -15,6 +16,7 @@ use Rattle.basket_csv.specs.Read.{Answers}
 use Rattle.basket_csv.specs.declared.pairs.Pairs.{Pairs}
 use Rattle.basket_csv.specs.Csv.{Named, field_in, is_text, pair_fault, pair_of, pairs_of, with_names, with_pair, gather, names_of_pairs}
 use Rattle.basket_csv.specs.Field.{trimmed}
+use Rattle.basket_csv.specs.Ids.{HasIds}
 use Rattle.basket_csv.specs.Names.{with_name, in_order, number_in}
 use Rattle.basket_csv.specs.Row.{IsKnownPair}
 use Rattle.basket_csv.specs.Pairs.{HasPairs, added_at, numbers_of, are_among}
@@ -108,7 +110,8 @@ names_more : (pairs : List (List ℕ × List ℕ)) (pair : List ℕ × List ℕ)
 names_more pairs pair = ap in_order (map-append (λ p. p.1) pairs (pair ∷ [])) ∙ fold-append with_name [] (map (λ p. p.1) pairs) (pair.1 ∷ [])
 
 pub paired : {S H : Type 0} (old new : Pairs S H) (pairs : List (List ℕ × List ℕ)) (id name : List ℕ) (number place : ℕ)
-    → new.names ≡ with_name old.names name → number ≡ number_in new.names name → new.ids ≡ with_name old.ids id → place ≡ number_in new.ids id
+    → new.names ≡ with_name old.names name → number ≡ number_in new.names name
+    → ((ids : List (List ℕ)) → HasIds old.ids ids → HasIds new.ids (with_name ids id)) → ((ids : List (List ℕ)) → HasIds old.ids ids → place ≡ number_in (with_name ids id) id)
     → map (λ group. group.items) new.groups.items ≡ added_at (map (λ group. group.items) old.groups.items) place number
     → HasPairs old pairs → HasPairs new (pairs ++ (id, name) ∷ [])
 paired old new pairs id name number place a b c d e h =
@@ -117,13 +120,12 @@ paired old new pairs id name number place a b c d e h =
     let all = gather_more pairs (id, name) in
     let names = names_more pairs (id, name) in
     let ids = map (λ g. g.0) (gather pairs) in
-    let same_ids : new.ids ≡ with_name ids id = c ∙ ap (λ is. with_name is id) h.ids in
-    let at_place : place ≡ number_in ids id = d ∙ ap (λ is. number_in is id) same_ids ∙ number_stays ids id in
+    let at_place : place ≡ number_in ids id = d ids h.ids ∙ number_stays ids id in
     let its_number : number ≡ number_in (with_name before name) name = b ∙ ap (λ ns. number_in ns name) after in
     let stay : map (λ group. group.items) old.groups.items ≡ numbers_of (with_name before name) (gather pairs) = h.groups ∙ sym (groups_stay before name (gather pairs) h.known) in
     record {
       names = after ∙ sym names;
-      ids = same_ids ∙ ids_more (gather pairs) id name ∙ ap (map (λ g. g.0)) (sym all);
+      ids = subst (HasIds new.ids) (ids_more (gather pairs) id name ∙ ap (map (λ g. g.0)) (sym all)) (c ids h.ids);
       groups = e ∙ ap (λ gs. added_at gs place number) stay ∙ ap (λ p. added_at (numbers_of (with_name before name) (gather pairs)) p number) at_place
           ∙ ap (added_at (numbers_of (with_name before name) (gather pairs)) (number_in ids id)) its_number
           ∙ groups_more (with_name before name) (gather pairs) id name ∙ ap (λ gs. numbers_of (with_name before name) gs) (sym all) ∙ ap (λ ns. numbers_of ns (gather (pairs ++ (id, name) ∷ []))) (sym names);
@@ -137,20 +139,27 @@ pairs_more rows row some =
     ap (filter has_name) (map-append pair_of rows (row ∷ [])) ∙ filter-append has_name (map pair_of rows) (pair_of row ∷ [])
     ∙ ap (λ b. pairs_of rows ++ cond (not b) (pair_of row ∷ []) []) some
 
+-- a record whose pair was added
+pub pair_added : {S H X : Type 0} (new : Pairs S H) (rows : List (List (List ℕ))) (row : List (List ℕ)) (id name : List ℕ) (r : Result X ReadFault)
+    → id ≡ trimmed (field_in row 0) → name ≡ trimmed (field_in row 1) → is_nil (trimmed (field_in row 1)) ≡ false
+    → OnOk r (HasPairs new (pairs_of rows ++ (id, name) ∷ [])) → OnOk r (HasPairs new (pairs_of (rows ++ row ∷ [])))
+pair_added new rows row id name r a b some h =
+    subst (λ pairs. OnOk r (HasPairs new pairs)) (ap (λ i. pairs_of rows ++ (i, name) ∷ []) a ∙ ap (λ n. pairs_of rows ++ (trimmed (field_in row 0), n) ∷ []) b ∙ sym (pairs_more rows row some)) h
+
 -- a record of a known id and a known name, whose numbers were added
 pub known_paired : {S H : Type 0} (old new : Pairs S H) (rows : List (List (List ℕ))) (row : List (List ℕ)) (place number : ℕ)
     → new.names ≡ old.names → new.ids ≡ old.ids → map (λ group. group.items) new.groups.items ≡ added_at (map (λ group. group.items) old.groups.items) place number
-    → IsKnownPair old.ids old.names row place number → HasPairs old (pairs_of rows) → HasPairs new (pairs_of (rows ++ row ∷ []))
-known_paired old new rows row place number names ids groups known h =
-    let id = known.id in
-    let name = known.name in
-    let id_is = sym id.trimmed in
+    → ((ids : List (List ℕ)) → HasIds old.ids ids → IsKnownPair ids old.names row place number) → HasPairs old (pairs_of rows) → HasPairs new (pairs_of (rows ++ row ∷ []))
+known_paired old new rows row place number names same groups known h =
+    let found = known (map (λ g. g.0) (gather (pairs_of rows))) h.ids in
+    let name = found.name in
     let name_is = sym name.trimmed in
     let all = pairs_more rows row (known_some old.names (field_in row 1) number name) in
     subst (HasPairs new) (sym all)
     (paired old new (pairs_of rows) (trimmed (field_in row 0)) (trimmed (field_in row 1)) number place
     (names ∙ name.known.stay ∙ ap (with_name old.names) name_is) (name.known.place ∙ ap (λ ns. number_in ns (field_in row 1)) (sym names) ∙ ap (number_in new.names) name_is)
-    (ids ∙ id.known.stay ∙ ap (with_name old.ids) id_is) (id.known.place ∙ ap (λ ns. number_in ns (field_in row 0)) (sym ids) ∙ ap (number_in new.ids) id_is)
+    (λ ids has. let id = (known ids has).id in subst (HasIds new.ids) (id.known.stay ∙ ap (with_name ids) (sym id.trimmed)) (subst (λ i. HasIds i ids) (sym same) has))
+    (λ ids has. let id = (known ids has).id in id.known.place ∙ ap (λ is. number_in is (field_in row 0)) id.known.stay ∙ ap (λ i. number_in (with_name ids i) i) (sym id.trimmed))
     groups h)
 
 -- ---- the baskets of the groups
@@ -170,7 +179,13 @@ refused r fault told baskets names answer e light a t =
 pub answered : (r : Result (List Weighted) ReadFault) (database baskets : List Weighted) (names : List (List ℕ)) → r ≡ Ok database → r ≡ if_light baskets → with_names (if_light baskets) names ≡ Ok (database, names)
 answered r database baskets names e light = ap (λ l. with_names l names) (sym light ∙ e)
 
--- ---- records that are no text
+-- ---- records that are text, and others
+
+pub no_fault : (nth : ℕ) (row : List (List ℕ)) → length row ≡ 2 → is_utf8 (field_in row 0) ≡ true → is_utf8 (field_in row 1) ≡ true → pair_fault nth row ≡ None
+no_fault nth [] two id name = absurd (omega (arith, two))
+no_fault nth (field ∷ []) two id name = absurd (omega (arith, two))
+no_fault nth (field ∷ other ∷ []) two id name = rw (id, name) refl
+no_fault nth (field ∷ other ∷ more ∷ fields) two id name = absurd (omega (arith, two))
 
 no_pair : (nth : ℕ) (row : List (List ℕ)) → is_text row ≡ false → pair_fault nth row ≡ Some (NotText nth)
 no_pair nth row e = ap (λ b. cond b (cond (ltb (length row) 2) (Some (ShortRecord nth)) None) (Some (NotText nth))) e

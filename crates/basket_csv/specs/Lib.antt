@@ -6,6 +6,7 @@ pub mod Records
 pub mod Csv
 pub mod Row
 pub mod Input
+pub mod Ids
 pub mod Gathered
 pub mod Read
 pub mod Baskets

@@ -10,7 +10,7 @@ use basket_sets::{Database, Itemset};
 use std::alloc::Global;
 
 /// The baskets so far.
-#[derive(Debug, Drop)]
+#[derive(Drop)]
 pub struct Gathered {
     alloc: Global,
     baskets: Database,

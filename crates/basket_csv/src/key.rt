@@ -14,7 +14,7 @@ pub const LONG: u32 = 17;
 /// The hash of a name. It has no key: names that are picked to have one hash push one another out
 /// of their bucket, and are then looked up in the map like names that aren't kept.
 #[inline(always)]
-fn hash_of(name: &[u8]) -> u64 {
+pub fn hash_of(name: &[u8]) -> u64 {
     let mut hasher = FoldHasher::default();
     hasher.write(name);
     hasher.finish()
@@ -88,14 +88,13 @@ fn ends_of(name: &[u8]) -> (u64, u64)
     }
 }
 
-/// The length of a name, its first and its last bytes, and its hash. The first three tell a name of
-/// up to 16 bytes from all others.
-#[derive(Clone, Copy, Debug)]
+/// The length of a name, and its first and its last bytes. They tell a name of up to 16 bytes from
+/// all others.
+#[derive(Clone, Copy)]
 pub struct Key {
     pub front: u64,
     pub back: u64,
     pub len: u32,
-    pub hash: u64,
 }
 
 impl Key {
@@ -108,7 +107,6 @@ impl Key {
             front,
             back,
             len: name.len().min(LONG as usize) as u32,
-            hash: hash_of(name),
         }
     }
 

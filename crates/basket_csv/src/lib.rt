@@ -4,6 +4,7 @@
 mod baskets;
 mod field;
 mod gathered;
+mod ids;
 mod input;
 mod key;
 pub mod laws;

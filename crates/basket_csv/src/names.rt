@@ -4,7 +4,7 @@ ghost use Rattle.basket_csv.specs.Key.{IsKeyOf};
 ghost use Rattle.basket_csv.specs.Names.{number_in, with_name, IsKnown};
 ghost use Rattle.basket_csv.specs.Recent.{IsNumberAt};
 
-use crate::key::Key;
+use crate::key::{Key, hash_of};
 use crate::recent::Recent;
 use basket_read::ReadFault;
 use indexmap::IndexSet;
@@ -81,6 +81,12 @@ impl<S: BuildHasher> Numbering<S> {
         }
     }
 
+    pub fn len(&self) -> usize
+        ensures { result ≡ length self.now }
+    {
+        self.names.len()
+    }
+
     /// The number of a name, which is new or known. A known name costs a look-up and no allocation.
     #[inline]
     pub fn number(&mut self, name: &str) -> Result<u32, ReadFault>
@@ -96,7 +102,7 @@ impl<S: BuildHasher> Numbering<S> {
         let place = self.place(name)?;
         match u32::try_from(place) {
             Ok(number) => {
-                self.keep(&key, number, place < known)?;
+                self.keep(&key, hash_of(name.as_bytes()), number, place < known)?;
                 Ok(number)
             }
             // An input is too short for so many names.
@@ -104,20 +110,13 @@ impl<S: BuildHasher> Numbering<S> {
         }
     }
 
-    /// The number of a known name, if it was found of late.
-    #[inline]
-    pub fn known(&self, name: &[u8]) -> Option<u32>
-        ensures { IfSome result (IsKnown self.now name.now) }
-    {
-        self.recent_number(&Key::of(name), name)
-    }
-
+    /// The number of a known name of this key, if it was found of late.
     #[inline(always)]
-    fn recent_number(&self, key: &Key, name: &[u8]) -> Option<u32>
+    pub fn recent_number(&self, key: &Key, name: &[u8]) -> Option<u32>
         requires { IsKeyOf key.now name.now }
         ensures { IfSome result (IsKnown self.now name.now) }
     {
-        let number = self.recent.number(key)?;
+        let number = self.recent.number(key, hash_of(name))?;
         if key.is_whole() {
             return Some(number);
         }
@@ -127,12 +126,12 @@ impl<S: BuildHasher> Numbering<S> {
 
     /// Keeps the number of a name, which was known but missed, or is new.
     #[inline]
-    fn keep(&mut self, key: &Key, number: u32, missed: bool) -> Result<(), AllocError>
+    fn keep(&mut self, key: &Key, hash: u64, number: u32, missed: bool) -> Result<(), AllocError>
         requires { IsNumberAt self.old key.now number }
         ensures { self.new ≡ self.old }
     {
         self.recent.make_room(self.alloc, self.names.len(), missed)?;
-        self.recent.keep(key, number);
+        self.recent.keep(key, hash, number);
         Ok(())
     }
 

@@ -6,13 +6,15 @@ ghost use Rattle.basket_read.specs.Fimi.{basket_of_numbers, if_light, MOST_BYTES
 ghost use Rattle.basket_read.specs.Text.{Tells};
 ghost use Rattle.basket_csv.specs.Csv.{pair_fault, pairs_of, fault_from, baskets_of_pairs, names_of_pairs, with_names, say_pairs, behind_header, first_number};
 ghost use Rattle.basket_csv.specs.Gathered.{HasGathered};
+ghost use Rattle.basket_csv.specs.Ids.{HasIds};
 ghost use Rattle.basket_csv.specs.Read.{Answers};
 ghost use Rattle.basket_csv.specs.Records.{records_of, records_left, records_taken, IsReading};
 ghost use Rattle.basket_csv.specs.Row.{IsKnownPair};
 ghost use Rattle.basket_csv.specs.Pairs.{HasPairs, added_at};
 
-use crate::field::trim;
+use crate::field::{is_name, trim};
 use crate::gathered::Gathered;
+use crate::ids::Ids;
 use crate::names::{Names, Numbering};
 use crate::records::Records;
 use crate::row::{is_text_from, known_number, text_at};
@@ -62,7 +64,7 @@ fn gathered_from(alloc: Global, groups: &[Group]) -> Result<Gathered, ReadFault>
 pub struct Pairs<S: BuildHasher> {
     alloc: Global,
     names: Numbering<S>,
-    ids: Numbering<S>,
+    ids: Ids<S>,
     groups: Vec<Group>,
 }
 
@@ -73,7 +75,7 @@ impl<S: BuildHasher + Copy> Pairs<S> {
         Pairs {
             alloc,
             names: Numbering::new(alloc, hasher),
-            ids: Numbering::new(alloc, hasher),
+            ids: Ids::new(alloc, hasher),
             groups: Vec::new(alloc),
         }
     }
@@ -95,14 +97,16 @@ impl<S: BuildHasher> Pairs<S> {
     /// both were found of late.
     #[inline]
     fn known_pair(&self, row: &ByteRecord) -> Option<(u32, u32)>
-        ensures { IfSome result (λ pair. IsKnownPair self.now.ids self.now.names (fields_of row.now) pair.0 pair.1) }
+        ensures fault { (nth : ℕ) → IfSome result (λ _. pair_fault nth (fields_of row.now) ≡ None) }
+        ensures known { (ids : List (List ℕ)) → HasIds self.now.ids ids → IfSome result (λ pair. IsKnownPair ids self.now.names (fields_of row.now) pair.0 pair.1) }
     {
-        if row.len() != 2 {
+        let id = row.get(0)?;
+        if row.len() != 2 || !is_name(id) {
             return None;
         }
-        let id = known_number(row, 0, &self.ids)?;
-        let name = known_number(row, 1, &self.names)?;
-        Some((id, name))
+        let place = self.ids.known(id)?;
+        let number = known_number(row, 1, &self.names)?;
+        Some((place, number))
     }
 
     /// Adds the pair of a record, if it has a name.

@@ -10,17 +10,17 @@ const FEWEST: usize = 4_096;
 
 const MOST: usize = 262_144;
 
-/// A name that was found: its key without the hash, and its number.
-#[derive(Clone, Copy, Debug)]
-struct Slot {
+/// A name that was found: its key and its number.
+#[derive(Clone, Copy)]
+pub struct Slot {
     front: u64,
     back: u64,
     len: u32,
-    number: u32,
+    pub number: u32,
 }
 
 /// A slot without a name. Whoever finds it compares the names, as for a long one.
-const FREE: Slot = Slot {
+pub const FREE: Slot = Slot {
     front: 0,
     back: 0,
     len: LONG,
@@ -29,7 +29,7 @@ const FREE: Slot = Slot {
 
 impl Slot {
     #[inline]
-    fn new(key: &Key, number: u32) -> Self
+    pub fn new(key: &Key, number: u32) -> Self
         ensures { result ≡ record { front = key.now.front; back = key.now.back; len = key.now.len; number = number } }
     {
         Slot {
@@ -42,7 +42,7 @@ impl Slot {
 
     /// Whether this is the slot of a key.
     #[inline(always)]
-    fn has(&self, key: &Key) -> bool
+    pub fn has(&self, key: &Key) -> bool
         ensures { IsTrue result → (self.now.front ≡ key.now.front) × (self.now.back ≡ key.now.back) × (self.now.len ≡ key.now.len) }
     {
         self.front == key.front && self.back == key.back && self.len == key.len
@@ -50,14 +50,14 @@ impl Slot {
 }
 
 /// The two names of some hashes that were found last.
-#[derive(Clone, Copy, Debug)]
+#[derive(Clone, Copy)]
 struct Bucket {
     newer: Slot,
     older: Slot,
 }
 
 /// The numbers of names that were found of late. The lower bits of a name's hash are its bucket.
-#[derive(Debug, Drop)]
+#[derive(Drop)]
 pub struct Recent {
     buckets: Vec<Bucket>,
     /// The bits of a hash that are its bucket.
@@ -75,24 +75,24 @@ impl Recent {
         }
     }
 
-    /// The number that a name of this key has, or may have if the name is long.
+    /// The number that a name of this key and hash has, or may have if the name is long.
     #[inline(always)]
-    pub fn number(&self, key: &Key) -> Option<u32>
+    pub fn number(&self, key: &Key, hash: u64) -> Option<u32>
         ensures { (names : List (List ℕ)) → KeepsKnown names self.now → IfSome result (IsNumberAt names key.now) }
     {
-        let bucket = self.buckets.get(key.hash as usize & self.mask)?;
+        let bucket = self.buckets.get(hash as usize & self.mask)?;
         if bucket.newer.has(key) {
             return Some(bucket.newer.number);
         }
         bucket.older.has(key).then_some(bucket.older.number)
     }
 
-    /// Keeps the number of a name of this key.
+    /// Keeps the number of a name of this key and hash.
     #[inline]
-    pub fn keep(&mut self, key: &Key, number: u32)
+    pub fn keep(&mut self, key: &Key, hash: u64, number: u32)
         ensures { (names : List (List ℕ)) → IsNumberAt names key.now number → KeepsKnown names self.old → KeepsKnown names self.new }
     {
-        let place = key.hash as usize & self.mask;
+        let place = hash as usize & self.mask;
         if let Some(bucket) = self.buckets.get_mut(place) {
             *bucket = Bucket {
                 newer: Slot::new(key, number),

@@ -7,6 +7,7 @@ ghost use Rattle.basket_csv.specs.Names.{number_in, with_name};
 ghost use Rattle.basket_csv.specs.Row.{IsKnownField};
 
 use crate::field::{is_name, text_of, trim};
+use crate::key::Key;
 use crate::names::Numbering;
 use basket_read::ReadFault;
 use csv::ByteRecord;
@@ -35,7 +36,7 @@ pub fn known_number<S: BuildHasher>(
 {
     let field = row.get(place)?;
     if is_name(field) {
-        names.known(field)
+        names.recent_number(&Key::of(field), field)
     } else {
         None
     }
