@@ -10,7 +10,7 @@ use Rattle.std.proofs.lemmas.List.Folds.{list_any-append}
 use Rattle.std.proofs.lemmas.Slice.Eq.{bytes_eq-Decides}
 use Rattle.csv.specs.Records.{field_at, fields_of}
 use Rattle.basket_csv.specs.declared.ids.Ids.{Ids}
-use Rattle.basket_csv.specs.Ids.{rank_of, EachIsNew, HasIds}
+use Rattle.basket_csv.specs.Ids.{tail_of, EachIsNew, HasIds}
 use Rattle.basket_csv.specs.Csv.{field_in}
 use Rattle.basket_csv.specs.Names.{number_in, with_name, IsKnown}
 use Rattle.basket_csv.specs.Recent.{HasKnown}
@@ -33,8 +33,8 @@ with_new ids id e = rw e refl
 number_of_new : (ids : List (List ℕ)) (id : List ℕ) → among ids id ≡ false → length ids ≡ number_in (with_name ids id) id
 number_of_new ids id e = sym (number_stays ids id ∙ none_at (bytes_eq id) ids e)
 
-above_all : (rank : List ℕ → ℕ) (ids : List (List ℕ)) (id : List ℕ) (top : ℕ) → ((other : List ℕ) → among ids other ≡ true → rank other ≤ top) → top < rank id → among ids id ≡ false
-above_all rank ids id top low above = at (among ids id) refl
+above_all : (tail : List ℕ → ℕ) (ids : List (List ℕ)) (id : List ℕ) (top : ℕ) → ((other : List ℕ) → among ids other ≡ true → tail other ≤ top) → top < tail id → among ids id ≡ false
+above_all tail ids id top low above = at (among ids id) refl
   where
     at : (b : Bool) → among ids id ≡ b → b ≡ false
     at true e = let h = low id e in absurd (omega (arith, h, above))
@@ -59,16 +59,16 @@ each_new_with ids id new = at (among ids id) refl
           ∙ ap (with_name ids) (get_or-append_seam ids id [] []) ∙ with_new ids id e ∙ sym (take-append-add ids (id ∷ []) 1) ∙ ap (λ n. take (n + 1) (ids ++ id ∷ [])) (sym last)
     ]
 
-low_with : (rank : List ℕ → ℕ) (ids : List (List ℕ)) (id : List ℕ) (top more : ℕ) → ((other : List ℕ) → among ids other ≡ true → rank other ≤ top) → top ≤ more → rank id ≤ more
-    → (other : List ℕ) → among (with_name ids id) other ≡ true → rank other ≤ more
-low_with rank ids id top more low up own = λ other e. at (among ids id) other e
+low_with : (tail : List ℕ → ℕ) (ids : List (List ℕ)) (id : List ℕ) (top more : ℕ) → ((other : List ℕ) → among ids other ≡ true → tail other ≤ top) → top ≤ more → tail id ≤ more
+    → (other : List ℕ) → among (with_name ids id) other ≡ true → tail other ≤ more
+low_with tail ids id top more low up own = λ other e. at (among ids id) other e
   where
-    pick : (other : List ℕ) (a b : Bool) → among ids other ≡ a → bytes_eq other id ≡ b → (a || (b || false)) ≡ true → rank other ≤ more
+    pick : (other : List ℕ) (a b : Bool) → among ids other ≡ a → bytes_eq other id ≡ b → (a || (b || false)) ≡ true → tail other ≤ more
     pick other true b f g h = let below = low other f in omega (arith, below, up)
-    pick other false true f g h = subst (λ o. rank o ≤ more) (sym ((bytes_eq-Decides other id).0 g)) own
+    pick other false true f g h = subst (λ o. tail o ≤ more) (sym ((bytes_eq-Decides other id).0 g)) own
     pick other false false f g h = absurd cc
 
-    at : (known : Bool) (other : List ℕ) → among (cond known ids (ids ++ id ∷ [])) other ≡ true → rank other ≤ more
+    at : (known : Bool) (other : List ℕ) → among (cond known ids (ids ++ id ∷ [])) other ≡ true → tail other ≤ more
     at true other e = let below = low other e in omega (arith, below, up)
     at false other e = pick other (among ids other) (bytes_eq other id) refl refl (sym (list_any-append (bytes_eq other) ids (id ∷ [])) ∙ e)
 
@@ -89,22 +89,22 @@ front_with ids numbered id e = at (among ids id)
 
 -- ---- an id that is above all others, or was looked up
 
-pub put_on_top : {S H : Type 0} (old new : Ids S H) (ids : List (List ℕ)) (id : List ℕ) (rank : ℕ) → rank ≡ rank_of id → old.top < rank
-    → fields_of new.texts ≡ fields_of old.texts ++ id ∷ [] → new.top ≡ rank → new.numbering ≡ old.numbering → new.last ≡ old.last → HasIds old ids → HasIds new (with_name ids id)
-put_on_top old new ids id rank is above texts top numbering last h =
-    let none = above_all rank_of ids id old.top h.low (subst (λ n. old.top < n) is above) in
+pub put_on_top : {S H : Type 0} (old new : Ids S H) (ids : List (List ℕ)) (id : List ℕ) (tail : ℕ) → tail ≡ tail_of id → old.top < tail
+    → fields_of new.texts ≡ fields_of old.texts ++ id ∷ [] → new.top ≡ tail → new.numbering ≡ old.numbering → new.last ≡ old.last → HasIds old ids → HasIds new (with_name ids id)
+put_on_top old new ids id tail is above texts top numbering last h =
+    let none = above_all tail_of ids id old.top h.low (subst (λ n. old.top < n) is above) in
     record {
       texts = texts ∙ ap (λ ts. ts ++ id ∷ []) h.texts ∙ sym (with_new ids id none);
       new = each_new_with ids id h.new;
-      low = low_with rank_of ids id old.top new.top h.low (omega (arith, above, top)) (subst (λ n. n ≤ new.top) is (omega (arith, top)));
+      low = low_with tail_of ids id old.top new.top h.low (omega (arith, above, top)) (subst (λ n. n ≤ new.top) is (omega (arith, top)));
       front = subst (λ ns. ns ≡ take (length ns) (with_name ids id)) (sym numbering) (front_with ids old.numbering id h.front);
       last = subst (HasKnown (with_name ids id)) (sym last) (λ whole. known_more ids id _ old.last.number (h.last whole));
     }
 
-pub number_on_top : {S H : Type 0} (old : Ids S H) (ids : List (List ℕ)) (id : List ℕ) (rank count : ℕ) → rank ≡ rank_of id → old.top < rank
+pub number_on_top : {S H : Type 0} (old : Ids S H) (ids : List (List ℕ)) (id : List ℕ) (tail count : ℕ) → tail ≡ tail_of id → old.top < tail
     → count ≡ length (fields_of old.texts) → HasIds old ids → count ≡ number_in (with_name ids id) id
-number_on_top old ids id rank count is above many h =
-    many ∙ ap length h.texts ∙ number_of_new ids id (above_all rank_of ids id old.top h.low (subst (λ n. old.top < n) is above))
+number_on_top old ids id tail count is above many h =
+    many ∙ ap length h.texts ∙ number_of_new ids id (above_all tail_of ids id old.top h.low (subst (λ n. old.top < n) is above))
 
 -- the ids with one whose number is that of a new one, or of one among them
 pub texts_if_new : (ids : List (List ℕ)) (id : List ℕ) (number : ℕ) → number ≡ number_in (with_name ids id) id → length ids ≤ number → ids ++ id ∷ [] ≡ with_name ids id
@@ -119,14 +119,14 @@ texts_if_known ids id number e h =
     let same = e ∙ number_stays ids id in
     sym (known_name ids id (any_at (bytes_eq id) ids (omega (arith, same, h))))
 
-pub looked_up : {S H : Type 0} (old new : Ids S H) (ids : List (List ℕ)) (id : List ℕ) (rank : ℕ) → rank ≡ rank_of id → rank ≤ old.top
+pub looked_up : {S H : Type 0} (old new : Ids S H) (ids : List (List ℕ)) (id : List ℕ) (tail : ℕ) → tail ≡ tail_of id → tail ≤ old.top
     → fields_of new.texts ≡ with_name ids id → new.top ≡ old.top → new.numbering ≡ with_name ids id → new.last ≡ old.last → HasIds old ids → HasIds new (with_name ids id)
-looked_up old new ids id rank is low texts top numbering last h =
+looked_up old new ids id tail is low texts top numbering last h =
     let all = with_name ids id in
     record {
       texts = texts;
       new = each_new_with ids id h.new;
-      low = low_with rank_of ids id old.top new.top h.low (omega (arith, top)) (subst (λ n. n ≤ new.top) is (omega (arith, top, low)));
+      low = low_with tail_of ids id old.top new.top h.low (omega (arith, top)) (subst (λ n. n ≤ new.top) is (omega (arith, top, low)));
       front = numbering ∙ sym (ap (λ ns. take (length ns) all) numbering ∙ take-length all);
       last = subst (HasKnown all) (sym last) (λ whole. known_more ids id _ old.last.number (h.last whole));
     }

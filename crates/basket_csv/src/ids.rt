@@ -2,7 +2,7 @@
 ghost use Rattle.std.specs.Prelude.{◌≡◌, ◌≤◌, ℕ, true, List, [], length, take, IfOk, IfErr, IfSome, OnOk};
 ghost use Rattle.std.specs.Str.{is_utf8};
 ghost use Rattle.csv.specs.Records.{fields_of};
-ghost use Rattle.basket_csv.specs.Ids.{rank_of, EachIsNew, HasIds};
+ghost use Rattle.basket_csv.specs.Ids.{tail_of, EachIsNew, HasIds};
 ghost use Rattle.basket_csv.specs.declared.key.TheConstants.{WHOLE};
 ghost use Rattle.basket_csv.specs.Names.{number_in, with_name, IsKnown};
 ghost use Rattle.basket_csv.specs.Recent.{HasKnown, name_in};
@@ -17,15 +17,15 @@ use std::hash::BuildHasher;
 use std::marker::Model;
 
 /// The last 8 bytes of an id as a number, of which the last byte is the lowest: in most files the ids
-/// are numbers that rise, and so do their ranks.
-fn rank_of(id: &[u8]) -> u64
-    ensures { result ≡ rank_of id.now }
+/// are numbers that rise, and so do their tails.
+fn tail_of(id: &[u8]) -> u64
+    ensures { result ≡ tail_of id.now }
 {
-    let mut rank = 0u64;
+    let mut tail = 0u64;
     for byte in id {
-        rank = rank.wrapping_mul(256).wrapping_add(u64::from(*byte));
+        tail = tail.wrapping_mul(256).wrapping_add(u64::from(*byte));
     }
-    rank
+    tail
 }
 
 /// Numbers the ids that aren't numbered yet.
@@ -77,7 +77,7 @@ impl Latest {
 pub struct Ids<S: BuildHasher> {
     /// All ids, each a field.
     texts: StringRecord,
-    /// No id has a greater rank, so one that has is new.
+    /// No id has a greater tail, so one that has is new.
     top: u64,
     /// The ids up to some. Others are looked up in it once it has all.
     numbering: Numbering<S>,
@@ -131,11 +131,11 @@ impl<S: BuildHasher> Ids<S> {
         ensures number { (ids : List (List ℕ)) → HasIds self.old ids → IfOk result (λ number. number ≡ number_in (with_name ids id.now) id.now) }
         ensures err { IfErr result (λ fault. fault ≡ ReadFault.Memory) }
     {
-        let rank = rank_of(id.as_bytes());
+        let tail = tail_of(id.as_bytes());
         let count = self.texts.len();
-        if rank > self.top {
+        if tail > self.top {
             self.texts.push_field(id)?;
-            self.top = rank;
+            self.top = tail;
             return match u32::try_from(count) {
                 Ok(number) => Ok(number),
                 // An input is too short for so many ids.
