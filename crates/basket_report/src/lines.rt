@@ -63,7 +63,7 @@ impl Lines {
     {
         Ok(Lines {
             texts: Extent::of(sets).texts(alloc)?,
-            ratios: Ratios::new(alloc)?,
+            ratios: Ratios::for_sets(alloc, sets.len())?,
             count: Vec::new(alloc),
             text: Vec::new(alloc),
         })
@@ -80,7 +80,12 @@ impl Lines {
     }
 
     /// Adds the lines of rules with one union, by the counts of the union and of all baskets.
-    pub fn put_rules(&mut self, count: u64, total: u64, found: &[Sides<'_>]) -> Result<(), AllocError>
+    pub fn put_rules(
+        &mut self,
+        count: u64,
+        total: u64,
+        found: &[Sides<'_>],
+    ) -> Result<(), AllocError>
         ensures { OnOk result (self.new ≡ self.old ++ flat_map (λ sides. rule_line (rule_between total count sides)) found.now) }
     {
         fill_count(&mut self.count, count)?;

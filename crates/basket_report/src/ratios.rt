@@ -8,8 +8,11 @@ use basket_core::Fraction;
 use basket_rules::Sides;
 use std::alloc::{AllocError, Global};
 
-/// How many texts are kept.
-const SLOTS: usize = 8_192;
+/// No more texts are kept than this, which is a power of two.
+const MOST_SLOTS: usize = 65_536;
+
+/// Room for the text of most fractions.
+const TEXT_ROOM: usize = 24;
 
 /// An odd number with its bits well mixed: 2^64 by the golden ratio.
 const MULTIPLIER: u64 = 0x9E37_79B9_7F4A_7C15;
@@ -28,7 +31,7 @@ impl Written {
         requires { 1 ≤ denominator }
         ensures { IfOk result (λ written. (written.numerator ≡ numerator) × (written.denominator ≡ denominator)) }
     {
-        let mut text = Vec::new(alloc);
+        let mut text = Vec::with_capacity(alloc, TEXT_ROOM)?;
         put_reduced(&mut text, u128::from(numerator), u128::from(denominator))?;
         Ok(Written {
             numerator,
@@ -43,7 +46,7 @@ impl Written {
 #[derive(Debug, Drop)]
 pub struct Ratios {
     alloc: Global,
-    slots: Vec<Written>,
+    slots: Vec<Option<Written>>,
 }
 
 impl Ratios {
@@ -55,11 +58,16 @@ impl Ratios {
         }
     }
 
-    /// Texts are kept from now on.
-    pub fn new(alloc: Global) -> Result<Self, AllocError> {
-        let mut slots = Vec::with_capacity(alloc, SLOTS)?;
-        for _ in 0..SLOTS {
-            slots.push(Written::new(alloc, 0, 1)?)?;
+    /// Texts are kept from now on, for the rules between so many sets.
+    pub fn for_sets(alloc: Global, sets: usize) -> Result<Self, AllocError> {
+        let number = sets
+            .min(MOST_SLOTS / 4)
+            .saturating_mul(4)
+            .checked_next_power_of_two()
+            .unwrap_or(1);
+        let mut slots = Vec::with_capacity(alloc, number)?;
+        for _ in 0..number {
+            slots.push(None)?;
         }
         Ok(Ratios { alloc, slots })
     }
@@ -73,7 +81,11 @@ impl Ratios {
     ) -> Result<(), AllocError>
         ensures { OnOk result (report.new.items ≡ report.old.items ++ ratio_text (lowest count (max sides.now.left.now.count 1))) }
     {
-        self.put(report, u128::from(count), u128::from(sides.left.count).max(1))
+        self.put(
+            report,
+            u128::from(count),
+            u128::from(sides.left.count).max(1),
+        )
     }
 
     /// Adds the lift of a rule, by the counts of its union and of all baskets.
@@ -115,23 +127,24 @@ impl Ratios {
         requires { 1 ≤ denominator }
         ensures { OnOk result (report.new.items ≡ report.old.items ++ ratio_text (lowest numerator denominator)) }
     {
-        match self.slots.get_mut(slot_of(numerator, denominator)) {
+        let place = slot_of(numerator, denominator) & self.slots.len().saturating_sub(1);
+        match self.slots.get_mut(place) {
+            Some(Some(written))
+                if written.numerator == numerator && written.denominator == denominator => {
+                report.extend_from_slice(&written.text)
+            }
             Some(slot) => {
-                if slot.numerator != numerator || slot.denominator != denominator {
-                    *slot = Written::new(self.alloc, numerator, denominator)?;
-                }
-                report.extend_from_slice(&slot.text)
+                let written = Written::new(self.alloc, numerator, denominator)?;
+                report.extend_from_slice(&written.text)?;
+                *slot = Some(written);
+                Ok(())
             }
             None => put_reduced(report, u128::from(numerator), u128::from(denominator)),
         }
     }
 }
 
-fn put_reduced(
-    report: &mut Vec<u8>,
-    numerator: u128,
-    denominator: u128,
-) -> Result<(), AllocError>
+fn put_reduced(report: &mut Vec<u8>, numerator: u128, denominator: u128) -> Result<(), AllocError>
     requires { 1 ≤ denominator }
     ensures { OnOk result (report.new.items ≡ report.old.items ++ ratio_text (lowest numerator denominator)) }
 {
@@ -140,5 +153,5 @@ fn put_reduced(
 
 fn slot_of(numerator: u64, denominator: u64) -> usize {
     let hash = (numerator.wrapping_mul(MULTIPLIER) ^ denominator).wrapping_mul(MULTIPLIER);
-    (hash >> 32) as usize % SLOTS
+    (hash >> 32) as usize
 }

@@ -48,7 +48,7 @@ impl<'a> Report<'a> {
         match style {
             Style::Numbers => Ok(Report::Lines(Lines::for_rules(alloc, sets)?)),
             Style::Names { names, separator } => {
-                let ratios = Ratios::new(alloc)?;
+                let ratios = Ratios::for_sets(alloc, sets.len())?;
                 Ok(Report::Table(Table::new(alloc, names, separator, ratios)))
             }
         }
@@ -66,7 +66,12 @@ impl<'a> Report<'a> {
     }
 
     /// Adds rules with one union, by the counts of the union and of all baskets.
-    pub fn put_rules(&mut self, count: u64, total: u64, found: &[Sides<'_>]) -> Result<(), AllocError>
+    pub fn put_rules(
+        &mut self,
+        count: u64,
+        total: u64,
+        found: &[Sides<'_>],
+    ) -> Result<(), AllocError>
         ensures { (wording : Wording) (text : List ℕ) → HasSoFar self.old wording text
             → OnOk result (HasSoFar self.new wording (text ++ union_text wording total count found.now)) }
     {

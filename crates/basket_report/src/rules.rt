@@ -23,7 +23,14 @@ pub fn rules_report(
     let mut lookups = Lookups::of(alloc, frequent.sets())?;
     let mut report = Report::for_rules(alloc, style, frequent.sets())?;
     for number in 0..frequent.sets().len() {
-        put_union(alloc, frequent, number, confidence, &mut lookups, &mut report)?;
+        put_union(
+            alloc,
+            frequent,
+            number,
+            confidence,
+            &mut lookups,
+            &mut report,
+        )?;
     }
     report.into_text()
 }

@@ -50,7 +50,12 @@ impl<'a> Table<'a> {
     }
 
     /// Adds the records of rules with one union, by the counts of the union and of all baskets.
-    pub fn put_rules(&mut self, count: u64, total: u64, found: &[Sides<'_>]) -> Result<(), AllocError>
+    pub fn put_rules(
+        &mut self,
+        count: u64,
+        total: u64,
+        found: &[Sides<'_>],
+    ) -> Result<(), AllocError>
         ensures { (separator : ℕ) (names : List (List ℕ)) (text : List ℕ) → HasText self.old separator names text
             → OnOk result (HasText self.new separator names (text ++ flat_map (λ sides. rule_record separator names (rule_between total count sides)) found.now)) }
     {

@@ -83,9 +83,13 @@ pub fn put_fraction(report: &mut Vec<u8>, fraction: &Fraction) -> Result<(), All
     put_large(report, fraction.denominator())
 }
 
+/// Adds the number. Most fit 64 bits, whose text is made faster.
 fn put_large(report: &mut Vec<u8>, number: u128) -> Result<(), AllocError>
     ensures { OnOk result (report.new.items ≡ report.old.items ++ decimal number) }
 {
+    if let Ok(number) = u64::try_from(number) {
+        return put_number(report, number);
+    }
     let mut buffer = Buffer::new();
     report.extend_from_slice(buffer.format(number).as_bytes())
 }

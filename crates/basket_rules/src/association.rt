@@ -75,7 +75,12 @@ pub fn rules_with_lookups(
     ensures { IfOk result (λ rules. AreRulesWith frequent.now confidence number rules.items) }
 {
     let found = sides_with_lookups(alloc, frequent, number, confidence, lookups)?;
-    rules_between(alloc, frequent.sets()[number].count, frequent.total(), &found)
+    rules_between(
+        alloc,
+        frequent.sets()[number].count,
+        frequent.total(),
+        &found,
+    )
 }
 
 /// The sides of these rules. Right sides go level by level: those of one more item are made from the
