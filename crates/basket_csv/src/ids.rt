@@ -75,11 +75,11 @@ impl Latest {
 /// The ids so far, by which new ones are numbered.
 #[derive(Drop)]
 pub struct Ids<S: BuildHasher> {
-    /// All ids, each a field.
+    /// All ids, as the fields of one record, so that none has an allocation of its own.
     texts: StringRecord,
     /// No id has a greater tail, so one that has is new.
     top: u64,
-    /// The ids up to some. Others are looked up in it once it has all.
+    /// The first of the ids. It gets the others once an id has to be looked up.
     numbering: Numbering<S>,
     last: Latest,
 }
@@ -126,6 +126,7 @@ impl<S: BuildHasher> Ids<S> {
         Ok(number)
     }
 
+    /// The same for an id that wasn't found of late.
     fn find(&mut self, id: &str) -> Result<u32, ReadFault>
         ensures ids { (ids : List (List ℕ)) → HasIds self.old ids → OnOk result (HasIds self.new (with_name ids id.now)) }
         ensures number { (ids : List (List ℕ)) → HasIds self.old ids → IfOk result (λ number. number ≡ number_in (with_name ids id.now) id.now) }

@@ -81,6 +81,7 @@ impl<S: BuildHasher> Numbering<S> {
         }
     }
 
+    /// The number of names.
     pub fn len(&self) -> usize
         ensures { result ≡ length self.now }
     {
