@@ -61,7 +61,14 @@ fn refused_inputs(rt: HostRuntime) -> Result<(), Fail> {
     ];
     for &(input, fault, text) in cases {
         let fault = RunFault::Input(fault);
-        assert_refuses(&rt, rt.alloc(), &["items", "--min", "1"], input, fault, text)?;
+        assert_refuses(
+            &rt,
+            rt.alloc(),
+            &["items", "--min", "1"],
+            input,
+            fault,
+            text,
+        )?;
         assert_eq!(rt; status_of(&fault), 3);
     }
     Ok(())
