@@ -3,8 +3,6 @@ use Rattle.std.specs.Prelude.{◌≡◌, ℕ, List}
 use Rattle.std.specs.List.{flat_map}
 use Rattle.basket_sets.specs.declared.counted.Counted.{Counted}
 use Rattle.basket_rules.specs.declared.association.Rule.{Rule}
-use Rattle.basket_rules.specs.declared.sides.Sides.{Sides}
-use Rattle.basket_rules.specs.Rules.{rule_between}
 use Rattle.basket_report.specs.declared.report.Report.{Report}
 use Rattle.basket_report.specs.declared.report.Report.TheVariants as report
 use Rattle.basket_report.specs.Lines.{set_line, rule_line}
@@ -32,10 +30,6 @@ report_of wording sets = flat_map (set_text wording) sets
 -- the texts of rules
 abbrev pub rules_report_of : Wording → List Rule → List ℕ
 rules_report_of wording rules = flat_map (rule_text wording) rules
-
--- those of rules with one union, by the weight of all baskets, the count of the union and the sides
-abbrev pub union_text : Wording → ℕ → ℕ → List Sides → List ℕ
-union_text wording total count found = flat_map (λ sides. rule_text wording (rule_between total count sides)) found
 
 -- a report that is being written has this text so far
 abbrev pub HasSoFar : Report → Wording → List ℕ → Type 0

@@ -4,7 +4,6 @@
 mod extent;
 mod items;
 mod lines;
-mod ratios;
 mod report;
 mod rules;
 mod sets;

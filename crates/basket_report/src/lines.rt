@@ -1,15 +1,12 @@
 //! Lines of numbers.
-ghost use Rattle.std.specs.Prelude.{◌≡◌, ◌++◌, ◌∷◌, [], IfOk, OnOk, codes, decimal};
-ghost use Rattle.std.specs.List.{flat_map};
-ghost use Rattle.basket_rules.specs.Rules.{rule_between};
-ghost use Rattle.basket_report.specs.Lines.{items_text, ratios_text, rule_line, set_line};
+ghost use Rattle.std.specs.Prelude.{◌≡◌, ◌++◌, [], IfOk, OnOk};
+ghost use Rattle.basket_report.specs.Lines.{items_text, ratios_text, rule_line, set_line, sides_text};
 ghost use Rattle.basket_report.specs.Report.{set_of};
 
 use crate::extent::Extent;
-use crate::ratios::Ratios;
-use crate::texts::{Texts, put_number};
+use crate::texts::{Texts, put_fraction, put_number};
 use basket_core::Counted;
-use basket_rules::Sides;
+use basket_rules::Rule;
 use std::alloc::{AllocError, Global};
 use std::marker::Model;
 
@@ -17,9 +14,6 @@ use std::marker::Model;
 #[derive(Debug, Drop)]
 pub struct Lines {
     texts: Texts,
-    ratios: Ratios,
-    /// The text of the count of a union.
-    count: Vec<u8>,
     text: Vec<u8>,
 }
 
@@ -38,8 +32,6 @@ impl Lines {
     {
         Ok(Lines {
             texts: Texts::below(alloc, 0)?,
-            ratios: Ratios::none(alloc),
-            count: Vec::new(alloc),
             text: Vec::new(alloc),
         })
     }
@@ -51,8 +43,6 @@ impl Lines {
         let extent = Extent::of(sets);
         Ok(Lines {
             texts: extent.texts(alloc)?,
-            ratios: Ratios::none(alloc),
-            count: Vec::new(alloc),
             text: Vec::with_capacity(alloc, extent.room())?,
         })
     }
@@ -63,8 +53,6 @@ impl Lines {
     {
         Ok(Lines {
             texts: Extent::of(sets).texts(alloc)?,
-            ratios: Ratios::for_sets(alloc, sets.len())?,
-            count: Vec::new(alloc),
             text: Vec::new(alloc),
         })
     }
@@ -79,21 +67,16 @@ impl Lines {
         self.text.extend_from_slice(b")\n")
     }
 
-    /// Adds the lines of rules with one union, by the counts of the union and of all baskets.
-    pub fn put_rules(
-        &mut self,
-        count: u64,
-        total: u64,
-        found: &[Sides<'_>],
-    ) -> Result<(), AllocError>
-        ensures { OnOk result (self.new ≡ self.old ++ flat_map (λ sides. rule_line (rule_between total count sides)) found.now) }
+    /// Adds the line of a rule.
+    pub fn put_rule(&mut self, rule: &Rule) -> Result<(), AllocError>
+        ensures { OnOk result (self.new ≡ self.old ++ rule_line rule.now) }
     {
-        fill_count(&mut self.count, count)?;
-        for sides in found {
-            put_sides(&mut self.text, &self.texts, sides)?;
-            self.text.extend_from_slice(&self.count)?;
-            put_ratios(&mut self.text, &mut self.ratios, count, total, sides)?;
-        }
+        put_sides(&mut self.text, &self.texts, rule)?;
+        self.text.extend_from_slice(b" (")?;
+        put_number(&mut self.text, rule.count)?;
+        self.text.extend_from_slice(b") ")?;
+        put_ratios(&mut self.text, rule)?;
+        self.text.push(b'\n')?;
         Ok(())
     }
 
@@ -111,7 +94,7 @@ fn put_items(report: &mut Vec<u8>, texts: &Texts, items: &[u32]) -> Result<(), A
     ensures { OnOk result (report.new.items ≡ report.old.items ++ items_text items.now) }
 {
     if let Some((first, others)) = items.split_first() {
-        texts.put_first(report, *first)?;
+        put_number(report, u64::from(*first))?;
         for item in others {
             texts.put(report, *item)?;
         }
@@ -119,37 +102,18 @@ fn put_items(report: &mut Vec<u8>, texts: &Texts, items: &[u32]) -> Result<(), A
     Ok(())
 }
 
-/// Makes `text` the count in parentheses, with a space before and behind.
-fn fill_count(text: &mut Vec<u8>, count: u64) -> Result<(), AllocError>
-    ensures { OnOk result (text.new.items ≡ codes " (" ++ decimal count ++ codes ") ") }
+fn put_sides(report: &mut Vec<u8>, texts: &Texts, rule: &Rule) -> Result<(), AllocError>
+    ensures { OnOk result (report.new.items ≡ report.old.items ++ sides_text rule.now) }
 {
-    text.clear();
-    text.extend_from_slice(b" (")?;
-    put_number(text, count)?;
-    text.extend_from_slice(b") ")
-}
-
-fn put_sides(report: &mut Vec<u8>, texts: &Texts, sides: &Sides<'_>) -> Result<(), AllocError>
-    ensures { OnOk result (report.new.items ≡ report.old.items ++ items_text sides.now.left.now.set ++ codes " => " ++ items_text sides.now.right.now.set) }
-{
-    put_items(report, texts, sides.left.set.items())?;
+    put_items(report, texts, rule.left.items())?;
     report.extend_from_slice(b" => ")?;
-    put_items(report, texts, sides.right.set.items())
+    put_items(report, texts, rule.right.items())
 }
 
-/// Adds what stands behind the count.
-fn put_ratios(
-    report: &mut Vec<u8>,
-    ratios: &mut Ratios,
-    count: u64,
-    total: u64,
-    sides: &Sides<'_>,
-) -> Result<(), AllocError>
-    ensures { OnOk result (report.new.items ≡ report.old.items ++ ratios_text (rule_between total count sides.now) ++ 10 ∷ []) }
+fn put_ratios(report: &mut Vec<u8>, rule: &Rule) -> Result<(), AllocError>
+    ensures { OnOk result (report.new.items ≡ report.old.items ++ ratios_text rule.now) }
 {
-    ratios.put_confidence(report, count, sides)?;
+    put_fraction(report, &rule.confidence)?;
     report.push(b' ')?;
-    ratios.put_lift(report, count, total, sides)?;
-    report.push(b'\n')?;
-    Ok(())
+    put_fraction(report, &rule.lift)
 }

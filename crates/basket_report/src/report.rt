@@ -1,14 +1,13 @@
 //! A report that is being written.
 ghost use Rattle.std.specs.Prelude.{◌≡◌, ◌++◌, [], ℕ, List, IfOk, OnOk};
-ghost use Rattle.basket_report.specs.Report.{HasSoFar, set_of, set_text, union_text};
+ghost use Rattle.basket_report.specs.Report.{HasSoFar, rule_text, rules_report_of, set_of, set_text};
 ghost use Rattle.basket_report.specs.Style.{Wording, wording_of};
 
 use crate::lines::Lines;
-use crate::ratios::Ratios;
 use crate::style::Style;
 use crate::table::Table;
 use basket_core::Counted;
-use basket_rules::Sides;
+use basket_rules::Rule;
 use std::alloc::{AllocError, Global};
 
 /// A report so far.
@@ -25,9 +24,7 @@ impl<'a> Report<'a> {
     {
         Ok(match style {
             Style::Numbers => Report::Lines(Lines::new(alloc)?),
-            Style::Names { names, separator } => {
-                Report::Table(Table::new(alloc, names, separator, Ratios::none(alloc)))
-            }
+            Style::Names { names, separator } => Report::Table(Table::new(alloc, names, separator)),
         })
     }
 
@@ -47,10 +44,7 @@ impl<'a> Report<'a> {
     {
         match style {
             Style::Numbers => Ok(Report::Lines(Lines::for_rules(alloc, sets)?)),
-            Style::Names { names, separator } => {
-                let ratios = Ratios::for_sets(alloc, sets.len())?;
-                Ok(Report::Table(Table::new(alloc, names, separator, ratios)))
-            }
+            Style::Names { .. } => Report::new(alloc, style),
         }
     }
 
@@ -65,20 +59,26 @@ impl<'a> Report<'a> {
         }
     }
 
-    /// Adds rules with one union, by the counts of the union and of all baskets.
-    pub fn put_rules(
-        &mut self,
-        count: u64,
-        total: u64,
-        found: &[Sides<'_>],
-    ) -> Result<(), AllocError>
+    /// Adds a rule.
+    pub fn put_rule(&mut self, rule: &Rule) -> Result<(), AllocError>
         ensures { (wording : Wording) (text : List ℕ) → HasSoFar self.old wording text
-            → OnOk result (HasSoFar self.new wording (text ++ union_text wording total count found.now)) }
+            → OnOk result (HasSoFar self.new wording (text ++ rule_text wording rule.now)) }
     {
         match self {
-            Report::Lines(lines) => lines.put_rules(count, total, found),
-            Report::Table(table) => table.put_rules(count, total, found),
+            Report::Lines(lines) => lines.put_rule(rule),
+            Report::Table(table) => table.put_rule(rule),
         }
+    }
+
+    /// Adds rules.
+    pub fn put_rules(&mut self, rules: &[Rule]) -> Result<(), AllocError>
+        ensures { (wording : Wording) (text : List ℕ) → HasSoFar self.old wording text
+            → OnOk result (HasSoFar self.new wording (text ++ rules_report_of wording rules.now)) }
+    {
+        for rule in rules {
+            self.put_rule(rule)?;
+        }
+        Ok(())
     }
 
     /// The text of the report.

@@ -1,15 +1,14 @@
 //! CSV records of names.
 ghost use Rattle.std.specs.Prelude.{◌≡◌, ◌≢◌, ◌++◌, [], ◌∷◌, ℕ, List, IfOk, OnOk, decimal, false};
-ghost use Rattle.std.specs.List.{flat_map};
 ghost use Rattle.csv.specs.Writing.{is_blank, row_text};
-ghost use Rattle.basket_rules.specs.Rules.{rule_between};
 ghost use Rattle.basket_report.specs.Report.{set_of};
+ghost use Rattle.basket_report.specs.Texts.{ratio_text};
 ghost use Rattle.basket_report.specs.Table.{HasFields, HasText, names_of, rule_record, set_record, writer_of};
 
-use crate::ratios::Ratios;
-use crate::texts::put_number;
+use crate::texts::{put_fraction, put_number};
+use basket_core::Fraction;
 use basket_csv::Names;
-use basket_rules::Sides;
+use basket_rules::Rule;
 use csv::{Writer, WriterBuilder};
 use std::alloc::{AllocError, Global};
 
@@ -20,12 +19,11 @@ pub struct Table<'a> {
     writer: Writer<Vec<u8>>,
     /// The text of one number or fraction.
     field: Vec<u8>,
-    ratios: Ratios,
 }
 
 impl<'a> Table<'a> {
     /// No records, with this byte between fields.
-    pub fn new(alloc: Global, names: &'a Names, separator: u8, ratios: Ratios) -> Self
+    pub fn new(alloc: Global, names: &'a Names, separator: u8) -> Self
         ensures { HasText result separator names.now [] }
     {
         Table {
@@ -35,7 +33,6 @@ impl<'a> Table<'a> {
                 .flexible(true)
                 .from_writer(Vec::new(alloc)),
             field: Vec::new(alloc),
-            ratios,
         }
     }
 
@@ -49,43 +46,22 @@ impl<'a> Table<'a> {
         end_record(&mut self.writer)
     }
 
-    /// Adds the records of rules with one union, by the counts of the union and of all baskets.
-    pub fn put_rules(
-        &mut self,
-        count: u64,
-        total: u64,
-        found: &[Sides<'_>],
-    ) -> Result<(), AllocError>
+    /// Adds the record of a rule.
+    pub fn put_rule(&mut self, rule: &Rule) -> Result<(), AllocError>
         ensures { (separator : ℕ) (names : List (List ℕ)) (text : List ℕ) → HasText self.old separator names text
-            → OnOk result (HasText self.new separator names (text ++ flat_map (λ sides. rule_record separator names (rule_between total count sides)) found.now)) }
-    {
-        for sides in found {
-            self.put_rule(count, total, sides)?;
-        }
-        Ok(())
-    }
-
-    /// Adds the record of one of them.
-    fn put_rule(&mut self, count: u64, total: u64, sides: &Sides<'_>) -> Result<(), AllocError>
-        ensures { (separator : ℕ) (names : List (List ℕ)) (text : List ℕ) → HasText self.old separator names text
-            → OnOk result (HasText self.new separator names (text ++ rule_record separator names (rule_between total count sides.now))) }
+            → OnOk result (HasText self.new separator names (text ++ rule_record separator names rule.now)) }
     {
         let Table {
             names,
             writer,
             field,
-            ratios,
         } = self;
-        put_number_field(writer, field, count)?;
-        field.clear();
-        ratios.put_confidence(field, count, sides)?;
-        put_later_field(writer, field)?;
-        field.clear();
-        ratios.put_lift(field, count, total, sides)?;
-        put_later_field(writer, field)?;
-        put_number_field(writer, field, sides.left.set.len() as u64)?;
-        put_names(writer, names, sides.left.set.items())?;
-        put_names(writer, names, sides.right.set.items())?;
+        put_number_field(writer, field, rule.count)?;
+        put_fraction_field(writer, field, &rule.confidence)?;
+        put_fraction_field(writer, field, &rule.lift)?;
+        put_number_field(writer, field, rule.left.len() as u64)?;
+        put_names(writer, names, rule.left.items())?;
+        put_names(writer, names, rule.right.items())?;
         end_record(writer)
     }
 
@@ -125,11 +101,17 @@ fn put_number_field(
     put_field(writer, field)
 }
 
-/// Adds a field, behind another one.
-fn put_later_field(writer: &mut Writer<Vec<u8>>, field: &[u8]) -> Result<(), AllocError>
+/// Adds a fraction, behind another field.
+fn put_fraction_field(
+    writer: &mut Writer<Vec<u8>>,
+    field: &mut Vec<u8>,
+    fraction: &Fraction,
+) -> Result<(), AllocError>
     ensures { (separator : ℕ) (text : List ℕ) (fields : List (List ℕ)) → HasFields writer.old separator text fields → fields ≢ []
-        → OnOk result (HasFields writer.new separator text (fields ++ field.now ∷ [])) }
+        → OnOk result (HasFields writer.new separator text (fields ++ ratio_text fraction.now ∷ [])) }
 {
+    field.clear();
+    put_fraction(field, fraction)?;
     put_field(writer, field)
 }
 

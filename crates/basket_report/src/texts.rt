@@ -38,16 +38,6 @@ impl Texts {
         Ok(Texts { texts })
     }
 
-    /// Adds the number.
-    pub fn put_first(&self, report: &mut Vec<u8>, number: u32) -> Result<(), AllocError>
-        ensures { OnOk result (report.new.items ≡ report.old.items ++ decimal number) }
-    {
-        match self.texts.get(number as usize) {
-            Some(text) => report.extend_from_slice(&text[1..]),
-            None => put_number(report, u64::from(number)),
-        }
-    }
-
     /// Adds a space and the number.
     pub fn put(&self, report: &mut Vec<u8>, number: u32) -> Result<(), AllocError>
         ensures { OnOk result (report.new.items ≡ report.old.items ++ 32 ∷ decimal number) }
@@ -83,13 +73,9 @@ pub fn put_fraction(report: &mut Vec<u8>, fraction: &Fraction) -> Result<(), All
     put_large(report, fraction.denominator())
 }
 
-/// Adds the number. Most fit 64 bits, whose text is made faster.
 fn put_large(report: &mut Vec<u8>, number: u128) -> Result<(), AllocError>
     ensures { OnOk result (report.new.items ≡ report.old.items ++ decimal number) }
 {
-    if let Ok(number) = u64::try_from(number) {
-        return put_number(report, number);
-    }
     let mut buffer = Buffer::new();
     report.extend_from_slice(buffer.format(number).as_bytes())
 }

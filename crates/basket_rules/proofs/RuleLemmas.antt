@@ -1,24 +1,22 @@
 -- Rules: their left sides are listed, and their confidence falls as the right side grows.
-use Rattle.std.proofs.Common.{leb, ◌≡◌, ◌≢◌, ℕ, ◌*◌, ◌<◌, ◌≤◌, true, false, not, cond, List, [], length, max, Some, None, sym, ap, ◌∙◌, subst, inl, inr, arith}
+use Rattle.std.proofs.Common.{leb, ◌≡◌, ◌≢◌, ℕ, ◌*◌, ◌<◌, ◌≤◌, true, false, not, cond, List, [], length, Some, None, sym, ap, ◌∙◌, subst, inl, inr, arith}
 use Rattle.std.proofs.lemmas.Bool.{cases_Bool, leb-true, le-leb, true≢false, false_from_ne_true}
 use Rattle.std.proofs.lemmas.List.Kept.{IsStrictlySortedBy-filter}
 use Rattle.std.specs.Ordering.{nat_cmp}
-use Rattle.std.proofs.Math.Nat.{max-eq_left}
 use Rattle.basket_core.specs.Fraction.{lowest}
 use Rattle.basket_core.specs.Listing.{Listing}
 use Rattle.basket_sets.specs.declared.weighted.Weighted.{Weighted}
 use Rattle.basket_sets.specs.declared.counted.Counted.{Counted}
 use Rattle.basket_sets.specs.declared.minimum.Minimum.{Minimum}
 use Rattle.basket_sets.specs.Frequent.{is_frequent, counted, IsNonemptySet}
-use Rattle.basket_sets.specs.Itemset.{IsRising, has, contains}
+use Rattle.basket_sets.specs.Itemset.{IsRising, has, contains, rising}
 use Rattle.basket_sets.specs.Support.{support_of, total_of}
 use Rattle.basket_sets.proofs.theory.Members.{Member, Member-filter, Member-from_filter}
-use Rattle.basket_sets.proofs.theory.Rising.{has_each, contains_each, has-from_Member, Member-from_has, length-le-contains}
+use Rattle.basket_sets.proofs.theory.Rising.{has_each, contains_each, has-from_Member, Member-from_has, length-le-contains, rising-rising}
 use Rattle.basket_sets.proofs.theory.Support.{support_falls, subsets_are_frequent, at_least_one}
-use Rattle.basket_rules.specs.declared.sides.Sides.{Sides}
-use Rattle.basket_rules.specs.Search.{IsMissing}
+use Rattle.basket_rules.specs.declared.association.Rule.{Rule}
 use Rattle.basket_rules.specs.Listed.{IsListingOf, set_at, count_at}
-use Rattle.basket_rules.specs.Rules.{difference, is_confident, rule_between, rule_if, rule_of, ConfidenceFalls, IsCountIn, IsRightSide, IsRuleFor}
+use Rattle.basket_rules.specs.Rules.{difference, is_confident, rule_of, ConfidenceFalls, IsCountIn, IsRightSide, IsRuleFor}
 use Rattle.basket_rules.proofs.CondensedLemmas.{not_true, true_not, lists, is_sorted, entry}
 use Rattle.basket_rules.proofs.SearchLemmas.{set_is}
 
@@ -111,38 +109,26 @@ module _ (listing : Listing) (number : ℕ) (within : number < length listing.se
     right_some : 1 ≤ support_of baskets right
     right_some = at_least_one minimum (support_of baskets right) (total_of baskets) right_often
 
-    -- so both sides are in the list
-    stands_at : (set : List ℕ) → IsNonemptySet set → is_frequent baskets minimum set ≡ true → IsMissing listing.sets set → ⊥
-    stands_at set nonempty h missing =
-        let c = (lists baskets minimum listing is).complete set nonempty h in
-        missing (is_sorted baskets minimum listing is) c.0 c.1 (set_is listing.sets c.0 (counted baskets set) c.1 ∙ ap (λ (x : Counted). x.set) c.2)
-
-  pub no_left : (confidence : ℕ × ℕ) → IsMissing listing.sets (difference (set_at listing.sets number) right) → IsRuleFor listing confidence number right None
-  no_left confidence missing baskets minimum is side =
-      absurd (stands_at baskets minimum is side (difference (set_at listing.sets number) right) (left_nonempty baskets minimum is side) (left_often baskets minimum is side) missing)
-
-  pub no_right : (confidence : ℕ × ℕ) → IsMissing listing.sets right → IsRuleFor listing confidence number right None
-  no_right confidence missing baskets minimum is side =
-      absurd (stands_at baskets minimum is side right (side.0.0, side.0.1) (right_often baskets minimum is side) missing)
-
   pub no_rule : (confidence : ℕ × ℕ) (left_count : ℕ) → IsCountIn listing.sets (difference (set_at listing.sets number) right) left_count
       → leb (confidence.0 * left_count) (count_at listing.sets number * confidence.1) ≡ false → IsRuleFor listing confidence number right None
   no_rule confidence left_count left_is test baskets minimum is side =
       sym (ap (λ b. cond b (Some (rule_of baskets (set_at listing.sets number) right)) None)
       ((λ i. leb (confidence.0 * sym (left_count_is baskets minimum is side left_count left_is) i) (sym (union_count_is baskets minimum is side) i * confidence.1)) ∙ test))
 
-  pub a_rule : (confidence : ℕ × ℕ) (sides : Sides) → IsCountIn listing.sets (difference (set_at listing.sets number) right) sides.left.now.count → IsCountIn listing.sets right sides.right.now.count
-      → leb (confidence.0 * sides.left.now.count) (count_at listing.sets number * confidence.1) ≡ true
-      → sides.left.now.set ≡ difference (set_at listing.sets number) right → sides.right.now.set ≡ right
-      → IsRuleFor listing confidence number right (rule_if listing number (Some sides))
-  a_rule confidence sides left_is right_is test e_left e_right baskets minimum is side =
+  pub a_rule : (confidence : ℕ × ℕ) (left_count right_count : ℕ) (rule : Rule) → IsCountIn listing.sets (difference (set_at listing.sets number) right) left_count → IsCountIn listing.sets right right_count
+      → leb (confidence.0 * left_count) (count_at listing.sets number * confidence.1) ≡ true
+      → rule.left ≡ rising (difference (set_at listing.sets number) right) → rule.right ≡ right → rule.count ≡ count_at listing.sets number
+      → (1 ≤ left_count → rule.confidence ≡ lowest (count_at listing.sets number) left_count)
+      → (1 ≤ left_count * right_count → rule.lift ≡ lowest (count_at listing.sets number * listing.total) (left_count * right_count))
+      → IsRuleFor listing confidence number right (Some rule)
+  a_rule confidence left_count right_count rule left_is right_is test e_left e_right e_count e_confidence e_lift baskets minimum is side =
       ap Some same ∙ sym (ap (λ b. cond b (Some (rule_of baskets (set_at listing.sets number) right)) None) passes)
     where
-      l : sides.left.now.count ≡ support_of baskets (difference (set_at listing.sets number) right)
-      l = left_count_is baskets minimum is side sides.left.now.count left_is
+      l : left_count ≡ support_of baskets (difference (set_at listing.sets number) right)
+      l = left_count_is baskets minimum is side left_count left_is
 
-      r : sides.right.now.count ≡ support_of baskets right
-      r = right_count_is baskets minimum is side sides.right.now.count right_is
+      r : right_count ≡ support_of baskets right
+      r = right_count_is baskets minimum is side right_count right_is
 
       u : count_at listing.sets number ≡ support_of baskets (set_at listing.sets number)
       u = union_count_is baskets minimum is side
@@ -150,18 +136,20 @@ module _ (listing : Listing) (number : ℕ) (within : number < length listing.se
       passes : is_confident baskets confidence (set_at listing.sets number) right ≡ true
       passes = (λ i. leb (confidence.0 * sym l i) (sym u i * confidence.1)) ∙ test
 
-      some : 1 ≤ sides.left.now.count
+      left : rule.left ≡ difference (set_at listing.sets number) right
+      left = e_left ∙ rising-rising (difference (set_at listing.sets number) right) (difference-rises (set_at listing.sets number) right (rises baskets minimum is side))
+
+      some : 1 ≤ left_count
       some = subst (λ n. 1 ≤ n) (sym l) (left_some baskets minimum is side)
 
-      both : 1 ≤ sides.left.now.count * sides.right.now.count
-      both = product sides.left.now.count sides.right.now.count some (subst (λ n. 1 ≤ n) (sym r) (right_some baskets minimum is side))
+      both : 1 ≤ left_count * right_count
+      both = product left_count right_count some (subst (λ n. 1 ≤ n) (sym r) (right_some baskets minimum is side))
 
-      share : lowest (count_at listing.sets number) (max sides.left.now.count 1) ≡ lowest (support_of baskets (set_at listing.sets number)) (support_of baskets (difference (set_at listing.sets number) right))
-      share = (λ i. lowest (u i) ((max-eq_left some ∙ l) i))
+      share : rule.confidence ≡ lowest (support_of baskets (set_at listing.sets number)) (support_of baskets (difference (set_at listing.sets number) right))
+      share = e_confidence some ∙ (λ i. lowest (u i) (l i))
 
-      lift : lowest (count_at listing.sets number * listing.total) (max (sides.left.now.count * sides.right.now.count) 1)
-          ≡ lowest (support_of baskets (set_at listing.sets number) * total_of baskets) (support_of baskets (difference (set_at listing.sets number) right) * support_of baskets right)
-      lift = ap (λ n. lowest (count_at listing.sets number * listing.total) n) (max-eq_left both) ∙ (λ i. lowest (u i * is.total i) (l i * r i))
+      lift : rule.lift ≡ lowest (support_of baskets (set_at listing.sets number) * total_of baskets) (support_of baskets (difference (set_at listing.sets number) right) * support_of baskets right)
+      lift = e_lift both ∙ (λ i. lowest (u i * is.total i) (l i * r i))
 
-      same : rule_between listing.total (count_at listing.sets number) sides ≡ rule_of baskets (set_at listing.sets number) right
-      same = λ i. record { left = e_left i; right = e_right i; count = u i; confidence = share i; lift = lift i }
+      same : rule ≡ rule_of baskets (set_at listing.sets number) right
+      same = λ i. record { left = left i; right = e_right i; count = (e_count ∙ u) i; confidence = share i; lift = lift i }

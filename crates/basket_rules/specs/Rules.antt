@@ -1,5 +1,5 @@
 -- Association rules (Agrawal and Srikant 1994).
-use Rattle.std.specs.Prelude.{◌≡◌, ◌<◌, ℕ, ◌*◌, Bool, IsTrue, not, nat_le, nat_lt, if◌then◌else◌, List, ◌++◌, length, map, max, filter, Option, Some, None, option_map}
+use Rattle.std.specs.Prelude.{◌≡◌, ◌<◌, ℕ, ◌*◌, Bool, IsTrue, not, nat_le, nat_lt, if◌then◌else◌, List, ◌++◌, length, map, filter, Option, Some, None}
 use Rattle.std.specs.List.{flat_map, AllByRecursion}
 use Rattle.basket_core.specs.Fraction.{lowest}
 use Rattle.basket_core.specs.Listing.{Listing}
@@ -11,7 +11,6 @@ use Rattle.basket_sets.specs.Itemset.{has, contains}
 use Rattle.basket_sets.specs.Subsets.{subsets_of, IsSublist}
 use Rattle.basket_sets.specs.Support.{support_of, total_of}
 use Rattle.basket_rules.specs.declared.association.Rule.{Rule}
-use Rattle.basket_rules.specs.declared.sides.Sides.{Sides}
 use Rattle.basket_rules.specs.Listed.{IsListingOf, IsSorted, set_at, count_at}
 
 -- the items of a set that another lacks
@@ -70,23 +69,6 @@ IsRightSide listing number right = IsSublist (set_at listing.sets number) right 
 abbrev pub IsRuleFor : Listing → ℕ × ℕ → ℕ → List ℕ → Option Rule → Type 0
 IsRuleFor listing confidence number right found = (baskets : List Weighted) (minimum : Minimum) → IsListingOf baskets minimum listing → IsRightSide listing number right
     → found ≡ (if is_confident baskets confidence (set_at listing.sets number) right then Some (rule_of baskets (set_at listing.sets number) right) else None)
-
--- the rule with these sides, by the weight of all baskets and the count of its union. A side that is frequent has a count of at least 1
-abbrev pub rule_between : ℕ → ℕ → Sides → Rule
-rule_between total count sides = record {
-  left = sides.left.now.set;
-  right = sides.right.now.set;
-  count = count;
-  confidence = lowest count (max sides.left.now.count 1);
-  lift = lowest (count * total) (max (sides.left.now.count * sides.right.now.count) 1);
-}
-
--- the rules with these sides and the set at a place as their union, and the one with the sides that were found
-abbrev pub rules_at : Listing → ℕ → List Sides → List Rule
-rules_at listing number sides = map (rule_between listing.total (count_at listing.sets number)) sides
-
-abbrev pub rule_if : Listing → ℕ → Option Sides → Option Rule
-rule_if listing number found = option_map (rule_between listing.total (count_at listing.sets number)) found
 
 -- what is kept of some right sides, and the rules after adding those of the ones that meet the confidence
 abbrev pub KeepsConfident : Listing → ℕ × ℕ → ℕ → List (List ℕ) → List (List ℕ) → List Rule → List Rule → Type 0

@@ -1,15 +1,15 @@
 //! Association rules (Agrawal and Srikant 1994).
-ghost use Rattle.std.specs.Prelude.{◌≡◌, ◌<◌, ◌-◌, ◌*◌, ℕ, [], ◌∷◌, OnOk, IfOk, IfSome, IfNone, length, map, nat_le};
+ghost use Rattle.std.specs.Prelude.{◌≡◌, ◌≤◌, ◌<◌, ◌-◌, ◌*◌, ℕ, [], ◌∷◌, OnOk, IfOk, length, map, nat_le};
+ghost use Rattle.basket_core.specs.Fraction.{lowest};
 ghost use Rattle.basket_sets.specs.Itemset.{IsRising, has};
 ghost use Rattle.basket_sets.specs.Order.{IsInReportOrder};
 ghost use Rattle.mine_apriori.specs.Sizes.{AreOfSize};
-ghost use Rattle.basket_rules.specs.Rules.{KeepsConfident, AreRules, AreRulesWith, IsCountIn, IsRuleFor, difference, rule_if, rules_at};
-ghost use Rattle.basket_rules.specs.Search.{IsMissing};
+ghost use Rattle.basket_rules.specs.Rules.{KeepsConfident, AreRules, AreRulesWith, IsCountIn, IsRuleFor, difference};
 
+use crate::fractions::Fractions;
 use crate::lookups::Lookups;
 use crate::places::Places;
 use crate::search::find;
-use crate::sides::{Sides, rules_between};
 use basket_core::{Counted, Fraction, Frequent, Itemset};
 use mine_apriori::candidates;
 use mine_apriori::laws::{
@@ -63,7 +63,9 @@ pub fn rules_with(
     rules_with_lookups(alloc, frequent, number, confidence, &mut lookups)
 }
 
-/// The same for one union after another.
+/// The same for one union after another. Right sides go level by level: those of one more item are
+/// made from the ones that met the confidence, and where one doesn't meet it, no larger one that has
+/// it is tried.
 pub fn rules_with_lookups(
     alloc: Global,
     frequent: &Frequent,
@@ -74,40 +76,19 @@ pub fn rules_with_lookups(
     requires { number < length frequent.now.sets }
     ensures { IfOk result (λ rules. AreRulesWith frequent.now confidence number rules.items) }
 {
-    let found = sides_with_lookups(alloc, frequent, number, confidence, lookups)?;
-    rules_between(
-        alloc,
-        frequent.sets()[number].count,
-        frequent.total(),
-        &found,
-    )
-}
-
-/// The sides of these rules. Right sides go level by level: those of one more item are made from the
-/// ones that met the confidence, and where one doesn't meet it, no larger one that has it is tried.
-pub fn sides_with_lookups<'a>(
-    alloc: Global,
-    frequent: &'a Frequent,
-    number: usize,
-    confidence: (u32, u32),
-    lookups: &mut Lookups,
-) -> Result<Vec<Sides<'a>>, AllocError>
-    requires { number < length frequent.now.sets }
-    ensures { IfOk result (λ sides. AreRulesWith frequent.now confidence number (rules_at frequent.now number sides.items)) }
-{
     candidates_are_exact();
     candidates_are_in_report_order();
     candidates_are_one_larger();
     let union = &frequent.sets()[number].set;
-    let mut found = Vec::new(alloc);
+    let mut rules = Vec::new(alloc);
     let mut rights = single_items(alloc, union)?;
     for size in 0..most_right_items(union) {
         let met = keep_confident(
-            alloc, frequent, number, confidence, rights, lookups, &mut found,
+            alloc, frequent, number, confidence, rights, lookups, &mut rules,
         )?;
         rights = candidates(alloc, &met)?;
     }
-    Ok(found)
+    Ok(rules)
 }
 
 /// How many items a right side has at most, since a left side has one too.
@@ -129,58 +110,65 @@ fn single_items(alloc: Global, set: &Itemset) -> Result<Vec<Itemset>, AllocError
     Ok(singles)
 }
 
-/// Of the right sides, those whose rules meet the confidence. The sides of these are added.
-fn keep_confident<'a>(
+/// Of the right sides, those whose rules meet the confidence. Their rules are added.
+fn keep_confident(
     alloc: Global,
-    frequent: &'a Frequent,
+    frequent: &Frequent,
     number: usize,
     confidence: (u32, u32),
     tried: Vec<Itemset>,
     lookups: &mut Lookups,
-    found: &mut Vec<Sides<'a>>,
+    rules: &mut Vec<Rule>,
 ) -> Result<Vec<Itemset>, AllocError>
     requires { number < length frequent.now.sets }
     ensures sized { IfOk result (λ met. (size : ℕ) → AreOfSize size tried.items → AreOfSize size met.items) }
     ensures in_order { IfOk result (λ met. IsInReportOrder tried.items → IsInReportOrder met.items) }
-    ensures kept { IfOk result (λ met. KeepsConfident frequent.now confidence number tried.items met.items (rules_at frequent.now number found.old.items) (rules_at frequent.now number found.new.items)) }
+    ensures kept { IfOk result (λ met. KeepsConfident frequent.now confidence number tried.items met.items rules.old.items rules.new.items) }
 {
     let mut met = Vec::new(alloc);
     for right in tried {
-        if let Some(sides) = sides_for(frequent, number, confidence, &right, lookups)? {
-            found.push(sides)?;
+        if let Some(rule) = rule_for(alloc, frequent, number, confidence, &right, lookups)? {
+            rules.push(rule)?;
             met.push(right)?;
         }
     }
     Ok(met)
 }
 
-/// The sides of the rule whose union is the set at the place, with this right side, where it meets
-/// the confidence.
-fn sides_for<'a>(
-    frequent: &'a Frequent,
+/// The rule whose sides make the set at the place, with this right side, where it meets the
+/// confidence.
+fn rule_for(
+    alloc: Global,
+    frequent: &Frequent,
     number: usize,
     confidence: (u32, u32),
     right: &Itemset,
     lookups: &mut Lookups,
-) -> Result<Option<Sides<'a>>, AllocError>
+) -> Result<Option<Rule>, AllocError>
     requires { number < length frequent.now.sets }
-    ensures { IfOk result (λ found. IsRuleFor frequent.now confidence number right.now (rule_if frequent.now number found)) }
+    ensures { IfOk result (λ found. IsRuleFor frequent.now confidence number right.now found) }
 {
     let sets = frequent.sets();
     let union = &sets[number];
-    let Lookups { places, left } = lookups;
+    let count = union.count;
+    let Lookups {
+        places,
+        fractions,
+        left,
+    } = lookups;
     fill_difference(left, union.set.items(), right)?;
-    // Each side of a frequent set is in the list.
-    let Some(left) = listed(sets, places, left) else {
-        return Ok(None);
-    };
-    if !meets(confidence, union.count, left.count) {
+    let left_count = count_of(sets, places, left);
+    if !meets(confidence, count, left_count) {
         return Ok(None);
     }
-    Ok(match listed(sets, places, right.items()) {
-        Some(right) => Some(Sides { left, right }),
-        None => None,
-    })
+    let right_count = count_of(sets, places, right.items());
+    Ok(Some(Rule {
+        left: Itemset::from_items(alloc, left)?,
+        right: right.copied(alloc)?,
+        count,
+        confidence: ratio(fractions, u128::from(count), u128::from(left_count)),
+        lift: lift(fractions, count, frequent.total(), left_count, right_count),
+    }))
 }
 
 /// Whether a count is at least such a share of that of the left side.
@@ -189,6 +177,23 @@ fn meets(confidence: (u32, u32), count: u64, left_count: u64) -> bool
 {
     u128::from(confidence.0) * u128::from(left_count)
         <= u128::from(count) * u128::from(confidence.1)
+}
+
+/// The lift of a rule, by the counts of its union, of all baskets and of its sides.
+fn lift(
+    fractions: &mut Fractions,
+    count: u64,
+    total: u64,
+    left_count: u64,
+    right_count: u64,
+) -> Fraction
+    ensures { 1 ≤ left_count * right_count → result ≡ lowest (count * total) (left_count * right_count) }
+{
+    ratio(
+        fractions,
+        u128::from(count) * u128::from(total),
+        u128::from(left_count) * u128::from(right_count),
+    )
 }
 
 /// Makes `rest` the items that the set lacks.
@@ -211,14 +216,19 @@ fn is_one_of(item: u32, items: &[u32]) -> bool
     items.iter().any(|other| *other == item)
 }
 
-/// The set with these items, where the list has it.
-fn listed<'a>(sets: &'a [Counted], places: &Places, items: &[u32]) -> Option<&'a Counted>
-    ensures same { IfSome result (λ counted. counted.now.set ≡ items.now) }
-    ensures counted { IfSome result (λ counted. IsCountIn sets.now items.now counted.now.count) }
-    ensures missing { IfNone result (IsMissing sets.now items.now) }
+/// The count of the set with these items, or 0 where the list doesn't have it.
+fn count_of(sets: &[Counted], places: &Places, items: &[u32]) -> u64
+    ensures { IsCountIn sets.now items.now result }
 {
     match find(sets, items, places.near(items)) {
-        Ok(at) => Some(&sets[at]),
-        Err(_) => None,
+        Ok(at) => sets[at].count,
+        Err(_) => 0,
     }
+}
+
+/// The fraction in lowest terms. A support of a frequent set is at least 1.
+fn ratio(fractions: &mut Fractions, numerator: u128, denominator: u128) -> Fraction
+    ensures { 1 ≤ denominator → result ≡ lowest numerator denominator }
+{
+    fractions.reduced(numerator, denominator.max(1))
 }

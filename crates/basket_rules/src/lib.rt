@@ -4,15 +4,14 @@
 mod above;
 mod association;
 mod condensed;
+mod fractions;
 pub mod laws;
 mod lookups;
 mod places;
 mod search;
-mod sides;
 mod tree;
 pub mod worked;
 
-pub use association::{Rule, rules, rules_with, rules_with_lookups, sides_with_lookups};
+pub use association::{Rule, rules, rules_with, rules_with_lookups};
 pub use condensed::{closed, maximal};
 pub use lookups::Lookups;
-pub use sides::Sides;

@@ -1,12 +1,16 @@
-//! What is kept from union to union while the rules of a list are made.
+//! What rules are looked up by.
+
+use crate::fractions::Fractions;
 use crate::places::Places;
 use basket_core::Counted;
 use std::alloc::{AllocError, Global};
 
-/// Where the sets of a list may stand, and room. No rule depends on it.
+/// What is kept from union to union while the rules of a list are made: where its sets may stand,
+/// and fractions that were reduced of late. No rule depends on it.
 #[derive(Debug, Drop)]
 pub struct Lookups {
     pub(crate) places: Places,
+    pub(crate) fractions: Fractions,
     /// The room of left sides.
     pub(crate) left: Vec<u32>,
 }
@@ -16,6 +20,7 @@ impl Lookups {
     pub fn none(alloc: Global) -> Self {
         Lookups {
             places: Places::none(alloc),
+            fractions: Fractions::none(alloc),
             left: Vec::new(alloc),
         }
     }
@@ -24,6 +29,7 @@ impl Lookups {
     pub fn of(alloc: Global, sets: &[Counted]) -> Result<Self, AllocError> {
         Ok(Lookups {
             places: Places::of(alloc, sets)?,
+            fractions: Fractions::new(alloc)?,
             left: Vec::new(alloc),
         })
     }

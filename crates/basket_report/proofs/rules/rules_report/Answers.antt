@@ -1,7 +1,7 @@
 use Rattle.std.proofs.Common.{◌<◌, ◌≤◌, ◌++◌, length, subst, sym}
 use Rattle.std.proofs.lemmas.Result.{IfOk-weaker}
 use Rattle.basket_report.specs.Rules.{ReportsRules}
-use Rattle.basket_report.specs.Report.{rules_report_of}
+use Rattle.basket_report.specs.Report.{HasSoFar, rules_report_of}
 use Rattle.basket_report.specs.Style.{wording_of}
 use Rattle.basket_report.proofs.RuleLemmas.{more_rules, all_rules}
 use Rattle.basket_report.proofs.rules.rules_report.Goals as goal
@@ -11,10 +11,11 @@ loop-number-preserved c =
     let wording = wording_of c.args.style in
     let listing = c.args.frequent.now in
     let number = c.loop-number.number in
+    let rules = c.in_ok-rules.rules.items in
     let (text, so, reports) = c.loop-number.invariant in
     let below : number < length listing.sets = subst (λ l. number < length l) c.sets-number-end.ensures c.loop-number-test.true in
-    let (rules, are, added) = c.in_ok-put_union.ensures wording text so in
-    (text ++ rules_report_of wording rules, added, more_rules wording listing c.args.confidence number text rules below reports are)
+    let added = subst (λ r. HasSoFar c.put_rules.new.self wording (text ++ rules_report_of wording r)) c.deref.ensures.value (c.in_ok-put_rules.ensures wording text so) in
+    (text ++ rules_report_of wording rules, added, more_rules wording listing c.args.confidence number text rules below reports c.in_ok-rules.ensures)
 
 pub returns : goal.returns
 returns c =

@@ -1,10 +1,9 @@
 use Rattle.std.proofs.Common.{◌≡◌, [], ◌∷◌, ◌++◌, Some, None, sym, ap, ◌∙◌, subst}
 use Rattle.std.specs.Vec.Iter.{into_iter_items}
-use Rattle.std.proofs.lemmas.List.{append_assoc, map-append}
+use Rattle.std.proofs.lemmas.List.{append_assoc}
 use Rattle.basket_sets.specs.Order.{IsInReportOrder}
 use Rattle.mine_apriori.specs.Sizes.{AreOfSize}
-use Rattle.basket_rules.specs.Listed.{count_at}
-use Rattle.basket_rules.specs.Rules.{IsRuleFor, rule_between, rule_if, rules_at}
+use Rattle.basket_rules.specs.Rules.{IsRuleFor}
 use Rattle.basket_rules.proofs.LevelLemmas.{IsKeptUntil, kept_one, kept_none, sorted_without, sized_without, sized_front}
 use Rattle.basket_rules.proofs.association.keep_confident.Goals as goal
 
@@ -15,35 +14,30 @@ loop-right-preserved-in_default c =
     let rest = into_iter_items c.next.new.self in
     let met = c.loop-right.met.items in
     let tried = c.args.tried.items in
-    let old = rules_at c.args.frequent.now c.args.number c.args.found.now.items in
-    let new = rules_at c.args.frequent.now c.args.number c.loop-right.found.items in
     let for : IsRuleFor c.args.frequent.now c.args.confidence c.args.number right None =
-    subst (λ f. IsRuleFor c.args.frequent.now c.args.confidence c.args.number right (rule_if c.args.frequent.now c.args.number f)) c.in_default.is c.in_ok-sides.ensures in
+    subst (IsRuleFor c.args.frequent.now c.args.confidence c.args.number right) c.in_default.is c.in_ok-rule.ensures in
     record {
       can = tt;
       ends = tt;
       sized = λ size h. sized_without size met right rest (subst (λ l. AreOfSize size (met ++ l)) step (c.loop-right.invariant.sized size h));
       in_order = λ h. sorted_without met right rest (subst (λ l. IsInReportOrder (met ++ l)) step (c.loop-right.invariant.in_order h));
-      kept = kept_none c.args.frequent.now c.args.confidence c.args.number tried met rest right old new for
-          (subst (λ l. IsKeptUntil c.args.frequent.now c.args.confidence c.args.number tried met l old new) step c.loop-right.invariant.kept);
+      kept = kept_none c.args.frequent.now c.args.confidence c.args.number tried met rest right c.args.rules.now.items c.loop-right.rules.items for
+          (subst (λ l. IsKeptUntil c.args.frequent.now c.args.confidence c.args.number tried met l c.args.rules.now.items c.loop-right.rules.items) step c.loop-right.invariant.kept);
     }
 
 pub loop-right-preserved-in-Continue-branch-4 : goal.loop-right-preserved-in-Continue-branch-4
 loop-right-preserved-in-Continue-branch-4 c =
     let step = c.in-Some.ensures.steps.0 in
     let right = c.in-Some.right in
-    let sides = c.in-Some-2.sides in
-    let rule = rule_between c.args.frequent.now.total (count_at c.args.frequent.now.sets c.args.number) sides in
+    let rule = c.in-Some-2.rule in
     let rest = into_iter_items c.next.new.self in
     let met = c.loop-right.met.items in
     let tried = c.args.tried.items in
-    let old = rules_at c.args.frequent.now c.args.number c.args.found.now.items in
-    let new = rules_at c.args.frequent.now c.args.number c.loop-right.found.items in
+    let old = c.args.rules.now.items in
     let for : IsRuleFor c.args.frequent.now c.args.confidence c.args.number right (Some rule) =
-    subst (λ f. IsRuleFor c.args.frequent.now c.args.confidence c.args.number right (rule_if c.args.frequent.now c.args.number f)) c.in-Some-2.is c.in_ok-sides.ensures in
+    subst (IsRuleFor c.args.frequent.now c.args.confidence c.args.number right) c.in-Some-2.is c.in_ok-rule.ensures in
     let longer : c.push-in-Some-2.new.self.items ≡ met ++ right ∷ [] = c.in_ok-push-2.ensures.items in
-    let added : rules_at c.args.frequent.now c.args.number c.push.new.self.items ≡ new ++ rule ∷ [] =
-    ap (rules_at c.args.frequent.now c.args.number) c.in_ok-push.ensures.items ∙ map-append (rule_between c.args.frequent.now.total (count_at c.args.frequent.now.sets c.args.number)) c.loop-right.found.items (sides ∷ []) in
+    let added : c.push.new.self.items ≡ c.loop-right.rules.items ++ rule ∷ [] = c.in_ok-push.ensures.items in
     let whole : c.push-in-Some-2.new.self.items ++ rest ≡ met ++ into_iter_items c.loop-right.right-iterator =
     ap (λ l. l ++ rest) longer ∙ append_assoc met (right ∷ []) rest ∙ ap (λ l. met ++ l) (sym step) in
     record {
@@ -52,9 +46,9 @@ loop-right-preserved-in-Continue-branch-4 c =
       sized = λ size h. subst (AreOfSize size) (sym whole) (c.loop-right.invariant.sized size h);
       in_order = λ h. subst IsInReportOrder (sym whole) (c.loop-right.invariant.in_order h);
       kept = subst (λ l. IsKeptUntil c.args.frequent.now c.args.confidence c.args.number tried c.push-in-Some-2.new.self.items rest old l) (sym added)
-          (subst (λ l. IsKeptUntil c.args.frequent.now c.args.confidence c.args.number tried l rest old (new ++ rule ∷ [])) (sym longer)
-          (kept_one c.args.frequent.now c.args.confidence c.args.number tried met rest right old new rule for
-          (subst (λ l. IsKeptUntil c.args.frequent.now c.args.confidence c.args.number tried met l old new) step c.loop-right.invariant.kept)));
+          (subst (λ l. IsKeptUntil c.args.frequent.now c.args.confidence c.args.number tried l rest old (c.loop-right.rules.items ++ rule ∷ [])) (sym longer)
+          (kept_one c.args.frequent.now c.args.confidence c.args.number tried met rest right old c.loop-right.rules.items rule for
+          (subst (λ l. IsKeptUntil c.args.frequent.now c.args.confidence c.args.number tried met l old c.loop-right.rules.items) step c.loop-right.invariant.kept)));
     }
 
 pub loop-right-preserved : goal.loop-right-preserved
@@ -64,17 +58,15 @@ loop-right-preserved c =
     let rest = into_iter_items c.next.new.self in
     let met = c.loop-right.met.items in
     let tried = c.args.tried.items in
-    let old = rules_at c.args.frequent.now c.args.number c.args.found.now.items in
-    let new = rules_at c.args.frequent.now c.args.number c.loop-right.found.items in
     let for : IsRuleFor c.args.frequent.now c.args.confidence c.args.number right None =
-    subst (λ f. IsRuleFor c.args.frequent.now c.args.confidence c.args.number right (rule_if c.args.frequent.now c.args.number f)) c.in_default.is c.in_ok-sides.ensures in
+    subst (IsRuleFor c.args.frequent.now c.args.confidence c.args.number right) c.in_default.is c.in_ok-rule.ensures in
     record {
       can = tt;
       ends = tt;
       sized = λ size h. sized_without size met right rest (subst (λ l. AreOfSize size (met ++ l)) step (c.loop-right.invariant.sized size h));
       in_order = λ h. sorted_without met right rest (subst (λ l. IsInReportOrder (met ++ l)) step (c.loop-right.invariant.in_order h));
-      kept = kept_none c.args.frequent.now c.args.confidence c.args.number tried met rest right old new for
-          (subst (λ l. IsKeptUntil c.args.frequent.now c.args.confidence c.args.number tried met l old new) step c.loop-right.invariant.kept);
+      kept = kept_none c.args.frequent.now c.args.confidence c.args.number tried met rest right c.args.rules.now.items c.loop-right.rules.items for
+          (subst (λ l. IsKeptUntil c.args.frequent.now c.args.confidence c.args.number tried met l c.args.rules.now.items c.loop-right.rules.items) step c.loop-right.invariant.kept);
     }
 
 pub returns-clause-sized : goal.returns-clause-sized

@@ -2,7 +2,6 @@ use Rattle.std.proofs.Common.{◌++◌, ℕ}
 use Rattle.std.specs.Vec.Iter.{into_iter_items}
 use Rattle.basket_sets.specs.Order.{IsInReportOrder}
 use Rattle.mine_apriori.specs.Sizes.{AreOfSize}
-use Rattle.basket_rules.specs.Rules.{rules_at}
 use Rattle.basket_rules.proofs.LevelLemmas.{IsKeptUntil}
 use Rattle.basket_rules.proofs.association.keep_confident.Given as goal
 
@@ -13,5 +12,5 @@ invariant-loop-right l = record {
   ends : goal.iterator-loop-right.is_finite l.right-iterator;
   sized : (size : ℕ) → AreOfSize size l.fn.tried.items → AreOfSize size (l.met.items ++ into_iter_items l.right-iterator);
   in_order : IsInReportOrder l.fn.tried.items → IsInReportOrder (l.met.items ++ into_iter_items l.right-iterator);
-  kept : IsKeptUntil l.frequent l.confidence l.number l.fn.tried.items l.met.items (into_iter_items l.right-iterator) (rules_at l.frequent l.number l.fn.found.items) (rules_at l.frequent l.number l.found.items);
+  kept : IsKeptUntil l.frequent l.confidence l.number l.fn.tried.items l.met.items (into_iter_items l.right-iterator) l.fn.rules.items l.rules.items;
 }
