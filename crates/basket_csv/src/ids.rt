@@ -110,7 +110,7 @@ impl<S: BuildHasher> Ids<S> {
     }
 
     /// The number of an id, which is new or known. An id that is above all others, or is that of the
-    /// last call, costs no look-up.
+    /// last call, isn't looked up in the map.
     pub fn number(&mut self, id: &str) -> Result<u32, ReadFault>
         ensures ids { (ids : List (List ℕ)) → HasIds self.old ids → OnOk result (HasIds self.new (with_name ids id.now)) }
         ensures number { (ids : List (List ℕ)) → HasIds self.old ids → IfOk result (λ number. number ≡ number_in (with_name ids id.now) id.now) }

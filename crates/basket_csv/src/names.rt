@@ -4,7 +4,7 @@ ghost use Rattle.basket_csv.specs.Key.{IsKeyOf};
 ghost use Rattle.basket_csv.specs.Names.{number_in, with_name, IsKnown};
 ghost use Rattle.basket_csv.specs.Recent.{IsNumberAt};
 
-use crate::key::{Key, hash_of};
+use crate::key::Key;
 use crate::recent::Recent;
 use basket_read::ReadFault;
 use indexmap::IndexSet;
@@ -103,7 +103,7 @@ impl<S: BuildHasher> Numbering<S> {
         let place = self.place(name)?;
         match u32::try_from(place) {
             Ok(number) => {
-                self.keep(&key, hash_of(name.as_bytes()), number, place < known)?;
+                self.keep(&key, name.as_bytes(), number, place < known)?;
                 Ok(number)
             }
             // An input is too short for so many names.
@@ -117,7 +117,7 @@ impl<S: BuildHasher> Numbering<S> {
         requires { IsKeyOf key.now name.now }
         ensures { IfSome result (IsKnown self.now name.now) }
     {
-        let number = self.recent.number(key, hash_of(name))?;
+        let number = self.recent.number(key, name)?;
         if key.is_whole() {
             return Some(number);
         }
@@ -127,12 +127,12 @@ impl<S: BuildHasher> Numbering<S> {
 
     /// Keeps the number of a name, which was known but missed, or is new.
     #[inline]
-    fn keep(&mut self, key: &Key, hash: u64, number: u32, missed: bool) -> Result<(), AllocError>
+    fn keep(&mut self, key: &Key, name: &[u8], number: u32, missed: bool) -> Result<(), AllocError>
         requires { IsNumberAt self.old key.now number }
         ensures { self.new ≡ self.old }
     {
         self.recent.make_room(self.alloc, self.names.len(), missed)?;
-        self.recent.keep(key, hash, number);
+        self.recent.keep(key, name, number);
         Ok(())
     }
 

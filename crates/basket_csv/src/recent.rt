@@ -2,7 +2,7 @@
 ghost use Rattle.std.specs.Prelude.{◌≡◌, ℕ, List, IsTrue, IfSome};
 ghost use Rattle.basket_csv.specs.Recent.{IsNumberAt, KeepsKnown};
 
-use crate::key::{Key, LONG};
+use crate::key::{Key, LONG, hash_of};
 use std::alloc::{AllocError, Global};
 
 /// How many buckets there are at first, and at most. Between these they become four times as many.
@@ -75,24 +75,28 @@ impl Recent {
         }
     }
 
-    /// The number that a name of this key and hash has, or may have if the name is long.
+    /// The number that a name of this key has, or may have if the name is long. Where nothing is kept
+    /// yet, no hash is made.
     #[inline(always)]
-    pub fn number(&self, key: &Key, hash: u64) -> Option<u32>
+    pub fn number(&self, key: &Key, name: &[u8]) -> Option<u32>
         ensures { (names : List (List ℕ)) → KeepsKnown names self.now → IfSome result (IsNumberAt names key.now) }
     {
-        let bucket = self.buckets.get(hash as usize & self.mask)?;
+        if self.buckets.is_empty() {
+            return None;
+        }
+        let bucket = self.buckets.get(hash_of(name) as usize & self.mask)?;
         if bucket.newer.has(key) {
             return Some(bucket.newer.number);
         }
         bucket.older.has(key).then_some(bucket.older.number)
     }
 
-    /// Keeps the number of a name of this key and hash.
+    /// Keeps the number of a name of this key.
     #[inline]
-    pub fn keep(&mut self, key: &Key, hash: u64, number: u32)
+    pub fn keep(&mut self, key: &Key, name: &[u8], number: u32)
         ensures { (names : List (List ℕ)) → IsNumberAt names key.now number → KeepsKnown names self.old → KeepsKnown names self.new }
     {
-        let place = hash as usize & self.mask;
+        let place = hash_of(name) as usize & self.mask;
         if let Some(bucket) = self.buckets.get_mut(place) {
             *bucket = Bucket {
                 newer: Slot::new(key, number),

@@ -4,12 +4,10 @@ ghost use Rattle.basket_core.specs.Fraction.{lowest};
 
 use basket_core::Fraction;
 use std::alloc::{AllocError, Global};
+use std::hash::{FoldHasher, Hasher};
 
 /// How many fractions are kept.
 const SLOTS: usize = 8_192;
-
-/// An odd number with its bits well mixed: 2^64 by the golden ratio.
-const MULTIPLIER: u64 = 0x9E37_79B9_7F4A_7C15;
 
 /// A numerator and a denominator, and the fraction that they are.
 #[derive(Clone, Copy, Debug)]
@@ -84,6 +82,8 @@ impl Reduced {
 }
 
 fn slot_of(numerator: u64, denominator: u64) -> usize {
-    let hash = (numerator.wrapping_mul(MULTIPLIER) ^ denominator).wrapping_mul(MULTIPLIER);
-    (hash >> 32) as usize % SLOTS
+    let mut hasher = FoldHasher::default();
+    hasher.write_u64(numerator);
+    hasher.write_u64(denominator);
+    hasher.finish() as usize % SLOTS
 }

@@ -3,12 +3,10 @@
 
 use basket_core::Counted;
 use std::alloc::{AllocError, Global};
+use std::hash::{FoldHasher, Hasher};
 
 /// How many sets with neighbouring hashes are kept.
 const BUCKET: usize = 4;
-
-/// An odd number with its bits well mixed: 2^64 by the golden ratio.
-const MULTIPLIER: u64 = 0x9E37_79B9_7F4A_7C15;
 
 /// A set that is kept: the upper half of its hash, and its place. An empty slot has a place that no
 /// list reaches.
@@ -82,14 +80,12 @@ impl Places {
     }
 }
 
-/// The hash of a set. Its lower half is mixed too.
 fn hash_of(items: &[u32]) -> u64 {
-    let mut hash: u64 = 0;
+    let mut hasher = FoldHasher::default();
     for item in items {
-        hash = (hash ^ u64::from(*item)).wrapping_mul(MULTIPLIER);
-        hash ^= hash >> 32;
+        hasher.write_u32(*item);
     }
-    hash
+    hasher.finish()
 }
 
 fn tag_of(hash: u64) -> u32 {

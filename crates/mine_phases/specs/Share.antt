@@ -1,5 +1,5 @@
 -- What the workers of a phase hand back, and what it is together.
-use Rattle.std.specs.Prelude.{◌≡◌, ◌<◌, ℕ, List, All, IfOk, MatchResult, Vec, length, map, fold, slice_index_or, Option, Some, None, Result, Ok, Err}
+use Rattle.std.specs.Prelude.{◌≡◌, ◌<◌, ℕ, List, IfOk, MatchResult, Vec, length, map, fold, slice_index_or, Option, Some, None, Result, Ok, Err}
 use Rattle.std.specs.Global.{Global}
 use Rattle.std.specs.Fn.{FnReturns}
 use denote.Param.Members.{Shared}
@@ -32,17 +32,18 @@ module _ {F V : Type 0} (g : Shared F ((ℕ × SeatView) × Unit {0}) (Share V))
   abbrev pub AcceptsSeats : List SeatView → Type 0
   AcceptsSeats seats = (worker i : ℕ) (seat : SeatView) → i < length seats → seat ≡ slice_index_or seats i seat → g.pre f ((worker, seat), tt)
 
-  -- a share is what a call of f hands back
-  pub record IsHandedBack (share : Share V) : Type 0 where
+  -- a share is what a call of f hands back that got the seat at a place
+  pub record IsHandedBack (seats : List SeatView) (place : ℕ) (share : Share V) : Type 0 where
     pub worker : ℕ
     pub seat : SeatView
+    pub given : seat ≡ slice_index_or seats place seat
     pub call : FnReturns g f ((worker, seat), tt) share
 
-  -- some seats and some values, or a fault, are those of the shares that so many workers hand back
-  pub record ArePartsOfShares (workers : ℕ) (back : List SeatView) (values : Result (Vec V Global) MineFault) : Type 0 where
+  -- some seats and some values, or a fault, are those of the shares that are handed back, one for each seat that was given
+  pub record ArePartsOfShares (given back : List SeatView) (values : Result (Vec V Global) MineFault) : Type 0 where
     pub shares : List (Share V)
-    pub count : length shares ≡ workers
-    pub each : All IsHandedBack shares
+    pub count : length shares ≡ length given
+    pub each : (place : ℕ) (share : Share V) → place < length shares → IsHandedBack given place (slice_index_or shares place share)
     pub seats : back ≡ map (λ share. share.seat) shares
     pub lists : IfOk values (λ lists. map Ok lists.items ≡ map (λ share. share.values) shares)
     pub fault : MatchResult values (λ _. fault_of (map (λ share. share.values) shares) ≡ None) (λ fault. fault_of (map (λ share. share.values) shares) ≡ Some fault)

@@ -120,7 +120,7 @@ pub fn by_workers<R: Threads + Sync, V: Send + Drop, F: Fn((u32, RoundSeat)) -> 
 ) -> Result<(Vec<RoundSeat>, Result<Vec<V>, MineFault>), AllocError>
     requires few { vec_len seats < 2 ^ 32 }
     requires accepted { AcceptsSeats F.Fn work.now seats.items }
-    ensures { IfOk result (λ parts. ArePartsOfShares F.Fn work.now (length seats.items) parts.0.items parts.1) }
+    ensures { IfOk result (λ parts. ArePartsOfShares F.Fn work.now seats.items parts.0.items parts.1) }
 {
     let back = Vec::with_capacity(alloc, seats.len())?;
     let lists = Vec::with_capacity(alloc, seats.len())?;

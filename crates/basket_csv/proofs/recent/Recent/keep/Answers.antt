@@ -7,7 +7,7 @@ use Rattle.basket_csv.proofs.recent.Recent.keep.Goals as goal
 pub returns-in-Some : goal.returns-in-Some
 returns-in-Some c = λ names is h.
     let recent = c.args.self.now in
-    let place = bit_and c.args.hash recent.mask in
+    let place = bit_and c.hash_of.result recent.mask in
     let bucket = c.in-Some.bucket.now in
     let known : Bucket → Type 0 = λ bucket. HasKnown names bucket.newer × HasKnown names bucket.older in
     let test = c.in-Some.ensures.variant.0 refl in
