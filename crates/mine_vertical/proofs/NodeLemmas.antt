@@ -17,9 +17,10 @@ use Rattle.basket_sets.proofs.theory.Members.{Member, Member-append_right}
 use Rattle.basket_sets.proofs.theory.Rising.{Member-from_has, has-from_Member, has_place, contains_each}
 use Rattle.basket_sets.proofs.theory.Support.{subsets_are_frequent}
 use Rattle.mine_vertical.specs.declared.search.Sibling.{Sibling}
+use Rattle.mine_vertical.specs.Mined.{set_at}
 use Rattle.mine_vertical.specs.Search.{IsNode, IsSibling, Node, found_at, is_met, ranks_at}
 use Rattle.mine_vertical.specs.Walk.{joins_below, kept_below, sets_below}
-use Rattle.mine_vertical.proofs.SearchLemmas.{ranks}
+use Rattle.mine_vertical.proofs.SearchLemmas.{ranks, set_kept}
 use Rattle.mine_vertical.proofs.WalkLemmas.{branch, branch_joins, kept_before, kept_few, kept_lower, kept_with, sets_are_branches}
 
 as_many : {R : Type 0} (siblings : List (Sibling R)) → length (map (λ (s : Sibling R). s.rank) siblings) ≡ length siblings
@@ -166,6 +167,12 @@ module _ {R : Type 0} (stands : List ℕ → List ℕ → List ℕ → R → Typ
   pub sets_long : (i : ℕ) (sets before : List Counted) → sets ≡ before ++ map (found_at items node) (found_by (take i kept))
       → length sets ≡ length before + length (found_by (take i kept))
   sets_long i sets before sets_are = told_is (length sets) (length before) i sets before (omega arith) sets_are
+
+  -- the set that is made with one more item
+  pub longer_set : (i rank item place : ℕ) (before sets : List Counted) → place < length before → set ≡ set_at before place
+      → sets ≡ before ++ map (found_at items node) (found_by (take i kept)) → item ≡ get_or items rank 0 → with_item item (set_at sets place) ≡ with_item (get_or items rank 0) set
+  longer_set i rank item place before sets here is_set sets_are is_item =
+      ap (with_item item) (set_kept before (map (found_at items node) (found_by (take i kept))) sets place here sets_are ∙ sym is_set) ∙ ap (λ x. with_item x set) is_item
 
   -- what one more sibling adds
   pub sets_more : (i rank : ℕ) (before sets with_one new : List Counted) (one : Counted) → i < length siblings → get_or kept i 0 ≡ rank

@@ -51,7 +51,7 @@ pub fn eclat_class<R: Row, T: Tally>(
     }
     let coded = vertical.coded();
     let set = Itemset::from_items(alloc, &[coded.item(rank)])?;
-    mined.add(set.copied(alloc)?, support, tally)?;
+    mined.add(set, support, tally)?;
     let (weights, siblings) = class_siblings::<R>(alloc, runs, rank, least)?;
     // Each rank below is joined with the class's.
     mined.joins = u64::from(rank);
@@ -61,6 +61,6 @@ pub fn eclat_class<R: Row, T: Tally>(
         least,
     };
     let mut room = Room::new(alloc, &weights)?;
-    search.extend(alloc, &siblings, &set, &mut mined, tally, &mut room)?;
+    search.extend(alloc, &siblings, 0, &mut mined, tally, &mut room)?;
     Ok((mined.sets, mined.joins))
 }

@@ -1,6 +1,8 @@
 //! What a class call has found so far.
-ghost use Rattle.std.specs.Prelude.{◌≡◌, ◌≤◌, ◌<◌, ◌+◌, ◌*◌, ◌++◌, [], ◌∷◌, ℕ, ◌⊎◌, Err, IsTrue, false, OnOk, length};
+ghost use Rattle.std.specs.Prelude.{◌≡◌, ◌≤◌, ◌<◌, ◌+◌, ◌*◌, ◌++◌, [], ◌∷◌, ℕ, ◌⊎◌, Err, IfOk, IsTrue, false, OnOk, length};
 ghost use Rattle.basket_core.specs.declared.fault.MineFault.TheVariants.{TooMany};
+ghost use Rattle.basket_sets.specs.Itemset.{with_item};
+ghost use Rattle.mine_vertical.specs.Mined.{set_at};
 
 use basket_core::{Counted, Itemset, MineFault, Tally};
 use std::alloc::Global;
@@ -49,5 +51,34 @@ impl Mined {
             return Err(MineFault::TooMany { limit });
         }
         Ok(())
+    }
+
+    /// Tells a frequent set to the tally, and adds it: the set at a place with one more item. The
+    /// answer is the place where it stands.
+    pub fn add_longer<T: Tally>(
+        &mut self,
+        alloc: Global,
+        place: usize,
+        item: u32,
+        count: u64,
+        tally: &mut T,
+    ) -> Result<usize, MineFault>
+        requires found { place < length self.old.sets.items }
+        requires going { T.is_over tally.old ≡ false }
+        ensures place { IfOk result (λ longer. longer ≡ length self.old.sets.items) }
+        ensures sets { OnOk result (self.new.sets.items ≡ self.old.sets.items ++ record { set = with_item item (set_at self.old.sets.items place); count = count } ∷ []) }
+        ensures joins { self.new.joins ≡ self.old.joins }
+        ensures few { OnOk result (length self.new.sets.items ≤ 4294967295) }
+        ensures going_on { OnOk result (T.is_over tally.new ≡ false) }
+        ensures told { OnOk result (T.told_of tally.new ≡ T.told_of tally.old + 1) }
+        ensures at_most { T.told_of tally.new ≤ T.told_of tally.old + 1 }
+        ensures limit { T.limit_of tally.new ≡ T.limit_of tally.old }
+        ensures too_many { (limit : ℕ) → result ≡ Err (TooMany limit)
+            → (limit ≡ T.limit_of tally.old) × (IsTrue (T.is_over tally.new) ⊎ (limit < length self.old.sets.items + 1)) }
+    {
+        let longer = self.sets.len();
+        let set = self.sets[place].set.with(alloc, item)?;
+        self.add(set, count, tally)?;
+        Ok(longer)
     }
 }

@@ -4,6 +4,7 @@ ghost use Rattle.basket_core.specs.declared.fault.MineFault.TheVariants.{TooMany
 ghost use Rattle.basket_sets.specs.declared.weighted.Weighted.{Weighted as Basket};
 ghost use Rattle.mine_vertical.specs.Cover.{weights_of};
 ghost use Rattle.mine_vertical.specs.Marks.{IsMarked};
+ghost use Rattle.mine_vertical.specs.Mined.{set_at};
 ghost use Rattle.mine_vertical.specs.Search.{FewJoins, IsNode, IsSibling, Node, found_at, is_met};
 ghost use Rattle.mine_vertical.specs.Walk.{joins_below, sets_below};
 
@@ -11,7 +12,7 @@ use crate::mined::Mined;
 use crate::room::Room;
 use crate::row::Row;
 use crate::weights::Weights;
-use basket_core::{Coded, Itemset, MineFault, Tally};
+use basket_core::{Coded, MineFault, Tally};
 use std::alloc::{AllocError, Global};
 
 /// An extension of a set: its rank, and the row of the set with the rank.
@@ -73,42 +74,43 @@ impl Search<'_> {
         Ok(below)
     }
 
-    /// Adds the frequent sets that extend a set by siblings and by what extends those, depth first.
-    /// Each set is told to the tally once it is known to be frequent.
+    /// Adds the frequent sets that extend the set at a place by siblings and by what extends those,
+    /// depth first. Each set is told to the tally once it is known to be frequent.
     pub fn extend<R: Row, T: Tally>(
         &self,
         alloc: Global,
         siblings: &[Sibling<R>],
-        set: &Itemset,
+        place: usize,
         mined: &mut Mined,
         tally: &mut T,
         room: &mut Room<R>,
     ) -> Result<(), MineFault>
-        requires node { (node : Node) × IsNode R.stands self.now.weights.now self.now.least siblings.now set.now self.now.coded.now.items node }
+        requires node { (node : Node) × IsNode R.stands self.now.weights.now self.now.least siblings.now (set_at mined.old.sets.items place) self.now.coded.now.items node }
+        requires found { place < length mined.old.sets.items }
         requires some { 1 ≤ self.now.least }
         requires going { T.is_over tally.old ≡ false }
         requires few { FewJoins mined.old.joins (length mined.old.sets.items) }
         requires clear { IsMarked self.now.weights.now [] room.old.marks }
-        ensures sets { OnOk result ((node : Node) → IsNode R.stands self.now.weights.now self.now.least siblings.now set.now self.now.coded.now.items node
+        ensures sets { OnOk result ((node : Node) → IsNode R.stands self.now.weights.now self.now.least siblings.now (set_at mined.old.sets.items place) self.now.coded.now.items node
             → mined.new.sets.items ≡ mined.old.sets.items ++ map (found_at self.now.coded.now.items node) (sets_below (is_met node.baskets self.now.least) node.below node.set)) }
-        ensures joins { OnOk result ((node : Node) → IsNode R.stands self.now.weights.now self.now.least siblings.now set.now self.now.coded.now.items node
+        ensures joins { OnOk result ((node : Node) → IsNode R.stands self.now.weights.now self.now.least siblings.now (set_at mined.old.sets.items place) self.now.coded.now.items node
             → mined.new.joins ≡ mined.old.joins + joins_below (is_met node.baskets self.now.least) node.below node.set) }
         ensures told { OnOk result (T.told_of tally.new + length mined.old.sets.items ≡ T.told_of tally.old + length mined.new.sets.items) }
         ensures going_on { OnOk result (T.is_over tally.new ≡ false) }
         ensures few { OnOk result (FewJoins mined.new.joins (length mined.new.sets.items)) }
         ensures too_many { (limit : ℕ) → result ≡ Err (TooMany limit) → (limit ≡ T.limit_of tally.old)
-            × ((node : Node) → IsNode R.stands self.now.weights.now self.now.least siblings.now set.now self.now.coded.now.items node
+            × ((node : Node) → IsNode R.stands self.now.weights.now self.now.least siblings.now (set_at mined.old.sets.items place) self.now.coded.now.items node
             → IsTrue (T.is_over tally.new) ⊎ (limit < length mined.old.sets.items + length (sets_below (is_met node.baskets self.now.least) node.below node.set))) }
-        ensures at_most { (node : Node) → IsNode R.stands self.now.weights.now self.now.least siblings.now set.now self.now.coded.now.items node
+        ensures at_most { (node : Node) → IsNode R.stands self.now.weights.now self.now.least siblings.now (set_at mined.old.sets.items place) self.now.coded.now.items node
             → T.told_of tally.new ≤ T.told_of tally.old + length (sets_below (is_met node.baskets self.now.least) node.below node.set) }
         ensures limit { T.limit_of tally.new ≡ T.limit_of tally.old }
         ensures clear { OnOk result (IsMarked self.now.weights.now [] room.new.marks) }
     {
         for (at, sibling) in siblings.iter().enumerate() {
-            let longer = set.with(alloc, self.coded.item(sibling.rank))?;
-            mined.add(longer.copied(alloc)?, sibling.row.count(), tally)?;
+            let item = self.coded.item(sibling.rank);
+            let longer = mined.add_longer(alloc, place, item, sibling.row.count(), tally)?;
             let below = self.joined(alloc, sibling, &siblings[..at], room, &mut mined.joins)?;
-            self.extend(alloc, &below, &longer, mined, tally, room)?;
+            self.extend(alloc, &below, longer, mined, tally, room)?;
             room.take_back(below);
         }
         Ok(())

@@ -10,40 +10,13 @@ use Rattle.basket_sets.specs.declared.counted.Counted.{Counted}
 use Rattle.mine_vertical.specs.Cover.{cover_of}
 use Rattle.mine_vertical.specs.declared.marks.Marks.{Marks}
 use Rattle.mine_vertical.specs.Marks.{IsMarked}
+use Rattle.mine_vertical.specs.Mined.{set_at}
 use Rattle.mine_vertical.specs.Search.{IsNode, IsSibling, found_at, is_met, ranks_at}
 use Rattle.mine_vertical.specs.Walk.{kept_below}
-use Rattle.mine_vertical.proofs.SearchLemmas.{counted_row, sibling_at}
+use Rattle.mine_vertical.proofs.SearchLemmas.{counted_row, set_added, sibling_at}
 use Rattle.mine_vertical.proofs.WalkLemmas.{branch_joins, joins_are_branches, sets_are_branches}
-use Rattle.mine_vertical.proofs.NodeLemmas.{child, child_is, child_known, child_set, fewer, found_by, joins_more, long, part_more, part_within, place_few, rank_at, sets_long, sets_more, told_is}
+use Rattle.mine_vertical.proofs.NodeLemmas.{child, child_is, child_known, child_set, fewer, found_by, joins_more, long, longer_set, part_more, part_within, place_few, rank_at, sets_long, sets_more, told_is}
 use Rattle.mine_vertical.proofs.search.Search.+extend.Goals as goal
-
-pub returns-in_err-longer-clause-at_most : goal.returns-in_err-longer-clause-at_most
-returns-in_err-longer-clause-at_most g t c = λ node is.
-    let search = c.args.self.now in
-    let stands = g.R.Row.stands in
-    let weights = search.weights.now in
-    let siblings = c.args.siblings.now in
-    let set = c.args.set.now in
-    let items = search.coded.now.items in
-    let i = c.loop-at.at in
-    let told = told_is stands weights search.least siblings set items node is (g.T.Tally.told_of c.loop-at.tally) (g.T.Tally.told_of c.args.tally.now) i
-    c.loop-at.mined.sets.items c.args.mined.now.sets.items c.loop-at.invariant.told (c.loop-at.invariant.sets node is) in
-    let most = part_within stands weights search.least siblings set items node is i in
-    omega arith
-
-pub returns-in_err-copied-clause-at_most : goal.returns-in_err-copied-clause-at_most
-returns-in_err-copied-clause-at_most g t c = λ node is.
-    let search = c.args.self.now in
-    let stands = g.R.Row.stands in
-    let weights = search.weights.now in
-    let siblings = c.args.siblings.now in
-    let set = c.args.set.now in
-    let items = search.coded.now.items in
-    let i = c.loop-at.at in
-    let told = told_is stands weights search.least siblings set items node is (g.T.Tally.told_of c.loop-at.tally) (g.T.Tally.told_of c.args.tally.now) i
-    c.loop-at.mined.sets.items c.args.mined.now.sets.items c.loop-at.invariant.told (c.loop-at.invariant.sets node is) in
-    let most = part_within stands weights search.least siblings set items node is i in
-    omega arith
 
 pub returns-clause-at_most : goal.returns-clause-at_most
 returns-clause-at_most g t c = λ node is.
@@ -51,7 +24,7 @@ returns-clause-at_most g t c = λ node is.
     let stands = g.R.Row.stands in
     let weights = search.weights.now in
     let siblings = c.args.siblings.now in
-    let set = c.args.set.now in
+    let set = set_at c.args.mined.now.sets.items c.args.place in
     let items = search.coded.now.items in
     let i = c.loop-at.at in
     let told = told_is stands weights search.least siblings set items node is (g.T.Tally.told_of c.loop-at.tally) (g.T.Tally.told_of c.args.tally.now) i
@@ -59,14 +32,14 @@ returns-clause-at_most g t c = λ node is.
     let most = part_within stands weights search.least siblings set items node is i in
     omega arith
 
-pub item-requires : goal.item-requires
-item-requires g t c =
+pub item-item-requires : goal.item-item-requires
+item-item-requires g t c =
     let (node, is) = c.requires.node in
     let search = c.args.self.now in
     let stands = g.R.Row.stands in
     let weights = search.weights.now in
     let siblings = c.args.siblings.now in
-    let set = c.args.set.now in
+    let set = set_at c.args.mined.now.sets.items c.args.place in
     let items = search.coded.now.items in
     let i = c.loop-at.at in
     let here = c.loop-at-test.true in
@@ -74,13 +47,13 @@ item-requires g t c =
     let at = rank_at stands weights search.least siblings set items node is i sibling here c.index-siblings-at.is in
     child_known stands weights search.least siblings set items node is sibling.rank i here at sibling.rank (has-from_Member (sibling.rank ∷ ranks_at node node.set) sibling.rank (inl refl))
 
-pub returns-in_err-add-clause-at_most : goal.returns-in_err-add-clause-at_most
-returns-in_err-add-clause-at_most g t c = λ node is.
+pub returns-in_err-longer-clause-at_most : goal.returns-in_err-longer-clause-at_most
+returns-in_err-longer-clause-at_most g t c = λ node is.
     let search = c.args.self.now in
     let stands = g.R.Row.stands in
     let weights = search.weights.now in
     let siblings = c.args.siblings.now in
-    let set = c.args.set.now in
+    let set = set_at c.args.mined.now.sets.items c.args.place in
     let items = search.coded.now.items in
     let i = c.loop-at.at in
     let here = c.loop-at-test.true in
@@ -89,7 +62,7 @@ returns-in_err-add-clause-at_most g t c = λ node is.
     let told = told_is stands weights search.least siblings set items node is (g.T.Tally.told_of c.loop-at.tally) (g.T.Tally.told_of c.args.tally.now) i
     c.loop-at.mined.sets.items c.args.mined.now.sets.items c.loop-at.invariant.told (c.loop-at.invariant.sets node is) in
     let more = part_more stands weights search.least siblings set items node is i sibling.rank here at in
-    omega (arith, c.add.ensures.told)
+    omega (arith, c.add_longer.ensures.at_most)
 
 pub returns-in_err-below-clause-at_most : goal.returns-in_err-below-clause-at_most
 returns-in_err-below-clause-at_most g t c = λ node is.
@@ -97,7 +70,7 @@ returns-in_err-below-clause-at_most g t c = λ node is.
     let stands = g.R.Row.stands in
     let weights = search.weights.now in
     let siblings = c.args.siblings.now in
-    let set = c.args.set.now in
+    let set = set_at c.args.mined.now.sets.items c.args.place in
     let items = search.coded.now.items in
     let i = c.loop-at.at in
     let here = c.loop-at-test.true in
@@ -106,21 +79,21 @@ returns-in_err-below-clause-at_most g t c = λ node is.
     let told = told_is stands weights search.least siblings set items node is (g.T.Tally.told_of c.loop-at.tally) (g.T.Tally.told_of c.args.tally.now) i
     c.loop-at.mined.sets.items c.args.mined.now.sets.items c.loop-at.invariant.told (c.loop-at.invariant.sets node is) in
     let more = part_more stands weights search.least siblings set items node is i sibling.rank here at in
-    omega (arith, c.add.ensures.told)
+    omega (arith, c.in_ok-longer.ensures.told)
 
-pub returns-in_err-add-clause-too_many : goal.returns-in_err-add-clause-too_many
-returns-in_err-add-clause-too_many g t c = λ limit e.
-    let p = err_from_is_err_and c.from_residual-in_err-add.result c.from_residual-in_err-add.ensures.1 in
+pub returns-in_err-longer-clause-too_many : goal.returns-in_err-longer-clause-too_many
+returns-in_err-longer-clause-too_many g t c = λ limit e.
+    let p = err_from_is_err_and c.from_residual.result c.from_residual.ensures.1 in
     let both = sym p.1 ∙ e in
     let fault : p.0 ≡ TooMany limit = cc in
-    let (same, why) = c.add.ensures.too_many limit (c.in_err-add.was ∙ ap Err (sym p.2 ∙ fault)) in (
+    let (same, why) = c.add_longer.ensures.too_many limit (c.in_err-longer.was ∙ ap Err (sym p.2 ∙ fault)) in (
       same ∙ c.loop-at.invariant.limit,
       λ node is.
           let search = c.args.self.now in
           let stands = g.R.Row.stands in
           let weights = search.weights.now in
           let siblings = c.args.siblings.now in
-          let set = c.args.set.now in
+          let set = set_at c.args.mined.now.sets.items c.args.place in
           let items = search.coded.now.items in
           let i = c.loop-at.at in
           let here = c.loop-at-test.true in
@@ -138,7 +111,7 @@ joined-requires-clause-rows g t c =
     let stands = g.R.Row.stands in
     let weights = search.weights.now in
     let siblings = c.args.siblings.now in
-    let set = c.args.set.now in
+    let set = set_at c.args.mined.now.sets.items c.args.place in
     let items = search.coded.now.items in
     let i = c.loop-at.at in
     let here = c.loop-at-test.true in
@@ -154,7 +127,7 @@ joined-requires-clause-few g t c =
     let stands = g.R.Row.stands in
     let weights = search.weights.now in
     let siblings = c.args.siblings.now in
-    let set = c.args.set.now in
+    let set = set_at c.args.mined.now.sets.items c.args.place in
     let items = search.coded.now.items in
     let i = c.loop-at.at in
     let here = c.loop-at-test.true in
@@ -162,8 +135,8 @@ joined-requires-clause-few g t c =
     let few = place_few stands weights search.least siblings set items node is i here in
     let most : i ≤ length siblings = omega arith in
     let before = length-take-le i siblings most in
-    let one_more = ap length c.in_ok-add.ensures.sets ∙ length-append c.loop-at.mined.sets.items (record { set = c.in_ok-copied.field-0; count = c.count.result } ∷ []) in
-    omega (arith, c.add.ensures.joins, c.in_ok-add.ensures.few, c.loop-at.invariant.few)
+    let one_more = ap length c.in_ok-longer.ensures.sets ∙ length-append c.loop-at.mined.sets.items (record { set = with_item c.item-item.result (set_at c.loop-at.mined.sets.items c.args.place); count = c.count.result } ∷ []) in
+    omega (arith, c.add_longer.ensures.joins, c.in_ok-longer.ensures.few, c.loop-at.invariant.few)
 
 pub extend-requires : goal.extend-requires
 extend-requires g t c = λ κs lives.
@@ -172,7 +145,7 @@ extend-requires g t c = λ κs lives.
     let stands = g.R.Row.stands in
     let weights = search.weights.now in
     let siblings = c.args.siblings.now in
-    let set = c.args.set.now in
+    let set = set_at c.args.mined.now.sets.items c.args.place in
     let items = search.coded.now.items in
     let i = c.loop-at.at in
     let here = c.loop-at-test.true in
@@ -181,17 +154,19 @@ extend-requires g t c = λ κs lives.
     let all = All-take (IsSibling stands node.baskets node.set) i siblings is.rows in
     let one = sibling_at stands node.baskets node.set siblings i sibling here c.index-siblings-at.is is.rows in
     let kept_are = c.in_ok-below.ensures.ranks node.baskets node.set is.weighs one all in
-    let longer_is : c.in_ok-longer.longer ≡ with_item (get_or items sibling.rank 0) set = c.in_ok-longer.ensures.ok ∙ ap (λ item. with_item item set) c.item.ensures in
+    let with_one = longer_set stands weights search.least siblings set items node is i sibling.rank c.item-item.result c.args.place c.args.mined.now.sets.items c.loop-at.mined.sets.items c.requires.found refl (c.loop-at.invariant.sets node is) c.item-item.ensures in
+    let longer_is = set_added c.loop-at.mined.sets.items c.add_longer.new.self.sets.items (record { set = with_item c.item-item.result (set_at c.loop-at.mined.sets.items c.args.place); count = c.count.result }) c.in_ok-longer.longer
+    c.in_ok-longer.ensures.place c.in_ok-longer.ensures.sets ∙ with_one in
     let rows = c.in_ok-below.ensures.rows node.baskets node.set is.weighs one all in
     let made = child_is stands weights search.least siblings set items node is i sibling.rank (take i siblings) c.in_ok-below.below.items here at refl kept_are rows in
-    let inner = subst (λ longer. IsNode stands weights search.least c.deref.result.now longer items (child node sibling.rank)) (sym longer_is)
+    let inner = subst (λ s. IsNode stands weights search.least c.deref.result.now s items (child node sibling.rank)) (sym longer_is)
     (subst (λ s. IsNode stands weights search.least s (with_item (get_or items sibling.rank 0) set) items (child node sibling.rank)) (sym c.deref.ensures.value) made) in
     let less = fewer stands weights search.least siblings set items node is i sibling.rank (take i siblings) c.in_ok-below.below.items here refl kept_are in
     let short = ap length c.deref.ensures.value in
     let few = place_few stands weights search.least siblings set items node is i here in
     let most : i ≤ length siblings = omega arith in
     let before = length-take-le i siblings most in
-    let one_more = ap length c.in_ok-add.ensures.sets ∙ length-append c.loop-at.mined.sets.items (record { set = c.in_ok-copied.field-0; count = c.count.result } ∷ []) in (
+    let one_more = ap length c.in_ok-longer.ensures.sets ∙ length-append c.loop-at.mined.sets.items (record { set = with_item c.item-item.result (set_at c.loop-at.mined.sets.items c.args.place); count = c.count.result } ∷ []) in (
       omega (arith, c.decreases, less, short),
       (
         lives.0,
@@ -199,7 +174,10 @@ extend-requires g t c = λ κs lives.
           lives.1,
           (
             (child node sibling.rank, inner),
-            (c.requires.some, (c.in_ok-add.ensures.going_on, (omega (arith, c.in_ok-below.ensures.joins, c.add.ensures.joins, c.loop-at.invariant.few), c.in_ok-below.ensures.clear))),
+            (
+              omega (arith, c.in_ok-longer.ensures.place, one_more),
+              (c.requires.some, (c.in_ok-longer.ensures.going_on, (omega (arith, c.in_ok-below.ensures.joins, c.add_longer.ensures.joins, c.loop-at.invariant.few), c.in_ok-below.ensures.clear))),
+            ),
           ),
         ),
       ),
@@ -211,7 +189,7 @@ returns-in_err-extend-clause-at_most g t c = λ node is.
     let stands = g.R.Row.stands in
     let weights = search.weights.now in
     let siblings = c.args.siblings.now in
-    let set = c.args.set.now in
+    let set = set_at c.args.mined.now.sets.items c.args.place in
     let items = search.coded.now.items in
     let i = c.loop-at.at in
     let here = c.loop-at-test.true in
@@ -220,15 +198,17 @@ returns-in_err-extend-clause-at_most g t c = λ node is.
     let all = All-take (IsSibling stands node.baskets node.set) i siblings is.rows in
     let one = sibling_at stands node.baskets node.set siblings i sibling here c.index-siblings-at.is is.rows in
     let kept_are = c.in_ok-below.ensures.ranks node.baskets node.set is.weighs one all in
-    let longer_is : c.in_ok-longer.longer ≡ with_item (get_or items sibling.rank 0) set = c.in_ok-longer.ensures.ok ∙ ap (λ item. with_item item set) c.item.ensures in
+    let with_one = longer_set stands weights search.least siblings set items node is i sibling.rank c.item-item.result c.args.place c.args.mined.now.sets.items c.loop-at.mined.sets.items c.requires.found refl (c.loop-at.invariant.sets node is) c.item-item.ensures in
+    let longer_is = set_added c.loop-at.mined.sets.items c.add_longer.new.self.sets.items (record { set = with_item c.item-item.result (set_at c.loop-at.mined.sets.items c.args.place); count = c.count.result }) c.in_ok-longer.longer
+    c.in_ok-longer.ensures.place c.in_ok-longer.ensures.sets ∙ with_one in
     let rows = c.in_ok-below.ensures.rows node.baskets node.set is.weighs one all in
     let made = child_is stands weights search.least siblings set items node is i sibling.rank (take i siblings) c.in_ok-below.below.items here at refl kept_are rows in
-    let inner = subst (λ longer. IsNode stands weights search.least c.deref.result.now longer items (child node sibling.rank)) (sym longer_is)
+    let inner = subst (λ s. IsNode stands weights search.least c.deref.result.now s items (child node sibling.rank)) (sym longer_is)
     (subst (λ s. IsNode stands weights search.least s (with_item (get_or items sibling.rank 0) set) items (child node sibling.rank)) (sym c.deref.ensures.value) made) in
     let told = told_is stands weights search.least siblings set items node is (g.T.Tally.told_of c.loop-at.tally) (g.T.Tally.told_of c.args.tally.now) i
     c.loop-at.mined.sets.items c.args.mined.now.sets.items c.loop-at.invariant.told (c.loop-at.invariant.sets node is) in
     let more = part_more stands weights search.least siblings set items node is i sibling.rank here at in
-    omega (arith, c.add.ensures.told, c.extend.ensures.at_most (child node sibling.rank) inner)
+    omega (arith, c.in_ok-longer.ensures.told, c.extend.ensures.at_most (child node sibling.rank) inner)
 
 pub returns-in_err-extend-clause-too_many : goal.returns-in_err-extend-clause-too_many
 returns-in_err-extend-clause-too_many g t c = λ limit e.
@@ -236,13 +216,13 @@ returns-in_err-extend-clause-too_many g t c = λ limit e.
     let both = sym p.1 ∙ e in
     let fault : p.0 ≡ TooMany limit = cc in
     let (same, why) = c.extend.ensures.too_many limit (c.in_err-extend.was ∙ ap Err (sym p.2 ∙ fault)) in (
-      same ∙ c.add.ensures.limit ∙ c.loop-at.invariant.limit,
+      same ∙ c.add_longer.ensures.limit ∙ c.loop-at.invariant.limit,
       λ node is.
           let search = c.args.self.now in
           let stands = g.R.Row.stands in
           let weights = search.weights.now in
           let siblings = c.args.siblings.now in
-          let set = c.args.set.now in
+          let set = set_at c.args.mined.now.sets.items c.args.place in
           let items = search.coded.now.items in
           let i = c.loop-at.at in
           let here = c.loop-at-test.true in
@@ -251,14 +231,16 @@ returns-in_err-extend-clause-too_many g t c = λ limit e.
           let all = All-take (IsSibling stands node.baskets node.set) i siblings is.rows in
           let one = sibling_at stands node.baskets node.set siblings i sibling here c.index-siblings-at.is is.rows in
           let kept_are = c.in_ok-below.ensures.ranks node.baskets node.set is.weighs one all in
-          let longer_is : c.in_ok-longer.longer ≡ with_item (get_or items sibling.rank 0) set = c.in_ok-longer.ensures.ok ∙ ap (λ item. with_item item set) c.item.ensures in
+          let with_one = longer_set stands weights search.least siblings set items node is i sibling.rank c.item-item.result c.args.place c.args.mined.now.sets.items c.loop-at.mined.sets.items c.requires.found refl (c.loop-at.invariant.sets node is) c.item-item.ensures in
+          let longer_is = set_added c.loop-at.mined.sets.items c.add_longer.new.self.sets.items (record { set = with_item c.item-item.result (set_at c.loop-at.mined.sets.items c.args.place); count = c.count.result }) c.in_ok-longer.longer
+          c.in_ok-longer.ensures.place c.in_ok-longer.ensures.sets ∙ with_one in
           let rows = c.in_ok-below.ensures.rows node.baskets node.set is.weighs one all in
           let made = child_is stands weights search.least siblings set items node is i sibling.rank (take i siblings) c.in_ok-below.below.items here at refl kept_are rows in
-          let inner = subst (λ longer. IsNode stands weights search.least c.deref.result.now longer items (child node sibling.rank)) (sym longer_is)
+          let inner = subst (λ s. IsNode stands weights search.least c.deref.result.now s items (child node sibling.rank)) (sym longer_is)
           (subst (λ s. IsNode stands weights search.least s (with_item (get_or items sibling.rank 0) set) items (child node sibling.rank)) (sym c.deref.ensures.value) made) in
           let more = part_more stands weights search.least siblings set items node is i sibling.rank here at in
           let long = sets_long stands weights search.least siblings set items node is i c.loop-at.mined.sets.items c.args.mined.now.sets.items (c.loop-at.invariant.sets node is) in
-          let one_more = ap length c.in_ok-add.ensures.sets ∙ length-append c.loop-at.mined.sets.items (record { set = c.in_ok-copied.field-0; count = c.count.result } ∷ []) in
+          let one_more = ap length c.in_ok-longer.ensures.sets ∙ length-append c.loop-at.mined.sets.items (record { set = with_item c.item-item.result (set_at c.loop-at.mined.sets.items c.args.place); count = c.count.result } ∷ []) in
           elim (why (child node sibling.rank) inner) [ inl over ↦ inl over | inr less ↦ inr (omega arith) ],
     )
 
@@ -268,47 +250,52 @@ loop-at-preserved g t c =
     let stands = g.R.Row.stands in
     let weights = search.weights.now in
     let siblings = c.args.siblings.now in
-    let set = c.args.set.now in
+    let set = set_at c.args.mined.now.sets.items c.args.place in
     let items = search.coded.now.items in
     let i = c.loop-at.at in
     let here = c.loop-at-test.true in
     let sibling = c.index-siblings-at.result in
-    let longer_is : c.in_ok-longer.longer ≡ with_item (get_or items sibling.rank 0) set = c.in_ok-longer.ensures.ok ∙ ap (λ item. with_item item set) c.item.ensures in
-    let one_more = ap length c.in_ok-add.ensures.sets ∙ length-append c.loop-at.mined.sets.items (record { set = c.in_ok-copied.field-0; count = c.count.result } ∷ []) in
+    let one_more = ap length c.in_ok-longer.ensures.sets ∙ length-append c.loop-at.mined.sets.items (record { set = with_item c.item-item.result (set_at c.loop-at.mined.sets.items c.args.place); count = c.count.result } ∷ []) in
     record {
       clear = subst (λ (marks : Marks). IsMarked weights [] marks) (sym c.take_back.ensures) c.in_ok-extend.ensures.clear;
       going = c.in_ok-extend.ensures.going_on;
-      limit = c.extend.ensures.limit ∙ c.add.ensures.limit ∙ c.loop-at.invariant.limit;
-      told = omega (arith, c.in_ok-extend.ensures.told, c.add.ensures.told, c.loop-at.invariant.told, one_more);
+      limit = c.extend.ensures.limit ∙ c.add_longer.ensures.limit ∙ c.loop-at.invariant.limit;
+      told = omega (arith, c.in_ok-extend.ensures.told, c.in_ok-longer.ensures.told, c.loop-at.invariant.told, one_more);
       few = c.in_ok-extend.ensures.few;
       sets = λ node is.
+          let with_one = longer_set stands weights search.least siblings set items node is i sibling.rank c.item-item.result c.args.place c.args.mined.now.sets.items c.loop-at.mined.sets.items c.requires.found refl (c.loop-at.invariant.sets node is) c.item-item.ensures in
+          let longer_is = set_added c.loop-at.mined.sets.items c.add_longer.new.self.sets.items (record { set = with_item c.item-item.result (set_at c.loop-at.mined.sets.items c.args.place); count = c.count.result }) c.in_ok-longer.longer
+          c.in_ok-longer.ensures.place c.in_ok-longer.ensures.sets ∙ with_one in
           let at = rank_at stands weights search.least siblings set items node is i sibling here c.index-siblings-at.is in
           let all = All-take (IsSibling stands node.baskets node.set) i siblings is.rows in
           let one = sibling_at stands node.baskets node.set siblings i sibling here c.index-siblings-at.is is.rows in
           let kept_are = c.in_ok-below.ensures.ranks node.baskets node.set is.weighs one all in
           let rows = c.in_ok-below.ensures.rows node.baskets node.set is.weighs one all in
           let made = child_is stands weights search.least siblings set items node is i sibling.rank (take i siblings) c.in_ok-below.below.items here at refl kept_are rows in
-          let inner = subst (λ longer. IsNode stands weights search.least c.deref.result.now longer items (child node sibling.rank)) (sym longer_is)
+          let inner = subst (λ s. IsNode stands weights search.least c.deref.result.now s items (child node sibling.rank)) (sym longer_is)
           (subst (λ s. IsNode stands weights search.least s (with_item (get_or items sibling.rank 0) set) items (child node sibling.rank)) (sym c.deref.ensures.value) made) in
           let counts = counted_row stands node.baskets (cover_of node.baskets node.set) (sibling.rank ∷ node.set) sibling.row c.count.result c.count.ensures one in
-          let is_set = c.in_ok-copied.ensures.same ∙ longer_is ∙ child_set stands weights search.least siblings set items node is sibling.rank in
-          let new : Counted = record { set = c.in_ok-copied.field-0; count = c.count.result } in
+          let is_set = with_one ∙ child_set stands weights search.least siblings set items node is sibling.rank in
+          let new : Counted = record { set = with_item c.item-item.result (set_at c.loop-at.mined.sets.items c.args.place); count = c.count.result } in
           let found : new ≡ found_at items node (sibling.rank ∷ node.set) = λ k. record { set = is_set k; count = counts k } in
-          sets_more stands weights search.least siblings set items node is i sibling.rank c.args.mined.now.sets.items c.loop-at.mined.sets.items c.add.new.self.sets.items c.extend.new.mined.sets.items
-          new here at (c.loop-at.invariant.sets node is) c.in_ok-add.ensures.sets found (c.in_ok-extend.ensures.sets (child node sibling.rank) inner);
+          sets_more stands weights search.least siblings set items node is i sibling.rank c.args.mined.now.sets.items c.loop-at.mined.sets.items c.add_longer.new.self.sets.items c.extend.new.mined.sets.items
+          new here at (c.loop-at.invariant.sets node is) c.in_ok-longer.ensures.sets found (c.in_ok-extend.ensures.sets (child node sibling.rank) inner);
       joins = λ node is.
+          let with_one = longer_set stands weights search.least siblings set items node is i sibling.rank c.item-item.result c.args.place c.args.mined.now.sets.items c.loop-at.mined.sets.items c.requires.found refl (c.loop-at.invariant.sets node is) c.item-item.ensures in
+          let longer_is = set_added c.loop-at.mined.sets.items c.add_longer.new.self.sets.items (record { set = with_item c.item-item.result (set_at c.loop-at.mined.sets.items c.args.place); count = c.count.result }) c.in_ok-longer.longer
+          c.in_ok-longer.ensures.place c.in_ok-longer.ensures.sets ∙ with_one in
           let at = rank_at stands weights search.least siblings set items node is i sibling here c.index-siblings-at.is in
           let all = All-take (IsSibling stands node.baskets node.set) i siblings is.rows in
           let one = sibling_at stands node.baskets node.set siblings i sibling here c.index-siblings-at.is is.rows in
           let kept_are = c.in_ok-below.ensures.ranks node.baskets node.set is.weighs one all in
           let rows = c.in_ok-below.ensures.rows node.baskets node.set is.weighs one all in
           let made = child_is stands weights search.least siblings set items node is i sibling.rank (take i siblings) c.in_ok-below.below.items here at refl kept_are rows in
-          let inner = subst (λ longer. IsNode stands weights search.least c.deref.result.now longer items (child node sibling.rank)) (sym longer_is)
+          let inner = subst (λ s. IsNode stands weights search.least c.deref.result.now s items (child node sibling.rank)) (sym longer_is)
           (subst (λ s. IsNode stands weights search.least s (with_item (get_or items sibling.rank 0) set) items (child node sibling.rank)) (sym c.deref.ensures.value) made) in
           let more = joins_more stands weights search.least siblings set items node is i sibling.rank here at in
           let most : i ≤ length siblings = omega arith in
           let before = length-take-le i siblings most in
-          omega (arith, c.in_ok-extend.ensures.joins (child node sibling.rank) inner, c.in_ok-below.ensures.joins, c.add.ensures.joins, c.loop-at.invariant.joins node is);
+          omega (arith, c.in_ok-extend.ensures.joins (child node sibling.rank) inner, c.in_ok-below.ensures.joins, c.add_longer.ensures.joins, c.loop-at.invariant.joins node is);
     }
 
 pub returns-clause-sets : goal.returns-clause-sets
@@ -317,7 +304,7 @@ returns-clause-sets g t c = λ node is.
     let stands = g.R.Row.stands in
     let weights = search.weights.now in
     let siblings = c.args.siblings.now in
-    let set = c.args.set.now in
+    let set = set_at c.args.mined.now.sets.items c.args.place in
     let items = search.coded.now.items in
     let i = c.loop-at.at in
     let kept = kept_below (is_met node.baskets search.least) node.below node.set in
@@ -332,7 +319,7 @@ returns-clause-joins g t c = λ node is.
     let stands = g.R.Row.stands in
     let weights = search.weights.now in
     let siblings = c.args.siblings.now in
-    let set = c.args.set.now in
+    let set = set_at c.args.mined.now.sets.items c.args.place in
     let items = search.coded.now.items in
     let i = c.loop-at.at in
     let kept = kept_below (is_met node.baskets search.least) node.below node.set in
