@@ -1,17 +1,17 @@
 -- Covers of sets, what they share, and what they weigh.
-use Rattle.std.proofs.Common.{◌≡◌, ℕ, zero, suc, ◌+◌, ◌<◌, ◌≤◌, Bool, true, false, not, List, [], ◌∷◌, ◌++◌, take, length, get_or, map, cond, sum, refl, sym, ap, ◌∙◌, subst, inl, inr, arith}
+use Rattle.std.proofs.Common.{◌≡◌, ℕ, zero, suc, ◌+◌, ◌<◌, ◌≤◌, Bool, true, false, not, List, [], ◌∷◌, ◌++◌, take, length, get_or, map, cond, sum, refl, sym, ap, ◌∙◌, subst, inl, inr, arith, add-one}
 use Rattle.std.specs.List.{filter, range_with_len, sum_by}
 use Rattle.std.specs.Ordering.{nat_cmp}
-use Rattle.std.proofs.lemmas.List.Elements.{filter_more}
+use Rattle.std.proofs.lemmas.List.Elements.{filter-append, filter_more}
 use Rattle.std.proofs.lemmas.List.{append-nil}
-use Rattle.std.proofs.lemmas.Bool.{and_parts, and_from, cases_Bool, cases_eq, true≢false}
+use Rattle.std.proofs.lemmas.Bool.{and_parts, and_from, cases_Bool, cases_eq, cases_lt, true≢false}
 use Rattle.std.proofs.lemmas.List.Kept.{IsStrictlySortedBy-filter}
 use Rattle.std.proofs.lemmas.List.Sums.{sum_by-cons}
 use Rattle.basket_sets.specs.declared.weighted.Weighted.{Weighted}
 use Rattle.basket_sets.specs.Itemset.{AllBelow, IsRising, contains, has}
 use Rattle.basket_sets.specs.Support.{support_of}
 use Rattle.basket_sets.proofs.theory.Members.{Member, Member-filter, Member-from_filter}
-use Rattle.basket_sets.proofs.theory.Rising.{Member-from_has, has-from_Member, cons_rises, nil_rises, first_below, rest_rises, same_rising, contains_each, has_each, has_place}
+use Rattle.basket_sets.proofs.theory.Rising.{Member-from_has, has-from_Member, cons_rises, nil_rises, first_below, rest_rises, same_rising, contains_each, has_each, has_place, same_test}
 use Rattle.basket_sets.proofs.theory.Support.{support-cons}
 use Rattle.mine_vertical.specs.Cover.{IsCover, all_places, basket_at, common, cover_of, cover_weight, lacking, weights_of}
 
@@ -36,6 +36,9 @@ range_rises a (suc n) = cons_rises a (range_with_len (a + 1) n) (λ y m. let r =
 pub range_more : (a n : ℕ) → range_with_len a (suc n) ≡ range_with_len a n ++ (a + n) ∷ []
 range_more a zero = ap (λ m. m ∷ []) (omega arith)
 range_more a (suc n) = ap (λ l. a ∷ l) (range_more (a + 1) n ∙ ap (λ m. range_with_len (a + 1) n ++ m ∷ []) (omega arith))
+
+range_next : (n : ℕ) → range_with_len 0 (n + 1) ≡ range_with_len 0 n ++ n ∷ []
+range_next n = let zero_and : 0 + n ≡ n = omega arith in ap (range_with_len 0) (add-one n) ∙ range_more 0 n ∙ ap (λ m. range_with_len 0 n ++ m ∷ []) zero_and
 
 pub filter_rises : (p : ℕ → Bool) (xs : List ℕ) → IsRising xs → IsRising (filter p xs)
 filter_rises p xs up = IsStrictlySortedBy-filter nat_cmp p xs up
@@ -230,3 +233,81 @@ all_cover weights = record {
 
 pub cover_at : (weights cover : List ℕ) (i : ℕ) → AllBelow (length weights) cover → i < length cover → get_or cover i 0 < length weights
 cover_at weights cover i below here = below (get_or cover i 0) (has_place cover i here)
+
+-- ---- a rising cover beside the places below a number
+
+rising_at : (xs : List ℕ) (i k : ℕ) → IsRising xs → i < k → k < length xs → get_or xs i 0 < get_or xs k 0
+rising_at [] i k up less here = absurd (omega arith)
+rising_at (x ∷ xs) i zero up less here = absurd (omega arith)
+rising_at (x ∷ xs) zero (suc k) up less here = first_below x xs up (get_or xs k 0) (Member-from_has xs (get_or xs k 0) (has_place xs k (omega arith)))
+rising_at (x ∷ xs) (suc i) (suc k) up less here = rising_at xs i k (rest_rises x xs up) (omega arith) (omega arith)
+
+nowhere : (xs : List ℕ) (x : ℕ) → ((i : ℕ) → i < length xs → get_or xs i 0 ≡ x → ⊥) → has xs x ≡ false
+nowhere [] x never = refl
+nowhere (y ∷ xs) x never = same_test (has (y ∷ xs) x) false
+    (λ h. elim (Member-from_has (y ∷ xs) x h) [
+      | inl e ↦ absurd (never 0 (omega arith) e)
+      | inr m ↦ absurd (true≢false (sym (has-from_Member xs x m) ∙ nowhere xs x (λ i here. never (suc i) (omega arith))))
+    ])
+    (λ e. absurd (true≢false (sym e)))
+
+-- the places of a cover before a number are below a place, and the others are not
+pub record IsReached (cover : List ℕ) (place at : ℕ) : Type 0 where
+  pub within : at ≤ length cover
+  pub before : (i : ℕ) → i < at → get_or cover i 0 < place
+  pub after : (i : ℕ) → at ≤ i → i < length cover → place ≤ get_or cover i 0
+
+pub reached_first : (cover : List ℕ) → IsReached cover 0 0
+reached_first cover = record { within = omega arith; before = λ i less. absurd (omega arith); after = λ i most here. omega arith }
+
+pub has_reached : (cover : List ℕ) (place at : ℕ) → at < length cover → get_or cover at 0 ≡ place → has cover place ≡ true
+has_reached cover place at here e = ap (has cover) (sym e) ∙ has_place cover at here
+
+module _ (cover : List ℕ) (up : IsRising cover) (place at : ℕ) (is : IsReached cover place at) where
+  -- the place stands in the cover
+  pub reached_found : at < length cover → get_or cover at 0 ≡ place → IsReached cover (place + 1) (at + 1)
+  reached_found here e = record {
+    within = omega arith;
+    before = λ i less. elim (cases_eq i at) [
+      | inl same ↦ (let read = ap (λ n. get_or cover n 0) same in omega arith)
+      | inr differ ↦ (let lower : i < at = omega arith in let low = is.before i lower in omega arith)
+    ];
+    after = λ i most inside. let more = rising_at cover at i up (omega arith) inside in omega arith;
+  }
+
+  -- it does not
+  beyond : (at < length cover → get_or cover at 0 ≡ place → ⊥) → (i : ℕ) → at ≤ i → i < length cover → place + 1 ≤ get_or cover i 0
+  beyond never i most here = elim (cases_eq at i) [
+    | inl same ↦
+        (let low = is.after i most here in
+        let differ : get_or cover i 0 ≡ place → ⊥ = λ e. never (omega arith) (ap (λ n. get_or cover n 0) same ∙ e) in
+        elim (cases_eq (get_or cover i 0) place) [ inl e ↦ absurd (differ e) | inr more ↦ omega arith ])
+    | inr differ ↦
+        (let inside : at < length cover = omega arith in
+        let low = is.after at (omega arith) inside in
+        let more = rising_at cover at i up (omega arith) here in omega arith)
+  ]
+
+  pub reached_missed : (at < length cover → get_or cover at 0 ≡ place → ⊥) → IsReached cover (place + 1) at
+  reached_missed never = record {
+    within = is.within;
+    before = λ i less. let low = is.before i less in omega arith;
+    after = beyond never;
+  }
+
+  pub lacks_reached : (at < length cover → get_or cover at 0 ≡ place → ⊥) → has cover place ≡ false
+  lacks_reached never = nowhere cover place (λ i here e. elim (cases_lt i at) [
+    | inl less ↦ (let low = is.before i less in omega arith)
+    | inr most ↦ (let low = beyond never i most here in omega arith)
+  ])
+
+-- one more place below a number
+pub lacking_more : (cover : List ℕ) (place : ℕ) → has cover place ≡ false → lacking (range_with_len 0 (place + 1)) cover ≡ lacking (range_with_len 0 place) cover ++ place ∷ []
+lacking_more cover place h =
+    ap (λ l. lacking l cover) (range_next place) ∙ filter-append (λ p. not (has cover p)) (range_with_len 0 place) (place ∷ [])
+    ∙ ap (λ b. lacking (range_with_len 0 place) cover ++ cond (not b) (place ∷ []) []) h
+
+pub lacking_same : (cover : List ℕ) (place : ℕ) → has cover place ≡ true → lacking (range_with_len 0 (place + 1)) cover ≡ lacking (range_with_len 0 place) cover
+lacking_same cover place h =
+    ap (λ l. lacking l cover) (range_next place) ∙ filter-append (λ p. not (has cover p)) (range_with_len 0 place) (place ∷ [])
+    ∙ ap (λ b. lacking (range_with_len 0 place) cover ++ cond (not b) (place ∷ []) []) h ∙ append-nil (lacking (range_with_len 0 place) cover)

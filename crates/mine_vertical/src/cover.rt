@@ -34,13 +34,20 @@ pub fn lacking_places(alloc: Global, first: &[u32], second: &[u32]) -> Result<Ve
     Ok(places)
 }
 
-/// The places below a number.
-pub fn places_below(alloc: Global, count: u32) -> Result<Vec<u32>, AllocError>
-    ensures { IfOk result (λ places. places.items ≡ range_with_len 0 count) }
+/// The places below a number that do not stand in a cover.
+pub fn missing_places(alloc: Global, cover: &[u32], count: u32) -> Result<Vec<u32>, AllocError>
+    requires { IsRising cover.now }
+    ensures { IfOk result (λ places. places.items ≡ lacking (range_with_len 0 count) cover.now) }
 {
-    let mut places = Vec::with_capacity(alloc, count as usize)?;
+    let missing = (count as usize).saturating_sub(cover.len());
+    let mut places = Vec::with_capacity(alloc, missing)?;
+    let mut at = 0;
     for place in 0..count {
-        places.push(place)?;
+        if at < cover.len() && cover[at] == place {
+            at += 1;
+        } else {
+            places.push(place)?;
+        }
     }
     Ok(places)
 }

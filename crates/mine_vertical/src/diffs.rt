@@ -1,6 +1,6 @@
 ghost use Rattle.mine_vertical.specs.Rows.{IsDiffList};
 
-use crate::cover::{lacking_places, places_below};
+use crate::cover::{lacking_places, missing_places};
 use crate::marks::Marks;
 use crate::row::Row;
 use crate::weights::Weights;
@@ -19,9 +19,8 @@ impl Row for DiffList {
     ghost marked = { λ row. row.missing.items };
 
     fn first(alloc: Global, cover: &[u32], weights: &Weights) -> Result<Self, AllocError> {
-        let all = places_below(alloc, weights.places())?;
         Ok(DiffList {
-            missing: lacking_places(alloc, &all, cover)?,
+            missing: missing_places(alloc, cover, weights.places())?,
             count: weights.weight(cover),
         })
     }
@@ -51,8 +50,8 @@ impl Row for DiffList {
         weights: &Weights,
     ) -> Result<(), AllocError> {
         weights.bounds();
-        marks.leave(&y.missing, &mut self.missing)?;
-        self.count = x.count - weights.weight(&self.missing);
+        let lost = marks.leave(&y.missing, weights, &mut self.missing)?;
+        self.count = x.count - lost;
         Ok(())
     }
 

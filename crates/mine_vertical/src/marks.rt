@@ -3,7 +3,7 @@ ghost use Rattle.std.specs.Prelude.{◌≡◌, ◌≤◌, ◌<◌, [], ℕ, List
 ghost use Rattle.std.specs.List.{sum_by};
 ghost use Rattle.basket_sets.specs.Database.{MOST_WEIGHT};
 ghost use Rattle.basket_sets.specs.Itemset.{AllBelow};
-ghost use Rattle.mine_vertical.specs.Cover.{IsCover};
+ghost use Rattle.mine_vertical.specs.Cover.{IsCover, cover_weight};
 ghost use Rattle.mine_vertical.specs.Marks.{IsMarked};
 
 use crate::weights::Weights;
@@ -66,17 +66,28 @@ impl Marks {
         Ok(sum)
     }
 
-    /// Keeps those of some places that are not marked, in the place of other places.
-    pub fn leave(&self, places: &[u32], kept: &mut Vec<u32>) -> Result<(), AllocError>
-        requires { AllBelow (length self.now.weights.items) places.now }
-        ensures { OnOk result (kept.new.items ≡ filter (λ place. not (nat_lt 0 (slice_index self.now.weights.items place))) places.now) }
+    /// Keeps those of some places that are not marked, in the place of other places. The answer is
+    /// what they weigh.
+    pub fn leave(
+        &self,
+        places: &[u32],
+        weights: &Weights,
+        kept: &mut Vec<u32>,
+    ) -> Result<u64, AllocError>
+        requires long { length self.now.weights.items ≡ length weights.now }
+        requires covers { IsCover weights.now places.now }
+        ensures places { OnOk result (kept.new.items ≡ filter (λ place. not (nat_lt 0 (slice_index self.now.weights.items place))) places.now) }
+        ensures sum { IfOk result (λ sum. sum ≡ cover_weight weights.now (filter (λ place. not (nat_lt 0 (slice_index self.now.weights.items place))) places.now)) }
     {
+        weights.bounds();
         kept.clear();
+        let mut sum = 0;
         for place in places {
             if self.weights[*place as usize] == 0 {
                 kept.push(*place)?;
+                sum += weights.of_place(*place);
             }
         }
-        Ok(())
+        Ok(sum)
     }
 }

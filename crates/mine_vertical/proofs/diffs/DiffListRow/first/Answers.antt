@@ -9,7 +9,6 @@ returns c = record {
   above = all_cover c.args.weights.now;
   covers = record { rises = c.requires.rises; below = c.requires.below };
   inside = within_all c.args.weights.now c.args.cover.now (record { rises = c.requires.rises; below = c.requires.below });
-  missing = c.in_ok-lacking_places.ensures
-      ∙ ap (λ l. lacking l c.args.cover.now) (c.deref.ensures.value ∙ c.in_ok-all.ensures ∙ ap (range_with_len 0) c.places.ensures);
+  missing = c.in_ok-missing_places.ensures ∙ ap (λ n. lacking (range_with_len 0 n) c.args.cover.now) c.places.ensures;
   count = c.weight.ensures.sum;
 }

@@ -1,5 +1,10 @@
-use Rattle.std.proofs.Common.{◌≡◌, filter, get_or, ltb, not, take}
+use Rattle.std.proofs.Common.{◌≡◌, ◌≤◌, filter, get_or, ltb, not, take}
+use Rattle.mine_vertical.specs.Cover.{cover_weight}
 use Rattle.mine_vertical.proofs.marks.Marks.leave.Given as goal
 
 abbrev pub invariant-loop-place : goal.invariant-loop-place
-invariant-loop-place l = l.kept.items ≡ filter (λ place. not (ltb 0 (get_or l.self.weights.items place 0))) (take l.place-index l.places)
+invariant-loop-place l = record {
+  kept : l.kept.items ≡ filter (λ place. not (ltb 0 (get_or l.self.weights.items place 0))) (take l.place-index l.places);
+  sum : l.sum ≡ cover_weight l.weights (filter (λ place. not (ltb 0 (get_or l.self.weights.items place 0))) (take l.place-index l.places));
+  within : l.sum ≤ cover_weight l.weights (take l.place-index l.places);
+}
