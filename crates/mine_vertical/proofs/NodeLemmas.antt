@@ -21,7 +21,7 @@ use Rattle.mine_vertical.specs.Mined.{set_at}
 use Rattle.mine_vertical.specs.Search.{IsNode, IsSibling, Node, found_at, is_met, ranks_at}
 use Rattle.mine_vertical.specs.Walk.{joins_below, kept_below, sets_below}
 use Rattle.mine_vertical.proofs.SearchLemmas.{ranks, set_kept}
-use Rattle.mine_vertical.proofs.WalkLemmas.{branch, branch_joins, kept_before, kept_few, kept_lower, kept_with, sets_are_branches}
+use Rattle.mine_vertical.proofs.WalkLemmas.{branch, branch_joins, joins_are_branches, kept_before, kept_few, kept_lower, kept_with, sets_are_branches}
 
 as_many : {R : Type 0} (siblings : List (Sibling R)) → length (map (λ (s : Sibling R). s.rank) siblings) ≡ length siblings
 as_many [] = refl
@@ -185,3 +185,19 @@ module _ {R : Type 0} (stands : List ℕ → List ℕ → List ℕ → R → Typ
       ∙ append_assoc (before ++ so_far) (found_at items node (rank ∷ node.set) ∷ []) more ∙ append_assoc before so_far (found_at items node (rank ∷ node.set) ∷ more)
       ∙ sym (ap (λ l. before ++ map (found_at items node) l) (found_more i rank here at)
       ∙ ap (λ l. before ++ l) (map-append (found_at items node) (found_by (take i kept)) (branch test node.set rank)))
+
+-- nothing is found below a node without siblings
+module _ {R : Type 0} (stands : List ℕ → List ℕ → List ℕ → R → Type 0) (weights : List ℕ) (least : ℕ) (siblings : List (Sibling R)) (set items : List ℕ) (node : Node)
+    (is : IsNode stands weights least siblings set items node) (none : length siblings ≡ 0) where
+  none_kept : kept_below (is_met node.baskets least) node.below node.set ≡ []
+  none_kept = empty (kept_below (is_met node.baskets least) node.below node.set) (sym (long stands weights least siblings set items node is) ∙ none)
+    where
+      empty : (ranks : List ℕ) → length ranks ≡ 0 → ranks ≡ []
+      empty [] e = refl
+      empty (x ∷ ranks) e = absurd (omega arith)
+
+  pub no_sets : sets_below (is_met node.baskets least) node.below node.set ≡ []
+  no_sets = sets_are_branches (is_met node.baskets least) node.below node.set ∙ ap (flat_map (branch (is_met node.baskets least) node.set)) none_kept
+
+  pub no_joins : joins_below (is_met node.baskets least) node.below node.set ≡ 0
+  no_joins = joins_are_branches (is_met node.baskets least) node.below node.set ∙ ap (sum_by (branch_joins (is_met node.baskets least) node.set)) none_kept

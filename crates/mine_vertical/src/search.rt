@@ -110,7 +110,9 @@ impl Search<'_> {
             let item = self.coded.item(sibling.rank);
             let longer = mined.add_longer(alloc, place, item, sibling.row.count(), tally)?;
             let below = self.joined(alloc, sibling, &siblings[..at], room, &mut mined.joins)?;
-            self.extend(alloc, &below, longer, mined, tally, room)?;
+            if !below.is_empty() {
+                self.extend(alloc, &below, longer, mined, tally, room)?;
+            }
             room.take_back(below);
         }
         Ok(())

@@ -1,7 +1,8 @@
 use Rattle.std.proofs.Common.{◌≡◌, ◌≤◌, ◌+◌, ◌++◌, ◌∷◌, [], Err, get_or, length, map, take, subst, refl, sym, ap, ◌∙◌, inl, inr, arith, length-append}
 use Rattle.std.specs.List.{sum_by}
-use Rattle.std.proofs.lemmas.List.{length-take-le, take_all}
+use Rattle.std.proofs.lemmas.List.{append-nil, length-take-le, take_all}
 use Rattle.std.proofs.lemmas.List.Elements.{All-take}
+use Rattle.std.proofs.lemmas.Bool.{eqb-true}
 use Rattle.std.proofs.lemmas.Result.{err_from_is_err_and}
 use Rattle.basket_core.specs.declared.fault.MineFault.TheVariants.{TooMany}
 use Rattle.basket_sets.specs.Itemset.{with_item}
@@ -11,12 +12,13 @@ use Rattle.mine_vertical.specs.Cover.{cover_of}
 use Rattle.mine_vertical.specs.declared.marks.Marks.{Marks}
 use Rattle.mine_vertical.specs.Marks.{IsMarked}
 use Rattle.mine_vertical.specs.Mined.{set_at}
-use Rattle.mine_vertical.specs.Search.{IsNode, IsSibling, found_at, is_met, ranks_at}
-use Rattle.mine_vertical.specs.Walk.{kept_below}
+use Rattle.mine_vertical.specs.Search.{FewJoins, IsNode, IsSibling, found_at, is_met, ranks_at}
+use Rattle.mine_vertical.specs.Walk.{joins_below, kept_below, sets_below}
 use Rattle.mine_vertical.proofs.SearchLemmas.{counted_row, set_added, sibling_at}
 use Rattle.mine_vertical.proofs.WalkLemmas.{branch_joins, joins_are_branches, sets_are_branches}
-use Rattle.mine_vertical.proofs.NodeLemmas.{child, child_is, child_known, child_set, fewer, found_by, joins_more, long, longer_set, part_more, part_within, place_few, rank_at, sets_long, sets_more, told_is}
+use Rattle.mine_vertical.proofs.NodeLemmas.{child, child_is, child_known, child_set, fewer, found_by, joins_more, long, longer_set, no_joins, no_sets, part_more, part_within, place_few, rank_at, sets_long, sets_more, told_is}
 use Rattle.mine_vertical.proofs.search.Search.+extend.Goals as goal
+use Rattle.mine_vertical.proofs.search.Search.+extend.Goals.{then-not-is_empty+in_ok-extend, else-not-is_empty}
 
 pub returns-clause-at_most : goal.returns-clause-at_most
 returns-clause-at_most g t c = λ node is.
@@ -255,47 +257,70 @@ loop-at-preserved g t c =
     let i = c.loop-at.at in
     let here = c.loop-at-test.true in
     let sibling = c.index-siblings-at.result in
-    let one_more = ap length c.in_ok-longer.ensures.sets ∙ length-append c.loop-at.mined.sets.items (record { set = with_item c.item-item.result (set_at c.loop-at.mined.sets.items c.args.place); count = c.count.result } ∷ []) in
+    let one_set : Counted = record { set = with_item c.item-item.result (set_at c.loop-at.mined.sets.items c.args.place); count = c.count.result } in
+    let one_more = ap length c.in_ok-longer.ensures.sets ∙ length-append c.loop-at.mined.sets.items (one_set ∷ []) in
+    let most : i ≤ length siblings = omega arith in
+    let before = length-take-le i siblings most in
     record {
-      clear = subst (λ (marks : Marks). IsMarked weights [] marks) (sym c.take_back.ensures) c.in_ok-extend.ensures.clear;
-      going = c.in_ok-extend.ensures.going_on;
-      limit = c.extend.ensures.limit ∙ c.add_longer.ensures.limit ∙ c.loop-at.invariant.limit;
-      told = omega (arith, c.in_ok-extend.ensures.told, c.in_ok-longer.ensures.told, c.loop-at.invariant.told, one_more);
-      few = c.in_ok-extend.ensures.few;
+      clear = elim c.if-not-is_empty.branch [
+        | then-not-is_empty+in_ok-extend w ↦ subst (λ (marks : Marks). IsMarked weights [] marks) (sym (c.take_back.ensures ∙ ap (λ room. room.marks) w.room-is)) w.in_ok-extend.ensures.clear
+        | else-not-is_empty w ↦ subst (λ (marks : Marks). IsMarked weights [] marks) (sym (c.take_back.ensures ∙ ap (λ room. room.marks) w.room-is)) c.in_ok-below.ensures.clear
+      ];
+      going = elim c.if-not-is_empty.branch [
+        | then-not-is_empty+in_ok-extend w ↦ ap (λ tally. g.T.Tally.is_over tally) w.tally-is ∙ w.in_ok-extend.ensures.going_on
+        | else-not-is_empty w ↦ ap (λ tally. g.T.Tally.is_over tally) w.tally-is ∙ c.in_ok-longer.ensures.going_on
+      ];
+      limit = elim c.if-not-is_empty.branch [
+        | then-not-is_empty+in_ok-extend w ↦ ap (λ tally. g.T.Tally.limit_of tally) w.tally-is ∙ w.extend.ensures.limit ∙ c.add_longer.ensures.limit ∙ c.loop-at.invariant.limit
+        | else-not-is_empty w ↦ ap (λ tally. g.T.Tally.limit_of tally) w.tally-is ∙ c.add_longer.ensures.limit ∙ c.loop-at.invariant.limit
+      ];
+      told = elim c.if-not-is_empty.branch [
+        | then-not-is_empty+in_ok-extend w ↦ omega (arith, ap (λ tally. g.T.Tally.told_of tally) w.tally-is, ap (λ mined. length mined.sets.items) w.mined-is, w.in_ok-extend.ensures.told, c.in_ok-longer.ensures.told, c.loop-at.invariant.told, one_more)
+        | else-not-is_empty w ↦ omega (arith, ap (λ tally. g.T.Tally.told_of tally) w.tally-is, ap (λ mined. length mined.sets.items) w.mined-is, c.in_ok-longer.ensures.told, c.loop-at.invariant.told, one_more)
+      ];
+      few = elim c.if-not-is_empty.branch [
+        | then-not-is_empty+in_ok-extend w ↦ subst (λ mined. FewJoins mined.joins (length mined.sets.items)) (sym w.mined-is) w.in_ok-extend.ensures.few
+        | else-not-is_empty w ↦ (let (known, first) = c.requires.node in let few = place_few stands weights search.least siblings set items known first i here in subst (λ mined. FewJoins mined.joins (length mined.sets.items)) (sym w.mined-is) (omega (arith, c.in_ok-below.ensures.joins, c.add_longer.ensures.joins, c.loop-at.invariant.few, one_more, few, before)))
+      ];
       sets = λ node is.
           let with_one = longer_set stands weights search.least siblings set items node is i sibling.rank c.item-item.result c.args.place c.args.mined.now.sets.items c.loop-at.mined.sets.items c.requires.found refl (c.loop-at.invariant.sets node is) c.item-item.ensures in
-          let longer_is = set_added c.loop-at.mined.sets.items c.add_longer.new.self.sets.items (record { set = with_item c.item-item.result (set_at c.loop-at.mined.sets.items c.args.place); count = c.count.result }) c.in_ok-longer.longer
-          c.in_ok-longer.ensures.place c.in_ok-longer.ensures.sets ∙ with_one in
+          let longer_is = set_added c.loop-at.mined.sets.items c.add_longer.new.self.sets.items one_set c.in_ok-longer.longer c.in_ok-longer.ensures.place c.in_ok-longer.ensures.sets ∙ with_one in
           let at = rank_at stands weights search.least siblings set items node is i sibling here c.index-siblings-at.is in
           let all = All-take (IsSibling stands node.baskets node.set) i siblings is.rows in
           let one = sibling_at stands node.baskets node.set siblings i sibling here c.index-siblings-at.is is.rows in
           let kept_are = c.in_ok-below.ensures.ranks node.baskets node.set is.weighs one all in
           let rows = c.in_ok-below.ensures.rows node.baskets node.set is.weighs one all in
           let made = child_is stands weights search.least siblings set items node is i sibling.rank (take i siblings) c.in_ok-below.below.items here at refl kept_are rows in
-          let inner = subst (λ s. IsNode stands weights search.least c.deref.result.now s items (child node sibling.rank)) (sym longer_is)
-          (subst (λ s. IsNode stands weights search.least s (with_item (get_or items sibling.rank 0) set) items (child node sibling.rank)) (sym c.deref.ensures.value) made) in
+          let test = is_met node.baskets search.least in
           let counts = counted_row stands node.baskets (cover_of node.baskets node.set) (sibling.rank ∷ node.set) sibling.row c.count.result c.count.ensures one in
           let is_set = with_one ∙ child_set stands weights search.least siblings set items node is sibling.rank in
-          let new : Counted = record { set = with_item c.item-item.result (set_at c.loop-at.mined.sets.items c.args.place); count = c.count.result } in
-          let found : new ≡ found_at items node (sibling.rank ∷ node.set) = λ k. record { set = is_set k; count = counts k } in
-          sets_more stands weights search.least siblings set items node is i sibling.rank c.args.mined.now.sets.items c.loop-at.mined.sets.items c.add_longer.new.self.sets.items c.extend.new.mined.sets.items
-          new here at (c.loop-at.invariant.sets node is) c.in_ok-longer.ensures.sets found (c.in_ok-extend.ensures.sets (child node sibling.rank) inner);
+          let found : one_set ≡ found_at items node (sibling.rank ∷ node.set) = λ k. record { set = is_set k; count = counts k } in
+          let with_set = c.add_longer.new.self.sets.items in
+          let deeper : c.if-not-is_empty.mined.sets.items ≡ with_set ++ map (found_at items node) (sets_below test sibling.rank (sibling.rank ∷ node.set)) = elim c.if-not-is_empty.branch [
+            | then-not-is_empty+in_ok-extend w ↦ ap (λ mined. mined.sets.items) w.mined-is ∙ w.in_ok-extend.ensures.sets (child node sibling.rank) (subst (λ s. IsNode stands weights search.least w.deref.result.now s items (child node sibling.rank)) (sym longer_is)
+                (subst (λ s. IsNode stands weights search.least s (with_item (get_or items sibling.rank 0) set) items (child node sibling.rank)) (sym w.deref.ensures.value) made))
+            | else-not-is_empty w ↦ ap (λ mined. mined.sets.items) w.mined-is ∙ sym (ap (λ l. with_set ++ map (found_at items node) l)
+                (no_sets stands weights search.least c.in_ok-below.below.items (with_item (get_or items sibling.rank 0) set) items (child node sibling.rank) made (let empty = eqb-true c.in_ok-below.below.len 0 (sym c.is_empty.ensures ∙ w.if-not-is_empty.false) in omega (arith, empty, c.in_ok-below.below.ok.0))) ∙ append-nil with_set)
+          ] in
+          sets_more stands weights search.least siblings set items node is i sibling.rank c.args.mined.now.sets.items c.loop-at.mined.sets.items with_set c.if-not-is_empty.mined.sets.items
+          one_set here at (c.loop-at.invariant.sets node is) c.in_ok-longer.ensures.sets found deeper;
       joins = λ node is.
           let with_one = longer_set stands weights search.least siblings set items node is i sibling.rank c.item-item.result c.args.place c.args.mined.now.sets.items c.loop-at.mined.sets.items c.requires.found refl (c.loop-at.invariant.sets node is) c.item-item.ensures in
-          let longer_is = set_added c.loop-at.mined.sets.items c.add_longer.new.self.sets.items (record { set = with_item c.item-item.result (set_at c.loop-at.mined.sets.items c.args.place); count = c.count.result }) c.in_ok-longer.longer
-          c.in_ok-longer.ensures.place c.in_ok-longer.ensures.sets ∙ with_one in
+          let longer_is = set_added c.loop-at.mined.sets.items c.add_longer.new.self.sets.items one_set c.in_ok-longer.longer c.in_ok-longer.ensures.place c.in_ok-longer.ensures.sets ∙ with_one in
           let at = rank_at stands weights search.least siblings set items node is i sibling here c.index-siblings-at.is in
           let all = All-take (IsSibling stands node.baskets node.set) i siblings is.rows in
           let one = sibling_at stands node.baskets node.set siblings i sibling here c.index-siblings-at.is is.rows in
           let kept_are = c.in_ok-below.ensures.ranks node.baskets node.set is.weighs one all in
           let rows = c.in_ok-below.ensures.rows node.baskets node.set is.weighs one all in
           let made = child_is stands weights search.least siblings set items node is i sibling.rank (take i siblings) c.in_ok-below.below.items here at refl kept_are rows in
-          let inner = subst (λ s. IsNode stands weights search.least c.deref.result.now s items (child node sibling.rank)) (sym longer_is)
-          (subst (λ s. IsNode stands weights search.least s (with_item (get_or items sibling.rank 0) set) items (child node sibling.rank)) (sym c.deref.ensures.value) made) in
+          let test = is_met node.baskets search.least in
           let more = joins_more stands weights search.least siblings set items node is i sibling.rank here at in
-          let most : i ≤ length siblings = omega arith in
-          let before = length-take-le i siblings most in
-          omega (arith, c.in_ok-extend.ensures.joins (child node sibling.rank) inner, c.in_ok-below.ensures.joins, c.add_longer.ensures.joins, c.loop-at.invariant.joins node is);
+          let deeper : c.if-not-is_empty.mined.joins ≡ c.joined.new.joins + joins_below test sibling.rank (sibling.rank ∷ node.set) = elim c.if-not-is_empty.branch [
+            | then-not-is_empty+in_ok-extend w ↦ ap (λ mined. mined.joins) w.mined-is ∙ w.in_ok-extend.ensures.joins (child node sibling.rank) (subst (λ s. IsNode stands weights search.least w.deref.result.now s items (child node sibling.rank)) (sym longer_is)
+                (subst (λ s. IsNode stands weights search.least s (with_item (get_or items sibling.rank 0) set) items (child node sibling.rank)) (sym w.deref.ensures.value) made))
+            | else-not-is_empty w ↦ omega (arith, ap (λ mined. mined.joins) w.mined-is, no_joins stands weights search.least c.in_ok-below.below.items (with_item (get_or items sibling.rank 0) set) items (child node sibling.rank) made (let empty = eqb-true c.in_ok-below.below.len 0 (sym c.is_empty.ensures ∙ w.if-not-is_empty.false) in omega (arith, empty, c.in_ok-below.below.ok.0)))
+          ] in
+          omega (arith, deeper, c.in_ok-below.ensures.joins, c.add_longer.ensures.joins, c.loop-at.invariant.joins node is, more, before);
     }
 
 pub returns-clause-sets : goal.returns-clause-sets
