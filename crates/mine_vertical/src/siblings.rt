@@ -50,7 +50,7 @@ fn weights_at(alloc: Global, spans: &[Span]) -> Result<Weights, AllocError>
         return Err(AllocError);
     }
     let weights: Vec<u64> = spans.iter().map(|span| span.weight).collect(alloc)?;
-    Weights::of(alloc, &weights)
+    Weights::of_vec(alloc, weights)
 }
 
 /// An empty cover for each rank below a number.

@@ -45,11 +45,22 @@ impl Weights {
         requires light { sum weights.now ≤ MOST_WEIGHT }
         ensures { IfOk result (λ copy. copy ≡ weights.now) }
     {
-        let are_ones = all_are_ones(weights);
+        Weights::of_vec(alloc, weights.to_vec(alloc)?)
+    }
+
+    /// The same weights, in their own vector.
+    pub(crate) fn of_vec(alloc: Global, weights: Vec<u64>) -> Result<Self, AllocError>
+        requires few { length weights.items ≤ MOST_PLACES }
+        requires some { All (λ weight. 1 ≤ weight) weights.items }
+        requires light { sum weights.items ≤ MOST_WEIGHT }
+        ensures { IfOk result (λ kept. kept ≡ weights.items) }
+    {
+        let are_ones = all_are_ones(&weights);
+        let planes = planes_of(alloc, &weights, are_ones)?;
         Ok(Weights {
-            weights: weights.to_vec(alloc)?,
+            weights,
             are_ones,
-            planes: planes_of(alloc, weights, are_ones)?,
+            planes,
         })
     }
 
