@@ -22,7 +22,7 @@ fn shared_by_lanes(first: &[[u64; 4]], second: &[[u64; 4]]) -> u64
 }
 
 /// The bits that words share, counted word by word.
-fn shared_by_words(first: &[u64], second: &[u64]) -> u64
+pub fn shared_by_words(first: &[u64], second: &[u64]) -> u64
     requires same { length first.now ≡ length second.now }
     requires few { length first.now ≤ MOST_WORDS }
     ensures { result ≡ shared_bits first.now second.now }

@@ -6,7 +6,7 @@ ghost use Rattle.mine_vertical.specs.Bits.{MOST_WORDS};
 ghost use Rattle.mine_vertical.specs.Planes.{ArePlanes, IsPlane, has_bit, plane_weight};
 ghost use Rattle.mine_vertical.specs.Weights.{MOST_PLACES};
 
-use crate::bits::{and_count, set_bit};
+use crate::bits::{set_bit, shared_by_words};
 use std::alloc::{AllocError, Global};
 
 /// The bits of the greatest weight that there may be.
@@ -74,7 +74,7 @@ pub fn weight_by_planes(words: &[u64], planes: &[Plane]) -> u64
 {
     let mut weight = 0;
     for plane in planes {
-        weight += and_count(words, &plane.words) << plane.bit;
+        weight += shared_by_words(words, &plane.words) << plane.bit;
     }
     weight
 }
