@@ -14,12 +14,12 @@ mod pairs;
 mod places;
 mod runs;
 mod span;
-mod words;
+pub mod words;
 pub mod worked;
 
 pub use conditional::Conditional;
 pub use ordered::Ordered;
-pub use pairs::Sums;
+pub use pairs::{Sums, met_in_order};
 pub use places::Places;
 pub use runs::Runs;
 pub use span::Span;

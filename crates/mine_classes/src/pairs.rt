@@ -237,7 +237,7 @@ fn add_weight(sums: &mut [u64], basket: &[u32], weight: u64)
 }
 
 /// The ranks whose sums are at least so much, with their sums.
-fn met_in_order(alloc: Global, sums: &[u64], least: u64) -> Result<Vec<(u32, u64)>, AllocError>
+pub fn met_in_order(alloc: Global, sums: &[u64], least: u64) -> Result<Vec<(u32, u64)>, AllocError>
     requires { length sums.now ≤ 4294967295 }
     ensures { IfOk result (λ pairs. pairs.items ≡ map (λ rank. (rank, slice_index sums.now rank)) (filter (λ rank. is_met least (slice_index sums.now rank)) (range_with_len 0 (length sums.now)))) }
 {

@@ -26,7 +26,7 @@ pub struct Word {
 
 impl Word {
     /// Whether it has a rank.
-    fn has(&self, rank: u32) -> bool
+    pub fn has(&self, rank: u32) -> bool
         requires { rank < WORD_RANKS }
         ensures { result ≡ has_rank self.now.bits rank }
     {
@@ -56,7 +56,7 @@ impl Word {
 }
 
 /// The bit of a rank.
-fn bit_of(rank: usize) -> u64
+pub fn bit_of(rank: usize) -> u64
     requires { rank < WORD_RANKS }
     ensures { result ≡ 2 ^ (63 - rank) }
 {
@@ -146,7 +146,7 @@ fn repeats(words: &[Word], bits: u64) -> bool
 }
 
 /// Adds a word at the end, or its weight to the last one where that is equal.
-fn add(words: &mut Vec<Word>, word: Word) -> Result<(), AllocError>
+pub fn add(words: &mut Vec<Word>, word: Word) -> Result<(), AllocError>
     requires some { All (λ (other : Bits). 1 ≤ other.weight) words.old.items × (1 ≤ word.weight) }
     requires light { sum_by (λ (other : Bits). other.weight) words.old.items + word.weight ≤ MOST_WEIGHT }
     ensures some { OnOk result (All (λ (other : Bits). 1 ≤ other.weight) words.new.items) }

@@ -11,3 +11,4 @@ mod InnerLemmas
 mod TreesLemmas
 mod PathLemmas
 mod ChoiceLemmas
+mod WordLemmas

@@ -2,3 +2,4 @@ pub mod Level
 pub mod Forest
 pub mod Tree
 pub mod Trees
+pub mod Words

@@ -7,6 +7,7 @@ mod forest;
 pub mod laws;
 mod level;
 mod tree;
+mod words;
 pub mod worked;
 
 pub use forest::{Forest, fp_class};

@@ -1,0 +1,426 @@
+-- Words of bits: their ranks, and what they weigh.
+use Rattle.std.proofs.Common.{◌≡◌, ℕ, ◌+◌, ◌-◌, ◌^◌, ◌<◌, ◌≤◌, Bool, true, false, ◌&&◌, ◌||◌, List, [], ◌∷◌, ◌++◌, length, take, get_or, set, map, cond, eqb, leb, ltb, refl, sym, ap, ◌∙◌, subst, inl, inr, arith, add-zero, zero, suc}
+use Rattle.std.specs.Prelude.{All, bit_or, nat_eq}
+use Rattle.std.specs.Int.{bit_at}
+use Rattle.std.specs.List.{IsDistinct, filter, flat_map, list_all, range_with_len, sum_by}
+use Rattle.std.specs.List.Sorted.{IsPermutation}
+use Rattle.std.specs.Ordering.{nat_cmp}
+use Rattle.std.proofs.lemmas.Bool.{and_from, cases_Bool, cases_eq, eq-eqb, eqb-true, lt-ltb, true≢false}
+use Rattle.std.proofs.lemmas.List.{append-nil, append_assoc, get_or-map, get_or-set_other, get_or-set_same, get_or_default, length-map, map-append, take_more}
+use Rattle.std.proofs.lemmas.List.Elements.{All-weaker, filter-append}
+use Rattle.std.proofs.lemmas.List.Kept.{IsStrictlySortedBy-filter}
+use Rattle.std.proofs.lemmas.List.Sorted.{IsPermutation-map, sum_by-IsPermutation}
+use Rattle.std.proofs.lemmas.List.Sums.{sum_by-append, sum_by-cons, sum_by_push}
+use Rattle.std.proofs.lemmas.Nat.Bits.{bit_at-lt, bit_at-pow_other, bit_at-pow_same, bit_at-zero, bit_at_or}
+use Rattle.std.specs.Prelude.{max}
+use Rattle.basket_core.specs.Codes.{decoded, decoded_place}
+use Rattle.basket_core.proofs.theory.Coding.{from_decoded, into_decoded}
+use Rattle.basket_sets.specs.declared.weighted.Weighted.{Weighted}
+use Rattle.basket_sets.specs.declared.minimum.Minimum.TheVariants.{Count}
+use Rattle.basket_sets.specs.Counts.{AllBelow}
+use Rattle.basket_sets.specs.Database.{MOST_WEIGHT, weighted}
+use Rattle.basket_sets.specs.Frequent.{is_frequent}
+use Rattle.basket_sets.specs.Itemset.{IsRising, contains, has}
+use Rattle.basket_sets.specs.Support.{support_of, total_of, weight_at}
+use Rattle.basket_sets.proofs.theory.Members.{Member, Member-filter, Member-from_filter, Member-from_Contains, Contains-from_Member}
+use Rattle.basket_sets.proofs.theory.Merging.{sum_by-same}
+use Rattle.basket_sets.proofs.theory.Rising.{Member-from_has, contains_each, has-from_Member, has_each, has_more, has_place, rising-rises, same_rising, same_test}
+use Rattle.mine_classes.specs.declared.words.TheConstants.{WORD_RANKS}
+use Rattle.mine_classes.specs.declared.words.Word.{Word}
+use Rattle.mine_classes.specs.Conditional.{conditional, is_kept, kept_place}
+use Rattle.mine_classes.specs.Ordered.{AreRankBaskets, HaveSameWeights, IsRankBasket, RankBaskets, weight_where}
+use Rattle.mine_classes.specs.Pairs.{is_met, kept_ranks, pairs_of}
+use Rattle.mine_classes.specs.declared.span.Span.{Span}
+use Rattle.mine_classes.specs.Span.{basket_at, baskets_at}
+use Rattle.mine_classes.specs.Words.{has_rank, ranks_in, word_place, word_places}
+use Rattle.mine_fp.specs.Trees.{is_branch}
+use Rattle.mine_fp.specs.Words.{pair_weight, rank_weight}
+use Rattle.mine_fp.proofs.LevelLemmas.{Member-into_range, at_place, kept_below, range_rises, range_within}
+use Rattle.mine_fp.proofs.StraightLemmas.{all_of, each_of}
+
+-- ---- bits
+
+one_of_two : (x y : ℕ) → x < 2 → y < 2 → eqb (max x y) 1 ≡ (eqb x 1 || eqb y 1)
+one_of_two zero zero low high = refl
+one_of_two zero (suc zero) low high = refl
+one_of_two zero (suc (suc y)) low high = absurd (omega arith)
+one_of_two (suc zero) zero low high = refl
+one_of_two (suc zero) (suc zero) low high = refl
+one_of_two (suc zero) (suc (suc y)) low high = absurd (omega arith)
+one_of_two (suc (suc x)) y low high = absurd (omega arith)
+
+pub has_either : (a b rank : ℕ) → has_rank (bit_or a b) rank ≡ (has_rank a rank || has_rank b rank)
+has_either a b rank = ap (λ n. eqb n 1) (bit_at_or a b (63 - rank)) ∙ one_of_two (bit_at a (63 - rank)) (bit_at b (63 - rank)) (bit_at-lt a (63 - rank)) (bit_at-lt b (63 - rank))
+
+apart : (x y : ℕ) → (x ≡ y → ⊥) → eqb x y ≡ false
+apart x y differ = elim (cases_Bool (eqb x y)) [ inl e ↦ absurd (differ (eqb-true x y e)) | inr e ↦ e ]
+
+or_false : (b : Bool) → (b || false) ≡ b
+or_false true = refl
+or_false false = refl
+
+or_true : (b : Bool) → (b || true) ≡ true
+or_true true = refl
+or_true false = refl
+
+pub has_bit : (r rank : ℕ) → r < WORD_RANKS → rank < WORD_RANKS → has_rank (2 ^ (63 - r)) rank ≡ eqb r rank
+has_bit r rank low high = elim (cases_eq r rank) [
+  | inl e ↦ ap (λ n. has_rank (2 ^ (63 - r)) n) (sym e) ∙ ap (λ n. eqb n 1) (bit_at-pow_same (63 - r)) ∙ sym (eq-eqb r rank e)
+  | inr differ ↦ ap (λ n. eqb n 1) (bit_at-pow_other (63 - r) (63 - rank) (λ e. differ (omega arith))) ∙ sym (apart r rank differ)
+]
+
+pub no_rank : (rank : ℕ) → has_rank 0 rank ≡ false
+no_rank rank = ap (λ n. eqb n 1) (bit_at-zero (63 - rank))
+
+-- the bits of a basket's ranks so far
+abbrev pub HasBits : List ℕ → ℕ → Type 0
+HasBits basket bits = (rank : ℕ) → rank < WORD_RANKS → has_rank bits rank ≡ has basket rank
+
+pub bit_more : (basket : List ℕ) (i bits : ℕ) → i < length basket → AllBelow WORD_RANKS basket → HasBits (take i basket) bits
+    → HasBits (take (i + 1) basket) (bit_or bits (2 ^ (63 - get_or basket i 0)))
+bit_more basket i bits here low so_far rank high =
+    let r = get_or basket i 0 in
+    has_either bits (2 ^ (63 - r)) rank
+    ∙ ap (λ b. b || has_rank (2 ^ (63 - r)) rank) (so_far rank high)
+    ∙ ap (λ b. has (take i basket) rank || b) (has_bit r rank (low r (has_place basket i here)) high)
+    ∙ sym (has_more basket i rank here)
+
+-- ---- the ranks of a word
+
+pub has_in : (count bits rank : ℕ) → rank < count → has (ranks_in count bits) rank ≡ has_rank bits rank
+has_in count bits rank low = same_test (has (ranks_in count bits) rank) (has_rank bits rank)
+    (λ h. (Member-filter (has_rank bits) rank (range_with_len 0 count) (Member-from_has (ranks_in count bits) rank h)).1)
+    (λ h. has-from_Member (ranks_in count bits) rank (Member-from_filter (has_rank bits) rank (range_with_len 0 count) (Member-into_range 0 count rank (omega arith) (omega arith)) h))
+
+pub in_below : (count bits rank : ℕ) → Member rank (ranks_in count bits) → rank < count
+in_below count bits rank m = let high = range_within 0 count rank (Member-filter (has_rank bits) rank (range_with_len 0 count) m).0 in omega arith
+
+pub in_rise : (count bits : ℕ) → IsRising (ranks_in count bits)
+in_rise count bits = IsStrictlySortedBy-filter nat_cmp (has_rank bits) (range_with_len 0 count) (range_rises 0 count)
+
+-- bits of a rising basket are those ranks
+pub bits_back : (count bits : ℕ) (basket : List ℕ) → count ≤ WORD_RANKS → IsRising basket → AllBelow count basket → HasBits basket bits → ranks_in count bits ≡ basket
+bits_back count bits basket few up low are = same_rising (ranks_in count bits) basket (in_rise count bits) up
+    (λ rank m. let below = in_below count bits rank m in
+    Member-from_has basket rank (sym (are rank (omega arith)) ∙ (Member-filter (has_rank bits) rank (range_with_len 0 count) m).1))
+    (λ rank m. let below = low rank (has-from_Member basket rank m) in
+    Member-from_has (ranks_in count bits) rank (has_in count bits rank below ∙ are rank (omega arith) ∙ has-from_Member basket rank m))
+
+-- ---- what words weigh
+
+pub word_sum : (f : Weighted → ℕ) (count : ℕ) (words : List Word) → sum_by f (word_places count words) ≡ sum_by (λ (word : Word). f (word_place count word)) words
+word_sum f count [] = refl
+word_sum f count (word ∷ words) =
+    sum_by-cons f (word_place count word) (word_places count words) ∙ ap (λ n. f (word_place count word) + n) (word_sum f count words)
+    ∙ sym (sum_by-cons (λ (w : Word). f (word_place count w)) word words)
+
+pub words_total : (count : ℕ) (words : List Word) → total_of (word_places count words) ≡ sum_by (λ (word : Word). word.weight) words
+words_total count words = word_sum (weight_at []) count words
+
+one_rank : (a : Bool) (weight : ℕ) → cond (a && true) weight 0 ≡ cond a weight 0
+one_rank true weight = refl
+one_rank false weight = refl
+
+two_ranks : (a b : Bool) (weight : ℕ) → cond (a && (b && true)) weight 0 ≡ cond b (cond a weight 0) 0
+two_ranks true true weight = refl
+two_ranks true false weight = refl
+two_ranks false true weight = refl
+two_ranks false false weight = refl
+
+pub rank_support : (count rank : ℕ) (words : List Word) → rank < count → support_of (word_places count words) (rank ∷ []) ≡ sum_by (rank_weight rank) words
+rank_support count rank words low =
+    word_sum (weight_at (rank ∷ [])) count words
+    ∙ sum_by-same (λ (w : Word). weight_at (rank ∷ []) (word_place count w)) (rank_weight rank) words (λ w.
+    one_rank (has (ranks_in count w.bits) rank) w.weight ∙ ap (λ b. cond b w.weight 0) (has_in count w.bits rank low))
+
+pub pair_support : (count rank other : ℕ) (words : List Word) → rank < count → other < rank
+    → support_of (word_places count words) (other ∷ rank ∷ []) ≡ sum_by (pair_weight rank other) words
+pair_support count rank other words low less =
+    word_sum (weight_at (other ∷ rank ∷ [])) count words
+    ∙ sum_by-same (λ (w : Word). weight_at (other ∷ rank ∷ []) (word_place count w)) (pair_weight rank other) words (λ w.
+    two_ranks (has (ranks_in count w.bits) other) (has (ranks_in count w.bits) rank) w.weight
+    ∙ ap (λ b. cond (has (ranks_in count w.bits) rank) (cond b w.weight 0) 0) (has_in count w.bits other (omega arith))
+    ∙ ap (λ b. cond b (rank_weight other w) 0) (has_in count w.bits rank low))
+
+pub rank_weight_le : (rank : ℕ) (word : Word) → rank_weight rank word ≤ word.weight
+rank_weight_le rank word = at_most (has_rank word.bits rank)
+  where
+    at_most : (b : Bool) → cond b word.weight 0 ≤ word.weight
+    at_most true = omega arith
+    at_most false = omega arith
+
+pub pair_weight_le : (rank other : ℕ) (word : Word) → pair_weight rank other word ≤ word.weight
+pair_weight_le rank other word = at_most (has_rank word.bits rank)
+  where
+    at_most : (b : Bool) → cond b (rank_weight other word) 0 ≤ word.weight
+    at_most true = rank_weight_le other word
+    at_most false = omega arith
+
+-- ---- words are baskets of ranks, and the other way round
+
+abbrev pub none : Word
+none = record { bits = 0; weight = 0 }
+
+pub words_ranked : (count : ℕ) (words : List Word) → All (λ (word : Word). 1 ≤ word.weight) words → sum_by (λ (word : Word). word.weight) words ≤ MOST_WEIGHT
+    → AreRankBaskets (record { ranks = count; baskets = word_places count words })
+words_ranked count words some light = record {
+  places = λ k d here.
+      let inside : k < length words = omega (arith, here, length-map words (word_place count)) in
+      let bits = (get_or words k none).bits in
+      subst (IsRankBasket count) (sym (get_or-map (word_place count) words k none d inside)) (record {
+        rises = in_rise count bits;
+        below = λ rank h. in_below count bits rank (Member-from_has (ranks_in count bits) rank h);
+        weighs = some k none inside;
+      });
+  light = subst (λ n. n ≤ MOST_WEIGHT) (sym (words_total count words)) light;
+}
+
+pub ranked_some : (count : ℕ) (words : List Word) → AreRankBaskets (record { ranks = count; baskets = word_places count words }) → All (λ (word : Word). 1 ≤ word.weight) words
+ranked_some count words are = λ k d here.
+    let place = word_place count none in
+    let inside : k < length (word_places count words) = omega (arith, here, length-map words (word_place count)) in
+    let is = subst (IsRankBasket count) (get_or-map (word_place count) words k d place here) (are.places k place inside) in
+    is.weighs
+
+-- ---- the pairs of a rank
+
+filter_same : (p q : ℕ → Bool) (xs : List ℕ) → ((x : ℕ) → Member x xs → p x ≡ q x) → filter p xs ≡ filter q xs
+filter_same p q [] same = refl
+filter_same p q (x ∷ xs) same =
+    ap (λ b. cond b (x ∷ filter p xs) (filter p xs)) (same x (inl refl)) ∙ ap (λ l. cond (q x) (x ∷ l) l) (filter_same p q xs (λ y m. same y (inr m)))
+
+map_same : (f g : ℕ → ℕ × ℕ) (xs : List ℕ) → ((x : ℕ) → Member x xs → f x ≡ g x) → map f xs ≡ map g xs
+map_same f g [] same = refl
+map_same f g (x ∷ xs) same = ap (λ y. y ∷ map f xs) (same x (inl refl)) ∙ ap (λ l. g x ∷ l) (map_same f g xs (λ y m. same y (inr m)))
+
+pub sums_are_pairs : (baskets : List Weighted) (least rank : ℕ) (sums : List ℕ) → length sums ≡ rank → ((other : ℕ) → other < rank → get_or sums other 0 ≡ support_of baskets (other ∷ rank ∷ []))
+    → map (λ other. (other, get_or sums other 0)) (filter (λ other. is_met least (get_or sums other 0)) (range_with_len 0 (length sums))) ≡ pairs_of baskets least rank
+sums_are_pairs baskets least rank sums long are =
+    ap (λ n. map (λ other. (other, get_or sums other 0)) (filter summed (range_with_len 0 n))) long
+    ∙ ap (map (λ other. (other, get_or sums other 0))) (filter_same summed (is_kept baskets least rank) (range_with_len 0 rank) (λ other m.
+    let less = within other m in
+    ap (is_met least) (are other less) ∙ ap (λ b. b && is_frequent baskets (Count least) (other ∷ rank ∷ [])) (sym (lt-ltb other rank less))))
+    ∙ map_same (λ other. (other, get_or sums other 0)) (λ other. (other, support_of baskets (other ∷ rank ∷ []))) (kept_ranks baskets least rank) (λ other m i.
+    (other, are other (within other (Member-filter (is_kept baskets least rank) other (range_with_len 0 rank) m).0) i))
+  where
+    summed : ℕ → Bool
+    summed other = is_met least (get_or sums other 0)
+
+    within : (other : ℕ) → Member other (range_with_len 0 rank) → other < rank
+    within other m = let high = range_within 0 rank other m in omega arith
+
+-- ---- the sums of pairs
+
+-- the sums with the weight of a word at its ranks below a number
+pub record HasSums (at : ℕ) (word : Word) (old new : List ℕ) : Type 0 where
+  pub done : (rank : ℕ) → rank < at → get_or new rank 0 ≡ get_or old rank 0 + rank_weight rank word
+  pub rest : (rank : ℕ) → at ≤ rank → get_or new rank 0 ≡ get_or old rank 0
+
+pub sum_added : (at : ℕ) (word : Word) (old new : List ℕ) → at < length new → has_rank word.bits at ≡ true → HasSums at word old new
+    → HasSums (at + 1) word old (set new at (get_or new at 0 + word.weight))
+sum_added at word old new here h so_far = record {
+  done = λ rank less. elim (cases_eq rank at) [
+    | inl e ↦
+        ap (λ r. get_or (set new at (get_or new at 0 + word.weight)) r 0) e ∙ get_or-set_same new at (get_or new at 0 + word.weight) 0 here
+        ∙ ap (λ n. n + word.weight) (so_far.rest at (omega arith))
+        ∙ sym (ap (λ r. get_or old r 0 + rank_weight r word) e ∙ ap (λ b. get_or old at 0 + cond b word.weight 0) h)
+    | inr differ ↦ get_or-set_other new at rank (get_or new at 0 + word.weight) 0 differ ∙ so_far.done rank (omega arith)
+  ];
+  rest = λ rank from. get_or-set_other new at rank (get_or new at 0 + word.weight) 0 (λ e. absurd (omega arith)) ∙ so_far.rest rank (omega arith);
+}
+
+pub sum_left : (at : ℕ) (word : Word) (old new : List ℕ) → has_rank word.bits at ≡ false → HasSums at word old new → HasSums (at + 1) word old new
+sum_left at word old new h so_far = record {
+  done = λ rank less. elim (cases_eq rank at) [
+    | inl e ↦
+        ap (λ r. get_or new r 0) e ∙ so_far.rest at (omega arith) ∙ sym (add-zero (get_or old at 0))
+        ∙ sym (ap (λ r. get_or old r 0 + rank_weight r word) e ∙ ap (λ b. get_or old at 0 + cond b word.weight 0) h)
+    | inr differ ↦ so_far.done rank (omega arith)
+  ];
+  rest = λ rank from. so_far.rest rank (omega arith);
+}
+
+-- ---- words with all ranks below their own
+
+abbrev pub fills : ℕ → ℕ → Bool
+fills count bits = list_all (λ rank. contains (ranks_in count bits) (range_with_len 0 rank)) (ranks_in count bits)
+
+-- each rank comes with the one below it, up to a number
+abbrev pub IsFront : ℕ → ℕ → Type 0
+IsFront count bits = (rank : ℕ) → 1 ≤ rank → rank < count → has_rank bits rank ≡ true → has_rank bits (rank - 1) ≡ true
+
+down : (count bits : ℕ) → IsFront count bits → (n rank : ℕ) → rank + n < count → has_rank bits (rank + n) ≡ true → has_rank bits rank ≡ true
+down count bits front zero rank low h = subst (λ r. has_rank bits r ≡ true) (add-zero rank) h
+down count bits front (suc n) rank low h =
+    let next : rank + suc n - 1 ≡ rank + n = omega arith in
+    down count bits front n rank (omega arith) (subst (λ r. has_rank bits r ≡ true) next (front (rank + suc n) (omega arith) low h))
+
+pub front_fills : (count bits : ℕ) → IsFront count bits → fills count bits ≡ true
+front_fills count bits front = all_of (λ rank. contains (ranks_in count bits) (range_with_len 0 rank)) (ranks_in count bits) (λ rank m.
+    let own = Member-filter (has_rank bits) rank (range_with_len 0 count) m in
+    let low = in_below count bits rank m in
+    contains_each (ranks_in count bits) (range_with_len 0 rank) (λ other n.
+    let less = range_within 0 rank other n in
+    let whole : other + (rank - other) ≡ rank = omega arith in
+    Member-from_has (ranks_in count bits) other (has_in count bits other (omega arith) ∙ down count bits front (rank - other) other (omega arith) (subst (λ r. has_rank bits r ≡ true) (sym whole) own.1))))
+
+pub gap_fails : (count bits rank : ℕ) → 1 ≤ rank → rank < count → has_rank bits rank ≡ true → has_rank bits (rank - 1) ≡ false → fills count bits ≡ false
+gap_fails count bits rank some low h gap = elim (cases_Bool (fills count bits)) [
+  | inl whole ↦
+      (let all = each_of (λ r. contains (ranks_in count bits) (range_with_len 0 r)) (ranks_in count bits) whole rank (Member-from_has (ranks_in count bits) rank (has_in count bits rank low ∙ h)) in
+      let m = has_each (ranks_in count bits) (range_with_len 0 rank) all (rank - 1) (Member-into_range 0 rank (rank - 1) (omega arith) (omega arith)) in
+      absurd (true≢false (sym (Member-filter (has_rank bits) (rank - 1) (range_with_len 0 count) m).1 ∙ gap)))
+  | inr e ↦ e
+]
+
+pub all_fill : (count : ℕ) (words : List Word) → ((k : ℕ) → k < length words → fills count (get_or words k none).bits ≡ true) → is_branch (word_places count words) ≡ true
+all_fill count [] each = refl
+all_fill count (word ∷ words) each =
+    and_from (fills count word.bits) (is_branch (word_places count words)) (each 0 (omega arith)) (all_fill count words (λ k here. each (suc k) (omega arith)))
+
+and_false : (b : Bool) → (b && false) ≡ false
+and_false true = refl
+and_false false = refl
+
+pub one_fails : (count : ℕ) (words : List Word) (k : ℕ) → k < length words → fills count (get_or words k none).bits ≡ false → is_branch (word_places count words) ≡ false
+one_fails count [] k here e = absurd (omega arith)
+one_fails count (word ∷ words) zero here e = ap (λ b. b && is_branch (word_places count words)) e
+one_fails count (word ∷ words) (suc k) here e = ap (λ b. fills count word.bits && b) (one_fails count words k (omega arith) e) ∙ and_false (fills count word.bits)
+
+-- ---- baskets as words
+
+pub basket_is : (ranks : List ℕ) (count : ℕ) (spans : List Span) (i : ℕ) (d : Span) → AreRankBaskets (record { ranks = count; baskets = baskets_at ranks spans }) → i < length spans
+    → IsRankBasket count (basket_at ranks (get_or spans i d))
+basket_is ranks count spans i d are here =
+    subst (IsRankBasket count) (get_or-map (basket_at ranks) spans i d (basket_at ranks d) here)
+    (are.places i (basket_at ranks d) (omega (arith, here, length-map spans (basket_at ranks))))
+
+pub word_added : (ranks : List ℕ) (count : ℕ) (spans : List Span) (i : ℕ) (d : Span) (words : List Word) (word : Word) → i < length spans
+    → word_place count word ≡ basket_at ranks (get_or spans i d) → word_places count words ≡ take i (baskets_at ranks spans)
+    → word_places count (words ++ word ∷ []) ≡ take (i + 1) (baskets_at ranks spans)
+word_added ranks count spans i d words word here is so_far =
+    map-append (word_place count) words (word ∷ [])
+    ∙ ap (λ l. l ++ word_place count word ∷ []) so_far
+    ∙ ap (λ p. take i (baskets_at ranks spans) ++ p ∷ []) (is ∙ sym (get_or-map (basket_at ranks) spans i d (basket_at ranks d) here))
+    ∙ sym (take_more (baskets_at ranks spans) i (basket_at ranks d) (omega (arith, here, length-map spans (basket_at ranks))))
+
+-- ---- words kept to some ranks
+
+-- the bits of the places of the first ranks of a list that a word has
+pub record HasPlaces (kept : List ℕ) (bits : ℕ) (at : ℕ) (new : ℕ) : Type 0 where
+  pub done : (place : ℕ) → place < at → has_rank new place ≡ has_rank bits (get_or kept place 0)
+  pub rest : (place : ℕ) → at ≤ place → place < WORD_RANKS → has_rank new place ≡ false
+
+pub no_places : (kept : List ℕ) (bits : ℕ) → HasPlaces kept bits 0 0
+no_places kept bits = record { done = λ place less. absurd (omega arith); rest = λ place from low. no_rank place }
+
+pub place_with : (kept : List ℕ) (bits at new : ℕ) → at < WORD_RANKS → has_rank bits (get_or kept at 0) ≡ true → HasPlaces kept bits at new
+    → HasPlaces kept bits (at + 1) (bit_or new (2 ^ (63 - at)))
+place_with kept bits at new low h so_far = record {
+  done = λ place less. either place (omega arith) ∙ (elim (cases_eq at place) [
+    | inl e ↦ ap (λ b. has_rank new place || b) (eq-eqb at place e) ∙ or_true (has_rank new place) ∙ sym (ap (λ k. has_rank bits (get_or kept k 0)) (sym e) ∙ h)
+    | inr differ ↦ ap (λ b. has_rank new place || b) (apart at place differ) ∙ or_false (has_rank new place) ∙ so_far.done place (omega arith)
+  ]);
+  rest = λ place from few. either place few ∙ ap (λ b. has_rank new place || b) (apart at place (λ e. absurd (omega arith))) ∙ or_false (has_rank new place) ∙ so_far.rest place (omega arith) few;
+}
+  where
+    either : (place : ℕ) → place < WORD_RANKS → has_rank (bit_or new (2 ^ (63 - at))) place ≡ (has_rank new place || eqb at place)
+    either place few = has_either new (2 ^ (63 - at)) place ∙ ap (λ b. has_rank new place || b) (has_bit at place low few)
+
+pub place_without : (kept : List ℕ) (bits at new : ℕ) → at < WORD_RANKS → has_rank bits (get_or kept at 0) ≡ false → HasPlaces kept bits at new → HasPlaces kept bits (at + 1) new
+place_without kept bits at new low h so_far = record {
+  done = λ place less. elim (cases_eq at place) [
+    | inl e ↦ so_far.rest place (omega arith) (omega arith) ∙ sym (ap (λ k. has_rank bits (get_or kept k 0)) (sym e) ∙ h)
+    | inr differ ↦ so_far.done place (omega arith)
+  ];
+  rest = λ place from few. so_far.rest place (omega arith) few;
+}
+
+-- places decoded are the word's ranks that are kept
+pub kept_decoded : (kept : List ℕ) (count bits new : ℕ) → AllBelow count kept
+    → ((place : ℕ) → place < length kept → has_rank new place ≡ has_rank bits (get_or kept place 0))
+    → filter (has kept) (ranks_in count bits) ≡ decoded kept (ranks_in (length kept) new)
+kept_decoded kept count bits new low are = same_rising (filter (has kept) (ranks_in count bits)) (decoded kept (ranks_in (length kept) new))
+    (IsStrictlySortedBy-filter nat_cmp (has kept) (ranks_in count bits) (in_rise count bits)) (rising-rises (map (λ place. get_or kept place 0) (ranks_in (length kept) new))) into back
+  where
+    into : (rank : ℕ) → Member rank (filter (has kept) (ranks_in count bits)) → Member rank (decoded kept (ranks_in (length kept) new))
+    into rank m =
+        let f = Member-filter (has kept) rank (ranks_in count bits) m in
+        let own = (Member-filter (has_rank bits) rank (range_with_len 0 count) f.0).1 in
+        let c = Contains-from_Member rank kept (Member-from_has kept rank f.1) in
+        let at : get_or kept c.0 0 ≡ rank = at_of c.0 rank c.1 c.2 in
+        subst (λ x. Member x (decoded kept (ranks_in (length kept) new))) at
+        (into_decoded kept (ranks_in (length kept) new) c.0 (Member-from_has (ranks_in (length kept) new) c.0 (has_in (length kept) new c.0 c.1 ∙ are c.0 c.1 ∙ ap (has_rank bits) at ∙ own)))
+      where
+        at_of : (k r : ℕ) → k < length kept → get_or kept k r ≡ r → get_or kept k 0 ≡ r
+        at_of k r here e = get_or_default kept k 0 r here ∙ e
+
+    back : (rank : ℕ) → Member rank (decoded kept (ranks_in (length kept) new)) → Member rank (filter (has kept) (ranks_in count bits))
+    back rank m =
+        let d = from_decoded kept (ranks_in (length kept) new) rank m in
+        let here = in_below (length kept) new d.0 d.1 in
+        let own = (Member-filter (has_rank new) d.0 (range_with_len 0 (length kept)) d.1).1 in
+        let there = has-from_Member kept rank (subst (λ x. Member x kept) d.2 (at_place kept d.0 here)) in
+        Member-from_filter (has kept) rank (ranks_in count bits)
+        (Member-from_has (ranks_in count bits) rank (has_in count bits rank (low rank there) ∙ ap (has_rank bits) (sym d.2) ∙ sym (are d.0 here) ∙ own)) there
+
+changed_weight : (test : List ℕ → Bool) (f : List ℕ → List ℕ) (places : List Weighted)
+    → weight_where test (map (λ (place : Weighted). weighted (f place.basket) place.weight) places) ≡ weight_where (λ basket. test (f basket)) places
+changed_weight test f [] = refl
+changed_weight test f (place ∷ places) =
+    sum_by-cons (λ (p : Weighted). cond (test p.basket) p.weight 0) (weighted (f place.basket) place.weight) (map (λ (p : Weighted). weighted (f p.basket) p.weight) places)
+    ∙ ap (λ n. cond (test (f place.basket)) place.weight 0 + n) (changed_weight test f places)
+    ∙ sym (sum_by-cons (λ (p : Weighted). cond (test (f p.basket)) p.weight 0) place places)
+
+-- baskets of the same weights are so when they are decoded
+pub decoded_weights : (kept : List ℕ) (baskets others : List Weighted) → HaveSameWeights baskets others → HaveSameWeights (map (decoded_place kept) baskets) (map (decoded_place kept) others)
+decoded_weights kept baskets others same test =
+    changed_weight test (decoded kept) baskets ∙ same (λ basket. test (decoded kept basket)) ∙ sym (changed_weight test (decoded kept) others)
+
+-- words in another order have the same weights
+pub moved_words : (count : ℕ) (words moved : List Word) → IsPermutation words moved → HaveSameWeights (word_places count words) (word_places count moved)
+moved_words count words moved permutation test =
+    sym (sum_by-IsPermutation (λ (place : Weighted). cond (test place.basket) place.weight 0) (word_places count words) (word_places count moved) (IsPermutation-map (word_place count) words moved permutation))
+
+flat_map_push : (f : Weighted → List Weighted) (xs : List Weighted) (y : Weighted) → flat_map f (xs ++ y ∷ []) ≡ flat_map f xs ++ f y
+flat_map_push f [] y = append-nil (f y)
+flat_map_push f (x ∷ xs) y = ap (λ l. f x ++ l) (flat_map_push f xs y) ∙ sym (append_assoc (f x) (flat_map f xs) (f y))
+
+module _ (kept : List ℕ) (count rank : ℕ) (words : List Word) (i : ℕ) where
+  abbrev pub below_words : List Word → List Weighted
+  below_words list = flat_map (kept_place (has kept) rank) (word_places count list)
+
+  abbrev word_at : Word
+  word_at = get_or words i none
+
+  next_below : i < length words → rank < count → (b : Bool) → has_rank word_at.bits rank ≡ b
+      → below_words (take (i + 1) words) ≡ below_words (take i words) ++ cond b (weighted (filter (has kept) (ranks_in count word_at.bits)) word_at.weight ∷ []) []
+  next_below here low b h =
+      ap below_words (take_more words i none here)
+      ∙ ap (flat_map (kept_place (has kept) rank)) (map-append (word_place count) (take i words) (word_at ∷ []))
+      ∙ flat_map_push (kept_place (has kept) rank) (word_places count (take i words)) (word_place count word_at)
+      ∙ ap (λ c. below_words (take i words) ++ cond c (weighted (filter (has kept) (ranks_in count word_at.bits)) word_at.weight ∷ []) []) (has_in count word_at.bits rank low ∙ h)
+
+  pub below_without : i < length words → rank < count → has_rank word_at.bits rank ≡ false → (others : List Weighted)
+      → HaveSameWeights (below_words (take i words)) others → HaveSameWeights (below_words (take (i + 1) words)) others
+  below_without here low h others so_far test =
+      ap (weight_where test) (next_below here low false h ∙ append-nil (below_words (take i words))) ∙ so_far test
+
+  pub below_with : i < length words → rank < count → has_rank word_at.bits rank ≡ true → AllBelow count kept → (old new : List Word) (bits : ℕ)
+      → ((place : ℕ) → place < length kept → has_rank bits place ≡ has_rank word_at.bits (get_or kept place 0))
+      → HaveSameWeights (below_words (take i words)) (map (decoded_place kept) (word_places (length kept) old))
+      → HaveSameWeights (word_places (length kept) (old ++ record { bits = bits; weight = word_at.weight } ∷ [])) (word_places (length kept) new)
+      → HaveSameWeights (below_words (take (i + 1) words)) (map (decoded_place kept) (word_places (length kept) new))
+  below_with here low h within old new bits are so_far added test =
+      let n = length kept in
+      let own = filter (has kept) (ranks_in count word_at.bits) in
+      let word : Word = record { bits = bits; weight = word_at.weight } in
+      let inner = λ (basket : List ℕ). test (decoded kept basket) in
+      let weigh = λ (t : List ℕ → Bool) (place : Weighted). cond (t place.basket) place.weight 0 in
+      ap (weight_where test) (next_below here low true h)
+      ∙ sum_by_push (weigh test) (below_words (take i words)) (weighted own word_at.weight)
+      ∙ ap (λ m. m + cond (test own) word_at.weight 0) (so_far test ∙ changed_weight test (decoded kept) (word_places n old))
+      ∙ ap (λ l. weight_where inner (word_places n old) + cond (test l) word_at.weight 0) (kept_decoded kept count word_at.bits bits within are)
+      ∙ sym (ap (weight_where inner) (map-append (word_place n) old (word ∷ [])) ∙ sum_by_push (weigh inner) (word_places n old) (word_place n word))
+      ∙ added inner
+      ∙ sym (changed_weight test (decoded kept) (word_places n new))

@@ -1,0 +1,268 @@
+//! Baskets of up to 64 ranks, each as the bits of a word.
+ghost use Rattle.std.specs.Prelude.{◌≡◌, ◌≤◌, ◌<◌, ◌+◌, ℕ, [], ◌∷◌, All, IfOk, length, map, slice_index, sum_by};
+ghost use Rattle.std.specs.List.{flat_map, list_all, range_with_len};
+ghost use Rattle.basket_core.specs.Codes.{decoded_place};
+ghost use Rattle.basket_sets.specs.Counts.{AllBelow};
+ghost use Rattle.basket_sets.specs.Database.{MOST_WEIGHT};
+ghost use Rattle.basket_sets.specs.Itemset.{IsRising, contains, has};
+ghost use Rattle.basket_sets.specs.Support.{support_of};
+ghost use Rattle.mine_classes.specs.declared.words.TheConstants.{WORD_RANKS};
+ghost use Rattle.mine_classes.specs.declared.words.Word.{Word as Bits};
+ghost use Rattle.mine_classes.specs.Conditional.{kept_place};
+ghost use Rattle.mine_classes.specs.Ordered.{AreRankBaskets, HaveSameWeights};
+ghost use Rattle.mine_classes.specs.Pairs.{pairs_of};
+ghost use Rattle.mine_classes.specs.Span.{IsWithin, baskets_at};
+ghost use Rattle.mine_classes.specs.Words.{has_rank, ranks_in, word_places};
+ghost use Rattle.mine_fp.specs.Trees.{is_branch};
+ghost use Rattle.mine_fp.specs.Words.{pair_weight, rank_weight};
+
+use mine_classes::words::{self, WORD_RANKS, Word, bit_of};
+use mine_classes::{Ordered, Span, met_in_order};
+use std::alloc::{AllocError, Global};
+use std::marker::Model;
+
+/// Baskets of up to 64 ranks, each as the bits of a word. The words stand in order, so that those
+/// that begin alike, which share a branch of the prefix tree, are neighbours.
+#[derive(Debug, Drop)]
+pub struct Words {
+    count: u32,
+    words: Vec<Word>,
+}
+
+impl Model for Words {
+    ghost use Rattle.std.specs.Prelude.{All, ◌≤◌, sum_by};
+    ghost use Rattle.basket_sets.specs.Database.{MOST_WEIGHT};
+    ghost use Rattle.mine_classes.specs.declared.words.TheConstants.{WORD_RANKS};
+    ghost use Rattle.mine_classes.specs.declared.words.Word.{Word as Bits};
+    ghost use Rattle.mine_classes.specs.Ordered.{RankBaskets};
+    ghost use Rattle.mine_classes.specs.Words.{word_places};
+
+    ghost Value = { RankBaskets };
+
+    ghost view = { λ w. record { ranks = w.count; baskets = word_places w.count w.words.items } };
+
+    ghost invariant = { λ w. (w.count ≤ WORD_RANKS)
+        × All (λ (word : Bits). 1 ≤ word.weight) w.words.items
+        × (sum_by (λ (word : Bits). word.weight) w.words.items ≤ MOST_WEIGHT) };
+}
+
+impl Words {
+    /// The baskets as words.
+    pub fn of(alloc: Global, ordered: Ordered) -> Result<Self, AllocError>
+        requires { ordered.ranks ≤ WORD_RANKS }
+        ensures { IfOk result (λ words. words ≡ ordered) }
+    {
+        let (count, ranks, baskets) = ordered.into_parts();
+        let words = words_of(alloc, &ranks, &baskets)?;
+        Ok(Words { count, words })
+    }
+
+    /// How many ranks there are.
+    pub fn ranks(&self) -> u32
+        ensures { result ≡ self.now.ranks }
+    {
+        self.count
+    }
+
+    /// The support of a rank.
+    pub fn support(&self, rank: u32) -> u64
+        requires { rank < self.now.ranks }
+        ensures { result ≡ support_of self.now.baskets (rank ∷ []) }
+    {
+        weight_with(&self.words, rank)
+    }
+
+    /// Whether the prefix tree of the baskets is a single branch.
+    pub fn is_branch(&self) -> bool
+        ensures { result ≡ is_branch self.now.baskets }
+    {
+        are_fronts(&self.words, self.count)
+    }
+
+    /// The ranks below the rank that are frequent together with it, by a least support, each with
+    /// the support of the pair.
+    pub fn pairs(
+        &self,
+        alloc: Global,
+        rank: u32,
+        least: u64,
+    ) -> Result<Vec<(u32, u64)>, AllocError>
+        requires { rank < self.now.ranks }
+        ensures { IfOk result (λ pairs. pairs.items ≡ pairs_of self.now.baskets least rank) }
+    {
+        let sums = pair_sums(&self.words, rank);
+        met_in_order(alloc, &sums[..rank as usize], least)
+    }
+
+    /// The baskets that have a rank, kept to some lower ranks, which are numbered anew.
+    pub fn below(&self, alloc: Global, rank: u32, kept: &[u32]) -> Result<Self, AllocError>
+        requires rank { rank < self.now.ranks }
+        requires rises { IsRising kept.now }
+        requires below { AllBelow rank kept.now }
+        requires few { length kept.now ≤ rank }
+        ensures ranks { IfOk result (λ below. below.ranks ≡ length kept.now) }
+        ensures ranked { IfOk result AreRankBaskets }
+        ensures weights { IfOk result (λ below. HaveSameWeights (flat_map (kept_place (has kept.now) rank) self.now.baskets) (map (decoded_place kept.now) below.baskets)) }
+    {
+        let count = kept.len() as u32;
+        let words = words_below(alloc, &self.words, rank, kept)?;
+        if count == rank {
+            return Ok(Words { count, words });
+        }
+        let words = in_order(alloc, words)?;
+        Ok(Words { count, words })
+    }
+}
+
+/// The baskets, which are parts of a list of ranks, as words.
+fn words_of(alloc: Global, ranks: &[u32], baskets: &[Span]) -> Result<Vec<Word>, AllocError>
+    requires within { All (IsWithin (length ranks.now)) baskets.now }
+    requires ranked { AreRankBaskets (record { ranks = WORD_RANKS; baskets = baskets_at ranks.now baskets.now }) }
+    ensures { IfOk result (λ words. (count : ℕ) → count ≤ WORD_RANKS → AreRankBaskets (record { ranks = count; baskets = baskets_at ranks.now baskets.now })
+        → word_places count words.items ≡ baskets_at ranks.now baskets.now) }
+{
+    let mut words = Vec::with_capacity(alloc, baskets.len())?;
+    for basket in baskets {
+        let bits = bits_of(basket.of(ranks));
+        let weight = basket.weight;
+        words.push(Word { bits, weight })?;
+    }
+    Ok(words)
+}
+
+/// The words in order, equal ones merged.
+fn in_order(alloc: Global, mut words: Vec<Word>) -> Result<Vec<Word>, AllocError>
+    requires some { All (λ (word : Bits). 1 ≤ word.weight) words.items }
+    requires light { sum_by (λ (word : Bits). word.weight) words.items ≤ MOST_WEIGHT }
+    ensures some { IfOk result (λ ordered. All (λ (word : Bits). 1 ≤ word.weight) ordered.items) }
+    ensures light { IfOk result (λ ordered. sum_by (λ (word : Bits). word.weight) ordered.items ≤ MOST_WEIGHT) }
+    ensures weights { IfOk result (λ ordered. (count : ℕ) → HaveSameWeights (word_places count words.items) (word_places count ordered.items)) }
+{
+    words.sort_unstable();
+    words::merged(alloc, &words)
+}
+
+/// The bits of the ranks of a basket.
+fn bits_of(basket: &[u32]) -> u64
+    requires { AllBelow WORD_RANKS basket.now }
+    ensures { (rank : ℕ) → rank < WORD_RANKS → has_rank result rank ≡ has basket.now rank }
+{
+    let mut bits = 0;
+    for rank in basket {
+        bits |= bit_of(*rank as usize);
+    }
+    bits
+}
+
+/// The bits of the places in the list of those ranks there that the word has.
+fn bits_kept(word: &Word, kept: &[u32]) -> u64
+    requires few { length kept.now ≤ WORD_RANKS }
+    requires below { AllBelow WORD_RANKS kept.now }
+    ensures { (place : ℕ) → place < length kept.now → has_rank result place ≡ has_rank word.now.bits (slice_index kept.now place) }
+{
+    let mut bits = 0;
+    for (place, rank) in kept.iter().enumerate() {
+        if word.has(*rank) {
+            bits |= bit_of(place);
+        }
+    }
+    bits
+}
+
+/// What the words weigh that have a rank.
+fn weight_with(words: &[Word], rank: u32) -> u64
+    requires rank { rank < WORD_RANKS }
+    requires light { sum_by (λ (word : Bits). word.weight) words.now ≤ MOST_WEIGHT }
+    ensures { result ≡ sum_by (rank_weight rank) words.now }
+{
+    let mut weight = 0;
+    for word in words {
+        if word.has(rank) {
+            weight += word.weight;
+        }
+    }
+    weight
+}
+
+/// Whether each word has all ranks below its own.
+fn are_fronts(words: &[Word], count: u32) -> bool
+    requires { count ≤ WORD_RANKS }
+    ensures { result ≡ is_branch (word_places count words.now) }
+{
+    for word in words {
+        if !is_front(word, count) {
+            return false;
+        }
+    }
+    true
+}
+
+/// Whether the word has all ranks below its own.
+fn is_front(word: &Word, count: u32) -> bool
+    requires { count ≤ WORD_RANKS }
+    ensures { result ≡ list_all (λ rank. contains (ranks_in count word.now.bits) (range_with_len 0 rank)) (ranks_in count word.now.bits) }
+{
+    for rank in 1..count {
+        if word.has(rank) && !word.has(rank - 1) {
+            return false;
+        }
+    }
+    true
+}
+
+/// For each rank below one, what the words weigh that have both.
+fn pair_sums(words: &[Word], rank: u32) -> [u64; WORD_RANKS]
+    requires rank { rank < WORD_RANKS }
+    requires light { sum_by (λ (word : Bits). word.weight) words.now ≤ MOST_WEIGHT }
+    ensures { (other : ℕ) → other < rank → slice_index result other ≡ sum_by (pair_weight rank other) words.now }
+{
+    let mut sums = [0; WORD_RANKS];
+    for word in words {
+        if word.has(rank) {
+            add_ranks(&mut sums, word, rank);
+        }
+    }
+    sums
+}
+
+/// Adds the weight of a word to the sum of each rank that it has below a number.
+fn add_ranks(sums: &mut [u64; WORD_RANKS], word: &Word, count: u32)
+    requires count { count ≤ WORD_RANKS }
+    requires light { (rank : ℕ) → rank < count → slice_index sums.old rank + word.now.weight ≤ MOST_WEIGHT }
+    ensures { (rank : ℕ) → rank < count → slice_index sums.new rank ≡ slice_index sums.old rank + rank_weight rank word.now }
+{
+    for rank in 0..count {
+        if word.has(rank) {
+            sums[rank as usize] += word.weight;
+        }
+    }
+}
+
+/// The words that have a rank, with the bits of the kept ranks. Equal neighbours are merged.
+fn words_below(
+    alloc: Global,
+    words: &[Word],
+    rank: u32,
+    kept: &[u32],
+) -> Result<Vec<Word>, AllocError>
+    requires rank { rank < WORD_RANKS }
+    requires few { length kept.now ≤ WORD_RANKS }
+    requires rises { IsRising kept.now }
+    requires below { AllBelow rank kept.now }
+    requires some { All (λ (word : Bits). 1 ≤ word.weight) words.now }
+    requires light { sum_by (λ (word : Bits). word.weight) words.now ≤ MOST_WEIGHT }
+    ensures some { IfOk result (λ below. All (λ (word : Bits). 1 ≤ word.weight) below.items) }
+    ensures light { IfOk result (λ below. sum_by (λ (word : Bits). word.weight) below.items ≤ MOST_WEIGHT) }
+    ensures weights { IfOk result (λ below. (count : ℕ) → rank < count
+        → HaveSameWeights (flat_map (kept_place (has kept.now) rank) (word_places count words.now)) (map (decoded_place kept.now) (word_places (length kept.now) below.items))) }
+{
+    let mut below = Vec::with_capacity(alloc, words.len())?;
+    for word in words {
+        if word.has(rank) {
+            let bits = bits_kept(word, kept);
+            let weight = word.weight;
+            words::add(&mut below, Word { bits, weight })?;
+        }
+    }
+    Ok(below)
+}
