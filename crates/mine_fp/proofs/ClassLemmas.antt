@@ -113,27 +113,27 @@ listed_long sized baskets minimum rank list lists =
     ∙ sized (record { items = []; minimum = minimum; baskets = baskets }) rank (map (decoded_set []) list) (record { sets = list; listed = lists; decoded = refl })
 
 module _ (level : Level) (rank : ℕ) (inner : Level) (is : IsBelow level rank (get_or level.names.items rank 0 ∷ level.suffix.items) inner)
-    (coded : ClassesByCodings) (met : is_frequent level.runs.baskets (Count level.least) (rank ∷ []) ≡ true) where
+    (coded : ClassesByCodings) (met : is_frequent level.paths.baskets (Count level.least) (rank ∷ []) ≡ true) where
   abbrev kept : List ℕ
-  kept = kept_ranks level.runs.baskets level.least rank
+  kept = kept_ranks level.paths.baskets level.least rank
 
   abbrev coding : Coding
-  coding = record { items = kept; minimum = Count level.least; baskets = inner.runs.baskets }
+  coding = record { items = kept; minimum = Count level.least; baskets = inner.paths.baskets }
 
   -- the class by the frequent sets of the conditional database
   abbrev pub class_with : List Counted → List Counted
-  class_with list = extended rank (support_of level.runs.baskets (rank ∷ [])) (map (decoded_set kept) list)
+  class_with list = extended rank (support_of level.paths.baskets (rank ∷ [])) (map (decoded_set kept) list)
 
-  own_least : (list : List Counted) → ListsOnce inner.runs.baskets (Count inner.least) list → ListsOnce inner.runs.baskets (Count level.least) list
-  own_least list once = subst (λ n. ListsOnce inner.runs.baskets (Count n) list) is.least once
+  own_least : (list : List Counted) → ListsOnce inner.paths.baskets (Count inner.least) list → ListsOnce inner.paths.baskets (Count level.least) list
+  own_least list once = subst (λ n. ListsOnce inner.paths.baskets (Count n) list) is.least once
 
-  pub lists_class : (list : List Counted) → ListsOnce inner.runs.baskets (Count inner.least) list → ListsClass level.runs.baskets (Count level.least) rank (class_with list)
-  lists_class list once = coded level.runs.baskets level.least rank coding list met is.coding refl is.weights (own_least list once)
+  pub lists_class : (list : List Counted) → ListsOnce inner.paths.baskets (Count inner.least) list → ListsClass level.paths.baskets (Count level.least) rank (class_with list)
+  lists_class list once = coded level.paths.baskets level.least rank coding list met is.coding refl is.weights (own_least list once)
 
   abbrev IsFrequentWithin : Counted → Type 0
-  IsFrequentWithin c = IsNonemptySet c.set × (is_frequent inner.runs.baskets (Count level.least) c.set ≡ true) × (c.count ≡ support_of inner.runs.baskets c.set)
+  IsFrequentWithin c = IsNonemptySet c.set × (is_frequent inner.paths.baskets (Count level.least) c.set ≡ true) × (c.count ≡ support_of inner.paths.baskets c.set)
 
-  sound : (list : List Counted) → ListsOnce inner.runs.baskets (Count inner.least) list → AllByRecursion IsFrequentWithin list
+  sound : (list : List Counted) → ListsOnce inner.paths.baskets (Count inner.least) list → AllByRecursion IsFrequentWithin list
   sound list once = recursion_from_All IsFrequentWithin list (own_least list once).sound
 
   each_as_items : (list : List Counted) → AllByRecursion IsFrequentWithin list
@@ -145,42 +145,42 @@ module _ (level : Level) (rank : ℕ) (inner : Level) (is : IsBelow level rank (
       λ i. one i ∷ each_as_items list all.1 i
 
   -- the class as items
-  pub class_as_items : (list : List Counted) → ListsOnce inner.runs.baskets (Count inner.least) list
+  pub class_as_items : (list : List Counted) → ListsOnce inner.paths.baskets (Count inner.least) list
       → map (as_items level.names.items level.suffix.items) (class_with list)
-      ≡ record { set = rising (get_or level.names.items rank 0 ∷ level.suffix.items); count = support_of level.runs.baskets (rank ∷ []) } ∷ map (as_items inner.names.items inner.suffix.items) list
-  class_as_items list once = ap (λ l. as_items level.names.items level.suffix.items (record { set = rank ∷ []; count = support_of level.runs.baskets (rank ∷ []) }) ∷ l) (each_as_items list (sound list once))
+      ≡ record { set = rising (get_or level.names.items rank 0 ∷ level.suffix.items); count = support_of level.paths.baskets (rank ∷ []) } ∷ map (as_items inner.names.items inner.suffix.items) list
+  class_as_items list once = ap (λ l. as_items level.names.items level.suffix.items (record { set = rank ∷ []; count = support_of level.paths.baskets (rank ∷ []) }) ∷ l) (each_as_items list (sound list once))
 
-  pub class_long : ListsHaveClassSize → length (class_of level.runs.baskets (Count level.least) rank) ≡ length (frequent_of inner.runs.baskets (Count inner.least)) + 1
+  pub class_long : ListsHaveClassSize → length (class_of level.paths.baskets (Count level.least) rank) ≡ length (frequent_of inner.paths.baskets (Count inner.least)) + 1
   class_long sized =
-      let list = frequent_of inner.runs.baskets (Count inner.least) in
-      let lists = lists_class list (frequent_once inner.runs.baskets (Count inner.least)) in
-      omega (arith, listed_long sized level.runs.baskets (Count level.least) rank (class_with list) lists, length-map (map (decoded_set kept) list) (with_rank rank), length-map list (decoded_set kept))
+      let list = frequent_of inner.paths.baskets (Count inner.least) in
+      let lists = lists_class list (frequent_once inner.paths.baskets (Count inner.least)) in
+      omega (arith, listed_long sized level.paths.baskets (Count level.least) rank (class_with list) lists, length-map (map (decoded_set kept) list) (with_rank rank), length-map list (decoded_set kept))
 
   -- a set of the conditional database is with the rank one of the class
-  pub deeper : ClassesAreListed → (size : ℕ) → HasSetOfSize (frequent_of inner.runs.baskets (Count inner.least)) size → HasSetOfSize (class_of level.runs.baskets (Count level.least) rank) (size + 1)
+  pub deeper : ClassesAreListed → (size : ℕ) → HasSetOfSize (frequent_of inner.paths.baskets (Count inner.least)) size → HasSetOfSize (class_of level.paths.baskets (Count level.least) rank) (size + 1)
   deeper listed size has =
-      let list = frequent_of inner.runs.baskets (Count inner.least) in
-      let once = frequent_once inner.runs.baskets (Count inner.least) in
+      let list = frequent_of inner.paths.baskets (Count inner.least) in
+      let once = frequent_once inner.paths.baskets (Count inner.least) in
       let m = Member-from_Contains has.0 list has.1 in
       let s = at_Member IsFrequentWithin has.0 list (sound list once) m in
       let set = decoded kept has.0.set in
-      let of_class = recursion_from_All (λ (c : Counted). IsNonemptySet c.set × (ends_in rank c.set ≡ true) × (is_frequent level.runs.baskets (Count level.least) c.set ≡ true) × (c.count ≡ support_of level.runs.baskets c.set))
+      let of_class = recursion_from_All (λ (c : Counted). IsNonemptySet c.set × (ends_in rank c.set ≡ true) × (is_frequent level.paths.baskets (Count level.least) c.set ≡ true) × (c.count ≡ support_of level.paths.baskets c.set))
       (class_with list) (lists_class list once).sound in
-      let d = at_Member (λ (c : Counted). IsNonemptySet c.set × (ends_in rank c.set ≡ true) × (is_frequent level.runs.baskets (Count level.least) c.set ≡ true) × (c.count ≡ support_of level.runs.baskets c.set))
+      let d = at_Member (λ (c : Counted). IsNonemptySet c.set × (ends_in rank c.set ≡ true) × (is_frequent level.paths.baskets (Count level.least) c.set ≡ true) × (c.count ≡ support_of level.paths.baskets c.set))
       (with_rank rank (decoded_set kept has.0)) (class_with list) of_class
       (inr (Member-map (with_rank rank) (decoded_set kept has.0) (map (decoded_set kept) list) (Member-map (decoded_set kept) has.0 list m))) in
-      let long = length-append set (rank ∷ []) ∙ ap (λ n. n + 1) (length-decoded kept has.0.set (kept_rises level.runs.baskets level.least rank) s.0.0 (ranks_below coding is.coding has.0.set s.1) ∙ has.2) in
-      subst (HasSetOfSize (class_of level.runs.baskets (Count level.least) rank)) long (class_of_size level.runs.baskets level.least rank listed (set ++ rank ∷ []) d.0 d.1 d.2)
+      let long = length-append set (rank ∷ []) ∙ ap (λ n. n + 1) (length-decoded kept has.0.set (kept_rises level.paths.baskets level.least rank) s.0.0 (ranks_below coding is.coding has.0.set s.1) ∙ has.2) in
+      subst (HasSetOfSize (class_of level.paths.baskets (Count level.least) rank)) long (class_of_size level.paths.baskets level.least rank listed (set ++ rank ∷ []) d.0 d.1 d.2)
 
   -- the sets that were found before, the rank alone, and those of the conditional database
-  pub class_grown : (old mid new : List Counted) (items : List ℕ) (support : ℕ) → items ≡ get_or level.names.items rank 0 ∷ level.suffix.items → support ≡ support_of level.runs.baskets (rank ∷ [])
+  pub class_grown : (old mid new : List Counted) (items : List ℕ) (support : ℕ) → items ≡ get_or level.names.items rank 0 ∷ level.suffix.items → support ≡ support_of level.paths.baskets (rank ∷ [])
       → mid ≡ old ++ record { set = rising items; count = support } ∷ [] → ListsAllAsItems inner mid new → ListsClassAsItems level rank old new
   class_grown old mid new items support named counts told within = record {
     sets = class_with within.sets;
     listed = lists_class within.sets within.listed;
     added = within.added
         ∙ ap (λ l. l ++ map (as_items inner.names.items inner.suffix.items) within.sets) (told ∙ (λ i. old ++ record { set = rising (named i); count = counts i } ∷ []))
-        ∙ append_assoc old (record { set = rising (get_or level.names.items rank 0 ∷ level.suffix.items); count = support_of level.runs.baskets (rank ∷ []) } ∷ []) (map (as_items inner.names.items inner.suffix.items) within.sets)
+        ∙ append_assoc old (record { set = rising (get_or level.names.items rank 0 ∷ level.suffix.items); count = support_of level.paths.baskets (rank ∷ []) } ∷ []) (map (as_items inner.names.items inner.suffix.items) within.sets)
         ∙ ap (λ l. old ++ l) (sym (class_as_items within.sets within.listed));
   }
 
@@ -227,11 +227,11 @@ coding_ranked items least value is long = record {
 
 pub inner_is_level : (level : Level) (rank : ℕ) (items : List ℕ) (inner : Level) → IsLevel level → IsBelow level rank items inner → length items ≤ 32 → IsLevel inner
 inner_is_level level rank items inner is below short = record {
-  names = ap length below.names ∙ length-map (kept_ranks level.runs.baskets level.least rank) (λ other. get_or level.names.items other 0) ∙ sym below.ranks;
-  ranked = coding_ranked (kept_ranks level.runs.baskets level.least rank) level.least inner.runs below.coding below.ranks;
+  names = ap length below.names ∙ length-map (kept_ranks level.paths.baskets level.least rank) (λ other. get_or level.names.items other 0) ∙ sym below.ranks;
+  ranked = coding_ranked (kept_ranks level.paths.baskets level.least rank) level.least inner.paths below.coding below.ranks;
   some = subst (λ n. 1 ≤ n) (sym below.least) is.some;
   short = subst (λ (l : List ℕ). length l ≤ 32) (sym below.suffix) short;
 }
 
-pub inner_has_fewer : (level : Level) (rank : ℕ) (items : List ℕ) (inner : Level) → IsBelow level rank items inner → inner.runs.ranks ≤ rank
-inner_has_fewer level rank items inner below = let short = kept_short level.runs.baskets level.least rank in let same = below.ranks in omega arith
+pub inner_has_fewer : (level : Level) (rank : ℕ) (items : List ℕ) (inner : Level) → IsBelow level rank items inner → inner.paths.ranks ≤ rank
+inner_has_fewer level rank items inner below = let short = kept_short level.paths.baskets level.least rank in let same = below.ranks in omega arith

@@ -23,7 +23,7 @@ use Rattle.basket_sets.proofs.theory.Support.{support-append, support-cons}
 use Rattle.mine_classes.specs.declared.span.Span.{Span}
 use Rattle.mine_classes.specs.Classes.{with_rank}
 use Rattle.mine_classes.specs.Conditional.{is_kept, kept_place}
-use Rattle.mine_classes.specs.Pairs.{kept_ranks}
+use Rattle.mine_classes.specs.Pairs.{kept_ranks, pairs_of}
 use Rattle.mine_classes.specs.Runs.{AreRunsOf, below}
 use Rattle.mine_classes.specs.Span.{basket_at, baskets_at}
 use Rattle.mine_fp.specs.Level.{as_items}
@@ -181,3 +181,11 @@ kept_short baskets least rank =
       length-range_with_len 0 rank,
       length-le-contains (kept_ranks baskets least rank) (range_with_len 0 rank) (kept_rises baskets least rank) (range_rises 0 rank) (λ z m. (Member-filter (is_kept baskets least rank) z (range_with_len 0 rank) m).0),
     )
+
+-- the first ranks of a rank's pairs are those that are kept
+pub pair_ranks : (baskets : List Weighted) (least rank : ℕ) → map (λ (pair : ℕ × ℕ). pair.0) (pairs_of baskets least rank) ≡ kept_ranks baskets least rank
+pair_ranks baskets least rank = go (kept_ranks baskets least rank)
+  where
+    go : (ranks : List ℕ) → map (λ (pair : ℕ × ℕ). pair.0) (map (λ other. (other, support_of baskets (other ∷ rank ∷ []))) ranks) ≡ ranks
+    go [] = refl
+    go (first ∷ ranks) = ap (λ l. first ∷ l) (go ranks)

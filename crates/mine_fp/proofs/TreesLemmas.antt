@@ -109,12 +109,12 @@ ranked_plain value are place m = let is = at_Member (IsRankBasket value.ranks) p
 -- ---- the class of a rank
 
 module _ (level : Level) (rank : ℕ) (inner : Level) (is_level : IsLevel level) (is : IsBelow level rank (get_or level.names.items rank 0 ∷ level.suffix.items) inner)
-    (coded : ClassesByCodings) (met : is_frequent level.runs.baskets (Count level.least) (rank ∷ []) ≡ true) (listed : ClassesAreListed) (law : ConditionalSupports) where
+    (coded : ClassesByCodings) (met : is_frequent level.paths.baskets (Count level.least) (rank ∷ []) ≡ true) (listed : ClassesAreListed) (law : ConditionalSupports) where
   abbrev baskets : List Weighted
-  baskets = level.runs.baskets
+  baskets = level.paths.baskets
 
   abbrev within : List Weighted
-  within = inner.runs.baskets
+  within = inner.paths.baskets
 
   abbrev kept : List ℕ
   kept = kept_ranks baskets level.least rank
@@ -154,7 +154,7 @@ module _ (level : Level) (rank : ℕ) (inner : Level) (is_level : IsLevel level)
       at : (set : List ℕ) → set ≢ [] → ((k : ℕ) → Member k set → k < length kept) → test (map (λ k. get_or kept k 0) set ++ rank ∷ []) ≡ (not (is_branch within) && inner_test set)
       at [] some low = absurd (some refl)
       at (first ∷ others) some low =
-          outer_tree baskets within level.least rank law is.weights is.coding.distinct (ranked_plain level.runs is_level.ranked) inner_plain inner_within first others low
+          outer_tree baskets within level.least rank law is.weights is.coding.distinct (ranked_plain level.paths is_level.ranked) inner_plain inner_within first others low
 
   abbrev outer_rest : List Counted → List Counted
   outer_rest list = filter (λ c. test c.set) (map (with_rank rank) (map (decoded_set kept) list))

@@ -1,33 +1,33 @@
 -- Words of bits: their ranks, and what they weigh.
-use Rattle.std.proofs.Common.{◌≡◌, ℕ, ◌+◌, ◌-◌, ◌^◌, ◌<◌, ◌≤◌, Bool, true, false, ◌&&◌, ◌||◌, List, [], ◌∷◌, ◌++◌, length, take, get_or, set, map, cond, eqb, leb, ltb, refl, sym, ap, ◌∙◌, subst, inl, inr, arith, add-zero, zero, suc}
+use Rattle.std.proofs.Common.{◌≡◌, ℕ, ◌+◌, ◌-◌, ◌^◌, ◌<◌, ◌≤◌, Bool, true, false, ◌&&◌, ◌||◌, List, [], ◌∷◌, ◌++◌, length, take, get_or, set, map, cond, eqb, ltb, refl, sym, ap, ◌∙◌, subst, inl, inr, arith, add-zero, zero, suc}
 use Rattle.std.specs.Prelude.{All, bit_or, nat_eq}
 use Rattle.std.specs.Int.{bit_at}
 use Rattle.std.specs.List.{IsDistinct, filter, flat_map, list_all, range_with_len, sum_by}
 use Rattle.std.specs.List.Sorted.{IsPermutation}
 use Rattle.std.specs.Ordering.{nat_cmp}
-use Rattle.std.proofs.lemmas.Bool.{and_from, cases_Bool, cases_eq, eq-eqb, eqb-true, lt-ltb, true≢false}
+use Rattle.std.proofs.lemmas.Bool.{and_from, and_parts, cases_Bool, cases_eq, ltb-true, eq-eqb, eqb-true, lt-ltb, true≢false}
 use Rattle.std.proofs.lemmas.List.{append-nil, append_assoc, get_or-map, get_or-set_other, get_or-set_same, get_or_default, length-map, map-append, take_more}
-use Rattle.std.proofs.lemmas.List.Elements.{All-weaker, filter-append}
+use Rattle.std.proofs.lemmas.List.Elements.{All-weaker}
 use Rattle.std.proofs.lemmas.List.Kept.{IsStrictlySortedBy-filter}
 use Rattle.std.proofs.lemmas.List.Sorted.{IsPermutation-map, sum_by-IsPermutation}
-use Rattle.std.proofs.lemmas.List.Sums.{sum_by-append, sum_by-cons, sum_by_push}
+use Rattle.std.proofs.lemmas.List.Sums.{sum_by-cons, sum_by_push}
 use Rattle.std.proofs.lemmas.Nat.Bits.{bit_at-lt, bit_at-pow_other, bit_at-pow_same, bit_at-zero, bit_at_or}
 use Rattle.std.specs.Prelude.{max}
-use Rattle.basket_core.specs.Codes.{decoded, decoded_place}
+use Rattle.basket_core.specs.Codes.{IsCodedPlace, IsCoding, MOST_RANKS, decoded, decoded_place}
 use Rattle.basket_core.proofs.theory.Coding.{from_decoded, into_decoded}
 use Rattle.basket_sets.specs.declared.weighted.Weighted.{Weighted}
 use Rattle.basket_sets.specs.declared.minimum.Minimum.TheVariants.{Count}
 use Rattle.basket_sets.specs.Counts.{AllBelow}
-use Rattle.basket_sets.specs.Database.{MOST_WEIGHT, weighted}
+use Rattle.basket_sets.specs.Database.{HasWeight, MOST_WEIGHT, weighted}
 use Rattle.basket_sets.specs.Frequent.{is_frequent}
 use Rattle.basket_sets.specs.Itemset.{IsRising, contains, has}
 use Rattle.basket_sets.specs.Support.{support_of, total_of, weight_at}
-use Rattle.basket_sets.proofs.theory.Members.{Member, Member-filter, Member-from_filter, Member-from_Contains, Contains-from_Member}
+use Rattle.basket_sets.proofs.theory.Members.{All-from_Member, Member, Member-filter, Member-from_filter, Contains-from_Member}
 use Rattle.basket_sets.proofs.theory.Merging.{sum_by-same}
-use Rattle.basket_sets.proofs.theory.Rising.{Member-from_has, contains_each, has-from_Member, has_each, has_more, has_place, rising-rises, same_rising, same_test}
+use Rattle.basket_sets.proofs.theory.Rising.{Member-from_has, contains_each, first_below, rest_rises, has-from_Member, has_each, has_more, has_place, rising-rises, same_rising, same_test}
 use Rattle.mine_classes.specs.declared.words.TheConstants.{WORD_RANKS}
 use Rattle.mine_classes.specs.declared.words.Word.{Word}
-use Rattle.mine_classes.specs.Conditional.{conditional, is_kept, kept_place}
+use Rattle.mine_classes.specs.Conditional.{is_kept, kept_place}
 use Rattle.mine_classes.specs.Ordered.{AreRankBaskets, HaveSameWeights, IsRankBasket, RankBaskets, weight_where}
 use Rattle.mine_classes.specs.Pairs.{is_met, kept_ranks, pairs_of}
 use Rattle.mine_classes.specs.declared.span.Span.{Span}
@@ -35,7 +35,7 @@ use Rattle.mine_classes.specs.Span.{basket_at, baskets_at}
 use Rattle.mine_classes.specs.Words.{has_rank, ranks_in, word_place, word_places}
 use Rattle.mine_fp.specs.Trees.{is_branch}
 use Rattle.mine_fp.specs.Words.{pair_weight, rank_weight}
-use Rattle.mine_fp.proofs.LevelLemmas.{Member-into_range, at_place, kept_below, range_rises, range_within}
+use Rattle.mine_fp.proofs.LevelLemmas.{Member-into_range, at_place, kept_rises, kept_short, range_rises, range_within}
 use Rattle.mine_fp.proofs.StraightLemmas.{all_of, each_of}
 
 -- ---- bits
@@ -424,3 +424,36 @@ module _ (kept : List ℕ) (count rank : ℕ) (words : List Word) (i : ℕ) wher
       ∙ sym (ap (weight_where inner) (map-append (word_place n) old (word ∷ [])) ∙ sum_by_push (weigh inner) (word_places n old) (word_place n word))
       ∙ added inner
       ∙ sym (changed_weight test (decoded kept) (word_places n new))
+
+-- ---- a conditional database of words
+
+pub has_kept : (baskets : List Weighted) (least rank other : ℕ) → has (kept_ranks baskets least rank) other ≡ is_kept baskets least rank other
+has_kept baskets least rank other = same_test (has kept other) (is_kept baskets least rank other)
+    (λ h. (Member-filter (is_kept baskets least rank) other (range_with_len 0 rank) (Member-from_has kept other h)).1)
+    (λ h.
+    let less = ltb-true other rank (and_parts (ltb other rank) (is_frequent baskets (Count least) (other ∷ rank ∷ [])) h).0 in
+    has-from_Member kept other (Member-from_filter (is_kept baskets least rank) other (range_with_len 0 rank) (Member-into_range 0 rank other (omega arith) (omega arith)) h))
+  where
+    kept : List ℕ
+    kept = kept_ranks baskets least rank
+
+rising_distinct : (xs : List ℕ) → IsRising xs → IsDistinct nat_eq xs
+unfolding IsDistinct
+rising_distinct [] up = tt
+rising_distinct (x ∷ xs) up = (
+  All-from_Member (λ y. nat_eq x y ≡ false) xs (λ y m. elim (cases_Bool (nat_eq x y)) [
+    | inl e ↦ (let same = eqb-true x y e in let less = first_below x xs up y m in absurd (omega arith))
+    | inr e ↦ e
+  ]),
+  rising_distinct xs (rest_rises x xs up),
+)
+
+pub conditional_coding : (baskets : List Weighted) (least rank : ℕ) (value : RankBaskets) → AreRankBaskets value → value.ranks ≡ length (kept_ranks baskets least rank) → rank < MOST_RANKS
+    → IsCoding (record { items = kept_ranks baskets least rank; minimum = Count least; baskets = value.baskets })
+conditional_coding baskets least rank value are long few = record {
+  distinct = rising_distinct (kept_ranks baskets least rank) (kept_rises baskets least rank);
+  few = (let short = kept_short baskets least rank in omega arith);
+  places = All-weaker (IsRankBasket value.ranks) (IsCodedPlace (kept_ranks baskets least rank)) (λ place is. (is.rises, subst (λ n. AllBelow n place.basket) long is.below)) value.baskets are.places;
+  weights = All-weaker (IsRankBasket value.ranks) HasWeight (λ place is. is.weighs) value.baskets are.places;
+  light = are.light;
+}

@@ -20,8 +20,8 @@ as_items names suffix c = record { set = rising (map (λ rank. slice_index_or na
 
 -- what each level is
 pub record IsLevel (level : Level) : Type 0 where
-  pub names : length level.names.items ≡ level.runs.ranks
-  pub ranked : AreRankBaskets level.runs
+  pub names : length level.names.items ≡ level.paths.ranks
+  pub ranked : AreRankBaskets level.paths
   pub some : 1 ≤ level.least
   pub short : length level.suffix.items ≤ DEPTH
 
@@ -32,13 +32,13 @@ missing level = DEPTH + 1 - length level.suffix.items
 -- the sets of a class as items, behind those that were found before
 pub record ListsClassAsItems (level : Level) (rank : ℕ) (old new : List Counted) : Type 0 where
   pub sets : List Counted
-  pub listed : ListsClass level.runs.baskets (Count level.least) rank sets
+  pub listed : ListsClass level.paths.baskets (Count level.least) rank sets
   pub added : new ≡ old ++ map (as_items level.names.items level.suffix.items) sets
 
 -- all frequent sets as items, behind those that were found before
 pub record ListsAllAsItems (level : Level) (old new : List Counted) : Type 0 where
   pub sets : List Counted
-  pub listed : ListsOnce level.runs.baskets (Count level.least) sets
+  pub listed : ListsOnce level.paths.baskets (Count level.least) sets
   pub added : new ≡ old ++ map (as_items level.names.items level.suffix.items) sets
 
 -- the classes of the ranks below one stand, as items, from a place on
@@ -47,7 +47,7 @@ pub record HasLower (level : Level) (rank start : ℕ) (found : List Counted) : 
   pub classes : List (List Counted)
   pub long : length before ≡ start
   pub ranks : length classes ≡ rank
-  pub listed : ListClasses level.runs.baskets (Count level.least) classes
+  pub listed : ListClasses level.paths.baskets (Count level.least) classes
   pub are : found ≡ before ++ map (as_items level.names.items level.suffix.items) (flat_map (λ class. class) classes)
 
 -- a set that stands at a place is added once more, with one more item and with its own count
@@ -62,9 +62,9 @@ IsOrdered run = run.start ≤ run.end
 
 -- a level is of the conditional database of a rank of another
 pub record IsBelow (level : Level) (rank : ℕ) (items : List ℕ) (inner : Level) : Type 0 where
-  pub ranks : inner.runs.ranks ≡ length (kept_ranks level.runs.baskets level.least rank)
-  pub names : inner.names.items ≡ map (λ other. slice_index_or level.names.items other 0) (kept_ranks level.runs.baskets level.least rank)
+  pub ranks : inner.paths.ranks ≡ length (kept_ranks level.paths.baskets level.least rank)
+  pub names : inner.names.items ≡ map (λ other. slice_index_or level.names.items other 0) (kept_ranks level.paths.baskets level.least rank)
   pub suffix : inner.suffix.items ≡ items
   pub least : inner.least ≡ level.least
-  pub coding : IsCoding (record { items = kept_ranks level.runs.baskets level.least rank; minimum = Count level.least; baskets = inner.runs.baskets })
-  pub weights : HaveSameWeights (conditional level.least level.runs.baskets rank) (map (decoded_place (kept_ranks level.runs.baskets level.least rank)) inner.runs.baskets)
+  pub coding : IsCoding (record { items = kept_ranks level.paths.baskets level.least rank; minimum = Count level.least; baskets = inner.paths.baskets })
+  pub weights : HaveSameWeights (conditional level.least level.paths.baskets rank) (map (decoded_place (kept_ranks level.paths.baskets level.least rank)) inner.paths.baskets)

@@ -3,3 +3,4 @@ pub mod Forest
 pub mod Tree
 pub mod Trees
 pub mod Words
+pub mod Paths

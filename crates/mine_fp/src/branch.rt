@@ -1,17 +1,14 @@
 //! Sets that are read off a single branch.
 ghost use Rattle.std.specs.Prelude.{◌≡◌, ◌≤◌, ◌<◌, ◌+◌, ◌-◌, ◌++◌, [], ◌∷◌, ◌==◌, ℕ, All, Err, IfOk, IsTrue, OnOk, false, length, vec_len};
-ghost use Rattle.std.specs.List.{list_all};
 ghost use Rattle.basket_core.specs.declared.fault.MineFault.TheVariants.{TooMany};
 ghost use Rattle.basket_sets.specs.declared.minimum.Minimum.TheVariants.{Count};
 ghost use Rattle.basket_sets.specs.Frequent.{frequent_of};
-ghost use Rattle.mine_classes.specs.declared.span.Span.{Span as Run};
 ghost use Rattle.mine_classes.specs.Classes.{class_of};
-ghost use Rattle.mine_fp.specs.Level.{HasLower, IsChosen, IsLevel, IsOrdered, ListsClassAsItems, ListsAllAsItems};
+ghost use Rattle.mine_fp.specs.Level.{HasLower, IsChosen, IsLevel, ListsClassAsItems, ListsAllAsItems};
 ghost use Rattle.mine_fp.specs.Trees.{is_branch};
 
 use crate::level::{Found, Level, tell};
 use basket_core::{Itemset, MineFault, Tally};
-use mine_classes::Span;
 use mine_classes::laws::{
     classes_are_all, classes_are_conditional, classes_are_listed, conditional_supports,
     lists_have_class_size, rare_ranks_have_no_class,
@@ -19,21 +16,6 @@ use mine_classes::laws::{
 use std::alloc::Global;
 
 impl Level {
-    /// Whether the prefix tree of the baskets is a single branch: the path of each run has all ranks
-    /// below the run's.
-    pub fn is_branch(&self) -> bool
-        requires { IsLevel self.now }
-        ensures { result ≡ is_branch self.now.runs.baskets }
-    {
-        for rank in 0..self.runs.ranks() {
-            let (_ranks, runs) = self.runs.of_rank(rank);
-            if !are_whole(runs, rank) {
-                return false;
-            }
-        }
-        true
-    }
-
     /// The frequent sets, read off a single branch: each choice of its nodes, with the least count
     /// among them (Han, Pei and Yin 2000). Each is told as soon as it is known.
     pub fn read_off<T: Tally>(
@@ -43,20 +25,20 @@ impl Level {
         tally: &mut T,
     ) -> Result<(), MineFault>
         requires level { IsLevel self.now }
-        requires branch { IsTrue (is_branch self.now.runs.baskets) }
+        requires branch { IsTrue (is_branch self.now.paths.baskets) }
         requires going { T.is_over tally.old ≡ false }
         ensures listed { OnOk result (ListsAllAsItems self.now found.old.sets.items found.new.sets.items) }
         ensures trees { found.new.trees ≡ found.old.trees }
         ensures told { OnOk result (T.told_of tally.new + vec_len found.old.sets ≡ T.told_of tally.old + vec_len found.new.sets) }
         ensures going_on { OnOk result (T.is_over tally.new ≡ false) }
         ensures too_many { (limit : ℕ) → result ≡ Err (TooMany limit) → (limit ≡ T.limit_of tally.old) × IsTrue (T.is_over tally.new) }
-        ensures at_most { T.told_of tally.new ≤ T.told_of tally.old + length (frequent_of self.now.runs.baskets (Count self.now.least)) }
+        ensures at_most { T.told_of tally.new ≤ T.told_of tally.old + length (frequent_of self.now.paths.baskets (Count self.now.least)) }
         ensures limit { T.limit_of tally.new ≡ T.limit_of tally.old }
     {
         classes_are_all();
         classes_are_listed();
         let start = found.sets.len();
-        for last in 0..self.runs.ranks() {
+        for last in 0..self.paths.ranks() {
             self.choices(alloc, last, start, found, tally)?;
         }
         Ok(())
@@ -73,8 +55,8 @@ impl Level {
         tally: &mut T,
     ) -> Result<(), MineFault>
         requires level { IsLevel self.now }
-        requires branch { IsTrue (is_branch self.now.runs.baskets) }
-        requires rank { rank < self.now.runs.ranks }
+        requires branch { IsTrue (is_branch self.now.paths.baskets) }
+        requires rank { rank < self.now.paths.ranks }
         requires lower { HasLower self.now rank start found.old.sets.items }
         requires going { T.is_over tally.old ≡ false }
         ensures listed { OnOk result (ListsClassAsItems self.now rank found.old.sets.items found.new.sets.items) }
@@ -82,7 +64,7 @@ impl Level {
         ensures told { OnOk result (T.told_of tally.new + vec_len found.old.sets ≡ T.told_of tally.old + vec_len found.new.sets) }
         ensures going_on { OnOk result (T.is_over tally.new ≡ false) }
         ensures too_many { (limit : ℕ) → result ≡ Err (TooMany limit) → (limit ≡ T.limit_of tally.old) × IsTrue (T.is_over tally.new) }
-        ensures at_most { T.told_of tally.new ≤ T.told_of tally.old + length (class_of self.now.runs.baskets (Count self.now.least) rank) }
+        ensures at_most { T.told_of tally.new ≤ T.told_of tally.old + length (class_of self.now.paths.baskets (Count self.now.least) rank) }
         ensures limit { T.limit_of tally.new ≡ T.limit_of tally.old }
     {
         classes_are_all();
@@ -91,7 +73,7 @@ impl Level {
         conditional_supports();
         lists_have_class_size();
         rare_ranks_have_no_class();
-        let support = self.support(rank);
+        let support = self.paths.support(rank);
         if support < self.least {
             return Ok(());
         }
@@ -104,14 +86,6 @@ impl Level {
         }
         Ok(())
     }
-}
-
-/// Whether the path of each run is so long.
-fn are_whole(runs: &[Span], depth: u32) -> bool
-    requires { All IsOrdered runs.now }
-    ensures { result ≡ list_all (λ (run : Run). run.end - run.start == depth) runs.now }
-{
-    runs.iter().all(|run| run.end - run.start == depth)
 }
 
 /// Tells a set that was found, with one more item and a count of its own.

@@ -5,7 +5,8 @@ ghost use Rattle.mine_classes.specs.Mined.{ListsClassItems, RanksAreFrequent, cl
 ghost use Rattle.mine_fp.specs.Trees.{class_trees};
 
 use crate::level::{Found, Level, Tables};
-use basket_core::{Coded, Counted, Itemset, MineFault, Tally};
+use crate::paths::Paths;
+use basket_core::{Coded, Counted, MineFault, Tally};
 use mine_classes::laws::{classes_are_listed, deep_classes_are_large, lists_have_class_size};
 use mine_classes::{Ordered, Runs};
 use std::alloc::{AllocError, Global};
@@ -28,7 +29,7 @@ impl<'a> Model for Forest<'a> {
 
     ghost view = { λ f. f.coded.now };
 
-    ghost invariant = { λ f. AreInForest f.coded.now f.level.least f.level.runs
+    ghost invariant = { λ f. AreInForest f.coded.now f.level.least f.level.paths
         × (f.level.names.items ≡ f.coded.now.items) × (f.level.suffix.items ≡ []) };
 }
 
@@ -40,7 +41,7 @@ impl<'a> Forest<'a> {
         Ok(Forest {
             coded,
             level: Level {
-                runs: Runs::of(alloc, Ordered::of_coded(alloc, coded)?)?,
+                paths: Paths::of_runs(Runs::of(alloc, Ordered::of_coded(alloc, coded)?)?),
                 names: items_of(alloc, coded)?,
                 suffix: Vec::new(alloc),
                 least: coded.minimum().least(coded.total()),
@@ -55,8 +56,7 @@ fn items_of(alloc: Global, coded: &Coded) -> Result<Vec<u32>, AllocError>
 {
     let mut items = Vec::with_capacity(alloc, coded.ranks() as usize)?;
     for rank in 0..coded.ranks() {
-        let set = coded.decode(Itemset::from_items(alloc, &[rank])?);
-        items.extend_from_slice(set.items())?;
+        items.push(coded.item(rank))?;
     }
     Ok(items)
 }
@@ -88,7 +88,7 @@ pub fn fp_class<T: Tally>(
     // that the baskets are a coding's.
     let _limit = tally.limit();
     let _baskets = forest.coded.baskets();
-    let mut tables = Tables::new(alloc, forest.level.runs.ranks())?;
+    let mut tables = Tables::new(alloc, forest.level.paths.ranks())?;
     let mut found = Found {
         sets: Vec::new(alloc),
         trees: 0,

@@ -1,23 +1,21 @@
 //! Sets that are grown within a conditional database.
-ghost use Rattle.std.specs.Prelude.{◌≡◌, ◌≤◌, ◌<◌, ◌+◌, ◌++◌, ◌⊎◌, [], ◌∷◌, ℕ, Err, IfOk, IsTrue, OnOk, false, length, map, slice_index, sum_by, vec_len};
+ghost use Rattle.std.specs.Prelude.{◌≡◌, ◌≤◌, ◌<◌, ◌+◌, ◌++◌, ◌⊎◌, [], ◌∷◌, ℕ, Err, IfOk, IsTrue, OnOk, false, length, map, slice_index, vec_len};
 ghost use Rattle.basket_core.specs.declared.fault.MineFault.TheVariants.{TooMany};
 ghost use Rattle.basket_core.specs.Depth.{HasSetOfSize};
 ghost use Rattle.basket_sets.specs.declared.minimum.Minimum.TheVariants.{Count};
 ghost use Rattle.basket_sets.specs.Counts.{AllBelow};
-ghost use Rattle.basket_sets.specs.Database.{MOST_WEIGHT};
 ghost use Rattle.basket_sets.specs.Frequent.{frequent_of};
-ghost use Rattle.basket_sets.specs.Support.{support_of};
-ghost use Rattle.mine_classes.specs.declared.span.Span.{Span as Run};
 ghost use Rattle.mine_classes.specs.Classes.{class_of};
 ghost use Rattle.mine_fp.specs.Level.{IsBelow, IsLevel, ListsClassAsItems, ListsAllAsItems, missing};
 ghost use Rattle.mine_fp.specs.Trees.{inner_trees, rank_trees};
 
+use crate::paths::Paths;
 use basket_core::{Counted, Itemset, MineFault, Tally};
 use mine_classes::laws::{
     classes_are_all, classes_are_listed, classes_by_codings, conditional_supports,
     lists_have_class_size, rare_ranks_have_no_class,
 };
-use mine_classes::{Conditional, Places, Runs, Span, Sums};
+use mine_classes::{Places, Sums};
 use std::alloc::{AllocError, Global};
 
 /// How many items a set has at most. A class with a set of one more has more sets than any limit, so
@@ -54,7 +52,7 @@ impl Tables {
 /// it is of, which each set found in it gets.
 #[derive(Debug, Drop)]
 pub struct Level {
-    pub runs: Runs,
+    pub paths: Paths,
     pub names: Vec<u32>,
     pub suffix: Vec<u32>,
     pub least: u64,
@@ -73,21 +71,21 @@ impl Level {
         tally: &mut T,
     ) -> Result<(), MineFault>
         requires level { IsLevel self.now }
-        requires rank { rank < self.now.runs.ranks }
-        requires sums { tables.old.sums ≡ self.now.runs.ranks }
-        requires places { tables.old.places ≡ self.now.runs.ranks }
+        requires rank { rank < self.now.paths.ranks }
+        requires sums { tables.old.sums ≡ self.now.paths.ranks }
+        requires places { tables.old.places ≡ self.now.paths.ranks }
         requires few { found.old.trees ≤ vec_len found.old.sets }
         requires going { T.is_over tally.old ≡ false }
         ensures listed { OnOk result (ListsClassAsItems self.now rank found.old.sets.items found.new.sets.items) }
-        ensures trees { OnOk result (found.new.trees ≡ found.old.trees + rank_trees self.now.runs.baskets self.now.least rank) }
+        ensures trees { OnOk result (found.new.trees ≡ found.old.trees + rank_trees self.now.paths.baskets self.now.least rank) }
         ensures few { OnOk result (found.new.trees ≤ vec_len found.new.sets) }
-        ensures sums { OnOk result (tables.new.sums ≡ self.now.runs.ranks) }
-        ensures places { OnOk result (tables.new.places ≡ self.now.runs.ranks) }
+        ensures sums { OnOk result (tables.new.sums ≡ self.now.paths.ranks) }
+        ensures places { OnOk result (tables.new.places ≡ self.now.paths.ranks) }
         ensures told { OnOk result (T.told_of tally.new + vec_len found.old.sets ≡ T.told_of tally.old + vec_len found.new.sets) }
         ensures going_on { OnOk result (T.is_over tally.new ≡ false) }
         ensures too_many { (limit : ℕ) → result ≡ Err (TooMany limit) → (limit ≡ T.limit_of tally.old)
-            × (IsTrue (T.is_over tally.new) ⊎ HasSetOfSize (class_of self.now.runs.baskets (Count self.now.least) rank) (missing self.now)) }
-        ensures at_most { T.told_of tally.new ≤ T.told_of tally.old + length (class_of self.now.runs.baskets (Count self.now.least) rank) }
+            × (IsTrue (T.is_over tally.new) ⊎ HasSetOfSize (class_of self.now.paths.baskets (Count self.now.least) rank) (missing self.now)) }
+        ensures at_most { T.told_of tally.new ≤ T.told_of tally.old + length (class_of self.now.paths.baskets (Count self.now.least) rank) }
         ensures limit { T.limit_of tally.new ≡ T.limit_of tally.old }
     {
         classes_are_listed();
@@ -95,7 +93,7 @@ impl Level {
         lists_have_class_size();
         conditional_supports();
         rare_ranks_have_no_class();
-        let support = self.support(rank);
+        let support = self.paths.support(rank);
         if support < self.least {
             return Ok(());
         }
@@ -122,34 +120,25 @@ impl Level {
         requires few { found.old.trees ≤ vec_len found.old.sets }
         requires going { T.is_over tally.old ≡ false }
         ensures listed { OnOk result (ListsAllAsItems self.now found.old.sets.items found.new.sets.items) }
-        ensures trees { OnOk result (found.new.trees ≡ found.old.trees + inner_trees self.now.runs.baskets self.now.least) }
+        ensures trees { OnOk result (found.new.trees ≡ found.old.trees + inner_trees self.now.paths.baskets self.now.least) }
         ensures few { OnOk result (found.new.trees ≤ vec_len found.new.sets) }
         ensures told { OnOk result (T.told_of tally.new + vec_len found.old.sets ≡ T.told_of tally.old + vec_len found.new.sets) }
         ensures going_on { OnOk result (T.is_over tally.new ≡ false) }
         ensures too_many { (limit : ℕ) → result ≡ Err (TooMany limit) → (limit ≡ T.limit_of tally.old)
-            × (IsTrue (T.is_over tally.new) ⊎ HasSetOfSize (frequent_of self.now.runs.baskets (Count self.now.least)) (missing self.now)) }
-        ensures at_most { T.told_of tally.new ≤ T.told_of tally.old + length (frequent_of self.now.runs.baskets (Count self.now.least)) }
+            × (IsTrue (T.is_over tally.new) ⊎ HasSetOfSize (frequent_of self.now.paths.baskets (Count self.now.least)) (missing self.now)) }
+        ensures at_most { T.told_of tally.new ≤ T.told_of tally.old + length (frequent_of self.now.paths.baskets (Count self.now.least)) }
         ensures limit { T.limit_of tally.new ≡ T.limit_of tally.old }
     {
         classes_are_all();
         classes_are_listed();
-        if self.is_branch() {
+        if self.paths.is_branch() {
             return self.read_off(alloc, found, tally);
         }
-        let mut tables = Tables::new(alloc, self.runs.ranks())?;
-        for rank in 0..self.runs.ranks() {
+        let mut tables = Tables::new(alloc, self.paths.ranks())?;
+        for rank in 0..self.paths.ranks() {
             self.class(alloc, rank, &mut tables, found, tally)?;
         }
         Ok(())
-    }
-
-    /// The support of a rank.
-    pub fn support(&self, rank: u32) -> u64
-        requires { rank < self.now.runs.ranks }
-        ensures { result ≡ support_of self.now.runs.baskets (rank ∷ []) }
-    {
-        let (_ranks, runs) = self.runs.of_rank(rank);
-        weight_of(runs)
     }
 
     /// The item of a rank, and those that each set gets.
@@ -172,30 +161,24 @@ impl Level {
         items: Vec<u32>,
         trees: &mut u64,
     ) -> Result<Level, AllocError>
-        requires rank { rank < self.now.runs.ranks }
-        requires named { vec_len self.now.names ≡ self.now.runs.ranks }
-        requires sums { tables.old.sums ≡ self.now.runs.ranks }
-        requires places { tables.old.places ≡ self.now.runs.ranks }
+        requires rank { rank < self.now.paths.ranks }
+        requires named { vec_len self.now.names ≡ self.now.paths.ranks }
+        requires sums { tables.old.sums ≡ self.now.paths.ranks }
+        requires places { tables.old.places ≡ self.now.paths.ranks }
         requires few { trees.old < 18446744073709551615 }
         ensures below { IfOk result (λ inner. IsBelow self.now rank items.items inner) }
         ensures sums { tables.new.sums ≡ tables.old.sums }
         ensures places { tables.new.places ≡ tables.old.places }
         ensures trees { OnOk result (trees.new ≡ trees.old + 1) }
     {
-        let pairs = self.runs.pairs(alloc, &mut tables.sums, rank, self.least)?;
-        let conditional = Conditional::of(
-            alloc,
-            &self.runs,
-            &mut tables.places,
-            rank,
-            self.least,
-            &pairs,
-        )?;
-        let names = named(alloc, &self.names, conditional.ranks())?;
-        let runs = Runs::of(alloc, conditional.into_baskets())?;
+        let pairs = self.paths.pairs(alloc, &mut tables.sums, rank, self.least)?;
+        let names = named(alloc, &self.names, &pairs)?;
+        let paths = self
+            .paths
+            .below(alloc, &mut tables.places, rank, self.least, &pairs)?;
         *trees += 1;
         Ok(Level {
-            runs,
+            paths,
             names,
             suffix: items,
             least: self.least,
@@ -203,26 +186,14 @@ impl Level {
     }
 }
 
-/// What some runs weigh together.
-fn weight_of(runs: &[Span]) -> u64
-    requires { sum_by (λ (run : Run). run.weight) runs.now ≤ MOST_WEIGHT }
-    ensures { result ≡ sum_by (λ (run : Run). run.weight) runs.now }
+/// The names of the ranks of some pairs.
+fn named(alloc: Global, names: &[u32], pairs: &[(u32, u64)]) -> Result<Vec<u32>, AllocError>
+    requires { AllBelow (length names.now) (map (λ pair. pair.0) pairs.now) }
+    ensures { IfOk result (λ named. named.items ≡ map (λ rank. slice_index names.now rank) (map (λ pair. pair.0) pairs.now)) }
 {
-    let mut weight = 0;
-    for run in runs {
-        weight += run.weight;
-    }
-    weight
-}
-
-/// The names of some ranks.
-fn named(alloc: Global, names: &[u32], ranks: &[u32]) -> Result<Vec<u32>, AllocError>
-    requires { AllBelow (length names.now) ranks.now }
-    ensures { IfOk result (λ named. named.items ≡ map (λ rank. slice_index names.now rank) ranks.now) }
-{
-    let mut named = Vec::with_capacity(alloc, ranks.len())?;
-    for rank in ranks {
-        named.push(names[*rank as usize])?;
+    let mut named = Vec::with_capacity(alloc, pairs.len())?;
+    for pair in pairs {
+        named.push(names[pair.0 as usize])?;
     }
     Ok(named)
 }

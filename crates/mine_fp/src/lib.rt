@@ -6,6 +6,7 @@ mod branch;
 mod forest;
 pub mod laws;
 mod level;
+mod paths;
 mod tree;
 mod words;
 pub mod worked;

@@ -81,12 +81,7 @@ impl Words {
 
     /// The ranks below the rank that are frequent together with it, by a least support, each with
     /// the support of the pair.
-    pub fn pairs(
-        &self,
-        alloc: Global,
-        rank: u32,
-        least: u64,
-    ) -> Result<Vec<(u32, u64)>, AllocError>
+    pub fn pairs(&self, alloc: Global, rank: u32, least: u64) -> Result<Vec<(u32, u64)>, AllocError>
         requires { rank < self.now.ranks }
         ensures { IfOk result (λ pairs. pairs.items ≡ pairs_of self.now.baskets least rank) }
     {

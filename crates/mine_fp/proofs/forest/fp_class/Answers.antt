@@ -13,7 +13,7 @@ use Rattle.mine_fp.proofs.forest.fp_class.Goals as goal
 pub returns-in_err-class-clause-too_many : goal.returns-in_err-class-clause-too_many
 returns-in_err-class-clause-too_many g c = λ limit e.
     let level = c.forest.inside.level in
-    let are = subst (λ (v : Coding). AreInForest v level.least level.runs) c.forest.view_is c.forest.invariant.0 in
+    let are = subst (λ (v : Coding). AreInForest v level.least level.paths) c.forest.view_is c.forest.invariant.0 in
     let p = err_from_is_err_and c.from_residual-in_err-class.result c.from_residual-in_err-class.ensures.1 in
     let same : c.in_err-class.field-0.0 ≡ TooMany limit = cc in
     let many = c.in_err-class.ensures.too_many limit (ap Err same) in
@@ -23,7 +23,7 @@ returns-in_err-class-clause-too_many g c = λ limit e.
         | inl over ↦ inl over
         | inr deep ↦
             (let large = c.deep_classes_are_large.ensures c.args.forest.now c.args.rank 32
-            (class_deep c.args.forest.now level.least level.runs are c.classes_are_listed.ensures c.args.rank (32 + 1) (subst (HasSetOfSize (class_of level.runs.baskets (Count level.least) c.args.rank)) depth deep)) in
+            (class_deep c.args.forest.now level.least level.paths are c.classes_are_listed.ensures c.args.rank (32 + 1) (subst (HasSetOfSize (class_of level.paths.baskets (Count level.least) c.args.rank)) depth deep)) in
             inr (omega (arith, large, many.0, c.limit-limit.ensures, c.limit-limit.type_inv)))
       ],
     )
@@ -31,19 +31,19 @@ returns-in_err-class-clause-too_many g c = λ limit e.
 pub returns-in_err-class-clause-at_most : goal.returns-in_err-class-clause-at_most
 returns-in_err-class-clause-at_most g c =
     let level = c.forest.inside.level in
-    let are = subst (λ (v : Coding). AreInForest v level.least level.runs) c.forest.view_is c.forest.invariant.0 in
-    let size = class_sizes c.args.forest.now level.least level.runs are c.classes_are_listed.ensures c.lists_have_class_size.ensures c.args.rank in
+    let are = subst (λ (v : Coding). AreInForest v level.least level.paths) c.forest.view_is c.forest.invariant.0 in
+    let size = class_sizes c.args.forest.now level.least level.paths are c.classes_are_listed.ensures c.lists_have_class_size.ensures c.args.rank in
     let most = c.in_err-class.ensures.at_most in
     omega arith
 
 pub returns-clause-listed : goal.returns-clause-listed
 returns-clause-listed g c =
     let level = c.forest.inside.level in
-    let are = subst (λ (v : Coding). AreInForest v level.least level.runs) c.forest.view_is c.forest.invariant.0 in
+    let are = subst (λ (v : Coding). AreInForest v level.least level.paths) c.forest.view_is c.forest.invariant.0 in
     let found = c.in_ok-class.ensures.listed in
     record {
       sets = found.sets;
-      listed = class_settled c.args.forest.now level.least level.runs are c.args.rank found.sets found.listed;
+      listed = class_settled c.args.forest.now level.least level.paths are c.args.rank found.sets found.listed;
       decoded = found.added ∙ ap (λ l. l ++ map (as_items level.names.items level.suffix.items) found.sets) c.new-2.ensures.items
           ∙ decoded_items c.args.forest.now.items level.names.items level.suffix.items found.sets (c.forest.invariant.1 ∙ ap (λ v. v.items) c.forest.view_is) c.forest.invariant.2;
     }
@@ -51,14 +51,14 @@ returns-clause-listed g c =
 pub returns-clause-at_most : goal.returns-clause-at_most
 returns-clause-at_most g c =
     let level = c.forest.inside.level in
-    let are = subst (λ (v : Coding). AreInForest v level.least level.runs) c.forest.view_is c.forest.invariant.0 in
-    let size = class_sizes c.args.forest.now level.least level.runs are c.classes_are_listed.ensures c.lists_have_class_size.ensures c.args.rank in
+    let are = subst (λ (v : Coding). AreInForest v level.least level.paths) c.forest.view_is c.forest.invariant.0 in
+    let size = class_sizes c.args.forest.now level.least level.paths are c.classes_are_listed.ensures c.lists_have_class_size.ensures c.args.rank in
     let most = c.in_ok-class.ensures.at_most in
     omega arith
 
 pub returns-clause-trees : goal.returns-clause-trees
 returns-clause-trees g c =
     let level = c.forest.inside.level in
-    let are = subst (λ (v : Coding). AreInForest v level.least level.runs) c.forest.view_is c.forest.invariant.0 in
+    let are = subst (λ (v : Coding). AreInForest v level.least level.paths) c.forest.view_is c.forest.invariant.0 in
     let is = subst IsCoding c.forest.view_is c.baskets-baskets.ensures.coding in
-    omega (arith, c.in_ok-class.ensures.trees, trees_settled c.args.forest.now level.least level.runs are is c.classes_are_listed.ensures c.args.rank)
+    omega (arith, c.in_ok-class.ensures.trees, trees_settled c.args.forest.now level.least level.paths are is c.classes_are_listed.ensures c.args.rank)

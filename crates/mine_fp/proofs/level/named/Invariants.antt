@@ -1,5 +1,5 @@
-use Rattle.std.proofs.Common.{◌≡◌, get_or, map, take}
+use Rattle.std.proofs.Common.{◌≡◌, ℕ, get_or, map, take}
 use Rattle.mine_fp.proofs.level.named.Given as goal
 
-abbrev pub invariant-loop-rank : goal.invariant-loop-rank
-invariant-loop-rank l = l.named.items ≡ map (λ rank. get_or l.names rank 0) (take l.rank-index l.ranks)
+abbrev pub invariant-loop-pair : goal.invariant-loop-pair
+invariant-loop-pair l = l.named.items ≡ map (λ rank. get_or l.names rank 0) (map (λ (pair : ℕ × ℕ). pair.0) (take l.pair-index l.pairs))

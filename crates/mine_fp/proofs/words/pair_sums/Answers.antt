@@ -1,4 +1,4 @@
-use Rattle.std.proofs.Common.{get_or, sum_by, sym, ◌∙◌, arith}
+use Rattle.std.proofs.Common.{arith}
 use Rattle.std.proofs.lemmas.List.{get_or-replicate}
 use Rattle.std.proofs.lemmas.List.Sums.{sum_by_more_le_part}
 use Rattle.mine_classes.specs.declared.words.Word.{Word}

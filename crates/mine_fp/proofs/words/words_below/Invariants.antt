@@ -1,4 +1,4 @@
-use Rattle.std.proofs.Common.{◌≡◌, ◌≤◌, ◌<◌, ℕ, length, map, take}
+use Rattle.std.proofs.Common.{◌≤◌, ◌<◌, ℕ, length, map, take}
 use Rattle.std.specs.Prelude.{All}
 use Rattle.std.specs.List.{flat_map, sum_by}
 use Rattle.basket_core.specs.Codes.{decoded_place}

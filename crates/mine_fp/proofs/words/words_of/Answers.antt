@@ -1,4 +1,4 @@
-use Rattle.std.proofs.Common.{arith, get_or, subst, sym, ap, ◌∙◌, ◌≡◌}
+use Rattle.std.proofs.Common.{get_or, subst, sym, ap, ◌∙◌}
 use Rattle.basket_sets.specs.Counts.{AllBelow}
 use Rattle.basket_sets.specs.Database.{weighted}
 use Rattle.mine_classes.specs.declared.span.Span.{Span}

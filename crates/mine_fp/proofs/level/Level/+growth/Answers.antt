@@ -20,8 +20,8 @@ class-returns-then-support-self-clause-listed g t c =
     let level = c.args.self.now in
     record {
       sets = [];
-      listed = c.rare_ranks_have_no_class.ensures level.runs.baskets (Count level.least) c.args.rank
-          (rare_by level.runs.baskets level.least c.args.rank c.support-support.result c.support-support.ensures c.if-support-self.true);
+      listed = c.rare_ranks_have_no_class.ensures level.paths.baskets (Count level.least) c.args.rank
+          (rare_by level.paths.baskets level.least c.args.rank c.support-support.result c.support-support.ensures c.if-support-self.true);
       added = sym (append-nil c.args.found.now.sets.items);
     }
 
@@ -29,16 +29,16 @@ pub class-returns-then-support-self-clause-trees :
     goal.class-returns-then-support-self-clause-trees
 class-returns-then-support-self-clause-trees g t c =
     let level = c.args.self.now in
-    let rare = c.rare_ranks_have_no_class.ensures level.runs.baskets (Count level.least) c.args.rank
-    (rare_by level.runs.baskets level.least c.args.rank c.support-support.result c.support-support.ensures c.if-support-self.true) in
-    let none = rare_trees level.runs.baskets level.least c.args.rank c.classes_are_listed.ensures rare in
+    let rare = c.rare_ranks_have_no_class.ensures level.paths.baskets (Count level.least) c.args.rank
+    (rare_by level.paths.baskets level.least c.args.rank c.support-support.result c.support-support.ensures c.if-support-self.true) in
+    let none = rare_trees level.paths.baskets level.least c.args.rank c.classes_are_listed.ensures rare in
     omega arith
 
 pub class-returns-in_err-tell-clause-at_most : goal.class-returns-in_err-tell-clause-at_most
 class-returns-in_err-tell-clause-at_most g t c =
     let level = c.args.self.now in
-    let met = met_by level.runs.baskets level.least c.args.rank c.support-support.result c.support-support.ensures c.requires.level.some c.if-support-self.false in
-    let some = class_some level.runs.baskets level.least c.args.rank c.classes_are_listed.ensures met in
+    let met = met_by level.paths.baskets level.least c.args.rank c.support-support.result c.support-support.ensures c.requires.level.some c.if-support-self.false in
+    let some = class_some level.paths.baskets level.least c.args.rank c.classes_are_listed.ensures met in
     let most = c.in_err-tell.ensures.at_most in
     omega arith
 
@@ -46,25 +46,25 @@ pub class-returns-then-len-gt-DEPTH-clause-too_many :
     goal.class-returns-then-len-gt-DEPTH-clause-too_many
 class-returns-then-len-gt-DEPTH-clause-too_many g t c = λ limit e.
     let level = c.args.self.now in
-    let met = met_by level.runs.baskets level.least c.args.rank c.support-support.result c.support-support.ensures c.requires.level.some c.if-support-self.false in
+    let met = met_by level.paths.baskets level.least c.args.rank c.support-support.result c.support-support.ensures c.requires.level.some c.if-support-self.false in
     let last : missing level ≡ 1 = omega (arith, ap length c.in_ok-items.ensures, c.in_ok-items.items.ok.0, c.len.ensures, c.if-len-gt-DEPTH.true, c.requires.level.short) in
     let told : c.limit.result ≡ limit = cc in
-    (sym told ∙ c.limit.ensures ∙ c.in_ok-tell.ensures.limit, inr (subst (HasSetOfSize (class_of level.runs.baskets (Count level.least) c.args.rank)) (sym last) (alone_is_one level.runs.baskets level.least c.args.rank c.classes_are_listed.ensures met)))
+    (sym told ∙ c.limit.ensures ∙ c.in_ok-tell.ensures.limit, inr (subst (HasSetOfSize (class_of level.paths.baskets (Count level.least) c.args.rank)) (sym last) (alone_is_one level.paths.baskets level.least c.args.rank c.classes_are_listed.ensures met)))
 
 pub class-returns-then-len-gt-DEPTH-clause-at_most :
     goal.class-returns-then-len-gt-DEPTH-clause-at_most
 class-returns-then-len-gt-DEPTH-clause-at_most g t c =
     let level = c.args.self.now in
-    let met = met_by level.runs.baskets level.least c.args.rank c.support-support.result c.support-support.ensures c.requires.level.some c.if-support-self.false in
-    let some = class_some level.runs.baskets level.least c.args.rank c.classes_are_listed.ensures met in
+    let met = met_by level.paths.baskets level.least c.args.rank c.support-support.result c.support-support.ensures c.requires.level.some c.if-support-self.false in
+    let some = class_some level.paths.baskets level.least c.args.rank c.classes_are_listed.ensures met in
     let most = c.in_ok-tell.ensures.at_most in
     omega arith
 
 pub class-returns-in_err-inner-clause-at_most : goal.class-returns-in_err-inner-clause-at_most
 class-returns-in_err-inner-clause-at_most g t c =
     let level = c.args.self.now in
-    let met = met_by level.runs.baskets level.least c.args.rank c.support-support.result c.support-support.ensures c.requires.level.some c.if-support-self.false in
-    let some = class_some level.runs.baskets level.least c.args.rank c.classes_are_listed.ensures met in
+    let met = met_by level.paths.baskets level.least c.args.rank c.support-support.result c.support-support.ensures c.requires.level.some c.if-support-self.false in
+    let some = class_some level.paths.baskets level.least c.args.rank c.classes_are_listed.ensures met in
     let most = c.in_ok-tell.ensures.at_most in
     omega arith
 
@@ -92,7 +92,7 @@ pub class-returns-clause-listed : goal.class-returns-clause-listed
 class-returns-clause-listed g t c =
     let level = c.args.self.now in
     let inner = c.in_ok-inner.inner in
-    let met = met_by level.runs.baskets level.least c.args.rank c.support-support.result c.support-support.ensures c.requires.level.some c.if-support-self.false in
+    let met = met_by level.paths.baskets level.least c.args.rank c.support-support.result c.support-support.ensures c.requires.level.some c.if-support-self.false in
     let below = subst (λ l. IsBelow level c.args.rank l inner) c.in_ok-items.ensures c.in_ok-inner.ensures.below in
     on_ok_weaker c.classes.result
     (class_grown level c.args.rank inner below c.classes_by_codings.ensures met c.args.found.now.sets.items _ c.classes.new.found.sets.items c.deref.result.now c.support-support.result
@@ -104,7 +104,7 @@ pub class-returns-clause-trees : goal.class-returns-clause-trees
 class-returns-clause-trees g t c =
     let level = c.args.self.now in
     let inner = c.in_ok-inner.inner in
-    let met = met_by level.runs.baskets level.least c.args.rank c.support-support.result c.support-support.ensures c.requires.level.some c.if-support-self.false in
+    let met = met_by level.paths.baskets level.least c.args.rank c.support-support.result c.support-support.ensures c.requires.level.some c.if-support-self.false in
     let below = subst (λ l. IsBelow level c.args.rank l inner) c.in_ok-items.ensures c.in_ok-inner.ensures.below in
     let all = class_trees_are level c.args.rank inner c.requires.level below c.classes_by_codings.ensures met c.classes_are_listed.ensures c.conditional_supports.ensures in
     on_ok_weaker c.classes.result (λ made. omega (arith, made, all, c.in_ok-inner.ensures.trees, c.in_ok-tell.ensures.trees)) c.classes.ensures.trees
@@ -113,7 +113,7 @@ pub class-returns-clause-too_many : goal.class-returns-clause-too_many
 class-returns-clause-too_many g t c = λ limit e.
     let level = c.args.self.now in
     let inner = c.in_ok-inner.inner in
-    let met = met_by level.runs.baskets level.least c.args.rank c.support-support.result c.support-support.ensures c.requires.level.some c.if-support-self.false in
+    let met = met_by level.paths.baskets level.least c.args.rank c.support-support.result c.support-support.ensures c.requires.level.some c.if-support-self.false in
     let below = subst (λ l. IsBelow level c.args.rank l inner) c.in_ok-items.ensures c.in_ok-inner.ensures.below in
     let many = c.classes.ensures.too_many limit e in
     let less : missing inner + 1 ≡ missing level =
@@ -121,7 +121,7 @@ class-returns-clause-too_many g t c = λ limit e.
       many.0 ∙ c.in_ok-tell.ensures.limit,
       elim many.1 [
         | inl over ↦ inl over
-        | inr deep ↦ inr (subst (HasSetOfSize (class_of level.runs.baskets (Count level.least) c.args.rank)) less
+        | inr deep ↦ inr (subst (HasSetOfSize (class_of level.paths.baskets (Count level.least) c.args.rank)) less
             (deeper level c.args.rank inner below c.classes_by_codings.ensures met c.classes_are_listed.ensures (missing inner) deep))
       ],
     )
@@ -130,7 +130,7 @@ pub class-returns-clause-at_most : goal.class-returns-clause-at_most
 class-returns-clause-at_most g t c =
     let level = c.args.self.now in
     let inner = c.in_ok-inner.inner in
-    let met = met_by level.runs.baskets level.least c.args.rank c.support-support.result c.support-support.ensures c.requires.level.some c.if-support-self.false in
+    let met = met_by level.paths.baskets level.least c.args.rank c.support-support.result c.support-support.ensures c.requires.level.some c.if-support-self.false in
     let below = subst (λ l. IsBelow level c.args.rank l inner) c.in_ok-items.ensures c.in_ok-inner.ensures.below in
     let long = class_long level c.args.rank inner below c.classes_by_codings.ensures met c.lists_have_class_size.ensures in
     let told = c.in_ok-tell.ensures.at_most in
@@ -141,8 +141,8 @@ pub classes-returns-then-is_branch-clause-trees :
     goal.classes-returns-then-is_branch-clause-trees
 classes-returns-then-is_branch-clause-trees g t c =
     let level = c.args.self.now in
-    let none : inner_trees level.runs.baskets level.least ≡ 0 =
-    ap (λ b. cond b 0 (length (filter (λ (s : Counted). has_tree level.runs.baskets (Count level.least) s.set) (frequent_of level.runs.baskets (Count level.least))))) (sym c.is_branch.ensures ∙ c.if-is_branch.true) in
+    let none : inner_trees level.paths.baskets level.least ≡ 0 =
+    ap (λ b. cond b 0 (length (filter (λ (s : Counted). has_tree level.paths.baskets (Count level.least) s.set) (frequent_of level.paths.baskets (Count level.least))))) (sym c.is_branch.ensures ∙ c.if-is_branch.true) in
     on_ok_weaker c.read_off.result (λ l. omega (arith, none, c.read_off.ensures.trees)) c.read_off.ensures.listed
 
 pub classes-returns-then-is_branch-clause-few :
@@ -183,7 +183,7 @@ classes-returns-in_err-class-clause-too_many g t c = λ limit e.
       many.0 ∙ c.loop-rank.invariant.limit,
       elim many.1 [
         | inl over ↦ inl over
-        | inr deep ↦ inr (frequent_of_size level.runs.baskets level.least c.loop-rank.rank (missing level) deep)
+        | inr deep ↦ inr (frequent_of_size level.paths.baskets level.least c.loop-rank.rank (missing level) deep)
       ],
     )
 
@@ -195,7 +195,7 @@ classes-returns-in_err-class-clause-at_most g t c =
     let old = c.args.found.now.sets.items in
     let all = flat_map (λ (class : List Counted). class) classes in
     let named = as_items level.names.items level.suffix.items in
-    let fit = classes_fit c.classes_are_all.ensures c.classes_are_listed.ensures level.runs c.requires.level.ranked level.least classes c.loop-rank.rank so_far.listed.1
+    let fit = classes_fit c.classes_are_all.ensures c.classes_are_listed.ensures level.paths c.requires.level.ranked level.least classes c.loop-rank.rank so_far.listed.1
     (omega (arith, c.loop-rank-test.true, c.ranks-rank-end.ensures)) so_far.listed.2 in
     let long = ap length so_far.listed.3 ∙ length-append old (map named all) in
     let most = c.in_err-class.ensures.at_most in
@@ -212,10 +212,10 @@ classes-loop-rank-preserved g t c =
       listed = (
         classes ++ next.sets ∷ [],
         length-append classes (next.sets ∷ []) ∙ ap (λ n. n + 1) so_far.listed.1,
-        more_classes level.runs.baskets level.least classes next.sets so_far.listed.2 (subst (λ rank. ListsClass level.runs.baskets (Count level.least) rank next.sets) (sym so_far.listed.1) next.listed),
+        more_classes level.paths.baskets level.least classes next.sets so_far.listed.2 (subst (λ rank. ListsClass level.paths.baskets (Count level.least) rank next.sets) (sym so_far.listed.1) next.listed),
         more_all level.names.items level.suffix.items c.args.found.now.sets.items c.loop-rank.found.sets.items c.class.new.found.sets.items classes next.sets so_far.listed.3 next.added,
       );
-      trees = omega (arith, now.trees, so_far.trees, more_trees level.runs.baskets level.least c.loop-rank.rank);
+      trees = omega (arith, now.trees, so_far.trees, more_trees level.paths.baskets level.least c.loop-rank.rank);
       few = now.few;
       sums = now.sums;
       places = now.places;
@@ -229,10 +229,10 @@ classes-returns-clause-listed g t c =
     let level = c.args.self.now in
     let so_far = c.loop-rank.invariant in
     let classes = so_far.listed.0 in
-    let last : length classes ≡ level.runs.ranks = omega (arith, so_far.listed.1, c.loop-rank-test.false, c.ranks-rank-end.ensures, c.loop-rank.auto.rank-end) in
+    let last : length classes ≡ level.paths.ranks = omega (arith, so_far.listed.1, c.loop-rank-test.false, c.ranks-rank-end.ensures, c.loop-rank.auto.rank-end) in
     record {
       sets = flat_map (λ (class : List Counted). class) classes;
-      listed = all_once c.classes_are_all.ensures c.classes_are_listed.ensures level.runs c.requires.level.ranked level.least classes last so_far.listed.2;
+      listed = all_once c.classes_are_all.ensures c.classes_are_listed.ensures level.paths c.requires.level.ranked level.least classes last so_far.listed.2;
       added = so_far.listed.3;
     }
 
@@ -243,9 +243,9 @@ classes-returns-clause-at_most g t c =
     let classes = so_far.listed.0 in
     let all = flat_map (λ (class : List Counted). class) classes in
     let named = as_items level.names.items level.suffix.items in
-    let last : length classes ≡ level.runs.ranks = omega (arith, so_far.listed.1, c.loop-rank-test.false, c.ranks-rank-end.ensures, c.loop-rank.auto.rank-end) in
-    let once = all_once c.classes_are_all.ensures c.classes_are_listed.ensures level.runs c.requires.level.ranked level.least classes last so_far.listed.2 in
-    let size = once_is_as_long level.runs.baskets (Count level.least) all once in
+    let last : length classes ≡ level.paths.ranks = omega (arith, so_far.listed.1, c.loop-rank-test.false, c.ranks-rank-end.ensures, c.loop-rank.auto.rank-end) in
+    let once = all_once c.classes_are_all.ensures c.classes_are_listed.ensures level.paths c.requires.level.ranked level.least classes last so_far.listed.2 in
+    let size = once_is_as_long level.paths.baskets (Count level.least) all once in
     let long = ap length so_far.listed.3 ∙ length-append c.args.found.now.sets.items (map named all) in
     omega (arith, so_far.told, size, long, length-map all named, c.loop-rank.found.sets.ok.0, c.args.found.now.sets.ok.0)
 
@@ -253,9 +253,9 @@ pub classes-returns-clause-trees : goal.classes-returns-clause-trees
 classes-returns-clause-trees g t c =
     let level = c.args.self.now in
     let so_far = c.loop-rank.invariant in
-    let last : c.loop-rank.rank ≡ level.runs.ranks = omega (arith, c.loop-rank-test.false, c.ranks-rank-end.ensures, c.loop-rank.auto.rank-end) in
-    let all = ap (λ n. sum_by (rank_trees level.runs.baskets level.least) (range_with_len 0 n)) last
-    ∙ trees_of_ranks c.classes_are_all.ensures c.classes_are_listed.ensures level.runs c.requires.level.ranked level.least in
-    let own : inner_trees level.runs.baskets level.least ≡ length (filter (λ (s : Counted). has_tree level.runs.baskets (Count level.least) s.set) (frequent_of level.runs.baskets (Count level.least))) =
-    ap (λ b. cond b 0 (length (filter (λ (s : Counted). has_tree level.runs.baskets (Count level.least) s.set) (frequent_of level.runs.baskets (Count level.least))))) (sym c.is_branch.ensures ∙ c.if-is_branch.false) in
+    let last : c.loop-rank.rank ≡ level.paths.ranks = omega (arith, c.loop-rank-test.false, c.ranks-rank-end.ensures, c.loop-rank.auto.rank-end) in
+    let all = ap (λ n. sum_by (rank_trees level.paths.baskets level.least) (range_with_len 0 n)) last
+    ∙ trees_of_ranks c.classes_are_all.ensures c.classes_are_listed.ensures level.paths c.requires.level.ranked level.least in
+    let own : inner_trees level.paths.baskets level.least ≡ length (filter (λ (s : Counted). has_tree level.paths.baskets (Count level.least) s.set) (frequent_of level.paths.baskets (Count level.least))) =
+    ap (λ b. cond b 0 (length (filter (λ (s : Counted). has_tree level.paths.baskets (Count level.least) s.set) (frequent_of level.paths.baskets (Count level.least))))) (sym c.is_branch.ensures ∙ c.if-is_branch.false) in
     omega (arith, so_far.trees, all, own)

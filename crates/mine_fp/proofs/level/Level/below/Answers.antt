@@ -1,30 +1,25 @@
-use Rattle.std.proofs.Common.{length, get_or, map, ap, sym, ◌∙◌, subst, true, ◌≡◌, arith}
-use Rattle.basket_core.specs.Codes.{IsCoding, decoded_place}
+use Rattle.std.proofs.Common.{ℕ, length, get_or, map, ap, ◌∙◌, subst, true, ◌≡◌, arith}
 use Rattle.basket_sets.specs.Itemset.{has}
-use Rattle.mine_classes.specs.Conditional.{conditional}
-use Rattle.mine_classes.specs.Ordered.{HaveSameWeights}
-use Rattle.mine_fp.proofs.LevelLemmas.{kept_below}
+use Rattle.mine_fp.proofs.LevelLemmas.{kept_below, pair_ranks}
 use Rattle.mine_fp.proofs.level.Level.below.Goals as goal
 
 pub named-requires : goal.named-requires
 named-requires c = λ item h.
     let level = c.args.self.now in
-    let kept = c.ranks.ensures ∙ c.in_ok-conditional.ensures.ranks in
-    let less = kept_below level.runs.baskets level.least c.args.rank item (subst (λ l. has l item ≡ true) kept h) in
-    omega (arith, less, ap length c.deref-2.ensures.value)
+    let kept = ap (map (λ (pair : ℕ × ℕ). pair.0)) (c.deref-2.ensures.value ∙ c.in_ok-pairs.ensures.pairs) ∙ pair_ranks level.paths.baskets level.least c.args.rank in
+    let less = kept_below level.paths.baskets level.least c.args.rank item (subst (λ l. has l item ≡ true) kept h) in
+    omega (arith, less, ap length c.deref.ensures.value)
 
 pub returns-clause-below : goal.returns-clause-below
 returns-clause-below c =
     let level = c.args.self.now in
-    let made = c.in_ok-conditional in
-    let kept = made.ensures.ranks in
-    let baskets = c.in_ok-runs.ensures in
-    let others = ap (λ v. v.baskets) baskets ∙ c.into_baskets.ensures.baskets in
+    let made = c.in_ok-paths.ensures in
+    let kept = ap (map (λ (pair : ℕ × ℕ). pair.0)) (c.deref-2.ensures.value ∙ c.in_ok-pairs.ensures.pairs) ∙ pair_ranks level.paths.baskets level.least c.args.rank in
     record {
-      ranks = ap (λ v. v.ranks) baskets ∙ c.into_baskets.ensures.ranks ∙ ap length kept;
-      names = c.in_ok-names.ensures ∙ (λ i. map (λ other. get_or (c.deref-2.ensures.value i) other 0) ((c.ranks.ensures ∙ kept) i));
+      ranks = made.ranks;
+      names = c.in_ok-names.ensures ∙ (λ i. map (λ other. get_or (c.deref.ensures.value i) other 0) (kept i));
       suffix = λ i. c.args.items.items;
       least = λ i. level.least;
-      coding = subst IsCoding (λ i. record { items = kept i; minimum = made.ensures.minimum i; baskets = sym others i }) made.ensures.coding;
-      weights = subst (HaveSameWeights (conditional level.least level.runs.baskets c.args.rank)) (λ i. map (decoded_place (kept i)) (sym others i)) made.ensures.baskets;
+      coding = made.coding;
+      weights = made.weights;
     }

@@ -16,28 +16,28 @@ returns-then-support-self-clause-listed g c =
     let level = c.args.self.now in
     record {
       sets = [];
-      listed = c.rare_ranks_have_no_class.ensures level.runs.baskets (Count level.least) c.args.rank
-          (rare_by level.runs.baskets level.least c.args.rank c.support-support.result c.support-support.ensures c.if-support-self.true);
+      listed = c.rare_ranks_have_no_class.ensures level.paths.baskets (Count level.least) c.args.rank
+          (rare_by level.paths.baskets level.least c.args.rank c.support-support.result c.support-support.ensures c.if-support-self.true);
       added = sym (append-nil c.args.found.now.sets.items);
     }
 
 pub returns-in_err-tell-clause-at_most : goal.returns-in_err-tell-clause-at_most
 returns-in_err-tell-clause-at_most g c =
     let level = c.args.self.now in
-    let met = met_by level.runs.baskets level.least c.args.rank c.support-support.result c.support-support.ensures c.requires.level.some c.if-support-self.false in
+    let met = met_by level.paths.baskets level.least c.args.rank c.support-support.result c.support-support.ensures c.requires.level.some c.if-support-self.false in
     let lower = c.requires.lower in
     let sets = flat_map (λ (class : List Counted). class) lower.classes in
-    let size = choices_long level.runs.baskets level.least c.args.rank c.requires.branch met c.conditional_supports.ensures c.classes_are_all.ensures c.classes_are_conditional.ensures lower.classes lower.ranks lower.listed c.lists_have_class_size.ensures in
+    let size = choices_long level.paths.baskets level.least c.args.rank c.requires.branch met c.conditional_supports.ensures c.classes_are_all.ensures c.classes_are_conditional.ensures lower.classes lower.ranks lower.listed c.lists_have_class_size.ensures in
     let most = c.in_err-tell.ensures.at_most in
     omega arith
 
 pub returns-in_err-choose-clause-at_most : goal.returns-in_err-choose-clause-at_most
 returns-in_err-choose-clause-at_most g c =
     let level = c.args.self.now in
-    let met = met_by level.runs.baskets level.least c.args.rank c.support-support.result c.support-support.ensures c.requires.level.some c.if-support-self.false in
+    let met = met_by level.paths.baskets level.least c.args.rank c.support-support.result c.support-support.ensures c.requires.level.some c.if-support-self.false in
     let lower = c.requires.lower in
     let sets = flat_map (λ (class : List Counted). class) lower.classes in
-    let size = choices_long level.runs.baskets level.least c.args.rank c.requires.branch met c.conditional_supports.ensures c.classes_are_all.ensures c.classes_are_conditional.ensures lower.classes lower.ranks lower.listed c.lists_have_class_size.ensures in
+    let size = choices_long level.paths.baskets level.least c.args.rank c.requires.branch met c.conditional_supports.ensures c.classes_are_all.ensures c.classes_are_conditional.ensures lower.classes lower.ranks lower.listed c.lists_have_class_size.ensures in
     let named = as_items level.names.items level.suffix.items in
     let long = ap length lower.are ∙ length-append lower.before (map named sets) in
     let most = c.in_err-choose.ensures.at_most in
@@ -73,17 +73,17 @@ loop-at-preserved g c =
 pub returns-clause-listed : goal.returns-clause-listed
 returns-clause-listed g c =
     let level = c.args.self.now in
-    let met = met_by level.runs.baskets level.least c.args.rank c.support-support.result c.support-support.ensures c.requires.level.some c.if-support-self.false in
+    let met = met_by level.paths.baskets level.least c.args.rank c.support-support.result c.support-support.ensures c.requires.level.some c.if-support-self.false in
     let lower = c.requires.lower in
     let sets = flat_map (λ (class : List Counted). class) lower.classes in
-    let class = choices_are_class level.runs.baskets level.least c.args.rank c.requires.branch met c.conditional_supports.ensures c.classes_are_all.ensures c.classes_are_conditional.ensures lower.classes lower.ranks lower.listed in
+    let class = choices_are_class level.paths.baskets level.least c.args.rank c.requires.branch met c.conditional_supports.ensures c.classes_are_all.ensures c.classes_are_conditional.ensures lower.classes lower.ranks lower.listed in
     let named = as_items level.names.items level.suffix.items in
     let long = ap length lower.are ∙ length-append lower.before (map named sets) in
     let whole : c.loop-at.at - c.args.start ≡ length sets =
     omega (arith, long, lower.long, length-map sets named, c.loop-at-test.false, c.len-end.ensures, c.loop-at.auto.at, c.loop-at.auto.at-end, c.args.found.now.sets.ok.0) in
     record {
       sets = chosen c.args.rank c.support-support.result sets;
-      listed = subst (λ n. ListsClass level.runs.baskets (Count level.least) c.args.rank (chosen c.args.rank n sets)) (sym c.support-support.ensures) class;
+      listed = subst (λ n. ListsClass level.paths.baskets (Count level.least) c.args.rank (chosen c.args.rank n sets)) (sym c.support-support.ensures) class;
       added = c.loop-at.invariant.sets lower.classes lower.before lower.long lower.are
           ∙ ap (λ l. c.args.found.now.sets.items ++ map named (chosen c.args.rank c.support-support.result l)) (ap (λ n. take n sets) whole ∙ take-length sets);
     }
@@ -91,10 +91,10 @@ returns-clause-listed g c =
 pub returns-clause-at_most : goal.returns-clause-at_most
 returns-clause-at_most g c =
     let level = c.args.self.now in
-    let met = met_by level.runs.baskets level.least c.args.rank c.support-support.result c.support-support.ensures c.requires.level.some c.if-support-self.false in
+    let met = met_by level.paths.baskets level.least c.args.rank c.support-support.result c.support-support.ensures c.requires.level.some c.if-support-self.false in
     let lower = c.requires.lower in
     let sets = flat_map (λ (class : List Counted). class) lower.classes in
-    let size = choices_long level.runs.baskets level.least c.args.rank c.requires.branch met c.conditional_supports.ensures c.classes_are_all.ensures c.classes_are_conditional.ensures lower.classes lower.ranks lower.listed c.lists_have_class_size.ensures in
+    let size = choices_long level.paths.baskets level.least c.args.rank c.requires.branch met c.conditional_supports.ensures c.classes_are_all.ensures c.classes_are_conditional.ensures lower.classes lower.ranks lower.listed c.lists_have_class_size.ensures in
     let named = as_items level.names.items level.suffix.items in
     let long = ap length lower.are ∙ length-append lower.before (map named sets) in
     omega (arith, c.loop-at.invariant.told, size, long, lower.long, length-map sets named, c.loop-at-test.false, c.len-end.ensures, c.loop-at.auto.at, c.loop-at.auto.at-end, c.args.found.now.sets.ok.0)

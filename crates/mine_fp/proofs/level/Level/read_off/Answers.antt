@@ -17,7 +17,7 @@ returns-in_err-choices-clause-at_most g c =
     let old = c.args.found.now.sets.items in
     let all = flat_map (λ (class : List Counted). class) classes in
     let named = as_items level.names.items level.suffix.items in
-    let fit = classes_fit c.classes_are_all.ensures c.classes_are_listed.ensures level.runs c.requires.level.ranked level.least classes c.loop-last.last so_far.listed.1
+    let fit = classes_fit c.classes_are_all.ensures c.classes_are_listed.ensures level.paths c.requires.level.ranked level.least classes c.loop-last.last so_far.listed.1
     (omega (arith, c.loop-last-test.true, c.ranks-last-end.ensures)) so_far.listed.2 in
     let long = ap length so_far.listed.3 ∙ length-append old (map named all) in
     let most = c.in_err-choices.ensures.at_most in
@@ -34,7 +34,7 @@ loop-last-preserved g c =
       listed = (
         classes ++ next.sets ∷ [],
         length-append classes (next.sets ∷ []) ∙ ap (λ n. n + 1) so_far.listed.1,
-        more_classes level.runs.baskets level.least classes next.sets so_far.listed.2 (subst (λ rank. ListsClass level.runs.baskets (Count level.least) rank next.sets) (sym so_far.listed.1) next.listed),
+        more_classes level.paths.baskets level.least classes next.sets so_far.listed.2 (subst (λ rank. ListsClass level.paths.baskets (Count level.least) rank next.sets) (sym so_far.listed.1) next.listed),
         more_all level.names.items level.suffix.items c.args.found.now.sets.items c.loop-last.found.sets.items c.choices.new.found.sets.items classes next.sets so_far.listed.3 next.added,
       );
       trees = now.trees ∙ so_far.trees;
@@ -48,10 +48,10 @@ returns-clause-listed g c =
     let level = c.args.self.now in
     let so_far = c.loop-last.invariant in
     let classes = so_far.listed.0 in
-    let last : length classes ≡ level.runs.ranks = omega (arith, so_far.listed.1, c.loop-last-test.false, c.ranks-last-end.ensures, c.loop-last.auto.last-end) in
+    let last : length classes ≡ level.paths.ranks = omega (arith, so_far.listed.1, c.loop-last-test.false, c.ranks-last-end.ensures, c.loop-last.auto.last-end) in
     record {
       sets = flat_map (λ (class : List Counted). class) classes;
-      listed = all_once c.classes_are_all.ensures c.classes_are_listed.ensures level.runs c.requires.level.ranked level.least classes last so_far.listed.2;
+      listed = all_once c.classes_are_all.ensures c.classes_are_listed.ensures level.paths c.requires.level.ranked level.least classes last so_far.listed.2;
       added = so_far.listed.3;
     }
 
@@ -62,8 +62,8 @@ returns-clause-at_most g c =
     let classes = so_far.listed.0 in
     let all = flat_map (λ (class : List Counted). class) classes in
     let named = as_items level.names.items level.suffix.items in
-    let last : length classes ≡ level.runs.ranks = omega (arith, so_far.listed.1, c.loop-last-test.false, c.ranks-last-end.ensures, c.loop-last.auto.last-end) in
-    let once = all_once c.classes_are_all.ensures c.classes_are_listed.ensures level.runs c.requires.level.ranked level.least classes last so_far.listed.2 in
-    let size = once_is_as_long level.runs.baskets (Count level.least) all once in
+    let last : length classes ≡ level.paths.ranks = omega (arith, so_far.listed.1, c.loop-last-test.false, c.ranks-last-end.ensures, c.loop-last.auto.last-end) in
+    let once = all_once c.classes_are_all.ensures c.classes_are_listed.ensures level.paths c.requires.level.ranked level.least classes last so_far.listed.2 in
+    let size = once_is_as_long level.paths.baskets (Count level.least) all once in
     let long = ap length so_far.listed.3 ∙ length-append c.args.found.now.sets.items (map named all) in
     omega (arith, so_far.told, size, long, length-map all named, c.loop-last.found.sets.ok.0, c.args.found.now.sets.ok.0)

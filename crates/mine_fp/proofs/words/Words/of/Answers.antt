@@ -1,9 +1,7 @@
 use Rattle.std.proofs.Common.{◌≡◌, ◌≤◌, subst, sym, ap, ◌∙◌, arith}
-use Rattle.basket_sets.specs.Support.{total_of}
 use Rattle.mine_classes.specs.declared.words.TheConstants.{WORD_RANKS}
-use Rattle.mine_classes.specs.Ordered.{AreRankBaskets, RankBaskets}
+use Rattle.mine_classes.specs.Ordered.{AreRankBaskets}
 use Rattle.mine_classes.specs.Span.{baskets_at}
-use Rattle.mine_classes.specs.Words.{word_places}
 use Rattle.mine_fp.proofs.WordLemmas.{ranked_some, words_total}
 use Rattle.mine_fp.proofs.words.Words.of.Goals as goal
 

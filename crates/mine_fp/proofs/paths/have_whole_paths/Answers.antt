@@ -5,14 +5,13 @@ use Rattle.basket_sets.proofs.theory.Members.{at_Member}
 use Rattle.mine_classes.specs.Ordered.{IsRankBasket}
 use Rattle.mine_fp.specs.Trees.{is_branch}
 use Rattle.mine_fp.proofs.PathLemmas.{IsFullAt, branch_from_full, full_by_runs, full_from_branch, runs_by_full}
-use Rattle.mine_fp.proofs.level.Level.is_branch.Goals as goal
+use Rattle.mine_fp.proofs.paths.have_whole_paths.Goals as goal
 
 pub returns-then-not-are_whole : goal.returns-then-not-are_whole
 returns-then-not-are_whole c =
-    let level = c.args.self.now in
-    elim (cases_Bool (is_branch level.runs.baskets)) [
+    elim (cases_Bool (is_branch c.args.runs.now.baskets)) [
       | inl one ↦
-          (let whole = runs_by_full c.of_rank.result.0.now level.runs c.loop-rank.rank c.of_rank.result.1.now c.of_rank.ensures.runs c.of_rank.ensures.ranked (full_from_branch level.runs.baskets one c.loop-rank.rank) in
+          (let whole = runs_by_full c.of_rank.result.0.now c.args.runs.now c.loop-rank.rank c.of_rank.result.1.now c.of_rank.ensures.runs c.of_rank.ensures.ranked (full_from_branch c.args.runs.now.baskets one c.loop-rank.rank) in
           let is = c.are_whole.ensures ∙ whole in
           absurd (true≢false (sym is ∙ c.if-not-are_whole.true)))
       | inr several ↦ sym several
@@ -20,18 +19,16 @@ returns-then-not-are_whole c =
 
 pub loop-rank-preserved : goal.loop-rank-preserved
 loop-rank-preserved c = λ lower less.
-    let level = c.args.self.now in
     let rank = c.loop-rank.rank in
-    let full = full_by_runs c.of_rank.result.0.now level.runs rank c.of_rank.result.1.now c.of_rank.ensures.runs c.of_rank.ensures.ranked (sym c.are_whole.ensures ∙ c.if-not-are_whole.false) in
+    let full = full_by_runs c.of_rank.result.0.now c.args.runs.now rank c.of_rank.result.1.now c.of_rank.ensures.runs c.of_rank.ensures.ranked (sym c.are_whole.ensures ∙ c.if-not-are_whole.false) in
     elim (cases_lt lower rank) [
       | inl before ↦ c.loop-rank.invariant lower before
-      | inr after ↦ (let same : lower ≡ rank = omega arith in subst (λ r. IsFullAt r level.runs.baskets) (sym same) full)
+      | inr after ↦ (let same : lower ≡ rank = omega arith in subst (λ r. IsFullAt r c.args.runs.now.baskets) (sym same) full)
     ]
 
 pub returns : goal.returns
 returns c =
-    let level = c.args.self.now in
-    let ranks = level.runs.ranks in
-    sym (branch_from_full ranks level.runs.baskets
-    (λ place m. (at_Member (IsRankBasket ranks) place level.runs.baskets (recursion_from_All (IsRankBasket ranks) level.runs.baskets c.requires.ranked.places) m).below)
+    let ranks = c.args.runs.now.ranks in
+    sym (branch_from_full ranks c.args.runs.now.baskets
+    (λ place m. (at_Member (IsRankBasket ranks) place c.args.runs.now.baskets (recursion_from_All (IsRankBasket ranks) c.args.runs.now.baskets c.requires.places) m).below)
     (λ rank less. c.loop-rank.invariant rank (omega (arith, less, c.loop-rank-test.false, c.ranks-rank-end.ensures, c.loop-rank.auto.rank-end))))

@@ -1,0 +1,19 @@
+use Rattle.std.proofs.Common.{List, map, subst, sym, ap, ◌∙◌}
+use Rattle.std.specs.Result.{IfOk}
+use Rattle.basket_core.specs.Codes.{decoded_place}
+use Rattle.basket_sets.specs.declared.weighted.Weighted.{Weighted}
+use Rattle.mine_classes.specs.Conditional.{conditional}
+use Rattle.mine_classes.specs.Ordered.{HaveSameWeights}
+use Rattle.mine_classes.specs.Pairs.{kept_ranks}
+use Rattle.mine_fp.specs.Paths.{form_baskets}
+use Rattle.mine_fp.proofs.paths.Paths.below.Goals as goal
+
+pub returns-in-Runs-clause-weights : goal.returns-in-Runs-clause-weights
+returns-in-Runs-clause-weights c =
+    subst (λ (baskets : List Weighted). IfOk c.below_runs.result (λ below. HaveSameWeights (conditional c.args.least baskets c.args.rank) (map (decoded_place (kept_ranks baskets c.args.least c.args.rank)) below.baskets)))
+    (ap (λ v. v.baskets) (sym (ap form_baskets c.in-Runs.is) ∙ c.self.view_is)) c.below_runs.ensures.weights
+
+pub returns-in-Words-clause-weights : goal.returns-in-Words-clause-weights
+returns-in-Words-clause-weights c =
+    subst (λ (baskets : List Weighted). IfOk c.below_words.result (λ below. HaveSameWeights (conditional c.args.least baskets c.args.rank) (map (decoded_place (kept_ranks baskets c.args.least c.args.rank)) below.baskets)))
+    (ap (λ v. v.baskets) (sym (ap form_baskets c.in-Words.is) ∙ c.self.view_is)) c.below_words.ensures.weights

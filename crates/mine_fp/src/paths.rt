@@ -1,0 +1,233 @@
+//! A conditional database in the form that suits its number of ranks.
+ghost use Rattle.std.specs.Prelude.{◌≡◌, ◌≤◌, ◌<◌, ◌-◌, [], ◌∷◌, ◌==◌, All, IfOk, length, map, sum_by};
+ghost use Rattle.std.specs.List.{list_all};
+ghost use Rattle.basket_core.specs.Codes.{IsCoding, decoded_place};
+ghost use Rattle.basket_sets.specs.declared.minimum.Minimum.TheVariants.{Count};
+ghost use Rattle.basket_sets.specs.Database.{MOST_WEIGHT};
+ghost use Rattle.basket_sets.specs.Support.{support_of};
+ghost use Rattle.mine_classes.specs.declared.span.Span.{Span as Run};
+ghost use Rattle.mine_classes.specs.Conditional.{conditional};
+ghost use Rattle.mine_classes.specs.Ordered.{AreRankBaskets, HaveSameWeights};
+ghost use Rattle.mine_classes.specs.Pairs.{kept_ranks, pairs_of};
+ghost use Rattle.mine_fp.specs.Level.{IsOrdered};
+ghost use Rattle.mine_fp.specs.Trees.{is_branch};
+
+use crate::words::Words;
+use mine_classes::words::WORD_RANKS;
+use mine_classes::{Conditional, Ordered, Places, Runs, Span, Sums};
+use std::alloc::{AllocError, Global};
+use std::marker::Model;
+
+/// The baskets of a conditional database, as words where there are at most 64 ranks, else by the runs
+/// of each rank. Below words all is words.
+#[derive(Debug, Drop)]
+pub struct Paths {
+    form: Form,
+}
+
+#[derive(Debug, Drop)]
+pub enum Form {
+    Runs(Runs),
+    Words(Words),
+}
+
+impl Model for Paths {
+    ghost use Rattle.mine_classes.specs.Ordered.{RankBaskets};
+    ghost use Rattle.mine_fp.specs.Paths.{form_baskets};
+
+    ghost Value = { RankBaskets };
+
+    ghost view = { λ p. form_baskets p.form };
+}
+
+impl Paths {
+    /// Baskets by the runs of each rank.
+    pub fn of_runs(runs: Runs) -> Self
+        ensures { result ≡ runs }
+    {
+        Paths {
+            form: Form::Runs(runs),
+        }
+    }
+
+    /// Baskets in the form that suits their number of ranks.
+    pub fn of(alloc: Global, ordered: Ordered) -> Result<Self, AllocError>
+        ensures { IfOk result (λ paths. paths ≡ ordered) }
+    {
+        if ordered.ranks() as usize > WORD_RANKS {
+            return Ok(Paths::of_runs(Runs::of(alloc, ordered)?));
+        }
+        Ok(Paths {
+            form: Form::Words(Words::of(alloc, ordered)?),
+        })
+    }
+
+    /// How many ranks there are.
+    pub fn ranks(&self) -> u32
+        ensures { result ≡ self.now.ranks }
+    {
+        match &self.form {
+            Form::Runs(runs) => runs.ranks(),
+            Form::Words(words) => words.ranks(),
+        }
+    }
+
+    /// The support of a rank.
+    pub fn support(&self, rank: u32) -> u64
+        requires { rank < self.now.ranks }
+        ensures { result ≡ support_of self.now.baskets (rank ∷ []) }
+    {
+        match &self.form {
+            Form::Runs(runs) => weight_of_rank(runs, rank),
+            Form::Words(words) => words.support(rank),
+        }
+    }
+
+    /// Whether the prefix tree of the baskets is a single branch.
+    pub fn is_branch(&self) -> bool
+        requires { AreRankBaskets self.now }
+        ensures { result ≡ is_branch self.now.baskets }
+    {
+        match &self.form {
+            Form::Runs(runs) => have_whole_paths(runs),
+            Form::Words(words) => words.is_branch(),
+        }
+    }
+
+    /// The ranks below the rank that are frequent together with it, by a least support, each with
+    /// the support of the pair.
+    pub fn pairs(
+        &self,
+        alloc: Global,
+        sums: &mut Sums,
+        rank: u32,
+        least: u64,
+    ) -> Result<Vec<(u32, u64)>, AllocError>
+        requires rank { rank < self.now.ranks }
+        requires sums { sums.old ≡ self.now.ranks }
+        ensures pairs { IfOk result (λ pairs. pairs.items ≡ pairs_of self.now.baskets least rank) }
+        ensures sums { sums.new ≡ sums.old }
+    {
+        match &self.form {
+            Form::Runs(runs) => runs.pairs(alloc, sums, rank, least),
+            Form::Words(words) => words.pairs(alloc, rank, least),
+        }
+    }
+
+    /// The conditional database of a rank. The pairs are those of the rank by the same least
+    /// support.
+    pub fn below(
+        &self,
+        alloc: Global,
+        places: &mut Places,
+        rank: u32,
+        least: u64,
+        pairs: &[(u32, u64)],
+    ) -> Result<Self, AllocError>
+        requires rank { rank < self.now.ranks }
+        requires places { places.old ≡ self.now.ranks }
+        requires pairs { pairs.now ≡ pairs_of self.now.baskets least rank }
+        ensures ranks { IfOk result (λ below. below.ranks ≡ length (kept_ranks self.now.baskets least rank)) }
+        ensures coding { IfOk result (λ below. IsCoding (record { items = kept_ranks self.now.baskets least rank; minimum = Count least; baskets = below.baskets })) }
+        ensures weights { IfOk result (λ below. HaveSameWeights (conditional least self.now.baskets rank) (map (decoded_place (kept_ranks self.now.baskets least rank)) below.baskets)) }
+        ensures places { places.new ≡ places.old }
+    {
+        match &self.form {
+            Form::Runs(runs) => below_runs(alloc, runs, places, rank, least, pairs),
+            Form::Words(words) => below_words(alloc, words, rank, least, pairs),
+        }
+    }
+}
+
+/// The conditional database of a rank, by the runs of the rank.
+fn below_runs(
+    alloc: Global,
+    runs: &Runs,
+    places: &mut Places,
+    rank: u32,
+    least: u64,
+    pairs: &[(u32, u64)],
+) -> Result<Paths, AllocError>
+    requires rank { rank < runs.now.ranks }
+    requires places { places.old ≡ runs.now.ranks }
+    requires pairs { pairs.now ≡ pairs_of runs.now.baskets least rank }
+    ensures ranks { IfOk result (λ below. below.ranks ≡ length (kept_ranks runs.now.baskets least rank)) }
+    ensures coding { IfOk result (λ below. IsCoding (record { items = kept_ranks runs.now.baskets least rank; minimum = Count least; baskets = below.baskets })) }
+    ensures weights { IfOk result (λ below. HaveSameWeights (conditional least runs.now.baskets rank) (map (decoded_place (kept_ranks runs.now.baskets least rank)) below.baskets)) }
+    ensures places { places.new ≡ places.old }
+{
+    let conditional = Conditional::of(alloc, runs, places, rank, least, pairs)?;
+    Paths::of(alloc, conditional.into_baskets())
+}
+
+/// The conditional database of a rank, by the words that have it.
+fn below_words(
+    alloc: Global,
+    words: &Words,
+    rank: u32,
+    least: u64,
+    pairs: &[(u32, u64)],
+) -> Result<Paths, AllocError>
+    requires rank { rank < words.now.ranks }
+    requires pairs { pairs.now ≡ pairs_of words.now.baskets least rank }
+    ensures ranks { IfOk result (λ below. below.ranks ≡ length (kept_ranks words.now.baskets least rank)) }
+    ensures coding { IfOk result (λ below. IsCoding (record { items = kept_ranks words.now.baskets least rank; minimum = Count least; baskets = below.baskets })) }
+    ensures weights { IfOk result (λ below. HaveSameWeights (conditional least words.now.baskets rank) (map (decoded_place (kept_ranks words.now.baskets least rank)) below.baskets)) }
+{
+    let kept = ranks_of(alloc, pairs)?;
+    let below = words.below(alloc, rank, &kept)?;
+    Ok(Paths {
+        form: Form::Words(below),
+    })
+}
+
+/// The ranks of some pairs.
+fn ranks_of(alloc: Global, pairs: &[(u32, u64)]) -> Result<Vec<u32>, AllocError>
+    ensures { IfOk result (λ ranks. ranks.items ≡ map (λ pair. pair.0) pairs.now) }
+{
+    pairs.iter().map(|pair| pair.0).collect(alloc)
+}
+
+/// The support of a rank, which is what its runs weigh.
+fn weight_of_rank(runs: &Runs, rank: u32) -> u64
+    requires { rank < runs.now.ranks }
+    ensures { result ≡ support_of runs.now.baskets (rank ∷ []) }
+{
+    let (_ranks, own) = runs.of_rank(rank);
+    weight_of(own)
+}
+
+/// What some runs weigh together.
+fn weight_of(runs: &[Span]) -> u64
+    requires { sum_by (λ (run : Run). run.weight) runs.now ≤ MOST_WEIGHT }
+    ensures { result ≡ sum_by (λ (run : Run). run.weight) runs.now }
+{
+    let mut weight = 0;
+    for run in runs {
+        weight += run.weight;
+    }
+    weight
+}
+
+/// Whether the path of each run has all ranks below the run's, so that the prefix tree of the baskets
+/// is a single branch.
+fn have_whole_paths(runs: &Runs) -> bool
+    requires { AreRankBaskets runs.now }
+    ensures { result ≡ is_branch runs.now.baskets }
+{
+    for rank in 0..runs.ranks() {
+        let (_ranks, own) = runs.of_rank(rank);
+        if !are_whole(own, rank) {
+            return false;
+        }
+    }
+    true
+}
+
+/// Whether the path of each run is so long.
+fn are_whole(runs: &[Span], depth: u32) -> bool
+    requires { All IsOrdered runs.now }
+    ensures { result ≡ list_all (λ (run : Run). run.end - run.start == depth) runs.now }
+{
+    runs.iter().all(|run| run.end - run.start == depth)
+}
