@@ -101,7 +101,8 @@ impl Words {
     {
         let count = kept.len() as u32;
         let words = words_below(alloc, &self.words, rank, kept)?;
-        if count == rank {
+        // Where no lower rank was dropped, the words are in order as they were.
+        if count == rank || words.len() < 2 {
             return Ok(Words { count, words });
         }
         let words = in_order(alloc, words)?;
