@@ -12,3 +12,4 @@ mod TreesLemmas
 mod PathLemmas
 mod ChoiceLemmas
 mod WordLemmas
+mod LeafLemmas

@@ -6,14 +6,15 @@ ghost use Rattle.basket_sets.specs.declared.minimum.Minimum.TheVariants.{Count};
 ghost use Rattle.basket_sets.specs.Counts.{AllBelow};
 ghost use Rattle.basket_sets.specs.Frequent.{frequent_of};
 ghost use Rattle.mine_classes.specs.Classes.{class_of};
+ghost use Rattle.mine_classes.specs.Pairs.{pairs_of};
 ghost use Rattle.mine_fp.specs.Level.{IsBelow, IsLevel, ListsClassAsItems, ListsAllAsItems, missing};
 ghost use Rattle.mine_fp.specs.Trees.{inner_trees, rank_trees};
 
 use crate::paths::Paths;
 use basket_core::{Counted, Itemset, MineFault, Tally};
 use mine_classes::laws::{
-    classes_are_all, classes_are_listed, classes_by_codings, conditional_supports,
-    lists_have_class_size, rare_ranks_have_no_class,
+    classes_are_all, classes_are_conditional, classes_are_listed, classes_by_codings,
+    conditional_supports, lists_have_class_size, rare_ranks_have_no_class,
 };
 use mine_classes::{Places, Sums};
 use std::alloc::{AllocError, Global};
@@ -88,6 +89,7 @@ impl Level {
         ensures at_most { T.told_of tally.new ≤ T.told_of tally.old + length (class_of self.now.paths.baskets (Count self.now.least) rank) }
         ensures limit { T.limit_of tally.new ≡ T.limit_of tally.old }
     {
+        classes_are_conditional();
         classes_are_listed();
         classes_by_codings();
         lists_have_class_size();
@@ -104,7 +106,14 @@ impl Level {
                 limit: tally.limit(),
             });
         }
-        let inner = self.below(alloc, rank, tables, items, &mut found.trees)?;
+        let pairs = self.paths.pairs(alloc, &mut tables.sums, rank, self.least)?;
+        if pairs.is_empty() {
+            // The class is the rank alone, so that nothing asks for its tree.
+            found.trees += 1;
+            return Ok(());
+        }
+        let places = &mut tables.places;
+        let inner = self.below(alloc, rank, places, items, &pairs, &mut found.trees)?;
         inner.classes(alloc, found, tally)
     }
 
@@ -152,30 +161,28 @@ impl Level {
         Ok(items)
     }
 
-    /// The conditional database of a rank, each set in which gets the items: one more tree.
+    /// The conditional database of a rank with these pairs, each set in which gets the items: one more
+    /// tree.
     pub fn below(
         &self,
         alloc: Global,
         rank: u32,
-        tables: &mut Tables,
+        places: &mut Places,
         items: Vec<u32>,
+        pairs: &[(u32, u64)],
         trees: &mut u64,
     ) -> Result<Level, AllocError>
         requires rank { rank < self.now.paths.ranks }
         requires named { vec_len self.now.names ≡ self.now.paths.ranks }
-        requires sums { tables.old.sums ≡ self.now.paths.ranks }
-        requires places { tables.old.places ≡ self.now.paths.ranks }
+        requires places { places.old ≡ self.now.paths.ranks }
+        requires pairs { pairs.now ≡ pairs_of self.now.paths.baskets self.now.least rank }
         requires few { trees.old < 18446744073709551615 }
         ensures below { IfOk result (λ inner. IsBelow self.now rank items.items inner) }
-        ensures sums { tables.new.sums ≡ tables.old.sums }
-        ensures places { tables.new.places ≡ tables.old.places }
+        ensures places { places.new ≡ places.old }
         ensures trees { OnOk result (trees.new ≡ trees.old + 1) }
     {
-        let pairs = self.paths.pairs(alloc, &mut tables.sums, rank, self.least)?;
-        let names = named(alloc, &self.names, &pairs)?;
-        let paths = self
-            .paths
-            .below(alloc, &mut tables.places, rank, self.least, &pairs)?;
+        let names = named(alloc, &self.names, pairs)?;
+        let paths = self.paths.below(alloc, places, rank, self.least, pairs)?;
         *trees += 1;
         Ok(Level {
             paths,

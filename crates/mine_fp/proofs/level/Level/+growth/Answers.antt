@@ -1,5 +1,6 @@
-use Rattle.std.proofs.Common.{◌≡◌, ◌+◌, ◌≤◌, ◌++◌, ◌∷◌, [], List, cond, filter, length, map, refl, sym, ap, ◌∙◌, subst, inl, inr, arith, Err}
+use Rattle.std.proofs.Common.{◌≡◌, ◌+◌, ◌≤◌, ◌++◌, ◌∷◌, [], List, cond, filter, length, map, refl, sym, ap, ◌∙◌, subst, inl, inr, arith, Err, vec_len}
 use Rattle.std.specs.List.{flat_map, range_with_len, sum_by}
+use Rattle.std.proofs.lemmas.Bool.{eqb-true}
 use Rattle.std.proofs.lemmas.List.{append-nil, length-append, length-map}
 use Rattle.std.proofs.lemmas.Result.{err_from_is_err_and, on_ok_weaker}
 use Rattle.basket_core.specs.Depth.{HasSetOfSize}
@@ -11,6 +12,7 @@ use Rattle.mine_classes.specs.Classes.{ListsClass, class_of}
 use Rattle.mine_fp.specs.Level.{IsBelow, as_items, missing}
 use Rattle.mine_fp.specs.Trees.{has_tree, inner_trees, rank_trees}
 use Rattle.mine_fp.proofs.ClassLemmas.{alone_is_one, all_once, class_grown, class_long, class_some, classes_fit, deeper, frequent_of_size, inner_has_fewer, inner_is_level, met_by, more_all, more_classes, rare_by}
+use Rattle.mine_fp.proofs.LeafLemmas.{leaf_grown, leaf_trees, nothing_in}
 use Rattle.mine_fp.proofs.TreesLemmas.{class_trees_are, more_trees, rare_trees, trees_of_ranks}
 use Rattle.mine_fp.proofs.level.Level.+growth.Goals as goal
 
@@ -54,6 +56,39 @@ class-returns-then-len-gt-DEPTH-clause-too_many g t c = λ limit e.
 pub class-returns-then-len-gt-DEPTH-clause-at_most :
     goal.class-returns-then-len-gt-DEPTH-clause-at_most
 class-returns-then-len-gt-DEPTH-clause-at_most g t c =
+    let level = c.args.self.now in
+    let met = met_by level.paths.baskets level.least c.args.rank c.support-support.result c.support-support.ensures c.requires.level.some c.if-support-self.false in
+    let some = class_some level.paths.baskets level.least c.args.rank c.classes_are_listed.ensures met in
+    let most = c.in_ok-tell.ensures.at_most in
+    omega arith
+
+pub class-returns-in_err-pairs-clause-at_most : goal.class-returns-in_err-pairs-clause-at_most
+class-returns-in_err-pairs-clause-at_most g t c =
+    let level = c.args.self.now in
+    let met = met_by level.paths.baskets level.least c.args.rank c.support-support.result c.support-support.ensures c.requires.level.some c.if-support-self.false in
+    let some = class_some level.paths.baskets level.least c.args.rank c.classes_are_listed.ensures met in
+    let most = c.in_ok-tell.ensures.at_most in
+    omega arith
+
+pub class-returns-then-is_empty-clause-listed : goal.class-returns-then-is_empty-clause-listed
+class-returns-then-is_empty-clause-listed g t c =
+    let level = c.args.self.now in
+    let old = c.args.found.now.sets.items in
+    let met = met_by level.paths.baskets level.least c.args.rank c.support-support.result c.support-support.ensures c.requires.level.some c.if-support-self.false in
+    let none = sym c.in_ok-pairs.ensures.pairs ∙ nothing_in c.in_ok-pairs.pairs.items (omega (arith, eqb-true (vec_len c.in_ok-pairs.pairs) 0 (sym c.if-is_empty.ensures), c.in_ok-pairs.pairs.ok.0)) in
+    leaf_grown level c.args.rank none c.classes_are_conditional.ensures c.conditional_supports.ensures met old c.tell.new.found.sets.items c.deref.result.now c.support-support.result
+    (c.deref.ensures.value ∙ c.in_ok-items.ensures) c.support-support.ensures
+    (c.in_ok-tell.ensures.added ∙ (λ i. old ++ record { set = c.in_ok-from_items.ensures.ok i; count = c.support-support.result } ∷ []))
+
+pub class-returns-then-is_empty-clause-trees : goal.class-returns-then-is_empty-clause-trees
+class-returns-then-is_empty-clause-trees g t c =
+    let level = c.args.self.now in
+    let met = met_by level.paths.baskets level.least c.args.rank c.support-support.result c.support-support.ensures c.requires.level.some c.if-support-self.false in
+    let none = sym c.in_ok-pairs.ensures.pairs ∙ nothing_in c.in_ok-pairs.pairs.items (omega (arith, eqb-true (vec_len c.in_ok-pairs.pairs) 0 (sym c.if-is_empty.ensures), c.in_ok-pairs.pairs.ok.0)) in
+    omega (arith, c.in_ok-tell.ensures.trees, leaf_trees level.paths.baskets level.least c.args.rank none c.classes_are_conditional.ensures c.conditional_supports.ensures met c.classes_are_listed.ensures)
+
+pub class-returns-then-is_empty-clause-at_most : goal.class-returns-then-is_empty-clause-at_most
+class-returns-then-is_empty-clause-at_most g t c =
     let level = c.args.self.now in
     let met = met_by level.paths.baskets level.least c.args.rank c.support-support.result c.support-support.ensures c.requires.level.some c.if-support-self.false in
     let some = class_some level.paths.baskets level.least c.args.rank c.classes_are_listed.ensures met in

@@ -6,7 +6,7 @@ use Rattle.mine_fp.proofs.level.Level.below.Goals as goal
 pub named-requires : goal.named-requires
 named-requires c = λ item h.
     let level = c.args.self.now in
-    let kept = ap (map (λ (pair : ℕ × ℕ). pair.0)) (c.deref-2.ensures.value ∙ c.in_ok-pairs.ensures.pairs) ∙ pair_ranks level.paths.baskets level.least c.args.rank in
+    let kept = ap (map (λ (pair : ℕ × ℕ). pair.0)) c.requires.pairs ∙ pair_ranks level.paths.baskets level.least c.args.rank in
     let less = kept_below level.paths.baskets level.least c.args.rank item (subst (λ l. has l item ≡ true) kept h) in
     omega (arith, less, ap length c.deref.ensures.value)
 
@@ -14,7 +14,7 @@ pub returns-clause-below : goal.returns-clause-below
 returns-clause-below c =
     let level = c.args.self.now in
     let made = c.in_ok-paths.ensures in
-    let kept = ap (map (λ (pair : ℕ × ℕ). pair.0)) (c.deref-2.ensures.value ∙ c.in_ok-pairs.ensures.pairs) ∙ pair_ranks level.paths.baskets level.least c.args.rank in
+    let kept = ap (map (λ (pair : ℕ × ℕ). pair.0)) c.requires.pairs ∙ pair_ranks level.paths.baskets level.least c.args.rank in
     record {
       ranks = made.ranks;
       names = c.in_ok-names.ensures ∙ (λ i. map (λ other. get_or (c.deref.ensures.value i) other 0) (kept i));
