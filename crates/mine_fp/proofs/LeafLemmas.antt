@@ -12,7 +12,7 @@ use Rattle.basket_sets.specs.Support.{support_of, total_of}
 use Rattle.basket_sets.proofs.theory.Support.{at_least_one}
 use Rattle.mine_classes.specs.Classes.{ClassesAreConditional, ClassesAreListed, ListsClass, class_of}
 use Rattle.mine_classes.specs.Conditional.{ConditionalSupports, conditional, is_kept}
-use Rattle.mine_classes.specs.Pairs.{kept_ranks, pairs_of}
+use Rattle.mine_classes.specs.Pairs.{pairs_of}
 use Rattle.mine_fp.specs.declared.level.Level.{Level}
 use Rattle.mine_fp.specs.Level.{ListsClassAsItems}
 use Rattle.mine_fp.specs.Trees.{has_tree, rank_trees}

@@ -108,7 +108,7 @@ impl Level {
         }
         let pairs = self.paths.pairs(alloc, &mut tables.sums, rank, self.least)?;
         if pairs.is_empty() {
-            // The class is the rank alone, so that nothing asks for its tree.
+            // The class is the rank alone. Its tree is the root, which counts, and nothing is made of it.
             found.trees += 1;
             return Ok(());
         }
