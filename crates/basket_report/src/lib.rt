@@ -1,6 +1,7 @@
 //! The bytes of a report: a line of numbers for each set or rule, or a CSV record of names.
 #![tactic(auto)]
 
+mod beginning;
 mod extent;
 mod items;
 mod lines;

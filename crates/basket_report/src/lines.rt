@@ -3,6 +3,7 @@ ghost use Rattle.std.specs.Prelude.{◌≡◌, ◌++◌, [], IfOk, OnOk};
 ghost use Rattle.basket_report.specs.Lines.{items_text, ratios_text, rule_line, set_line, sides_text};
 ghost use Rattle.basket_report.specs.Report.{set_of};
 
+use crate::beginning::Beginning;
 use crate::extent::Extent;
 use crate::texts::{Texts, put_fraction, put_number};
 use basket_core::Counted;
@@ -14,6 +15,8 @@ use std::marker::Model;
 #[derive(Debug, Drop)]
 pub struct Lines {
     texts: Texts,
+    /// The items of the last set.
+    beginning: Beginning,
     text: Vec<u8>,
 }
 
@@ -32,6 +35,7 @@ impl Lines {
     {
         Ok(Lines {
             texts: Texts::below(alloc, 0)?,
+            beginning: Beginning::new(alloc),
             text: Vec::new(alloc),
         })
     }
@@ -43,6 +47,7 @@ impl Lines {
         let extent = Extent::of(sets);
         Ok(Lines {
             texts: extent.texts(alloc)?,
+            beginning: Beginning::new(alloc),
             text: Vec::with_capacity(alloc, extent.room())?,
         })
     }
@@ -53,6 +58,7 @@ impl Lines {
     {
         Ok(Lines {
             texts: Extent::of(sets).texts(alloc)?,
+            beginning: Beginning::new(alloc),
             text: Vec::new(alloc),
         })
     }
@@ -61,7 +67,8 @@ impl Lines {
     pub fn put_set(&mut self, items: &[u32], count: u64) -> Result<(), AllocError>
         ensures { OnOk result (self.new ≡ self.old ++ set_line (set_of items.now count)) }
     {
-        put_items(&mut self.text, &self.texts, items)?;
+        self.beginning.put(&self.texts, items)?;
+        self.text.extend_from_slice(self.beginning.text())?;
         self.text.extend_from_slice(b" (")?;
         put_number(&mut self.text, count)?;
         self.text.extend_from_slice(b")\n")
