@@ -11,11 +11,14 @@ use basket_rules::Rule;
 use std::alloc::{AllocError, Global};
 use std::marker::Model;
 
+/// So many items are worth a look at what they share with the items before.
+const MANY_ITEMS: usize = 3;
+
 /// Lines so far.
 #[derive(Debug, Drop)]
 pub struct Lines {
     texts: Texts,
-    /// The items of the last set.
+    /// The items of the last set of many.
     beginning: Beginning,
     text: Vec<u8>,
 }
@@ -67,11 +70,21 @@ impl Lines {
     pub fn put_set(&mut self, items: &[u32], count: u64) -> Result<(), AllocError>
         ensures { OnOk result (self.new ≡ self.old ++ set_line (set_of items.now count)) }
     {
-        self.beginning.put(&self.texts, items)?;
-        self.text.extend_from_slice(self.beginning.text())?;
+        self.put_set_items(items)?;
         self.text.extend_from_slice(b" (")?;
         put_number(&mut self.text, count)?;
         self.text.extend_from_slice(b")\n")
+    }
+
+    /// Adds the items of a set. Of many items most are those of the set before.
+    fn put_set_items(&mut self, items: &[u32]) -> Result<(), AllocError>
+        ensures { OnOk result (self.new ≡ self.old ++ items_text items.now) }
+    {
+        if items.len() < MANY_ITEMS {
+            return put_items(&mut self.text, &self.texts, items);
+        }
+        self.beginning.put(&self.texts, items)?;
+        self.text.extend_from_slice(self.beginning.text())
     }
 
     /// Adds the line of a rule.
