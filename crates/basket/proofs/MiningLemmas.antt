@@ -25,19 +25,26 @@ use Rattle.basket_core.specs.declared.fault.MineFault.{MineFault}
 use Rattle.std.specs.Prelude.{IfOk, Ok, Err, Result}
 use Rattle.mine_apriori.specs.Work.{candidate_count, CandidatesBySets}
 
-module _ (database : List Weighted) (minimum : Minimum) (coding : Coding) (made : coding ≡ merged_coding (coding_of database minimum)) where
+module _ (database : List Weighted) (minimum : Minimum) (coding : Coding) (made : coding ≡ coding_of database minimum) where
   pub list_is : frequent_of_coding coding ≡ frequent_of database minimum
-  list_is = ap frequent_of_coding made ∙ (merging_keeps_coded (coding_of database minimum)).0 ∙ coding_keeps_frequent database minimum
+  list_is = ap frequent_of_coding made ∙ coding_keeps_frequent database minimum
 
   pub total_is : total_of coding.baskets ≡ total_of database
-  total_is = ap (λ c. total_of c.baskets) made ∙ (merging_keeps_coded (coding_of database minimum)).1 ∙ coded_total (ranks_of database minimum) database
+  total_is = ap (λ c. total_of c.baskets) made ∙ coded_total (ranks_of database minimum) database
 
-  -- so they have as many candidates
-  pub count_is : CandidatesBySets → candidate_count (baskets_of coding) coding.minimum ≡ candidate_count database minimum
-  count_is law =
-      let one : coding.minimum ≡ minimum = ap (λ c. c.minimum) made in
-      ap (candidate_count (baskets_of coding)) one
-      ∙ ap length (law (baskets_of coding) database minimum (subst (λ m. frequent_of (baskets_of coding) m ≡ frequent_of database minimum) one list_is))
+  -- also where equal baskets are merged, and these have as many candidates
+  module _ (merged : Coding) (is : merged ≡ merged_coding coding) where
+    pub merged_list : frequent_of_coding merged ≡ frequent_of database minimum
+    merged_list = ap frequent_of_coding is ∙ (merging_keeps_coded coding).0 ∙ list_is
+
+    pub merged_total : total_of merged.baskets ≡ total_of database
+    merged_total = ap (λ c. total_of c.baskets) is ∙ (merging_keeps_coded coding).1 ∙ total_is
+
+    pub count_is : CandidatesBySets → candidate_count (baskets_of merged) merged.minimum ≡ candidate_count database minimum
+    count_is law =
+        let one : merged.minimum ≡ minimum = ap (λ c. c.minimum) is ∙ ap (λ c. c.minimum) made in
+        ap (candidate_count (baskets_of merged)) one
+        ∙ ap length (law (baskets_of merged) database minimum (subst (λ m. frequent_of (baskets_of merged) m ≡ frequent_of database minimum) one merged_list))
 
   -- a frequent set of enough items settles that there are more sets than the limit
   pub settled : (size limit : ℕ) → limit + 1 < 2 ^ size → HasSetOfSize (frequent_of_coding coding) size → limit < length (frequent_of database minimum)
@@ -55,30 +62,16 @@ sum_is f first (x ∷ each) are =
     let rest = sum_is f (first + 1) each (λ k below. are (suc k) (omega arith) ∙ ap f (omega arith)) in
     sum_by-cons (λ n. n) x each ∙ (λ i. head i + rest i) ∙ sym (sum_by-cons f first (range_with_len (first + 1) (length each)))
 
--- a set is a join over merged baskets where it is one
-join_same : (coding : Coding) (set : List ℕ) → is_join (merged_of coding.baskets) coding.minimum set ≡ is_join coding.baskets coding.minimum set
-join_same coding [] = refl
-join_same coding (rank ∷ []) = refl
-join_same coding (first ∷ second ∷ others) = λ i. frequent (second ∷ others) i && frequent (first ∷ others) i
-  where
-    frequent : (set : List ℕ) → is_frequent (merged_of coding.baskets) coding.minimum set ≡ is_frequent coding.baskets coding.minimum set
-    frequent set =
-        ap (λ s. meets coding.minimum s (total_of (merged_of coding.baskets))) (merging_keeps_supports coding.baskets set)
-        ∙ ap (meets coding.minimum (support_of coding.baskets set)) (merging_keeps_supports coding.baskets [])
-
-joins_same : (coding : Coding) → joins_of (merged_coding coding) ≡ joins_of coding
-joins_same coding = λ i. length (filter (λ set. join_same coding set i) (sets_of_ranks (length coding.items)))
-
-module _ (database : List Weighted) (minimum : Minimum) (coding : Coding) (made : coding ≡ merged_coding (coding_of database minimum)) where
+module _ (database : List Weighted) (minimum : Minimum) (coding : Coding) (made : coding ≡ coding_of database minimum) where
   pub joins_are : (total : ℕ) → CodedRanksAreFrequent → ClassJoinsAddUp → IsWorkOfAll (IsJoins coding) (length coding.items) total → total ≡ min (joins_of (coding_of database minimum)) MOST_WORK
   joins_are total frequent adds so =
-      let ranks : RanksAreFrequent coding = subst RanksAreFrequent (sym made) (frequent database minimum).1 in
+      let ranks : RanksAreFrequent coding = subst RanksAreFrequent (sym made) (frequent database minimum).0 in
       so.added ∙ ap (λ n. min n MOST_WORK)
       (sum_is (class_joins coding) 0 so.each (λ k below. let e : k ≡ 0 + k = omega arith in so.works k (subst (λ n. k < n) so.long below) ranks ∙ ap (class_joins coding) e)
       ∙ ap (λ n. sum_by (class_joins coding) (range_with_len 0 n)) so.long
-      ∙ adds coding ∙ ap joins_of made ∙ joins_same (coding_of database minimum))
+      ∙ adds coding ∙ ap joins_of made)
 
-  pub trees_are : (total : ℕ) → IsCoding coding → ClassTreesAddUp → IsWorkOfAll (IsTrees coding) (length coding.items) total → total ≡ min (trees_of (merged_coding (coding_of database minimum))) MOST_WORK
+  pub trees_are : (total : ℕ) → IsCoding coding → ClassTreesAddUp → IsWorkOfAll (IsTrees coding) (length coding.items) total → total ≡ min (trees_of (coding_of database minimum)) MOST_WORK
   trees_are total is adds so =
       so.added ∙ ap (λ n. min n MOST_WORK)
       (sum_is (class_trees coding) 0 so.each (λ k below. let e : k ≡ 0 + k = omega arith in so.works k (subst (λ n. k < n) so.long below) ∙ ap (class_trees coding) e)
@@ -93,7 +86,7 @@ module _ (database : List Weighted) (minimum : Minimum) (coding : Coding) (made 
   totals_are (Ok mined) is = ap (λ f. f.total) is ∙ total_is database minimum coding made
   totals_are (Err fault) is = is
 
-  pub work_is : (result : Result (Listing × Work) MineFault) → IfOk result (λ mined. (baskets : List Weighted) (bound : Minimum) → coding ≡ merged_coding (coding_of baskets bound) → mined.1 ≡ join_work baskets bound)
+  pub work_is : (result : Result (Listing × Work) MineFault) → IfOk result (λ mined. (baskets : List Weighted) (bound : Minimum) → coding ≡ coding_of baskets bound → mined.1 ≡ join_work baskets bound)
       → IfOk result (λ mined. mined.1 ≡ join_work database minimum)
   work_is (Ok mined) is = is database minimum made
   work_is (Err fault) is = is

@@ -2,7 +2,7 @@
 ghost use Rattle.std.specs.Prelude.{◌≡◌, ◌<◌, ◌≤◌, ◌+◌, ◌^◌, ℕ, List, Err, IfOk, length};
 ghost use Rattle.basket.specs.Mining.{IsWorkOf, join_work};
 ghost use Rattle.basket_core.specs.declared.fault.MineFault.TheVariants.{TooMany};
-ghost use Rattle.basket_core.specs.Codes.{coding_of, frequent_of_coding, merged_coding};
+ghost use Rattle.basket_core.specs.Codes.{coding_of, frequent_of_coding};
 ghost use Rattle.basket_core.specs.Listing.{listing_of};
 ghost use Rattle.basket_sets.specs.declared.minimum.Minimum.{Minimum as Bound};
 ghost use Rattle.basket_sets.specs.declared.weighted.Weighted.{Weighted as Basket};
@@ -91,7 +91,8 @@ pub fn mine<R: Threads + Sync, G: Gate + Sync>(
     }
     match plan.miner() {
         Miner::Apriori => {
-            let (frequent, candidates) = apriori_shared(rt, alloc, &coded, limit, cutting, gate)?;
+            let merged = coded.merged(alloc)?;
+            let (frequent, candidates) = apriori_shared(rt, alloc, &merged, limit, cutting, gate)?;
             candidates_by_sets();
             Ok((frequent, Work::of_candidates(candidates)))
         }
@@ -113,7 +114,7 @@ pub fn cutting(plan: &Plan) -> Cutting {
     Cutting::new(plan.workers(), plan.pieces())
 }
 
-/// The merged baskets of a database, coded. Workers count the items.
+/// The baskets of a database, coded. Workers count the items.
 fn coded<R: Threads + Sync, G: Gate + Sync>(
     rt: &R,
     alloc: Global,
@@ -122,11 +123,11 @@ fn coded<R: Threads + Sync, G: Gate + Sync>(
     cutting: Cutting,
     gate: &G,
 ) -> Result<Coded, AllocError>
-    ensures { IfOk result (λ coded. coded ≡ merged_coding (coding_of database.now minimum)) }
+    ensures { IfOk result (λ coded. coded ≡ coding_of database.now minimum) }
 {
     let counts = count_shared(rt, alloc, database.baskets(), cutting, gate)?;
     let codes = Codes::of(alloc, &counts, database.total(), minimum)?;
-    codes.code(alloc, database)?.merged(alloc)
+    codes.code(alloc, database)
 }
 
 /// The list of the frequent sets by Eclat over rows of one type, and how many joins were made for it.
@@ -140,7 +141,7 @@ fn joined<R: Threads + Sync, G: Gate + Sync, T: Row + Sync>(
 ) -> Result<(Frequent, Work), MineFault>
     ensures list { IfOk result (λ mined. mined.0 ≡ listing_of coded.now) }
     ensures within { IfOk result (λ mined. length mined.0.sets ≤ limit) }
-    ensures work { IfOk result (λ mined. (database : List Basket) (minimum : Bound) → coded.now ≡ merged_coding (coding_of database minimum) → mined.1 ≡ join_work database minimum) }
+    ensures work { IfOk result (λ mined. (database : List Basket) (minimum : Bound) → coded.now ≡ coding_of database minimum → mined.1 ≡ join_work database minimum) }
     ensures too_many { (most : ℕ) → result ≡ Err (TooMany most) → (most ≡ limit) × (limit < length (frequent_of_coding coded.now)) }
 {
     coded_ranks_are_frequent();

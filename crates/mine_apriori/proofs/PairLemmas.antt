@@ -3,7 +3,7 @@ use Rattle.std.proofs.Common.{◌≡◌, ◌≢◌, ℕ, ◌+◌, ◌-◌, ◌<�
 use Rattle.std.specs.Cmp.Lexicographic.{slice_cmp}
 use Rattle.std.specs.Ordering.{nat_cmp}
 use Rattle.std.specs.List.{All, filter, range_with_len}
-use Rattle.std.proofs.lemmas.Bool.{cases_eq, cases_lt, eq-eqb, ne_eqb, lt-ltb, le-leb, leb-true}
+use Rattle.std.proofs.lemmas.Bool.{cases_eq, cases_lt, cases_order, eq-eqb, ne_eqb, lt-ltb, le-leb, leb-true}
 use Rattle.std.specs.declared.vec.Vec.{Vec}
 use Rattle.std.specs.declared.alloc.Global.{Global}
 use Rattle.std.proofs.lemmas.List.{map-append, map-set, length-map, get_or-map, get_or-set_same, get_or-set_other, take_more}
@@ -14,6 +14,7 @@ use Rattle.std.proofs.lemmas.Simd.{map-map}
 use Rattle.basket_core.specs.Codes.{Coding, IsCoding}
 use Rattle.basket_core.proofs.theory.Decoding.{ranks_below}
 use Rattle.basket_sets.specs.declared.weighted.Weighted.{Weighted}
+use Rattle.basket_sets.specs.declared.minimum.Minimum.{Minimum}
 use Rattle.basket_sets.specs.declared.minimum.Minimum.TheVariants.{Count}
 use Rattle.basket_sets.specs.Frequent.{is_frequent}
 use Rattle.basket_sets.specs.Itemset.{IsRising, has}
@@ -28,7 +29,8 @@ use Rattle.basket_sets.proofs.theory.Subsets.{IsSubset-from_Member, Member-from_
 use Rattle.basket_sets.proofs.theory.Support.{support_falls}
 use Rattle.mine_classes.specs.Conditional.{is_kept}
 use Rattle.mine_classes.specs.Pairs.{pairs_of}
-use Rattle.mine_apriori.specs.Pairs.{pairs_by_greater, partners, pairs_with, pairs_by_lesser, pairs_at, lesser_from, all_lesser, lists_of, AreBelow}
+use Rattle.mine_classes.specs.Runs.{ArePairsOf}
+use Rattle.mine_apriori.specs.Pairs.{ArePairs, pairs_by_greater, partners, pairs_with, pairs_by_lesser, pairs_at, lesser_from, all_lesser, lists_of, AreBelow}
 use Rattle.mine_apriori.specs.Levels.{level_of}
 use Rattle.mine_apriori.proofs.LevelsLemmas.{from_level, into_level, level_in_order}
 use Rattle.mine_apriori.proofs.PlaceLemmas.{range_more}
@@ -210,9 +212,40 @@ pairs_below coding least count k d below rank h =
     omega (arith, r.1, same, long, below)
 
 -- baskets that give each set the same support have the same pairs
+same_of_rank : (one other : List Weighted) (least rank : ℕ) → ((set : List ℕ) → support_of one set ≡ support_of other set) → pairs_of one least rank ≡ pairs_of other least rank
+same_of_rank one other least rank same i = map (λ lesser. (lesser, same (lesser ∷ rank ∷ []) i))
+    (filter (λ lesser. ltb lesser rank && (leb 1 (same (lesser ∷ rank ∷ []) i) && leb least (same (lesser ∷ rank ∷ []) i))) (range_with_len 0 rank))
+
 pub same_pairs : (one other : List Weighted) (least count : ℕ) → ((set : List ℕ) → support_of one set ≡ support_of other set) → pairs_by_greater one least count ≡ pairs_by_greater other least count
-same_pairs one other least count same i = map (λ rank. map (λ lesser. (lesser, same (lesser ∷ rank ∷ []) i))
-    (filter (λ lesser. ltb lesser rank && (leb 1 (same (lesser ∷ rank ∷ []) i) && leb least (same (lesser ∷ rank ∷ []) i))) (range_with_len 0 rank))) (range_with_len 0 count)
+same_pairs one other least count same i = map (λ rank. same_of_rank one other least rank same i) (range_with_len 0 count)
+
+-- there is one least support that meets a minimum
+one_least : (minimum : Minimum) (total one other : ℕ) → IsLeastSupport minimum total one → IsLeastSupport minimum total other → one ≡ other
+one_least minimum total one other a b = elim (cases_order one other) [
+  | inl same ↦ same
+  | inr (inl less) ↦ absurd (apart one other a b less)
+  | inr (inr more) ↦ absurd (apart other one b a more)
+]
+  where
+    apart : (low high : ℕ) → IsLeastSupport minimum total low → IsLeastSupport minimum total high → low < high → ⊥
+    apart low high is also less =
+        let within = also.within in
+        let here = sym (also.met low (omega arith)) ∙ is.met low (omega arith) ∙ le-leb low low (omega arith) in
+        let up = leb-true high low here in
+        omega (arith, up, less)
+
+-- the pairs of each rank are those of baskets with the same supports
+pub pairs_for : (coding : Coding) (least : ℕ) (others : List Weighted) (lists : List (Vec (ℕ × ℕ) Global)) → IsLeastSupport coding.minimum (total_of coding.baskets) least
+    → ((set : List ℕ) → support_of others set ≡ support_of coding.baskets set) → ArePairs coding (lists_of lists) → ArePairsOf others least lists
+pairs_for coding least others lists settles same are rank none below =
+    let count = length coding.items in
+    let one = one_least coding.minimum (total_of coding.baskets) are.least least are.settles settles in
+    let long : rank < count = omega (arith, below, length-map lists (λ list. list.items), ap length are.pairs, length-map-range_with_len (pairs_of coding.baskets are.least) 0 count) in
+    sym (get_or-map (λ (list : Vec (ℕ × ℕ) Global). list.items) lists rank none [] below)
+    ∙ ap (λ l. get_or l rank []) are.pairs
+    ∙ get_or-map-range_with_len (pairs_of coding.baskets are.least) 0 count rank rank [] long (omega arith)
+    ∙ ap (λ n. pairs_of coding.baskets n rank) one
+    ∙ sym (same_of_rank others coding.baskets least rank same)
 
 pub pairs_long : (baskets : List Weighted) (least count : ℕ) → length (pairs_by_greater baskets least count) ≡ count
 pairs_long baskets least count = length-map-range_with_len (pairs_of baskets least) 0 count

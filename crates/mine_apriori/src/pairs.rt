@@ -1,5 +1,7 @@
 //! The frequent pairs of ranks, without a list of all pairs.
-ghost use Rattle.std.specs.Prelude.{◌≡◌, ◌<◌, ◌≤◌, ◌↔◌, ◌*◌, ◌/◌, ◌++◌, ◌^◌, ℕ, [], All, IfOk, IsTrue, OnOk, length, replicate, slice_index_or};
+ghost use Rattle.std.specs.Prelude.{◌≡◌, ◌<◌, ◌≤◌, ◌↔◌, ◌*◌, ◌/◌, ◌++◌, ◌^◌, ℕ, List, [], All, IfOk, IsTrue, OnOk, length, replicate, slice_index_or};
+ghost use Rattle.basket_sets.specs.Support.{support_of};
+ghost use Rattle.mine_classes.specs.Ordered.{AreRankBaskets, HaveSameWeights};
 ghost use Rattle.mine_apriori.specs.Pairs.{AreBelow, ArePairs, all_lesser, lists_of, pairs_at, pairs_by_greater};
 
 use crate::triangle::{Triangle, pairs_of_supports};
@@ -19,6 +21,34 @@ pub fn frequent_pairs(alloc: Global, coded: &Coded) -> Result<Vec<Vec<(u32, u64)
     let least = coded.minimum().least(coded.total());
     let runs = Runs::of(alloc, Ordered::of_coded(alloc, coded)?)?;
     pairs_by_runs(alloc, &runs, least)
+}
+
+/// The runs of the coded baskets. They keep the frequent pairs of each rank where a count for each
+/// pair of ranks is small: one pass over the baskets then spares the sums of each rank.
+pub fn runs_with_pairs(alloc: Global, coded: &Coded) -> Result<Runs, AllocError>
+    ensures ranks { IfOk result (λ runs. runs.ranks ≡ length coded.now.items) }
+    ensures ranked { IfOk result AreRankBaskets }
+    ensures weights { IfOk result (λ runs. HaveSameWeights coded.now.baskets runs.baskets) }
+    ensures supports { IfOk result (λ runs. (set : List ℕ) → support_of runs.baskets set ≡ support_of coded.now.baskets set) }
+{
+    // The baskets of a coding are light enough for a least support.
+    let _ = coded.baskets();
+    let least = coded.minimum().least(coded.total());
+    // Before the runs, which take the room that the counts leave.
+    let pairs = small_pairs(alloc, coded)?;
+    let mut runs = Runs::of(alloc, Ordered::of_coded(alloc, coded)?)?;
+    runs.keep_pairs(pairs, least);
+    Ok(runs)
+}
+
+/// The pairs of each rank where a count for each pair of ranks is small, else of none.
+fn small_pairs(alloc: Global, coded: &Coded) -> Result<Vec<Vec<(u32, u64)>>, AllocError>
+    ensures { IfOk result (λ lists. 0 < length lists.items → ArePairs coded.now (lists_of lists.items)) }
+{
+    if is_small_triangle(coded.ranks(), coded.baskets().len()) {
+        return pairs_by_triangle(alloc, coded);
+    }
+    Ok(Vec::new(alloc))
 }
 
 /// Whether a count for each pair of ranks takes no more memory than the baskets, of which there are

@@ -7,6 +7,7 @@ use Rattle.basket_sets.specs.declared.weighted.Weighted.{Weighted}
 use Rattle.mine_classes.specs.declared.span.Span.{Span}
 use Rattle.mine_classes.specs.Conditional.{kept_place}
 use Rattle.mine_classes.specs.Ordered.{HaveSameWeights, IsRankBasket}
+use Rattle.mine_classes.specs.Pairs.{pairs_of}
 use Rattle.mine_classes.specs.Span.{IsWithin, baskets_at}
 
 -- the baskets that have a rank, kept to the ranks below it
@@ -48,3 +49,7 @@ pub record AreRunsOf (ranks : List ℕ) (baskets : List Weighted) (rank : ℕ) (
 pub record HaveAllRuns (count : ℕ) (ranks : List ℕ) (baskets : List Weighted) (of : List (List Span)) : Type 0 where
   pub long : length of ≡ count
   pub are : (rank : ℕ) → rank < count → AreRunsOf ranks baskets rank (slice_index_or of rank [])
+
+-- the frequent pairs of each of the first ranks, by a least support
+abbrev pub ArePairsOf : List Weighted → ℕ → List (Vec (ℕ × ℕ) Global) → Type 0
+ArePairsOf baskets least pairs = (rank : ℕ) (none : Vec (ℕ × ℕ) Global) → rank < length pairs → (slice_index_or pairs rank none).items ≡ pairs_of baskets least rank

@@ -7,7 +7,7 @@ ghost use Rattle.basket_sets.specs.Itemset.{IsRising};
 ghost use Rattle.mine_classes.specs.declared.span.Span.{Span as Run};
 ghost use Rattle.mine_classes.specs.Ordered.{AreRankBaskets};
 ghost use Rattle.mine_classes.specs.Pairs.{pairs_of};
-ghost use Rattle.mine_classes.specs.Runs.{AreRunsOf, HaveAllRuns, HaveRuns, runs_of, with_run};
+ghost use Rattle.mine_classes.specs.Runs.{ArePairsOf, AreRunsOf, HaveAllRuns, HaveRuns, runs_of, with_run};
 ghost use Rattle.mine_classes.specs.Span.{IsWithin, baskets_at};
 
 use crate::ordered::Ordered;
@@ -26,12 +26,14 @@ pub struct Runs {
     ranks: Vec<u32>,
     baskets: Vec<Span>,
     of: Vec<Vec<Span>>,
+    /// The frequent pairs of each rank by a least support, or of none.
+    pairs: Vec<Vec<(u32, u64)>>,
+    least: u64,
 }
 
 impl Model for Runs {
     ghost use Rattle.mine_classes.specs.Ordered.{RankBaskets, AreRankBaskets};
-    ghost use Rattle.mine_classes.specs.Pairs.{pairs_of};
-    ghost use Rattle.mine_classes.specs.Runs.{AreRunsOf, HaveAllRuns, runs_of};
+    ghost use Rattle.mine_classes.specs.Runs.{ArePairsOf, AreRunsOf, HaveAllRuns, runs_of};
     ghost use Rattle.mine_classes.specs.Span.{baskets_at};
 
     ghost Value = { RankBaskets };
@@ -39,7 +41,8 @@ impl Model for Runs {
     ghost view = { λ r. record { ranks = r.count; baskets = baskets_at r.ranks.items r.baskets.items } };
 
     ghost invariant = { λ r. AreRankBaskets (record { ranks = r.count; baskets = baskets_at r.ranks.items r.baskets.items })
-        × HaveAllRuns r.count r.ranks.items (baskets_at r.ranks.items r.baskets.items) (runs_of r.of.items) };
+        × HaveAllRuns r.count r.ranks.items (baskets_at r.ranks.items r.baskets.items) (runs_of r.of.items)
+        × ArePairsOf (baskets_at r.ranks.items r.baskets.items) r.least r.pairs.items };
 }
 
 impl Runs {
@@ -54,7 +57,18 @@ impl Runs {
             ranks,
             baskets,
             of,
+            pairs: Vec::new(alloc),
+            least: 0,
         })
+    }
+
+    /// Keeps the frequent pairs of each rank by a least support, which then need not be summed.
+    pub fn keep_pairs(&mut self, pairs: Vec<Vec<(u32, u64)>>, least: u64)
+        requires { ArePairsOf self.old.baskets least pairs.items }
+        ensures { self.new ≡ self.old }
+    {
+        self.pairs = pairs;
+        self.least = least;
     }
 }
 
@@ -76,7 +90,7 @@ impl Runs {
     }
 
     /// The ranks below the rank that are frequent together with it, by a least support, each with
-    /// the support of the pair. Only the runs of the rank are looked at.
+    /// the support of the pair. Where they aren't kept, only the runs of the rank are looked at.
     pub fn pairs(
         &self,
         alloc: Global,
@@ -89,8 +103,13 @@ impl Runs {
         ensures pairs { IfOk result (λ pairs. pairs.items ≡ pairs_of self.now.baskets least rank) }
         ensures sums { sums.new ≡ sums.old }
     {
-        let (ranks, runs) = self.of_rank(rank);
-        sums.of_spans(alloc, ranks, runs, least)
+        match self.pairs.get(rank as usize) {
+            Some(pairs) if self.least == least => pairs.to_vec(alloc),
+            _ => {
+                let (ranks, runs) = self.of_rank(rank);
+                sums.of_spans(alloc, ranks, runs, least)
+            }
+        }
     }
 }
 

@@ -7,8 +7,8 @@ ghost use Rattle.mine_fp.specs.Trees.{class_trees};
 use crate::level::{Found, Level, Tables};
 use crate::paths::Paths;
 use basket_core::{Coded, Counted, MineFault, Tally};
+use mine_apriori::runs_with_pairs;
 use mine_classes::laws::{classes_are_listed, deep_classes_are_large, lists_have_class_size};
-use mine_classes::{Ordered, Runs};
 use std::alloc::{AllocError, Global};
 use std::marker::Model;
 
@@ -41,7 +41,7 @@ impl<'a> Forest<'a> {
         Ok(Forest {
             coded,
             level: Level {
-                paths: Paths::of_runs(Runs::of(alloc, Ordered::of_coded(alloc, coded)?)?),
+                paths: Paths::of_runs(runs_with_pairs(alloc, coded)?),
                 names: items_of(alloc, coded)?,
                 suffix: Vec::new(alloc),
                 least: coded.minimum().least(coded.total()),

@@ -6,7 +6,8 @@ ghost use Rattle.basket_sets.specs.Support.{total_of};
 ghost use Rattle.mine_classes.specs.Ordered.{HaveSameWeights};
 
 use basket_core::Coded;
-use mine_classes::{Ordered, Runs};
+use mine_apriori::runs_with_pairs;
+use mine_classes::Runs;
 use std::alloc::{AllocError, Global};
 use std::marker::Model;
 
@@ -38,7 +39,7 @@ impl<'a> Vertical<'a> {
         // The baskets of a coding are light enough for a least support.
         let _ = coded.baskets();
         let least = coded.minimum().least(coded.total());
-        let runs = Runs::of(alloc, Ordered::of_coded(alloc, coded)?)?;
+        let runs = runs_with_pairs(alloc, coded)?;
         Ok(Vertical { coded, least, runs })
     }
 }

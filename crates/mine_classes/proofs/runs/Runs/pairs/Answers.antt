@@ -11,8 +11,8 @@ of_spans-requires-clause-ranked c =
     let runs = c.of_rank.result.1.now in
     runs_ranked ranks c.args.self.now.baskets c.args.rank runs c.of_rank.ensures.runs c.args.sums.now (omega (arith, c.requires.rank, c.requires.sums)) c.of_rank.ensures.ranked.light
 
-pub returns-clause-pairs : goal.returns-clause-pairs
-returns-clause-pairs c =
+pub returns-in_default-clause-pairs : goal.returns-in_default-clause-pairs
+returns-in_default-clause-pairs c =
     let ranks = c.of_rank.result.0.now in
     let runs = c.of_rank.result.1.now in
     let baskets = c.args.self.now.baskets in
