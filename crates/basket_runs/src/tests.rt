@@ -1,4 +1,4 @@
-ghost use Rattle.std.specs.Prelude.{◌≡◌, false};
+ghost use Rattle.std.specs.Prelude.{◌≡◌, ◌<◌, false};
 
 use basket::{
     Ask, Gate, Miner, Open, Plan, PlanFault, RunFault, mine, plan_of, plan_status, run, status_of,
@@ -107,7 +107,9 @@ fn ran<R: Threads + Sync>(
     words: &[&str],
     input: &[u8],
     step: usize,
-) -> Result<(MemSink, Result<(), RunFault>), Fail> {
+) -> Result<(MemSink, Result<(), RunFault>), Fail>
+    requires { 0 < step }
+{
     let mut reader = MemSource::new(input, step, None);
     let mut writer = MemSink::new(alloc, 300, 100, false)?;
     let result = run_words(rt, alloc, words, &mut reader, &mut writer)?;
