@@ -1,4 +1,4 @@
-ghost use Rattle.std.specs.Prelude.{◌≡◌, false};
+ghost use Rattle.std.specs.Prelude.{◌≡◌, ◌<◌, false};
 
 use basket::{
     Ask, Gate, Miner, Open, Plan, PlanFault, RunFault, mine, plan_of, plan_status, run, status_of,
@@ -99,14 +99,18 @@ fn run_words<R: Threads + Sync, S: Source>(
     }
 }
 
-/// Runs the words over the input, and answers what a sink took, and the fault.
+/// Runs the words over the input, of which each read gives so many bytes, and answers what a sink
+/// took, and the fault.
 fn ran<R: Threads + Sync>(
     rt: &R,
     alloc: Global,
     words: &[&str],
     input: &[u8],
-) -> Result<(MemSink, Result<(), RunFault>), Fail> {
-    let mut reader = MemSource::new(input, 7, None);
+    step: usize,
+) -> Result<(MemSink, Result<(), RunFault>), Fail>
+    requires { 0 < step }
+{
+    let mut reader = MemSource::new(input, step, None);
     let mut writer = MemSink::new(alloc, 300, 100, false)?;
     let result = run_words(rt, alloc, words, &mut reader, &mut writer)?;
     Ok((writer, result))
@@ -120,13 +124,13 @@ fn assert_writes<R: Threads + Sync + Abort>(
     input: &[u8],
     want: &[u8],
 ) -> Result<(), Fail> {
-    let (writer, result) = ran(rt, alloc, words, input)?;
+    let (writer, result) = ran(rt, alloc, words, input, 7)?;
     assert_eq!(rt; result, Ok(()), "{words:?}");
     assert_eq!(rt; writer.bytes(), want, "{words:?}");
     Ok(())
 }
 
-/// Asserts that the words write nothing for the input, and what the fault says.
+/// Asserts that the words write nothing for the input, read byte by byte, and what the fault says.
 fn assert_refuses<R: Threads + Sync + Abort>(
     rt: &R,
     alloc: Global,
@@ -135,7 +139,7 @@ fn assert_refuses<R: Threads + Sync + Abort>(
     fault: RunFault,
     text: &str,
 ) -> Result<(), Fail> {
-    let (writer, result) = ran(rt, alloc, words, input)?;
+    let (writer, result) = ran(rt, alloc, words, input, 1)?;
     assert_eq!(rt; result, Err(fault), "{words:?}");
     assert!(rt; writer.bytes().is_empty(), "{words:?}");
     assert_eq!(rt; fault.to_string(alloc)?.as_str(), text);

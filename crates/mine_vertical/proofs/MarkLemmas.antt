@@ -1,18 +1,19 @@
 -- Places that are marked.
-use Rattle.std.proofs.Common.{◌≡◌, ℕ, zero, suc, ◌+◌, ◌<◌, ◌≤◌, Bool, true, false, not, ◌||◌, List, [], ◌∷◌, take, length, get_or, cond, eqb, ltb, refl, sym, ap, ◌∙◌, inl, inr, arith}
+use Rattle.std.proofs.Common.{◌≡◌, ℕ, zero, suc, ◌+◌, ◌<◌, ◌≤◌, Bool, true, false, not, ◌||◌, List, ◌++◌, [], ◌∷◌, take, length, get_or, cond, eqb, ltb, refl, sym, ap, ◌∙◌, inl, inr, arith}
 use Rattle.std.specs.Prelude.{All, replicate}
 use Rattle.std.specs.List.{filter, sum_by}
+use mir.Val.{bool_byte}
 use Rattle.std.proofs.Math.ListN.{set}
 use Rattle.std.proofs.lemmas.Bool.{cases_eq, eq-eqb, eqb-true, lt-ltb, ne_eqb}
-use Rattle.std.proofs.lemmas.List.{take_all}
-use Rattle.std.proofs.lemmas.List.Sums.{sum_by-cons}
+use Rattle.std.proofs.lemmas.List.{take-set, take_all, take_more_set}
+use Rattle.std.proofs.lemmas.List.Sums.{sum_by-cons, sum_by_push}
 use Rattle.basket_sets.specs.Itemset.{IsRising, has}
 use Rattle.basket_sets.proofs.theory.Members.{Member-filter, Member-from_filter}
 use Rattle.basket_sets.proofs.theory.Rising.{Member-from_has, has-from_Member, has_more, nil_rises, same_rising}
 use Rattle.mine_vertical.specs.declared.marks.Marks.{Marks}
 use Rattle.mine_vertical.specs.Cover.{IsCover, common, cover_weight}
 use Rattle.mine_vertical.specs.Marks.{IsMarked}
-use Rattle.mine_vertical.proofs.CoverLemmas.{filter_rises}
+use Rattle.mine_vertical.proofs.CoverLemmas.{filter_drops, filter_keeps, filter_rises}
 use Rattle.mine_vertical.proofs.RowLemmas.{filter_members}
 
 pub none_marked : (n place : ℕ) → get_or {A = ℕ} (replicate n 0) place 0 ≡ 0
@@ -79,6 +80,38 @@ all_cleared weights places i place old new last was is =
     at : (b : Bool) → cond b 0 (cond b (get_or weights place 0) 0) ≡ 0
     at true = refl
     at false = refl
+
+-- ---- places that are put down one after another, of which some are kept
+
+pub put_down : (test : ℕ → Bool) (places kept : List ℕ) (i count : ℕ) → i < length places → count ≤ i → length kept ≡ length places → take count kept ≡ filter test (take i places)
+    → take (count + bool_byte (test (get_or places i 0))) (set kept count (get_or places i 0)) ≡ filter test (take (i + 1) places)
+put_down test places kept i count here few long is = at (test (get_or places i 0)) refl
+  where
+    at : (b : Bool) → test (get_or places i 0) ≡ b → take (count + bool_byte b) (set kept count (get_or places i 0)) ≡ filter test (take (i + 1) places)
+    at true h = take_more_set kept count (get_or places i 0) (omega (arith, here, few, long)) ∙ ap (λ l. l ++ get_or places i 0 ∷ []) is ∙ sym (filter_keeps test places i here h)
+    at false h =
+        let same : count + 0 ≡ count = omega arith in
+        ap (λ n. take n (set kept count (get_or places i 0))) same ∙ take-set kept count (get_or places i 0) ∙ is ∙ sym (filter_drops test places i here h)
+
+pub is_zero : (n : ℕ) → eqb n 0 ≡ not (ltb 0 n)
+is_zero zero = refl
+is_zero (suc n) = ne_eqb (suc n) 0 (λ e. absurd (omega (arith, e))) ∙ sym (ap not (lt-ltb 0 (suc n) (omega arith)))
+
+pub most_one : (b : Bool) → bool_byte b ≤ 1
+most_one true = omega arith
+most_one false = omega arith
+
+pub part_within : (b : Bool) (weight : ℕ) → get_or (0 ∷ weight ∷ []) (bool_byte b) 0 ≤ weight
+part_within true weight = omega arith
+part_within false weight = omega arith
+
+pub put_sum : (weigh : ℕ → ℕ) (test : ℕ → Bool) (places : List ℕ) (i sum : ℕ) → i < length places → sum ≡ sum_by weigh (filter test (take i places))
+    → sum + get_or (0 ∷ weigh (get_or places i 0) ∷ []) (bool_byte (test (get_or places i 0))) 0 ≡ sum_by weigh (filter test (take (i + 1) places))
+put_sum weigh test places i sum here is = at (test (get_or places i 0)) refl
+  where
+    at : (b : Bool) → test (get_or places i 0) ≡ b → sum + get_or (0 ∷ weigh (get_or places i 0) ∷ []) (bool_byte b) 0 ≡ sum_by weigh (filter test (take (i + 1) places))
+    at true h = let push = sum_by_push weigh (filter test (take i places)) (get_or places i 0) in omega (arith, is, push, ap (sum_by weigh) (filter_keeps test places i here h))
+    at false h = omega (arith, is, ap (sum_by weigh) (filter_drops test places i here h))
 
 -- ---- marked places among others
 

@@ -56,6 +56,22 @@ pub fn set_bit(words: &mut [u64], place: usize)
     words[place / 64] |= 1 << (place % 64);
 }
 
+/// Keeps the bits that other words have too, and answers how many they are.
+fn keep_shared(words: &mut [u64], others: &[u64]) -> u64
+    requires same { length words.old ≡ length others.now }
+    requires few { length words.old ≤ MOST_WORDS }
+    ensures words { words.new ≡ zip2 bit_and words.old others.now }
+    ensures ones { result ≡ shared_bits words.old others.now }
+{
+    let mut ones = 0;
+    for at in 0..words.len() {
+        let both = words[at] & others[at];
+        words[at] = both;
+        ones += u64::from(both.count_ones());
+    }
+    ones
+}
+
 /// The words that two rows share, in the place of other words, and how many ones they have.
 pub fn share_words(words: &mut Vec<u64>, x: &[u64], y: &[u64]) -> Result<u64, AllocError>
     requires same { length x.now ≡ length y.now }
@@ -64,11 +80,6 @@ pub fn share_words(words: &mut Vec<u64>, x: &[u64], y: &[u64]) -> Result<u64, Al
     ensures ones { IfOk result (λ ones. ones ≡ shared_bits x.now y.now) }
 {
     words.clear();
-    let mut ones = 0;
-    for (at, word) in x.iter().enumerate() {
-        let both = word & y[at];
-        ones += u64::from(both.count_ones());
-        words.push(both)?;
-    }
-    Ok(ones)
+    words.extend_from_slice(x)?;
+    Ok(keep_shared(words, y))
 }

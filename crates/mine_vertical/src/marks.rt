@@ -55,14 +55,18 @@ impl Marks {
         ensures sum { IfOk result (λ sum. sum ≡ sum_by (λ place. slice_index self.now.weights.items place) places.now) }
     {
         kept.clear();
+        kept.extend_from_slice(places)?;
+        let mut count = 0;
         let mut sum = 0;
         for place in places {
             let weight = self.weights[*place as usize];
-            if weight > 0 {
-                kept.push(*place)?;
-                sum += weight;
-            }
+            // Whether a place is marked can't be predicted, so each is put down, and the next one in
+            // its place where it isn't kept.
+            kept[count] = *place;
+            count += usize::from(weight > 0);
+            sum += weight;
         }
+        kept.truncate(count);
         Ok(sum)
     }
 
@@ -81,13 +85,17 @@ impl Marks {
     {
         weights.bounds();
         kept.clear();
+        kept.extend_from_slice(places)?;
+        let mut count = 0;
         let mut sum = 0;
         for place in places {
-            if self.weights[*place as usize] == 0 {
-                kept.push(*place)?;
-                sum += weights.of_place(*place);
-            }
+            let is_left = self.weights[*place as usize] == 0;
+            let parts = [0, weights.of_place(*place)];
+            kept[count] = *place;
+            count += usize::from(is_left);
+            sum += parts[usize::from(is_left)];
         }
+        kept.truncate(count);
         Ok(sum)
     }
 }

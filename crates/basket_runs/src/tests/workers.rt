@@ -35,7 +35,7 @@ fn all_write<'a, R: Threads + Sync>(
     for &(miner, _) in MINERS {
         let mut words = ask.to_vec(alloc)?;
         words.extend_from_slice(&["--miner", miner, "--workers", workers, "--pieces", pieces])?;
-        let (writer, ended) = ran(rt, alloc, &words, NINE_BASKETS)?;
+        let (writer, ended) = ran(rt, alloc, &words, NINE_BASKETS, 7)?;
         if ended != end || writer.bytes() != want {
             return Ok(false);
         }
