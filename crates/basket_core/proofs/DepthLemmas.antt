@@ -1,31 +1,32 @@
 -- A frequent set of many items, found rank by rank.
-use Rattle.std.proofs.Common.{◌≡◌, ◌≢◌, ℕ, ◌+◌, ◌-◌, ◌<◌, ◌≤◌, Bool, true, false, ◌&&◌, List, [], ◌∷◌, ◌++◌, Ok, Err, length, take, drop, get_or, cond, eqb, ltb, refl, sym, ap, ◌∙◌, subst, inl, inr, arith, zero, suc, add-zero}
+use Rattle.std.proofs.Common.{◌≡◌, ◌≢◌, ℕ, ◌+◌, ◌-◌, ◌<◌, ◌≤◌, Bool, true, false, ◌&&◌, List, [], ◌∷◌, ◌++◌, Ok, Err, length, take, drop, get_or, cond, eqb, filter, leb, ltb, refl, sym, ap, ◌∙◌, subst, inl, inr, arith, zero, suc, add-zero}
 use Rattle.std.specs.Prelude.{nat_eq}
 use Rattle.std.specs.Ordering.{nat_cmp}
 use Rattle.std.specs.List.Sorted.{IsBinarySearchResult}
 use Rattle.std.specs.List.{Contains, IsDistinct}
-use Rattle.std.proofs.lemmas.Bool.{cases_Bool, cond-false, eqb-true, cond-true, lt-ltb, ltb-true}
-use Rattle.std.proofs.lemmas.List.{append-nil, append_assoc, take_rest, take_more, get_or_default, length-append}
+use Rattle.std.proofs.lemmas.Bool.{cases_Bool, cond-false, eqb-true, cond-true, le-leb, lt-leb, lt-ltb, ltb-true}
+use Rattle.std.proofs.lemmas.List.{append-nil, append_assoc, take_rest, take_more, get_or_default, length-append, take-append-drop}
 use Rattle.std.proofs.lemmas.List.Concat.{flat_map-append}
+use Rattle.std.proofs.lemmas.List.Elements.{filter-append}
 use Rattle.std.proofs.lemmas.List.Kept.{IsStrictlySortedBy-filter}
 use Rattle.basket_sets.specs.declared.weighted.Weighted.{Weighted}
 use Rattle.basket_core.specs.Codes.{Coding, IsCoding, frequent_of_coding, baskets_of, decoded}
 use Rattle.basket_sets.specs.Database.{weighted, MOST_WEIGHT}
-use Rattle.basket_core.specs.Depth.{HasSetOfSize, above, narrowed, narrowed_place}
+use Rattle.basket_core.specs.Depth.{HasSetOfSize, above, is_long, narrowed, narrowed_place}
 use Rattle.basket_sets.specs.Frequent.{is_frequent, counted}
-use Rattle.basket_sets.specs.Itemset.{IsRising, has, contains, rising, with_item}
+use Rattle.basket_sets.specs.Itemset.{IsRising, has, contains, with_item}
 use Rattle.basket_sets.proofs.theory.Frequent.{lists_frequent}
 use Rattle.basket_sets.proofs.theory.Members.{Member, Member-from_map, Member-filter, Member-from_filter, Member-append, Member-append_left, Member-append_right, Member-from_Contains, Contains-from_Member, sorted_append}
 use Rattle.basket_sets.specs.Support.{weight_at, support_of, total_of, all_items, items_of}
 use Rattle.basket_sets.specs.Counts.{item_supports, AllBelow}
 use Rattle.basket_sets.specs.Minimum.{meets}
 use Rattle.basket_core.proofs.theory.Decoding.{rank_from_decoded, ranks_below, decoded_sound}
-use Rattle.basket_sets.proofs.theory.Rising.{same_test, contains_each, has_each, Less-from_lt, nil_rises, cons_rises, rising-rising, first_below, rest_rises, found_at, found_nowhere, has-from_Member, Member-from_has}
-use Rattle.basket_sets.proofs.theory.Support.{support_falls, support-append, support-cons, in_items, at_least_one}
+use Rattle.basket_sets.proofs.theory.Rising.{same_test, contains_each, has_each, Less-from_lt, nil_rises, cons_rises, first_below, rest_rises, found_at, found_nowhere, has-from_Member, Member-from_has}
+use Rattle.basket_sets.proofs.theory.Support.{support_falls, support-append, support-cons, in_items, at_least_one, meets_more}
 
 -- ---- baskets kept to the ranks above one that they have
 
-pub narrowed_more : (rank : ℕ) (baskets : List Weighted) (i : ℕ) (place : Weighted) → i < length baskets → place ≡ get_or baskets i place
+narrowed_more : (rank : ℕ) (baskets : List Weighted) (i : ℕ) (place : Weighted) → i < length baskets → place ≡ get_or baskets i place
     → narrowed rank (take (i + 1) baskets) ≡ narrowed rank (take i baskets) ++ narrowed_place rank place
 narrowed_more rank baskets i place below is =
     ap (narrowed rank) (take_more baskets i place below) ∙ flat_map-append (narrowed_place rank) (take i baskets) (get_or baskets i place ∷ [])
@@ -55,14 +56,55 @@ above_is (x ∷ ranks) (suc k) rank up below is =
     next : (n : ℕ) → suc (n + 1) ≡ suc n + 1
     next n = omega arith
 
-pub found_place : (rank at : ℕ) (ranks set : List ℕ) (weight : ℕ) → IsRising ranks → IsBinarySearchResult (λ y. nat_cmp y rank) ranks (Ok at)
-    → set ≡ rising (take (length ranks - (at + 1)) (drop (at + 1) ranks)) → narrowed_place rank (weighted ranks weight) ≡ weighted set weight ∷ []
-found_place rank at ranks set weight up found made =
-    let here = found_at ranks rank at up found in
-    let kept = above_is ranks at rank up here.0 here.1 in
-    let rises = IsStrictlySortedBy-filter nat_cmp (λ other. ltb rank other) ranks up in
-    cond-true (has ranks rank) (weighted (above rank ranks) weight ∷ []) [] (has-from_Member ranks rank (subst (λ r. Member r ranks) here.1 (member_at ranks at here.0)))
-    ∙ ap (λ l. weighted l weight ∷ []) (sym (made ∙ ap rising (take_rest ranks (at + 1) ∙ sym kept) ∙ rising-rising (above rank ranks) rises))
+few_above : (rank : ℕ) (ranks : List ℕ) → length (above rank ranks) ≤ length ranks
+few_above rank [] = omega arith
+few_above rank (x ∷ ranks) = at (ltb rank x) (few_above rank ranks)
+  where
+    at : (b : Bool) → length (above rank ranks) ≤ length ranks → length (cond b (x ∷ above rank ranks) (above rank ranks)) ≤ suc (length ranks)
+    at true few = omega arith
+    at false few = omega arith
+
+fewer_above : (rank : ℕ) (ranks : List ℕ) → Member rank ranks → length (above rank ranks) < length ranks
+fewer_above rank [] m = absurd m
+fewer_above rank (x ∷ ranks) m = at (ltb rank x) refl (fewer_above rank ranks) m
+  where
+    at : (b : Bool) → ltb rank x ≡ b → (Member rank ranks → length (above rank ranks) < length ranks) → Member rank (x ∷ ranks) → length (cond b (x ∷ above rank ranks) (above rank ranks)) < suc (length ranks)
+    at true e rest (inl same) = absurd (let less = ltb-true rank x e in omega arith)
+    at true e rest (inr later) = let fewer = rest later in omega arith
+    at false e rest n = let few = few_above rank ranks in omega arith
+
+-- a basket that has the rank and so many above it, or not so many
+one_long : (least : ℕ) (kept : List ℕ) (weight : ℕ) → least ≤ length kept → filter (is_long least) (weighted kept weight ∷ []) ≡ weighted kept weight ∷ []
+one_long least kept weight many = cond-true (leb least (length kept)) (weighted kept weight ∷ []) [] (le-leb least (length kept) many)
+
+one_short : (least : ℕ) (kept : List ℕ) (weight : ℕ) → length kept < least → filter (is_long least) (weighted kept weight ∷ []) ≡ []
+one_short least kept weight few = cond-false (leb least (length kept)) (weighted kept weight ∷ []) [] (lt-leb least (length kept) few)
+
+pub too_short : (least rank : ℕ) (ranks : List ℕ) (weight : ℕ) → length ranks ≤ least → filter (is_long least) (narrowed_place rank (weighted ranks weight)) ≡ []
+too_short least rank ranks weight few = at (has ranks rank) refl
+  where
+    at : (b : Bool) → has ranks rank ≡ b → filter (is_long least) (cond b (weighted (above rank ranks) weight ∷ []) []) ≡ []
+    at true e = one_short least (above rank ranks) weight (let fewer = fewer_above rank ranks (Member-from_has ranks rank e) in omega arith)
+    at false e = refl
+
+module _ (rank at : ℕ) (ranks kept : List ℕ) (up : IsRising ranks) (found : IsBinarySearchResult (λ y. nat_cmp y rank) ranks (Ok at)) (made : kept ≡ take (length ranks - (at + 1)) (drop (at + 1) ranks)) where
+  kept_above : kept ≡ above rank ranks
+  kept_above = let here = found_at ranks rank at up found in made ∙ take_rest ranks (at + 1) ∙ sym (above_is ranks at rank up here.0 here.1)
+
+  found_place : (weight : ℕ) → narrowed_place rank (weighted ranks weight) ≡ weighted kept weight ∷ []
+  found_place weight =
+      let here = found_at ranks rank at up found in
+      cond-true (has ranks rank) (weighted (above rank ranks) weight ∷ []) [] (has-from_Member ranks rank (subst (λ r. Member r ranks) here.1 (member_at ranks at here.0)))
+      ∙ ap (λ l. weighted l weight ∷ []) (sym kept_above)
+
+  pub kept_rises : IsRising kept
+  kept_rises = subst IsRising (sym kept_above) (IsStrictlySortedBy-filter nat_cmp (λ other. ltb rank other) ranks up)
+
+  pub long_place : (least weight : ℕ) → least ≤ length kept → filter (is_long least) (narrowed_place rank (weighted ranks weight)) ≡ weighted kept weight ∷ []
+  long_place least weight many = ap (filter (is_long least)) (found_place weight) ∙ one_long least kept weight many
+
+  pub short_place : (least weight : ℕ) → length kept < least → filter (is_long least) (narrowed_place rank (weighted ranks weight)) ≡ []
+  short_place least weight few = ap (filter (is_long least)) (found_place weight) ∙ one_short least kept weight few
 
 -- the support of a rank is what was counted
 pub count_is : (baskets : List Weighted) (rank count : ℕ) → Contains (item_supports baskets) (rank, count) → support_of baskets (rank ∷ []) ≡ count
@@ -102,23 +144,61 @@ narrowed_supports rank (place ∷ baskets) more beyond =
         ∙ ap (λ b. cond b place.weight 0) (above_contains rank place.basket more beyond ∙ sym (ap (λ b. b && contains place.basket more) e))
     here false e = ap (λ b. cond (b && contains place.basket more) place.weight 0) (sym e)
 
-pub missed_place : (rank place : ℕ) (ranks : List ℕ) (weight : ℕ) → IsRising ranks → IsBinarySearchResult (λ y. nat_cmp y rank) ranks (Err place) → narrowed_place rank (weighted ranks weight) ≡ []
-missed_place rank place ranks weight up missed = elim (cases_Bool (has ranks rank)) [
+missed : (rank place : ℕ) (ranks : List ℕ) (weight : ℕ) → IsRising ranks → IsBinarySearchResult (λ y. nat_cmp y rank) ranks (Err place) → narrowed_place rank (weighted ranks weight) ≡ []
+missed rank place ranks weight up search = elim (cases_Bool (has ranks rank)) [
   | inl e ↦ absurd (let c = Contains-from_Member rank ranks (Member-from_has ranks rank e) in
-      found_nowhere ranks rank place up missed c.0 c.1 (get_or_default ranks c.0 0 rank c.1 ∙ c.2))
+      found_nowhere ranks rank place up search c.0 c.1 (get_or_default ranks c.0 0 rank c.1 ∙ c.2))
   | inr e ↦ cond-false (has ranks rank) (weighted (above rank ranks) weight ∷ []) [] e
 ]
 
+pub missed_place : (least rank place : ℕ) (ranks : List ℕ) (weight : ℕ) → IsRising ranks → IsBinarySearchResult (λ y. nat_cmp y rank) ranks (Err place)
+    → filter (is_long least) (narrowed_place rank (weighted ranks weight)) ≡ []
+missed_place least rank place ranks weight up search = ap (filter (is_long least)) (missed rank place ranks weight up search)
+
+pub left_more : (least rank : ℕ) (baskets : List Weighted) (i : ℕ) (place : Weighted) → i < length baskets → place ≡ get_or baskets i place
+    → filter (is_long least) (narrowed rank (take (i + 1) baskets)) ≡ filter (is_long least) (narrowed rank (take i baskets)) ++ filter (is_long least) (narrowed_place rank place)
+left_more least rank baskets i place below is =
+    ap (filter (is_long least)) (narrowed_more rank baskets i place below is) ∙ filter-append (is_long least) (narrowed rank (take i baskets)) (narrowed_place rank place)
+
+-- ---- some of the baskets
+
+fewer_supports : (p : Weighted → Bool) (baskets : List Weighted) (set : List ℕ) → support_of (filter p baskets) set ≤ support_of baskets set
+fewer_supports p [] set = omega arith
+fewer_supports p (place ∷ baskets) set = at (p place) (fewer_supports p baskets set)
+  where
+    at : (b : Bool) → support_of (filter p baskets) set ≤ support_of baskets set → support_of (cond b (place ∷ filter p baskets) (filter p baskets)) set ≤ support_of (place ∷ baskets) set
+    at true rest = omega (arith, support-cons place (filter p baskets) set, support-cons place baskets set, rest)
+    at false rest = omega (arith, support-cons place baskets set, rest)
+
+fewer_items : (p : Weighted → Bool) (baskets : List Weighted) (x : ℕ) → Member x (all_items (filter p baskets)) → Member x (all_items baskets)
+fewer_items p [] x m = m
+fewer_items p (place ∷ baskets) x m = at (p place) (fewer_items p baskets x) m
+  where
+    at : (b : Bool) → (Member x (all_items (filter p baskets)) → Member x (all_items baskets)) → Member x (all_items (cond b (place ∷ filter p baskets) (filter p baskets))) → Member x (all_items (place ∷ baskets))
+    at true rest n = elim (Member-append x place.basket (all_items (filter p baskets)) n) [
+      | inl here ↦ Member-append_left x place.basket (all_items baskets) here
+      | inr there ↦ Member-append_right x place.basket (all_items baskets) (rest there)
+    ]
+    at false rest n = Member-append_right x place.basket (all_items baskets) (rest n)
+
+pub weight_more : (baskets : List Weighted) (i : ℕ) (place : Weighted) → i < length baskets → place ≡ get_or baskets i place → total_of (take (i + 1) baskets) ≡ total_of (take i baskets) + place.weight
+weight_more baskets i place below is =
+    ap total_of (take_more baskets i place below) ∙ support-append (take i baskets) (get_or baskets i place ∷ []) []
+    ∙ ap (λ n. total_of (take i baskets) + n) (ap (λ p. support_of (p ∷ []) []) (sym is) ∙ support-cons place [] [] ∙ add-zero place.weight)
+
+pub weight_within : (baskets : List Weighted) (i : ℕ) → total_of (take i baskets) ≤ total_of baskets
+weight_within baskets i = let both = support-append (take i baskets) (drop i baskets) [] in let all = ap total_of (take-append-drop i baskets) in omega arith
+
 -- ---- a set that is found rank by rank
 
--- a set of so many ranks is frequent in a coding, and the baskets that have it are these, kept to the ranks above all of its own
+-- a set of so many ranks is frequent in a coding, and these are baskets that have it, kept to the ranks above all of its own
 pub record Reaches (coding : Coding) (size : ℕ) (rest : List Weighted) : Type 0 where
   pub set : List ℕ
   pub rises : IsRising set
   pub sized : length set ≡ size
   pub frequent : set ≢ [] → is_frequent coding.baskets coding.minimum set ≡ true
   pub beyond : (x y : ℕ) → Member x (all_items rest) → Member y set → y < x
-  pub supports : (more : List ℕ) → ((x y : ℕ) → Member x more → Member y set → y < x) → support_of rest more ≡ support_of coding.baskets (set ++ more)
+  pub supports : (more : List ℕ) → ((x y : ℕ) → Member x more → Member y set → y < x) → support_of rest more ≤ support_of coding.baskets (set ++ more)
 
 pub reaches_none : (coding : Coding) → Reaches coding 0 coding.baskets
 reaches_none coding = record {
@@ -127,7 +207,7 @@ reaches_none coding = record {
   sized = refl;
   frequent = λ some. absurd (some refl);
   beyond = λ x y m n. absurd n;
-  supports = λ more h. refl;
+  supports = λ more h. omega arith;
 }
 
 -- the narrowed baskets weigh no more than all
@@ -144,14 +224,14 @@ reaches_more coding size rank rest narrower r made met = subst (Reaches coding (
   set = r.set ++ rank ∷ [];
   rises = sorted_append nat_cmp r.set (rank ∷ []) r.rises (cons_rises rank [] (λ y m. absurd m) nil_rises) (λ x y m n. Less-from_lt x y (below x y m n));
   sized = length-append r.set (rank ∷ []) ∙ ap (λ n. n + 1) r.sized;
-  frequent = λ some. ap (λ n. meets coding.minimum n (total_of coding.baskets)) (sym single) ∙ met;
+  frequent = λ some. meets_more coding.minimum (support_of rest (rank ∷ [])) (support_of coding.baskets (r.set ++ rank ∷ [])) (total_of coding.baskets) single met;
   beyond = λ x y m n.
       let k = narrowed_items rank rest x m in
       elim (Member-append y r.set (rank ∷ []) n) [ inl old ↦ r.beyond x y k.1 old | inr (inl new) ↦ subst (λ z. z < x) new k.0 | inr (inr no') ↦ absurd no' ];
   supports = λ more h.
-      narrowed_supports rank rest more (λ x m. h x rank m (Member-append_right rank r.set (rank ∷ []) (inl refl)))
-      ∙ r.supports (rank ∷ more) (λ x y m n. elim m [ inl e ↦ below y x n (inl e) | inr later ↦ h x y later (Member-append_left y r.set (rank ∷ []) n) ])
-      ∙ ap (support_of coding.baskets) (sym (append_assoc r.set (rank ∷ []) more));
+      let here = narrowed_supports rank rest more (λ x m. h x rank m (Member-append_right rank r.set (rank ∷ []) (inl refl))) in
+      let there = r.supports (rank ∷ more) (λ x y m n. elim m [ inl e ↦ below y x n (inl e) | inr later ↦ h x y later (Member-append_left y r.set (rank ∷ []) n) ]) in
+      omega (arith, here, there, ap (support_of coding.baskets) (append_assoc r.set (rank ∷ []) more));
 })
   where
     here : Member rank (all_items rest)
@@ -161,8 +241,32 @@ reaches_more coding size rank rest narrower r made met = subst (Reaches coding (
     below x y m (inl e) = subst (λ z. x < z) e (r.beyond rank x here m)
     below x y m (inr n) = absurd n
 
-    single : support_of rest (rank ∷ []) ≡ support_of coding.baskets (r.set ++ rank ∷ [])
+    single : support_of rest (rank ∷ []) ≤ support_of coding.baskets (r.set ++ rank ∷ [])
     single = r.supports (rank ∷ []) (λ x y m n. below y x n m)
+
+-- some of the baskets
+reaches_fewer : (coding : Coding) (size : ℕ) (rest : List Weighted) (p : Weighted → Bool) → Reaches coding size rest → Reaches coding size (filter p rest)
+reaches_fewer coding size rest p r = record {
+  set = r.set;
+  rises = r.rises;
+  sized = r.sized;
+  frequent = r.frequent;
+  beyond = λ x y m n. r.beyond x y (fewer_items p rest x m) n;
+  supports = λ more h. let fewer = fewer_supports p rest more in omega (arith, fewer, r.supports more h);
+}
+
+-- one rank more, of which some of the baskets are left
+pub reaches_long : (coding : Coding) (size rank least : ℕ) (rest narrower : List Weighted) → Reaches coding size rest → narrower ≡ filter (is_long least) (narrowed rank rest)
+    → meets coding.minimum (support_of rest (rank ∷ [])) (total_of coding.baskets) ≡ true → Reaches coding (size + 1) narrower
+reaches_long coding size rank least rest narrower r made met =
+    subst (Reaches coding (size + 1)) (sym made) (reaches_fewer coding (size + 1) (narrowed rank rest) (is_long least) (reaches_more coding size rank rest (narrowed rank rest) r refl met))
+
+-- what is left of the baskets weighs no more than those that have the rank
+pub left_light : (rank least : ℕ) (baskets left : List Weighted) → left ≡ filter (is_long least) (narrowed rank baskets) → total_of left ≤ support_of baskets (rank ∷ [])
+left_light rank least baskets left made =
+    let same = narrowed_supports rank baskets [] (λ x m. absurd m) in
+    let fewer = fewer_supports (is_long least) (narrowed rank baskets) [] in
+    omega (arith, ap total_of made, same, fewer)
 
 -- ---- decoding keeps the size of a set
 

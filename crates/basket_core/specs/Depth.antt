@@ -1,5 +1,5 @@
 -- Frequent sets of many items.
-use Rattle.std.specs.Prelude.{◌≡◌, ◌≤◌, ℕ, ◌+◌, ◌^◌, List, [], ◌∷◌, length, filter, nat_lt, if◌then◌else◌}
+use Rattle.std.specs.Prelude.{◌≡◌, ◌≤◌, ℕ, ◌+◌, ◌^◌, List, [], ◌∷◌, Bool, length, filter, nat_le, nat_lt, if◌then◌else◌}
 use Rattle.std.specs.List.{Contains, flat_map}
 use Rattle.basket_sets.specs.declared.weighted.Weighted.{Weighted}
 use Rattle.basket_sets.specs.declared.counted.Counted.{Counted}
@@ -27,3 +27,7 @@ narrowed_place rank place = if has place.basket rank then weighted (above rank p
 -- the baskets that have a rank, kept to the ranks above it
 abbrev pub narrowed : ℕ → List Weighted → List Weighted
 narrowed rank baskets = flat_map (narrowed_place rank) baskets
+
+-- whether a basket has at least so many ranks
+abbrev pub is_long : ℕ → Weighted → Bool
+is_long least place = nat_le least (length place.basket)

@@ -1,29 +1,32 @@
-use Rattle.std.proofs.Common.{◌+◌, ◌-◌, ◌++◌, ◌∷◌, [], Ok, Err, length, take, drop, sym, ap, subst, ◌∙◌, append-nil}
-use Rattle.std.specs.List.Sorted.{IsBinarySearchResult}
-use Rattle.std.specs.Ordering.{nat_cmp}
-use Rattle.basket_sets.specs.Itemset.{rising}
+use Rattle.std.proofs.Common.{◌≡◌, ◌++◌, ◌∷◌, [], filter, refl, take, sym, ap, ◌∙◌, append-nil}
+use Rattle.std.proofs.lemmas.List.{take_all}
 use Rattle.basket_sets.specs.Database.{weighted}
-use Rattle.basket_core.specs.Depth.{narrowed}
-use Rattle.basket_core.proofs.DepthLemmas.{narrowed_more, found_place, missed_place}
+use Rattle.basket_sets.proofs.theory.Rising.{rising-rising}
+use Rattle.basket_core.specs.Depth.{is_long, narrowed, narrowed_place}
+use Rattle.basket_core.proofs.DepthLemmas.{left_more}
 use Rattle.basket_core.proofs.depth.narrowed_to.Goals as goal
-use Rattle.basket_core.proofs.depth.narrowed_to.Goals.{in-Ok+in_ok-from_items+in_ok-push, in_default}
+use Rattle.basket_core.proofs.depth.narrowed_to.Goals.{in-Some+in_ok-from_items+in_ok-push, in_default}
 
 pub loop-place-preserved : goal.loop-place-preserved
 loop-place-preserved c =
     let place = c.place-item.result in
     let rank = c.args.rank in
-    let before = narrowed rank (take c.loop-place.place-index c.args.baskets.now) in
-    let more = narrowed_more rank c.args.baskets.now c.loop-place.place-index place c.loop-place-test.true c.place-item.is in
-    let same = c.items-ranks.ensures.items in
-    let up = c.items-ranks.ensures.rising in
-    elim c.match-binary_search.branch [
-      | in-Ok+in_ok-from_items+in_ok-push w ↦
-          (ap (λ v. v.items) w.rest-is ∙ w.in_ok-push.ensures.items ∙ ap (λ l. l ++ weighted w.in_ok-from_items.field-0 place.weight ∷ []) c.loop-place.invariant
-          ∙ sym (more ∙ ap (λ l. before ++ l) (found_place rank w.in-Ok.at place.basket w.in_ok-from_items.field-0 place.weight up
-          (subst (λ l. IsBinarySearchResult (λ y. nat_cmp y rank) l (Ok w.in-Ok.at)) same w.in-Ok.ensures.position)
-          (w.in_ok-from_items.ensures.ok ∙ ap (λ l. rising (take (length l - (w.in-Ok.at + 1)) (drop (w.in-Ok.at + 1) l))) same))))
+    let least = c.args.least in
+    let before = filter (is_long least) (narrowed rank (take c.loop-place.place-index c.args.baskets.now)) in
+    let more = left_more least rank c.args.baskets.now c.loop-place.place-index place c.loop-place-test.true c.place-item.is in
+    let same = c.items.ensures.items in
+    elim c.match-ranks_above.branch [
+      | in-Some+in_ok-from_items+in_ok-push w ↦
+          (let set = w.in_ok-from_items.field-0 in
+          let kept : set ≡ w.in-Some.above.now = w.in_ok-from_items.ensures.ok ∙ rising-rising w.in-Some.above.now w.in-Some.ensures.some.0 in
+          let long : filter (is_long least) (narrowed_place rank place) ≡ weighted set place.weight ∷ []
+          = ap (λ l. filter (is_long least) (narrowed_place rank (weighted l place.weight))) (sym same) ∙ w.in-Some.ensures.some.1 place.weight ∙ ap (λ l. weighted l place.weight ∷ []) (sym kept) in
+          ap (λ v. v.items) w.rest-is ∙ w.in_ok-push.ensures.items ∙ ap (λ l. l ++ weighted set place.weight ∷ []) c.loop-place.invariant ∙ sym (more ∙ ap (λ l. before ++ l) long))
       | in_default w ↦
-          (ap (λ v. v.items) w.rest-is ∙ c.loop-place.invariant
-          ∙ sym (more ∙ ap (λ l. before ++ l) (missed_place rank w.in_default.field-0 place.basket place.weight up
-          (subst (λ l. IsBinarySearchResult (λ y. nat_cmp y rank) l (Err w.in_default.field-0)) same w.in_default.ensures.position)) ∙ append-nil before))
+          (let short : filter (is_long least) (narrowed_place rank place) ≡ []
+          = ap (λ l. filter (is_long least) (narrowed_place rank (weighted l place.weight))) (sym same) ∙ w.in_default.ensures.none refl place.weight in
+          ap (λ v. v.items) w.rest-is ∙ c.loop-place.invariant ∙ sym (more ∙ ap (λ l. before ++ l) short ∙ append-nil before))
     ]
+
+pub returns : goal.returns
+returns c = c.loop-place.invariant ∙ ap (λ l. filter (is_long c.args.least) (narrowed c.args.rank l)) (take_all c.loop-place.place-index c.args.baskets.now c.loop-place-test.false)
