@@ -1,11 +1,10 @@
 -- Counts of pairs, one basket after another.
-use Rattle.std.proofs.Common.{◌≡◌, ◌≢◌, ℕ, ◌+◌, ◌-◌, ◌<◌, ◌≤◌, Bool, true, false, ◌&&◌, ◌||◌, List, [], ◌∷◌, ◌++◌, append-nil, length, take, drop, get_or, map, set, cond, eqb, leb, refl, sym, ap, ◌∙◌, subst, inl, inr, arith, zero, suc, add-zero, zero-add}
+use Rattle.std.proofs.Common.{◌≡◌, ◌≢◌, ℕ, ◌+◌, ◌-◌, ◌<◌, ◌≤◌, Bool, true, false, ◌&&◌, ◌||◌, List, [], ◌∷◌, length, take, drop, get_or, map, set, cond, eqb, refl, sym, ap, ◌∙◌, subst, inl, inr, arith, zero, suc, add-zero, zero-add}
 use borrow.Rule.Slice.PartMut.{put_mid}
-use Rattle.std.proofs.lemmas.Bool.{cases_Bool, cases_eq, cases_lt, eq-eqb, ne_eqb, le-leb, lt-leb, leb-true, lt-ltb}
+use Rattle.std.proofs.lemmas.Bool.{cases_Bool, cases_eq, cases_lt, eq-eqb, ne_eqb, lt-ltb}
 use Rattle.std.specs.Prelude.{IsTrue, replicate}
 use Rattle.std.specs.List.{filter, range_with_len}
-use Rattle.std.proofs.lemmas.List.{ext_get_or, get_or-drop, get_or-map, get_or-replicate, get_or-set_same, get_or-set_other, get_or-take, get_or_default, length-drop, length-map, length-replicate, length-take-le, map-append}
-use Rattle.std.proofs.lemmas.List.Elements.{filter-append}
+use Rattle.std.proofs.lemmas.List.{ext_get_or, get_or-drop, get_or-map, get_or-replicate, get_or-set_same, get_or-set_other, get_or-take, get_or_default, length-drop, length-map, length-replicate, length-take-le}
 use Rattle.std.proofs.lemmas.List.Sums.{sum_by_more, sum_by_more_le}
 use Rattle.std.proofs.lemmas.Slice.{between-put_mid, drop-put_mid, take-put_mid_below}
 use Rattle.basket_sets.specs.declared.weighted.Weighted.{Weighted}
@@ -19,7 +18,7 @@ use Rattle.basket_sets.proofs.theory.Support.{support_falls}
 use Rattle.mine_classes.specs.Conditional.{is_kept}
 use Rattle.mine_classes.specs.Pairs.{WithBasket, is_met, pairs_of}
 use Rattle.mine_apriori.specs.Triangle.{AreSupports, HaveRows, WithPairs, WithSupports, all_pairs, place_of}
-use Rattle.mine_apriori.proofs.PlaceLemmas.{find_pair, pair_at, pair_of, range_more, row_before}
+use Rattle.mine_apriori.proofs.PlaceLemmas.{find_pair, pair_at, pair_of, row_before}
 
 pub below_at : (count : ℕ) (ranks : List ℕ) (k : ℕ) → AllBelow count ranks → k < length ranks → get_or ranks k 0 < count
 below_at count ranks k below here = below (get_or ranks k 0) (has_place ranks k here)
@@ -234,34 +233,6 @@ filter_same p q (x ∷ xs) same = ap (λ b. cond b (x ∷ filter p xs) (filter p
 map_same : (f g : ℕ → ℕ × ℕ) (xs : List ℕ) → ((x : ℕ) → Member x xs → f x ≡ g x) → map f xs ≡ map g xs
 map_same f g [] same = refl
 map_same f g (x ∷ xs) same = ap (λ y. y ∷ map f xs) (same x (inl refl)) ∙ ap (λ l. g x ∷ l) (map_same f g xs (λ y m. same y (inr m)))
-
-pub least_met : (least sum : ℕ) → 1 ≤ least → leb least sum ≡ is_met least sum
-least_met least sum some = one_test (leb 1 sum) (leb least sum) (λ h. let high = leb-true least sum h in le-leb 1 sum (omega arith))
-  where
-    one_test : (a b : Bool) → (b ≡ true → a ≡ true) → b ≡ (a && b)
-    one_test true b h = refl
-    one_test false true h = sym (h refl)
-    one_test false false h = refl
-
--- the ranks that are met, up to one more
-module _ (least : ℕ) (row : List ℕ) (rank : ℕ) (some : 1 ≤ least) where
-  abbrev passes : ℕ → Bool
-  passes other = is_met least (get_or row other 0)
-
-  abbrev with : ℕ → ℕ × ℕ
-  with other = (other, get_or row other 0)
-
-  met_more : map with (filter passes (range_with_len 0 (rank + 1))) ≡ map with (filter passes (range_with_len 0 rank)) ++ map with (cond (passes rank) (rank ∷ []) [])
-  met_more = ap (λ l. map with (filter passes l)) (range_more 0 rank rank (omega arith))
-      ∙ ap (map with) (filter-append passes (range_with_len 0 rank) (rank ∷ []))
-      ∙ map-append with (filter passes (range_with_len 0 rank)) (cond (passes rank) (rank ∷ []) [])
-
-  pub met_yes : least ≤ get_or row rank 0 → map with (filter passes (range_with_len 0 rank)) ++ with rank ∷ [] ≡ map with (filter passes (range_with_len 0 (rank + 1)))
-  met_yes high = sym (met_more ∙ ap (λ b. map with (filter passes (range_with_len 0 rank)) ++ map with (cond b (rank ∷ []) [])) (sym (least_met least (get_or row rank 0) some) ∙ le-leb least (get_or row rank 0) high))
-
-  pub met_no : get_or row rank 0 < least → map with (filter passes (range_with_len 0 rank)) ≡ map with (filter passes (range_with_len 0 (rank + 1)))
-  met_no low = sym (met_more ∙ ap (λ b. map with (filter passes (range_with_len 0 rank)) ++ map with (cond b (rank ∷ []) [])) (sym (least_met least (get_or row rank 0) some) ∙ lt-leb least (get_or row rank 0) low)
-      ∙ append-nil (map with (filter passes (range_with_len 0 rank))))
 
 -- the supports of the pairs of a rank
 module _ (baskets : List Weighted) (count : ℕ) (supports : List ℕ) (greater : ℕ) (are : AreSupports baskets count supports) (below : greater < count) where

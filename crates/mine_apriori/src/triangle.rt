@@ -11,6 +11,7 @@ ghost use Rattle.mine_apriori.specs.Pairs.{ArePairs, lists_of};
 ghost use Rattle.mine_apriori.specs.Triangle.{AreSupports, HaveCounts, HaveRows, WithPairs, WithSupports, all_pairs};
 
 use basket_core::{Coded, Weighted};
+use mine_classes::met_in_order;
 use std::alloc::{AllocError, Global};
 use std::marker::Model;
 
@@ -109,24 +110,8 @@ pub fn pairs_of_supports(
     let mut later = supports;
     for rank in 0..coded.ranks() {
         let (row, rest) = later.split_at(rank as usize);
-        lists.push(met(alloc, row, least)?)?;
+        lists.push(met_in_order(alloc, row, least)?)?;
         later = rest;
     }
     Ok(lists)
-}
-
-/// The ranks whose counts are at least so much, with their counts.
-fn met(alloc: Global, row: &[u64], least: u64) -> Result<Vec<(u32, u64)>, AllocError>
-    requires few { length row.now < 2 ^ 32 }
-    requires some { 1 ≤ least }
-    ensures { IfOk result (λ pairs. pairs.items
-        ≡ map (λ rank. (rank, slice_index row.now rank)) (filter (λ rank. is_met least (slice_index row.now rank)) (range_with_len 0 (length row.now)))) }
-{
-    let mut pairs = Vec::new(alloc);
-    for (rank, count) in row.iter().enumerate() {
-        if *count >= least {
-            pairs.push((rank as u32, *count))?;
-        }
-    }
-    Ok(pairs)
 }

@@ -31,9 +31,9 @@ loop-rank-preserved c =
     let pairs = row_pairs coding.baskets (length coding.items) supports rank c.requires.supports (omega (arith, c.loop-rank-test.true, c.ranks-rank-end.ensures)) least c.split_at.result.0.now
     (c.split_at.ensures.front ∙ ap (take rank) later) in
     record {
-      lists = ap lists_of c.in_ok-push.ensures.items ∙ map-append (λ (v : Vec (ℕ × ℕ) Global). v.items) c.loop-rank.lists.items (c.in_ok-met.field-0 ∷ [])
-          ∙ ap (λ l. l ++ c.in_ok-met.field-0.items ∷ []) c.loop-rank.invariant.lists
-          ∙ ap (λ l. pairs_by_greater coding.baskets least rank ++ l ∷ []) (c.in_ok-met.ensures ∙ pairs)
+      lists = ap lists_of c.in_ok-push.ensures.items ∙ map-append (λ (v : Vec (ℕ × ℕ) Global). v.items) c.loop-rank.lists.items (c.in_ok-met_in_order.field-0 ∷ [])
+          ∙ ap (λ l. l ++ c.in_ok-met_in_order.field-0.items ∷ []) c.loop-rank.invariant.lists
+          ∙ ap (λ l. pairs_by_greater coding.baskets least rank ++ l ∷ []) (c.in_ok-met_in_order.ensures ∙ pairs)
           ∙ sym (map-range_with_len_more (pairs_of coding.baskets least) 0 rank rank (omega arith));
       later = c.split_at.ensures.back ∙ ap (drop rank) later ∙ drop-drop rank start supports ∙ ap (λ n. drop n supports) (sym (count_more rank));
     }
