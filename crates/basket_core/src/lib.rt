@@ -10,9 +10,9 @@ mod fraction;
 mod frequent;
 mod keys;
 pub mod laws;
+mod parts;
 mod ranks;
 mod shards;
-mod sizes;
 mod tally;
 pub mod worked;
 
