@@ -9,6 +9,7 @@ mod TreeCountLemmas
 mod StraightLemmas
 mod InnerLemmas
 mod TreesLemmas
+mod NameLemmas
 mod PathLemmas
 mod ChoiceLemmas
 mod WordLemmas

@@ -117,21 +117,11 @@ word_sum f count (word ∷ words) =
 pub words_total : (count : ℕ) (words : List Word) → total_of (word_places count words) ≡ sum_by (λ (word : Word). word.weight) words
 words_total count words = word_sum (weight_at []) count words
 
-one_rank : (a : Bool) (weight : ℕ) → cond (a && true) weight 0 ≡ cond a weight 0
-one_rank true weight = refl
-one_rank false weight = refl
-
 two_ranks : (a b : Bool) (weight : ℕ) → cond (a && (b && true)) weight 0 ≡ cond b (cond a weight 0) 0
 two_ranks true true weight = refl
 two_ranks true false weight = refl
 two_ranks false true weight = refl
 two_ranks false false weight = refl
-
-pub rank_support : (count rank : ℕ) (words : List Word) → rank < count → support_of (word_places count words) (rank ∷ []) ≡ sum_by (rank_weight rank) words
-rank_support count rank words low =
-    word_sum (weight_at (rank ∷ [])) count words
-    ∙ sum_by-same (λ (w : Word). weight_at (rank ∷ []) (word_place count w)) (rank_weight rank) words (λ w.
-    one_rank (has (ranks_in count w.bits) rank) w.weight ∙ ap (λ b. cond b w.weight 0) (has_in count w.bits rank low))
 
 pub pair_support : (count rank other : ℕ) (words : List Word) → rank < count → other < rank
     → support_of (word_places count words) (other ∷ rank ∷ []) ≡ sum_by (pair_weight rank other) words

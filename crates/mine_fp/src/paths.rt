@@ -72,17 +72,6 @@ impl Paths {
         }
     }
 
-    /// The support of a rank.
-    pub fn support(&self, rank: u32) -> u64
-        requires { rank < self.now.ranks }
-        ensures { result ≡ support_of self.now.baskets (rank ∷ []) }
-    {
-        match &self.form {
-            Form::Runs(runs) => weight_of_rank(runs, rank),
-            Form::Words(words) => words.support(rank),
-        }
-    }
-
     /// Whether the prefix tree of the baskets is a single branch.
     pub fn is_branch(&self) -> bool
         requires { AreRankBaskets self.now }
@@ -189,7 +178,7 @@ fn ranks_of(alloc: Global, pairs: &[(u32, u64)]) -> Result<Vec<u32>, AllocError>
 }
 
 /// The support of a rank, which is what its runs weigh.
-fn weight_of_rank(runs: &Runs, rank: u32) -> u64
+pub fn weight_of_rank(runs: &Runs, rank: u32) -> u64
     requires { rank < runs.now.ranks }
     ensures { result ≡ support_of runs.now.baskets (rank ∷ []) }
 {

@@ -64,14 +64,6 @@ impl Words {
         self.count
     }
 
-    /// The support of a rank.
-    pub fn support(&self, rank: u32) -> u64
-        requires { rank < self.now.ranks }
-        ensures { result ≡ support_of self.now.baskets (rank ∷ []) }
-    {
-        weight_with(&self.words, rank)
-    }
-
     /// Whether the prefix tree of the baskets is a single branch.
     pub fn is_branch(&self) -> bool
         ensures { result ≡ is_branch self.now.baskets }
@@ -163,21 +155,6 @@ fn bits_kept(word: &Word, kept: &[u32]) -> u64
         }
     }
     bits
-}
-
-/// What the words weigh that have a rank.
-fn weight_with(words: &[Word], rank: u32) -> u64
-    requires rank { rank < WORD_RANKS }
-    requires light { sum_by (λ (word : Bits). word.weight) words.now ≤ MOST_WEIGHT }
-    ensures { result ≡ sum_by (rank_weight rank) words.now }
-{
-    let mut weight = 0;
-    for word in words {
-        if word.has(rank) {
-            weight += word.weight;
-        }
-    }
-    weight
 }
 
 /// Whether each word has all ranks below its own.
