@@ -14,3 +14,4 @@ mod PathLemmas
 mod ChoiceLemmas
 mod WordLemmas
 mod LeafLemmas
+mod ShiftLemmas

@@ -16,6 +16,7 @@ ghost use Rattle.mine_classes.specs.Words.{has_rank, ranks_in, word_places};
 ghost use Rattle.mine_fp.specs.Trees.{is_branch};
 ghost use Rattle.mine_fp.specs.Words.{pair_weight, rank_weight};
 
+use crate::shift::{shift_all, shifts_of};
 use mine_classes::words::{self, WORD_RANKS, Word, bit_of};
 use mine_classes::{Ordered, Span, met_in_order};
 use std::alloc::{AllocError, Global};
@@ -77,6 +78,9 @@ impl Words {
         requires { rank < self.now.ranks }
         ensures { IfOk result (λ pairs. pairs.items ≡ pairs_of self.now.baskets least rank) }
     {
+        if rank == 0 {
+            return Ok(Vec::new(alloc));
+        }
         let sums = pair_sums(&self.words, rank);
         met_in_order(alloc, &sums[..rank as usize], least)
     }
@@ -93,8 +97,8 @@ impl Words {
     {
         let count = kept.len() as u32;
         let words = words_below(alloc, &self.words, rank, kept)?;
-        // Where no lower rank was dropped, the words are in order as they were.
-        if count == rank || words.len() < 2 {
+        // Where none or only the greatest of the lower ranks were dropped, they are as they were.
+        if count == rank || are_in_order(&words) {
             return Ok(Words { count, words });
         }
         let words = in_order(alloc, words)?;
@@ -118,6 +122,11 @@ fn words_of(alloc: Global, ranks: &[u32], baskets: &[Span]) -> Result<Vec<Word>,
     Ok(words)
 }
 
+/// Whether the words are in order, no two of them equal.
+fn are_in_order(words: &[Word]) -> bool {
+    words.is_sorted_by(|word, next| word.bits < next.bits)
+}
+
 /// The words in order, equal ones merged.
 fn in_order(alloc: Global, mut words: Vec<Word>) -> Result<Vec<Word>, AllocError>
     requires some { All (λ (word : Bits). 1 ≤ word.weight) words.items }
@@ -138,21 +147,6 @@ fn bits_of(basket: &[u32]) -> u64
     let mut bits = 0;
     for rank in basket {
         bits |= bit_of(*rank as usize);
-    }
-    bits
-}
-
-/// The bits of the places in the list of those ranks there that the word has.
-fn bits_kept(word: &Word, kept: &[u32]) -> u64
-    requires few { length kept.now ≤ WORD_RANKS }
-    requires below { AllBelow WORD_RANKS kept.now }
-    ensures { (place : ℕ) → place < length kept.now → has_rank result place ≡ has_rank word.now.bits (slice_index kept.now place) }
-{
-    let mut bits = 0;
-    for (place, rank) in kept.iter().enumerate() {
-        if word.has(*rank) {
-            bits |= bit_of(place);
-        }
     }
     bits
 }
@@ -205,10 +199,17 @@ fn add_ranks(sums: &mut [u64; WORD_RANKS], word: &Word, count: u32)
     ensures { (rank : ℕ) → rank < count → slice_index sums.new rank ≡ slice_index sums.old rank + rank_weight rank word.now }
 {
     for rank in 0..count {
-        if word.has(rank) {
-            sums[rank as usize] += word.weight;
-        }
+        sums[rank as usize] += weight_at(word, rank);
     }
+}
+
+/// What the word weighs where it has the rank, else 0, without a branch.
+fn weight_at(word: &Word, rank: u32) -> u64
+    requires rank { rank < WORD_RANKS }
+    requires light { word.now.weight ≤ MOST_WEIGHT }
+    ensures { result ≡ rank_weight rank word.now }
+{
+    word.weight * ((word.bits >> (63 - rank)) % 2)
 }
 
 /// The words that have a rank, with the bits of the kept ranks. Equal neighbours are merged.
@@ -229,10 +230,11 @@ fn words_below(
     ensures weights { IfOk result (λ below. (count : ℕ) → rank < count
         → HaveSameWeights (flat_map (kept_place (has kept.now) rank) (word_places count words.now)) (map (decoded_place kept.now) (word_places (length kept.now) below.items))) }
 {
+    let shifts = shifts_of(alloc, kept)?;
     let mut below = Vec::with_capacity(alloc, words.len())?;
     for word in words {
         if word.has(rank) {
-            let bits = bits_kept(word, kept);
+            let bits = shift_all(word.bits, &shifts);
             let weight = word.weight;
             words::add(&mut below, Word { bits, weight })?;
         }
