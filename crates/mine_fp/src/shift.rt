@@ -1,5 +1,5 @@
 //! Shifts that bring the bits of kept ranks to their places.
-ghost use Rattle.std.specs.Prelude.{◌≡◌, ◌<◌, ◌&&◌, ◌++◌, [], ◌∷◌, ℕ, All, IfOk, length, nat_lt, slice_index};
+ghost use Rattle.std.specs.Prelude.{◌≡◌, ◌<◌, ◌&&◌, ◌++◌, [], ◌∷◌, ℕ, All, IfOk, length, map, nat_lt, slice_index};
 ghost use Rattle.std.specs.List.{list_any};
 ghost use Rattle.basket_sets.specs.Counts.{AllBelow};
 ghost use Rattle.basket_sets.specs.Itemset.{IsRising};
@@ -18,16 +18,16 @@ pub struct Shift {
     places: u64,
 }
 
-/// The shifts of kept ranks: one for each run of neighbours.
-pub fn shifts_of(alloc: Global, kept: &[u32]) -> Result<Vec<Shift>, AllocError>
-    requires rises { IsRising kept.now }
-    requires below { AllBelow WORD_RANKS kept.now }
-    ensures { IfOk result (λ shifts. AreShifts kept.now (length kept.now) shifts.items) }
+/// The shifts of the ranks of some pairs, which are kept: one for each run of neighbours.
+pub fn shifts_of(alloc: Global, pairs: &[(u32, u64)]) -> Result<Vec<Shift>, AllocError>
+    requires rises { IsRising (map (λ pair. pair.0) pairs.now) }
+    requires below { AllBelow WORD_RANKS (map (λ pair. pair.0) pairs.now) }
+    ensures { IfOk result (λ shifts. AreShifts (map (λ pair. pair.0) pairs.now) (length (map (λ pair. pair.0) pairs.now)) shifts.items) }
 {
     let mut shifts = Vec::new(alloc);
     let mut last = Shift { by: 0, places: 0 };
-    for (place, rank) in kept.iter().enumerate() {
-        let by = *rank - place as u32;
+    for (place, pair) in pairs.iter().enumerate() {
+        let by = pair.0 - place as u32;
         if by != last.by {
             shifts.push(last)?;
             last = Shift { by, places: 0 };

@@ -85,18 +85,20 @@ impl Words {
         met_in_order(alloc, &sums[..rank as usize], least)
     }
 
-    /// The baskets that have a rank, kept to some lower ranks, which are numbered anew.
-    pub fn below(&self, alloc: Global, rank: u32, kept: &[u32]) -> Result<Self, AllocError>
+    /// The baskets that have a rank, kept to the ranks of some pairs, which are lower and are numbered
+    /// anew.
+    pub fn below(&self, alloc: Global, rank: u32, pairs: &[(u32, u64)]) -> Result<Self, AllocError>
         requires rank { rank < self.now.ranks }
-        requires rises { IsRising kept.now }
-        requires below { AllBelow rank kept.now }
-        requires few { length kept.now ≤ rank }
-        ensures ranks { IfOk result (λ below. below.ranks ≡ length kept.now) }
+        requires rises { IsRising (map (λ pair. pair.0) pairs.now) }
+        requires below { AllBelow rank (map (λ pair. pair.0) pairs.now) }
+        requires few { length pairs.now ≤ rank }
+        ensures ranks { IfOk result (λ below. below.ranks ≡ length pairs.now) }
         ensures ranked { IfOk result AreRankBaskets }
-        ensures weights { IfOk result (λ below. HaveSameWeights (flat_map (kept_place (has kept.now) rank) self.now.baskets) (map (decoded_place kept.now) below.baskets)) }
+        ensures weights { IfOk result (λ below. HaveSameWeights (flat_map (kept_place (has (map (λ pair. pair.0) pairs.now)) rank) self.now.baskets)
+            (map (decoded_place (map (λ pair. pair.0) pairs.now)) below.baskets)) }
     {
-        let count = kept.len() as u32;
-        let words = words_below(alloc, &self.words, rank, kept)?;
+        let count = pairs.len() as u32;
+        let words = words_below(alloc, &self.words, rank, pairs)?;
         // Where none or only the greatest of the lower ranks were dropped, they are as they were.
         if count == rank || are_in_order(&words) {
             return Ok(Words { count, words });
@@ -212,25 +214,26 @@ fn weight_at(word: &Word, rank: u32) -> u64
     word.weight * ((word.bits >> (63 - rank)) % 2)
 }
 
-/// The words that have a rank, with the bits of the kept ranks. Equal neighbours are merged.
+/// The words that have a rank, with the bits of the ranks of some pairs. Equal neighbours are merged.
 fn words_below(
     alloc: Global,
     words: &[Word],
     rank: u32,
-    kept: &[u32],
+    pairs: &[(u32, u64)],
 ) -> Result<Vec<Word>, AllocError>
     requires rank { rank < WORD_RANKS }
-    requires few { length kept.now ≤ WORD_RANKS }
-    requires rises { IsRising kept.now }
-    requires below { AllBelow rank kept.now }
+    requires few { length pairs.now ≤ WORD_RANKS }
+    requires rises { IsRising (map (λ pair. pair.0) pairs.now) }
+    requires below { AllBelow rank (map (λ pair. pair.0) pairs.now) }
     requires some { All (λ (word : Bits). 1 ≤ word.weight) words.now }
     requires light { sum_by (λ (word : Bits). word.weight) words.now ≤ MOST_WEIGHT }
     ensures some { IfOk result (λ below. All (λ (word : Bits). 1 ≤ word.weight) below.items) }
     ensures light { IfOk result (λ below. sum_by (λ (word : Bits). word.weight) below.items ≤ MOST_WEIGHT) }
     ensures weights { IfOk result (λ below. (count : ℕ) → rank < count
-        → HaveSameWeights (flat_map (kept_place (has kept.now) rank) (word_places count words.now)) (map (decoded_place kept.now) (word_places (length kept.now) below.items))) }
+        → HaveSameWeights (flat_map (kept_place (has (map (λ pair. pair.0) pairs.now)) rank) (word_places count words.now))
+        (map (decoded_place (map (λ pair. pair.0) pairs.now)) (word_places (length (map (λ pair. pair.0) pairs.now)) below.items))) }
 {
-    let shifts = shifts_of(alloc, kept)?;
+    let shifts = shifts_of(alloc, pairs)?;
     let mut below = Vec::with_capacity(alloc, words.len())?;
     for word in words {
         if word.has(rank) {
