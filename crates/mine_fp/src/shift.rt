@@ -1,5 +1,5 @@
 //! Shifts that bring the bits of kept ranks to their places.
-ghost use Rattle.std.specs.Prelude.{◌≡◌, ◌<◌, ◌&&◌, ◌++◌, [], ◌∷◌, ℕ, All, IfOk, length, map, nat_lt, slice_index};
+ghost use Rattle.std.specs.Prelude.{◌≡◌, ◌<◌, ℕ, All, IfOk, length, map};
 ghost use Rattle.std.specs.List.{list_any};
 ghost use Rattle.basket_sets.specs.Counts.{AllBelow};
 ghost use Rattle.basket_sets.specs.Itemset.{IsRising};
