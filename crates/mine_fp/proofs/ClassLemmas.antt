@@ -16,7 +16,7 @@ use Rattle.basket_sets.specs.declared.minimum.Minimum.TheVariants.{Count}
 use Rattle.basket_sets.specs.Counts.{AllBelow}
 use Rattle.basket_sets.specs.Database.{HasWeight}
 use Rattle.basket_sets.specs.Frequent.{IsNonemptySet, ListsOnce, counted, frequent_of, is_frequent}
-use Rattle.basket_sets.specs.Itemset.{rising}
+use Rattle.basket_sets.specs.Itemset.{IsRising, with_item}
 use Rattle.basket_sets.specs.Support.{support_of}
 use Rattle.basket_sets.proofs.theory.Frequent.{frequent_once, once_is_as_long}
 use Rattle.basket_sets.proofs.theory.Members.{Member, All-from_Member, Member-append, Member-filter, Member-map, Member-from_Contains, Contains-from_Member, at_Member}
@@ -26,8 +26,8 @@ use Rattle.mine_classes.specs.Mined.{ListsHaveClassSize}
 use Rattle.mine_classes.specs.Ordered.{AreRankBaskets, IsRankBasket, RankBaskets}
 use Rattle.mine_classes.specs.Pairs.{kept_ranks}
 use Rattle.mine_fp.specs.declared.level.Level.{Level}
-use Rattle.mine_fp.specs.Level.{IsBelow, IsLevel, ListsAllAsItems, ListsClassAsItems, as_items}
-use Rattle.mine_fp.proofs.LevelLemmas.{inner_as_items, kept_rises, kept_short, length-decoded}
+use Rattle.mine_fp.specs.Level.{IsBelow, ListsAllAsItems, ListsClassAsItems, as_items, items_of}
+use Rattle.mine_fp.proofs.LevelLemmas.{alone_as_items, inner_as_items, kept_rises, kept_short, length-decoded, named_ranks}
 
 -- ---- lists of classes
 
@@ -112,7 +112,7 @@ listed_long sized baskets minimum rank list lists =
     sym (length-map list (decoded_set []))
     ∙ sized (record { items = []; minimum = minimum; baskets = baskets }) rank (map (decoded_set []) list) (record { sets = list; listed = lists; decoded = refl })
 
-module _ (level : Level) (rank : ℕ) (inner : Level) (is : IsBelow level rank (get_or level.names.items rank 0 ∷ level.suffix.items) inner)
+module _ (level : Level) (rank : ℕ) (inner : Level) (is : IsBelow level rank inner)
     (coded : ClassesByCodings) (met : is_frequent level.paths.baskets (Count level.least) (rank ∷ []) ≡ true) where
   abbrev kept : List ℕ
   kept = kept_ranks level.paths.baskets level.least rank
@@ -136,19 +136,25 @@ module _ (level : Level) (rank : ℕ) (inner : Level) (is : IsBelow level rank (
   sound : (list : List Counted) → ListsOnce inner.paths.baskets (Count inner.least) list → AllByRecursion IsFrequentWithin list
   sound list once = recursion_from_All IsFrequentWithin list (own_least list once).sound
 
+  inner_items : items_of inner ≡ map (λ other. get_or (items_of level) other 0) kept
+  inner_items = ap (map (λ (name : ℕ × ℕ). name.0)) is.names ∙ named_ranks (items_of level) level.paths.baskets level.least rank
+
   each_as_items : (list : List Counted) → AllByRecursion IsFrequentWithin list
-      → map (as_items level.names.items level.suffix.items) (map (with_rank rank) (map (decoded_set kept) list)) ≡ map (as_items inner.names.items inner.suffix.items) list
+      → map (as_items (items_of level) level.suffix) (map (with_rank rank) (map (decoded_set kept) list)) ≡ map (as_items (items_of inner) inner.suffix) list
   each_as_items [] all = refl
   each_as_items (c ∷ list) all =
-      let one = inner_as_items level.names.items kept level.suffix.items rank c (ranks_below coding is.coding c.set all.0.1)
-      ∙ (λ i. as_items (sym is.names i) (sym is.suffix i) c) in
+      let one = inner_as_items (items_of level) kept level.suffix rank c (ranks_below coding is.coding c.set all.0.1)
+      ∙ (λ i. as_items (sym inner_items i) (sym is.suffix i) c) in
       λ i. one i ∷ each_as_items list all.1 i
 
   -- the class as items
-  pub class_as_items : (list : List Counted) → ListsOnce inner.paths.baskets (Count inner.least) list
-      → map (as_items level.names.items level.suffix.items) (class_with list)
-      ≡ record { set = rising (get_or level.names.items rank 0 ∷ level.suffix.items); count = support_of level.paths.baskets (rank ∷ []) } ∷ map (as_items inner.names.items inner.suffix.items) list
-  class_as_items list once = ap (λ l. as_items level.names.items level.suffix.items (record { set = rank ∷ []; count = support_of level.paths.baskets (rank ∷ []) }) ∷ l) (each_as_items list (sound list once))
+  pub class_as_items : IsRising level.suffix → (list : List Counted) → ListsOnce inner.paths.baskets (Count inner.least) list
+      → map (as_items (items_of level) level.suffix) (class_with list)
+      ≡ record { set = with_item (get_or (items_of level) rank 0) level.suffix; count = support_of level.paths.baskets (rank ∷ []) } ∷ map (as_items (items_of inner) inner.suffix) list
+  class_as_items up list once =
+      let support = support_of level.paths.baskets (rank ∷ []) in
+      let alone = alone_as_items (items_of level) level.suffix rank support up in
+      λ i. alone i ∷ each_as_items list (sound list once) i
 
   pub class_long : ListsHaveClassSize → length (class_of level.paths.baskets (Count level.least) rank) ≡ length (frequent_of inner.paths.baskets (Count inner.least)) + 1
   class_long sized =
@@ -173,15 +179,15 @@ module _ (level : Level) (rank : ℕ) (inner : Level) (is : IsBelow level rank (
       subst (HasSetOfSize (class_of level.paths.baskets (Count level.least) rank)) long (class_of_size level.paths.baskets level.least rank listed (set ++ rank ∷ []) d.0 d.1 d.2)
 
   -- the sets that were found before, the rank alone, and those of the conditional database
-  pub class_grown : (old mid new : List Counted) (items : List ℕ) (support : ℕ) → items ≡ get_or level.names.items rank 0 ∷ level.suffix.items → support ≡ support_of level.paths.baskets (rank ∷ [])
-      → mid ≡ old ++ record { set = rising items; count = support } ∷ [] → ListsAllAsItems inner mid new → ListsClassAsItems level rank old new
-  class_grown old mid new items support named counts told within = record {
+  pub class_grown : (old mid new : List Counted) (set : List ℕ) (support : ℕ) → IsRising level.suffix → set ≡ with_item (get_or (items_of level) rank 0) level.suffix → support ≡ support_of level.paths.baskets (rank ∷ [])
+      → mid ≡ old ++ record { set = set; count = support } ∷ [] → ListsAllAsItems inner mid new → ListsClassAsItems level rank old new
+  class_grown old mid new set support up named counts told within = record {
     sets = class_with within.sets;
     listed = lists_class within.sets within.listed;
     added = within.added
-        ∙ ap (λ l. l ++ map (as_items inner.names.items inner.suffix.items) within.sets) (told ∙ (λ i. old ++ record { set = rising (named i); count = counts i } ∷ []))
-        ∙ append_assoc old (record { set = rising (get_or level.names.items rank 0 ∷ level.suffix.items); count = support_of level.paths.baskets (rank ∷ []) } ∷ []) (map (as_items inner.names.items inner.suffix.items) within.sets)
-        ∙ ap (λ l. old ++ l) (sym (class_as_items within.sets within.listed));
+        ∙ ap (λ l. l ++ map (as_items (items_of inner) inner.suffix) within.sets) (told ∙ (λ i. old ++ record { set = named i; count = counts i } ∷ []))
+        ∙ append_assoc old (record { set = with_item (get_or (items_of level) rank 0) level.suffix; count = support_of level.paths.baskets (rank ∷ []) } ∷ []) (map (as_items (items_of inner) inner.suffix) within.sets)
+        ∙ ap (λ l. old ++ l) (sym (class_as_items up within.sets within.listed));
   }
 
 -- ---- tests of supports
@@ -225,13 +231,5 @@ coding_ranked items least value is long = record {
   light = is.light;
 }
 
-pub inner_is_level : (level : Level) (rank : ℕ) (items : List ℕ) (inner : Level) → IsLevel level → IsBelow level rank items inner → length items ≤ 32 → IsLevel inner
-inner_is_level level rank items inner is below short = record {
-  names = ap length below.names ∙ length-map (kept_ranks level.paths.baskets level.least rank) (λ other. get_or level.names.items other 0) ∙ sym below.ranks;
-  ranked = coding_ranked (kept_ranks level.paths.baskets level.least rank) level.least inner.paths below.coding below.ranks;
-  some = subst (λ n. 1 ≤ n) (sym below.least) is.some;
-  short = subst (λ (l : List ℕ). length l ≤ 32) (sym below.suffix) short;
-}
-
-pub inner_has_fewer : (level : Level) (rank : ℕ) (items : List ℕ) (inner : Level) → IsBelow level rank items inner → inner.paths.ranks ≤ rank
-inner_has_fewer level rank items inner below = let short = kept_short level.paths.baskets level.least rank in let same = below.ranks in omega arith
+pub inner_has_fewer : (level : Level) (rank : ℕ) (inner : Level) → IsBelow level rank inner → inner.paths.ranks ≤ rank
+inner_has_fewer level rank inner below = let short = kept_short level.paths.baskets level.least rank in let same = below.ranks in omega arith

@@ -15,15 +15,15 @@ use Rattle.basket_sets.specs.declared.minimum.Minimum.TheVariants.{Count}
 use Rattle.basket_sets.specs.Counts.{AllBelow}
 use Rattle.basket_sets.specs.Database.{weighted}
 use Rattle.basket_sets.specs.Frequent.{is_frequent}
-use Rattle.basket_sets.specs.Itemset.{IsRising, has, rising}
+use Rattle.basket_sets.specs.Itemset.{IsRising, has, rising, with_item}
 use Rattle.basket_sets.specs.Support.{support_of, weight_at}
 use Rattle.basket_sets.proofs.theory.Members.{Member, Member-append, Member-append_left, Member-append_right, Member-map, Member-filter, Member-from_map, Member-from_Contains}
-use Rattle.basket_sets.proofs.theory.Rising.{Member-rising, Member-into_rising, cons_rises, first_below, has-from_Member, length-le-contains, Member-from_has, nil_rises, rest_rises, rising-rises, rising-rising, rising_is}
+use Rattle.basket_sets.proofs.theory.Rising.{Member-rising, Member-into_rising, Member-into_with_item, Member-with_item, cons_rises, first_below, has-from_Member, length-le-contains, Member-from_has, nil_rises, rest_rises, rising-rises, rising-rising, rising_is}
 use Rattle.basket_sets.proofs.theory.Support.{support-append, support-cons}
 use Rattle.mine_classes.specs.declared.span.Span.{Span}
 use Rattle.mine_classes.specs.Classes.{with_rank}
 use Rattle.mine_classes.specs.Conditional.{is_kept, kept_place}
-use Rattle.mine_classes.specs.Pairs.{kept_ranks, pairs_of}
+use Rattle.mine_classes.specs.Pairs.{kept_ranks, named_pair, pairs_of}
 use Rattle.mine_classes.specs.Runs.{AreRunsOf, below}
 use Rattle.mine_classes.specs.Span.{basket_at, baskets_at}
 use Rattle.mine_fp.specs.Level.{as_items}
@@ -77,7 +77,7 @@ module _ (names kept suffix : List ℕ) (rank : ℕ) where
   outer_items set = map name (decoded kept set ++ rank ∷ []) ++ suffix
 
   inner_items : List ℕ → List ℕ
-  inner_items set = map (λ k. get_or inner k 0) set ++ name rank ∷ suffix
+  inner_items set = map (λ k. get_or inner k 0) set ++ with_item (name rank) suffix
 
   into_inner : (set : List ℕ) → AllBelow (length kept) set → (z : ℕ) → Member z (outer_items set) → Member z (inner_items set)
   unfolding outer_items inner_items
@@ -87,37 +87,45 @@ module _ (names kept suffix : List ℕ) (rank : ℕ) where
         elim (Member-append r.0 (decoded kept set) (rank ∷ []) r.1) [
           | inl o ↦
               (let d = from_decoded kept set r.0 o in
-              Member-append_left z (map (λ k. get_or inner k 0) set) (name rank ∷ suffix)
+              Member-append_left z (map (λ k. get_or inner k 0) set) (with_item (name rank) suffix)
               (subst (λ x. Member x (map (λ k. get_or inner k 0) set)) (inner_name d.0 (within d.0 (has-from_Member set d.0 d.1)) ∙ ap name d.2 ∙ r.2)
               (Member-map (λ k. get_or inner k 0) d.0 set d.1)))
-          | inr (inl e) ↦ Member-append_right z (map (λ k. get_or inner k 0) set) (name rank ∷ suffix) (inl (ap name e ∙ r.2))
+          | inr (inl e) ↦ Member-append_right z (map (λ k. get_or inner k 0) set) (with_item (name rank) suffix) (Member-into_with_item (name rank) suffix z (inl (ap name e ∙ r.2)))
           | inr (inr none) ↦ absurd none
         ])
-    | inr n ↦ Member-append_right z (map (λ k. get_or inner k 0) set) (name rank ∷ suffix) (inr n)
+    | inr n ↦ Member-append_right z (map (λ k. get_or inner k 0) set) (with_item (name rank) suffix) (Member-into_with_item (name rank) suffix z (inr n))
   ]
 
   into_outer : (set : List ℕ) → AllBelow (length kept) set → (z : ℕ) → Member z (inner_items set) → Member z (outer_items set)
   unfolding outer_items inner_items
-  into_outer set within z m = elim (Member-append z (map (λ k. get_or inner k 0) set) (name rank ∷ suffix) m) [
+  into_outer set within z m = elim (Member-append z (map (λ k. get_or inner k 0) set) (with_item (name rank) suffix) m) [
     | inl n ↦
         (let r = Member-from_map (λ k. get_or inner k 0) z set n in
         Member-append_left z (map name (decoded kept set ++ rank ∷ [])) suffix
         (subst (λ x. Member x (map name (decoded kept set ++ rank ∷ []))) (sym (inner_name r.0 (within r.0 (has-from_Member set r.0 r.1))) ∙ r.2)
         (Member-map name (get_or kept r.0 0) (decoded kept set ++ rank ∷ []) (Member-append_left (get_or kept r.0 0) (decoded kept set) (rank ∷ []) (into_decoded kept set r.0 r.1)))))
-    | inr (inl e) ↦
-        Member-append_left z (map name (decoded kept set ++ rank ∷ [])) suffix
-        (subst (λ x. Member x (map name (decoded kept set ++ rank ∷ []))) e
-        (Member-map name rank (decoded kept set ++ rank ∷ []) (Member-append_right rank (decoded kept set) (rank ∷ []) (inl refl))))
-    | inr (inr n) ↦ Member-append_right z (map name (decoded kept set ++ rank ∷ [])) suffix n
+    | inr n ↦ elim (Member-with_item (name rank) suffix z n) [
+      | inl e ↦
+          Member-append_left z (map name (decoded kept set ++ rank ∷ [])) suffix
+          (subst (λ x. Member x (map name (decoded kept set ++ rank ∷ []))) e
+          (Member-map name rank (decoded kept set ++ rank ∷ []) (Member-append_right rank (decoded kept set) (rank ∷ []) (inl refl))))
+      | inr o ↦ Member-append_right z (map name (decoded kept set ++ rank ∷ [])) suffix o
+    ]
   ]
 
   -- a set of the conditional database is as items what it is, with the rank, in the database
   pub inner_as_items : (c : Counted) → AllBelow (length kept) c.set
-      → as_items names suffix (with_rank rank (decoded_set kept c)) ≡ as_items inner (name rank ∷ suffix) c
+      → as_items names suffix (with_rank rank (decoded_set kept c)) ≡ as_items inner (with_item (name rank) suffix) c
   unfolding outer_items inner_items
   inner_as_items c within =
       let same = rising_same (outer_items c.set) (inner_items c.set) (into_inner c.set within) (into_outer c.set within) in
       λ i. record { set = same i; count = c.count }
+
+-- the rank alone is as items what each set gets, and its own
+pub alone_as_items : (names suffix : List ℕ) (rank support : ℕ) → IsRising suffix
+    → as_items names suffix (record { set = rank ∷ []; count = support }) ≡ record { set = with_item (get_or names rank 0) suffix; count = support }
+alone_as_items names suffix rank support up =
+    let same = ap (with_item (get_or names rank 0)) (rising-rising suffix up) in λ i. record { set = same i; count = support }
 
 -- ---- sets of a rising list's numbers
 
@@ -189,3 +197,22 @@ pair_ranks baskets least rank = go (kept_ranks baskets least rank)
     go : (ranks : List ℕ) → map (λ (pair : ℕ × ℕ). pair.0) (map (λ other. (other, support_of baskets (other ∷ rank ∷ []))) ranks) ≡ ranks
     go [] = refl
     go (first ∷ ranks) = ap (λ l. first ∷ l) (go ranks)
+
+-- the names of a rank's pairs: the items of the ranks that are kept, and the pairs' supports
+pub named_ranks : (names : List ℕ) (baskets : List Weighted) (least rank : ℕ)
+    → map (λ (name : ℕ × ℕ). name.0) (map (named_pair names) (pairs_of baskets least rank)) ≡ map (λ other. get_or names other 0) (kept_ranks baskets least rank)
+named_ranks names baskets least rank = go (kept_ranks baskets least rank)
+  where
+    go : (ranks : List ℕ) → map (λ (name : ℕ × ℕ). name.0) (map (named_pair names) (map (λ other. (other, support_of baskets (other ∷ rank ∷ []))) ranks)) ≡ map (λ other. get_or names other 0) ranks
+    go [] = refl
+    go (first ∷ ranks) = ap (λ l. get_or names first 0 ∷ l) (go ranks)
+
+pub named_supports : (names : List ℕ) (baskets : List Weighted) (least rank k : ℕ) → k < length (kept_ranks baskets least rank)
+    → (get_or (map (named_pair names) (pairs_of baskets least rank)) k (0, 0)).1 ≡ support_of baskets (get_or (kept_ranks baskets least rank) k 0 ∷ rank ∷ [])
+named_supports names baskets least rank k here = go (kept_ranks baskets least rank) k here
+  where
+    go : (ranks : List ℕ) (k : ℕ) → k < length ranks
+        → (get_or (map (named_pair names) (map (λ other. (other, support_of baskets (other ∷ rank ∷ []))) ranks)) k (0, 0)).1 ≡ support_of baskets (get_or ranks k 0 ∷ rank ∷ [])
+    go [] k here = absurd (omega arith)
+    go (first ∷ ranks) zero here = refl
+    go (first ∷ ranks) (suc k) here = go ranks k (omega arith)

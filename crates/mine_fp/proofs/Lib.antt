@@ -9,7 +9,9 @@ mod TreeCountLemmas
 mod StraightLemmas
 mod InnerLemmas
 mod TreesLemmas
+mod NameLemmas
 mod PathLemmas
 mod ChoiceLemmas
 mod WordLemmas
 mod LeafLemmas
+mod ShiftLemmas

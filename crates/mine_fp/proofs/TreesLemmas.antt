@@ -108,7 +108,7 @@ ranked_plain value are place m = let is = at_Member (IsRankBasket value.ranks) p
 
 -- ---- the class of a rank
 
-module _ (level : Level) (rank : ℕ) (inner : Level) (is_level : IsLevel level) (is : IsBelow level rank (get_or level.names.items rank 0 ∷ level.suffix.items) inner)
+module _ (level : Level) (rank : ℕ) (inner : Level) (is_level : IsLevel level) (is : IsBelow level rank inner)
     (coded : ClassesByCodings) (met : is_frequent level.paths.baskets (Count level.least) (rank ∷ []) ≡ true) (listed : ClassesAreListed) (law : ConditionalSupports) where
   abbrev baskets : List Weighted
   baskets = level.paths.baskets

@@ -1,12 +1,12 @@
 -- Words of bits: their ranks, and what they weigh.
-use Rattle.std.proofs.Common.{◌≡◌, ℕ, ◌+◌, ◌-◌, ◌^◌, ◌<◌, ◌≤◌, Bool, true, false, ◌&&◌, ◌||◌, List, [], ◌∷◌, ◌++◌, length, take, get_or, set, map, cond, eqb, ltb, refl, sym, ap, ◌∙◌, subst, inl, inr, arith, add-zero, zero, suc}
+use Rattle.std.proofs.Common.{◌≡◌, ℕ, ◌+◌, ◌-◌, ◌^◌, ◌<◌, ◌≤◌, Bool, true, false, ◌&&◌, ◌||◌, List, [], ◌∷◌, ◌++◌, length, take, get_or, map, cond, eqb, ltb, refl, sym, ap, ◌∙◌, subst, inl, inr, arith, add-zero, zero, suc}
 use Rattle.std.specs.Prelude.{All, bit_or, nat_eq}
 use Rattle.std.specs.Int.{bit_at}
 use Rattle.std.specs.List.{IsDistinct, filter, flat_map, list_all, range_with_len, sum_by}
 use Rattle.std.specs.List.Sorted.{IsPermutation}
 use Rattle.std.specs.Ordering.{nat_cmp}
 use Rattle.std.proofs.lemmas.Bool.{and_from, and_parts, cases_Bool, cases_eq, ltb-true, eq-eqb, eqb-true, lt-ltb, true≢false}
-use Rattle.std.proofs.lemmas.List.{append-nil, append_assoc, get_or-map, get_or-set_other, get_or-set_same, get_or_default, length-map, map-append, take_more}
+use Rattle.std.proofs.lemmas.List.{append-nil, append_assoc, get_or-map, get_or_default, length-map, map-append, take_more}
 use Rattle.std.proofs.lemmas.List.Elements.{All-weaker}
 use Rattle.std.proofs.lemmas.List.Kept.{IsStrictlySortedBy-filter}
 use Rattle.std.proofs.lemmas.List.Sorted.{IsPermutation-map, sum_by-IsPermutation}
@@ -117,21 +117,11 @@ word_sum f count (word ∷ words) =
 pub words_total : (count : ℕ) (words : List Word) → total_of (word_places count words) ≡ sum_by (λ (word : Word). word.weight) words
 words_total count words = word_sum (weight_at []) count words
 
-one_rank : (a : Bool) (weight : ℕ) → cond (a && true) weight 0 ≡ cond a weight 0
-one_rank true weight = refl
-one_rank false weight = refl
-
 two_ranks : (a b : Bool) (weight : ℕ) → cond (a && (b && true)) weight 0 ≡ cond b (cond a weight 0) 0
 two_ranks true true weight = refl
 two_ranks true false weight = refl
 two_ranks false true weight = refl
 two_ranks false false weight = refl
-
-pub rank_support : (count rank : ℕ) (words : List Word) → rank < count → support_of (word_places count words) (rank ∷ []) ≡ sum_by (rank_weight rank) words
-rank_support count rank words low =
-    word_sum (weight_at (rank ∷ [])) count words
-    ∙ sum_by-same (λ (w : Word). weight_at (rank ∷ []) (word_place count w)) (rank_weight rank) words (λ w.
-    one_rank (has (ranks_in count w.bits) rank) w.weight ∙ ap (λ b. cond b w.weight 0) (has_in count w.bits rank low))
 
 pub pair_support : (count rank other : ℕ) (words : List Word) → rank < count → other < rank
     → support_of (word_places count words) (other ∷ rank ∷ []) ≡ sum_by (pair_weight rank other) words
@@ -216,30 +206,6 @@ pub record HasSums (at : ℕ) (word : Word) (old new : List ℕ) : Type 0 where
   pub done : (rank : ℕ) → rank < at → get_or new rank 0 ≡ get_or old rank 0 + rank_weight rank word
   pub rest : (rank : ℕ) → at ≤ rank → get_or new rank 0 ≡ get_or old rank 0
 
-pub sum_added : (at : ℕ) (word : Word) (old new : List ℕ) → at < length new → has_rank word.bits at ≡ true → HasSums at word old new
-    → HasSums (at + 1) word old (set new at (get_or new at 0 + word.weight))
-sum_added at word old new here h so_far = record {
-  done = λ rank less. elim (cases_eq rank at) [
-    | inl e ↦
-        ap (λ r. get_or (set new at (get_or new at 0 + word.weight)) r 0) e ∙ get_or-set_same new at (get_or new at 0 + word.weight) 0 here
-        ∙ ap (λ n. n + word.weight) (so_far.rest at (omega arith))
-        ∙ sym (ap (λ r. get_or old r 0 + rank_weight r word) e ∙ ap (λ b. get_or old at 0 + cond b word.weight 0) h)
-    | inr differ ↦ get_or-set_other new at rank (get_or new at 0 + word.weight) 0 differ ∙ so_far.done rank (omega arith)
-  ];
-  rest = λ rank from. get_or-set_other new at rank (get_or new at 0 + word.weight) 0 (λ e. absurd (omega arith)) ∙ so_far.rest rank (omega arith);
-}
-
-pub sum_left : (at : ℕ) (word : Word) (old new : List ℕ) → has_rank word.bits at ≡ false → HasSums at word old new → HasSums (at + 1) word old new
-sum_left at word old new h so_far = record {
-  done = λ rank less. elim (cases_eq rank at) [
-    | inl e ↦
-        ap (λ r. get_or new r 0) e ∙ so_far.rest at (omega arith) ∙ sym (add-zero (get_or old at 0))
-        ∙ sym (ap (λ r. get_or old r 0 + rank_weight r word) e ∙ ap (λ b. get_or old at 0 + cond b word.weight 0) h)
-    | inr differ ↦ so_far.done rank (omega arith)
-  ];
-  rest = λ rank from. so_far.rest rank (omega arith);
-}
-
 -- ---- words with all ranks below their own
 
 abbrev pub fills : ℕ → ℕ → Bool
@@ -305,36 +271,6 @@ word_added ranks count spans i d words word here is so_far =
     ∙ sym (take_more (baskets_at ranks spans) i (basket_at ranks d) (omega (arith, here, length-map spans (basket_at ranks))))
 
 -- ---- words kept to some ranks
-
--- the bits of the places of the first ranks of a list that a word has
-pub record HasPlaces (kept : List ℕ) (bits : ℕ) (at : ℕ) (new : ℕ) : Type 0 where
-  pub done : (place : ℕ) → place < at → has_rank new place ≡ has_rank bits (get_or kept place 0)
-  pub rest : (place : ℕ) → at ≤ place → place < WORD_RANKS → has_rank new place ≡ false
-
-pub no_places : (kept : List ℕ) (bits : ℕ) → HasPlaces kept bits 0 0
-no_places kept bits = record { done = λ place less. absurd (omega arith); rest = λ place from low. no_rank place }
-
-pub place_with : (kept : List ℕ) (bits at new : ℕ) → at < WORD_RANKS → has_rank bits (get_or kept at 0) ≡ true → HasPlaces kept bits at new
-    → HasPlaces kept bits (at + 1) (bit_or new (2 ^ (63 - at)))
-place_with kept bits at new low h so_far = record {
-  done = λ place less. either place (omega arith) ∙ (elim (cases_eq at place) [
-    | inl e ↦ ap (λ b. has_rank new place || b) (eq-eqb at place e) ∙ or_true (has_rank new place) ∙ sym (ap (λ k. has_rank bits (get_or kept k 0)) (sym e) ∙ h)
-    | inr differ ↦ ap (λ b. has_rank new place || b) (apart at place differ) ∙ or_false (has_rank new place) ∙ so_far.done place (omega arith)
-  ]);
-  rest = λ place from few. either place few ∙ ap (λ b. has_rank new place || b) (apart at place (λ e. absurd (omega arith))) ∙ or_false (has_rank new place) ∙ so_far.rest place (omega arith) few;
-}
-  where
-    either : (place : ℕ) → place < WORD_RANKS → has_rank (bit_or new (2 ^ (63 - at))) place ≡ (has_rank new place || eqb at place)
-    either place few = has_either new (2 ^ (63 - at)) place ∙ ap (λ b. has_rank new place || b) (has_bit at place low few)
-
-pub place_without : (kept : List ℕ) (bits at new : ℕ) → at < WORD_RANKS → has_rank bits (get_or kept at 0) ≡ false → HasPlaces kept bits at new → HasPlaces kept bits (at + 1) new
-place_without kept bits at new low h so_far = record {
-  done = λ place less. elim (cases_eq at place) [
-    | inl e ↦ so_far.rest place (omega arith) (omega arith) ∙ sym (ap (λ k. has_rank bits (get_or kept k 0)) (sym e) ∙ h)
-    | inr differ ↦ so_far.done place (omega arith)
-  ];
-  rest = λ place from few. so_far.rest place (omega arith) few;
-}
 
 -- places decoded are the word's ranks that are kept
 pub kept_decoded : (kept : List ℕ) (count bits new : ℕ) → AllBelow count kept

@@ -1,5 +1,5 @@
 //! Sets that are read off a single branch.
-ghost use Rattle.std.specs.Prelude.{◌≡◌, ◌≤◌, ◌<◌, ◌+◌, ◌-◌, ◌++◌, [], ◌∷◌, ◌==◌, ℕ, All, Err, IfOk, IsTrue, OnOk, false, length, vec_len};
+ghost use Rattle.std.specs.Prelude.{◌≡◌, ◌≤◌, ◌<◌, ◌+◌, ◌-◌, ℕ, Err, IsTrue, OnOk, false, length, vec_len};
 ghost use Rattle.basket_core.specs.declared.fault.MineFault.TheVariants.{TooMany};
 ghost use Rattle.basket_sets.specs.declared.minimum.Minimum.TheVariants.{Count};
 ghost use Rattle.basket_sets.specs.Frequent.{frequent_of};
@@ -8,7 +8,7 @@ ghost use Rattle.mine_fp.specs.Level.{HasLower, IsChosen, IsLevel, ListsClassAsI
 ghost use Rattle.mine_fp.specs.Trees.{is_branch};
 
 use crate::level::{Found, Level, tell};
-use basket_core::{Itemset, MineFault, Tally};
+use basket_core::{MineFault, Tally};
 use mine_classes::laws::{
     classes_are_all, classes_are_conditional, classes_are_listed, conditional_supports,
     lists_have_class_size, rare_ranks_have_no_class,
@@ -73,14 +73,14 @@ impl Level {
         conditional_supports();
         lists_have_class_size();
         rare_ranks_have_no_class();
-        let support = self.paths.support(rank);
+        let support = self.support(rank);
         if support < self.least {
             return Ok(());
         }
         let end = found.sets.len();
-        let set = Itemset::from_items(alloc, &self.items_with(alloc, rank)?)?;
+        let set = self.set_with(alloc, rank)?;
         tell(set, support, found, tally)?;
-        let item = self.names[rank as usize];
+        let item = self.item(rank);
         for at in start..end {
             choose(alloc, at, item, support, found, tally)?;
         }

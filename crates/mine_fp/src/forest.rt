@@ -1,13 +1,16 @@
 //! All coded baskets, for FP-growth.
-ghost use Rattle.std.specs.Prelude.{◌≡◌, ◌≤◌, ◌<◌, ◌+◌, ◌⊎◌, [], ℕ, Err, IfOk, IsTrue, false, length};
+ghost use Rattle.std.specs.Prelude.{◌≡◌, ◌≤◌, ◌<◌, ◌+◌, ◌⊎◌, [], ◌∷◌, ℕ, Err, IfOk, IsTrue, false, length, map, slice_index};
+ghost use Rattle.std.specs.List.{range_with_len};
 ghost use Rattle.basket_core.specs.declared.fault.MineFault.TheVariants.{TooMany};
-ghost use Rattle.mine_classes.specs.Mined.{ListsClassItems, RanksAreFrequent, class_size};
+ghost use Rattle.basket_sets.specs.Support.{support_of};
+ghost use Rattle.mine_classes.specs.Mined.{ListsClassItems, class_size};
 ghost use Rattle.mine_fp.specs.Trees.{class_trees};
 
 use crate::level::{Found, Level, Tables};
-use crate::paths::Paths;
-use basket_core::{Coded, Counted, MineFault, Tally};
+use crate::paths::{Paths, weight_of_rank};
+use basket_core::{Coded, Counted, Itemset, MineFault, Tally};
 use mine_apriori::runs_with_pairs;
+use mine_classes::Runs;
 use mine_classes::laws::{classes_are_listed, deep_classes_are_large, lists_have_class_size};
 use std::alloc::{AllocError, Global};
 use std::marker::Model;
@@ -24,13 +27,14 @@ impl<'a> Model for Forest<'a> {
     ghost use Rattle.std.specs.Prelude.{◌≡◌, [], length};
     ghost use Rattle.basket_core.specs.Codes.{Coding};
     ghost use Rattle.mine_fp.specs.Forest.{AreInForest};
+    ghost use Rattle.mine_fp.specs.Level.{AreNames, items_of};
 
     ghost Value = { Coding };
 
     ghost view = { λ f. f.coded.now };
 
     ghost invariant = { λ f. AreInForest f.coded.now f.level.least f.level.paths
-        × (f.level.names.items ≡ f.coded.now.items) × (f.level.suffix.items ≡ []) };
+        × AreNames f.level × (items_of f.level ≡ f.coded.now.items) × (f.level.suffix ≡ []) × (f.level.depth ≡ 0) };
 }
 
 impl<'a> Forest<'a> {
@@ -38,27 +42,31 @@ impl<'a> Forest<'a> {
     pub fn of(alloc: Global, coded: &'a Coded) -> Result<Self, AllocError>
         ensures { IfOk result (λ forest. forest ≡ coded.now) }
     {
+        let runs = runs_with_pairs(alloc, coded)?;
+        let names = names_of(alloc, coded, &runs)?;
         Ok(Forest {
             coded,
             level: Level {
-                paths: Paths::of_runs(runs_with_pairs(alloc, coded)?),
-                names: items_of(alloc, coded)?,
-                suffix: Vec::new(alloc),
+                paths: Paths::of_runs(runs),
+                names,
+                suffix: Itemset::from_items(alloc, &[])?,
+                depth: 0,
                 least: coded.minimum().least(coded.total()),
             },
         })
     }
 }
 
-/// The item of each rank.
-fn items_of(alloc: Global, coded: &Coded) -> Result<Vec<u32>, AllocError>
-    ensures { IfOk result (λ items. items.items ≡ coded.now.items) }
+/// The item and the support of each rank.
+fn names_of(alloc: Global, coded: &Coded, runs: &Runs) -> Result<Vec<(u32, u64)>, AllocError>
+    requires { runs.now.ranks ≡ length coded.now.items }
+    ensures { IfOk result (λ names. names.items ≡ map (λ rank. (slice_index coded.now.items rank, support_of runs.now.baskets (rank ∷ []))) (range_with_len 0 (length coded.now.items))) }
 {
-    let mut items = Vec::with_capacity(alloc, coded.ranks() as usize)?;
+    let mut names = Vec::with_capacity(alloc, coded.ranks() as usize)?;
     for rank in 0..coded.ranks() {
-        items.push(coded.item(rank))?;
+        names.push((coded.item(rank), weight_of_rank(runs, rank)))?;
     }
-    Ok(items)
+    Ok(names)
 }
 
 /// The sets of the class of a rank, as items, each once with its support (Han, Pei and Yin 2000), and

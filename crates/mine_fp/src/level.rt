@@ -5,9 +5,11 @@ ghost use Rattle.basket_core.specs.Depth.{HasSetOfSize};
 ghost use Rattle.basket_sets.specs.declared.minimum.Minimum.TheVariants.{Count};
 ghost use Rattle.basket_sets.specs.Counts.{AllBelow};
 ghost use Rattle.basket_sets.specs.Frequent.{frequent_of};
+ghost use Rattle.basket_sets.specs.Itemset.{with_item};
+ghost use Rattle.basket_sets.specs.Support.{support_of};
 ghost use Rattle.mine_classes.specs.Classes.{class_of};
-ghost use Rattle.mine_classes.specs.Pairs.{pairs_of};
-ghost use Rattle.mine_fp.specs.Level.{IsBelow, IsLevel, ListsClassAsItems, ListsAllAsItems, missing};
+ghost use Rattle.mine_classes.specs.Pairs.{named_pair, pairs_of};
+ghost use Rattle.mine_fp.specs.Level.{IsBelow, IsLevel, ListsClassAsItems, ListsAllAsItems, items_of, missing};
 ghost use Rattle.mine_fp.specs.Trees.{inner_trees, rank_trees};
 
 use crate::paths::Paths;
@@ -49,13 +51,15 @@ impl Tables {
     }
 }
 
-/// A conditional database: its baskets, the item of each of its ranks, and the items of the set that
-/// it is of, which each set found in it gets.
+/// A conditional database: its baskets, the item and the support of each of its ranks, and the set
+/// that it is of, whose items each set found in it gets.
 #[derive(Debug, Drop)]
 pub struct Level {
     pub paths: Paths,
-    pub names: Vec<u32>,
-    pub suffix: Vec<u32>,
+    pub names: Vec<(u32, u64)>,
+    pub suffix: Itemset,
+    /// How many databases it lies within.
+    pub depth: usize,
     pub least: u64,
 }
 
@@ -95,13 +99,13 @@ impl Level {
         lists_have_class_size();
         conditional_supports();
         rare_ranks_have_no_class();
-        let support = self.paths.support(rank);
+        let support = self.support(rank);
         if support < self.least {
             return Ok(());
         }
-        let items = self.items_with(alloc, rank)?;
-        tell(Itemset::from_items(alloc, &items)?, support, found, tally)?;
-        if items.len() > DEPTH {
+        let set = self.set_with(alloc, rank)?;
+        tell(set, support, found, tally)?;
+        if self.depth >= DEPTH {
             return Err(MineFault::TooMany {
                 limit: tally.limit(),
             });
@@ -113,7 +117,7 @@ impl Level {
             return Ok(());
         }
         let places = &mut tables.places;
-        let inner = self.below(alloc, rank, places, items, &pairs, &mut found.trees)?;
+        let inner = self.below(alloc, rank, places, pairs, &mut found.trees)?;
         inner.classes(alloc, found, tally)
     }
 
@@ -150,59 +154,71 @@ impl Level {
         Ok(())
     }
 
-    /// The item of a rank, and those that each set gets.
-    pub fn items_with(&self, alloc: Global, rank: u32) -> Result<Vec<u32>, AllocError>
+    /// The item of a rank.
+    pub fn item(&self, rank: u32) -> u32
         requires { rank < vec_len self.now.names }
-        ensures { IfOk result (λ items. items.items ≡ slice_index self.now.names.items rank ∷ self.now.suffix.items) }
+        ensures { result ≡ slice_index (items_of self.now) rank }
     {
-        let mut items = Vec::with_capacity(alloc, self.suffix.len() + 1)?;
-        items.push(self.names[rank as usize])?;
-        items.extend_from_slice(&self.suffix)?;
-        Ok(items)
+        self.names[rank as usize].0
     }
 
-    /// The conditional database of a rank with these pairs, each set in which gets the items: one more
-    /// tree.
+    /// The support of a rank.
+    pub fn support(&self, rank: u32) -> u64
+        requires level { IsLevel self.now }
+        requires rank { rank < self.now.paths.ranks }
+        ensures { result ≡ support_of self.now.paths.baskets (rank ∷ []) }
+    {
+        self.names[rank as usize].1
+    }
+
+    /// The set of a rank, as items.
+    pub fn set_with(&self, alloc: Global, rank: u32) -> Result<Itemset, AllocError>
+        requires { rank < vec_len self.now.names }
+        ensures { IfOk result (λ set. set ≡ with_item (slice_index (items_of self.now) rank) self.now.suffix) }
+    {
+        self.suffix.with(alloc, self.item(rank))
+    }
+
+    /// The conditional database of a rank with these pairs: one more tree.
     pub fn below(
         &self,
         alloc: Global,
         rank: u32,
         places: &mut Places,
-        items: Vec<u32>,
-        pairs: &[(u32, u64)],
+        mut pairs: Vec<(u32, u64)>,
         trees: &mut u64,
     ) -> Result<Level, AllocError>
+        requires level { IsLevel self.now }
         requires rank { rank < self.now.paths.ranks }
-        requires named { vec_len self.now.names ≡ self.now.paths.ranks }
         requires places { places.old ≡ self.now.paths.ranks }
-        requires pairs { pairs.now ≡ pairs_of self.now.paths.baskets self.now.least rank }
+        requires pairs { pairs.items ≡ pairs_of self.now.paths.baskets self.now.least rank }
         requires few { trees.old < 18446744073709551615 }
-        ensures below { IfOk result (λ inner. IsBelow self.now rank items.items inner) }
+        ensures below { IfOk result (IsBelow self.now rank) }
         ensures places { places.new ≡ places.old }
         ensures trees { OnOk result (trees.new ≡ trees.old + 1) }
     {
-        let names = named(alloc, &self.names, pairs)?;
-        let paths = self.paths.below(alloc, places, rank, self.least, pairs)?;
+        let paths = self.paths.below(alloc, places, rank, self.least, &pairs)?;
+        let suffix = self.set_with(alloc, rank)?;
+        rename(&mut pairs, &self.names);
         *trees += 1;
         Ok(Level {
             paths,
-            names,
-            suffix: items,
+            names: pairs,
+            suffix,
+            depth: self.depth + 1,
             least: self.least,
         })
     }
 }
 
-/// The names of the ranks of some pairs.
-fn named(alloc: Global, names: &[u32], pairs: &[(u32, u64)]) -> Result<Vec<u32>, AllocError>
-    requires { AllBelow (length names.now) (map (λ pair. pair.0) pairs.now) }
-    ensures { IfOk result (λ named. named.items ≡ map (λ rank. slice_index names.now rank) (map (λ pair. pair.0) pairs.now)) }
+/// Puts the item of each rank in its place.
+fn rename(pairs: &mut [(u32, u64)], names: &[(u32, u64)])
+    requires { AllBelow (length names.now) (map (λ pair. pair.0) pairs.old) }
+    ensures { pairs.new ≡ map (named_pair (map (λ name. name.0) names.now)) pairs.old }
 {
-    let mut named = Vec::with_capacity(alloc, pairs.len())?;
-    for pair in pairs {
-        named.push(names[pair.0 as usize])?;
+    for place in 0..pairs.len() {
+        pairs[place].0 = names[pairs[place].0 as usize].0;
     }
-    Ok(named)
 }
 
 /// Tells a frequent set to the tally, and adds it to those found.

@@ -7,6 +7,7 @@ mod forest;
 pub mod laws;
 mod level;
 mod paths;
+mod shift;
 mod tree;
 mod words;
 pub mod worked;

@@ -72,17 +72,6 @@ impl Paths {
         }
     }
 
-    /// The support of a rank.
-    pub fn support(&self, rank: u32) -> u64
-        requires { rank < self.now.ranks }
-        ensures { result ≡ support_of self.now.baskets (rank ∷ []) }
-    {
-        match &self.form {
-            Form::Runs(runs) => weight_of_rank(runs, rank),
-            Form::Words(words) => words.support(rank),
-        }
-    }
-
     /// Whether the prefix tree of the baskets is a single branch.
     pub fn is_branch(&self) -> bool
         requires { AreRankBaskets self.now }
@@ -174,22 +163,14 @@ fn below_words(
     ensures coding { IfOk result (λ below. IsCoding (record { items = kept_ranks words.now.baskets least rank; minimum = Count least; baskets = below.baskets })) }
     ensures weights { IfOk result (λ below. HaveSameWeights (conditional least words.now.baskets rank) (map (decoded_place (kept_ranks words.now.baskets least rank)) below.baskets)) }
 {
-    let kept = ranks_of(alloc, pairs)?;
-    let below = words.below(alloc, rank, &kept)?;
+    let below = words.below(alloc, rank, pairs)?;
     Ok(Paths {
         form: Form::Words(below),
     })
 }
 
-/// The ranks of some pairs.
-fn ranks_of(alloc: Global, pairs: &[(u32, u64)]) -> Result<Vec<u32>, AllocError>
-    ensures { IfOk result (λ ranks. ranks.items ≡ map (λ pair. pair.0) pairs.now) }
-{
-    pairs.iter().map(|pair| pair.0).collect(alloc)
-}
-
 /// The support of a rank, which is what its runs weigh.
-fn weight_of_rank(runs: &Runs, rank: u32) -> u64
+pub fn weight_of_rank(runs: &Runs, rank: u32) -> u64
     requires { rank < runs.now.ranks }
     ensures { result ≡ support_of runs.now.baskets (rank ∷ []) }
 {

@@ -1,11 +1,10 @@
 //! Baskets of up to 64 ranks, each as the bits of a word.
-ghost use Rattle.std.specs.Prelude.{◌≡◌, ◌≤◌, ◌<◌, ◌+◌, ℕ, [], ◌∷◌, All, IfOk, length, map, slice_index, sum_by};
+ghost use Rattle.std.specs.Prelude.{◌≡◌, ◌≤◌, ◌<◌, ◌+◌, ℕ, All, IfOk, length, map, slice_index, sum_by};
 ghost use Rattle.std.specs.List.{flat_map, list_all, range_with_len};
 ghost use Rattle.basket_core.specs.Codes.{decoded_place};
 ghost use Rattle.basket_sets.specs.Counts.{AllBelow};
 ghost use Rattle.basket_sets.specs.Database.{MOST_WEIGHT};
 ghost use Rattle.basket_sets.specs.Itemset.{IsRising, contains, has};
-ghost use Rattle.basket_sets.specs.Support.{support_of};
 ghost use Rattle.mine_classes.specs.declared.words.TheConstants.{WORD_RANKS};
 ghost use Rattle.mine_classes.specs.declared.words.Word.{Word as Bits};
 ghost use Rattle.mine_classes.specs.Conditional.{kept_place};
@@ -16,6 +15,7 @@ ghost use Rattle.mine_classes.specs.Words.{has_rank, ranks_in, word_places};
 ghost use Rattle.mine_fp.specs.Trees.{is_branch};
 ghost use Rattle.mine_fp.specs.Words.{pair_weight, rank_weight};
 
+use crate::shift::{shift_all, shifts_of};
 use mine_classes::words::{self, WORD_RANKS, Word, bit_of};
 use mine_classes::{Ordered, Span, met_in_order};
 use std::alloc::{AllocError, Global};
@@ -64,14 +64,6 @@ impl Words {
         self.count
     }
 
-    /// The support of a rank.
-    pub fn support(&self, rank: u32) -> u64
-        requires { rank < self.now.ranks }
-        ensures { result ≡ support_of self.now.baskets (rank ∷ []) }
-    {
-        weight_with(&self.words, rank)
-    }
-
     /// Whether the prefix tree of the baskets is a single branch.
     pub fn is_branch(&self) -> bool
         ensures { result ≡ is_branch self.now.baskets }
@@ -85,24 +77,29 @@ impl Words {
         requires { rank < self.now.ranks }
         ensures { IfOk result (λ pairs. pairs.items ≡ pairs_of self.now.baskets least rank) }
     {
+        if rank == 0 {
+            return Ok(Vec::new(alloc));
+        }
         let sums = pair_sums(&self.words, rank);
         met_in_order(alloc, &sums[..rank as usize], least)
     }
 
-    /// The baskets that have a rank, kept to some lower ranks, which are numbered anew.
-    pub fn below(&self, alloc: Global, rank: u32, kept: &[u32]) -> Result<Self, AllocError>
+    /// The baskets that have a rank, kept to the ranks of some pairs, which are lower and are numbered
+    /// anew.
+    pub fn below(&self, alloc: Global, rank: u32, pairs: &[(u32, u64)]) -> Result<Self, AllocError>
         requires rank { rank < self.now.ranks }
-        requires rises { IsRising kept.now }
-        requires below { AllBelow rank kept.now }
-        requires few { length kept.now ≤ rank }
-        ensures ranks { IfOk result (λ below. below.ranks ≡ length kept.now) }
+        requires rises { IsRising (map (λ pair. pair.0) pairs.now) }
+        requires below { AllBelow rank (map (λ pair. pair.0) pairs.now) }
+        requires few { length pairs.now ≤ rank }
+        ensures ranks { IfOk result (λ below. below.ranks ≡ length pairs.now) }
         ensures ranked { IfOk result AreRankBaskets }
-        ensures weights { IfOk result (λ below. HaveSameWeights (flat_map (kept_place (has kept.now) rank) self.now.baskets) (map (decoded_place kept.now) below.baskets)) }
+        ensures weights { IfOk result (λ below. HaveSameWeights (flat_map (kept_place (has (map (λ pair. pair.0) pairs.now)) rank) self.now.baskets)
+            (map (decoded_place (map (λ pair. pair.0) pairs.now)) below.baskets)) }
     {
-        let count = kept.len() as u32;
-        let words = words_below(alloc, &self.words, rank, kept)?;
-        // Where no lower rank was dropped, the words are in order as they were.
-        if count == rank || words.len() < 2 {
+        let count = pairs.len() as u32;
+        let words = words_below(alloc, &self.words, rank, pairs)?;
+        // Where none or only the greatest of the lower ranks were dropped, they are as they were.
+        if count == rank || are_in_order(&words) {
             return Ok(Words { count, words });
         }
         let words = in_order(alloc, words)?;
@@ -124,6 +121,11 @@ fn words_of(alloc: Global, ranks: &[u32], baskets: &[Span]) -> Result<Vec<Word>,
         words.push(Word { bits, weight })?;
     }
     Ok(words)
+}
+
+/// Whether the words are in order, no two of them equal.
+fn are_in_order(words: &[Word]) -> bool {
+    words.is_sorted_by(|word, next| word.bits < next.bits)
 }
 
 /// The words in order, equal ones merged.
@@ -148,36 +150,6 @@ fn bits_of(basket: &[u32]) -> u64
         bits |= bit_of(*rank as usize);
     }
     bits
-}
-
-/// The bits of the places in the list of those ranks there that the word has.
-fn bits_kept(word: &Word, kept: &[u32]) -> u64
-    requires few { length kept.now ≤ WORD_RANKS }
-    requires below { AllBelow WORD_RANKS kept.now }
-    ensures { (place : ℕ) → place < length kept.now → has_rank result place ≡ has_rank word.now.bits (slice_index kept.now place) }
-{
-    let mut bits = 0;
-    for (place, rank) in kept.iter().enumerate() {
-        if word.has(*rank) {
-            bits |= bit_of(place);
-        }
-    }
-    bits
-}
-
-/// What the words weigh that have a rank.
-fn weight_with(words: &[Word], rank: u32) -> u64
-    requires rank { rank < WORD_RANKS }
-    requires light { sum_by (λ (word : Bits). word.weight) words.now ≤ MOST_WEIGHT }
-    ensures { result ≡ sum_by (rank_weight rank) words.now }
-{
-    let mut weight = 0;
-    for word in words {
-        if word.has(rank) {
-            weight += word.weight;
-        }
-    }
-    weight
 }
 
 /// Whether each word has all ranks below its own.
@@ -228,34 +200,43 @@ fn add_ranks(sums: &mut [u64; WORD_RANKS], word: &Word, count: u32)
     ensures { (rank : ℕ) → rank < count → slice_index sums.new rank ≡ slice_index sums.old rank + rank_weight rank word.now }
 {
     for rank in 0..count {
-        if word.has(rank) {
-            sums[rank as usize] += word.weight;
-        }
+        sums[rank as usize] += weight_at(word, rank);
     }
 }
 
-/// The words that have a rank, with the bits of the kept ranks. Equal neighbours are merged.
+/// What the word weighs where it has the rank, else 0, without a branch.
+fn weight_at(word: &Word, rank: u32) -> u64
+    requires rank { rank < WORD_RANKS }
+    requires light { word.now.weight ≤ MOST_WEIGHT }
+    ensures { result ≡ rank_weight rank word.now }
+{
+    word.weight * ((word.bits >> (63 - rank)) % 2)
+}
+
+/// The words that have a rank, with the bits of the ranks of some pairs. Equal neighbours are merged.
 fn words_below(
     alloc: Global,
     words: &[Word],
     rank: u32,
-    kept: &[u32],
+    pairs: &[(u32, u64)],
 ) -> Result<Vec<Word>, AllocError>
     requires rank { rank < WORD_RANKS }
-    requires few { length kept.now ≤ WORD_RANKS }
-    requires rises { IsRising kept.now }
-    requires below { AllBelow rank kept.now }
+    requires few { length pairs.now ≤ WORD_RANKS }
+    requires rises { IsRising (map (λ pair. pair.0) pairs.now) }
+    requires below { AllBelow rank (map (λ pair. pair.0) pairs.now) }
     requires some { All (λ (word : Bits). 1 ≤ word.weight) words.now }
     requires light { sum_by (λ (word : Bits). word.weight) words.now ≤ MOST_WEIGHT }
     ensures some { IfOk result (λ below. All (λ (word : Bits). 1 ≤ word.weight) below.items) }
     ensures light { IfOk result (λ below. sum_by (λ (word : Bits). word.weight) below.items ≤ MOST_WEIGHT) }
     ensures weights { IfOk result (λ below. (count : ℕ) → rank < count
-        → HaveSameWeights (flat_map (kept_place (has kept.now) rank) (word_places count words.now)) (map (decoded_place kept.now) (word_places (length kept.now) below.items))) }
+        → HaveSameWeights (flat_map (kept_place (has (map (λ pair. pair.0) pairs.now)) rank) (word_places count words.now))
+        (map (decoded_place (map (λ pair. pair.0) pairs.now)) (word_places (length (map (λ pair. pair.0) pairs.now)) below.items))) }
 {
+    let shifts = shifts_of(alloc, pairs)?;
     let mut below = Vec::with_capacity(alloc, words.len())?;
     for word in words {
         if word.has(rank) {
-            let bits = bits_kept(word, kept);
+            let bits = shift_all(word.bits, &shifts);
             let weight = word.weight;
             words::add(&mut below, Word { bits, weight })?;
         }

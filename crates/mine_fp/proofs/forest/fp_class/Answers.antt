@@ -1,12 +1,14 @@
-use Rattle.std.proofs.Common.{◌≡◌, ◌+◌, ◌++◌, length, map, ap, ◌∙◌, subst, inl, inr, arith, Err}
+use Rattle.std.proofs.Common.{◌≡◌, ◌+◌, ◌++◌, map, ap, sym, ◌∙◌, subst, inl, inr, arith, Err}
 use Rattle.std.proofs.lemmas.Result.{err_from_is_err_and}
 use Rattle.basket_core.specs.Codes.{Coding, IsCoding}
 use Rattle.basket_core.specs.declared.fault.MineFault.TheVariants.{TooMany}
 use Rattle.basket_core.specs.Depth.{HasSetOfSize}
 use Rattle.basket_sets.specs.declared.minimum.Minimum.TheVariants.{Count}
+use Rattle.basket_sets.specs.Itemset.{IsRising}
+use Rattle.basket_sets.proofs.theory.Rising.{nil_rises}
 use Rattle.mine_classes.specs.Classes.{class_of}
 use Rattle.mine_fp.specs.Forest.{AreInForest}
-use Rattle.mine_fp.specs.Level.{as_items, missing}
+use Rattle.mine_fp.specs.Level.{as_items, items_of, missing}
 use Rattle.mine_fp.proofs.ForestLemmas.{class_deep, class_settled, class_sizes, decoded_items, trees_settled}
 use Rattle.mine_fp.proofs.forest.fp_class.Goals as goal
 
@@ -17,7 +19,7 @@ returns-in_err-class-clause-too_many g c = λ limit e.
     let p = err_from_is_err_and c.from_residual-in_err-class.result c.from_residual-in_err-class.ensures.1 in
     let same : c.in_err-class.field-0.0 ≡ TooMany limit = cc in
     let many = c.in_err-class.ensures.too_many limit (ap Err same) in
-    let depth : missing level ≡ 32 + 1 = omega (arith, ap length c.forest.invariant.2) in (
+    let depth : missing level ≡ 32 + 1 = omega (arith, c.forest.invariant.4) in (
       many.0,
       elim many.1 [
         | inl over ↦ inl over
@@ -44,8 +46,8 @@ returns-clause-listed g c =
     record {
       sets = found.sets;
       listed = class_settled c.args.forest.now level.least level.paths are c.args.rank found.sets found.listed;
-      decoded = found.added ∙ ap (λ l. l ++ map (as_items level.names.items level.suffix.items) found.sets) c.new-2.ensures.items
-          ∙ decoded_items c.args.forest.now.items level.names.items level.suffix.items found.sets (c.forest.invariant.1 ∙ ap (λ v. v.items) c.forest.view_is) c.forest.invariant.2;
+      decoded = found.added ∙ ap (λ l. l ++ map (as_items (items_of level) level.suffix) found.sets) c.new-2.ensures.items
+          ∙ decoded_items c.args.forest.now.items (items_of level) level.suffix found.sets (c.forest.invariant.2 ∙ ap (λ v. v.items) c.forest.view_is) c.forest.invariant.3;
     }
 
 pub returns-clause-at_most : goal.returns-clause-at_most
@@ -62,3 +64,15 @@ returns-clause-trees g c =
     let are = subst (λ (v : Coding). AreInForest v level.least level.paths) c.forest.view_is c.forest.invariant.0 in
     let is = subst IsCoding c.forest.view_is c.baskets-baskets.ensures.coding in
     omega (arith, c.in_ok-class.ensures.trees, trees_settled c.args.forest.now level.least level.paths are is c.classes_are_listed.ensures c.args.rank)
+
+pub class-requires-clause-level : goal.class-requires-clause-level
+class-requires-clause-level g c =
+    let level = c.forest.inside.level in
+    let are = c.forest.invariant.0 in
+    record {
+      names = c.forest.invariant.1;
+      ranked = are.ranked;
+      some = are.least_is.some;
+      rises = subst IsRising (sym c.forest.invariant.3) nil_rises;
+      short = omega (arith, c.forest.invariant.4);
+    }

@@ -1,5 +1,6 @@
 use Rattle.std.proofs.Common.{◌≡◌, ℕ, Bool, List, length, map, subst, sym, ap, ◌∙◌, arith}
 use Rattle.std.specs.List.{flat_map}
+use Rattle.std.proofs.lemmas.List.{length-map}
 use Rattle.basket_core.specs.Codes.{decoded_place}
 use Rattle.basket_sets.specs.declared.weighted.Weighted.{Weighted}
 use Rattle.basket_sets.specs.Counts.{AllBelow}
@@ -11,36 +12,41 @@ use Rattle.mine_fp.proofs.LevelLemmas.{kept_below, kept_rises, kept_short, pair_
 use Rattle.mine_fp.proofs.WordLemmas.{conditional_coding, has_kept}
 use Rattle.mine_fp.proofs.paths.below_words.Goals as goal
 
--- the ranks of the pairs
-are_kept : (baskets : List Weighted) (least rank : ℕ) (pairs : List (ℕ × ℕ)) (items list : List ℕ) → list ≡ items → items ≡ map (λ (pair : ℕ × ℕ). pair.0) pairs
-    → pairs ≡ pairs_of baskets least rank → list ≡ kept_ranks baskets least rank
-are_kept baskets least rank pairs items list deref is pairs_are = deref ∙ is ∙ ap (map (λ (pair : ℕ × ℕ). pair.0)) pairs_are ∙ pair_ranks baskets least rank
+abbrev ranks_of : List (ℕ × ℕ) → List ℕ
+ranks_of pairs = map (λ (pair : ℕ × ℕ). pair.0) pairs
+
+are_kept : (baskets : List Weighted) (least rank : ℕ) (pairs : List (ℕ × ℕ)) → pairs ≡ pairs_of baskets least rank → ranks_of pairs ≡ kept_ranks baskets least rank
+are_kept baskets least rank pairs is = ap ranks_of is ∙ pair_ranks baskets least rank
 
 pub below-requires-clause-rises : goal.below-requires-clause-rises
 below-requires-clause-rises c =
-    let kept = are_kept c.args.words.now.baskets c.args.least c.args.rank c.args.pairs.now c.in_ok-kept.kept.items c.deref.result.now c.deref.ensures.value c.in_ok-kept.ensures c.requires.pairs in
+    let kept = are_kept c.args.words.now.baskets c.args.least c.args.rank c.args.pairs.now c.requires.pairs in
     subst IsRising (sym kept) (kept_rises c.args.words.now.baskets c.args.least c.args.rank)
 
 pub below-requires-clause-below : goal.below-requires-clause-below
 below-requires-clause-below c =
-    let kept = are_kept c.args.words.now.baskets c.args.least c.args.rank c.args.pairs.now c.in_ok-kept.kept.items c.deref.result.now c.deref.ensures.value c.in_ok-kept.ensures c.requires.pairs in
+    let kept = are_kept c.args.words.now.baskets c.args.least c.args.rank c.args.pairs.now c.requires.pairs in
     subst (AllBelow c.args.rank) (sym kept) (kept_below c.args.words.now.baskets c.args.least c.args.rank)
 
 pub below-requires-clause-few : goal.below-requires-clause-few
 below-requires-clause-few c =
-    let kept = are_kept c.args.words.now.baskets c.args.least c.args.rank c.args.pairs.now c.in_ok-kept.kept.items c.deref.result.now c.deref.ensures.value c.in_ok-kept.ensures c.requires.pairs in
-    omega (arith, ap length kept, kept_short c.args.words.now.baskets c.args.least c.args.rank)
+    let kept = are_kept c.args.words.now.baskets c.args.least c.args.rank c.args.pairs.now c.requires.pairs in
+    omega (arith, ap length kept, length-map c.args.pairs.now (λ (pair : ℕ × ℕ). pair.0), kept_short c.args.words.now.baskets c.args.least c.args.rank)
+
+pub returns-clause-ranks : goal.returns-clause-ranks
+returns-clause-ranks c =
+    let kept = are_kept c.args.words.now.baskets c.args.least c.args.rank c.args.pairs.now c.requires.pairs in
+    c.in_ok-below.ensures.ranks ∙ sym (length-map c.args.pairs.now (λ (pair : ℕ × ℕ). pair.0)) ∙ ap length kept
 
 pub returns-clause-coding : goal.returns-clause-coding
 returns-clause-coding c =
-    let kept = are_kept c.args.words.now.baskets c.args.least c.args.rank c.args.pairs.now c.in_ok-kept.kept.items c.deref.result.now c.deref.ensures.value c.in_ok-kept.ensures c.requires.pairs in
-    conditional_coding c.args.words.now.baskets c.args.least c.args.rank c.in_ok-below.below c.in_ok-below.ensures.ranked (c.in_ok-below.ensures.ranks ∙ ap length kept) (omega (arith, c.ranges.rank.fits))
+    conditional_coding c.args.words.now.baskets c.args.least c.args.rank c.in_ok-below.below c.in_ok-below.ensures.ranked (returns-clause-ranks c) (omega (arith, c.ranges.rank.fits))
 
 pub returns-clause-weights : goal.returns-clause-weights
 returns-clause-weights c =
     let baskets = c.args.words.now.baskets in
     let rank = c.args.rank in
-    let kept = are_kept baskets c.args.least rank c.args.pairs.now c.in_ok-kept.kept.items c.deref.result.now c.deref.ensures.value c.in_ok-kept.ensures c.requires.pairs in
+    let kept = are_kept baskets c.args.least rank c.args.pairs.now c.requires.pairs in
     let below = c.in_ok-below.below.baskets in
     let by_list = subst (λ (l : List ℕ). HaveSameWeights (flat_map (kept_place (has l) rank) baskets) (map (decoded_place l) below)) kept c.in_ok-below.ensures.weights in
     subst (λ (keeps : ℕ → Bool). HaveSameWeights (flat_map (kept_place keeps rank) baskets) (map (decoded_place (kept_ranks baskets c.args.least rank)) below))

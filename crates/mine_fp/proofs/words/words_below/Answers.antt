@@ -1,7 +1,7 @@
-use Rattle.std.proofs.Common.{◌≤◌, ◌+◌, length, map, take, sym, subst, ap, ◌∙◌, arith}
+use Rattle.std.proofs.Common.{ℕ, ◌≤◌, ◌+◌, get_or, length, map, take, sym, subst, ap, ◌∙◌, arith}
 use Rattle.std.specs.Prelude.{All}
 use Rattle.std.specs.List.{flat_map, sum_by}
-use Rattle.std.proofs.lemmas.List.{take_all}
+use Rattle.std.proofs.lemmas.List.{length-map, take_all}
 use Rattle.std.proofs.lemmas.List.Sums.{sum_by_more}
 use Rattle.basket_core.specs.Codes.{decoded_place}
 use Rattle.basket_sets.specs.Itemset.{has}
@@ -9,13 +9,14 @@ use Rattle.mine_classes.specs.declared.words.Word.{Word}
 use Rattle.mine_classes.specs.Conditional.{kept_place}
 use Rattle.mine_classes.specs.Ordered.{HaveSameWeights}
 use Rattle.mine_classes.specs.Words.{word_places}
+use Rattle.mine_fp.proofs.ShiftLemmas.{bits_brought}
 use Rattle.mine_fp.proofs.WordLemmas.{below_with, below_without, none}
 use Rattle.mine_fp.proofs.words.words_below.Goals as goal
 use Rattle.mine_fp.proofs.words.words_below.Goals.{then-has+in_ok-add, else-has}
 
 pub loop-word-preserved : goal.loop-word-preserved
 loop-word-preserved c =
-    let kept = c.args.kept.now in
+    let kept = map (λ (pair : ℕ × ℕ). pair.0) c.args.pairs.now in
     let rank = c.args.rank in
     let words = c.args.words.now in
     let i = c.loop-word.word-index in
@@ -33,7 +34,9 @@ loop-word-preserved c =
             weights = λ count low.
                 subst (λ l. HaveSameWeights (flat_map (kept_place (has kept) rank) (word_places count (take (i + 1) words))) (map (decoded_place kept) (word_places (length kept) l))) items
                 (below_with kept count rank words i here low (sym c.has.ensures ∙ w.if-has.true) (λ other h. let less = c.requires.below other h in omega (arith, less, low))
-                old w.add.new.words.items w.bits_kept-bits.result w.bits_kept-bits.ensures (so_far.weights count low) (now.weights (length kept)));
+                old w.add.new.words.items w.shift_all-bits.result
+                (bits_brought kept c.in_ok-shifts.shifts.items w.deref.result.now (get_or words i none).bits w.shift_all-bits.result c.in_ok-shifts.ensures w.deref.ensures.value (omega (arith, c.requires.few, length-map c.args.pairs.now (λ (pair : ℕ × ℕ). pair.0))) w.shift_all-bits.ensures)
+                (so_far.weights count low) (now.weights (length kept)));
           })
       | else-has w ↦
           (let items = sym (ap (λ v. v.items) w.below-is) in
@@ -48,6 +51,6 @@ loop-word-preserved c =
 
 pub returns-clause-weights : goal.returns-clause-weights
 returns-clause-weights c = λ count low.
-    let kept = c.args.kept.now in
+    let kept = map (λ (pair : ℕ × ℕ). pair.0) c.args.pairs.now in
     subst (λ l. HaveSameWeights (flat_map (kept_place (has kept) c.args.rank) (word_places count l)) (map (decoded_place kept) (word_places (length kept) c.loop-word.below.items)))
     (take_all c.loop-word.word-index c.args.words.now c.loop-word-test.false) (c.loop-word.invariant.weights count low)

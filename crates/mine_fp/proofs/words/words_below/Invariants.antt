@@ -13,6 +13,6 @@ abbrev pub invariant-loop-word : goal.invariant-loop-word
 invariant-loop-word l = record {
   some : All (λ (word : Word). 1 ≤ word.weight) l.below.items;
   light : sum_by (λ (word : Word). word.weight) l.below.items ≤ sum_by (λ (word : Word). word.weight) (take l.word-index l.words);
-  weights : (count : ℕ) → l.rank < count → HaveSameWeights (flat_map (kept_place (has l.kept) l.rank) (word_places count (take l.word-index l.words)))
-      (map (decoded_place l.kept) (word_places (length l.kept) l.below.items));
+  weights : (count : ℕ) → l.rank < count → HaveSameWeights (flat_map (kept_place (has (map (λ (pair : ℕ × ℕ). pair.0) l.pairs)) l.rank) (word_places count (take l.word-index l.words)))
+      (map (decoded_place (map (λ (pair : ℕ × ℕ). pair.0) l.pairs)) (word_places (length (map (λ (pair : ℕ × ℕ). pair.0) l.pairs)) l.below.items));
 }

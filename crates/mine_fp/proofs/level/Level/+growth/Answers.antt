@@ -1,4 +1,4 @@
-use Rattle.std.proofs.Common.{◌≡◌, ◌+◌, ◌≤◌, ◌++◌, ◌∷◌, [], List, cond, filter, length, map, refl, sym, ap, ◌∙◌, subst, inl, inr, arith, Err, vec_len}
+use Rattle.std.proofs.Common.{◌≡◌, ◌+◌, ◌++◌, ◌∷◌, [], List, cond, filter, length, map, refl, sym, ap, ◌∙◌, subst, inl, inr, arith, Err, vec_len}
 use Rattle.std.specs.List.{flat_map, range_with_len, sum_by}
 use Rattle.std.proofs.lemmas.Bool.{eqb-true}
 use Rattle.std.proofs.lemmas.List.{append-nil, length-append, length-map}
@@ -9,10 +9,11 @@ use Rattle.basket_sets.specs.declared.minimum.Minimum.TheVariants.{Count}
 use Rattle.basket_sets.specs.Frequent.{frequent_of}
 use Rattle.basket_sets.proofs.theory.Frequent.{once_is_as_long}
 use Rattle.mine_classes.specs.Classes.{ListsClass, class_of}
-use Rattle.mine_fp.specs.Level.{IsBelow, as_items, missing}
+use Rattle.mine_fp.specs.Level.{as_items, items_of, missing}
 use Rattle.mine_fp.specs.Trees.{has_tree, inner_trees, rank_trees}
-use Rattle.mine_fp.proofs.ClassLemmas.{alone_is_one, all_once, class_grown, class_long, class_some, classes_fit, deeper, frequent_of_size, inner_has_fewer, inner_is_level, met_by, more_all, more_classes, rare_by}
+use Rattle.mine_fp.proofs.ClassLemmas.{alone_is_one, all_once, class_grown, class_long, class_some, classes_fit, deeper, frequent_of_size, inner_has_fewer, met_by, more_all, more_classes, rare_by}
 use Rattle.mine_fp.proofs.LeafLemmas.{leaf_grown, leaf_trees, nothing_in}
+use Rattle.mine_fp.proofs.NameLemmas.{inner_is_level}
 use Rattle.mine_fp.proofs.TreesLemmas.{class_trees_are, more_trees, rare_trees, trees_of_ranks}
 use Rattle.mine_fp.proofs.level.Level.+growth.Goals as goal
 
@@ -44,18 +45,18 @@ class-returns-in_err-tell-clause-at_most g t c =
     let most = c.in_err-tell.ensures.at_most in
     omega arith
 
-pub class-returns-then-len-gt-DEPTH-clause-too_many :
-    goal.class-returns-then-len-gt-DEPTH-clause-too_many
-class-returns-then-len-gt-DEPTH-clause-too_many g t c = λ limit e.
+pub class-returns-then-self-ge-DEPTH-clause-too_many :
+    goal.class-returns-then-self-ge-DEPTH-clause-too_many
+class-returns-then-self-ge-DEPTH-clause-too_many g t c = λ limit e.
     let level = c.args.self.now in
     let met = met_by level.paths.baskets level.least c.args.rank c.support-support.result c.support-support.ensures c.requires.level.some c.if-support-self.false in
-    let last : missing level ≡ 1 = omega (arith, ap length c.in_ok-items.ensures, c.in_ok-items.items.ok.0, c.len.ensures, c.if-len-gt-DEPTH.true, c.requires.level.short) in
+    let last : missing level ≡ 1 = omega (arith, c.if-self-ge-DEPTH.true, c.requires.level.short) in
     let told : c.limit.result ≡ limit = cc in
     (sym told ∙ c.limit.ensures ∙ c.in_ok-tell.ensures.limit, inr (subst (HasSetOfSize (class_of level.paths.baskets (Count level.least) c.args.rank)) (sym last) (alone_is_one level.paths.baskets level.least c.args.rank c.classes_are_listed.ensures met)))
 
-pub class-returns-then-len-gt-DEPTH-clause-at_most :
-    goal.class-returns-then-len-gt-DEPTH-clause-at_most
-class-returns-then-len-gt-DEPTH-clause-at_most g t c =
+pub class-returns-then-self-ge-DEPTH-clause-at_most :
+    goal.class-returns-then-self-ge-DEPTH-clause-at_most
+class-returns-then-self-ge-DEPTH-clause-at_most g t c =
     let level = c.args.self.now in
     let met = met_by level.paths.baskets level.least c.args.rank c.support-support.result c.support-support.ensures c.requires.level.some c.if-support-self.false in
     let some = class_some level.paths.baskets level.least c.args.rank c.classes_are_listed.ensures met in
@@ -76,9 +77,8 @@ class-returns-then-is_empty-clause-listed g t c =
     let old = c.args.found.now.sets.items in
     let met = met_by level.paths.baskets level.least c.args.rank c.support-support.result c.support-support.ensures c.requires.level.some c.if-support-self.false in
     let none = sym c.in_ok-pairs.ensures.pairs ∙ nothing_in c.in_ok-pairs.pairs.items (omega (arith, eqb-true (vec_len c.in_ok-pairs.pairs) 0 (sym c.if-is_empty.ensures), c.in_ok-pairs.pairs.ok.0)) in
-    leaf_grown level c.args.rank none c.classes_are_conditional.ensures c.conditional_supports.ensures met old c.tell.new.found.sets.items c.deref.result.now c.support-support.result
-    (c.deref.ensures.value ∙ c.in_ok-items.ensures) c.support-support.ensures
-    (c.in_ok-tell.ensures.added ∙ (λ i. old ++ record { set = c.in_ok-from_items.ensures.ok i; count = c.support-support.result } ∷ []))
+    leaf_grown level c.args.rank none c.classes_are_conditional.ensures c.conditional_supports.ensures met old c.tell.new.found.sets.items c.in_ok-set.set c.support-support.result
+    c.requires.level.rises c.in_ok-set.ensures c.support-support.ensures c.in_ok-tell.ensures.added
 
 pub class-returns-then-is_empty-clause-trees : goal.class-returns-then-is_empty-clause-trees
 class-returns-then-is_empty-clause-trees g t c =
@@ -107,14 +107,13 @@ pub class-classes-requires : goal.class-classes-requires
 class-classes-requires g t c κs within =
     let level = c.args.self.now in
     let below = c.in_ok-inner.ensures.below in
-    let fewer = inner_has_fewer level c.args.rank c.in_ok-items.items.items c.in_ok-inner.inner below in
-    let short : length c.in_ok-items.items.items ≤ 32 = omega (arith, c.in_ok-items.items.ok.0, c.len.ensures, c.if-len-gt-DEPTH.false) in
-    let told : Counted = record { set = c.in_ok-from_items.field-0; count = c.support-support.result } in (
+    let fewer = inner_has_fewer level c.args.rank c.in_ok-inner.inner below in
+    let told : Counted = record { set = c.in_ok-set.set; count = c.support-support.result } in (
       omega (arith, c.decreases),
       (
         within,
         (
-          inner_is_level level c.args.rank c.in_ok-items.items.items c.in_ok-inner.inner c.requires.level below short,
+          inner_is_level level c.args.rank c.in_ok-inner.inner c.requires.level below c.conditional_supports.ensures (omega (arith, c.if-self-ge-DEPTH.false)),
           (
             omega (arith, c.requires.few, c.in_ok-tell.ensures.trees, c.in_ok-inner.ensures.trees, ap length c.in_ok-tell.ensures.added, length-append c.args.found.now.sets.items (told ∷ []), c.tell.new.found.sets.ok.0, c.args.found.now.sets.ok.0),
             c.in_ok-tell.ensures.going_on,
@@ -128,11 +127,10 @@ class-returns-clause-listed g t c =
     let level = c.args.self.now in
     let inner = c.in_ok-inner.inner in
     let met = met_by level.paths.baskets level.least c.args.rank c.support-support.result c.support-support.ensures c.requires.level.some c.if-support-self.false in
-    let below = subst (λ l. IsBelow level c.args.rank l inner) c.in_ok-items.ensures c.in_ok-inner.ensures.below in
+    let below = c.in_ok-inner.ensures.below in
     on_ok_weaker c.classes.result
-    (class_grown level c.args.rank inner below c.classes_by_codings.ensures met c.args.found.now.sets.items _ c.classes.new.found.sets.items c.deref.result.now c.support-support.result
-    (c.deref.ensures.value ∙ c.in_ok-items.ensures) c.support-support.ensures
-    (c.in_ok-tell.ensures.added ∙ (λ i. c.args.found.now.sets.items ++ record { set = c.in_ok-from_items.ensures.ok i; count = c.support-support.result } ∷ [])))
+    (class_grown level c.args.rank inner below c.classes_by_codings.ensures met c.args.found.now.sets.items _ c.classes.new.found.sets.items c.in_ok-set.set c.support-support.result
+    c.requires.level.rises c.in_ok-set.ensures c.support-support.ensures c.in_ok-tell.ensures.added)
     c.classes.ensures.listed
 
 pub class-returns-clause-trees : goal.class-returns-clause-trees
@@ -140,7 +138,7 @@ class-returns-clause-trees g t c =
     let level = c.args.self.now in
     let inner = c.in_ok-inner.inner in
     let met = met_by level.paths.baskets level.least c.args.rank c.support-support.result c.support-support.ensures c.requires.level.some c.if-support-self.false in
-    let below = subst (λ l. IsBelow level c.args.rank l inner) c.in_ok-items.ensures c.in_ok-inner.ensures.below in
+    let below = c.in_ok-inner.ensures.below in
     let all = class_trees_are level c.args.rank inner c.requires.level below c.classes_by_codings.ensures met c.classes_are_listed.ensures c.conditional_supports.ensures in
     on_ok_weaker c.classes.result (λ made. omega (arith, made, all, c.in_ok-inner.ensures.trees, c.in_ok-tell.ensures.trees)) c.classes.ensures.trees
 
@@ -149,10 +147,9 @@ class-returns-clause-too_many g t c = λ limit e.
     let level = c.args.self.now in
     let inner = c.in_ok-inner.inner in
     let met = met_by level.paths.baskets level.least c.args.rank c.support-support.result c.support-support.ensures c.requires.level.some c.if-support-self.false in
-    let below = subst (λ l. IsBelow level c.args.rank l inner) c.in_ok-items.ensures c.in_ok-inner.ensures.below in
+    let below = c.in_ok-inner.ensures.below in
     let many = c.classes.ensures.too_many limit e in
-    let less : missing inner + 1 ≡ missing level =
-    omega (arith, ap length c.in_ok-items.ensures, ap length below.suffix, c.in_ok-items.items.ok.0, c.len.ensures, c.if-len-gt-DEPTH.false, c.requires.level.short) in (
+    let less : missing inner + 1 ≡ missing level = omega (arith, below.depth, c.if-self-ge-DEPTH.false) in (
       many.0 ∙ c.in_ok-tell.ensures.limit,
       elim many.1 [
         | inl over ↦ inl over
@@ -166,7 +163,7 @@ class-returns-clause-at_most g t c =
     let level = c.args.self.now in
     let inner = c.in_ok-inner.inner in
     let met = met_by level.paths.baskets level.least c.args.rank c.support-support.result c.support-support.ensures c.requires.level.some c.if-support-self.false in
-    let below = subst (λ l. IsBelow level c.args.rank l inner) c.in_ok-items.ensures c.in_ok-inner.ensures.below in
+    let below = c.in_ok-inner.ensures.below in
     let long = class_long level c.args.rank inner below c.classes_by_codings.ensures met c.lists_have_class_size.ensures in
     let told = c.in_ok-tell.ensures.at_most in
     let most = c.classes.ensures.at_most in
@@ -184,7 +181,7 @@ pub classes-returns-then-is_branch-clause-few :
     goal.classes-returns-then-is_branch-clause-few
 classes-returns-then-is_branch-clause-few g t c =
     let level = c.args.self.now in
-    let named = as_items level.names.items level.suffix.items in
+    let named = as_items (items_of level) level.suffix in
     on_ok_weaker c.read_off.result
     (λ l. omega (
       arith,
@@ -229,7 +226,7 @@ classes-returns-in_err-class-clause-at_most g t c =
     let classes = so_far.listed.0 in
     let old = c.args.found.now.sets.items in
     let all = flat_map (λ (class : List Counted). class) classes in
-    let named = as_items level.names.items level.suffix.items in
+    let named = as_items (items_of level) level.suffix in
     let fit = classes_fit c.classes_are_all.ensures c.classes_are_listed.ensures level.paths c.requires.level.ranked level.least classes c.loop-rank.rank so_far.listed.1
     (omega (arith, c.loop-rank-test.true, c.ranks-rank-end.ensures)) so_far.listed.2 in
     let long = ap length so_far.listed.3 ∙ length-append old (map named all) in
@@ -248,7 +245,7 @@ classes-loop-rank-preserved g t c =
         classes ++ next.sets ∷ [],
         length-append classes (next.sets ∷ []) ∙ ap (λ n. n + 1) so_far.listed.1,
         more_classes level.paths.baskets level.least classes next.sets so_far.listed.2 (subst (λ rank. ListsClass level.paths.baskets (Count level.least) rank next.sets) (sym so_far.listed.1) next.listed),
-        more_all level.names.items level.suffix.items c.args.found.now.sets.items c.loop-rank.found.sets.items c.class.new.found.sets.items classes next.sets so_far.listed.3 next.added,
+        more_all (items_of level) level.suffix c.args.found.now.sets.items c.loop-rank.found.sets.items c.class.new.found.sets.items classes next.sets so_far.listed.3 next.added,
       );
       trees = omega (arith, now.trees, so_far.trees, more_trees level.paths.baskets level.least c.loop-rank.rank);
       few = now.few;
@@ -277,7 +274,7 @@ classes-returns-clause-at_most g t c =
     let so_far = c.loop-rank.invariant in
     let classes = so_far.listed.0 in
     let all = flat_map (λ (class : List Counted). class) classes in
-    let named = as_items level.names.items level.suffix.items in
+    let named = as_items (items_of level) level.suffix in
     let last : length classes ≡ level.paths.ranks = omega (arith, so_far.listed.1, c.loop-rank-test.false, c.ranks-rank-end.ensures, c.loop-rank.auto.rank-end) in
     let once = all_once c.classes_are_all.ensures c.classes_are_listed.ensures level.paths c.requires.level.ranked level.least classes last so_far.listed.2 in
     let size = once_is_as_long level.paths.baskets (Count level.least) all once in

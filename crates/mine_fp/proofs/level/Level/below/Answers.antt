@@ -1,24 +1,38 @@
-use Rattle.std.proofs.Common.{ℕ, length, get_or, map, ap, ◌∙◌, subst, true, ◌≡◌, arith}
+use Rattle.std.proofs.Common.{ℕ, ◌+◌, length, map, drop, ap, ◌∙◌, subst, true, ◌≡◌, arith}
+use Rattle.std.proofs.lemmas.List.{length-map, take-append-le, take_all}
 use Rattle.basket_sets.specs.Itemset.{has}
+use Rattle.mine_classes.specs.Pairs.{named_pair, pairs_of}
+use Rattle.mine_fp.specs.Level.{items_of}
 use Rattle.mine_fp.proofs.LevelLemmas.{kept_below, pair_ranks}
 use Rattle.mine_fp.proofs.level.Level.below.Goals as goal
 
-pub named-requires : goal.named-requires
-named-requires c = λ item h.
+pub rename-requires : goal.rename-requires
+rename-requires c = λ item h.
     let level = c.args.self.now in
-    let kept = ap (map (λ (pair : ℕ × ℕ). pair.0)) c.requires.pairs ∙ pair_ranks level.paths.baskets level.least c.args.rank in
+    let kept = ap (map (λ (pair : ℕ × ℕ). pair.0)) (c.deref_mut.ensures.value ∙ c.requires.pairs) ∙ pair_ranks level.paths.baskets level.least c.args.rank in
     let less = kept_below level.paths.baskets level.least c.args.rank item (subst (λ l. has l item ≡ true) kept h) in
-    omega (arith, less, ap length c.deref.ensures.value)
+    omega (arith, less, c.requires.rank, c.requires.level.names.long, ap length c.deref-2.ensures.value)
 
 pub returns-clause-below : goal.returns-clause-below
 returns-clause-below c =
     let level = c.args.self.now in
     let made = c.in_ok-paths.ensures in
-    let kept = ap (map (λ (pair : ℕ × ℕ). pair.0)) c.requires.pairs ∙ pair_ranks level.paths.baskets level.least c.args.rank in
+    let names = c.rename.new.pairs in
+    let is : names ≡ map (named_pair (items_of level)) (pairs_of level.paths.baskets level.least c.args.rank) =
+    c.rename.ensures ∙ (λ i. map (named_pair (map (λ (name : ℕ × ℕ). name.0) (c.deref-2.ensures.value i))) ((c.deref_mut.ensures.value ∙ c.requires.pairs) i)) in
+    let long : length names ≡ c.args.pairs.len =
+    omega (
+      arith,
+      ap length c.rename.ensures,
+      length-map c.deref_mut.result.now (named_pair (map (λ (name : ℕ × ℕ). name.0) c.deref-2.result.now)),
+      ap length c.deref_mut.ensures.value,
+      c.args.pairs.ok.0,
+    ) in
     record {
       ranks = made.ranks;
-      names = c.in_ok-names.ensures ∙ (λ i. map (λ other. get_or (c.deref.ensures.value i) other 0) (kept i));
-      suffix = λ i. c.args.items.items;
+      names = take-append-le c.args.pairs.len names (drop (length names) c.args.pairs.items) (omega arith) ∙ take_all c.args.pairs.len names (omega arith) ∙ is;
+      suffix = c.in_ok-suffix.ensures;
+      depth = λ i. level.depth + 1;
       least = λ i. level.least;
       coding = made.coding;
       weights = made.weights;

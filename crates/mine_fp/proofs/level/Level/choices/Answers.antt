@@ -1,14 +1,15 @@
 use Rattle.std.proofs.Common.{◌≡◌, ◌<◌, ◌+◌, ◌-◌, ◌++◌, ◌∷◌, [], List, get_or, length, map, take, sym, ap, ◌∙◌, subst, arith}
 use Rattle.std.specs.List.{flat_map}
 use Rattle.std.proofs.Math.Seq.{take-length}
-use Rattle.std.proofs.lemmas.List.{append-nil, get_or_default, length-append, length-map}
+use Rattle.std.proofs.lemmas.List.{append-nil, length-append, length-map}
 use Rattle.basket_sets.specs.declared.counted.Counted.{Counted}
 use Rattle.basket_sets.specs.declared.minimum.Minimum.TheVariants.{Count}
 use Rattle.basket_sets.specs.Itemset.{with_item}
 use Rattle.mine_classes.specs.Classes.{ListsClass}
-use Rattle.mine_fp.specs.Level.{as_items}
+use Rattle.mine_fp.specs.Level.{as_items, items_of}
 use Rattle.mine_fp.proofs.ChoiceLemmas.{choices_are_class, choices_long, chosen, chosen_more}
 use Rattle.mine_fp.proofs.ClassLemmas.{met_by, rare_by}
+use Rattle.mine_fp.proofs.LevelLemmas.{alone_as_items}
 use Rattle.mine_fp.proofs.level.Level.choices.Goals as goal
 
 pub returns-then-support-self-clause-listed : goal.returns-then-support-self-clause-listed
@@ -38,10 +39,26 @@ returns-in_err-choose-clause-at_most g c =
     let lower = c.requires.lower in
     let sets = flat_map (λ (class : List Counted). class) lower.classes in
     let size = choices_long level.paths.baskets level.least c.args.rank c.requires.branch met c.conditional_supports.ensures c.classes_are_all.ensures c.classes_are_conditional.ensures lower.classes lower.ranks lower.listed c.lists_have_class_size.ensures in
-    let named = as_items level.names.items level.suffix.items in
+    let named = as_items (items_of level) level.suffix in
     let long = ap length lower.are ∙ length-append lower.before (map named sets) in
     let most = c.in_err-choose.ensures.at_most in
     omega (arith, most, c.loop-at.invariant.told, size, long, lower.long, length-map sets named, c.loop-at-test.true, c.len-end.ensures, c.loop-at.auto.at, c.args.found.now.sets.ok.0)
+
+pub loop-at-init : goal.loop-at-init
+loop-at-init g c =
+    let level = c.args.self.now in
+    let alone = alone_as_items (items_of level) level.suffix c.args.rank c.support-support.result c.requires.level.rises in
+    record {
+      sets = λ classes before long are.
+          c.in_ok-tell.ensures.added ∙ (λ i. c.args.found.now.sets.items ++ record { set = c.in_ok-set.ensures i; count = c.support-support.result } ∷ [])
+          ∙ ap (λ s. c.args.found.now.sets.items ++ s ∷ []) (sym alone)
+          ∙ (let none : 0 ≡ c.args.start - c.args.start = omega arith in
+          ap (λ n. c.args.found.now.sets.items ++ map (as_items (items_of level) level.suffix) (chosen c.args.rank c.support-support.result (take n (flat_map (λ (class : List Counted). class) classes)))) none);
+      trees = c.in_ok-tell.ensures.trees;
+      told = omega (arith, c.in_ok-tell.ensures.told);
+      going_on = c.in_ok-tell.ensures.going_on;
+      limit = c.in_ok-tell.ensures.limit;
+    }
 
 pub loop-at-preserved : goal.loop-at-preserved
 loop-at-preserved g c =
@@ -49,17 +66,16 @@ loop-at-preserved g c =
     let so_far = c.loop-at.invariant in
     let now = c.in_ok-choose.ensures in
     let at = c.loop-at.at in
-    let item = c.index-item.result.now in
-    let named = as_items level.names.items level.suffix.items in
-    let name : item ≡ get_or level.names.items c.args.rank 0 =
-    c.index-item.ensures ∙ get_or_default level.names.items c.args.rank item 0 (omega (arith, c.requires.rank, c.requires.level.names)) in
+    let item = c.item-item.result in
+    let named = as_items (items_of level) level.suffix in
+    let name : item ≡ get_or (items_of level) c.args.rank 0 = c.item-item.ensures in
     record {
       sets = λ classes before long are.
           let sets = flat_map (λ (class : List Counted). class) classes in
           let whole = ap length are ∙ length-append before (map named sets) in
           let here : at - c.args.start < length sets =
           omega (arith, whole, long, length-map sets named, c.loop-at-test.true, c.len-end.ensures, c.loop-at.auto.at, c.args.found.now.sets.ok.0) in
-          chosen_more level.names.items level.suffix.items c.args.rank c.support-support.result item at (at - c.args.start) now.added.chosen before c.args.found.now.sets.items
+          chosen_more (items_of level) level.suffix c.args.rank c.support-support.result item at (at - c.args.start) now.added.chosen before c.args.found.now.sets.items
           c.loop-at.found.sets.items c.choose.new.found.sets.items sets here (omega (arith, long, c.loop-at.auto.at)) are name (so_far.sets classes before long are)
           (now.added.added ∙ (λ i. c.loop-at.found.sets.items ++ record { set = with_item item (sym now.added.stands i).set; count = c.support-support.result } ∷ []))
           ∙ (let next : at - c.args.start + 1 ≡ at + 1 - c.args.start = omega (arith, c.loop-at.auto.at) in
@@ -77,7 +93,7 @@ returns-clause-listed g c =
     let lower = c.requires.lower in
     let sets = flat_map (λ (class : List Counted). class) lower.classes in
     let class = choices_are_class level.paths.baskets level.least c.args.rank c.requires.branch met c.conditional_supports.ensures c.classes_are_all.ensures c.classes_are_conditional.ensures lower.classes lower.ranks lower.listed in
-    let named = as_items level.names.items level.suffix.items in
+    let named = as_items (items_of level) level.suffix in
     let long = ap length lower.are ∙ length-append lower.before (map named sets) in
     let whole : c.loop-at.at - c.args.start ≡ length sets =
     omega (arith, long, lower.long, length-map sets named, c.loop-at-test.false, c.len-end.ensures, c.loop-at.auto.at, c.loop-at.auto.at-end, c.args.found.now.sets.ok.0) in
@@ -95,6 +111,6 @@ returns-clause-at_most g c =
     let lower = c.requires.lower in
     let sets = flat_map (λ (class : List Counted). class) lower.classes in
     let size = choices_long level.paths.baskets level.least c.args.rank c.requires.branch met c.conditional_supports.ensures c.classes_are_all.ensures c.classes_are_conditional.ensures lower.classes lower.ranks lower.listed c.lists_have_class_size.ensures in
-    let named = as_items level.names.items level.suffix.items in
+    let named = as_items (items_of level) level.suffix in
     let long = ap length lower.are ∙ length-append lower.before (map named sets) in
     omega (arith, c.loop-at.invariant.told, size, long, lower.long, length-map sets named, c.loop-at-test.false, c.len-end.ensures, c.loop-at.auto.at, c.loop-at.auto.at-end, c.args.found.now.sets.ok.0)
