@@ -1,88 +1,46 @@
 -- Right sides level by level.
-use Rattle.std.proofs.Common.{◌≡◌, ◌≢◌, ℕ, ◌+◌, ◌-◌, ◌<◌, ◌≤◌, Bool, true, false, cond, ltb, List, [], ◌∷◌, ◌++◌, length, take, get_or, map, filter, Some, None, refl, sym, ap, ◌∙◌, subst, inl, inr, arith, zero, suc}
-use Rattle.std.specs.declared.cmp.Ordering.TheVariants.{Less}
+use Rattle.std.proofs.Common.{◌≡◌, ◌≢◌, ℕ, ◌+◌, ◌-◌, ◌<◌, ◌≤◌, ◌^◌, Bool, true, false, cond, ltb, List, [], ◌∷◌, ◌++◌, length, take, get_or, map, filter, Some, None, refl, sym, ap, ◌∙◌, subst, inl, inr, arith, zero, suc, add-one}
 use Rattle.std.specs.List.{AllByRecursion, flat_map}
-use Rattle.std.specs.List.Sorted.{IsStrictlySortedBy}
 use Rattle.std.proofs.lemmas.Bool.{lt-ltb, le-ltb}
-use Rattle.std.proofs.lemmas.List.{append_assoc, append-nil, map-append, get_or_append_left, length-append, take_more, take_all}
+use Rattle.std.proofs.lemmas.List.{append_assoc, append-nil, map-append, take_more, take_all}
 use Rattle.std.proofs.lemmas.List.Concat.{flat_map-append}
-use Rattle.std.proofs.lemmas.List.Elements.{filter-append, All-from_recursion, recursion_from_All, All-map}
-use Rattle.std.proofs.lemmas.List.Kept.{IsStrictlySortedBy-filter}
-use Rattle.std.specs.Ordering.{nat_cmp}
-use Rattle.std.specs.Cmp.Lexicographic.{slice_cmp}
+use Rattle.std.proofs.lemmas.List.Elements.{filter-append, filter_more, All-from_recursion}
+use Rattle.std.proofs.Math.Pow.{pow_mono}
+use Rattle.basket_core.specs.Depth.{HasSetOfSize}
 use Rattle.basket_core.specs.Listing.{Listing}
+use Rattle.basket_core.proofs.theory.Depth.{deep_sets_are_many}
 use Rattle.basket_sets.specs.declared.weighted.Weighted.{Weighted}
 use Rattle.basket_sets.specs.declared.counted.Counted.{Counted}
 use Rattle.basket_sets.specs.declared.minimum.Minimum.{Minimum}
+use Rattle.basket_sets.specs.Frequent.{frequent_of}
 use Rattle.basket_sets.specs.Itemset.{IsRising}
-use Rattle.basket_sets.specs.Order.{report_order, report_order_total, IsInReportOrder}
 use Rattle.basket_sets.specs.Subsets.{subsets_of_size, subsets_up_to}
-use Rattle.basket_sets.proofs.theory.Members.{Member, Member-filter, Member-from_filter, Contains-from_Member, Member-from_Contains, same_members, sorted_along, All-from_Member}
-use Rattle.basket_sets.proofs.theory.Rising.{has_each, contains_each, first_below, rest_rises, cons_rises}
-use Rattle.basket_sets.proofs.theory.Subsets.{IsSubset, IsSubset-from_Member, Member-from_IsSubset, of_size_sorted, same_length, size_of_Member}
-use Rattle.mine_apriori.specs.Sizes.{AreOfSize}
-use Rattle.mine_apriori.specs.Candidates.{candidates_of, IsCandidate, CandidatesAreExact, CandidatesAreInReportOrder}
+use Rattle.basket_sets.proofs.theory.Members.{Member, Member-map, All-from_Member}
+use Rattle.basket_sets.proofs.theory.Rising.{contains_each}
+use Rattle.basket_sets.proofs.theory.Subsets.{IsSubset-from_Member, size_of_Member}
 use Rattle.basket_rules.specs.declared.association.Rule.{Rule}
+use Rattle.basket_rules.specs.declared.rights.Right.{Right}
+use Rattle.basket_rules.specs.declared.rights.TheConstants.{MOST_PLACES}
 use Rattle.basket_rules.specs.Listed.{IsListingOf, set_at}
-use Rattle.basket_rules.specs.Subset.{without}
+use Rattle.basket_rules.specs.Rights.{longer, no_places, side_of, with_place}
 use Rattle.basket_rules.specs.Rules.{is_confident, rule_of, right_sides_of, IsRightSide, IsRuleFor, KeepsConfident, AreRulesWith, AreRules, rules_with}
-use Rattle.basket_rules.proofs.SubsetLemmas.{contains_without, Member-without}
-use Rattle.basket_sets.proofs.theory.Items.{one_item}
 use Rattle.basket_rules.proofs.CondensedLemmas.{entry, none}
 use Rattle.basket_rules.proofs.SearchLemmas.{set_is}
 use Rattle.basket_rules.proofs.RuleLemmas.{confidence_falls}
-
--- ---- a sorted list without one of its elements
-
-leave_out : {X : Type 0} (P : X → Type 0) (xs : List X) (y : X) (ys : List X) → AllByRecursion P (xs ++ y ∷ ys) → AllByRecursion P (xs ++ ys)
-leave_out P [] y ys h = h.1
-leave_out P (x ∷ xs) y ys h = (h.0, leave_out P xs y ys h.1)
-
-pub sorted_without : (xs : List (List ℕ)) (y : List ℕ) (ys : List (List ℕ)) → IsInReportOrder (xs ++ y ∷ ys) → IsInReportOrder (xs ++ ys)
-unfolding IsStrictlySortedBy
-sorted_without [] y ys s = s.1
-sorted_without (x ∷ xs) y ys s = (leave_out (λ z. report_order x z ≡ Less) xs y ys s.0, sorted_without xs y ys s.1)
-
-pub sized_without : (size : ℕ) (xs : List (List ℕ)) (y : List ℕ) (ys : List (List ℕ)) → AreOfSize size (xs ++ y ∷ ys) → AreOfSize size (xs ++ ys)
-sized_without size xs y ys all =
-    All-from_recursion (λ (set : List ℕ). length set ≡ size) (xs ++ ys) (leave_out (λ (set : List ℕ). length set ≡ size) xs y ys (recursion_from_All (λ (set : List ℕ). length set ≡ size) (xs ++ y ∷ ys) all))
-
-pub sized_front : (size : ℕ) (xs ys : List (List ℕ)) → AreOfSize size (xs ++ ys) → AreOfSize size xs
-sized_front size xs ys all k d below = ap length (sym (get_or_append_left xs ys d k below)) ∙ all k d (omega (arith, length-append xs ys))
-
--- ---- subsets of a set without one of its items
-
-without-rises : (place : ℕ) (items : List ℕ) → IsRising items → IsRising (without place items)
-without-rises place [] up = up
-without-rises zero (x ∷ items) up = rest_rises x items up
-without-rises (suc place) (x ∷ items) up =
-    cons_rises x (without place items) (λ y m. first_below x items up y (Member-without place items y m)) (without-rises place items (rest_rises x items up))
-
-length-without : (place : ℕ) (items : List ℕ) → place < length items → suc (length (without place items)) ≡ length items
-length-without place [] below = absurd (omega (arith, below))
-length-without zero (x ∷ items) below = refl
-length-without (suc place) (x ∷ items) below = ap suc (length-without place items (omega (arith, below)))
-
--- each item of a set of two or more is in the set without another place
-in_part : (set : List ℕ) (item : ℕ) → Member item set → 2 ≤ length set → (place : ℕ) × (place < length set) × Member item (without place set)
-in_part [] item m long = absurd m
-in_part (x ∷ []) item m long = absurd (omega (arith, long))
-in_part (x ∷ y ∷ set) item (inl e) long = (1, omega arith, inl e)
-in_part (x ∷ y ∷ set) item (inr m) long = (0, omega arith, m)
+use Rattle.basket_rules.proofs.RightLemmas.{sides_of, sides_are_subsets, all_longer, first_longer, kept_longer, fewer_longer, side_grows}
 
 -- ---- what is kept of a level
 
 module _ (listing : Listing) (confidence : ℕ × ℕ) (number : ℕ) where
-  -- how far a level was gone over: some right sides are left
-  abbrev pub IsKeptUntil : List (List ℕ) → List (List ℕ) → List (List ℕ) → List Rule → List Rule → Type 0
-  IsKeptUntil tried met rest old new = (baskets : List Weighted) (minimum : Minimum) → IsListingOf baskets minimum listing → AllByRecursion (IsRightSide listing number) tried
-      → AllByRecursion (IsRightSide listing number) rest
-      × (met ++ filter (is_confident baskets confidence (set_at listing.sets number)) rest ≡ filter (is_confident baskets confidence (set_at listing.sets number)) tried)
-      × (new ++ map (rule_of baskets (set_at listing.sets number)) (filter (is_confident baskets confidence (set_at listing.sets number)) rest)
-      ≡ old ++ map (rule_of baskets (set_at listing.sets number)) (filter (is_confident baskets confidence (set_at listing.sets number)) tried))
+  -- the same of the first of the right sides that are tried
+  abbrev pub IsKeptUpTo : ℕ → List Right → List Right → List Rule → List Rule → Type 0
+  IsKeptUpTo count tried met old new = (baskets : List Weighted) (minimum : Minimum) → IsListingOf baskets minimum listing
+      → AllByRecursion (λ right. IsRightSide listing number (side_of (set_at listing.sets number) right)) tried
+      → (met ≡ filter (λ right. is_confident baskets confidence (set_at listing.sets number) (side_of (set_at listing.sets number) right)) (take count tried))
+      × (new ≡ old ++ map (λ right. rule_of baskets (set_at listing.sets number) (side_of (set_at listing.sets number) right)) met)
 
-  pub kept_start : (tried : List (List ℕ)) (rules : List Rule) → IsKeptUntil tried [] tried rules rules
-  kept_start tried rules baskets minimum is all = (all, refl, refl)
+  pub kept_start : (tried : List Right) (rules : List Rule) → IsKeptUpTo 0 tried [] rules rules
+  kept_start tried rules baskets minimum is all = (refl, sym (append-nil rules))
 
   some_rule : (b : Bool) (rule expected : Rule) → Some rule ≡ cond b (Some expected) None → (b ≡ true) × (rule ≡ expected)
   some_rule true rule expected e = (refl, cc)
@@ -92,153 +50,126 @@ module _ (listing : Listing) (confidence : ℕ × ℕ) (number : ℕ) where
   no_rule_at true expected e = cc
   no_rule_at false expected e = refl
 
-  pub kept_one : (tried met rest : List (List ℕ)) (right : List ℕ) (old new : List Rule) (rule : Rule) → IsRuleFor listing confidence number right (Some rule)
-      → IsKeptUntil tried met (right ∷ rest) old new → IsKeptUntil tried (met ++ right ∷ []) rest old (new ++ rule ∷ [])
-  kept_one tried met rest right old new rule for so baskets minimum is all =
+  module _ (count : ℕ) (tried : List Right) (right : Right) (below : count < length tried) (here : right ≡ get_or tried count right) where
+    tried_one : AllByRecursion (λ r. IsRightSide listing number (side_of (set_at listing.sets number) r)) tried → IsRightSide listing number (side_of (set_at listing.sets number) right)
+    tried_one all = subst (λ r. IsRightSide listing number (side_of (set_at listing.sets number) r)) (sym here)
+        (All-from_recursion (λ r. IsRightSide listing number (side_of (set_at listing.sets number) r)) tried all count right below)
+
+    filtered : (test : Right → Bool) (b : Bool) → test right ≡ b → filter test (take (count + 1) tried) ≡ filter test (take count tried) ++ cond b (right ∷ []) []
+    filtered test b e =
+        filter_more test tried count right below ∙ ap (λ r. filter test (take count tried) ++ cond (test r) (r ∷ []) []) (sym here)
+        ∙ ap (λ x. filter test (take count tried) ++ cond x (right ∷ []) []) e
+
+    pub kept_one : (met : List Right) (old new : List Rule) (rule : Rule) → IsRuleFor listing confidence number (side_of (set_at listing.sets number) right) (Some rule)
+        → IsKeptUpTo count tried met old new → IsKeptUpTo (count + 1) tried (met ++ right ∷ []) old (new ++ rule ∷ [])
+    kept_one met old new rule for so baskets minimum is all =
+        let h = so baskets minimum is all in
+        let union = set_at listing.sets number in
+        let test : Right → Bool = λ r. is_confident baskets confidence union (side_of union r) in
+        let made : Right → Rule = λ r. rule_of baskets union (side_of union r) in
+        let found = some_rule (test right) rule (made right) (for baskets minimum is (tried_one all)) in (
+          ap (λ l. l ++ right ∷ []) h.0 ∙ sym (filtered test true found.0),
+          ap (λ l. l ++ rule ∷ []) h.1 ∙ append_assoc old (map made met) (rule ∷ []) ∙ ap (λ r. old ++ (map made met ++ r ∷ [])) found.1
+              ∙ ap (λ l. old ++ l) (sym (map-append made met (right ∷ []))),
+        )
+
+    pub kept_none : (met : List Right) (old new : List Rule) → IsRuleFor listing confidence number (side_of (set_at listing.sets number) right) None
+        → IsKeptUpTo count tried met old new → IsKeptUpTo (count + 1) tried met old new
+    kept_none met old new for so baskets minimum is all =
+        let h = so baskets minimum is all in
+        let union = set_at listing.sets number in
+        let test : Right → Bool = λ r. is_confident baskets confidence union (side_of union r) in
+        let fails = no_rule_at (test right) (rule_of baskets union (side_of union right)) (for baskets minimum is (tried_one all)) in
+        (h.0 ∙ sym (append-nil (filter test (take count tried))) ∙ sym (filtered test false fails), h.1)
+
+  pub kept_all : (count : ℕ) (tried met : List Right) (old new : List Rule) → length tried ≤ count → IsKeptUpTo count tried met old new → KeepsConfident listing confidence number tried met old new
+  kept_all count tried met old new whole so baskets minimum is all =
       let h = so baskets minimum is all in
-      let union = set_at listing.sets number in
-      let test = is_confident baskets confidence union in
-      let found = some_rule (test right) rule (rule_of baskets union right) (for baskets minimum is h.0.0) in
-      let kept : filter test (right ∷ rest) ≡ right ∷ filter test rest = ap (λ b. cond b (right ∷ filter test rest) (filter test rest)) found.0 in (
-        h.0.1,
-        append_assoc met (right ∷ []) (filter test rest) ∙ ap (λ l. met ++ l) (sym kept) ∙ h.1,
-        append_assoc new (rule ∷ []) (map (rule_of baskets union) (filter test rest))
-            ∙ (λ i. new ++ (found.1 i ∷ map (rule_of baskets union) (filter test rest)))
-            ∙ ap (λ l. new ++ map (rule_of baskets union) l) (sym kept) ∙ h.2,
-      )
-
-  pub kept_none : (tried met rest : List (List ℕ)) (right : List ℕ) (old new : List Rule) → IsRuleFor listing confidence number right None
-      → IsKeptUntil tried met (right ∷ rest) old new → IsKeptUntil tried met rest old new
-  kept_none tried met rest right old new for so baskets minimum is all =
-      let h = so baskets minimum is all in
-      let union = set_at listing.sets number in
-      let test = is_confident baskets confidence union in
-      let fails = no_rule_at (test right) (rule_of baskets union right) (for baskets minimum is h.0.0) in
-      let dropped : filter test (right ∷ rest) ≡ filter test rest = ap (λ b. cond b (right ∷ filter test rest) (filter test rest)) fails in
-      (h.0.1, ap (λ l. met ++ l) (sym dropped) ∙ h.1, ap (λ l. new ++ map (rule_of baskets union) l) (sym dropped) ∙ h.2)
-
-  pub kept_all : (tried met : List (List ℕ)) (old new : List Rule) → IsKeptUntil tried met [] old new → KeepsConfident listing confidence number tried met old new
-  kept_all tried met old new so baskets minimum is all =
-      let h = so baskets minimum is all in (sym (append-nil met) ∙ h.1, sym (append-nil new) ∙ h.2)
-
--- ---- the next level
-
--- the subsets of a size are in report order
-level_sorted : (union : List ℕ) → IsRising union → (size : ℕ) → IsInReportOrder (subsets_of_size size union)
-level_sorted union up size = sorted_along (slice_cmp nat_cmp) report_order (subsets_of_size size union)
-    (λ a b m n h. let s = IsSubset-from_Member size union a up m in let t = IsSubset-from_Member size union b up n in same_length a b (s.sized ∙ sym t.sized) h)
-    (of_size_sorted size union up)
-
-pub singles_sized : (union : List ℕ) → AreOfSize 1 (map (λ item. item ∷ []) union)
-singles_sized union = All-map (λ (set : List ℕ). length set ≡ 1) (λ (item : ℕ). item ∷ []) union (λ k d below. refl)
-
-pub singles_sorted : (union : List ℕ) → IsRising union → IsInReportOrder (map (λ item. item ∷ []) union)
-singles_sorted union up = subst IsInReportOrder (one_item union) (level_sorted union up 1)
-
-module _ (law : CandidatesAreExact) (order : CandidatesAreInReportOrder) (baskets : List Weighted) (confidence : ℕ × ℕ) (union : List ℕ) (up : IsRising union) where
-  abbrev pub test : List ℕ → Bool
-  test right = is_confident baskets confidence union right
-
-  abbrev pub AreWithin : ℕ → List (List ℕ) → Type 0
-  AreWithin size rights = (right : List ℕ) → Member right rights → IsSubset size union right
-
-  candidate_within : (size : ℕ) (met : List (List ℕ)) (set : List ℕ) → 1 ≤ size → AreWithin size met → IsCandidate size met set → IsSubset (suc size) union set
-  candidate_within size met set some within c = record {
-    rises = c.rises;
-    sized = omega (arith, c.sized);
-    within = λ item m.
-        let p = in_part set item m (omega (arith, c.sized)) in
-        let long = length-without p.0 set p.1 in
-        let listed = c.subsets (without p.0 set) (without-rises p.0 set c.rises) (omega (arith, c.sized)) (contains_without p.0 set) in
-        (within (without p.0 set) (Member-from_Contains (without p.0 set) met listed)).within item p.2;
-  }
-
-  next_within : (size : ℕ) (met : List (List ℕ)) → 1 ≤ size → AreOfSize size met → AreWithin size met → AreWithin (suc size) (candidates_of met)
-  next_within size met some sized within set m =
-      candidate_within size met set some within ((law size met set some sized).0 (Contains-from_Member set (candidates_of met) m))
-
-  next_level : (size : ℕ) (met : List (List ℕ)) → 1 ≤ size → AreOfSize size met → AreWithin size met → met ≡ filter test (subsets_of_size size union)
-      → filter test (candidates_of met) ≡ filter test (subsets_of_size (suc size) union)
-  next_level size met some sized within is = same_members report_order_total (filter test (candidates_of met)) (filter test (subsets_of_size (suc size) union))
-      (IsStrictlySortedBy-filter report_order test (candidates_of met) (order met))
-      (IsStrictlySortedBy-filter report_order test (subsets_of_size (suc size) union) (level_sorted union up (suc size)))
-      (λ z m. let p = Member-filter test z (candidates_of met) m in
-      Member-from_filter test z (subsets_of_size (suc size) union) (Member-from_IsSubset (suc size) union z up (next_within size met some sized within z p.0)) p.1)
-      (λ z m. let p = Member-filter test z (subsets_of_size (suc size) union) m in
-      let s = IsSubset-from_Member (suc size) union z up p.0 in
-      Member-from_filter test z (candidates_of met) (Member-from_Contains z (candidates_of met) ((law size met z some sized).1 (record {
-        rises = s.rises;
-        sized = omega (arith, s.sized);
-        subsets = λ part rises long h. Contains-from_Member part met (subst (Member part) (sym is)
-            (Member-from_filter test part (subsets_of_size size union)
-            (Member-from_IsSubset size union part up (record { rises = rises; sized = long; within = λ item n. s.within item (has_each z part h item n) }))
-            (confidence_falls baskets confidence union z part h p.1)));
-      }))) p.1)
+      (h.0 ∙ ap (filter (λ right. is_confident baskets confidence (set_at listing.sets number) (side_of (set_at listing.sets number) right))) (take_all count tried whole), h.1)
 
 -- ---- the rules of a union, up to a size of their right sides
 
 -- the right sides of a size that are tried, and the rules with smaller ones
-pub record IsLevel (baskets : List Weighted) (confidence : ℕ × ℕ) (union : List ℕ) (size : ℕ) (rights : List (List ℕ)) (rules : List Rule) : Type 0 where
-  pub within : (right : List ℕ) → Member right rights → IsSubset size union right
-  pub all : filter (is_confident baskets confidence union) rights ≡ filter (is_confident baskets confidence union) (subsets_of_size size union)
+pub record IsLevel (baskets : List Weighted) (confidence : ℕ × ℕ) (union : List ℕ) (size : ℕ) (rights : List Right) (rules : List Rule) : Type 0 where
+  pub within : (right : Right) → Member right rights → Member right (sides_of size 0 union)
+  pub all : filter (λ right. is_confident baskets confidence union (side_of union right)) rights ≡ filter (λ right. is_confident baskets confidence union (side_of union right)) (sides_of size 0 union)
   pub smaller : rules ≡ map (rule_of baskets union) (filter (is_confident baskets confidence union) (subsets_up_to (size - 1) union))
 
-abbrev pub IsLevelAt : Listing → ℕ × ℕ → ℕ → ℕ → List (List ℕ) → List Rule → Type 0
+abbrev pub IsLevelAt : Listing → ℕ × ℕ → ℕ → ℕ → List Right → List Rule → Type 0
 IsLevelAt listing confidence number size rights rules = (baskets : List Weighted) (minimum : Minimum) → IsListingOf baskets minimum listing
     → IsLevel baskets confidence (set_at listing.sets number) size rights rules
 
-pub first_level : (listing : Listing) (confidence : ℕ × ℕ) (number : ℕ) → number < length listing.sets → IsLevelAt listing confidence number 1 (map (λ item. item ∷ []) (set_at listing.sets number)) []
-first_level listing confidence number below baskets minimum is =
+pub first_level : (listing : Listing) (confidence : ℕ × ℕ) (number : ℕ) → length (set_at listing.sets number) ≤ MOST_PLACES
+    → IsLevelAt listing confidence number 1 (longer (length (set_at listing.sets number)) (no_places ∷ [])) []
+first_level listing confidence number few baskets minimum is =
     let union = set_at listing.sets number in
-    let up = (entry baskets minimum listing is number below).0.0 in
+    let all = first_longer union few in
     record {
-      within = λ right m. IsSubset-from_Member 1 union right up (subst (Member right) (sym (one_item union)) m);
-      all = ap (filter (is_confident baskets confidence union)) (sym (one_item union));
+      within = λ right m. subst (Member right) all m;
+      all = ap (filter (λ right. is_confident baskets confidence union (side_of union right))) all;
       smaller = refl;
     }
 
-right_sides : (listing : Listing) (number size : ℕ) (rights : List (List ℕ)) → 1 ≤ size → size < length (set_at listing.sets number)
-    → ((right : List ℕ) → Member right rights → IsSubset size (set_at listing.sets number) right) → AllByRecursion (IsRightSide listing number) rights
-right_sides listing number size rights some less within = All-from_Member (IsRightSide listing number) rights (λ right m.
-    let s = within right m in
-    ((s.rises, (λ e. let z : length right ≡ 0 = ap length e in let k = s.sized in omega arith), contains_each (set_at listing.sets number) right s.within), (let k = s.sized in omega arith)))
+right_sides : (listing : Listing) (number size : ℕ) (rights : List Right) → IsRising (set_at listing.sets number) → length (set_at listing.sets number) ≤ MOST_PLACES
+    → 1 ≤ size → size < length (set_at listing.sets number)
+    → ((right : Right) → Member right rights → Member right (sides_of size 0 (set_at listing.sets number))) → AllByRecursion (λ right. IsRightSide listing number (side_of (set_at listing.sets number) right)) rights
+right_sides listing number size rights up few some less within = All-from_Member (λ right. IsRightSide listing number (side_of (set_at listing.sets number) right)) rights (λ right m.
+    let union = set_at listing.sets number in
+    let side = side_of union right in
+    let s = IsSubset-from_Member size union side up
+    (subst (Member side) (sides_are_subsets size union few) (Member-map (side_of union) right (sides_of size 0 union) (within right m))) in
+    ((s.rises, (λ e. let z : length side ≡ 0 = ap length e in let k = s.sized in omega arith), contains_each union side s.within), (let k = s.sized in omega arith)))
 
-pub more_level : (law : CandidatesAreExact) (order : CandidatesAreInReportOrder) (listing : Listing) (confidence : ℕ × ℕ) (number size : ℕ) (rights met : List (List ℕ)) (rules more : List Rule)
-    → number < length listing.sets → 1 ≤ size → size < length (set_at listing.sets number) → AreOfSize size met → KeepsConfident listing confidence number rights met rules more
-    → IsLevelAt listing confidence number size rights rules → IsLevelAt listing confidence number (size + 1) (candidates_of met) more
-more_level law order listing confidence number size rights met rules more below some less sized keeps level baskets minimum is =
+-- a test of the sides, and what is made of those that pass
+filtered_sides : {X : Type 0} (test : List ℕ → Bool) (made : List ℕ → X) (side : Right → List ℕ) (rights : List Right)
+    → map (λ r. made (side r)) (filter (λ r. test (side r)) rights) ≡ map made (filter test (map side rights))
+filtered_sides test made side [] = refl
+filtered_sides test made side (right ∷ rights) = at (test (side right)) (filtered_sides test made side rights)
+  where
+    at : (b : Bool) → map (λ r. made (side r)) (filter (λ r. test (side r)) rights) ≡ map made (filter test (map side rights))
+        → map (λ r. made (side r)) (cond b (right ∷ filter (λ r. test (side r)) rights) (filter (λ r. test (side r)) rights))
+        ≡ map made (cond b (side right ∷ filter test (map side rights)) (filter test (map side rights)))
+    at true e = ap (λ l. made (side right) ∷ l) e
+    at false e = e
+
+pub more_level : (listing : Listing) (confidence : ℕ × ℕ) (number size : ℕ) (rights met : List Right) (rules more : List Rule)
+    → number < length listing.sets → length (set_at listing.sets number) ≤ MOST_PLACES → 1 ≤ size → size < length (set_at listing.sets number)
+    → KeepsConfident listing confidence number rights met rules more
+    → IsLevelAt listing confidence number size rights rules → IsLevelAt listing confidence number (size + 1) (longer (length (set_at listing.sets number)) met) more
+more_level listing confidence number size rights met rules more below few some less keeps level baskets minimum is =
     let union = set_at listing.sets number in
     let up = (entry baskets minimum listing is number below).0.0 in
     let l = level baskets minimum is in
-    let kept = keeps baskets minimum is (right_sides listing number size rights some less l.within) in
-    let in_union : (right : List ℕ) → Member right met → IsSubset size union right = λ right m.
-    l.within right (Member-filter (is_confident baskets confidence union) right rights (subst (Member right) kept.0 m)).0 in
-    let one : suc size ≡ size + 1 = omega arith in
+    let test : Right → Bool = λ right. is_confident baskets confidence union (side_of union right) in
+    let kept = keeps baskets minimum is (right_sides listing number size rights up few some less l.within) in
+    let met_is : met ≡ filter test (sides_of size 0 union) = kept.0 ∙ l.all in
+    let next : longer (length union) (sides_of size 0 union) ≡ sides_of (size + 1) 0 union = all_longer size union few ∙ ap (λ n. sides_of n 0 union) (sym (add-one size)) in
     record {
-      within = subst (λ n. (right : List ℕ) → Member right (candidates_of met) → IsSubset n union right) one (next_within law order baskets confidence union up size met some sized in_union);
-      all = next_level law order baskets confidence union up size met some sized in_union (kept.0 ∙ l.all) ∙ ap (λ n. filter (is_confident baskets confidence union) (subsets_of_size n union)) one;
-      smaller = kept.1 ∙ added baskets confidence union size rights rules some l ∙ ap (λ n. map (rule_of baskets union) (filter (is_confident baskets confidence union) (subsets_up_to n union))) (less_one size);
+      within = λ right m. subst (Member right) next (fewer_longer test (length union) (sides_of size 0 union) right (subst (λ r. Member right (longer (length union) r)) met_is m));
+      all = ap (λ r. filter test (longer (length union) r)) met_is
+          ∙ kept_longer test (λ place right h. confidence_falls baskets confidence union (side_of union (with_place place right)) (side_of union right)
+          (contains_each (side_of union (with_place place right)) (side_of union right) (side_grows union place right)) h) (length union) (sides_of size 0 union)
+          ∙ ap (filter test) next;
+      smaller = kept.1 ∙ (λ i. l.smaller i ++ map (λ right. rule_of baskets union (side_of union right)) (met_is i))
+          ∙ ap (λ r. map (rule_of baskets union) (filter (is_confident baskets confidence union) (subsets_up_to (size - 1) union)) ++ r)
+          (filtered_sides (is_confident baskets confidence union) (rule_of baskets union) (side_of union) (sides_of size 0 union)
+          ∙ ap (λ s. map (rule_of baskets union) (filter (is_confident baskets confidence union) s)) (sides_are_subsets size union few))
+          ∙ joined baskets confidence union size some
+          ∙ ap (λ n. map (rule_of baskets union) (filter (is_confident baskets confidence union) (subsets_up_to n union))) (less_one size);
     }
   where
     less_one : (n : ℕ) → n ≡ n + 1 - 1
     less_one n = omega arith
 
-    joined : (baskets : List Weighted) (confidence : ℕ × ℕ) (union : List ℕ) (k : ℕ) →
-        map (rule_of baskets union) (filter (is_confident baskets confidence union) (subsets_up_to k union)) ++ map (rule_of baskets union) (filter (is_confident baskets confidence union) (subsets_of_size (suc k) union))
-        ≡ map (rule_of baskets union) (filter (is_confident baskets confidence union) (subsets_up_to (suc k) union))
-    joined baskets confidence union k =
-        sym (map-append (rule_of baskets union) (filter (is_confident baskets confidence union) (subsets_up_to k union)) (filter (is_confident baskets confidence union) (subsets_of_size (suc k) union)))
-        ∙ ap (map (rule_of baskets union)) (sym (filter-append (is_confident baskets confidence union) (subsets_up_to k union) (subsets_of_size (suc k) union)))
-
-    added : (baskets : List Weighted) (confidence : ℕ × ℕ) (union : List ℕ) (size : ℕ) (rights : List (List ℕ)) (rules : List Rule) → 1 ≤ size → IsLevel baskets confidence union size rights rules
-        → rules ++ map (rule_of baskets union) (filter (is_confident baskets confidence union) rights)
-        ≡ map (rule_of baskets union) (filter (is_confident baskets confidence union) (subsets_up_to size union))
-    added baskets confidence union zero rights rules some l = absurd (omega arith)
-    added baskets confidence union (suc k) rights rules some l =
+    joined : (baskets : List Weighted) (confidence : ℕ × ℕ) (union : List ℕ) (k : ℕ) → 1 ≤ k →
+        map (rule_of baskets union) (filter (is_confident baskets confidence union) (subsets_up_to (k - 1) union)) ++ map (rule_of baskets union) (filter (is_confident baskets confidence union) (subsets_of_size k union))
+        ≡ map (rule_of baskets union) (filter (is_confident baskets confidence union) (subsets_up_to k union))
+    joined baskets confidence union zero some = absurd (omega (arith, some))
+    joined baskets confidence union (suc k) some =
         let same : suc k - 1 ≡ k = omega arith in
-        (λ i. l.smaller i ++ map (rule_of baskets union) (l.all i))
-        ∙ ap (λ n. map (rule_of baskets union) (filter (is_confident baskets confidence union) (subsets_up_to n union)) ++ map (rule_of baskets union) (filter (is_confident baskets confidence union) (subsets_of_size (suc k) union))) same
-        ∙ joined baskets confidence union k
+        ap (λ n. map (rule_of baskets union) (filter (is_confident baskets confidence union) (subsets_up_to n union)) ++ map (rule_of baskets union) (filter (is_confident baskets confidence union) (subsets_of_size (suc k) union))) same
+        ∙ sym (map-append (rule_of baskets union) (filter (is_confident baskets confidence union) (subsets_up_to k union)) (filter (is_confident baskets confidence union) (subsets_of_size (suc k) union)))
+        ∙ ap (map (rule_of baskets union)) (sym (filter-append (is_confident baskets confidence union) (subsets_up_to k union) (subsets_of_size (suc k) union)))
 
 -- ---- all sizes but the union's own
 
@@ -269,7 +200,7 @@ right_sides_are (x ∷ items) up =
     whole right m = let s = IsSubset-from_Member (suc (length items)) (x ∷ items) right up m in
         le-ltb (length right) (suc (length items)) (let n = s.sized in omega arith)
 
-pub all_levels : (listing : Listing) (confidence : ℕ × ℕ) (number size : ℕ) (rights : List (List ℕ)) (rules : List Rule) → number < length listing.sets
+pub all_levels : (listing : Listing) (confidence : ℕ × ℕ) (number size : ℕ) (rights : List Right) (rules : List Rule) → number < length listing.sets
     → length (set_at listing.sets number) ≤ size → (1 ≤ length (set_at listing.sets number) → size ≤ length (set_at listing.sets number))
     → IsLevelAt listing confidence number size rights rules → AreRulesWith listing confidence number rules
 all_levels listing confidence number size rights rules below low high level baskets minimum is =
@@ -282,6 +213,16 @@ all_levels listing confidence number size rights rules below low high level bask
     some_item : (set : List ℕ) → set ≢ [] → 1 ≤ length set
     some_item [] some = absurd (some refl)
     some_item (x ∷ set) some = omega arith
+
+-- ---- no larger unions
+
+pub none_so_large : (listing : Listing) (number : ℕ) (set : Counted) → set ≡ get_or listing.sets number set → number < length listing.sets → length listing.sets < 2 ^ 64 → MOST_PLACES < length set.set
+    → (baskets : List Weighted) (minimum : Minimum) → IsListingOf baskets minimum listing → ⊥
+none_so_large listing number set is_here below fits deep baskets minimum is =
+    let many = deep_sets_are_many baskets minimum (length set.set) (subst (λ l. HasSetOfSize l (length set.set)) is.sets (set, (number, below, sym is_here), refl)) in
+    let long : length listing.sets ≡ length (frequent_of baskets minimum) = ap length is.sets in
+    let grows : 2 ^ 65 ≤ 2 ^ length set.set = pow_mono {i = 65} {j = length set.set} (omega (arith, deep)) in
+    omega (arith, many, long, grows, fits)
 
 -- ---- union after union
 

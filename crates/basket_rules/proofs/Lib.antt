@@ -4,4 +4,5 @@ mod AboveLemmas
 mod TreeLemmas
 mod CondensedLemmas
 mod RuleLemmas
+mod RightLemmas
 mod LevelLemmas

@@ -117,7 +117,7 @@ module _ (listing : Listing) (number : ℕ) (within : number < length listing.se
 
   pub a_rule : (confidence : ℕ × ℕ) (left_count right_count : ℕ) (rule : Rule) → IsCountIn listing.sets (difference (set_at listing.sets number) right) left_count → IsCountIn listing.sets right right_count
       → leb (confidence.0 * left_count) (count_at listing.sets number * confidence.1) ≡ true
-      → rule.left ≡ rising (difference (set_at listing.sets number) right) → rule.right ≡ right → rule.count ≡ count_at listing.sets number
+      → rule.left ≡ rising (difference (set_at listing.sets number) right) → rule.right ≡ rising right → rule.count ≡ count_at listing.sets number
       → (1 ≤ left_count → rule.confidence ≡ lowest (count_at listing.sets number) left_count)
       → (1 ≤ left_count * right_count → rule.lift ≡ lowest (count_at listing.sets number * listing.total) (left_count * right_count))
       → IsRuleFor listing confidence number right (Some rule)
@@ -145,6 +145,9 @@ module _ (listing : Listing) (number : ℕ) (within : number < length listing.se
       both : 1 ≤ left_count * right_count
       both = product left_count right_count some (subst (λ n. 1 ≤ n) (sym r) (right_some baskets minimum is side))
 
+      right_is_side : rule.right ≡ right
+      right_is_side = e_right ∙ rising-rising right side.0.0
+
       share : rule.confidence ≡ lowest (support_of baskets (set_at listing.sets number)) (support_of baskets (difference (set_at listing.sets number) right))
       share = e_confidence some ∙ (λ i. lowest (u i) (l i))
 
@@ -152,4 +155,4 @@ module _ (listing : Listing) (number : ℕ) (within : number < length listing.se
       lift = e_lift both ∙ (λ i. lowest (u i * is.total i) (l i * r i))
 
       same : rule ≡ rule_of baskets (set_at listing.sets number) right
-      same = λ i. record { left = left i; right = e_right i; count = (e_count ∙ u) i; confidence = share i; lift = lift i }
+      same = λ i. record { left = left i; right = right_is_side i; count = (e_count ∙ u) i; confidence = share i; lift = lift i }

@@ -4,5 +4,6 @@ pub mod Subset
 pub mod Tree
 pub mod Above
 pub mod Condensed
+pub mod Rights
 pub mod Rules
 pub mod Worked

@@ -11,7 +11,9 @@ use Rattle.basket_sets.specs.Itemset.{has, contains}
 use Rattle.basket_sets.specs.Subsets.{subsets_of, IsSublist}
 use Rattle.basket_sets.specs.Support.{support_of, total_of}
 use Rattle.basket_rules.specs.declared.association.Rule.{Rule}
+use Rattle.basket_rules.specs.declared.rights.Right.{Right}
 use Rattle.basket_rules.specs.Listed.{IsListingOf, IsSorted, set_at, count_at}
+use Rattle.basket_rules.specs.Rights.{side_of}
 
 -- the items of a set that another lacks
 abbrev pub difference : List ℕ → List ℕ → List ℕ
@@ -71,8 +73,8 @@ IsRuleFor listing confidence number right found = (baskets : List Weighted) (min
     → found ≡ (if is_confident baskets confidence (set_at listing.sets number) right then Some (rule_of baskets (set_at listing.sets number) right) else None)
 
 -- what is kept of some right sides, and the rules after adding those of the ones that meet the confidence
-abbrev pub KeepsConfident : Listing → ℕ × ℕ → ℕ → List (List ℕ) → List (List ℕ) → List Rule → List Rule → Type 0
+abbrev pub KeepsConfident : Listing → ℕ × ℕ → ℕ → List Right → List Right → List Rule → List Rule → Type 0
 KeepsConfident listing confidence number tried met old new =
-    (baskets : List Weighted) (minimum : Minimum) → IsListingOf baskets minimum listing → AllByRecursion (IsRightSide listing number) tried
-    → (met ≡ filter (is_confident baskets confidence (set_at listing.sets number)) tried)
-    × (new ≡ old ++ map (rule_of baskets (set_at listing.sets number)) (filter (is_confident baskets confidence (set_at listing.sets number)) tried))
+    (baskets : List Weighted) (minimum : Minimum) → IsListingOf baskets minimum listing → AllByRecursion (λ right. IsRightSide listing number (side_of (set_at listing.sets number) right)) tried
+    → (met ≡ filter (λ right. is_confident baskets confidence (set_at listing.sets number) (side_of (set_at listing.sets number) right)) tried)
+    × (new ≡ old ++ map (λ right. rule_of baskets (set_at listing.sets number) (side_of (set_at listing.sets number) right)) met)

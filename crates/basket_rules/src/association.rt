@@ -1,20 +1,16 @@
 //! Association rules (Agrawal and Srikant 1994).
-ghost use Rattle.std.specs.Prelude.{◌≡◌, ◌≤◌, ◌<◌, ◌-◌, ◌*◌, ℕ, [], ◌∷◌, OnOk, IfOk, length, map, nat_le};
+ghost use Rattle.std.specs.Prelude.{◌≡◌, ◌≤◌, ◌<◌, ◌-◌, ◌*◌, IfOk, length, nat_le};
 ghost use Rattle.basket_core.specs.Fraction.{lowest};
-ghost use Rattle.basket_sets.specs.Itemset.{IsRising, has};
-ghost use Rattle.basket_sets.specs.Order.{IsInReportOrder};
-ghost use Rattle.mine_apriori.specs.Sizes.{AreOfSize};
-ghost use Rattle.basket_rules.specs.Rules.{KeepsConfident, AreRules, AreRulesWith, IsCountIn, IsRuleFor, difference};
+ghost use Rattle.basket_rules.specs.Listed.{set_at};
+ghost use Rattle.basket_rules.specs.Rights.{side_of};
+ghost use Rattle.basket_rules.specs.Rules.{KeepsConfident, AreRules, AreRulesWith, IsCountIn, IsRuleFor};
 
 use crate::fractions::Fractions;
 use crate::lookups::Lookups;
 use crate::places::Places;
+use crate::rights::{MOST_PLACES, Right, longer_rights};
 use crate::search::find;
 use basket_core::{Counted, Fraction, Frequent, Itemset};
-use mine_apriori::candidates;
-use mine_apriori::laws::{
-    candidates_are_exact, candidates_are_in_report_order, candidates_are_one_larger,
-};
 use std::alloc::{AllocError, Global};
 
 /// A rule: baskets that have the left side often have the right side too. Neither side is empty,
@@ -64,8 +60,7 @@ pub fn rules_with(
 }
 
 /// The same for one union after another. Right sides go level by level: those of one more item are
-/// made from the ones that met the confidence, and where one doesn't meet it, no larger one that has
-/// it is tried.
+/// the ones that met the confidence, each with an item before its first.
 pub fn rules_with_lookups(
     alloc: Global,
     frequent: &Frequent,
@@ -76,38 +71,27 @@ pub fn rules_with_lookups(
     requires { number < length frequent.now.sets }
     ensures { IfOk result (λ rules. AreRulesWith frequent.now confidence number rules.items) }
 {
-    candidates_are_exact();
-    candidates_are_in_report_order();
-    candidates_are_one_larger();
-    let union = &frequent.sets()[number].set;
     let mut rules = Vec::new(alloc);
-    let mut rights = single_items(alloc, union)?;
-    for size in 0..most_right_items(union) {
+    let count = frequent.sets()[number].set.len();
+    // No list has the subsets of a larger set.
+    if count > MOST_PLACES {
+        return Ok(rules);
+    }
+    let mut rights = longer_rights(alloc, &[Right::none()], count)?;
+    for size in 0..most_right_items(count) {
         let met = keep_confident(
-            alloc, frequent, number, confidence, rights, lookups, &mut rules,
+            alloc, frequent, number, confidence, &rights, lookups, &mut rules,
         )?;
-        rights = candidates(alloc, &met)?;
+        rights = longer_rights(alloc, &met, count)?;
     }
     Ok(rules)
 }
 
 /// How many items a right side has at most, since a left side has one too.
-fn most_right_items(union: &Itemset) -> usize
-    ensures { result ≡ length union.now - 1 }
+fn most_right_items(count: usize) -> usize
+    ensures { result ≡ count - 1 }
 {
-    union.len().saturating_sub(1)
-}
-
-/// The subsets of one item.
-fn single_items(alloc: Global, set: &Itemset) -> Result<Vec<Itemset>, AllocError>
-    ensures singles { IfOk result (λ singles. singles.items ≡ map (λ item. item ∷ []) set.now) }
-    ensures rising { OnOk result (IsRising set.now) }
-{
-    let mut singles = Vec::with_capacity(alloc, set.len())?;
-    for item in set.items() {
-        singles.push(Itemset::from_items(alloc, &[*item])?)?;
-    }
-    Ok(singles)
+    count.saturating_sub(1)
 }
 
 /// Of the right sides, those whose rules meet the confidence. Their rules are added.
@@ -116,20 +100,19 @@ fn keep_confident(
     frequent: &Frequent,
     number: usize,
     confidence: (u32, u32),
-    tried: Vec<Itemset>,
+    tried: &[Right],
     lookups: &mut Lookups,
     rules: &mut Vec<Rule>,
-) -> Result<Vec<Itemset>, AllocError>
-    requires { number < length frequent.now.sets }
-    ensures sized { IfOk result (λ met. (size : ℕ) → AreOfSize size tried.items → AreOfSize size met.items) }
-    ensures in_order { IfOk result (λ met. IsInReportOrder tried.items → IsInReportOrder met.items) }
-    ensures kept { IfOk result (λ met. KeepsConfident frequent.now confidence number tried.items met.items rules.old.items rules.new.items) }
+) -> Result<Vec<Right>, AllocError>
+    requires listed { number < length frequent.now.sets }
+    requires few { length (set_at frequent.now.sets number) ≤ MOST_PLACES }
+    ensures { IfOk result (λ met. KeepsConfident frequent.now confidence number tried.now met.items rules.old.items rules.new.items) }
 {
-    let mut met = Vec::new(alloc);
+    let mut met = Vec::with_capacity(alloc, tried.len())?;
     for right in tried {
-        if let Some(rule) = rule_for(alloc, frequent, number, confidence, &right, lookups)? {
+        if let Some(rule) = rule_for(alloc, frequent, number, confidence, *right, lookups)? {
             rules.push(rule)?;
-            met.push(right)?;
+            met.push(*right)?;
         }
     }
     Ok(met)
@@ -142,11 +125,12 @@ fn rule_for(
     frequent: &Frequent,
     number: usize,
     confidence: (u32, u32),
-    right: &Itemset,
+    right: Right,
     lookups: &mut Lookups,
 ) -> Result<Option<Rule>, AllocError>
-    requires { number < length frequent.now.sets }
-    ensures { IfOk result (λ found. IsRuleFor frequent.now confidence number right.now found) }
+    requires listed { number < length frequent.now.sets }
+    requires few { length (set_at frequent.now.sets number) ≤ MOST_PLACES }
+    ensures { IfOk result (λ found. IsRuleFor frequent.now confidence number (side_of (set_at frequent.now.sets number) right) found) }
 {
     let sets = frequent.sets();
     let union = &sets[number];
@@ -154,17 +138,17 @@ fn rule_for(
     let Lookups {
         places,
         fractions,
-        left,
+        sides,
     } = lookups;
-    fill_difference(left, union.set.items(), right)?;
-    let left_count = count_of(sets, places, left);
+    sides.fill(union.set.items(), right)?;
+    let left_count = count_of(sets, places, &sides.left);
     if !meets(confidence, count, left_count) {
         return Ok(None);
     }
-    let right_count = count_of(sets, places, right.items());
+    let right_count = count_of(sets, places, &sides.right);
     Ok(Some(Rule {
-        left: Itemset::from_items(alloc, left)?,
-        right: right.copied(alloc)?,
+        left: Itemset::from_items(alloc, &sides.left)?,
+        right: Itemset::from_items(alloc, &sides.right)?,
         count,
         confidence: ratio(fractions, u128::from(count), u128::from(left_count)),
         lift: lift(fractions, count, frequent.total(), left_count, right_count),
@@ -194,26 +178,6 @@ fn lift(
         u128::from(count) * u128::from(total),
         u128::from(left_count) * u128::from(right_count),
     )
-}
-
-/// Makes `rest` the items that the set lacks.
-fn fill_difference(rest: &mut Vec<u32>, items: &[u32], set: &Itemset) -> Result<(), AllocError>
-    ensures { OnOk result (rest.new.items ≡ difference items.now set.now) }
-{
-    rest.clear();
-    for item in items {
-        if !is_one_of(*item, set.items()) {
-            rest.push(*item)?;
-        }
-    }
-    Ok(())
-}
-
-/// Whether the item is one of a few.
-fn is_one_of(item: u32, items: &[u32]) -> bool
-    ensures { result ≡ has items.now item }
-{
-    items.iter().any(|other| *other == item)
 }
 
 /// The count of the set with these items, or 0 where the list doesn't have it.

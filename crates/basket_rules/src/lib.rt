@@ -8,6 +8,7 @@ mod fractions;
 pub mod laws;
 mod lookups;
 mod places;
+mod rights;
 mod search;
 mod tree;
 pub mod worked;

@@ -2,6 +2,7 @@
 
 use crate::fractions::Fractions;
 use crate::places::Places;
+use crate::rights::Sides;
 use basket_core::Counted;
 use std::alloc::{AllocError, Global};
 
@@ -11,8 +12,7 @@ use std::alloc::{AllocError, Global};
 pub struct Lookups {
     pub(crate) places: Places,
     pub(crate) fractions: Fractions,
-    /// The room of left sides.
-    pub(crate) left: Vec<u32>,
+    pub(crate) sides: Sides,
 }
 
 impl Lookups {
@@ -21,7 +21,7 @@ impl Lookups {
         Lookups {
             places: Places::none(alloc),
             fractions: Fractions::none(alloc),
-            left: Vec::new(alloc),
+            sides: Sides::new(alloc),
         }
     }
 
@@ -30,7 +30,7 @@ impl Lookups {
         Ok(Lookups {
             places: Places::of(alloc, sets)?,
             fractions: Fractions::new(alloc)?,
-            left: Vec::new(alloc),
+            sides: Sides::new(alloc),
         })
     }
 }

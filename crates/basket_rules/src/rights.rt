@@ -1,0 +1,106 @@
+//! Right sides of the rules with one union, each as the places of its items in the union.
+ghost use Rattle.std.specs.Prelude.{◌≡◌, ◌≤◌, ◌<◌, ◌++◌, IfOk, OnOk, length, not};
+ghost use Rattle.basket_rules.specs.Rights.{chosen, has_place, longer, longer_by, no_places, with_place};
+
+use std::alloc::{AllocError, Global};
+
+/// How many places have a bit in a word. No list has the subsets of a set of so many items.
+pub const MOST_PLACES: usize = 64;
+
+/// A right side: the bits of its places, and the first of these.
+#[derive(Clone, Copy, Debug)]
+pub struct Right {
+    pub places: u64,
+    pub first: usize,
+}
+
+impl Right {
+    /// The empty set.
+    pub fn none() -> Self
+        ensures { result ≡ no_places }
+    {
+        Right {
+            places: 0,
+            first: MOST_PLACES,
+        }
+    }
+
+    /// The set with a place before its first.
+    fn with(&self, place: usize) -> Self
+        requires { place < MOST_PLACES }
+        ensures { result ≡ with_place place self.now }
+    {
+        Right {
+            places: self.places | (1 << place),
+            first: place,
+        }
+    }
+
+    /// Whether it has the place.
+    fn has(&self, place: usize) -> bool
+        requires { place < MOST_PLACES }
+        ensures { result ≡ has_place self.now.places place }
+    {
+        (self.places >> place) % 2 == 1
+    }
+}
+
+/// The right sides with a place more before their first, in report order where these are.
+pub fn longer_rights(alloc: Global, met: &[Right], count: usize) -> Result<Vec<Right>, AllocError>
+    requires { count ≤ MOST_PLACES }
+    ensures { IfOk result (λ rights. rights.items ≡ longer count met.now) }
+{
+    let mut rights = Vec::new(alloc);
+    for place in 0..count {
+        add_longer(&mut rights, met, place)?;
+    }
+    Ok(rights)
+}
+
+/// Adds those with this place more.
+fn add_longer(rights: &mut Vec<Right>, met: &[Right], place: usize) -> Result<(), AllocError>
+    requires { place < MOST_PLACES }
+    ensures { OnOk result (rights.new.items ≡ rights.old.items ++ longer_by met.now place) }
+{
+    for right in met {
+        if place < right.first {
+            rights.push(right.with(place))?;
+        }
+    }
+    Ok(())
+}
+
+/// The room of the sides of a rule.
+#[derive(Debug, Drop)]
+pub struct Sides {
+    pub left: Vec<u32>,
+    pub right: Vec<u32>,
+}
+
+impl Sides {
+    /// Nothing is allocated.
+    pub fn new(alloc: Global) -> Self {
+        Sides {
+            left: Vec::new(alloc),
+            right: Vec::new(alloc),
+        }
+    }
+
+    /// Makes `right` the items of the union at the places of a right side, and `left` the others.
+    pub fn fill(&mut self, union: &[u32], of: Right) -> Result<(), AllocError>
+        requires { length union.now ≤ MOST_PLACES }
+        ensures left { OnOk result (self.new.left.items ≡ chosen (λ place. not (has_place of.places place)) union.now) }
+        ensures right { OnOk result (self.new.right.items ≡ chosen (has_place of.places) union.now) }
+    {
+        self.left.clear();
+        self.right.clear();
+        for (place, item) in union.iter().enumerate() {
+            if of.has(place) {
+                self.right.push(*item)?;
+            } else {
+                self.left.push(*item)?;
+            }
+        }
+        Ok(())
+    }
+}
