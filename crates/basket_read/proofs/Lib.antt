@@ -1,5 +1,6 @@
 mod CutLemmas
 mod LineLemmas
+mod DigitsLemmas
 mod TextLemmas
 mod RoomLemmas
 mod InputLemmas
