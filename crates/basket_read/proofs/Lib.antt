@@ -1,6 +1,5 @@
 mod CutLemmas
 mod LineLemmas
-mod DigitsLemmas
 mod TextLemmas
 mod RoomLemmas
 mod InputLemmas

@@ -6,7 +6,6 @@ ghost use Rattle.basket_read.specs.Fimi.{MOST_NUMBER};
 ghost use Rattle.basket_read.specs.Number.{number_with};
 
 use crate::class::{Class, class_of};
-use core::dec2flt::read_digits;
 
 /// So many digits are never above the bound.
 const SHORT: usize = 8;
@@ -50,10 +49,19 @@ fn short_number(bytes: &[u8]) -> Digits
     ensures digits { list_all is_digit (take result.count bytes.now) ≡ true }
     ensures value { value_of (take result.count bytes.now) ≡ result.value }
 {
-    let (count, value) = read_digits(bytes, 0, 0);
+    let mut value = 0;
+    for (place, byte) in bytes.iter().enumerate() {
+        let Class::Digit(digit) = class_of(*byte) else {
+            return Digits {
+                value,
+                count: place,
+            };
+        };
+        value = value * 10 + u32::from(digit);
+    }
     Digits {
-        value: value as u32,
-        count,
+        value,
+        count: SHORT,
     }
 }
 
