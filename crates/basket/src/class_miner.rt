@@ -1,7 +1,7 @@
 //! The miners that go class by class.
 ghost use Rattle.basket.specs.Classes.{IsJoins, IsTrees};
 
-use basket_core::{Counted, MineFault, Tally};
+use basket_core::{CountedSets, MineFault, Tally};
 use mine_fp::{Forest, fp_class};
 use mine_phases::ClassMiner;
 use mine_vertical::{Row, Vertical, eclat_class};
@@ -25,7 +25,7 @@ impl<R: Row> ClassMiner for Joining<'_, R> {
         alloc: Global,
         rank: u32,
         tally: &mut T,
-    ) -> Result<(Vec<Counted>, u64), MineFault> {
+    ) -> Result<(CountedSets, u64), MineFault> {
         eclat_class::<R, T>(alloc, &self.vertical, rank, tally)
     }
 }
@@ -44,7 +44,7 @@ impl ClassMiner for Growth<'_> {
         alloc: Global,
         rank: u32,
         tally: &mut T,
-    ) -> Result<(Vec<Counted>, u64), MineFault> {
+    ) -> Result<(CountedSets, u64), MineFault> {
         fp_class(alloc, &self.0, rank, tally)
     }
 }

@@ -9,7 +9,7 @@ use crate::fault::RunFault;
 use crate::input::Input;
 use crate::mining::{cutting, mine};
 use crate::write::write_all;
-use basket_core::{MineFault, Sink, Source};
+use basket_core::{CountedSets, MineFault, Sink, Source};
 use basket_plan::{Ask, Plan};
 use basket_read::ReadFault;
 use basket_report::{items_report, rules_report, sets_report};
@@ -82,14 +82,17 @@ fn report<R: Threads + Sync>(
         }
         Ask::Closed => {
             let (frequent, _) = mine(rt, alloc, database, plan, &Open)?;
-            Ok(sets_report(alloc, &closed(alloc, &frequent)?, style)?)
+            let sets = closed(alloc, &frequent.unpacked(alloc)?)?;
+            Ok(sets_report(alloc, &CountedSets::of_sets(alloc, sets), style)?)
         }
         Ask::Maximal => {
             let (frequent, _) = mine(rt, alloc, database, plan, &Open)?;
-            Ok(sets_report(alloc, &maximal(alloc, &frequent)?, style)?)
+            let sets = maximal(alloc, &frequent.unpacked(alloc)?)?;
+            Ok(sets_report(alloc, &CountedSets::of_sets(alloc, sets), style)?)
         }
         Ask::Rules(above, below) => {
             let (frequent, _) = mine(rt, alloc, database, plan, &Open)?;
+            let frequent = frequent.unpacked(alloc)?;
             Ok(rules_report(alloc, &frequent, (above, below), style)?)
         }
     }

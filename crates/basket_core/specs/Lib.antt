@@ -7,6 +7,7 @@ pub use Rattle.basket_sets.specs.Subsets
 pub use Rattle.basket_sets.specs.Minimum
 pub use Rattle.basket_sets.specs.Frequent
 pub use Rattle.basket_sets.specs.Worked
+pub use Rattle.basket_lists.specs.CountedSets
 pub use Rattle.basket_stream.specs.Stream
 pub mod Codes
 pub mod Ranks

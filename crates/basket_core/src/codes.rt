@@ -149,6 +149,13 @@ impl Coded {
         self.total
     }
 
+    /// The item of each rank.
+    pub fn items(&self) -> &[u32]
+        ensures { result.now ≡ self.now.items }
+    {
+        &self.items
+    }
+
     /// The greatest frequent item, or 0 where there is none.
     pub(crate) fn greatest_item(&self) -> u32 {
         self.items.iter().copied().max().unwrap_or(0)

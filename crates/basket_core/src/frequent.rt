@@ -1,19 +1,19 @@
 ghost use Rattle.std.specs.Prelude.{◌≡◌, IfOk};
 ghost use Rattle.std.specs.List.{flat_map};
 ghost use Rattle.basket_core.specs.Codes.{baskets_of};
-ghost use Rattle.basket_sets.specs.Frequent.{ListsOnce};
 ghost use Rattle.basket_core.specs.Listing.{listing_of};
+ghost use Rattle.basket_sets.specs.Frequent.{ListsOnce};
 
 use crate::codes::Coded;
-use crate::keys::sort_by_words;
-use basket_sets::Counted;
+use crate::unpacked::Unpacked;
+use basket_lists::CountedSets;
 use std::alloc::{AllocError, Global};
 use std::marker::Model;
 
 /// The frequent sets of a database and a minimum, in report order.
 #[derive(Debug, Drop)]
 pub struct Frequent {
-    sets: Vec<Counted>,
+    sets: CountedSets,
     total: u64,
 }
 
@@ -22,7 +22,7 @@ impl Model for Frequent {
 
     ghost Value = { Listing };
 
-    ghost view = { λ frequent. record { sets = frequent.sets.items; total = frequent.total } };
+    ghost view = { λ frequent. record { sets = frequent.sets; total = frequent.total } };
 }
 
 impl Frequent {
@@ -30,15 +30,13 @@ impl Frequent {
     pub fn of_classes(
         alloc: Global,
         coded: &Coded,
-        classes: Vec<Vec<Counted>>,
+        classes: Vec<CountedSets>,
     ) -> Result<Self, AllocError>
-        requires { ListsOnce (baskets_of coded.now) coded.now.minimum (flat_map (λ class. class.items) classes.items) }
+        requires { ListsOnce (baskets_of coded.now) coded.now.minimum (flat_map (λ class. class) classes.items) }
         ensures { IfOk result (λ frequent. frequent ≡ listing_of coded.now) }
     {
         let mut sets = gathered(alloc, classes)?;
-        sort_by_words(alloc, &mut sets, coded.greatest_item())?;
-        // The words leave nothing to move; this sort is what the order rests on.
-        sets.sort_unstable();
+        sets.sort(alloc, coded.greatest_item())?;
         Ok(Frequent {
             sets,
             total: coded.total(),
@@ -46,7 +44,7 @@ impl Frequent {
     }
 
     /// The sets with their supports.
-    pub fn sets(&self) -> &[Counted]
+    pub fn sets(&self) -> &CountedSets
         ensures { result.now ≡ self.now.sets }
     {
         &self.sets
@@ -58,18 +56,26 @@ impl Frequent {
     {
         self.total
     }
+
+    /// The same list with the items of each set side by side.
+    pub fn unpacked(self, alloc: Global) -> Result<Unpacked, AllocError>
+        ensures { IfOk result (λ unpacked. unpacked ≡ self) }
+    {
+        let Frequent { mut sets, total } = self;
+        Ok(Unpacked::new(sets.take(alloc)?, total))
+    }
 }
 
 /// The sets of the classes, one class after another. The first class isn't copied.
-fn gathered(alloc: Global, classes: Vec<Vec<Counted>>) -> Result<Vec<Counted>, AllocError>
-    ensures { IfOk result (λ sets. sets.items ≡ flat_map (λ class. class.items) classes.items) }
+fn gathered(alloc: Global, classes: Vec<CountedSets>) -> Result<CountedSets, AllocError>
+    ensures { IfOk result (λ sets. sets ≡ flat_map (λ class. class) classes.items) }
 {
-    let mut sets = Vec::new(alloc);
-    for mut class in classes {
+    let mut sets = CountedSets::of_sets(alloc, Vec::new(alloc));
+    for class in classes {
         if sets.is_empty() {
             sets = class;
         } else {
-            sets.append(&mut class)?;
+            sets.append(alloc, class)?;
         }
     }
     Ok(sets)

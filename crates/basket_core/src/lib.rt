@@ -8,15 +8,15 @@ mod depth;
 mod fault;
 mod fraction;
 mod frequent;
-mod keys;
 pub mod laws;
-mod parts;
 mod ranks;
 mod shards;
 mod tally;
+mod unpacked;
 pub mod worked;
 
 pub use added::add_counts;
+pub use basket_lists::CountedSets;
 pub use basket_sets::{
     Counted, Database, INLINE_ITEMS, Itemset, Minimum, Weighted, count_items, parse_minimum,
     parse_share, report_order, support,
@@ -29,3 +29,4 @@ pub use fraction::Fraction;
 pub use frequent::Frequent;
 pub use shards::shard;
 pub use tally::{Limit, Tally};
+pub use unpacked::Unpacked;

@@ -1,7 +1,7 @@
 //! What is known of sets before their lines are written.
 
 use crate::texts::Texts;
-use basket_core::Counted;
+use basket_core::{Counted, CountedSets};
 use std::alloc::{AllocError, Global};
 
 /// No more texts are made than this.
@@ -19,7 +19,16 @@ pub struct Extent {
 }
 
 impl Extent {
-    pub fn of(sets: &[Counted]) -> Self {
+    pub fn of(sets: &CountedSets) -> Self {
+        Extent {
+            lines: sets.len(),
+            items: sets.item_count(),
+            greatest: sets.greatest_item(),
+        }
+    }
+
+    /// The same of sets whose items stand side by side.
+    pub fn of_unpacked(sets: &[Counted]) -> Self {
         let mut items: usize = 0;
         let mut greatest = 0;
         for counted in sets {

@@ -6,7 +6,7 @@ ghost use Rattle.basket_report.specs.Report.{set_of};
 use crate::beginning::Beginning;
 use crate::extent::Extent;
 use crate::texts::{Texts, put_fraction, put_number};
-use basket_core::Counted;
+use basket_core::{Counted, CountedSets};
 use basket_rules::Rule;
 use std::alloc::{AllocError, Global};
 use std::marker::Model;
@@ -44,7 +44,7 @@ impl Lines {
     }
 
     /// No lines, with room for those of the sets.
-    pub fn for_sets(alloc: Global, sets: &[Counted]) -> Result<Self, AllocError>
+    pub fn for_sets(alloc: Global, sets: &CountedSets) -> Result<Self, AllocError>
         ensures { IfOk result (λ lines. lines ≡ []) }
     {
         let extent = Extent::of(sets);
@@ -60,7 +60,7 @@ impl Lines {
         ensures { IfOk result (λ lines. lines ≡ []) }
     {
         Ok(Lines {
-            texts: Extent::of(sets).texts(alloc)?,
+            texts: Extent::of_unpacked(sets).texts(alloc)?,
             beginning: Beginning::new(alloc),
             text: Vec::new(alloc),
         })

@@ -6,7 +6,7 @@ ghost use Rattle.basket_report.specs.Style.{Wording, wording_of};
 use crate::lines::Lines;
 use crate::style::Style;
 use crate::table::Table;
-use basket_core::Counted;
+use basket_core::{Counted, CountedSets};
 use basket_rules::Rule;
 use std::alloc::{AllocError, Global};
 
@@ -29,7 +29,7 @@ impl<'a> Report<'a> {
     }
 
     /// An empty report, with room for the lines of the sets.
-    pub fn for_sets(alloc: Global, style: Style<'a>, sets: &[Counted]) -> Result<Self, AllocError>
+    pub fn for_sets(alloc: Global, style: Style<'a>, sets: &CountedSets) -> Result<Self, AllocError>
         ensures { IfOk result (λ report. HasSoFar report (wording_of style.entry) []) }
     {
         match style {

@@ -5,7 +5,7 @@ ghost use Rattle.basket_report.specs.Style.{wording_of};
 
 use crate::report::Report;
 use crate::style::Style;
-use basket_core::Frequent;
+use basket_core::Unpacked;
 use basket_rules::{Lookups, rules_with_lookups};
 use std::alloc::{AllocError, Global};
 
@@ -13,7 +13,7 @@ use std::alloc::{AllocError, Global};
 /// union are made and written before those of the next.
 pub fn rules_report(
     alloc: Global,
-    frequent: &Frequent,
+    frequent: &Unpacked,
     confidence: (u32, u32),
     style: Style<'_>,
 ) -> Result<Vec<u8>, AllocError>

@@ -5,16 +5,22 @@ ghost use Rattle.basket_report.specs.Style.{wording_of};
 
 use crate::report::Report;
 use crate::style::Style;
-use basket_core::Counted;
+use basket_core::CountedSets;
 use std::alloc::{AllocError, Global};
 
 /// The report of the sets with their counts.
-pub fn sets_report(alloc: Global, sets: &[Counted], style: Style<'_>) -> Result<Vec<u8>, AllocError>
+pub fn sets_report(
+    alloc: Global,
+    sets: &CountedSets,
+    style: Style<'_>,
+) -> Result<Vec<u8>, AllocError>
     ensures { IfOk result (λ report. report.items ≡ report_of (wording_of style.entry) sets.now) }
 {
     let mut report = Report::for_sets(alloc, style, sets)?;
-    for counted in sets {
-        report.put_set(counted.set.items(), counted.count)?;
+    let mut items = Vec::new(alloc);
+    for place in 0..sets.len() {
+        sets.fill(place, &mut items)?;
+        report.put_set(&items, sets.count(place))?;
     }
     report.into_text()
 }

@@ -10,7 +10,7 @@ use crate::lookups::Lookups;
 use crate::places::Places;
 use crate::rights::{MOST_PLACES, Right, longer_rights};
 use crate::search::find;
-use basket_core::{Counted, Fraction, Frequent, Itemset};
+use basket_core::{Counted, Fraction, Itemset, Unpacked};
 use std::alloc::{AllocError, Global};
 
 /// A rule: baskets that have the left side often have the right side too. Neither side is empty,
@@ -31,7 +31,7 @@ pub struct Rule {
 /// order, those of one union by their right sides in report order.
 pub fn rules(
     alloc: Global,
-    frequent: &Frequent,
+    frequent: &Unpacked,
     confidence: (u32, u32),
 ) -> Result<Vec<Rule>, AllocError>
     ensures { IfOk result (λ rules. AreRules frequent.now confidence rules.items) }
@@ -48,7 +48,7 @@ pub fn rules(
 /// Those of the rules whose union is the set at the place.
 pub fn rules_with(
     alloc: Global,
-    frequent: &Frequent,
+    frequent: &Unpacked,
     number: usize,
     confidence: (u32, u32),
 ) -> Result<Vec<Rule>, AllocError>
@@ -63,7 +63,7 @@ pub fn rules_with(
 /// the ones that met the confidence, each with an item before its first.
 pub fn rules_with_lookups(
     alloc: Global,
-    frequent: &Frequent,
+    frequent: &Unpacked,
     number: usize,
     confidence: (u32, u32),
     lookups: &mut Lookups,
@@ -97,7 +97,7 @@ fn most_right_items(count: usize) -> usize
 /// Of the right sides, those whose rules meet the confidence. Their rules are added.
 fn keep_confident(
     alloc: Global,
-    frequent: &Frequent,
+    frequent: &Unpacked,
     number: usize,
     confidence: (u32, u32),
     tried: &[Right],
@@ -122,7 +122,7 @@ fn keep_confident(
 /// confidence.
 fn rule_for(
     alloc: Global,
-    frequent: &Frequent,
+    frequent: &Unpacked,
     number: usize,
     confidence: (u32, u32),
     right: Right,

@@ -3,11 +3,11 @@ ghost use Rattle.std.specs.Prelude.{◌≡◌, IfOk};
 ghost use Rattle.basket_rules.specs.Condensed.{AreClosed, AreMaximal};
 
 use crate::above::greatest_above;
-use basket_core::{Counted, Frequent};
+use basket_core::{Counted, Unpacked};
 use std::alloc::{AllocError, Global};
 
 /// The sets of which no proper superset has the same support, in report order.
-pub fn closed(alloc: Global, frequent: &Frequent) -> Result<Vec<Counted>, AllocError>
+pub fn closed(alloc: Global, frequent: &Unpacked) -> Result<Vec<Counted>, AllocError>
     ensures { IfOk result (λ closed. AreClosed frequent.now closed.items) }
 {
     let sets = frequent.sets();
@@ -22,7 +22,7 @@ pub fn closed(alloc: Global, frequent: &Frequent) -> Result<Vec<Counted>, AllocE
 }
 
 /// The sets of which no proper superset is frequent, in report order.
-pub fn maximal(alloc: Global, frequent: &Frequent) -> Result<Vec<Counted>, AllocError>
+pub fn maximal(alloc: Global, frequent: &Unpacked) -> Result<Vec<Counted>, AllocError>
     ensures { IfOk result (λ maximal. AreMaximal frequent.now maximal.items) }
 {
     let sets = frequent.sets();

@@ -15,7 +15,7 @@ use crate::join::candidates;
 use crate::pairs::{by_lesser, frequent_pairs};
 use crate::shard::count_shard;
 use crate::triangle::pair_count;
-use basket_core::{Coded, Counted, Frequent, Itemset, MineFault, count_items};
+use basket_core::{Coded, CountedSets, Frequent, Itemset, MineFault, count_items};
 use std::alloc::{AllocError, Global};
 use std::marker::Model;
 
@@ -77,17 +77,14 @@ impl Found {
     }
 
     /// The sets as items, with their supports.
-    fn decoded(self, alloc: Global, coded: &Coded) -> Result<Vec<Counted>, AllocError>
+    fn decoded(self, alloc: Global, coded: &Coded) -> Result<CountedSets, AllocError>
         requires below { All (AllBelow (length coded.now.items)) self.sets.items }
         requires counts { self.counts.items ≡ map (support_of coded.now.baskets) self.sets.items }
-        ensures { IfOk result (λ decoded. decoded.items ≡ map (λ set. decoded_set coded.now.items (counted coded.now.baskets set)) self.sets.items) }
+        ensures { IfOk result (λ decoded. decoded ≡ map (λ set. decoded_set coded.now.items (counted coded.now.baskets set)) self.sets.items) }
     {
-        let mut decoded = Vec::with_capacity(alloc, self.sets.len())?;
+        let mut decoded = CountedSets::new(alloc, coded.items())?;
         for (place, set) in self.sets.iter().enumerate() {
-            decoded.push(Counted {
-                set: coded.decode(set.copied(alloc)?),
-                count: self.counts[place],
-            })?;
+            decoded.push(coded.decode(set.copied(alloc)?), self.counts[place])?;
         }
         Ok(decoded)
     }

@@ -27,9 +27,9 @@ impl Level {
         requires level { IsLevel self.now }
         requires branch { IsTrue (is_branch self.now.paths.baskets) }
         requires going { T.is_over tally.old ≡ false }
-        ensures listed { OnOk result (ListsAllAsItems self.now found.old.sets.items found.new.sets.items) }
+        ensures listed { OnOk result (ListsAllAsItems self.now found.old.sets found.new.sets) }
         ensures trees { found.new.trees ≡ found.old.trees }
-        ensures told { OnOk result (T.told_of tally.new + vec_len found.old.sets ≡ T.told_of tally.old + vec_len found.new.sets) }
+        ensures told { OnOk result (T.told_of tally.new + length found.old.sets ≡ T.told_of tally.old + length found.new.sets) }
         ensures going_on { OnOk result (T.is_over tally.new ≡ false) }
         ensures too_many { (limit : ℕ) → result ≡ Err (TooMany limit) → (limit ≡ T.limit_of tally.old) × IsTrue (T.is_over tally.new) }
         ensures at_most { T.told_of tally.new ≤ T.told_of tally.old + length (frequent_of self.now.paths.baskets (Count self.now.least)) }
@@ -57,11 +57,11 @@ impl Level {
         requires level { IsLevel self.now }
         requires branch { IsTrue (is_branch self.now.paths.baskets) }
         requires rank { rank < self.now.paths.ranks }
-        requires lower { HasLower self.now rank start found.old.sets.items }
+        requires lower { HasLower self.now rank start found.old.sets }
         requires going { T.is_over tally.old ≡ false }
-        ensures listed { OnOk result (ListsClassAsItems self.now rank found.old.sets.items found.new.sets.items) }
+        ensures listed { OnOk result (ListsClassAsItems self.now rank found.old.sets found.new.sets) }
         ensures trees { found.new.trees ≡ found.old.trees }
-        ensures told { OnOk result (T.told_of tally.new + vec_len found.old.sets ≡ T.told_of tally.old + vec_len found.new.sets) }
+        ensures told { OnOk result (T.told_of tally.new + length found.old.sets ≡ T.told_of tally.old + length found.new.sets) }
         ensures going_on { OnOk result (T.is_over tally.new ≡ false) }
         ensures too_many { (limit : ℕ) → result ≡ Err (TooMany limit) → (limit ≡ T.limit_of tally.old) × IsTrue (T.is_over tally.new) }
         ensures at_most { T.told_of tally.new ≤ T.told_of tally.old + length (class_of self.now.paths.baskets (Count self.now.least) rank) }
@@ -97,9 +97,9 @@ fn choose<T: Tally>(
     found: &mut Found,
     tally: &mut T,
 ) -> Result<(), MineFault>
-    requires at { at < vec_len found.old.sets }
+    requires at { at < length found.old.sets }
     requires going { T.is_over tally.old ≡ false }
-    ensures added { OnOk result (IsChosen at item count found.old.sets.items found.new.sets.items) }
+    ensures added { OnOk result (IsChosen at item count found.old.sets found.new.sets) }
     ensures trees { found.new.trees ≡ found.old.trees }
     ensures told { OnOk result (T.told_of tally.new ≡ T.told_of tally.old + 1) }
     ensures going_on { OnOk result (T.is_over tally.new ≡ false) }
@@ -107,6 +107,11 @@ fn choose<T: Tally>(
     ensures at_most { T.told_of tally.new ≤ T.told_of tally.old + 1 }
     ensures limit { T.limit_of tally.new ≡ T.limit_of tally.old }
 {
-    let set = found.sets[at].set.with(alloc, item)?;
-    tell(set, count, found, tally)
+    if !tally.tell() {
+        return Err(MineFault::TooMany {
+            limit: tally.limit(),
+        });
+    }
+    found.sets.push_longer(alloc, at, item, count)?;
+    Ok(())
 }

@@ -8,7 +8,7 @@ ghost use Rattle.mine_fp.specs.Trees.{class_trees};
 
 use crate::level::{Found, Level, Tables};
 use crate::paths::{Paths, weight_of_rank};
-use basket_core::{Coded, Counted, Itemset, MineFault, Tally};
+use basket_core::{Coded, CountedSets, Itemset, MineFault, Tally};
 use mine_apriori::runs_with_pairs;
 use mine_classes::Runs;
 use mine_classes::laws::{classes_are_listed, deep_classes_are_large, lists_have_class_size};
@@ -77,12 +77,12 @@ pub fn fp_class<T: Tally>(
     forest: &Forest<'_>,
     rank: u32,
     tally: &mut T,
-) -> Result<(Vec<Counted>, u64), MineFault>
+) -> Result<(CountedSets, u64), MineFault>
     requires rank { rank < length forest.now.items }
     requires going { T.is_over tally.old ≡ false }
-    ensures listed { IfOk result (λ mined. ListsClassItems forest.now rank mined.0.items) }
+    ensures listed { IfOk result (λ mined. ListsClassItems forest.now rank mined.0) }
     ensures trees { IfOk result (λ mined. mined.1 ≡ class_trees forest.now rank) }
-    ensures told { IfOk result (λ mined. T.told_of tally.new ≡ T.told_of tally.old + length mined.0.items) }
+    ensures told { IfOk result (λ mined. T.told_of tally.new ≡ T.told_of tally.old + length mined.0) }
     ensures going_on { IfOk result (λ mined. T.is_over tally.new ≡ false) }
     ensures too_many { (limit : ℕ) → result ≡ Err (TooMany limit) → (limit ≡ T.limit_of tally.old)
         × (IsTrue (T.is_over tally.new) ⊎ (limit < class_size forest.now rank)) }
@@ -97,10 +97,8 @@ pub fn fp_class<T: Tally>(
     let _limit = tally.limit();
     let _baskets = forest.coded.baskets();
     let mut tables = Tables::new(alloc, forest.level.paths.ranks())?;
-    let mut found = Found {
-        sets: Vec::new(alloc),
-        trees: 0,
-    };
+    let sets = CountedSets::new(alloc, forest.coded.items())?;
+    let mut found = Found { sets, trees: 0 };
     forest
         .level
         .class(alloc, rank, &mut tables, &mut found, tally)?;

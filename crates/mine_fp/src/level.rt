@@ -13,7 +13,7 @@ ghost use Rattle.mine_fp.specs.Level.{IsBelow, IsLevel, ListsClassAsItems, Lists
 ghost use Rattle.mine_fp.specs.Trees.{inner_trees, rank_trees};
 
 use crate::paths::Paths;
-use basket_core::{Counted, Itemset, MineFault, Tally};
+use basket_core::{CountedSets, Itemset, MineFault, Tally};
 use mine_classes::laws::{
     classes_are_all, classes_are_conditional, classes_are_listed, classes_by_codings,
     conditional_supports, lists_have_class_size, rare_ranks_have_no_class,
@@ -28,7 +28,7 @@ const DEPTH: usize = 32;
 /// The sets that were found, and how many conditional trees were made for them.
 #[derive(Debug, Drop)]
 pub struct Found {
-    pub sets: Vec<Counted>,
+    pub sets: CountedSets,
     pub trees: u64,
 }
 
@@ -79,14 +79,14 @@ impl Level {
         requires rank { rank < self.now.paths.ranks }
         requires sums { tables.old.sums ≡ self.now.paths.ranks }
         requires places { tables.old.places ≡ self.now.paths.ranks }
-        requires few { found.old.trees ≤ vec_len found.old.sets }
+        requires few { found.old.trees ≤ length found.old.sets }
         requires going { T.is_over tally.old ≡ false }
-        ensures listed { OnOk result (ListsClassAsItems self.now rank found.old.sets.items found.new.sets.items) }
+        ensures listed { OnOk result (ListsClassAsItems self.now rank found.old.sets found.new.sets) }
         ensures trees { OnOk result (found.new.trees ≡ found.old.trees + rank_trees self.now.paths.baskets self.now.least rank) }
-        ensures few { OnOk result (found.new.trees ≤ vec_len found.new.sets) }
+        ensures few { OnOk result (found.new.trees ≤ length found.new.sets) }
         ensures sums { OnOk result (tables.new.sums ≡ self.now.paths.ranks) }
         ensures places { OnOk result (tables.new.places ≡ self.now.paths.ranks) }
-        ensures told { OnOk result (T.told_of tally.new + vec_len found.old.sets ≡ T.told_of tally.old + vec_len found.new.sets) }
+        ensures told { OnOk result (T.told_of tally.new + length found.old.sets ≡ T.told_of tally.old + length found.new.sets) }
         ensures going_on { OnOk result (T.is_over tally.new ≡ false) }
         ensures too_many { (limit : ℕ) → result ≡ Err (TooMany limit) → (limit ≡ T.limit_of tally.old)
             × (IsTrue (T.is_over tally.new) ⊎ HasSetOfSize (class_of self.now.paths.baskets (Count self.now.least) rank) (missing self.now)) }
@@ -130,12 +130,12 @@ impl Level {
         tally: &mut T,
     ) -> Result<(), MineFault>
         requires level { IsLevel self.now }
-        requires few { found.old.trees ≤ vec_len found.old.sets }
+        requires few { found.old.trees ≤ length found.old.sets }
         requires going { T.is_over tally.old ≡ false }
-        ensures listed { OnOk result (ListsAllAsItems self.now found.old.sets.items found.new.sets.items) }
+        ensures listed { OnOk result (ListsAllAsItems self.now found.old.sets found.new.sets) }
         ensures trees { OnOk result (found.new.trees ≡ found.old.trees + inner_trees self.now.paths.baskets self.now.least) }
-        ensures few { OnOk result (found.new.trees ≤ vec_len found.new.sets) }
-        ensures told { OnOk result (T.told_of tally.new + vec_len found.old.sets ≡ T.told_of tally.old + vec_len found.new.sets) }
+        ensures few { OnOk result (found.new.trees ≤ length found.new.sets) }
+        ensures told { OnOk result (T.told_of tally.new + length found.old.sets ≡ T.told_of tally.old + length found.new.sets) }
         ensures going_on { OnOk result (T.is_over tally.new ≡ false) }
         ensures too_many { (limit : ℕ) → result ≡ Err (TooMany limit) → (limit ≡ T.limit_of tally.old)
             × (IsTrue (T.is_over tally.new) ⊎ HasSetOfSize (frequent_of self.now.paths.baskets (Count self.now.least)) (missing self.now)) }
@@ -229,7 +229,8 @@ pub fn tell<T: Tally>(
     tally: &mut T,
 ) -> Result<(), MineFault>
     requires { T.is_over tally.old ≡ false }
-    ensures added { OnOk result (found.new.sets.items ≡ found.old.sets.items ++ record { set = set; count = count } ∷ []) }
+    ensures added { OnOk result (found.new.sets ≡ found.old.sets ++ record { set = set; count = count } ∷ []) }
+    ensures few { OnOk result (length found.new.sets < 18446744073709551616) }
     ensures trees { found.new.trees ≡ found.old.trees }
     ensures told { OnOk result (T.told_of tally.new ≡ T.told_of tally.old + 1) }
     ensures going_on { OnOk result (T.is_over tally.new ≡ false) }
@@ -242,6 +243,8 @@ pub fn tell<T: Tally>(
             limit: tally.limit(),
         });
     }
-    found.sets.push(Counted { set, count })?;
+    found.sets.push(set, count)?;
+    // Nothing is read here: the call brings its contract, which says that the length fits a word.
+    let _length = found.sets.len();
     Ok(())
 }

@@ -1,7 +1,6 @@
 -- The classes of some ranks, and of the ranks of a piece.
 use Rattle.std.proofs.Common.{◌≡◌, ◌≤◌, ◌<◌, ◌+◌, ◌-◌, ◌++◌, ℕ, zero, suc, List, [], ◌∷◌, take, drop, length, refl, ap, sym, ◌∙◌, subst, arith}
-use Rattle.std.specs.Prelude.{Vec, slice_range}
-use Rattle.std.specs.Global.{Global}
+use Rattle.std.specs.Prelude.{slice_range}
 use Rattle.std.specs.List.{range_with_len, sum_by}
 use Rattle.std.proofs.lemmas.List.{length-append}
 use Rattle.std.proofs.lemmas.List.FromFn.{length-range_with_len}
@@ -81,7 +80,7 @@ ranks_are coding pieces piece low high ranks all start end rises within =
 -- ---- classes of some ranks
 
 module _ (coding : Coding) (is_work : ℕ → ℕ → Type 0) where
-  pub mined_append : (ranks others : List ℕ) (classes more : List (Vec Counted Global × ℕ)) → AreMined coding is_work ranks classes → AreMined coding is_work others more
+  pub mined_append : (ranks others : List ℕ) (classes more : List (List Counted × ℕ)) → AreMined coding is_work ranks classes → AreMined coding is_work others more
       → AreMined coding is_work (ranks ++ others) (classes ++ more)
   mined_append [] others [] more mined rest = rest
   mined_append [] others (class ∷ classes) more mined rest = absurd mined
@@ -89,8 +88,8 @@ module _ (coding : Coding) (is_work : ℕ → ℕ → Type 0) where
   mined_append (rank ∷ ranks) others (class ∷ classes) more mined rest = (mined.0, mined.1, mined_append ranks others classes more mined.2 rest)
 
   -- the next class behind those before it
-  pub mined_next : (start : ℕ) (classes now : List (Vec Counted Global × ℕ)) (class : Vec Counted Global × ℕ) (rank : ℕ) → start + length classes ≡ rank → now ≡ classes ++ class ∷ []
-      → AreMined coding is_work (range_with_len start (length classes)) classes → ListsClassItems coding rank class.0.items → is_work rank class.1
+  pub mined_next : (start : ℕ) (classes now : List (List Counted × ℕ)) (class : List Counted × ℕ) (rank : ℕ) → start + length classes ≡ rank → now ≡ classes ++ class ∷ []
+      → AreMined coding is_work (range_with_len start (length classes)) classes → ListsClassItems coding rank class.0 → is_work rank class.1
       → AreMined coding is_work (range_with_len start (length now)) now
   mined_next start classes now class rank at is mined listed work =
       let long : length now ≡ length classes + 1 = ap length is ∙ length-append classes (class ∷ []) in

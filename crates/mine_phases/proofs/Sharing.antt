@@ -112,8 +112,8 @@ module _ (coding : Coding) (pieces : ℕ) (some : 1 ≤ pieces) (is : IsCoding c
 -- ---- the classes of all pieces
 
 module _ (coding : Coding) (is_work : ℕ → ℕ → Type 0) where
-  mined_flat : (ranks : ℕ → List ℕ) (first : ℕ) (values : List (Vec (Vec Counted Global × ℕ) Global))
-      → ((k : ℕ) (d : Vec (Vec Counted Global × ℕ) Global) → k < length values → AreMined coding is_work (ranks (first + k)) (get_or values k d).items)
+  mined_flat : (ranks : ℕ → List ℕ) (first : ℕ) (values : List (Vec (List Counted × ℕ) Global))
+      → ((k : ℕ) (d : Vec (List Counted × ℕ) Global) → k < length values → AreMined coding is_work (ranks (first + k)) (get_or values k d).items)
       → AreMined coding is_work (flat_map ranks (range_with_len first (length values))) (flat_map (λ value. value.items) values)
   mined_flat ranks first [] each = tt
   mined_flat ranks first (value ∷ values) each =
@@ -123,8 +123,8 @@ module _ (coding : Coding) (is_work : ℕ → ℕ → Type 0) where
       (subst (λ n. AreMined coding is_work (ranks n) value.items) here (each 0 value (omega arith)))
       (mined_flat ranks (first + 1) values (λ k d below. subst (λ n. AreMined coding is_work (ranks n) (get_or values k d).items) (next k) (each (suc k) d (omega arith))))
 
-  pub mined_pieces : (pieces : ℕ) (values : List (Vec (Vec Counted Global × ℕ) Global)) → 1 ≤ pieces → length values ≡ pieces
-      → ((k : ℕ) (d : Vec (Vec Counted Global × ℕ) Global) → k < length values → AreMined coding is_work (ranks_of coding pieces k) (get_or values k d).items)
+  pub mined_pieces : (pieces : ℕ) (values : List (Vec (List Counted × ℕ) Global)) → 1 ≤ pieces → length values ≡ pieces
+      → ((k : ℕ) (d : Vec (List Counted × ℕ) Global) → k < length values → AreMined coding is_work (ranks_of coding pieces k) (get_or values k d).items)
       → AreMined coding is_work (range_with_len 0 (length coding.items)) (flat_map (λ value. value.items) values)
   mined_pieces pieces values some long each =
       let zero_more : (k : ℕ) → k ≡ 0 + k = λ k. omega arith in
@@ -132,13 +132,13 @@ module _ (coding : Coding) (is_work : ℕ → ℕ → Type 0) where
       (ap (λ n. flat_map (ranks_of coding pieces) (range_with_len 0 n)) long ∙ shards_are_all pieces (range_with_len 0 (length coding.items)) some)
       (mined_flat (ranks_of coding pieces) 0 values (λ k d below. subst (λ n. AreMined coding is_work (ranks_of coding pieces n) (get_or values k d).items) (zero_more k) (each k d below)))
 
-  mined_long : (first count : ℕ) (classes : List (Vec Counted Global × ℕ)) → AreMined coding is_work (range_with_len first count) classes → length classes ≡ count
+  mined_long : (first count : ℕ) (classes : List (List Counted × ℕ)) → AreMined coding is_work (range_with_len first count) classes → length classes ≡ count
   mined_long first zero [] mined = refl
   mined_long first zero (class ∷ classes) mined = absurd mined
   mined_long first (suc count) [] mined = absurd mined
   mined_long first (suc count) (class ∷ classes) mined = ap suc (mined_long (first + 1) count classes mined.2)
 
-  works_at : (first count : ℕ) (classes : List (Vec Counted Global × ℕ)) → AreMined coding is_work (range_with_len first count) classes
+  works_at : (first count : ℕ) (classes : List (List Counted × ℕ)) → AreMined coding is_work (range_with_len first count) classes
       → (k : ℕ) → k < count → is_work (first + k) (get_or (map (λ class. class.1) classes) k 0)
   works_at first zero classes mined k below = absurd (omega arith)
   works_at first (suc count) [] mined k below = absurd mined
@@ -147,16 +147,16 @@ module _ (coding : Coding) (is_work : ℕ → ℕ → Type 0) where
       let e : (first + 1) + k ≡ first + suc k = omega arith in
       subst (λ n. is_work n (get_or (map (λ class. class.1) classes) k 0)) e (works_at (first + 1) count classes mined.2 k (omega arith))
 
-  lists_at : (first count : ℕ) (classes : List (Vec Counted Global × ℕ)) → AreMined coding is_work (range_with_len first count) classes
-      → (k : ℕ) → k < count → ListsClassItems coding (first + k) (get_or (map (λ class. class.0.items) classes) k [])
+  lists_at : (first count : ℕ) (classes : List (List Counted × ℕ)) → AreMined coding is_work (range_with_len first count) classes
+      → (k : ℕ) → k < count → ListsClassItems coding (first + k) (get_or (map (λ class. class.0) classes) k [])
   lists_at first zero classes mined k below = absurd (omega arith)
   lists_at first (suc count) [] mined k below = absurd mined
-  lists_at first (suc count) (class ∷ classes) mined zero below = let e : first ≡ first + zero = omega arith in subst (λ n. ListsClassItems coding n class.0.items) e mined.0
+  lists_at first (suc count) (class ∷ classes) mined zero below = let e : first ≡ first + zero = omega arith in subst (λ n. ListsClassItems coding n class.0) e mined.0
   lists_at first (suc count) (class ∷ classes) mined (suc k) below =
       let e : (first + 1) + k ≡ first + suc k = omega arith in
-      subst (λ n. ListsClassItems coding n (get_or (map (λ class. class.0.items) classes) k [])) e (lists_at (first + 1) count classes mined.2 k (omega arith))
+      subst (λ n. ListsClassItems coding n (get_or (map (λ class. class.0) classes) k [])) e (lists_at (first + 1) count classes mined.2 k (omega arith))
 
-  pub work_of_all : (classes : List (Vec Counted Global × ℕ)) (total : ℕ) → AreMined coding is_work (range_with_len 0 (length coding.items)) classes
+  pub work_of_all : (classes : List (List Counted × ℕ)) (total : ℕ) → AreMined coding is_work (range_with_len 0 (length coding.items)) classes
       → total ≡ min (sum (map (λ class. class.1) classes)) MOST_WORK → IsWorkOfAll is_work (length coding.items) total
   work_of_all classes total mined added = record {
     each = map (λ class. class.1) classes;
@@ -165,14 +165,14 @@ module _ (coding : Coding) (is_work : ℕ → ℕ → Type 0) where
     added = added;
   }
 
-  pub once_of_all : (classes : List (Vec Counted Global × ℕ)) → ClassItemsAreAll → IsCoding coding → AreMined coding is_work (range_with_len 0 (length coding.items)) classes
-      → ListsOnce (baskets_of coding) coding.minimum (flat_map (λ (class : Vec Counted Global). class.items) (map (λ class. class.0) classes))
+  pub once_of_all : (classes : List (List Counted × ℕ)) → ClassItemsAreAll → IsCoding coding → AreMined coding is_work (range_with_len 0 (length coding.items)) classes
+      → ListsOnce (baskets_of coding) coding.minimum (flat_map (λ (class : List Counted). class) (map (λ class. class.0) classes))
   once_of_all classes law is mined =
-      let lists = map (λ (class : Vec Counted Global × ℕ). class.0.items) classes in
-      let long : length lists ≡ length coding.items = length-map classes (λ class. class.0.items) ∙ mined_long 0 (length coding.items) classes mined in
-      let flat : flat_map (λ (list : List Counted). list) lists ≡ flat_map (λ (class : Vec Counted Global). class.items) (map (λ class. class.0) classes) =
-      flat_map-map (λ (list : List Counted). list) (λ (class : Vec Counted Global × ℕ). class.0.items) classes
-      ∙ sym (flat_map-map (λ (class : Vec Counted Global). class.items) (λ (class : Vec Counted Global × ℕ). class.0) classes) in
+      let lists = map (λ (class : List Counted × ℕ). class.0) classes in
+      let long : length lists ≡ length coding.items = length-map classes (λ class. class.0) ∙ mined_long 0 (length coding.items) classes mined in
+      let flat : flat_map (λ (list : List Counted). list) lists ≡ flat_map (λ (class : List Counted). class) (map (λ class. class.0) classes) =
+      flat_map-map (λ (list : List Counted). list) (λ (class : List Counted × ℕ). class.0) classes
+      ∙ sym (flat_map-map (λ (class : List Counted). class) (λ (class : List Counted × ℕ). class.0) classes) in
       subst (ListsOnce (baskets_of coding) coding.minimum) flat
       (law coding lists is long (λ k below. let e : 0 + k ≡ k = omega arith in
       subst (λ n. ListsClassItems coding n (get_or lists k [])) e (lists_at 0 (length coding.items) classes mined k (omega (arith, long, below)))))
@@ -186,7 +186,7 @@ module _ (round : RoundView) (coding : Coding) (is_work : ℕ → ℕ → Type 0
   seen_at_most (share ∷ shares) (suc k) d below = let rest = seen_at_most shares k d (omega arith) in omega (arith, rest)
 
   -- the fault to tell is that there are too many only where there are
-  pub too_many_are : (shares : List (Share (Vec (ℕ × Vec (Vec Counted Global × ℕ) Global) Global))) (seats : List SeatView) (most total count : ℕ)
+  pub too_many_are : (shares : List (Share (Vec (ℕ × Vec (List Counted × ℕ) Global) Global))) (seats : List SeatView) (most total count : ℕ)
       → 1 ≤ pieces → IsCoding coding → ClassSizesAddUp → seats ≡ map (λ share. share.seat) shares → All (IsClassShare round coding is_work limit pieces) shares
       → IsPermutation (claimed_by seats) (range_with_len 0 count) → count ≤ pieces → total ≡ added_by seats 0 → total ≡ seen_by seats 0
       → fault_of (map (λ share. share.values) shares) ≡ Some (TooMany most) → (most ≡ limit) × (limit < length (frequent_of_coding coding))
@@ -197,7 +197,7 @@ module _ (round : RoundView) (coding : Coding) (is_work : ℕ → ℕ → Type 0
       let claimed = claimed_have_at_most coding pieces some is sizes (claimed_by seats) count same within in
       let moved = ap (λ l. sum_by (piece_size coding pieces) (claimed_by l)) are in
       let low : total ≤ length (frequent_of_coding coding) = omega (arith, added, told, claimed, moved) in
-      let Told : Share (Vec (ℕ × Vec (Vec Counted Global × ℕ) Global) Global) → Type 0 = λ share. IsClassShare round coding is_work limit pieces share × (slice_index share.seat.held.seen 0 ≤ total) in
+      let Told : Share (Vec (ℕ × Vec (List Counted × ℕ) Global) Global) → Type 0 = λ share. IsClassShare round coding is_work limit pieces share × (slice_index share.seat.held.seen 0 ≤ total) in
       let Too : Type 0 = (most ≡ limit) × (limit < length (frequent_of_coding coding)) in
       elim (fault_from Told Too most
       (λ share says here.

@@ -32,12 +32,12 @@ abbrev pub piece_size : Coding → ℕ → ℕ → ℕ
 piece_size coding pieces piece = sum_by (class_size coding) (ranks_of coding pieces piece)
 
 -- for each rank its class, and the work that it took
-abbrev pub AreMined : Coding → (ℕ → ℕ → Type 0) → List ℕ → List (Vec Counted Global × ℕ) → Type 0
+abbrev pub AreMined : Coding → (ℕ → ℕ → Type 0) → List ℕ → List (List Counted × ℕ) → Type 0
 AreMined coding is_work [] [] = Unit {0}
 AreMined coding is_work [] (class ∷ classes) = ⊥
 AreMined coding is_work (rank ∷ ranks) [] = ⊥
 AreMined coding is_work (rank ∷ ranks) (class ∷ classes) =
-    ListsClassItems coding rank class.0.items × is_work rank class.1 × AreMined coding is_work ranks classes
+    ListsClassItems coding rank class.0 × is_work rank class.1 × AreMined coding is_work ranks classes
 
 -- a class alone has more sets than the limit
 pub record HasLargeClass (coding : Coding) (limit : ℕ) : Type 0 where
@@ -46,7 +46,7 @@ pub record HasLargeClass (coding : Coding) (limit : ℕ) : Type 0 where
   pub large : limit < class_size coding rank
 
 -- the values are the classes of the pieces that a seat claimed, of which it told each set; it was answered that no piece is left, and it last saw no more sets than the limit
-pub record MinesPieces (coding : Coding) (is_work : ℕ → ℕ → Type 0) (limit pieces : ℕ) (seat : SeatView) (values : List (ℕ × Vec (Vec Counted Global × ℕ) Global)) : Type 0 where
+pub record MinesPieces (coding : Coding) (is_work : ℕ → ℕ → Type 0) (limit pieces : ℕ) (seat : SeatView) (values : List (ℕ × Vec (List Counted × ℕ) Global)) : Type 0 where
   pub ended : 0 < seat.held.past
   pub claimed : pieces_of values ≡ seat.held.claimed
   pub mined : All (λ value. AreMined coding is_work (ranks_of coding pieces value.0) value.1.items) values
@@ -54,7 +54,7 @@ pub record MinesPieces (coding : Coding) (is_work : ℕ → ℕ → Type 0) (lim
   pub within : slice_index seat.held.seen 0 ≤ limit
 
 -- what a worker hands back: its seat, which told no more sets than the pieces that it claimed have, and the classes of these pieces, or why it stopped
-pub record IsClassShare (round : RoundView) (coding : Coding) (is_work : ℕ → ℕ → Type 0) (limit pieces : ℕ) (share : Share (Vec (ℕ × Vec (Vec Counted Global × ℕ) Global) Global)) : Type 0 where
+pub record IsClassShare (round : RoundView) (coding : Coding) (is_work : ℕ → ℕ → Type 0) (limit pieces : ℕ) (share : Share (Vec (ℕ × Vec (List Counted × ℕ) Global) Global)) : Type 0 where
   pub own : share.seat.round ≡ round.id
   pub at_most : slice_index share.seat.held.added 0 ≤ sum_by (piece_size coding pieces) share.seat.held.claimed
   pub values : IfOk share.values (λ values. MinesPieces coding is_work limit pieces share.seat values.items)

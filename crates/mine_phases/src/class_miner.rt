@@ -4,7 +4,7 @@ ghost use Rattle.basket_core.specs.declared.fault.MineFault.TheVariants.{TooMany
 ghost use Rattle.basket_core.specs.Codes.{Coding};
 ghost use Rattle.mine_classes.specs.Mined.{ListsClassItems, class_size};
 
-use basket_core::{Counted, MineFault, Tally};
+use basket_core::{CountedSets, MineFault, Tally};
 use std::alloc::Global;
 
 /// Mines the class of a rank.
@@ -19,12 +19,12 @@ pub trait ClassMiner {
         alloc: Global,
         rank: u32,
         tally: &mut T,
-    ) -> Result<(Vec<Counted>, u64), MineFault>
+    ) -> Result<(CountedSets, u64), MineFault>
         requires rank { rank < length (coding_of self.now).items }
         requires going { T.is_over tally.old ≡ false }
-        ensures listed { IfOk result (λ mined. ListsClassItems (coding_of self.now) rank mined.0.items) }
+        ensures listed { IfOk result (λ mined. ListsClassItems (coding_of self.now) rank mined.0) }
         ensures work { IfOk result (λ mined. is_work self.now rank mined.1) }
-        ensures told { IfOk result (λ mined. T.told_of tally.new ≡ T.told_of tally.old + length mined.0.items) }
+        ensures told { IfOk result (λ mined. T.told_of tally.new ≡ T.told_of tally.old + length mined.0) }
         ensures going_on { IfOk result (λ mined. T.is_over tally.new ≡ false) }
         ensures too_many { (limit : ℕ) → result ≡ Err (TooMany limit)
             → (limit ≡ T.limit_of tally.old) × (IsTrue (T.is_over tally.new) ⊎ (limit < class_size (coding_of self.now) rank)) }

@@ -3,18 +3,18 @@ ghost use Rattle.std.specs.Prelude.{◌≡◌, ◌+◌, ◌++◌, IfOk, map, min
 ghost use Rattle.std.specs.List.{flat_map};
 ghost use Rattle.mine_phases.specs.Classes.{MOST_WORK};
 
-use basket_core::Counted;
+use basket_core::CountedSets;
 use std::alloc::{AllocError, Global};
 
 /// The class of a rank as items, and the work that it took.
-pub type Class = (Vec<Counted>, u64);
+pub type Class = (CountedSets, u64);
 
 /// The classes of all pieces, one after another, and their work, added up as far as it goes.
 pub fn joined(
     alloc: Global,
     pieces: Vec<Vec<Class>>,
     ranks: u32,
-) -> Result<(Vec<Vec<Counted>>, u64), AllocError>
+) -> Result<(Vec<CountedSets>, u64), AllocError>
     ensures classes { IfOk result (λ joined. joined.0.items ≡ map (λ class. class.0) (flat_map (λ piece. piece.items) pieces.items)) }
     ensures work { IfOk result (λ joined. joined.1 ≡ min (sum (map (λ class. class.1) (flat_map (λ piece. piece.items) pieces.items))) MOST_WORK) }
 {
@@ -28,7 +28,7 @@ pub fn joined(
 
 /// Joins the classes of a piece to those before it. The answer is the work of all.
 fn join_piece(
-    classes: &mut Vec<Vec<Counted>>,
+    classes: &mut Vec<CountedSets>,
     mut work: u64,
     piece: Vec<Class>,
 ) -> Result<u64, AllocError>

@@ -17,10 +17,11 @@ use Rattle.basket_sets.proofs.theory.Members.{Member, Member-append_right}
 use Rattle.basket_sets.proofs.theory.Rising.{Member-from_has, has-from_Member, has_place, contains_each}
 use Rattle.basket_sets.proofs.theory.Support.{subsets_are_frequent}
 use Rattle.mine_vertical.specs.declared.search.Sibling.{Sibling}
-use Rattle.mine_vertical.specs.Mined.{set_at}
+use Rattle.basket_lists.specs.CountedSets.{set_at}
 use Rattle.mine_vertical.specs.Search.{IsNode, IsSibling, Node, found_at, is_met, ranks_at}
 use Rattle.mine_vertical.specs.Walk.{joins_below, kept_below, sets_below}
-use Rattle.mine_vertical.proofs.SearchLemmas.{ranks, set_kept}
+use Rattle.basket_lists.proofs.theory.Places.{set_kept}
+use Rattle.mine_vertical.proofs.SearchLemmas.{ranks}
 use Rattle.mine_vertical.proofs.WalkLemmas.{branch, branch_joins, joins_are_branches, kept_before, kept_few, kept_lower, kept_with, sets_are_branches}
 
 as_many : {R : Type 0} (siblings : List (Sibling R)) → length (map (λ (s : Sibling R). s.rank) siblings) ≡ length siblings

@@ -11,7 +11,7 @@ use Rattle.basket_sets.specs.declared.counted.Counted.{Counted}
 use Rattle.basket_sets.specs.Support.{support_of}
 use Rattle.mine_vertical.specs.declared.search.Sibling.{Sibling}
 use Rattle.mine_vertical.specs.Cover.{common, cover_of, cover_weight, weights_of}
-use Rattle.mine_vertical.specs.Mined.{set_at}
+use Rattle.basket_lists.specs.CountedSets.{set_at}
 use Rattle.mine_vertical.specs.Search.{IsSibling, is_met}
 use Rattle.mine_vertical.proofs.CoverLemmas.{common_cover, cover_weighs}
 
@@ -75,13 +75,3 @@ module _ {R : Type 0} (stands : List ℕ → List ℕ → List ℕ → R → Typ
   sibling_at baskets set others i other here is all = subst (IsSibling stands baskets set) (sym is) (all i other here)
 
 -- ---- sets that were found
-
--- they stay at their places
-pub set_kept : (before more sets : List Counted) (place : ℕ) → place < length before → sets ≡ before ++ more → set_at sets place ≡ set_at before place
-set_kept before more sets place here are =
-    ap (λ l. set_at l place) are ∙ ap (λ (c : Counted). c.set) (get_or_append_left before more (record { set = []; count = 0 }) place here)
-
--- the place of one more
-pub set_added : (sets new : List Counted) (one : Counted) (place : ℕ) → place ≡ length sets → new ≡ sets ++ one ∷ [] → set_at new place ≡ one.set
-set_added sets new one place last adds =
-    ap (set_at new) last ∙ ap (λ l. set_at l (length sets)) adds ∙ ap (λ (c : Counted). c.set) (get_or-append_seam sets one [] (record { set = []; count = 0 }))

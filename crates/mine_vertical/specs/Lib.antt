@@ -10,4 +10,3 @@ pub mod Bits
 pub mod Planes
 pub mod Marks
 pub mod Covers
-pub mod Mined

@@ -10,7 +10,7 @@ use crate::row::Row;
 use crate::search::Search;
 use crate::siblings::{class_siblings, support_of_rank};
 use crate::vertical::Vertical;
-use basket_core::{Counted, Itemset, MineFault, Tally};
+use basket_core::{CountedSets, Itemset, MineFault, Tally};
 use mine_classes::laws::{
     classes_are_conditional, conditional_supports, lists_have_class_size, rare_ranks_have_no_class,
     supports_settle_frequent,
@@ -25,12 +25,12 @@ pub fn eclat_class<R: Row, T: Tally>(
     vertical: &Vertical<'_>,
     rank: u32,
     tally: &mut T,
-) -> Result<(Vec<Counted>, u64), MineFault>
+) -> Result<(CountedSets, u64), MineFault>
     requires rank { rank < length vertical.now.items }
     requires going { T.is_over tally.old ≡ false }
-    ensures listed { IfOk result (λ mined. ListsClassItems vertical.now rank mined.0.items) }
+    ensures listed { IfOk result (λ mined. ListsClassItems vertical.now rank mined.0) }
     ensures joins { IfOk result (λ mined. RanksAreFrequent vertical.now → mined.1 ≡ class_joins vertical.now rank) }
-    ensures told { IfOk result (λ mined. T.told_of tally.new ≡ T.told_of tally.old + length mined.0.items) }
+    ensures told { IfOk result (λ mined. T.told_of tally.new ≡ T.told_of tally.old + length mined.0) }
     ensures going_on { IfOk result (λ mined. T.is_over tally.new ≡ false) }
     ensures too_many { (limit : ℕ) → result ≡ Err (TooMany limit)
         → (limit ≡ T.limit_of tally.old) × (IsTrue (T.is_over tally.new) ⊎ (limit < class_size vertical.now rank)) }
@@ -42,14 +42,14 @@ pub fn eclat_class<R: Row, T: Tally>(
     supports_settle_frequent();
     classes_are_conditional();
     rare_ranks_have_no_class();
-    let mut mined = Mined::new(alloc);
+    let coded = vertical.coded();
+    let mut mined = Mined::new(alloc, coded.items())?;
     let least = vertical.least();
     let runs = vertical.runs();
     let support = support_of_rank(runs, rank);
     if support < least {
         return Ok((mined.sets, mined.joins));
     }
-    let coded = vertical.coded();
     let set = Itemset::from_items(alloc, &[coded.item(rank)])?;
     mined.add(set, support, tally)?;
     let (weights, siblings) = class_siblings::<R>(alloc, runs, rank, least)?;

@@ -2,27 +2,28 @@
 ghost use Rattle.std.specs.Prelude.{◌≡◌, ◌≤◌, ◌<◌, ◌+◌, ◌*◌, ◌++◌, [], ◌∷◌, ℕ, ◌⊎◌, Err, IfOk, IsTrue, false, OnOk, length};
 ghost use Rattle.basket_core.specs.declared.fault.MineFault.TheVariants.{TooMany};
 ghost use Rattle.basket_sets.specs.Itemset.{with_item};
-ghost use Rattle.mine_vertical.specs.Mined.{set_at};
+ghost use Rattle.basket_lists.specs.CountedSets.{set_at};
 
-use basket_core::{Counted, Itemset, MineFault, Tally};
-use std::alloc::Global;
+use basket_core::{CountedSets, Itemset, MineFault, Tally};
+use std::alloc::{AllocError, Global};
 
 /// The sets of a class that were found, and how many joins were made for them.
 #[derive(Debug, Drop)]
 pub struct Mined {
-    pub sets: Vec<Counted>,
+    pub sets: CountedSets,
     pub joins: u64,
 }
 
 impl Mined {
-    pub fn new(alloc: Global) -> Self
-        ensures sets { result.sets.items ≡ [] }
-        ensures joins { result.joins ≡ 0 }
+    /// Nothing yet, where sets of the items are to come.
+    pub fn new(alloc: Global, items: &[u32]) -> Result<Self, AllocError>
+        ensures sets { IfOk result (λ mined. mined.sets ≡ []) }
+        ensures joins { IfOk result (λ mined. mined.joins ≡ 0) }
     {
-        Mined {
-            sets: Vec::new(alloc),
+        Ok(Mined {
+            sets: CountedSets::new(alloc, items)?,
             joins: 0,
-        }
+        })
     }
 
     /// Tells a frequent set to the tally, and adds it.
@@ -33,20 +34,20 @@ impl Mined {
         tally: &mut T,
     ) -> Result<(), MineFault>
         requires { T.is_over tally.old ≡ false }
-        ensures sets { OnOk result (self.new.sets.items ≡ self.old.sets.items ++ record { set = set; count = count } ∷ []) }
+        ensures sets { OnOk result (self.new.sets ≡ self.old.sets ++ record { set = set; count = count } ∷ []) }
         ensures joins { self.new.joins ≡ self.old.joins }
-        ensures few { OnOk result (length self.new.sets.items ≤ 4294967295) }
+        ensures few { OnOk result (length self.new.sets ≤ 4294967295) }
         ensures going_on { OnOk result (T.is_over tally.new ≡ false) }
         ensures told { T.told_of tally.new ≡ T.told_of tally.old + 1 }
         ensures limit { T.limit_of tally.new ≡ T.limit_of tally.old }
         ensures too_many { (limit : ℕ) → result ≡ Err (TooMany limit)
-            → (limit ≡ T.limit_of tally.old) × (IsTrue (T.is_over tally.new) ⊎ (limit < length self.old.sets.items + 1)) }
+            → (limit ≡ T.limit_of tally.old) × (IsTrue (T.is_over tally.new) ⊎ (limit < length self.old.sets + 1)) }
     {
         let limit = tally.limit();
         if !tally.tell() {
             return Err(MineFault::TooMany { limit });
         }
-        self.sets.push(Counted { set, count })?;
+        self.sets.push(set, count)?;
         if self.sets.len() > limit as usize {
             return Err(MineFault::TooMany { limit });
         }
@@ -63,22 +64,28 @@ impl Mined {
         count: u64,
         tally: &mut T,
     ) -> Result<usize, MineFault>
-        requires found { place < length self.old.sets.items }
+        requires found { place < length self.old.sets }
         requires going { T.is_over tally.old ≡ false }
-        ensures place { IfOk result (λ longer. longer ≡ length self.old.sets.items) }
-        ensures sets { OnOk result (self.new.sets.items ≡ self.old.sets.items ++ record { set = with_item item (set_at self.old.sets.items place); count = count } ∷ []) }
+        ensures place { IfOk result (λ longer. longer ≡ length self.old.sets) }
+        ensures sets { OnOk result (self.new.sets ≡ self.old.sets ++ record { set = with_item item (set_at self.old.sets place); count = count } ∷ []) }
         ensures joins { self.new.joins ≡ self.old.joins }
-        ensures few { OnOk result (length self.new.sets.items ≤ 4294967295) }
+        ensures few { OnOk result (length self.new.sets ≤ 4294967295) }
         ensures going_on { OnOk result (T.is_over tally.new ≡ false) }
         ensures told { OnOk result (T.told_of tally.new ≡ T.told_of tally.old + 1) }
         ensures at_most { T.told_of tally.new ≤ T.told_of tally.old + 1 }
         ensures limit { T.limit_of tally.new ≡ T.limit_of tally.old }
         ensures too_many { (limit : ℕ) → result ≡ Err (TooMany limit)
-            → (limit ≡ T.limit_of tally.old) × (IsTrue (T.is_over tally.new) ⊎ (limit < length self.old.sets.items + 1)) }
+            → (limit ≡ T.limit_of tally.old) × (IsTrue (T.is_over tally.new) ⊎ (limit < length self.old.sets + 1)) }
     {
+        let limit = tally.limit();
+        if !tally.tell() {
+            return Err(MineFault::TooMany { limit });
+        }
         let longer = self.sets.len();
-        let set = self.sets[place].set.with(alloc, item)?;
-        self.add(set, count, tally)?;
+        self.sets.push_longer(alloc, place, item, count)?;
+        if self.sets.len() > limit as usize {
+            return Err(MineFault::TooMany { limit });
+        }
         Ok(longer)
     }
 }

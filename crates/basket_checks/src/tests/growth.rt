@@ -48,7 +48,8 @@ fn class<T: Tally>(
         return Ok(Vec::new(alloc));
     }
     let forest = Forest::of(alloc, coded)?;
-    let (mut sets, _trees) = fp_class(alloc, &forest, rank, tally)?;
+    let (mut found, _trees) = fp_class(alloc, &forest, rank, tally)?;
+    let mut sets = found.take(alloc)?;
     sets.sort_unstable();
     Ok(sets)
 }

@@ -24,9 +24,9 @@ fn listed(alloc: Global, sets: &[Itemset]) -> Result<String, Fail> {
 }
 
 /// The frequent sets as text, each with its support.
-fn counted(alloc: Global, frequent: &Frequent) -> Result<String, Fail> {
+fn counted(alloc: Global, frequent: Frequent) -> Result<String, Fail> {
     let mut text = String::new(alloc);
-    for counted in frequent.sets() {
+    for counted in frequent.unpacked(alloc)?.sets() {
         text.push_str(counted.set.to_string(alloc)?.as_str())?;
         text.push_str(" (")?;
         text.push_str(counted.count.to_string(alloc)?.as_str())?;
@@ -90,7 +90,7 @@ fn assert_found(
     sets: &str,
 ) -> Result<(), Fail> {
     let (frequent, candidates) = apriori(alloc, &coded(alloc, baskets, minimum)?, 18)?;
-    assert_eq!(rt; counted(alloc, &frequent)?.as_str(), sets);
+    assert_eq!(rt; counted(alloc, frequent)?.as_str(), sets);
     assert_eq!(rt; candidates, 66);
     Ok(())
 }

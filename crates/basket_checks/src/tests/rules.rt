@@ -1,15 +1,16 @@
 //! Closed and maximal sets and rules, of lists that Apriori finds.
 use super::{Row, database};
-use basket_core::{Coded, Counted, Fraction, Frequent, Minimum};
+use basket_core::{Coded, Counted, Fraction, Minimum, Unpacked};
 use basket_rules::{closed, maximal};
 use mine_apriori::apriori;
 use std::alloc::Global;
 use std::test::Fail;
 
-fn frequent(alloc: Global, rows: &[Row], minimum: Minimum) -> Result<Frequent, Fail> {
+fn frequent(alloc: Global, rows: &[Row], minimum: Minimum) -> Result<Unpacked, Fail> {
     let database = database(alloc, rows)?;
     let coded = Coded::of(alloc, &database, minimum)?;
-    Ok(apriori(alloc, &coded, u32::MAX)?.0)
+    let (frequent, _candidates) = apriori(alloc, &coded, u32::MAX)?;
+    Ok(frequent.unpacked(alloc)?)
 }
 
 /// Compares sets with lines as `1 2 (4)`.

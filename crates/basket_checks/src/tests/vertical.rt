@@ -1,13 +1,14 @@
 //! Classes by Eclat.
 use super::{Early, NINE_BASKETS, database, long_basket};
-use basket_core::{Coded, Counted, Limit, MineFault, Minimum, Tally};
+use basket_core::{Coded, CountedSets, Limit, MineFault, Minimum, Tally};
 use mine_vertical::{BitRow, DiffList, Row as Kind, TidList, Vertical, eclat_class};
 use std::alloc::Global;
 use std::fmt::Write;
 use std::test::Fail;
 
 /// The sets of a class in report order, as text.
-fn text(alloc: Global, mut sets: Vec<Counted>) -> Result<String, Fail> {
+fn text(alloc: Global, mut found: CountedSets) -> Result<String, Fail> {
+    let mut sets = found.take(alloc)?;
     sets.sort_unstable();
     let mut text = String::new(alloc);
     for counted in &sets {
@@ -22,7 +23,7 @@ fn class<R: Kind>(
     coded: &Coded,
     rank: u32,
     limit: u32,
-) -> Result<Result<(Vec<Counted>, u64), MineFault>, Fail> {
+) -> Result<Result<(CountedSets, u64), MineFault>, Fail> {
     let vertical = Vertical::of(alloc, coded)?;
     if rank >= coded.ranks() {
         return Err(Fail::from("no such rank"));

@@ -49,6 +49,7 @@ fn compare<R: Threads + Sync>(
                 .with_workers(workers)
                 .with_pieces(pieces);
             let (mined, work) = mine(rt, alloc, &database, &plan, &Open)?;
+            let mined = mined.unpacked(alloc)?;
             if mined.sets() != plain.as_slice() || mined.total() != database.total() {
                 return Err(Fail::new("the lists are the same"));
             }

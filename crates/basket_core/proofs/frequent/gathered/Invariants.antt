@@ -7,5 +7,5 @@ abbrev pub invariant-loop-class : goal.invariant-loop-class
 invariant-loop-class l = record {
   can : goal.iterator-loop-class.can_next l.class-iterator;
   ends : goal.iterator-loop-class.is_finite l.class-iterator;
-  whole : l.sets.items ++ flat_map (λ class. class.items) (into_iter_items l.class-iterator) ≡ flat_map (λ class. class.items) l.fn.classes.items;
+  whole : l.sets ++ flat_map (λ class. class) (into_iter_items l.class-iterator) ≡ flat_map (λ class. class) l.fn.classes.items;
 }

@@ -46,7 +46,7 @@ returns-clause-listed g c =
     record {
       sets = found.sets;
       listed = class_settled c.args.forest.now level.least level.paths are c.args.rank found.sets found.listed;
-      decoded = found.added ∙ ap (λ l. l ++ map (as_items (items_of level) level.suffix) found.sets) c.new-2.ensures.items
+      decoded = found.added ∙ ap (λ l. l ++ map (as_items (items_of level) level.suffix) found.sets) c.in_ok-sets.ensures
           ∙ decoded_items c.args.forest.now.items (items_of level) level.suffix found.sets (c.forest.invariant.2 ∙ ap (λ v. v.items) c.forest.view_is) c.forest.invariant.3;
     }
 

@@ -23,7 +23,7 @@ use Rattle.mine_phases.proofs.classes.mine_shared.Goals as goal
 
 -- what a worker hands back: the classes of its pieces
 abbrev Pieces : Type 0
-Pieces = Share (Vec (ℕ × Vec (Vec Counted Global × ℕ) Global) Global)
+Pieces = Share (Vec (ℕ × Vec (List Counted × ℕ) Global) Global)
 
 pub by_workers-requires-clause-accepted : goal.by_workers-requires-clause-accepted
 by_workers-requires-clause-accepted g c κs within worker i seat below is =
@@ -79,11 +79,11 @@ collected-requires g c =
 
 -- the classes by piece are the classes of all ranks
 mined_all : (coding : Coding) (is_work : ℕ → ℕ → Type 0) (limit pieces : ℕ) (shares : List Pieces)
-    (lists : List (Vec (ℕ × Vec (Vec Counted Global × ℕ) Global) Global)) (values : List (Vec (Vec Counted Global × ℕ) Global)) → 1 ≤ pieces → length values ≡ pieces
+    (lists : List (Vec (ℕ × Vec (List Counted × ℕ) Global) Global)) (values : List (Vec (List Counted × ℕ) Global)) → 1 ≤ pieces → length values ≡ pieces
     → map Ok lists ≡ map (λ share. share.values) shares → All (Says (MinesPieces coding is_work limit pieces)) shares → map Some values ≡ placed (replicate pieces None) (flat_map (λ list. list.items) lists)
     → AreMined coding is_work (range_with_len 0 (length coding.items)) (flat_map (λ value. value.items) values)
 mined_all coding is_work limit pieces shares lists values some count all says is =
-    let Mined : ℕ × Vec (Vec Counted Global × ℕ) Global → Type 0 = λ value. AreMined coding is_work (ranks_of coding pieces value.0) value.1.items in
+    let Mined : ℕ × Vec (List Counted × ℕ) Global → Type 0 = λ value. AreMined coding is_work (ranks_of coding pieces value.0) value.1.items in
     mined_pieces coding is_work pieces values some count
     (λ piece d below. each_value Mined (replicate pieces None) pieces (flat_map (λ list. list.items) lists) values refl is
     (all_values (MinesPieces coding is_work limit pieces) Mined (λ seat values says. says.mined) shares lists all says) piece d below)
@@ -96,8 +96,8 @@ of_classes-requires g c =
     c.args.cutting.some_pieces.0 (omega (arith, c.in_ok-collected.ensures.count, c.in_ok-collected.field-0.ok)) (rw c.in_ok-values.was at c.in_ok-seats.ensures.lists)
     (λ k d below. (c.in_ok-seats.ensures.each k d below).call.met.1.values) c.in_ok-collected.ensures.values in
     let once = once_of_all coding is_work _ c.class_items_are_all.ensures (subst IsCoding (sym c.requires.coding) c.baskets-baskets.ensures.coding) mined in
-    subst (λ (k : Coding). ListsOnce (baskets_of k) k.minimum (flat_map (λ (class : Vec Counted Global). class.items) c.in_ok-classes.classes.items)) c.requires.coding
-    (subst (λ (l : List (Vec Counted Global)). ListsOnce (baskets_of coding) coding.minimum (flat_map (λ (class : Vec Counted Global). class.items) l)) (sym c.in_ok-classes.ensures.classes) once)
+    subst (λ (k : Coding). ListsOnce (baskets_of k) k.minimum (flat_map (λ (class : List Counted). class) c.in_ok-classes.classes.items)) c.requires.coding
+    (subst (λ (l : List (List Counted)). ListsOnce (baskets_of coding) coding.minimum (flat_map (λ (class : List Counted). class) l)) (sym c.in_ok-classes.ensures.classes) once)
 
 pub returns-clause-within : goal.returns-clause-within
 returns-clause-within g c =

@@ -1,4 +1,4 @@
-use Rattle.std.proofs.Common.{ℕ, Vec, Global, ap, arith, map}
+use Rattle.std.proofs.Common.{List, ℕ, ap, arith, map}
 use Rattle.std.specs.List.{sum}
 use Rattle.std.specs.Vec.Iter.{into_iter_items}
 use Rattle.std.proofs.lemmas.List.{nil_from_length}
@@ -8,5 +8,5 @@ use Rattle.mine_phases.proofs.joined.join_piece.Goals as goal
 pub returns-clause-work : goal.returns-clause-work
 returns-clause-work c =
     let none = nil_from_length (into_iter_items c.loop-class.class-iterator) (omega (arith, c.in-None.ensures.steps.0, c.loop-class.class-iterator.rest.ok)) in
-    let zero = ap (λ l. sum (map (λ (class : Vec Counted Global × ℕ). class.1) l)) none in
+    let zero = ap (λ l. sum (map (λ (class : List Counted × ℕ). class.1) l)) none in
     omega (arith, zero, c.loop-class.invariant.work, c.loop-class.invariant.fits)

@@ -7,18 +7,18 @@ use Rattle.basket_sets.specs.Itemset.{rising}
 use Rattle.basket_sets.specs.Support.{support_of}
 use Rattle.mine_classes.specs.Conditional.{conditional}
 use Rattle.mine_classes.specs.Mined.{ListsClassItems}
-use Rattle.mine_vertical.specs.Mined.{set_at}
+use Rattle.basket_lists.specs.CountedSets.{set_at}
 use Rattle.mine_vertical.specs.Search.{found_at, is_met}
 use Rattle.mine_vertical.specs.Siblings.{AreClassSiblings}
 use Rattle.mine_vertical.specs.Walk.{sets_below}
 use Rattle.mine_vertical.proofs.ClassLemmas.{rare_class, rare_rank, top, top_is, whole, whole_joins, whole_lists, whole_size}
-use Rattle.mine_vertical.proofs.SearchLemmas.{set_added}
+use Rattle.basket_lists.proofs.theory.Places.{set_added}
 use Rattle.mine_vertical.proofs.eclat.eclat_class.Goals as goal
 
 pub returns-then-support-least-clause-listed : goal.returns-then-support-least-clause-listed
 returns-then-support-least-clause-listed g c =
-    rare_class c.args.vertical.now c.least-least.result c.runs-runs.result.now.baskets c.least-least.ensures c.runs-runs.ensures.weights c.rare_ranks_have_no_class.ensures c.args.rank c.new-mined.result.sets.items
-    (omega (arith, c.if-support-least.true, c.support_of_rank-support.ensures)) c.new-mined.ensures.sets
+    rare_class c.args.vertical.now c.least-least.result c.runs-runs.result.now.baskets c.least-least.ensures c.runs-runs.ensures.weights c.rare_ranks_have_no_class.ensures c.args.rank c.in_ok-mined.mined.sets
+    (omega (arith, c.if-support-least.true, c.support_of_rank-support.ensures)) c.in_ok-mined.ensures.sets
 
 pub returns-in_err-add-clause-too_many : goal.returns-in_err-add-clause-too_many
 returns-in_err-add-clause-too_many g c = λ limit e.
@@ -33,7 +33,7 @@ returns-in_err-add-clause-too_many g c = λ limit e.
     let both = sym p.1 ∙ e in
     let fault : p.0 ≡ TooMany limit = cc in
     let (same, why) = c.add.ensures.too_many limit (c.in_err-add.was ∙ ap Err (sym p.2 ∙ fault)) in
-    let none = ap length c.new-mined.ensures.sets in
+    let none = ap length c.in_ok-mined.ensures.sets in
     (same, elim why [ inl over ↦ inl over | inr less ↦ inr (omega arith) ])
 
 pub returns-in_err-add-clause-at_most : goal.returns-in_err-add-clause-at_most
@@ -82,8 +82,8 @@ extend-requires-clause-node g c =
     let known : rank < length items = omega (arith, c.requires.rank, ap (λ (k : Coding). length k.items) c.coded-coded.ensures.coded) in
     let few : length items < MOST_RANKS = omega (arith, c.coded-coded.ensures.coding.few, ap (λ (k : Coding). length k.items) c.coded-coded.ensures.coded) in
     let made = subst (λ s. AreClassSiblings g.R.Row.stands all least rank c.in_ok-weights.weights s baskets) (sym c.deref.ensures.value) are in
-    let listed = set_added c.new-mined.result.sets.items c.add.new.self.sets.items (record { set = c.in_ok-set.set; count = c.support_of_rank-support.result }) 0 (sym (ap length c.new-mined.ensures.sets)) c.in_ok-add.ensures.sets ∙ set in
-    let node = top_is g.R.Row.stands all least rank c.in_ok-weights.weights c.deref.result.now baskets (set_at c.add.new.self.sets.items 0) items made listed known few in
+    let listed = set_added c.in_ok-mined.mined.sets c.add.new.self.sets (record { set = c.in_ok-set.set; count = c.support_of_rank-support.result }) 0 (sym (ap length c.in_ok-mined.ensures.sets)) c.in_ok-add.ensures.sets ∙ set in
+    let node = top_is g.R.Row.stands all least rank c.in_ok-weights.weights c.deref.result.now baskets (set_at c.add.new.self.sets 0) items made listed known few in
     (top baskets rank, node)
 
 pub returns-in_err-extend-clause-too_many : goal.returns-in_err-extend-clause-too_many
@@ -101,10 +101,10 @@ returns-in_err-extend-clause-too_many g c = λ limit e.
     let known : rank < length items = omega (arith, c.requires.rank, ap (λ (k : Coding). length k.items) c.coded-coded.ensures.coded) in
     let few : length items < MOST_RANKS = omega (arith, c.coded-coded.ensures.coding.few, ap (λ (k : Coding). length k.items) c.coded-coded.ensures.coded) in
     let made = subst (λ s. AreClassSiblings g.R.Row.stands all least rank c.in_ok-weights.weights s baskets) (sym c.deref.ensures.value) are in
-    let listed = set_added c.new-mined.result.sets.items c.add.new.self.sets.items (record { set = c.in_ok-set.set; count = c.support_of_rank-support.result }) 0 (sym (ap length c.new-mined.ensures.sets)) c.in_ok-add.ensures.sets ∙ set in
-    let node = top_is g.R.Row.stands all least rank c.in_ok-weights.weights c.deref.result.now baskets (set_at c.add.new.self.sets.items 0) items made listed known few in
-    let one = ap length c.in_ok-add.ensures.sets ∙ length-append c.new-mined.result.sets.items (record { set = c.in_ok-set.set; count = c.support_of_rank-support.result } ∷ []) in
-    let none = ap length c.new-mined.ensures.sets in
+    let listed = set_added c.in_ok-mined.mined.sets c.add.new.self.sets (record { set = c.in_ok-set.set; count = c.support_of_rank-support.result }) 0 (sym (ap length c.in_ok-mined.ensures.sets)) c.in_ok-add.ensures.sets ∙ set in
+    let node = top_is g.R.Row.stands all least rank c.in_ok-weights.weights c.deref.result.now baskets (set_at c.add.new.self.sets 0) items made listed known few in
+    let one = ap length c.in_ok-add.ensures.sets ∙ length-append c.in_ok-mined.mined.sets (record { set = c.in_ok-set.set; count = c.support_of_rank-support.result } ∷ []) in
+    let none = ap length c.in_ok-mined.ensures.sets in
     let p = err_from_is_err_and c.from_residual-in_err-extend.result c.from_residual-in_err-extend.ensures.1 in
     let both = sym p.1 ∙ e in
     let fault : p.0 ≡ TooMany limit = cc in
@@ -126,8 +126,8 @@ returns-in_err-extend-clause-at_most g c =
     let known : rank < length items = omega (arith, c.requires.rank, ap (λ (k : Coding). length k.items) c.coded-coded.ensures.coded) in
     let few : length items < MOST_RANKS = omega (arith, c.coded-coded.ensures.coding.few, ap (λ (k : Coding). length k.items) c.coded-coded.ensures.coded) in
     let made = subst (λ s. AreClassSiblings g.R.Row.stands all least rank c.in_ok-weights.weights s baskets) (sym c.deref.ensures.value) are in
-    let listed = set_added c.new-mined.result.sets.items c.add.new.self.sets.items (record { set = c.in_ok-set.set; count = c.support_of_rank-support.result }) 0 (sym (ap length c.new-mined.ensures.sets)) c.in_ok-add.ensures.sets ∙ set in
-    let node = top_is g.R.Row.stands all least rank c.in_ok-weights.weights c.deref.result.now baskets (set_at c.add.new.self.sets.items 0) items made listed known few in
+    let listed = set_added c.in_ok-mined.mined.sets c.add.new.self.sets (record { set = c.in_ok-set.set; count = c.support_of_rank-support.result }) 0 (sym (ap length c.in_ok-mined.ensures.sets)) c.in_ok-add.ensures.sets ∙ set in
+    let node = top_is g.R.Row.stands all least rank c.in_ok-weights.weights c.deref.result.now baskets (set_at c.add.new.self.sets 0) items made listed known few in
     omega (arith, c.add.ensures.told, c.extend.ensures.at_most (top baskets rank) node)
 
 pub returns-clause-at_most : goal.returns-clause-at_most
@@ -145,8 +145,8 @@ returns-clause-at_most g c =
     let known : rank < length items = omega (arith, c.requires.rank, ap (λ (k : Coding). length k.items) c.coded-coded.ensures.coded) in
     let few : length items < MOST_RANKS = omega (arith, c.coded-coded.ensures.coding.few, ap (λ (k : Coding). length k.items) c.coded-coded.ensures.coded) in
     let made = subst (λ s. AreClassSiblings g.R.Row.stands all least rank c.in_ok-weights.weights s baskets) (sym c.deref.ensures.value) are in
-    let listed = set_added c.new-mined.result.sets.items c.add.new.self.sets.items (record { set = c.in_ok-set.set; count = c.support_of_rank-support.result }) 0 (sym (ap length c.new-mined.ensures.sets)) c.in_ok-add.ensures.sets ∙ set in
-    let node = top_is g.R.Row.stands all least rank c.in_ok-weights.weights c.deref.result.now baskets (set_at c.add.new.self.sets.items 0) items made listed known few in
+    let listed = set_added c.in_ok-mined.mined.sets c.add.new.self.sets (record { set = c.in_ok-set.set; count = c.support_of_rank-support.result }) 0 (sym (ap length c.in_ok-mined.ensures.sets)) c.in_ok-add.ensures.sets ∙ set in
+    let node = top_is g.R.Row.stands all least rank c.in_ok-weights.weights c.deref.result.now baskets (set_at c.add.new.self.sets 0) items made listed known few in
     omega (arith, c.add.ensures.told, c.extend.ensures.at_most (top baskets rank) node)
 
 pub returns-clause-listed : goal.returns-clause-listed
@@ -162,13 +162,13 @@ returns-clause-listed g c =
     let known : rank < length items = omega (arith, c.requires.rank, ap (λ (k : Coding). length k.items) c.coded-coded.ensures.coded) in
     let few : length items < MOST_RANKS = omega (arith, c.coded-coded.ensures.coding.few, ap (λ (k : Coding). length k.items) c.coded-coded.ensures.coded) in
     let made = subst (λ s. AreClassSiblings g.R.Row.stands all least rank c.in_ok-weights.weights s baskets) (sym c.deref.ensures.value) are in
-    let listed = set_added c.new-mined.result.sets.items c.add.new.self.sets.items (record { set = c.in_ok-set.set; count = c.support_of_rank-support.result }) 0 (sym (ap length c.new-mined.ensures.sets)) c.in_ok-add.ensures.sets ∙ set in
-    let node = top_is g.R.Row.stands all least rank c.in_ok-weights.weights c.deref.result.now baskets (set_at c.add.new.self.sets.items 0) items made listed known few in
+    let listed = set_added c.in_ok-mined.mined.sets c.add.new.self.sets (record { set = c.in_ok-set.set; count = c.support_of_rank-support.result }) 0 (sym (ap length c.in_ok-mined.ensures.sets)) c.in_ok-add.ensures.sets ∙ set in
+    let node = top_is g.R.Row.stands all least rank c.in_ok-weights.weights c.deref.result.now baskets (set_at c.add.new.self.sets 0) items made listed known few in
     let support = support_of all (rank ∷ []) in
     let found = sets_below (is_met baskets least) rank [] in
     let one : Counted = record { set = c.in_ok-set.set; count = c.support_of_rank-support.result } in
     let first : one ≡ record { set = decoded items (rank ∷ []); count = support } = λ i. record { set = set i; count = c.support_of_rank-support.ensures i } in
-    let added = c.in_ok-add.ensures.sets ∙ ap (λ l. l ++ one ∷ []) c.new-mined.ensures.sets ∙ ap (λ x. x ∷ []) first in
+    let added = c.in_ok-add.ensures.sets ∙ ap (λ l. l ++ one ∷ []) c.in_ok-mined.ensures.sets ∙ ap (λ x. x ∷ []) first in
     let sets = c.in_ok-extend.ensures.sets (top baskets rank) node ∙ ap (λ l. l ++ map (found_at items (top baskets rank)) found) added
     ∙ ap (λ (k : Coding). whole k.items baskets least rank support) c.coded-coded.ensures.coded in
     subst (ListsClassItems coding rank) (sym sets)
@@ -193,7 +193,7 @@ returns-clause-joins g c = λ each.
     let known : rank < length items = omega (arith, c.requires.rank, ap (λ (k : Coding). length k.items) c.coded-coded.ensures.coded) in
     let few : length items < MOST_RANKS = omega (arith, c.coded-coded.ensures.coding.few, ap (λ (k : Coding). length k.items) c.coded-coded.ensures.coded) in
     let made = subst (λ s. AreClassSiblings g.R.Row.stands all least rank c.in_ok-weights.weights s baskets) (sym c.deref.ensures.value) are in
-    let listed = set_added c.new-mined.result.sets.items c.add.new.self.sets.items (record { set = c.in_ok-set.set; count = c.support_of_rank-support.result }) 0 (sym (ap length c.new-mined.ensures.sets)) c.in_ok-add.ensures.sets ∙ set in
-    let node = top_is g.R.Row.stands all least rank c.in_ok-weights.weights c.deref.result.now baskets (set_at c.add.new.self.sets.items 0) items made listed known few in
+    let listed = set_added c.in_ok-mined.mined.sets c.add.new.self.sets (record { set = c.in_ok-set.set; count = c.support_of_rank-support.result }) 0 (sym (ap length c.in_ok-mined.ensures.sets)) c.in_ok-add.ensures.sets ∙ set in
+    let node = top_is g.R.Row.stands all least rank c.in_ok-weights.weights c.deref.result.now baskets (set_at c.add.new.self.sets 0) items made listed known few in
     let joins = whole_joins coding least all c.least-least.ensures c.runs-runs.ensures.weights c.conditional_supports.ensures rank baskets are.same each c.requires.rank in
     omega (arith, joins, c.in_ok-extend.ensures.joins (top baskets rank) node, c.from.ensures)

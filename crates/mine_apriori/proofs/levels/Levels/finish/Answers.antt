@@ -17,8 +17,8 @@ of_classes-requires c =
     let coding = c.self.inside.coded.now in
     let done = ap (λ s. asked_of s.coding s.size) c.self.view_is ∙ c.requires in
     let list = c.in_ok-decoded.ensures ∙ ap (map (λ set. decoded_set coding.items (counted coding.baskets set))) c.self.invariant.1.found_all.sets in
-    let one = ap (flat_map (λ class. class.items)) (c.in_ok-push.ensures.items ∙ ap (λ l. l ++ c.in_ok-decoded.field-0 ∷ []) c.in_ok-classes.ensures.items) in
-    subst (ListsOnce (baskets_of coding) coding.minimum) (sym (one ∙ append-nil c.in_ok-decoded.field-0.items ∙ list))
+    let one = ap (flat_map (λ class. class)) (c.in_ok-push.ensures.items ∙ ap (λ l. l ++ c.in_ok-decoded.field-0 ∷ []) c.in_ok-classes.ensures.items) in
+    subst (ListsOnce (baskets_of coding) coding.minimum) (sym (one ∙ append-nil c.in_ok-decoded.field-0 ∙ list))
     (found_once coding c.self.invariant.0 c.self.inside.size c.self.invariant.1.some done)
 
 pub returns-clause-within : goal.returns-clause-within

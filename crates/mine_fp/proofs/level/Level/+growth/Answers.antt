@@ -25,7 +25,7 @@ class-returns-then-support-self-clause-listed g t c =
       sets = [];
       listed = c.rare_ranks_have_no_class.ensures level.paths.baskets (Count level.least) c.args.rank
           (rare_by level.paths.baskets level.least c.args.rank c.support-support.result c.support-support.ensures c.if-support-self.true);
-      added = sym (append-nil c.args.found.now.sets.items);
+      added = sym (append-nil c.args.found.now.sets);
     }
 
 pub class-returns-then-support-self-clause-trees :
@@ -74,10 +74,10 @@ class-returns-in_err-pairs-clause-at_most g t c =
 pub class-returns-then-is_empty-clause-listed : goal.class-returns-then-is_empty-clause-listed
 class-returns-then-is_empty-clause-listed g t c =
     let level = c.args.self.now in
-    let old = c.args.found.now.sets.items in
+    let old = c.args.found.now.sets in
     let met = met_by level.paths.baskets level.least c.args.rank c.support-support.result c.support-support.ensures c.requires.level.some c.if-support-self.false in
     let none = sym c.in_ok-pairs.ensures.pairs ∙ nothing_in c.in_ok-pairs.pairs.items (omega (arith, eqb-true (vec_len c.in_ok-pairs.pairs) 0 (sym c.if-is_empty.ensures), c.in_ok-pairs.pairs.ok.0)) in
-    leaf_grown level c.args.rank none c.classes_are_conditional.ensures c.conditional_supports.ensures met old c.tell.new.found.sets.items c.in_ok-set.set c.support-support.result
+    leaf_grown level c.args.rank none c.classes_are_conditional.ensures c.conditional_supports.ensures met old c.tell.new.found.sets c.in_ok-set.set c.support-support.result
     c.requires.level.rises c.in_ok-set.ensures c.support-support.ensures c.in_ok-tell.ensures.added
 
 pub class-returns-then-is_empty-clause-trees : goal.class-returns-then-is_empty-clause-trees
@@ -115,7 +115,7 @@ class-classes-requires g t c κs within =
         (
           inner_is_level level c.args.rank c.in_ok-inner.inner c.requires.level below c.conditional_supports.ensures (omega (arith, c.if-self-ge-DEPTH.false)),
           (
-            omega (arith, c.requires.few, c.in_ok-tell.ensures.trees, c.in_ok-inner.ensures.trees, ap length c.in_ok-tell.ensures.added, length-append c.args.found.now.sets.items (told ∷ []), c.tell.new.found.sets.ok.0, c.args.found.now.sets.ok.0),
+            omega (arith, c.requires.few, c.in_ok-tell.ensures.trees, c.in_ok-inner.ensures.trees, ap length c.in_ok-tell.ensures.added, length-append c.args.found.now.sets (told ∷ [])),
             c.in_ok-tell.ensures.going_on,
           ),
         ),
@@ -129,7 +129,7 @@ class-returns-clause-listed g t c =
     let met = met_by level.paths.baskets level.least c.args.rank c.support-support.result c.support-support.ensures c.requires.level.some c.if-support-self.false in
     let below = c.in_ok-inner.ensures.below in
     on_ok_weaker c.classes.result
-    (class_grown level c.args.rank inner below c.classes_by_codings.ensures met c.args.found.now.sets.items _ c.classes.new.found.sets.items c.in_ok-set.set c.support-support.result
+    (class_grown level c.args.rank inner below c.classes_by_codings.ensures met c.args.found.now.sets _ c.classes.new.found.sets c.in_ok-set.set c.support-support.result
     c.requires.level.rises c.in_ok-set.ensures c.support-support.ensures c.in_ok-tell.ensures.added)
     c.classes.ensures.listed
 
@@ -188,15 +188,13 @@ classes-returns-then-is_branch-clause-few g t c =
       c.requires.few,
       c.read_off.ensures.trees,
       ap length l.added,
-      length-append c.args.found.now.sets.items (map named l.sets),
-      c.read_off.new.found.sets.ok.0,
-      c.args.found.now.sets.ok.0,
+      length-append c.args.found.now.sets (map named l.sets),
     ))
     c.read_off.ensures.listed
 
 pub classes-loop-rank-init : goal.classes-loop-rank-init
 classes-loop-rank-init g t c = record {
-  listed = ([], refl, λ rank below. absurd (omega arith), sym (append-nil c.args.found.now.sets.items));
+  listed = ([], refl, λ rank below. absurd (omega arith), sym (append-nil c.args.found.now.sets));
   trees = omega arith;
   few = c.requires.few;
   sums = c.in_ok-tables.ensures.sums ∙ c.ranks.ensures;
@@ -224,14 +222,14 @@ classes-returns-in_err-class-clause-at_most g t c =
     let level = c.args.self.now in
     let so_far = c.loop-rank.invariant in
     let classes = so_far.listed.0 in
-    let old = c.args.found.now.sets.items in
+    let old = c.args.found.now.sets in
     let all = flat_map (λ (class : List Counted). class) classes in
     let named = as_items (items_of level) level.suffix in
     let fit = classes_fit c.classes_are_all.ensures c.classes_are_listed.ensures level.paths c.requires.level.ranked level.least classes c.loop-rank.rank so_far.listed.1
     (omega (arith, c.loop-rank-test.true, c.ranks-rank-end.ensures)) so_far.listed.2 in
     let long = ap length so_far.listed.3 ∙ length-append old (map named all) in
     let most = c.in_err-class.ensures.at_most in
-    omega (arith, so_far.told, fit, long, length-map all named, c.loop-rank.found.sets.ok.0, c.args.found.now.sets.ok.0)
+    omega (arith, so_far.told, fit, long, length-map all named)
 
 pub classes-loop-rank-preserved : goal.classes-loop-rank-preserved
 classes-loop-rank-preserved g t c =
@@ -245,7 +243,7 @@ classes-loop-rank-preserved g t c =
         classes ++ next.sets ∷ [],
         length-append classes (next.sets ∷ []) ∙ ap (λ n. n + 1) so_far.listed.1,
         more_classes level.paths.baskets level.least classes next.sets so_far.listed.2 (subst (λ rank. ListsClass level.paths.baskets (Count level.least) rank next.sets) (sym so_far.listed.1) next.listed),
-        more_all (items_of level) level.suffix c.args.found.now.sets.items c.loop-rank.found.sets.items c.class.new.found.sets.items classes next.sets so_far.listed.3 next.added,
+        more_all (items_of level) level.suffix c.args.found.now.sets c.loop-rank.found.sets c.class.new.found.sets classes next.sets so_far.listed.3 next.added,
       );
       trees = omega (arith, now.trees, so_far.trees, more_trees level.paths.baskets level.least c.loop-rank.rank);
       few = now.few;
@@ -278,8 +276,8 @@ classes-returns-clause-at_most g t c =
     let last : length classes ≡ level.paths.ranks = omega (arith, so_far.listed.1, c.loop-rank-test.false, c.ranks-rank-end.ensures, c.loop-rank.auto.rank-end) in
     let once = all_once c.classes_are_all.ensures c.classes_are_listed.ensures level.paths c.requires.level.ranked level.least classes last so_far.listed.2 in
     let size = once_is_as_long level.paths.baskets (Count level.least) all once in
-    let long = ap length so_far.listed.3 ∙ length-append c.args.found.now.sets.items (map named all) in
-    omega (arith, so_far.told, size, long, length-map all named, c.loop-rank.found.sets.ok.0, c.args.found.now.sets.ok.0)
+    let long = ap length so_far.listed.3 ∙ length-append c.args.found.now.sets (map named all) in
+    omega (arith, so_far.told, size, long, length-map all named)
 
 pub classes-returns-clause-trees : goal.classes-returns-clause-trees
 classes-returns-clause-trees g t c =

@@ -16,12 +16,12 @@ decreases-classes g l = 2 * l.self.now.paths.ranks
 abbrev pub invariant-classes-loop-rank : goal.invariant-classes-loop-rank
 invariant-classes-loop-rank g l = record {
   listed : (classes : List (List Counted)) × (length classes ≡ l.rank) × ListClasses l.self.paths.baskets (Count l.self.least) classes
-      × (l.found.sets.items ≡ l.fn.found.sets.items ++ map (as_items (items_of l.self) l.self.suffix) (flat_map (λ class. class) classes));
+      × (l.found.sets ≡ l.fn.found.sets ++ map (as_items (items_of l.self) l.self.suffix) (flat_map (λ class. class) classes));
   trees : l.found.trees ≡ l.fn.found.trees + sum_by (rank_trees l.self.paths.baskets l.self.least) (range_with_len 0 l.rank);
-  few : l.found.trees ≤ vec_len l.found.sets;
+  few : l.found.trees ≤ length l.found.sets;
   sums : l.tables.sums ≡ l.self.paths.ranks;
   places : l.tables.places ≡ l.self.paths.ranks;
-  told : g.T.Tally.told_of l.tally + vec_len l.fn.found.sets ≡ g.T.Tally.told_of l.fn.tally + vec_len l.found.sets;
+  told : g.T.Tally.told_of l.tally + length l.fn.found.sets ≡ g.T.Tally.told_of l.fn.tally + length l.found.sets;
   going_on : g.T.Tally.is_over l.tally ≡ false;
   limit : g.T.Tally.limit_of l.tally ≡ g.T.Tally.limit_of l.fn.tally;
 }

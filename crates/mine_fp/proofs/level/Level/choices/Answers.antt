@@ -19,7 +19,7 @@ returns-then-support-self-clause-listed g c =
       sets = [];
       listed = c.rare_ranks_have_no_class.ensures level.paths.baskets (Count level.least) c.args.rank
           (rare_by level.paths.baskets level.least c.args.rank c.support-support.result c.support-support.ensures c.if-support-self.true);
-      added = sym (append-nil c.args.found.now.sets.items);
+      added = sym (append-nil c.args.found.now.sets);
     }
 
 pub returns-in_err-tell-clause-at_most : goal.returns-in_err-tell-clause-at_most
@@ -42,7 +42,7 @@ returns-in_err-choose-clause-at_most g c =
     let named = as_items (items_of level) level.suffix in
     let long = ap length lower.are ∙ length-append lower.before (map named sets) in
     let most = c.in_err-choose.ensures.at_most in
-    omega (arith, most, c.loop-at.invariant.told, size, long, lower.long, length-map sets named, c.loop-at-test.true, c.len-end.ensures, c.loop-at.auto.at, c.args.found.now.sets.ok.0)
+    omega (arith, most, c.loop-at.invariant.told, size, long, lower.long, length-map sets named, c.loop-at-test.true, c.len-end.ensures, c.loop-at.auto.at)
 
 pub loop-at-init : goal.loop-at-init
 loop-at-init g c =
@@ -50,10 +50,10 @@ loop-at-init g c =
     let alone = alone_as_items (items_of level) level.suffix c.args.rank c.support-support.result c.requires.level.rises in
     record {
       sets = λ classes before long are.
-          c.in_ok-tell.ensures.added ∙ (λ i. c.args.found.now.sets.items ++ record { set = c.in_ok-set.ensures i; count = c.support-support.result } ∷ [])
-          ∙ ap (λ s. c.args.found.now.sets.items ++ s ∷ []) (sym alone)
+          c.in_ok-tell.ensures.added ∙ (λ i. c.args.found.now.sets ++ record { set = c.in_ok-set.ensures i; count = c.support-support.result } ∷ [])
+          ∙ ap (λ s. c.args.found.now.sets ++ s ∷ []) (sym alone)
           ∙ (let none : 0 ≡ c.args.start - c.args.start = omega arith in
-          ap (λ n. c.args.found.now.sets.items ++ map (as_items (items_of level) level.suffix) (chosen c.args.rank c.support-support.result (take n (flat_map (λ (class : List Counted). class) classes)))) none);
+          ap (λ n. c.args.found.now.sets ++ map (as_items (items_of level) level.suffix) (chosen c.args.rank c.support-support.result (take n (flat_map (λ (class : List Counted). class) classes)))) none);
       trees = c.in_ok-tell.ensures.trees;
       told = omega (arith, c.in_ok-tell.ensures.told);
       going_on = c.in_ok-tell.ensures.going_on;
@@ -74,12 +74,12 @@ loop-at-preserved g c =
           let sets = flat_map (λ (class : List Counted). class) classes in
           let whole = ap length are ∙ length-append before (map named sets) in
           let here : at - c.args.start < length sets =
-          omega (arith, whole, long, length-map sets named, c.loop-at-test.true, c.len-end.ensures, c.loop-at.auto.at, c.args.found.now.sets.ok.0) in
-          chosen_more (items_of level) level.suffix c.args.rank c.support-support.result item at (at - c.args.start) now.added.chosen before c.args.found.now.sets.items
-          c.loop-at.found.sets.items c.choose.new.found.sets.items sets here (omega (arith, long, c.loop-at.auto.at)) are name (so_far.sets classes before long are)
-          (now.added.added ∙ (λ i. c.loop-at.found.sets.items ++ record { set = with_item item (sym now.added.stands i).set; count = c.support-support.result } ∷ []))
+          omega (arith, whole, long, length-map sets named, c.loop-at-test.true, c.len-end.ensures, c.loop-at.auto.at) in
+          chosen_more (items_of level) level.suffix c.args.rank c.support-support.result item at (at - c.args.start) now.added.chosen before c.args.found.now.sets
+          c.loop-at.found.sets c.choose.new.found.sets sets here (omega (arith, long, c.loop-at.auto.at)) are name (so_far.sets classes before long are)
+          (now.added.added ∙ (λ i. c.loop-at.found.sets ++ record { set = with_item item (sym now.added.stands i).set; count = c.support-support.result } ∷ []))
           ∙ (let next : at - c.args.start + 1 ≡ at + 1 - c.args.start = omega (arith, c.loop-at.auto.at) in
-          ap (λ n. c.args.found.now.sets.items ++ map named (chosen c.args.rank c.support-support.result (take n sets))) next);
+          ap (λ n. c.args.found.now.sets ++ map named (chosen c.args.rank c.support-support.result (take n sets))) next);
       trees = now.trees ∙ so_far.trees;
       told = omega (arith, now.told, so_far.told, c.loop-at.auto.at);
       going_on = now.going_on;
@@ -96,12 +96,12 @@ returns-clause-listed g c =
     let named = as_items (items_of level) level.suffix in
     let long = ap length lower.are ∙ length-append lower.before (map named sets) in
     let whole : c.loop-at.at - c.args.start ≡ length sets =
-    omega (arith, long, lower.long, length-map sets named, c.loop-at-test.false, c.len-end.ensures, c.loop-at.auto.at, c.loop-at.auto.at-end, c.args.found.now.sets.ok.0) in
+    omega (arith, long, lower.long, length-map sets named, c.loop-at-test.false, c.len-end.ensures, c.loop-at.auto.at, c.loop-at.auto.at-end) in
     record {
       sets = chosen c.args.rank c.support-support.result sets;
       listed = subst (λ n. ListsClass level.paths.baskets (Count level.least) c.args.rank (chosen c.args.rank n sets)) (sym c.support-support.ensures) class;
       added = c.loop-at.invariant.sets lower.classes lower.before lower.long lower.are
-          ∙ ap (λ l. c.args.found.now.sets.items ++ map named (chosen c.args.rank c.support-support.result l)) (ap (λ n. take n sets) whole ∙ take-length sets);
+          ∙ ap (λ l. c.args.found.now.sets ++ map named (chosen c.args.rank c.support-support.result l)) (ap (λ n. take n sets) whole ∙ take-length sets);
     }
 
 pub returns-clause-at_most : goal.returns-clause-at_most
@@ -113,4 +113,4 @@ returns-clause-at_most g c =
     let size = choices_long level.paths.baskets level.least c.args.rank c.requires.branch met c.conditional_supports.ensures c.classes_are_all.ensures c.classes_are_conditional.ensures lower.classes lower.ranks lower.listed c.lists_have_class_size.ensures in
     let named = as_items (items_of level) level.suffix in
     let long = ap length lower.are ∙ length-append lower.before (map named sets) in
-    omega (arith, c.loop-at.invariant.told, size, long, lower.long, length-map sets named, c.loop-at-test.false, c.len-end.ensures, c.loop-at.auto.at, c.loop-at.auto.at-end, c.args.found.now.sets.ok.0)
+    omega (arith, c.loop-at.invariant.told, size, long, lower.long, length-map sets named, c.loop-at-test.false, c.len-end.ensures, c.loop-at.auto.at, c.loop-at.auto.at-end)

@@ -14,14 +14,14 @@ returns-in_err-choices-clause-at_most g c =
     let level = c.args.self.now in
     let so_far = c.loop-last.invariant in
     let classes = so_far.listed.0 in
-    let old = c.args.found.now.sets.items in
+    let old = c.args.found.now.sets in
     let all = flat_map (λ (class : List Counted). class) classes in
     let named = as_items (items_of level) level.suffix in
     let fit = classes_fit c.classes_are_all.ensures c.classes_are_listed.ensures level.paths c.requires.level.ranked level.least classes c.loop-last.last so_far.listed.1
     (omega (arith, c.loop-last-test.true, c.ranks-last-end.ensures)) so_far.listed.2 in
     let long = ap length so_far.listed.3 ∙ length-append old (map named all) in
     let most = c.in_err-choices.ensures.at_most in
-    omega (arith, so_far.told, fit, long, length-map all named, c.loop-last.found.sets.ok.0, c.args.found.now.sets.ok.0)
+    omega (arith, so_far.told, fit, long, length-map all named)
 
 pub loop-last-preserved : goal.loop-last-preserved
 loop-last-preserved g c =
@@ -35,7 +35,7 @@ loop-last-preserved g c =
         classes ++ next.sets ∷ [],
         length-append classes (next.sets ∷ []) ∙ ap (λ n. n + 1) so_far.listed.1,
         more_classes level.paths.baskets level.least classes next.sets so_far.listed.2 (subst (λ rank. ListsClass level.paths.baskets (Count level.least) rank next.sets) (sym so_far.listed.1) next.listed),
-        more_all (items_of level) level.suffix c.args.found.now.sets.items c.loop-last.found.sets.items c.choices.new.found.sets.items classes next.sets so_far.listed.3 next.added,
+        more_all (items_of level) level.suffix c.args.found.now.sets c.loop-last.found.sets c.choices.new.found.sets classes next.sets so_far.listed.3 next.added,
       );
       trees = now.trees ∙ so_far.trees;
       told = omega (arith, now.told, so_far.told);
@@ -65,5 +65,5 @@ returns-clause-at_most g c =
     let last : length classes ≡ level.paths.ranks = omega (arith, so_far.listed.1, c.loop-last-test.false, c.ranks-last-end.ensures, c.loop-last.auto.last-end) in
     let once = all_once c.classes_are_all.ensures c.classes_are_listed.ensures level.paths c.requires.level.ranked level.least classes last so_far.listed.2 in
     let size = once_is_as_long level.paths.baskets (Count level.least) all once in
-    let long = ap length so_far.listed.3 ∙ length-append c.args.found.now.sets.items (map named all) in
-    omega (arith, so_far.told, size, long, length-map all named, c.loop-last.found.sets.ok.0, c.args.found.now.sets.ok.0)
+    let long = ap length so_far.listed.3 ∙ length-append c.args.found.now.sets (map named all) in
+    omega (arith, so_far.told, size, long, length-map all named)

@@ -9,9 +9,9 @@ use Rattle.mine_fp.proofs.level.Level.read_off.Given as goal
 abbrev pub invariant-loop-last : goal.invariant-loop-last
 invariant-loop-last g l = record {
   listed : (classes : List (List Counted)) × (length classes ≡ l.last) × ListClasses l.self.paths.baskets (Count l.self.least) classes
-      × (l.found.sets.items ≡ l.fn.found.sets.items ++ map (as_items (items_of l.self) l.self.suffix) (flat_map (λ class. class) classes));
+      × (l.found.sets ≡ l.fn.found.sets ++ map (as_items (items_of l.self) l.self.suffix) (flat_map (λ class. class) classes));
   trees : l.found.trees ≡ l.fn.found.trees;
-  told : g.T.Tally.told_of l.tally + vec_len l.fn.found.sets ≡ g.T.Tally.told_of l.fn.tally + vec_len l.found.sets;
+  told : g.T.Tally.told_of l.tally + length l.fn.found.sets ≡ g.T.Tally.told_of l.fn.tally + length l.found.sets;
   going_on : g.T.Tally.is_over l.tally ≡ false;
   limit : g.T.Tally.limit_of l.tally ≡ g.T.Tally.limit_of l.fn.tally;
 }

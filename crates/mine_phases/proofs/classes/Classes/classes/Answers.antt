@@ -30,7 +30,7 @@ loop-rank-preserved g c =
     let before = c.loop-rank.invariant in
     let pushed = c.push_reserved.ensures.items in
     let long : length now ≡ length classes + 1 = ap length pushed ∙ length-append classes (class ∷ []) in
-    let size = c.lists_have_class_size.ensures coding c.loop-rank.rank class.0.items c.in_ok-class.ensures.listed in
+    let size = c.lists_have_class_size.ensures coding c.loop-rank.rank class.0 c.in_ok-class.ensures.listed in
     let same = ap (class_size coding) before.at in
     let next = ap (λ n. sum_by (class_size coding) (range_with_len low n)) long ∙ sum_next (class_size coding) low (length classes) in
     record {

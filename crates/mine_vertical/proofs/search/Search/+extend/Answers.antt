@@ -11,10 +11,11 @@ use Rattle.basket_sets.specs.declared.counted.Counted.{Counted}
 use Rattle.mine_vertical.specs.Cover.{cover_of}
 use Rattle.mine_vertical.specs.declared.marks.Marks.{Marks}
 use Rattle.mine_vertical.specs.Marks.{IsMarked}
-use Rattle.mine_vertical.specs.Mined.{set_at}
+use Rattle.basket_lists.specs.CountedSets.{set_at}
 use Rattle.mine_vertical.specs.Search.{FewJoins, IsNode, IsSibling, found_at, is_met, ranks_at}
 use Rattle.mine_vertical.specs.Walk.{joins_below, kept_below, sets_below}
-use Rattle.mine_vertical.proofs.SearchLemmas.{counted_row, set_added, sibling_at}
+use Rattle.basket_lists.proofs.theory.Places.{set_added}
+use Rattle.mine_vertical.proofs.SearchLemmas.{counted_row, sibling_at}
 use Rattle.mine_vertical.proofs.WalkLemmas.{branch_joins, joins_are_branches, sets_are_branches}
 use Rattle.mine_vertical.proofs.NodeLemmas.{child, child_is, child_known, child_set, fewer, found_by, joins_more, long, longer_set, no_joins, no_sets, part_more, part_within, place_few, rank_at, sets_long, sets_more, told_is}
 use Rattle.mine_vertical.proofs.search.Search.+extend.Goals as goal
@@ -26,11 +27,11 @@ returns-clause-at_most g t c = λ node is.
     let stands = g.R.Row.stands in
     let weights = search.weights.now in
     let siblings = c.args.siblings.now in
-    let set = set_at c.args.mined.now.sets.items c.args.place in
+    let set = set_at c.args.mined.now.sets c.args.place in
     let items = search.coded.now.items in
     let i = c.loop-at.at in
     let told = told_is stands weights search.least siblings set items node is (g.T.Tally.told_of c.loop-at.tally) (g.T.Tally.told_of c.args.tally.now) i
-    c.loop-at.mined.sets.items c.args.mined.now.sets.items c.loop-at.invariant.told (c.loop-at.invariant.sets node is) in
+    c.loop-at.mined.sets c.args.mined.now.sets c.loop-at.invariant.told (c.loop-at.invariant.sets node is) in
     let most = part_within stands weights search.least siblings set items node is i in
     omega arith
 
@@ -41,7 +42,7 @@ item-item-requires g t c =
     let stands = g.R.Row.stands in
     let weights = search.weights.now in
     let siblings = c.args.siblings.now in
-    let set = set_at c.args.mined.now.sets.items c.args.place in
+    let set = set_at c.args.mined.now.sets c.args.place in
     let items = search.coded.now.items in
     let i = c.loop-at.at in
     let here = c.loop-at-test.true in
@@ -55,14 +56,14 @@ returns-in_err-longer-clause-at_most g t c = λ node is.
     let stands = g.R.Row.stands in
     let weights = search.weights.now in
     let siblings = c.args.siblings.now in
-    let set = set_at c.args.mined.now.sets.items c.args.place in
+    let set = set_at c.args.mined.now.sets c.args.place in
     let items = search.coded.now.items in
     let i = c.loop-at.at in
     let here = c.loop-at-test.true in
     let sibling = c.index-siblings-at.result in
     let at = rank_at stands weights search.least siblings set items node is i sibling here c.index-siblings-at.is in
     let told = told_is stands weights search.least siblings set items node is (g.T.Tally.told_of c.loop-at.tally) (g.T.Tally.told_of c.args.tally.now) i
-    c.loop-at.mined.sets.items c.args.mined.now.sets.items c.loop-at.invariant.told (c.loop-at.invariant.sets node is) in
+    c.loop-at.mined.sets c.args.mined.now.sets c.loop-at.invariant.told (c.loop-at.invariant.sets node is) in
     let more = part_more stands weights search.least siblings set items node is i sibling.rank here at in
     omega (arith, c.add_longer.ensures.at_most)
 
@@ -72,14 +73,14 @@ returns-in_err-below-clause-at_most g t c = λ node is.
     let stands = g.R.Row.stands in
     let weights = search.weights.now in
     let siblings = c.args.siblings.now in
-    let set = set_at c.args.mined.now.sets.items c.args.place in
+    let set = set_at c.args.mined.now.sets c.args.place in
     let items = search.coded.now.items in
     let i = c.loop-at.at in
     let here = c.loop-at-test.true in
     let sibling = c.index-siblings-at.result in
     let at = rank_at stands weights search.least siblings set items node is i sibling here c.index-siblings-at.is in
     let told = told_is stands weights search.least siblings set items node is (g.T.Tally.told_of c.loop-at.tally) (g.T.Tally.told_of c.args.tally.now) i
-    c.loop-at.mined.sets.items c.args.mined.now.sets.items c.loop-at.invariant.told (c.loop-at.invariant.sets node is) in
+    c.loop-at.mined.sets c.args.mined.now.sets c.loop-at.invariant.told (c.loop-at.invariant.sets node is) in
     let more = part_more stands weights search.least siblings set items node is i sibling.rank here at in
     omega (arith, c.in_ok-longer.ensures.told)
 
@@ -95,14 +96,14 @@ returns-in_err-longer-clause-too_many g t c = λ limit e.
           let stands = g.R.Row.stands in
           let weights = search.weights.now in
           let siblings = c.args.siblings.now in
-          let set = set_at c.args.mined.now.sets.items c.args.place in
+          let set = set_at c.args.mined.now.sets c.args.place in
           let items = search.coded.now.items in
           let i = c.loop-at.at in
           let here = c.loop-at-test.true in
           let sibling = c.index-siblings-at.result in
           let at = rank_at stands weights search.least siblings set items node is i sibling here c.index-siblings-at.is in
           let more = part_more stands weights search.least siblings set items node is i sibling.rank here at in
-          let long = sets_long stands weights search.least siblings set items node is i c.loop-at.mined.sets.items c.args.mined.now.sets.items (c.loop-at.invariant.sets node is) in
+          let long = sets_long stands weights search.least siblings set items node is i c.loop-at.mined.sets c.args.mined.now.sets (c.loop-at.invariant.sets node is) in
           elim why [ inl over ↦ inl over | inr less ↦ inr (omega arith) ],
     )
 
@@ -113,7 +114,7 @@ joined-requires-clause-rows g t c =
     let stands = g.R.Row.stands in
     let weights = search.weights.now in
     let siblings = c.args.siblings.now in
-    let set = set_at c.args.mined.now.sets.items c.args.place in
+    let set = set_at c.args.mined.now.sets c.args.place in
     let items = search.coded.now.items in
     let i = c.loop-at.at in
     let here = c.loop-at-test.true in
@@ -129,7 +130,7 @@ joined-requires-clause-few g t c =
     let stands = g.R.Row.stands in
     let weights = search.weights.now in
     let siblings = c.args.siblings.now in
-    let set = set_at c.args.mined.now.sets.items c.args.place in
+    let set = set_at c.args.mined.now.sets c.args.place in
     let items = search.coded.now.items in
     let i = c.loop-at.at in
     let here = c.loop-at-test.true in
@@ -137,7 +138,7 @@ joined-requires-clause-few g t c =
     let few = place_few stands weights search.least siblings set items node is i here in
     let most : i ≤ length siblings = omega arith in
     let before = length-take-le i siblings most in
-    let one_more = ap length c.in_ok-longer.ensures.sets ∙ length-append c.loop-at.mined.sets.items (record { set = with_item c.item-item.result (set_at c.loop-at.mined.sets.items c.args.place); count = c.count.result } ∷ []) in
+    let one_more = ap length c.in_ok-longer.ensures.sets ∙ length-append c.loop-at.mined.sets (record { set = with_item c.item-item.result (set_at c.loop-at.mined.sets c.args.place); count = c.count.result } ∷ []) in
     omega (arith, c.add_longer.ensures.joins, c.in_ok-longer.ensures.few, c.loop-at.invariant.few)
 
 pub extend-requires : goal.extend-requires
@@ -147,7 +148,7 @@ extend-requires g t c = λ κs lives.
     let stands = g.R.Row.stands in
     let weights = search.weights.now in
     let siblings = c.args.siblings.now in
-    let set = set_at c.args.mined.now.sets.items c.args.place in
+    let set = set_at c.args.mined.now.sets c.args.place in
     let items = search.coded.now.items in
     let i = c.loop-at.at in
     let here = c.loop-at-test.true in
@@ -156,8 +157,8 @@ extend-requires g t c = λ κs lives.
     let all = All-take (IsSibling stands node.baskets node.set) i siblings is.rows in
     let one = sibling_at stands node.baskets node.set siblings i sibling here c.index-siblings-at.is is.rows in
     let kept_are = c.in_ok-below.ensures.ranks node.baskets node.set is.weighs one all in
-    let with_one = longer_set stands weights search.least siblings set items node is i sibling.rank c.item-item.result c.args.place c.args.mined.now.sets.items c.loop-at.mined.sets.items c.requires.found refl (c.loop-at.invariant.sets node is) c.item-item.ensures in
-    let longer_is = set_added c.loop-at.mined.sets.items c.add_longer.new.self.sets.items (record { set = with_item c.item-item.result (set_at c.loop-at.mined.sets.items c.args.place); count = c.count.result }) c.in_ok-longer.longer
+    let with_one = longer_set stands weights search.least siblings set items node is i sibling.rank c.item-item.result c.args.place c.args.mined.now.sets c.loop-at.mined.sets c.requires.found refl (c.loop-at.invariant.sets node is) c.item-item.ensures in
+    let longer_is = set_added c.loop-at.mined.sets c.add_longer.new.self.sets (record { set = with_item c.item-item.result (set_at c.loop-at.mined.sets c.args.place); count = c.count.result }) c.in_ok-longer.longer
     c.in_ok-longer.ensures.place c.in_ok-longer.ensures.sets ∙ with_one in
     let rows = c.in_ok-below.ensures.rows node.baskets node.set is.weighs one all in
     let made = child_is stands weights search.least siblings set items node is i sibling.rank (take i siblings) c.in_ok-below.below.items here at refl kept_are rows in
@@ -168,7 +169,7 @@ extend-requires g t c = λ κs lives.
     let few = place_few stands weights search.least siblings set items node is i here in
     let most : i ≤ length siblings = omega arith in
     let before = length-take-le i siblings most in
-    let one_more = ap length c.in_ok-longer.ensures.sets ∙ length-append c.loop-at.mined.sets.items (record { set = with_item c.item-item.result (set_at c.loop-at.mined.sets.items c.args.place); count = c.count.result } ∷ []) in (
+    let one_more = ap length c.in_ok-longer.ensures.sets ∙ length-append c.loop-at.mined.sets (record { set = with_item c.item-item.result (set_at c.loop-at.mined.sets c.args.place); count = c.count.result } ∷ []) in (
       omega (arith, c.decreases, less, short),
       (
         lives.0,
@@ -191,7 +192,7 @@ returns-in_err-extend-clause-at_most g t c = λ node is.
     let stands = g.R.Row.stands in
     let weights = search.weights.now in
     let siblings = c.args.siblings.now in
-    let set = set_at c.args.mined.now.sets.items c.args.place in
+    let set = set_at c.args.mined.now.sets c.args.place in
     let items = search.coded.now.items in
     let i = c.loop-at.at in
     let here = c.loop-at-test.true in
@@ -200,15 +201,15 @@ returns-in_err-extend-clause-at_most g t c = λ node is.
     let all = All-take (IsSibling stands node.baskets node.set) i siblings is.rows in
     let one = sibling_at stands node.baskets node.set siblings i sibling here c.index-siblings-at.is is.rows in
     let kept_are = c.in_ok-below.ensures.ranks node.baskets node.set is.weighs one all in
-    let with_one = longer_set stands weights search.least siblings set items node is i sibling.rank c.item-item.result c.args.place c.args.mined.now.sets.items c.loop-at.mined.sets.items c.requires.found refl (c.loop-at.invariant.sets node is) c.item-item.ensures in
-    let longer_is = set_added c.loop-at.mined.sets.items c.add_longer.new.self.sets.items (record { set = with_item c.item-item.result (set_at c.loop-at.mined.sets.items c.args.place); count = c.count.result }) c.in_ok-longer.longer
+    let with_one = longer_set stands weights search.least siblings set items node is i sibling.rank c.item-item.result c.args.place c.args.mined.now.sets c.loop-at.mined.sets c.requires.found refl (c.loop-at.invariant.sets node is) c.item-item.ensures in
+    let longer_is = set_added c.loop-at.mined.sets c.add_longer.new.self.sets (record { set = with_item c.item-item.result (set_at c.loop-at.mined.sets c.args.place); count = c.count.result }) c.in_ok-longer.longer
     c.in_ok-longer.ensures.place c.in_ok-longer.ensures.sets ∙ with_one in
     let rows = c.in_ok-below.ensures.rows node.baskets node.set is.weighs one all in
     let made = child_is stands weights search.least siblings set items node is i sibling.rank (take i siblings) c.in_ok-below.below.items here at refl kept_are rows in
     let inner = subst (λ s. IsNode stands weights search.least c.deref.result.now s items (child node sibling.rank)) (sym longer_is)
     (subst (λ s. IsNode stands weights search.least s (with_item (get_or items sibling.rank 0) set) items (child node sibling.rank)) (sym c.deref.ensures.value) made) in
     let told = told_is stands weights search.least siblings set items node is (g.T.Tally.told_of c.loop-at.tally) (g.T.Tally.told_of c.args.tally.now) i
-    c.loop-at.mined.sets.items c.args.mined.now.sets.items c.loop-at.invariant.told (c.loop-at.invariant.sets node is) in
+    c.loop-at.mined.sets c.args.mined.now.sets c.loop-at.invariant.told (c.loop-at.invariant.sets node is) in
     let more = part_more stands weights search.least siblings set items node is i sibling.rank here at in
     omega (arith, c.in_ok-longer.ensures.told, c.extend.ensures.at_most (child node sibling.rank) inner)
 
@@ -224,7 +225,7 @@ returns-in_err-extend-clause-too_many g t c = λ limit e.
           let stands = g.R.Row.stands in
           let weights = search.weights.now in
           let siblings = c.args.siblings.now in
-          let set = set_at c.args.mined.now.sets.items c.args.place in
+          let set = set_at c.args.mined.now.sets c.args.place in
           let items = search.coded.now.items in
           let i = c.loop-at.at in
           let here = c.loop-at-test.true in
@@ -233,16 +234,16 @@ returns-in_err-extend-clause-too_many g t c = λ limit e.
           let all = All-take (IsSibling stands node.baskets node.set) i siblings is.rows in
           let one = sibling_at stands node.baskets node.set siblings i sibling here c.index-siblings-at.is is.rows in
           let kept_are = c.in_ok-below.ensures.ranks node.baskets node.set is.weighs one all in
-          let with_one = longer_set stands weights search.least siblings set items node is i sibling.rank c.item-item.result c.args.place c.args.mined.now.sets.items c.loop-at.mined.sets.items c.requires.found refl (c.loop-at.invariant.sets node is) c.item-item.ensures in
-          let longer_is = set_added c.loop-at.mined.sets.items c.add_longer.new.self.sets.items (record { set = with_item c.item-item.result (set_at c.loop-at.mined.sets.items c.args.place); count = c.count.result }) c.in_ok-longer.longer
+          let with_one = longer_set stands weights search.least siblings set items node is i sibling.rank c.item-item.result c.args.place c.args.mined.now.sets c.loop-at.mined.sets c.requires.found refl (c.loop-at.invariant.sets node is) c.item-item.ensures in
+          let longer_is = set_added c.loop-at.mined.sets c.add_longer.new.self.sets (record { set = with_item c.item-item.result (set_at c.loop-at.mined.sets c.args.place); count = c.count.result }) c.in_ok-longer.longer
           c.in_ok-longer.ensures.place c.in_ok-longer.ensures.sets ∙ with_one in
           let rows = c.in_ok-below.ensures.rows node.baskets node.set is.weighs one all in
           let made = child_is stands weights search.least siblings set items node is i sibling.rank (take i siblings) c.in_ok-below.below.items here at refl kept_are rows in
           let inner = subst (λ s. IsNode stands weights search.least c.deref.result.now s items (child node sibling.rank)) (sym longer_is)
           (subst (λ s. IsNode stands weights search.least s (with_item (get_or items sibling.rank 0) set) items (child node sibling.rank)) (sym c.deref.ensures.value) made) in
           let more = part_more stands weights search.least siblings set items node is i sibling.rank here at in
-          let long = sets_long stands weights search.least siblings set items node is i c.loop-at.mined.sets.items c.args.mined.now.sets.items (c.loop-at.invariant.sets node is) in
-          let one_more = ap length c.in_ok-longer.ensures.sets ∙ length-append c.loop-at.mined.sets.items (record { set = with_item c.item-item.result (set_at c.loop-at.mined.sets.items c.args.place); count = c.count.result } ∷ []) in
+          let long = sets_long stands weights search.least siblings set items node is i c.loop-at.mined.sets c.args.mined.now.sets (c.loop-at.invariant.sets node is) in
+          let one_more = ap length c.in_ok-longer.ensures.sets ∙ length-append c.loop-at.mined.sets (record { set = with_item c.item-item.result (set_at c.loop-at.mined.sets c.args.place); count = c.count.result } ∷ []) in
           elim (why (child node sibling.rank) inner) [ inl over ↦ inl over | inr less ↦ inr (omega arith) ],
     )
 
@@ -252,13 +253,13 @@ loop-at-preserved g t c =
     let stands = g.R.Row.stands in
     let weights = search.weights.now in
     let siblings = c.args.siblings.now in
-    let set = set_at c.args.mined.now.sets.items c.args.place in
+    let set = set_at c.args.mined.now.sets c.args.place in
     let items = search.coded.now.items in
     let i = c.loop-at.at in
     let here = c.loop-at-test.true in
     let sibling = c.index-siblings-at.result in
-    let one_set : Counted = record { set = with_item c.item-item.result (set_at c.loop-at.mined.sets.items c.args.place); count = c.count.result } in
-    let one_more = ap length c.in_ok-longer.ensures.sets ∙ length-append c.loop-at.mined.sets.items (one_set ∷ []) in
+    let one_set : Counted = record { set = with_item c.item-item.result (set_at c.loop-at.mined.sets c.args.place); count = c.count.result } in
+    let one_more = ap length c.in_ok-longer.ensures.sets ∙ length-append c.loop-at.mined.sets (one_set ∷ []) in
     let most : i ≤ length siblings = omega arith in
     let before = length-take-le i siblings most in
     record {
@@ -275,16 +276,16 @@ loop-at-preserved g t c =
         | else-not-is_empty w ↦ ap (λ tally. g.T.Tally.limit_of tally) w.tally-is ∙ c.add_longer.ensures.limit ∙ c.loop-at.invariant.limit
       ];
       told = elim c.if-not-is_empty.branch [
-        | then-not-is_empty+in_ok-extend w ↦ omega (arith, ap (λ tally. g.T.Tally.told_of tally) w.tally-is, ap (λ mined. length mined.sets.items) w.mined-is, w.in_ok-extend.ensures.told, c.in_ok-longer.ensures.told, c.loop-at.invariant.told, one_more)
-        | else-not-is_empty w ↦ omega (arith, ap (λ tally. g.T.Tally.told_of tally) w.tally-is, ap (λ mined. length mined.sets.items) w.mined-is, c.in_ok-longer.ensures.told, c.loop-at.invariant.told, one_more)
+        | then-not-is_empty+in_ok-extend w ↦ omega (arith, ap (λ tally. g.T.Tally.told_of tally) w.tally-is, ap (λ mined. length mined.sets) w.mined-is, w.in_ok-extend.ensures.told, c.in_ok-longer.ensures.told, c.loop-at.invariant.told, one_more)
+        | else-not-is_empty w ↦ omega (arith, ap (λ tally. g.T.Tally.told_of tally) w.tally-is, ap (λ mined. length mined.sets) w.mined-is, c.in_ok-longer.ensures.told, c.loop-at.invariant.told, one_more)
       ];
       few = elim c.if-not-is_empty.branch [
-        | then-not-is_empty+in_ok-extend w ↦ subst (λ mined. FewJoins mined.joins (length mined.sets.items)) (sym w.mined-is) w.in_ok-extend.ensures.few
-        | else-not-is_empty w ↦ (let (known, first) = c.requires.node in let few = place_few stands weights search.least siblings set items known first i here in subst (λ mined. FewJoins mined.joins (length mined.sets.items)) (sym w.mined-is) (omega (arith, c.in_ok-below.ensures.joins, c.add_longer.ensures.joins, c.loop-at.invariant.few, one_more, few, before)))
+        | then-not-is_empty+in_ok-extend w ↦ subst (λ mined. FewJoins mined.joins (length mined.sets)) (sym w.mined-is) w.in_ok-extend.ensures.few
+        | else-not-is_empty w ↦ (let (known, first) = c.requires.node in let few = place_few stands weights search.least siblings set items known first i here in subst (λ mined. FewJoins mined.joins (length mined.sets)) (sym w.mined-is) (omega (arith, c.in_ok-below.ensures.joins, c.add_longer.ensures.joins, c.loop-at.invariant.few, one_more, few, before)))
       ];
       sets = λ node is.
-          let with_one = longer_set stands weights search.least siblings set items node is i sibling.rank c.item-item.result c.args.place c.args.mined.now.sets.items c.loop-at.mined.sets.items c.requires.found refl (c.loop-at.invariant.sets node is) c.item-item.ensures in
-          let longer_is = set_added c.loop-at.mined.sets.items c.add_longer.new.self.sets.items one_set c.in_ok-longer.longer c.in_ok-longer.ensures.place c.in_ok-longer.ensures.sets ∙ with_one in
+          let with_one = longer_set stands weights search.least siblings set items node is i sibling.rank c.item-item.result c.args.place c.args.mined.now.sets c.loop-at.mined.sets c.requires.found refl (c.loop-at.invariant.sets node is) c.item-item.ensures in
+          let longer_is = set_added c.loop-at.mined.sets c.add_longer.new.self.sets one_set c.in_ok-longer.longer c.in_ok-longer.ensures.place c.in_ok-longer.ensures.sets ∙ with_one in
           let at = rank_at stands weights search.least siblings set items node is i sibling here c.index-siblings-at.is in
           let all = All-take (IsSibling stands node.baskets node.set) i siblings is.rows in
           let one = sibling_at stands node.baskets node.set siblings i sibling here c.index-siblings-at.is is.rows in
@@ -295,18 +296,18 @@ loop-at-preserved g t c =
           let counts = counted_row stands node.baskets (cover_of node.baskets node.set) (sibling.rank ∷ node.set) sibling.row c.count.result c.count.ensures one in
           let is_set = with_one ∙ child_set stands weights search.least siblings set items node is sibling.rank in
           let found : one_set ≡ found_at items node (sibling.rank ∷ node.set) = λ k. record { set = is_set k; count = counts k } in
-          let with_set = c.add_longer.new.self.sets.items in
-          let deeper : c.if-not-is_empty.mined.sets.items ≡ with_set ++ map (found_at items node) (sets_below test sibling.rank (sibling.rank ∷ node.set)) = elim c.if-not-is_empty.branch [
-            | then-not-is_empty+in_ok-extend w ↦ ap (λ mined. mined.sets.items) w.mined-is ∙ w.in_ok-extend.ensures.sets (child node sibling.rank) (subst (λ s. IsNode stands weights search.least w.deref.result.now s items (child node sibling.rank)) (sym longer_is)
+          let with_set = c.add_longer.new.self.sets in
+          let deeper : c.if-not-is_empty.mined.sets ≡ with_set ++ map (found_at items node) (sets_below test sibling.rank (sibling.rank ∷ node.set)) = elim c.if-not-is_empty.branch [
+            | then-not-is_empty+in_ok-extend w ↦ ap (λ mined. mined.sets) w.mined-is ∙ w.in_ok-extend.ensures.sets (child node sibling.rank) (subst (λ s. IsNode stands weights search.least w.deref.result.now s items (child node sibling.rank)) (sym longer_is)
                 (subst (λ s. IsNode stands weights search.least s (with_item (get_or items sibling.rank 0) set) items (child node sibling.rank)) (sym w.deref.ensures.value) made))
-            | else-not-is_empty w ↦ ap (λ mined. mined.sets.items) w.mined-is ∙ sym (ap (λ l. with_set ++ map (found_at items node) l)
+            | else-not-is_empty w ↦ ap (λ mined. mined.sets) w.mined-is ∙ sym (ap (λ l. with_set ++ map (found_at items node) l)
                 (no_sets stands weights search.least c.in_ok-below.below.items (with_item (get_or items sibling.rank 0) set) items (child node sibling.rank) made (let empty = eqb-true c.in_ok-below.below.len 0 (sym c.is_empty.ensures ∙ w.if-not-is_empty.false) in omega (arith, empty, c.in_ok-below.below.ok.0))) ∙ append-nil with_set)
           ] in
-          sets_more stands weights search.least siblings set items node is i sibling.rank c.args.mined.now.sets.items c.loop-at.mined.sets.items with_set c.if-not-is_empty.mined.sets.items
+          sets_more stands weights search.least siblings set items node is i sibling.rank c.args.mined.now.sets c.loop-at.mined.sets with_set c.if-not-is_empty.mined.sets
           one_set here at (c.loop-at.invariant.sets node is) c.in_ok-longer.ensures.sets found deeper;
       joins = λ node is.
-          let with_one = longer_set stands weights search.least siblings set items node is i sibling.rank c.item-item.result c.args.place c.args.mined.now.sets.items c.loop-at.mined.sets.items c.requires.found refl (c.loop-at.invariant.sets node is) c.item-item.ensures in
-          let longer_is = set_added c.loop-at.mined.sets.items c.add_longer.new.self.sets.items one_set c.in_ok-longer.longer c.in_ok-longer.ensures.place c.in_ok-longer.ensures.sets ∙ with_one in
+          let with_one = longer_set stands weights search.least siblings set items node is i sibling.rank c.item-item.result c.args.place c.args.mined.now.sets c.loop-at.mined.sets c.requires.found refl (c.loop-at.invariant.sets node is) c.item-item.ensures in
+          let longer_is = set_added c.loop-at.mined.sets c.add_longer.new.self.sets one_set c.in_ok-longer.longer c.in_ok-longer.ensures.place c.in_ok-longer.ensures.sets ∙ with_one in
           let at = rank_at stands weights search.least siblings set items node is i sibling here c.index-siblings-at.is in
           let all = All-take (IsSibling stands node.baskets node.set) i siblings is.rows in
           let one = sibling_at stands node.baskets node.set siblings i sibling here c.index-siblings-at.is is.rows in
@@ -329,13 +330,13 @@ returns-clause-sets g t c = λ node is.
     let stands = g.R.Row.stands in
     let weights = search.weights.now in
     let siblings = c.args.siblings.now in
-    let set = set_at c.args.mined.now.sets.items c.args.place in
+    let set = set_at c.args.mined.now.sets c.args.place in
     let items = search.coded.now.items in
     let i = c.loop-at.at in
     let kept = kept_below (is_met node.baskets search.least) node.below node.set in
     let all = take_all i kept (let n = long stands weights search.least siblings set items node is in let last = c.loop-at-test.false in omega arith) in
     c.loop-at.invariant.sets node is
-    ∙ ap (λ l. c.args.mined.now.sets.items ++ map (found_at items node) l)
+    ∙ ap (λ l. c.args.mined.now.sets ++ map (found_at items node) l)
     (ap (found_by stands weights search.least siblings set items node is) all ∙ sym (sets_are_branches (is_met node.baskets search.least) node.below node.set))
 
 pub returns-clause-joins : goal.returns-clause-joins
@@ -344,7 +345,7 @@ returns-clause-joins g t c = λ node is.
     let stands = g.R.Row.stands in
     let weights = search.weights.now in
     let siblings = c.args.siblings.now in
-    let set = set_at c.args.mined.now.sets.items c.args.place in
+    let set = set_at c.args.mined.now.sets c.args.place in
     let items = search.coded.now.items in
     let i = c.loop-at.at in
     let kept = kept_below (is_met node.baskets search.least) node.below node.set in

@@ -1,7 +1,7 @@
 use Rattle.std.proofs.Common.{◌≡◌, [], ◌+◌, ◌++◌, false, length, map, take}
 use Rattle.std.specs.List.{flat_map, sum_by}
 use Rattle.mine_vertical.specs.Marks.{IsMarked}
-use Rattle.mine_vertical.specs.Mined.{set_at}
+use Rattle.basket_lists.specs.CountedSets.{set_at}
 use Rattle.mine_vertical.specs.Search.{FewJoins, IsNode, Node, found_at, is_met}
 use Rattle.mine_vertical.specs.Walk.{kept_below}
 use Rattle.mine_vertical.proofs.WalkLemmas.{branch, branch_joins}
@@ -15,11 +15,11 @@ invariant-loop-at g l = record {
   clear : IsMarked l.self.weights.now [] l.room.marks;
   going : g.T.Tally.is_over l.tally ≡ false;
   limit : g.T.Tally.limit_of l.tally ≡ g.T.Tally.limit_of l.initial.tally;
-  told : g.T.Tally.told_of l.tally + length l.initial.mined.sets.items ≡ g.T.Tally.told_of l.initial.tally + length l.mined.sets.items;
-  few : FewJoins l.mined.joins (length l.mined.sets.items);
-  sets : (node : Node) → IsNode g.R.Row.stands l.self.weights.now l.self.least l.siblings (set_at l.initial.mined.sets.items l.place) l.self.coded.now.items node
-      → l.mined.sets.items ≡ l.initial.mined.sets.items ++ map (found_at l.self.coded.now.items node)
+  told : g.T.Tally.told_of l.tally + length l.initial.mined.sets ≡ g.T.Tally.told_of l.initial.tally + length l.mined.sets;
+  few : FewJoins l.mined.joins (length l.mined.sets);
+  sets : (node : Node) → IsNode g.R.Row.stands l.self.weights.now l.self.least l.siblings (set_at l.initial.mined.sets l.place) l.self.coded.now.items node
+      → l.mined.sets ≡ l.initial.mined.sets ++ map (found_at l.self.coded.now.items node)
       (flat_map (branch (is_met node.baskets l.self.least) node.set) (take l.at (kept_below (is_met node.baskets l.self.least) node.below node.set)));
-  joins : (node : Node) → IsNode g.R.Row.stands l.self.weights.now l.self.least l.siblings (set_at l.initial.mined.sets.items l.place) l.self.coded.now.items node
+  joins : (node : Node) → IsNode g.R.Row.stands l.self.weights.now l.self.least l.siblings (set_at l.initial.mined.sets l.place) l.self.coded.now.items node
       → l.mined.joins ≡ l.initial.mined.joins + sum_by (branch_joins (is_met node.baskets l.self.least) node.set) (take l.at (kept_below (is_met node.baskets l.self.least) node.below node.set));
 }

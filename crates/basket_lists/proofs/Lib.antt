@@ -1,0 +1,4 @@
+pub mod theory
+mod PackedLemmas
+mod OrderLemmas
+mod ListLemmas

@@ -1,0 +1,34 @@
+use Rattle.std.proofs.Common.{◌≡◌, ◌+◌, ◌<◌, ◌^◌, length, get_or, take, refl, sym, ap, ◌∙◌, subst, arith}
+use Rattle.std.proofs.lemmas.Nat.{pow_pos}
+use Rattle.std.proofs.lemmas.List.{take_all}
+use Rattle.basket_lists.specs.Packed.{items_in}
+use Rattle.basket_sets.specs.Itemset.{with_item}
+use Rattle.basket_lists.proofs.PackedLemmas.{items_in-zero, with_next}
+use Rattle.basket_lists.proofs.known.KnownItems.pack.Goals as goal
+
+pub loop-item-init : goal.loop-item-init
+loop-item-init c = (record { below = pow_pos (length c.args.self.now); size = sym (ap length (items_in-zero c.args.self.now)) }, items_in-zero c.args.self.now, refl)
+
+pub longer-requires : goal.longer-requires
+longer-requires c = c.loop-item.invariant.0
+
+pub loop-item-preserved : goal.loop-item-preserved
+loop-item-preserved c =
+    let longer = c.in_ok-packed.ensures in
+    let set = c.args.set.now in
+    let i = c.loop-item.item-index in
+    let same = c.items-item-items.ensures.items in
+    let inside = subst (λ items. i < length items) same c.loop-item-test.true in (
+      longer.is,
+      longer.set ∙ ap (λ items. with_item (get_or items i 0) (items_in c.args.self.now c.loop-item.packed.bits)) same ∙ ap (with_item (get_or set i 0)) c.loop-item.invariant.1
+          ∙ with_next set i c.items-item-items.ensures.rising inside,
+      longer.counted,
+    )
+
+pub returns-clause-packed : goal.returns-clause-packed
+returns-clause-packed c = c.loop-item.invariant.0
+
+pub returns-clause-same : goal.returns-clause-same
+returns-clause-same c =
+    let all = c.loop-item.invariant.1 ∙ take_all c.loop-item.item-index c.args.set.now (omega (arith, c.loop-item-test.false, c.loop-item.auto.item-index-end, ap length c.items-item-items.ensures.items)) in
+    λ i. record { set = all i; count = c.loop-item.invariant.2 i }

@@ -1,0 +1,20 @@
+-- The known items, and the bits that they have.
+use Rattle.std.specs.Prelude.{◌≡◌, ◌≤◌, ◌+◌, ℕ, List, length, slice_index}
+use Rattle.basket_lists.specs.declared.packed.Packed.{Packed}
+use Rattle.basket_lists.specs.Packed.{IsPacked, unpacked}
+use Rattle.basket_lists.specs.declared.known.TheConstants.{MOST_ITEMS}
+use Rattle.basket_sets.specs.Itemset.{IsRising, with_item}
+
+-- the bit of an item: as many known items as its number stand behind the item
+pub record IsBitOf (known : List ℕ) (item bit : ℕ) : Type 0 where
+  pub place : ℕ
+  pub is : slice_index known place ≡ item
+  pub behind : bit + (place + 1) ≡ length known
+  pub few : length known ≤ MOST_ITEMS
+  pub rises : IsRising known
+
+-- a packed set that is another with one more item, and has a count of its own
+pub record IsLonger (known : List ℕ) (packed : Packed) (item count : ℕ) (longer : Packed) : Type 0 where
+  pub is : IsPacked known longer
+  pub set : (unpacked known longer).set ≡ with_item item (unpacked known packed).set
+  pub counted : longer.count ≡ count

@@ -1,0 +1,131 @@
+//! The items that sets are known to have.
+ghost use Rattle.std.specs.Prelude.{◌≡◌, ◌<◌, ◌++◌, ◌^◌, [], IfOk, IfSome, IsTrue, ◌↔◌, OnOk, length};
+ghost use Rattle.basket_lists.specs.Known.{IsBitOf, IsLonger};
+ghost use Rattle.basket_lists.specs.Packed.{IsPacked, items_in, unpacked};
+ghost use Rattle.basket_sets.specs.Itemset.{IsRising};
+
+use crate::packed::Packed;
+use basket_sets::Itemset;
+use std::alloc::{AllocError, Global};
+use std::marker::Model;
+
+/// How many items are known at most, each with a bit of its own.
+const MOST_ITEMS: usize = 128;
+
+/// Up to 128 items in rising order. None are known where there are more.
+#[derive(Debug, Drop)]
+pub struct KnownItems {
+    items: Vec<u32>,
+}
+
+impl Model for KnownItems {
+    ghost use Rattle.std.specs.Prelude.{ℕ, List, ◌≤◌, length};
+    ghost use Rattle.basket_lists.specs.declared.known.TheConstants.{MOST_ITEMS};
+    ghost use Rattle.basket_sets.specs.Itemset.{IsRising};
+
+    ghost Value = { List ℕ };
+
+    ghost view = { λ known. known.items.items };
+
+    ghost invariant = { λ known. IsRising known.items.items × (length known.items.items ≤ MOST_ITEMS) };
+}
+
+/// Whether each item is below the next.
+fn is_rising(items: &[u32]) -> bool
+    ensures { IsTrue result ↔ IsRising items.now }
+{
+    items.is_sorted_by(|item, next| item < next)
+}
+
+impl KnownItems {
+    /// No items.
+    pub fn none(alloc: Global) -> Self
+        ensures { result ≡ [] }
+    {
+        KnownItems {
+            items: Vec::new(alloc),
+        }
+    }
+
+    /// The items, which come in any order, or none where they are too many or one comes twice.
+    pub fn of(alloc: Global, items: &[u32]) -> Result<Self, AllocError> {
+        if items.len() > MOST_ITEMS {
+            return Ok(KnownItems::none(alloc));
+        }
+        let mut items = items.to_vec(alloc)?;
+        items.sort_unstable();
+        if !is_rising(&items) {
+            return Ok(KnownItems::none(alloc));
+        }
+        Ok(KnownItems { items })
+    }
+
+    /// The greatest item, or 0.
+    pub fn greatest(&self) -> u32 {
+        self.items.last().copied().unwrap_or(0)
+    }
+
+    /// Whether they are the same as others.
+    pub fn is_same(&self, other: &KnownItems) -> bool
+        ensures { IsTrue result → self.now ≡ other.now }
+    {
+        self.items == other.items
+    }
+
+    /// The bit of an item, if it is known.
+    fn bit_of(&self, item: u32) -> Option<u32>
+        ensures { IfSome result (IsBitOf self.now item) }
+    {
+        match self.items.binary_search(&item) {
+            Ok(place) => Some((self.items.len() - 1 - place) as u32),
+            Err(_) => None,
+        }
+    }
+
+    /// A packed set with one more item and a count of its own, or none where the item isn't known, or
+    /// is in the set.
+    pub fn longer(&self, packed: &Packed, item: u32, count: u64) -> Option<Packed>
+        requires { IsPacked self.now packed.now }
+        ensures { IfSome result (IsLonger self.now packed.now item count) }
+    {
+        let bit = self.bit_of(item)?;
+        if (packed.bits >> bit) % 2 == 1 {
+            return None;
+        }
+        Some(Packed {
+            bits: packed.bits | (1 << bit),
+            count,
+            size: packed.size + 1,
+        })
+    }
+
+    /// A set as bits, if its items are known.
+    pub fn pack(&self, set: &Itemset, count: u64) -> Option<Packed>
+        ensures packed { IfSome result (IsPacked self.now) }
+        ensures same { IfSome result (λ packed. unpacked self.now packed ≡ record { set = set.now; count = count }) }
+    {
+        let mut packed = Packed {
+            bits: 0,
+            count,
+            size: 0,
+        };
+        for item in set.items() {
+            packed = self.longer(&packed, *item, count)?;
+        }
+        Some(packed)
+    }
+
+    /// Adds the items of some bits, which rise, to a list.
+    pub fn fill(&self, bits: u128, items: &mut Vec<u32>) -> Result<(), AllocError>
+        requires { bits < 2 ^ length self.now }
+        ensures { OnOk result (items.new.items ≡ items.old.items ++ items_in self.now bits) }
+    {
+        let mut rest = bits;
+        while rest != 0 {
+            let bit = rest.ilog2();
+            items.push(self.items[self.items.len() - 1 - bit as usize])?;
+            rest -= 1 << bit;
+        }
+        Ok(())
+    }
+}

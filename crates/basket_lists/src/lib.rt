@@ -1,0 +1,12 @@
+//! Lists of sets with their counts, each set kept as the bits of a word where its items are known
+//! beforehand, and their report order.
+#![tactic(auto)]
+
+mod counted_sets;
+mod keys;
+mod known;
+mod packed;
+mod parts;
+
+pub use counted_sets::CountedSets;
+pub use keys::sort_by_words;
