@@ -1,9 +1,8 @@
 -- Lists of sets, some of which are words.
 use Rattle.std.proofs.Common.{◌≡◌, ℕ, ◌+◌, ◌<◌, List, [], ◌∷◌, ◌++◌, length, map, get_or, take, sym, ap, ◌∙◌, subst, arith}
-use Rattle.std.specs.List.{All}
 use Rattle.std.proofs.lemmas.List.{get_or_append_left, get_or-map, length-map, take_more, map-append}
 use Rattle.basket_lists.specs.declared.packed.Packed.{Packed}
-use Rattle.basket_lists.specs.Packed.{IsPacked, items_in, unpacked}
+use Rattle.basket_lists.specs.Packed.{unpacked}
 use Rattle.basket_lists.specs.CountedSets.{set_at}
 use Rattle.basket_lists.proofs.PackedLemmas.{items_in-rises}
 use Rattle.basket_sets.specs.declared.counted.Counted.{Counted}

@@ -1,15 +1,16 @@
 -- Sets as the bits of a word.
-use Rattle.std.proofs.Common.{◌≡◌, ◌≢◌, ℕ, zero, suc, ◌+◌, ◌-◌, ◌*◌, ◌/◌, ◌%◌, ◌^◌, ◌<◌, ◌≤◌, Bool, true, false, List, [], ◌∷◌, ◌++◌, length, cond, eqb, ltb, refl, sym, ap, ◌∙◌, subst, inl, inr, ◌⊎◌, arith, get_or, take}
+use Rattle.std.proofs.Common.{◌≡◌, ℕ, zero, suc, ◌+◌, ◌-◌, ◌*◌, ◌%◌, ◌^◌, ◌<◌, ◌≤◌, Bool, true, false, List, [], ◌∷◌, ◌++◌, length, cond, eqb, ltb, refl, sym, ap, ◌∙◌, subst, inl, inr, arith, get_or, take}
 use Rattle.std.specs.Prelude.{bit_or}
 use Rattle.std.specs.Int.{bit_at, w128}
-use Rattle.std.proofs.lemmas.Bool.{eqb-true, eqb-false, ltb-true, eq-eqb, lt-ltb, cases_Bool, cases_lt, cases_eq, true≢false, false_from_ne_true}
-use Rattle.std.proofs.Math.Nat.{pow-le-pow_right, pow-suc}
+use Rattle.std.proofs.lemmas.Bool.{eqb-true, ltb-true, lt-ltb, cases_Bool, cases_lt, cases_eq, false_from_ne_true}
+use Rattle.std.proofs.Math.Nat.{add-mul, mul-lt-mul_of_pos_right, pow-le-pow_right, pow-suc}
+use Rattle.std.proofs.lemmas.Nat.{pow-add, pow_pos}
 use Rattle.std.proofs.lemmas.Nat.Bits.{bit_at-zero, bit_at_above, bit_at_cat_low, bit_at_cat_high, bit_at_set_same, bit_at_set_other}
 use Rattle.std.proofs.lemmas.List.{take_more}
 use Rattle.basket_lists.specs.Packed.{items_in}
-use Rattle.basket_sets.specs.Itemset.{IsRising, has, with_item}
+use Rattle.basket_sets.specs.Itemset.{IsRising, with_item}
 use Rattle.basket_sets.proofs.theory.Members.{Member}
-use Rattle.basket_sets.proofs.theory.Rising.{Member-from_has, cons_rises, first_below, has_place, nil_rises, rest_rises}
+use Rattle.basket_sets.proofs.theory.Rising.{Member-from_has, cons_rises, first_below, has_place, rest_rises}
 
 -- ---- the items of a word
 
@@ -131,7 +132,66 @@ with_last (first ∷ items) item below =
 pub with_next : (items : List ℕ) (i : ℕ) → IsRising items → i < length items → with_item (get_or items i 0) (take i items) ≡ take (i + 1) items
 with_next items i up less = with_last (take i items) (get_or items i 0) (λ other m. take_below items i other up less m) ∙ sym (take_more items i 0 less)
 
+-- ---- words of 64 bits
+
+-- bits that begin at a place have none of the items behind it
+items_in-none : (known : List ℕ) (bits from : ℕ) → length known ≤ from → items_in known (bits * 2 ^ from) ≡ []
+items_in-none known bits from few =
+    items_in-same known (bits * 2 ^ from) 0 (λ i less. ap (λ b. bit_at b i) (let e : bits * 2 ^ from ≡ bits * 2 ^ from + 0 = omega arith in e) ∙ bit_at_cat_low bits from 0 i (omega (arith, less, few)))
+    ∙ items_in-zero known
+
+-- the items of a word are those of its higher bits and those of its lower ones
+pub items_in-halves : (known : List ℕ) (high from low : ℕ) → low < 2 ^ from → items_in known (high * 2 ^ from + low) ≡ items_in known (high * 2 ^ from) ++ items_in known low
+items_in-halves [] high from low below = refl
+items_in-halves (first ∷ known) high from low below =
+    let n = length known in
+    let bits = high * 2 ^ from + low in
+    let upper = high * 2 ^ from in
+    let rest = items_in-halves known high from low below in
+    elim (cases_lt n from) [
+      | inl under ↦
+          (let none : items_in known upper ≡ [] = items_in-none known high from (omega (arith, under)) in
+          let nothing : items_in (first ∷ known) upper ≡ [] = items_in-none (first ∷ known) high from (omega (arith, under)) in
+          let all : items_in known bits ≡ items_in known low = rest ∙ ap (λ l. l ++ items_in known low) none in
+          ap (λ b. cond (eqb b 1) (first ∷ items_in known bits) (items_in known bits)) (bit_at_cat_low high from low n under)
+          ∙ ap (λ l. cond (eqb (bit_at low n) 1) (first ∷ l) l) all ∙ ap (λ l. l ++ items_in (first ∷ known) low) (sym nothing))
+      | inr over ↦
+          (let unset : bit_at low n ≡ 0 = bit_at_above low from n below over in
+          let lower : items_in (first ∷ known) low ≡ items_in known low = ap (λ b. cond (eqb b 1) (first ∷ items_in known low) (items_in known low)) unset in
+          let here : bit_at bits n ≡ bit_at upper n =
+          bit_at_cat_high high from low n below over
+          ∙ sym (ap (λ b. bit_at b n) (let e : upper ≡ upper + 0 = omega arith in e) ∙ bit_at_cat_high high from 0 n (omega (arith, below)) over) in
+          ap (λ b. cond (eqb b 1) (first ∷ items_in known bits) (items_in known bits)) here
+          ∙ ap (λ l. cond (eqb (bit_at upper n) 1) (first ∷ l) l) rest
+          ∙ with_rest (eqb (bit_at upper n) 1) first (items_in known upper) (items_in known low)
+          ∙ ap (λ l. items_in (first ∷ known) upper ++ l) (sym lower))
+    ]
+  where
+    with_rest : (b : Bool) (first : ℕ) (items others : List ℕ) → cond b (first ∷ (items ++ others)) (items ++ others) ≡ cond b (first ∷ items) items ++ others
+    with_rest true first items others = refl
+    with_rest false first items others = refl
+
 -- ---- the highest bit
+
+-- a word whose lowest bit is at a place
+module _ (word bit from : ℕ) (low : 2 ^ bit ≤ word) (high : word < 2 * 2 ^ bit) where
+  power : 2 ^ (bit + from) ≡ 2 ^ bit * 2 ^ from
+  power = pow-add 2 bit from
+
+  rest : word * 2 ^ from ≡ (word - 2 ^ bit) * 2 ^ from + 2 ^ bit * 2 ^ from
+  rest = ap (λ w. w * 2 ^ from) (let e : word ≡ (word - 2 ^ bit) + 2 ^ bit = omega (arith, low) in e) ∙ add-mul (word - 2 ^ bit) (2 ^ bit) (2 ^ from)
+
+  pub moved_low : 2 ^ (bit + from) ≤ word * 2 ^ from
+  moved_low = omega (arith, power, rest)
+
+  pub moved_high : word * 2 ^ from < 2 * 2 ^ (bit + from)
+  moved_high =
+      let less : word - 2 ^ bit < 2 ^ bit = omega (arith, low, high) in
+      let moved : (word - 2 ^ bit) * 2 ^ from < 2 ^ bit * 2 ^ from = mul-lt-mul_of_pos_right less (pow_pos from) in
+      omega (arith, power, rest, moved)
+
+  pub moved_rest : word * 2 ^ from - 2 ^ (bit + from) ≡ (word - 2 ^ bit) * 2 ^ from
+  moved_rest = omega (arith, power, rest)
 
 -- a power within a number below another is a lower one
 pub lower_power : (bits bit n : ℕ) → 2 ^ bit ≤ bits → bits < 2 ^ n → bit < n

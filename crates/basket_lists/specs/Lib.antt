@@ -1,3 +1,4 @@
+pub mod Word
 pub mod Packed
 pub mod Known
 pub mod CountedSets

@@ -1,5 +1,5 @@
 //! The items that sets are known to have.
-ghost use Rattle.std.specs.Prelude.{◌≡◌, ◌<◌, ◌++◌, ◌^◌, [], IfOk, IfSome, IsTrue, ◌↔◌, OnOk, length};
+ghost use Rattle.std.specs.Prelude.{◌≡◌, ◌<◌, ◌*◌, ◌++◌, ◌^◌, [], IfOk, IfSome, IsTrue, ◌↔◌, OnOk, length};
 ghost use Rattle.basket_lists.specs.Known.{IsBitOf, IsLonger};
 ghost use Rattle.basket_lists.specs.Packed.{IsPacked, items_in, unpacked};
 ghost use Rattle.basket_sets.specs.Itemset.{IsRising};
@@ -10,9 +10,9 @@ use std::alloc::{AllocError, Global};
 use std::marker::Model;
 
 /// How many items are known at most, each with a bit of its own.
-const MOST_ITEMS: usize = 128;
+const MOST_ITEMS: usize = 120;
 
-/// Up to 128 items in rising order. None are known where there are more.
+/// Up to 120 items in rising order. None are known where there are more.
 #[derive(Debug, Drop)]
 pub struct KnownItems {
     items: Vec<u32>,
@@ -89,14 +89,11 @@ impl KnownItems {
         ensures { IfSome result (IsLonger self.now packed.now item count) }
     {
         let bit = self.bit_of(item)?;
-        if (packed.bits >> bit) % 2 == 1 {
+        let bits = packed.bits();
+        if (bits >> bit) % 2 == 1 {
             return None;
         }
-        Some(Packed {
-            bits: packed.bits | (1 << bit),
-            count,
-            size: packed.size + 1,
-        })
+        Some(Packed::new(bits | (1 << bit), packed.size() + 1, count))
     }
 
     /// A set as bits, if its items are known.
@@ -104,26 +101,33 @@ impl KnownItems {
         ensures packed { IfSome result (IsPacked self.now) }
         ensures same { IfSome result (λ packed. unpacked self.now packed ≡ record { set = set.now; count = count }) }
     {
-        let mut packed = Packed {
-            bits: 0,
-            count,
-            size: 0,
-        };
+        let mut packed = Packed::new(0, 0, count);
         for item in set.items() {
             packed = self.longer(&packed, *item, count)?;
         }
         Some(packed)
     }
 
-    /// Adds the items of some bits, which rise, to a list.
-    pub fn fill(&self, bits: u128, items: &mut Vec<u32>) -> Result<(), AllocError>
-        requires { bits < 2 ^ length self.now }
-        ensures { OnOk result (items.new.items ≡ items.old.items ++ items_in self.now bits) }
+    /// Adds the items of a packed set, which rise, to a list.
+    pub fn fill(&self, packed: &Packed, items: &mut Vec<u32>) -> Result<(), AllocError>
+        requires { packed.now.bits < 2 ^ length self.now }
+        ensures { OnOk result (items.new.items ≡ items.old.items ++ items_in self.now packed.now.bits) }
+    {
+        self.fill_part(packed.high_bits(), 64, items)?;
+        self.fill_part(packed.low_bits(), 0, items)?;
+        Ok(())
+    }
+
+    /// Adds the items of 64 bits, of which the lowest is at a place, to a list.
+    fn fill_part(&self, bits: u64, from: u32, items: &mut Vec<u32>) -> Result<(), AllocError>
+        requires below { bits * 2 ^ from < 2 ^ length self.now }
+        requires from { from < 128 }
+        ensures { OnOk result (items.new.items ≡ items.old.items ++ items_in self.now (bits * 2 ^ from)) }
     {
         let mut rest = bits;
         while rest != 0 {
             let bit = rest.ilog2();
-            items.push(self.items[self.items.len() - 1 - bit as usize])?;
+            items.push(self.items[self.items.len() - 1 - (bit + from) as usize])?;
             rest -= 1 << bit;
         }
         Ok(())

@@ -1,13 +1,17 @@
-use Rattle.std.proofs.Common.{◌≡◌, ◌+◌, ◌<◌, ◌^◌, length, get_or, take, refl, sym, ap, ◌∙◌, subst, arith}
+use Rattle.std.proofs.Common.{◌≡◌, ◌<◌, [], length, get_or, refl, sym, ap, ◌∙◌, subst, arith}
 use Rattle.std.proofs.lemmas.Nat.{pow_pos}
 use Rattle.std.proofs.lemmas.List.{take_all}
-use Rattle.basket_lists.specs.Packed.{items_in}
+use Rattle.basket_lists.specs.declared.packed.Packed.{Packed}
+use Rattle.basket_lists.specs.Packed.{IsPacked, items_in}
 use Rattle.basket_sets.specs.Itemset.{with_item}
 use Rattle.basket_lists.proofs.PackedLemmas.{items_in-zero, with_next}
 use Rattle.basket_lists.proofs.known.KnownItems.pack.Goals as goal
 
 pub loop-item-init : goal.loop-item-init
-loop-item-init c = (record { below = pow_pos (length c.args.self.now); size = sym (ap length (items_in-zero c.args.self.now)) }, items_in-zero c.args.self.now, refl)
+loop-item-init c =
+    let known = c.args.self.now in
+    subst (λ (word : Packed). IsPacked known word × (items_in known word.bits ≡ []) × (word.count ≡ c.args.count)) (sym c.new-packed.ensures)
+    (record { below = pow_pos (length known); size = sym (ap length (items_in-zero known)) }, items_in-zero known, refl)
 
 pub longer-requires : goal.longer-requires
 longer-requires c = c.loop-item.invariant.0
