@@ -15,3 +15,4 @@ mod ChoiceLemmas
 mod WordLemmas
 mod LeafLemmas
 mod ShiftLemmas
+mod SuffixLemmas

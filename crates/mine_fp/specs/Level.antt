@@ -1,7 +1,8 @@
 -- Sets that are found within a conditional database, as items.
-use Rattle.std.specs.Prelude.{◌≡◌, ◌≤◌, ◌<◌, ◌+◌, ◌-◌, ◌++◌, ℕ, List, [], ◌∷◌, length, map, slice_index_or}
+use Rattle.std.specs.Prelude.{◌≡◌, ◌≤◌, ◌<◌, ◌+◌, ◌-◌, ◌++◌, ℕ, List, [], ◌∷◌, Some, None, length, map, slice_index_or}
 use Rattle.std.specs.List.{flat_map}
 use Rattle.basket_core.specs.Codes.{IsCoding, decoded_place}
+use Rattle.basket_lists.specs.CountedSets.{set_at}
 use Rattle.basket_sets.specs.declared.counted.Counted.{Counted}
 use Rattle.basket_sets.specs.declared.minimum.Minimum.TheVariants.{Count}
 use Rattle.basket_sets.specs.Frequent.{ListsOnce}
@@ -35,6 +36,12 @@ pub record IsLevel (level : Level) : Type 0 where
   pub some : 1 ≤ level.least
   pub rises : IsRising level.suffix
   pub short : level.depth ≤ DEPTH
+
+-- the set that a level is of stands at its place among those found, unless it has no items
+pub record HasSuffix (level : Level) (found : List Counted) : Type 0 where
+  pub inside : (place : ℕ) → level.place ≡ Some place → place < length found
+  pub stands : (place : ℕ) → level.place ≡ Some place → set_at found place ≡ level.suffix
+  pub none : level.place ≡ None → level.suffix ≡ []
 
 -- how many ranks a set has whose last level would be one deeper than any is
 abbrev pub missing : Level → ℕ

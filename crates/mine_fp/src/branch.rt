@@ -7,7 +7,8 @@ ghost use Rattle.mine_classes.specs.Classes.{class_of};
 ghost use Rattle.mine_fp.specs.Level.{HasLower, IsChosen, IsLevel, ListsClassAsItems, ListsAllAsItems};
 ghost use Rattle.mine_fp.specs.Trees.{is_branch};
 
-use crate::level::{Found, Level, tell};
+use crate::found::{Found, choose, tell};
+use crate::level::Level;
 use basket_core::{MineFault, Tally};
 use mine_classes::laws::{
     classes_are_all, classes_are_conditional, classes_are_listed, conditional_supports,
@@ -86,32 +87,4 @@ impl Level {
         }
         Ok(())
     }
-}
-
-/// Tells a set that was found, with one more item and a count of its own.
-fn choose<T: Tally>(
-    alloc: Global,
-    at: usize,
-    item: u32,
-    count: u64,
-    found: &mut Found,
-    tally: &mut T,
-) -> Result<(), MineFault>
-    requires at { at < length found.old.sets }
-    requires going { T.is_over tally.old ≡ false }
-    ensures added { OnOk result (IsChosen at item count found.old.sets found.new.sets) }
-    ensures trees { found.new.trees ≡ found.old.trees }
-    ensures told { OnOk result (T.told_of tally.new ≡ T.told_of tally.old + 1) }
-    ensures going_on { OnOk result (T.is_over tally.new ≡ false) }
-    ensures too_many { (limit : ℕ) → result ≡ Err (TooMany limit) → (limit ≡ T.limit_of tally.old) × IsTrue (T.is_over tally.new) }
-    ensures at_most { T.told_of tally.new ≤ T.told_of tally.old + 1 }
-    ensures limit { T.limit_of tally.new ≡ T.limit_of tally.old }
-{
-    if !tally.tell() {
-        return Err(MineFault::TooMany {
-            limit: tally.limit(),
-        });
-    }
-    found.sets.push_longer(alloc, at, item, count)?;
-    Ok(())
 }

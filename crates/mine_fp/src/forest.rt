@@ -6,7 +6,8 @@ ghost use Rattle.basket_sets.specs.Support.{support_of};
 ghost use Rattle.mine_classes.specs.Mined.{ListsClassItems, class_size};
 ghost use Rattle.mine_fp.specs.Trees.{class_trees};
 
-use crate::level::{Found, Level, Tables};
+use crate::found::Found;
+use crate::level::{Level, Tables};
 use crate::paths::{Paths, weight_of_rank};
 use basket_core::{Coded, CountedSets, Itemset, MineFault, Tally};
 use mine_apriori::runs_with_pairs;
@@ -24,7 +25,7 @@ pub struct Forest<'a> {
 }
 
 impl<'a> Model for Forest<'a> {
-    ghost use Rattle.std.specs.Prelude.{◌≡◌, [], length};
+    ghost use Rattle.std.specs.Prelude.{◌≡◌, [], None, length};
     ghost use Rattle.basket_core.specs.Codes.{Coding};
     ghost use Rattle.mine_fp.specs.Forest.{AreInForest};
     ghost use Rattle.mine_fp.specs.Level.{AreNames, items_of};
@@ -34,7 +35,7 @@ impl<'a> Model for Forest<'a> {
     ghost view = { λ f. f.coded.now };
 
     ghost invariant = { λ f. AreInForest f.coded.now f.level.least f.level.paths
-        × AreNames f.level × (items_of f.level ≡ f.coded.now.items) × (f.level.suffix ≡ []) × (f.level.depth ≡ 0) };
+        × AreNames f.level × (items_of f.level ≡ f.coded.now.items) × (f.level.suffix ≡ []) × (f.level.place ≡ None) × (f.level.depth ≡ 0) };
 }
 
 impl<'a> Forest<'a> {
@@ -50,6 +51,7 @@ impl<'a> Forest<'a> {
                 paths: Paths::of_runs(runs),
                 names,
                 suffix: Itemset::from_items(alloc, &[])?,
+                place: None,
                 depth: 0,
                 least: coded.minimum().least(coded.total()),
             },

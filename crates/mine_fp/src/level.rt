@@ -1,5 +1,5 @@
 //! Sets that are grown within a conditional database.
-ghost use Rattle.std.specs.Prelude.{◌≡◌, ◌≤◌, ◌<◌, ◌+◌, ◌++◌, ◌⊎◌, [], ◌∷◌, ℕ, Err, IfOk, IsTrue, OnOk, false, length, map, slice_index, vec_len};
+ghost use Rattle.std.specs.Prelude.{◌≡◌, ◌≤◌, ◌<◌, ◌+◌, ◌++◌, ◌⊎◌, [], ◌∷◌, ℕ, Err, IfOk, IsTrue, OnOk, Some, false, length, map, slice_index, vec_len};
 ghost use Rattle.basket_core.specs.declared.fault.MineFault.TheVariants.{TooMany};
 ghost use Rattle.basket_core.specs.Depth.{HasSetOfSize};
 ghost use Rattle.basket_sets.specs.declared.minimum.Minimum.TheVariants.{Count};
@@ -9,11 +9,12 @@ ghost use Rattle.basket_sets.specs.Itemset.{with_item};
 ghost use Rattle.basket_sets.specs.Support.{support_of};
 ghost use Rattle.mine_classes.specs.Classes.{class_of};
 ghost use Rattle.mine_classes.specs.Pairs.{named_pair, pairs_of};
-ghost use Rattle.mine_fp.specs.Level.{IsBelow, IsLevel, ListsClassAsItems, ListsAllAsItems, items_of, missing};
+ghost use Rattle.mine_fp.specs.Level.{HasSuffix, IsBelow, IsLevel, ListsClassAsItems, ListsAllAsItems, items_of, missing};
 ghost use Rattle.mine_fp.specs.Trees.{inner_trees, rank_trees};
 
+use crate::found::{Found, choose, tell};
 use crate::paths::Paths;
-use basket_core::{CountedSets, Itemset, MineFault, Tally};
+use basket_core::{Itemset, MineFault, Tally};
 use mine_classes::laws::{
     classes_are_all, classes_are_conditional, classes_are_listed, classes_by_codings,
     conditional_supports, lists_have_class_size, rare_ranks_have_no_class,
@@ -24,13 +25,6 @@ use std::alloc::{AllocError, Global};
 /// How many items a set has at most. A class with a set of one more has more sets than any limit, so
 /// that nothing goes deeper.
 const DEPTH: usize = 32;
-
-/// The sets that were found, and how many conditional trees were made for them.
-#[derive(Debug, Drop)]
-pub struct Found {
-    pub sets: CountedSets,
-    pub trees: u64,
-}
 
 /// A place and a sum for each rank of a level, used again from rank to rank.
 #[derive(Debug, Drop)]
@@ -58,6 +52,8 @@ pub struct Level {
     pub paths: Paths,
     pub names: Vec<(u32, u64)>,
     pub suffix: Itemset,
+    /// Where that set stands among those found, unless it has no items.
+    pub place: Option<usize>,
     /// How many databases it lies within.
     pub depth: usize,
     pub least: u64,
@@ -76,6 +72,7 @@ impl Level {
         tally: &mut T,
     ) -> Result<(), MineFault>
         requires level { IsLevel self.now }
+        requires stands { HasSuffix self.now found.old.sets }
         requires rank { rank < self.now.paths.ranks }
         requires sums { tables.old.sums ≡ self.now.paths.ranks }
         requires places { tables.old.places ≡ self.now.paths.ranks }
@@ -103,8 +100,8 @@ impl Level {
         if support < self.least {
             return Ok(());
         }
-        let set = self.set_with(alloc, rank)?;
-        tell(set, support, found, tally)?;
+        let place = found.sets.len();
+        self.tell_rank(alloc, rank, support, found, tally)?;
         if self.depth >= DEPTH {
             return Err(MineFault::TooMany {
                 limit: tally.limit(),
@@ -117,7 +114,7 @@ impl Level {
             return Ok(());
         }
         let places = &mut tables.places;
-        let inner = self.below(alloc, rank, places, pairs, &mut found.trees)?;
+        let inner = self.below(alloc, rank, place, places, pairs, &mut found.trees)?;
         inner.classes(alloc, found, tally)
     }
 
@@ -130,6 +127,7 @@ impl Level {
         tally: &mut T,
     ) -> Result<(), MineFault>
         requires level { IsLevel self.now }
+        requires stands { HasSuffix self.now found.old.sets }
         requires few { found.old.trees ≤ length found.old.sets }
         requires going { T.is_over tally.old ≡ false }
         ensures listed { OnOk result (ListsAllAsItems self.now found.old.sets found.new.sets) }
@@ -171,6 +169,36 @@ impl Level {
         self.names[rank as usize].1
     }
 
+    /// Tells the set of a rank to the tally, and adds it to those found.
+    fn tell_rank<T: Tally>(
+        &self,
+        alloc: Global,
+        rank: u32,
+        support: u64,
+        found: &mut Found,
+        tally: &mut T,
+    ) -> Result<(), MineFault>
+        requires stands { HasSuffix self.now found.old.sets }
+        requires rank { rank < vec_len self.now.names }
+        requires going { T.is_over tally.old ≡ false }
+        ensures added { OnOk result (found.new.sets ≡ found.old.sets ++ record { set = with_item (slice_index (items_of self.now) rank) self.now.suffix; count = support } ∷ []) }
+        ensures few { OnOk result (length found.new.sets < 18446744073709551616) }
+        ensures trees { found.new.trees ≡ found.old.trees }
+        ensures told { OnOk result (T.told_of tally.new ≡ T.told_of tally.old + 1) }
+        ensures going_on { OnOk result (T.is_over tally.new ≡ false) }
+        ensures too_many { (limit : ℕ) → result ≡ Err (TooMany limit) → (limit ≡ T.limit_of tally.old) × IsTrue (T.is_over tally.new) }
+        ensures at_most { T.told_of tally.new ≤ T.told_of tally.old + 1 }
+        ensures limit { T.limit_of tally.new ≡ T.limit_of tally.old }
+    {
+        match self.place {
+            Some(place) => choose(alloc, place, self.item(rank), support, found, tally)?,
+            None => tell(self.set_with(alloc, rank)?, support, found, tally)?,
+        }
+        // Nothing is read here: the call brings its contract, which says that the length fits a word.
+        let _length = found.sets.len();
+        Ok(())
+    }
+
     /// The set of a rank, as items.
     pub fn set_with(&self, alloc: Global, rank: u32) -> Result<Itemset, AllocError>
         requires { rank < vec_len self.now.names }
@@ -179,11 +207,12 @@ impl Level {
         self.suffix.with(alloc, self.item(rank))
     }
 
-    /// The conditional database of a rank with these pairs: one more tree.
+    /// The conditional database of a rank with these pairs, whose set stands at a place: one more tree.
     pub fn below(
         &self,
         alloc: Global,
         rank: u32,
+        place: usize,
         places: &mut Places,
         mut pairs: Vec<(u32, u64)>,
         trees: &mut u64,
@@ -194,6 +223,7 @@ impl Level {
         requires pairs { pairs.items ≡ pairs_of self.now.paths.baskets self.now.least rank }
         requires few { trees.old < 18446744073709551615 }
         ensures below { IfOk result (IsBelow self.now rank) }
+        ensures place { IfOk result (λ inner. inner.place ≡ Some place) }
         ensures places { places.new ≡ places.old }
         ensures trees { OnOk result (trees.new ≡ trees.old + 1) }
     {
@@ -205,6 +235,7 @@ impl Level {
             paths,
             names: pairs,
             suffix,
+            place: Some(place),
             depth: self.depth + 1,
             least: self.least,
         })
@@ -219,32 +250,4 @@ fn rename(pairs: &mut [(u32, u64)], names: &[(u32, u64)])
     for place in 0..pairs.len() {
         pairs[place].0 = names[pairs[place].0 as usize].0;
     }
-}
-
-/// Tells a frequent set to the tally, and adds it to those found.
-pub fn tell<T: Tally>(
-    set: Itemset,
-    count: u64,
-    found: &mut Found,
-    tally: &mut T,
-) -> Result<(), MineFault>
-    requires { T.is_over tally.old ≡ false }
-    ensures added { OnOk result (found.new.sets ≡ found.old.sets ++ record { set = set; count = count } ∷ []) }
-    ensures few { OnOk result (length found.new.sets < 18446744073709551616) }
-    ensures trees { found.new.trees ≡ found.old.trees }
-    ensures told { OnOk result (T.told_of tally.new ≡ T.told_of tally.old + 1) }
-    ensures going_on { OnOk result (T.is_over tally.new ≡ false) }
-    ensures too_many { (limit : ℕ) → result ≡ Err (TooMany limit) → (limit ≡ T.limit_of tally.old) × IsTrue (T.is_over tally.new) }
-    ensures at_most { T.told_of tally.new ≤ T.told_of tally.old + 1 }
-    ensures limit { T.limit_of tally.new ≡ T.limit_of tally.old }
-{
-    if !tally.tell() {
-        return Err(MineFault::TooMany {
-            limit: tally.limit(),
-        });
-    }
-    found.sets.push(set, count)?;
-    // Nothing is read here: the call brings its contract, which says that the length fits a word.
-    let _length = found.sets.len();
-    Ok(())
 }

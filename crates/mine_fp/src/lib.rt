@@ -4,6 +4,7 @@
 
 mod branch;
 mod forest;
+mod found;
 pub mod laws;
 mod level;
 mod paths;

@@ -10,6 +10,7 @@ use Rattle.mine_classes.specs.Classes.{class_of}
 use Rattle.mine_fp.specs.Forest.{AreInForest}
 use Rattle.mine_fp.specs.Level.{as_items, items_of, missing}
 use Rattle.mine_fp.proofs.ForestLemmas.{class_deep, class_settled, class_sizes, decoded_items, trees_settled}
+use Rattle.mine_fp.proofs.SuffixLemmas.{suffix_of_none}
 use Rattle.mine_fp.proofs.forest.fp_class.Goals as goal
 
 pub returns-in_err-class-clause-too_many : goal.returns-in_err-class-clause-too_many
@@ -19,7 +20,7 @@ returns-in_err-class-clause-too_many g c = λ limit e.
     let p = err_from_is_err_and c.from_residual-in_err-class.result c.from_residual-in_err-class.ensures.1 in
     let same : c.in_err-class.field-0.0 ≡ TooMany limit = cc in
     let many = c.in_err-class.ensures.too_many limit (ap Err same) in
-    let depth : missing level ≡ 32 + 1 = omega (arith, c.forest.invariant.4) in (
+    let depth : missing level ≡ 32 + 1 = omega (arith, c.forest.invariant.5) in (
       many.0,
       elim many.1 [
         | inl over ↦ inl over
@@ -74,5 +75,8 @@ class-requires-clause-level g c =
       ranked = are.ranked;
       some = are.least_is.some;
       rises = subst IsRising (sym c.forest.invariant.3) nil_rises;
-      short = omega (arith, c.forest.invariant.4);
+      short = omega (arith, c.forest.invariant.5);
     }
+
+pub class-requires-clause-stands : goal.class-requires-clause-stands
+class-requires-clause-stands g c = suffix_of_none c.forest.inside.level c.in_ok-sets.sets c.forest.invariant.4 c.forest.invariant.3

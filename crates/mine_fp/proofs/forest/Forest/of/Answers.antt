@@ -35,4 +35,5 @@ invariant_of-result c =
           ∙ sym (fill_by_all (λ rank. get_or coding.items rank 0) coding.items (length coding.items) 0 refl (λ k below. refl)),
       c.in_ok-from_items.ensures.ok,
       refl,
+      refl,
     )

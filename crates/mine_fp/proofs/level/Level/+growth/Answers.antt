@@ -1,4 +1,4 @@
-use Rattle.std.proofs.Common.{◌≡◌, ◌+◌, ◌++◌, ◌∷◌, [], List, cond, filter, length, map, refl, sym, ap, ◌∙◌, subst, inl, inr, arith, Err, vec_len}
+use Rattle.std.proofs.Common.{◌≡◌, ◌+◌, ◌++◌, ◌∷◌, [], List, get_or, cond, filter, length, map, refl, sym, ap, ◌∙◌, subst, inl, inr, arith, Err, vec_len}
 use Rattle.std.specs.List.{flat_map, range_with_len, sum_by}
 use Rattle.std.proofs.lemmas.Bool.{eqb-true}
 use Rattle.std.proofs.lemmas.List.{append-nil, length-append, length-map}
@@ -7,6 +7,7 @@ use Rattle.basket_core.specs.Depth.{HasSetOfSize}
 use Rattle.basket_sets.specs.declared.counted.Counted.{Counted}
 use Rattle.basket_sets.specs.declared.minimum.Minimum.TheVariants.{Count}
 use Rattle.basket_sets.specs.Frequent.{frequent_of}
+use Rattle.basket_sets.specs.Itemset.{with_item}
 use Rattle.basket_sets.proofs.theory.Frequent.{once_is_as_long}
 use Rattle.mine_classes.specs.Classes.{ListsClass, class_of}
 use Rattle.mine_fp.specs.Level.{as_items, items_of, missing}
@@ -14,6 +15,7 @@ use Rattle.mine_fp.specs.Trees.{has_tree, inner_trees, rank_trees}
 use Rattle.mine_fp.proofs.ClassLemmas.{alone_is_one, all_once, class_grown, class_long, class_some, classes_fit, deeper, frequent_of_size, inner_has_fewer, met_by, more_all, more_classes, rare_by}
 use Rattle.mine_fp.proofs.LeafLemmas.{leaf_grown, leaf_trees, nothing_in}
 use Rattle.mine_fp.proofs.NameLemmas.{inner_is_level}
+use Rattle.mine_fp.proofs.SuffixLemmas.{suffix_added, suffix_kept}
 use Rattle.mine_fp.proofs.TreesLemmas.{class_trees_are, more_trees, rare_trees, trees_of_ranks}
 use Rattle.mine_fp.proofs.level.Level.+growth.Goals as goal
 
@@ -37,12 +39,12 @@ class-returns-then-support-self-clause-trees g t c =
     let none = rare_trees level.paths.baskets level.least c.args.rank c.classes_are_listed.ensures rare in
     omega arith
 
-pub class-returns-in_err-tell-clause-at_most : goal.class-returns-in_err-tell-clause-at_most
-class-returns-in_err-tell-clause-at_most g t c =
+pub class-returns-in_err-tell_rank-clause-at_most : goal.class-returns-in_err-tell_rank-clause-at_most
+class-returns-in_err-tell_rank-clause-at_most g t c =
     let level = c.args.self.now in
     let met = met_by level.paths.baskets level.least c.args.rank c.support-support.result c.support-support.ensures c.requires.level.some c.if-support-self.false in
     let some = class_some level.paths.baskets level.least c.args.rank c.classes_are_listed.ensures met in
-    let most = c.in_err-tell.ensures.at_most in
+    let most = c.in_err-tell_rank.ensures.at_most in
     omega arith
 
 pub class-returns-then-self-ge-DEPTH-clause-too_many :
@@ -52,7 +54,7 @@ class-returns-then-self-ge-DEPTH-clause-too_many g t c = λ limit e.
     let met = met_by level.paths.baskets level.least c.args.rank c.support-support.result c.support-support.ensures c.requires.level.some c.if-support-self.false in
     let last : missing level ≡ 1 = omega (arith, c.if-self-ge-DEPTH.true, c.requires.level.short) in
     let told : c.limit.result ≡ limit = cc in
-    (sym told ∙ c.limit.ensures ∙ c.in_ok-tell.ensures.limit, inr (subst (HasSetOfSize (class_of level.paths.baskets (Count level.least) c.args.rank)) (sym last) (alone_is_one level.paths.baskets level.least c.args.rank c.classes_are_listed.ensures met)))
+    (sym told ∙ c.limit.ensures ∙ c.in_ok-tell_rank.ensures.limit, inr (subst (HasSetOfSize (class_of level.paths.baskets (Count level.least) c.args.rank)) (sym last) (alone_is_one level.paths.baskets level.least c.args.rank c.classes_are_listed.ensures met)))
 
 pub class-returns-then-self-ge-DEPTH-clause-at_most :
     goal.class-returns-then-self-ge-DEPTH-clause-at_most
@@ -60,7 +62,7 @@ class-returns-then-self-ge-DEPTH-clause-at_most g t c =
     let level = c.args.self.now in
     let met = met_by level.paths.baskets level.least c.args.rank c.support-support.result c.support-support.ensures c.requires.level.some c.if-support-self.false in
     let some = class_some level.paths.baskets level.least c.args.rank c.classes_are_listed.ensures met in
-    let most = c.in_ok-tell.ensures.at_most in
+    let most = c.in_ok-tell_rank.ensures.at_most in
     omega arith
 
 pub class-returns-in_err-pairs-clause-at_most : goal.class-returns-in_err-pairs-clause-at_most
@@ -68,7 +70,7 @@ class-returns-in_err-pairs-clause-at_most g t c =
     let level = c.args.self.now in
     let met = met_by level.paths.baskets level.least c.args.rank c.support-support.result c.support-support.ensures c.requires.level.some c.if-support-self.false in
     let some = class_some level.paths.baskets level.least c.args.rank c.classes_are_listed.ensures met in
-    let most = c.in_ok-tell.ensures.at_most in
+    let most = c.in_ok-tell_rank.ensures.at_most in
     omega arith
 
 pub class-returns-then-is_empty-clause-listed : goal.class-returns-then-is_empty-clause-listed
@@ -77,22 +79,22 @@ class-returns-then-is_empty-clause-listed g t c =
     let old = c.args.found.now.sets in
     let met = met_by level.paths.baskets level.least c.args.rank c.support-support.result c.support-support.ensures c.requires.level.some c.if-support-self.false in
     let none = sym c.in_ok-pairs.ensures.pairs ∙ nothing_in c.in_ok-pairs.pairs.items (omega (arith, eqb-true (vec_len c.in_ok-pairs.pairs) 0 (sym c.if-is_empty.ensures), c.in_ok-pairs.pairs.ok.0)) in
-    leaf_grown level c.args.rank none c.classes_are_conditional.ensures c.conditional_supports.ensures met old c.tell.new.found.sets c.in_ok-set.set c.support-support.result
-    c.requires.level.rises c.in_ok-set.ensures c.support-support.ensures c.in_ok-tell.ensures.added
+    leaf_grown level c.args.rank none c.classes_are_conditional.ensures c.conditional_supports.ensures met old c.tell_rank.new.found.sets (with_item (get_or (items_of level) c.args.rank 0) level.suffix) c.support-support.result
+    c.requires.level.rises refl c.support-support.ensures c.in_ok-tell_rank.ensures.added
 
 pub class-returns-then-is_empty-clause-trees : goal.class-returns-then-is_empty-clause-trees
 class-returns-then-is_empty-clause-trees g t c =
     let level = c.args.self.now in
     let met = met_by level.paths.baskets level.least c.args.rank c.support-support.result c.support-support.ensures c.requires.level.some c.if-support-self.false in
     let none = sym c.in_ok-pairs.ensures.pairs ∙ nothing_in c.in_ok-pairs.pairs.items (omega (arith, eqb-true (vec_len c.in_ok-pairs.pairs) 0 (sym c.if-is_empty.ensures), c.in_ok-pairs.pairs.ok.0)) in
-    omega (arith, c.in_ok-tell.ensures.trees, leaf_trees level.paths.baskets level.least c.args.rank none c.classes_are_conditional.ensures c.conditional_supports.ensures met c.classes_are_listed.ensures)
+    omega (arith, c.in_ok-tell_rank.ensures.trees, leaf_trees level.paths.baskets level.least c.args.rank none c.classes_are_conditional.ensures c.conditional_supports.ensures met c.classes_are_listed.ensures)
 
 pub class-returns-then-is_empty-clause-at_most : goal.class-returns-then-is_empty-clause-at_most
 class-returns-then-is_empty-clause-at_most g t c =
     let level = c.args.self.now in
     let met = met_by level.paths.baskets level.least c.args.rank c.support-support.result c.support-support.ensures c.requires.level.some c.if-support-self.false in
     let some = class_some level.paths.baskets level.least c.args.rank c.classes_are_listed.ensures met in
-    let most = c.in_ok-tell.ensures.at_most in
+    let most = c.in_ok-tell_rank.ensures.at_most in
     omega arith
 
 pub class-returns-in_err-inner-clause-at_most : goal.class-returns-in_err-inner-clause-at_most
@@ -100,7 +102,7 @@ class-returns-in_err-inner-clause-at_most g t c =
     let level = c.args.self.now in
     let met = met_by level.paths.baskets level.least c.args.rank c.support-support.result c.support-support.ensures c.requires.level.some c.if-support-self.false in
     let some = class_some level.paths.baskets level.least c.args.rank c.classes_are_listed.ensures met in
-    let most = c.in_ok-tell.ensures.at_most in
+    let most = c.in_ok-tell_rank.ensures.at_most in
     omega arith
 
 pub class-classes-requires : goal.class-classes-requires
@@ -108,15 +110,19 @@ class-classes-requires g t c κs within =
     let level = c.args.self.now in
     let below = c.in_ok-inner.ensures.below in
     let fewer = inner_has_fewer level c.args.rank c.in_ok-inner.inner below in
-    let told : Counted = record { set = c.in_ok-set.set; count = c.support-support.result } in (
+    let told : Counted = record { set = (with_item (get_or (items_of level) c.args.rank 0) level.suffix); count = c.support-support.result } in (
       omega (arith, c.decreases),
       (
         within,
         (
           inner_is_level level c.args.rank c.in_ok-inner.inner c.requires.level below c.conditional_supports.ensures (omega (arith, c.if-self-ge-DEPTH.false)),
           (
-            omega (arith, c.requires.few, c.in_ok-tell.ensures.trees, c.in_ok-inner.ensures.trees, ap length c.in_ok-tell.ensures.added, length-append c.args.found.now.sets (told ∷ [])),
-            c.in_ok-tell.ensures.going_on,
+            suffix_added c.in_ok-inner.inner c.args.found.now.sets c.tell_rank.new.found.sets told c.len-place.result c.len-place.ensures c.in_ok-tell_rank.ensures.added
+                c.in_ok-inner.ensures.place below.suffix,
+            (
+              omega (arith, c.requires.few, c.in_ok-tell_rank.ensures.trees, c.in_ok-inner.ensures.trees, ap length c.in_ok-tell_rank.ensures.added, length-append c.args.found.now.sets (told ∷ [])),
+              c.in_ok-tell_rank.ensures.going_on,
+            ),
           ),
         ),
       ),
@@ -129,8 +135,8 @@ class-returns-clause-listed g t c =
     let met = met_by level.paths.baskets level.least c.args.rank c.support-support.result c.support-support.ensures c.requires.level.some c.if-support-self.false in
     let below = c.in_ok-inner.ensures.below in
     on_ok_weaker c.classes.result
-    (class_grown level c.args.rank inner below c.classes_by_codings.ensures met c.args.found.now.sets _ c.classes.new.found.sets c.in_ok-set.set c.support-support.result
-    c.requires.level.rises c.in_ok-set.ensures c.support-support.ensures c.in_ok-tell.ensures.added)
+    (class_grown level c.args.rank inner below c.classes_by_codings.ensures met c.args.found.now.sets _ c.classes.new.found.sets (with_item (get_or (items_of level) c.args.rank 0) level.suffix) c.support-support.result
+    c.requires.level.rises refl c.support-support.ensures c.in_ok-tell_rank.ensures.added)
     c.classes.ensures.listed
 
 pub class-returns-clause-trees : goal.class-returns-clause-trees
@@ -140,7 +146,7 @@ class-returns-clause-trees g t c =
     let met = met_by level.paths.baskets level.least c.args.rank c.support-support.result c.support-support.ensures c.requires.level.some c.if-support-self.false in
     let below = c.in_ok-inner.ensures.below in
     let all = class_trees_are level c.args.rank inner c.requires.level below c.classes_by_codings.ensures met c.classes_are_listed.ensures c.conditional_supports.ensures in
-    on_ok_weaker c.classes.result (λ made. omega (arith, made, all, c.in_ok-inner.ensures.trees, c.in_ok-tell.ensures.trees)) c.classes.ensures.trees
+    on_ok_weaker c.classes.result (λ made. omega (arith, made, all, c.in_ok-inner.ensures.trees, c.in_ok-tell_rank.ensures.trees)) c.classes.ensures.trees
 
 pub class-returns-clause-too_many : goal.class-returns-clause-too_many
 class-returns-clause-too_many g t c = λ limit e.
@@ -150,7 +156,7 @@ class-returns-clause-too_many g t c = λ limit e.
     let below = c.in_ok-inner.ensures.below in
     let many = c.classes.ensures.too_many limit e in
     let less : missing inner + 1 ≡ missing level = omega (arith, below.depth, c.if-self-ge-DEPTH.false) in (
-      many.0 ∙ c.in_ok-tell.ensures.limit,
+      many.0 ∙ c.in_ok-tell_rank.ensures.limit,
       elim many.1 [
         | inl over ↦ inl over
         | inr deep ↦ inr (subst (HasSetOfSize (class_of level.paths.baskets (Count level.least) c.args.rank)) less
@@ -165,7 +171,7 @@ class-returns-clause-at_most g t c =
     let met = met_by level.paths.baskets level.least c.args.rank c.support-support.result c.support-support.ensures c.requires.level.some c.if-support-self.false in
     let below = c.in_ok-inner.ensures.below in
     let long = class_long level c.args.rank inner below c.classes_by_codings.ensures met c.lists_have_class_size.ensures in
-    let told = c.in_ok-tell.ensures.at_most in
+    let told = c.in_ok-tell_rank.ensures.at_most in
     let most = c.classes.ensures.at_most in
     omega arith
 
@@ -230,6 +236,25 @@ classes-returns-in_err-class-clause-at_most g t c =
     let long = ap length so_far.listed.3 ∙ length-append old (map named all) in
     let most = c.in_err-class.ensures.at_most in
     omega (arith, so_far.told, fit, long, length-map all named)
+
+pub classes-class-requires : goal.classes-class-requires
+classes-class-requires g t c κs within =
+    let level = c.args.self.now in
+    let so_far = c.loop-rank.invariant in
+    let classes = so_far.listed.0 in
+    let more = map (as_items (items_of level) level.suffix) (flat_map (λ (class : List Counted). class) classes) in (
+      omega (arith, c.decreases, c.loop-rank-test.true, c.ranks-rank-end.ensures),
+      (
+        within,
+        (
+          c.requires.level,
+          (
+            suffix_kept level c.args.found.now.sets more c.loop-rank.found.sets c.requires.stands so_far.listed.3,
+            (omega (arith, c.loop-rank-test.true, c.ranks-rank-end.ensures), (so_far.sums, (so_far.places, (so_far.few, so_far.going_on)))),
+          ),
+        ),
+      ),
+    )
 
 pub classes-loop-rank-preserved : goal.classes-loop-rank-preserved
 classes-loop-rank-preserved g t c =

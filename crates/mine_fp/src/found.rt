@@ -1,0 +1,67 @@
+//! Sets that were found.
+ghost use Rattle.std.specs.Prelude.{◌≡◌, ◌≤◌, ◌<◌, ◌+◌, ◌++◌, [], ◌∷◌, ℕ, Err, IsTrue, OnOk, false, length};
+ghost use Rattle.basket_core.specs.declared.fault.MineFault.TheVariants.{TooMany};
+ghost use Rattle.mine_fp.specs.Level.{IsChosen};
+
+use basket_core::{CountedSets, Itemset, MineFault, Tally};
+use std::alloc::Global;
+
+/// The sets that were found, and how many conditional trees were made for them.
+#[derive(Debug, Drop)]
+pub struct Found {
+    pub sets: CountedSets,
+    pub trees: u64,
+}
+
+/// Tells a frequent set to the tally, and adds it to those found.
+pub fn tell<T: Tally>(
+    set: Itemset,
+    count: u64,
+    found: &mut Found,
+    tally: &mut T,
+) -> Result<(), MineFault>
+    requires { T.is_over tally.old ≡ false }
+    ensures added { OnOk result (found.new.sets ≡ found.old.sets ++ record { set = set; count = count } ∷ []) }
+    ensures trees { found.new.trees ≡ found.old.trees }
+    ensures told { OnOk result (T.told_of tally.new ≡ T.told_of tally.old + 1) }
+    ensures going_on { OnOk result (T.is_over tally.new ≡ false) }
+    ensures too_many { (limit : ℕ) → result ≡ Err (TooMany limit) → (limit ≡ T.limit_of tally.old) × IsTrue (T.is_over tally.new) }
+    ensures at_most { T.told_of tally.new ≤ T.told_of tally.old + 1 }
+    ensures limit { T.limit_of tally.new ≡ T.limit_of tally.old }
+{
+    if !tally.tell() {
+        return Err(MineFault::TooMany {
+            limit: tally.limit(),
+        });
+    }
+    found.sets.push(set, count)?;
+    Ok(())
+}
+
+/// Tells a set that was found, with one more item and a count of its own.
+pub fn choose<T: Tally>(
+    alloc: Global,
+    at: usize,
+    item: u32,
+    count: u64,
+    found: &mut Found,
+    tally: &mut T,
+) -> Result<(), MineFault>
+    requires at { at < length found.old.sets }
+    requires going { T.is_over tally.old ≡ false }
+    ensures added { OnOk result (IsChosen at item count found.old.sets found.new.sets) }
+    ensures trees { found.new.trees ≡ found.old.trees }
+    ensures told { OnOk result (T.told_of tally.new ≡ T.told_of tally.old + 1) }
+    ensures going_on { OnOk result (T.is_over tally.new ≡ false) }
+    ensures too_many { (limit : ℕ) → result ≡ Err (TooMany limit) → (limit ≡ T.limit_of tally.old) × IsTrue (T.is_over tally.new) }
+    ensures at_most { T.told_of tally.new ≤ T.told_of tally.old + 1 }
+    ensures limit { T.limit_of tally.new ≡ T.limit_of tally.old }
+{
+    if !tally.tell() {
+        return Err(MineFault::TooMany {
+            limit: tally.limit(),
+        });
+    }
+    found.sets.push_longer(alloc, at, item, count)?;
+    Ok(())
+}
