@@ -1,21 +1,26 @@
 //! The items that sets are known to have.
-ghost use Rattle.std.specs.Prelude.{◌≡◌, ◌<◌, ◌*◌, ◌++◌, ◌^◌, [], IfOk, IfSome, IsTrue, ◌↔◌, OnOk, length};
+ghost use Rattle.std.specs.Prelude.{◌≡◌, ◌<◌, ◌≤◌, ◌*◌, ◌++◌, ◌^◌, [], IfSome, IsTrue, OnOk, length, map, slice_index_or};
 ghost use Rattle.basket_lists.specs.Known.{IsBitOf, IsLonger};
 ghost use Rattle.basket_lists.specs.Packed.{IsPacked, items_in, unpacked};
-ghost use Rattle.basket_sets.specs.Itemset.{IsRising};
+ghost use Rattle.basket_sets.specs.Itemset.{AllBelow, rising};
 
 use crate::packed::Packed;
-use basket_sets::Itemset;
+use basket_sets::{Itemset, is_rising};
 use std::alloc::{AllocError, Global};
 use std::marker::Model;
 
 /// How many items are known at most, each with a bit of its own.
 const MOST_ITEMS: usize = 120;
 
+/// How many places are kept, each by the low bits of its item.
+const PLACES: usize = 256;
+
 /// Up to 120 items in rising order. None are known where there are more.
 #[derive(Debug, Drop)]
 pub struct KnownItems {
     items: Vec<u32>,
+    /// Where an item may stand, by its low bits. Nothing is claimed of it: whoever asks looks there.
+    places: [u8; PLACES],
 }
 
 impl Model for KnownItems {
@@ -30,11 +35,15 @@ impl Model for KnownItems {
     ghost invariant = { λ known. IsRising known.items.items × (length known.items.items ≤ MOST_ITEMS) };
 }
 
-/// Whether each item is below the next.
-fn is_rising(items: &[u32]) -> bool
-    ensures { IsTrue result ↔ IsRising items.now }
+/// The place of each item by its low bits, or that of the last with these bits.
+fn places_of(items: &[u32]) -> [u8; PLACES]
+    requires { length items.now ≤ MOST_ITEMS }
 {
-    items.is_sorted_by(|item, next| item < next)
+    let mut places = [0u8; PLACES];
+    for (place, item) in items.iter().enumerate() {
+        places[*item as usize % PLACES] = place as u8;
+    }
+    places
 }
 
 impl KnownItems {
@@ -44,6 +53,7 @@ impl KnownItems {
     {
         KnownItems {
             items: Vec::new(alloc),
+            places: [0u8; PLACES],
         }
     }
 
@@ -57,7 +67,8 @@ impl KnownItems {
         if !is_rising(&items) {
             return Ok(KnownItems::none(alloc));
         }
-        Ok(KnownItems { items })
+        let places = places_of(&items);
+        Ok(KnownItems { items, places })
     }
 
     /// The greatest item, or 0.
@@ -76,10 +87,20 @@ impl KnownItems {
     fn bit_of(&self, item: u32) -> Option<u32>
         ensures { IfSome result (IsBitOf self.now item) }
     {
-        match self.items.binary_search(&item) {
-            Ok(place) => Some((self.items.len() - 1 - place) as u32),
-            Err(_) => None,
+        let place = self.place_of(item)?;
+        Some((self.items.len() - 1 - place) as u32)
+    }
+
+    /// Where an item stands, if it is known.
+    fn place_of(&self, item: u32) -> Option<usize>
+        ensures within { IfSome result (λ place. place < length self.now) }
+        ensures is { IfSome result (λ place. slice_index_or self.now place 0 ≡ item) }
+    {
+        let near = usize::from(self.places[item as usize % PLACES]);
+        if near < self.items.len() && self.items[near] == item {
+            return Some(near);
         }
+        self.items.binary_search(&item).ok()
     }
 
     /// A packed set with one more item and a count of its own, or none where the item isn't known, or
@@ -104,6 +125,24 @@ impl KnownItems {
         let mut packed = Packed::new(0, 0, count);
         for item in set.items() {
             packed = self.longer(&packed, *item, count)?;
+        }
+        Some(packed)
+    }
+
+    /// The set of the names of some numbers as bits, if they are known and no two are one. The name of
+    /// a number stands at its place in the list.
+    pub fn pack_renamed(&self, numbers: &Itemset, names: &[u32], count: u64) -> Option<Packed>
+        requires { AllBelow (length names.now) numbers.now }
+        ensures packed { IfSome result (IsPacked self.now) }
+        ensures same { IfSome result (λ packed. unpacked self.now packed
+            ≡ record { set = rising (map (λ number. slice_index_or names.now number 0) numbers.now); count = count }) }
+    {
+        let mut packed = Packed::new(0, 0, count);
+        let items = numbers.items();
+        let mut left = items.len();
+        while left > 0 {
+            left -= 1;
+            packed = self.longer(&packed, names[items[left] as usize], count)?;
         }
         Some(packed)
     }

@@ -9,4 +9,3 @@ mod packed;
 mod parts;
 
 pub use counted_sets::CountedSets;
-pub use keys::sort_by_words;

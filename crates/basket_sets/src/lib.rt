@@ -16,7 +16,7 @@ pub mod worked;
 pub use counted::Counted;
 pub use counts::count_items;
 pub use database::{Database, support};
-pub use itemset::{INLINE_ITEMS, Itemset};
+pub use itemset::{INLINE_ITEMS, Itemset, is_rising};
 pub use merge::merge_equal;
 pub use minimum::{Minimum, parse_minimum, parse_share};
 pub use order::report_order;

@@ -84,7 +84,7 @@ impl Found {
     {
         let mut decoded = CountedSets::new(alloc, coded.items())?;
         for (place, set) in self.sets.iter().enumerate() {
-            decoded.push(coded.decode(set.copied(alloc)?), self.counts[place])?;
+            decoded.push_renamed(alloc, set, coded.items(), self.counts[place])?;
         }
         Ok(decoded)
     }
