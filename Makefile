@@ -10,7 +10,7 @@ demo: $(PROGRAM)
 	$(PROGRAM) items --min 2 < examples/shop.dat
 	$(PROGRAM) sets --min 20% < examples/shop.dat
 
-# The crates that don't stand on one another are proved side by side.
+# The crates are proved one after another, each on all processors.
 $(PROGRAM): $(SOURCES)
 	tools/prove.py basket_cli
 	touch $@

@@ -1,6 +1,7 @@
 -- Lines of numbers.
 use Rattle.std.specs.Prelude.{ℕ, List, [], ◌∷◌, ◌++◌, codes, decimal}
 use Rattle.std.specs.List.{flat_map}
+use Rattle.basket_core.specs.Fraction.{Ratio}
 use Rattle.basket_sets.specs.declared.counted.Counted.{Counted}
 use Rattle.basket_rules.specs.declared.association.Rule.{Rule}
 use Rattle.basket_report.specs.Texts.{ratio_text}
@@ -15,13 +16,13 @@ abbrev pub set_line : Counted → List ℕ
 set_line counted = items_text counted.set ++ codes " (" ++ decimal counted.count ++ codes ")\n"
 
 -- the sides of a rule
-abbrev pub sides_text : Rule → List ℕ
-sides_text rule = items_text rule.left ++ codes " => " ++ items_text rule.right
+abbrev pub sides_text : List ℕ → List ℕ → List ℕ
+sides_text left right = items_text left ++ codes " => " ++ items_text right
 
 -- the confidence and the lift of a rule, with a space between
-abbrev pub ratios_text : Rule → List ℕ
-ratios_text rule = ratio_text rule.confidence ++ 32 ∷ ratio_text rule.lift
+abbrev pub ratios_text : Ratio → Ratio → List ℕ
+ratios_text confidence lift = ratio_text confidence ++ 32 ∷ ratio_text lift
 
 -- the line of a rule: its sides, a space, the count in parentheses, a space, the confidence, a space, the lift, a line feed
 abbrev pub rule_line : Rule → List ℕ
-rule_line rule = sides_text rule ++ codes " (" ++ decimal rule.count ++ codes ") " ++ ratios_text rule ++ 10 ∷ []
+rule_line rule = sides_text rule.left rule.right ++ codes " (" ++ decimal rule.count ++ codes ") " ++ ratios_text rule.confidence rule.lift ++ 10 ∷ []

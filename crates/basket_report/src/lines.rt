@@ -2,12 +2,13 @@
 ghost use Rattle.std.specs.Prelude.{◌≡◌, ◌++◌, [], IfOk, OnOk};
 ghost use Rattle.basket_report.specs.Lines.{items_text, ratios_text, rule_line, set_line, sides_text};
 ghost use Rattle.basket_report.specs.Report.{set_of};
+ghost use Rattle.basket_rules.specs.Met.{rule_from};
 
 use crate::beginning::Beginning;
 use crate::extent::Extent;
 use crate::texts::{Texts, put_fraction, put_number};
 use basket_core::{Counted, CountedSets};
-use basket_rules::Rule;
+use basket_rules::{Figures, Sides};
 use std::alloc::{AllocError, Global};
 use std::marker::Model;
 
@@ -88,14 +89,14 @@ impl Lines {
     }
 
     /// Adds the line of a rule.
-    pub fn put_rule(&mut self, rule: &Rule) -> Result<(), AllocError>
-        ensures { OnOk result (self.new ≡ self.old ++ rule_line rule.now) }
+    pub fn put_rule(&mut self, sides: &Sides, figures: &Figures) -> Result<(), AllocError>
+        ensures { OnOk result (self.new ≡ self.old ++ rule_line (rule_from sides.now figures.now)) }
     {
-        put_sides(&mut self.text, &self.texts, rule)?;
+        put_sides(&mut self.text, &self.texts, sides)?;
         self.text.extend_from_slice(b" (")?;
-        put_number(&mut self.text, rule.count)?;
+        put_number(&mut self.text, figures.count)?;
         self.text.extend_from_slice(b") ")?;
-        put_ratios(&mut self.text, rule)?;
+        put_ratios(&mut self.text, figures)?;
         self.text.push(b'\n')?;
         Ok(())
     }
@@ -122,18 +123,18 @@ fn put_items(report: &mut Vec<u8>, texts: &Texts, items: &[u32]) -> Result<(), A
     Ok(())
 }
 
-fn put_sides(report: &mut Vec<u8>, texts: &Texts, rule: &Rule) -> Result<(), AllocError>
-    ensures { OnOk result (report.new.items ≡ report.old.items ++ sides_text rule.now) }
+fn put_sides(report: &mut Vec<u8>, texts: &Texts, sides: &Sides) -> Result<(), AllocError>
+    ensures { OnOk result (report.new.items ≡ report.old.items ++ sides_text sides.now.left.items sides.now.right.items) }
 {
-    put_items(report, texts, rule.left.items())?;
+    put_items(report, texts, &sides.left)?;
     report.extend_from_slice(b" => ")?;
-    put_items(report, texts, rule.right.items())
+    put_items(report, texts, &sides.right)
 }
 
-fn put_ratios(report: &mut Vec<u8>, rule: &Rule) -> Result<(), AllocError>
-    ensures { OnOk result (report.new.items ≡ report.old.items ++ ratios_text rule.now) }
+fn put_ratios(report: &mut Vec<u8>, figures: &Figures) -> Result<(), AllocError>
+    ensures { OnOk result (report.new.items ≡ report.old.items ++ ratios_text figures.now.confidence figures.now.lift) }
 {
-    put_fraction(report, &rule.confidence)?;
+    put_fraction(report, &figures.confidence)?;
     report.push(b' ')?;
-    put_fraction(report, &rule.lift)
+    put_fraction(report, &figures.lift)
 }

@@ -1,13 +1,14 @@
 //! A report that is being written.
-ghost use Rattle.std.specs.Prelude.{◌≡◌, ◌++◌, [], ℕ, List, IfOk, OnOk};
+ghost use Rattle.std.specs.Prelude.{◌≡◌, ◌<◌, ◌++◌, [], ℕ, List, IfOk, OnOk, length};
+ghost use Rattle.basket_rules.specs.Met.{rule_from, rules_in};
 ghost use Rattle.basket_report.specs.Report.{HasSoFar, rule_text, rules_report_of, set_of, set_text};
 ghost use Rattle.basket_report.specs.Style.{Wording, wording_of};
 
 use crate::lines::Lines;
 use crate::style::Style;
 use crate::table::Table;
-use basket_core::{Counted, CountedSets};
-use basket_rules::Rule;
+use basket_core::{Counted, CountedSets, Unpacked};
+use basket_rules::{Figures, Lookups, MetRule, Sides};
 use std::alloc::{AllocError, Global};
 
 /// A report so far.
@@ -60,23 +61,31 @@ impl<'a> Report<'a> {
     }
 
     /// Adds a rule.
-    pub fn put_rule(&mut self, rule: &Rule) -> Result<(), AllocError>
+    pub fn put_rule(&mut self, sides: &Sides, figures: &Figures) -> Result<(), AllocError>
         ensures { (wording : Wording) (text : List ℕ) → HasSoFar self.old wording text
-            → OnOk result (HasSoFar self.new wording (text ++ rule_text wording rule.now)) }
+            → OnOk result (HasSoFar self.new wording (text ++ rule_text wording (rule_from sides.now figures.now))) }
     {
         match self {
-            Report::Lines(lines) => lines.put_rule(rule),
-            Report::Table(table) => table.put_rule(rule),
+            Report::Lines(lines) => lines.put_rule(sides, figures),
+            Report::Table(table) => table.put_rule(sides, figures),
         }
     }
 
-    /// Adds rules.
-    pub fn put_rules(&mut self, rules: &[Rule]) -> Result<(), AllocError>
+    /// Adds the rules with the set at the place as their union.
+    pub fn put_rules(
+        &mut self,
+        frequent: &Unpacked,
+        number: usize,
+        met: &[MetRule],
+        lookups: &mut Lookups,
+    ) -> Result<(), AllocError>
+        requires { number < length frequent.now.sets }
         ensures { (wording : Wording) (text : List ℕ) → HasSoFar self.old wording text
-            → OnOk result (HasSoFar self.new wording (text ++ rules_report_of wording rules.now)) }
+            → OnOk result (HasSoFar self.new wording (text ++ rules_report_of wording (rules_in frequent.now number met.now))) }
     {
-        for rule in rules {
-            self.put_rule(rule)?;
+        for rule in met {
+            let figures = lookups.rule(frequent, number, rule)?;
+            self.put_rule(&lookups.sides, &figures)?;
         }
         Ok(())
     }

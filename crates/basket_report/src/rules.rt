@@ -6,7 +6,7 @@ ghost use Rattle.basket_report.specs.Style.{wording_of};
 use crate::report::Report;
 use crate::style::Style;
 use basket_core::Unpacked;
-use basket_rules::{Lookups, rules_with_lookups};
+use basket_rules::{Lookups, met_rules};
 use std::alloc::{AllocError, Global};
 
 /// The report of the rules that meet the confidence, a numerator and a denominator. The rules of one
@@ -22,8 +22,8 @@ pub fn rules_report(
     let mut lookups = Lookups::of(alloc, frequent.sets())?;
     let mut report = Report::for_rules(alloc, style, frequent.sets())?;
     for number in 0..frequent.sets().len() {
-        let rules = rules_with_lookups(alloc, frequent, number, confidence, &mut lookups)?;
-        report.put_rules(&rules)?;
+        let met = met_rules(alloc, frequent, number, confidence, &mut lookups)?;
+        report.put_rules(frequent, number, &met, &mut lookups)?;
     }
     report.into_text()
 }

@@ -3,12 +3,13 @@ ghost use Rattle.std.specs.Prelude.{◌≡◌, ◌≢◌, ◌++◌, [], ◌∷�
 ghost use Rattle.csv.specs.Writing.{is_blank, row_text};
 ghost use Rattle.basket_report.specs.Report.{set_of};
 ghost use Rattle.basket_report.specs.Texts.{ratio_text};
+ghost use Rattle.basket_rules.specs.Met.{rule_from};
 ghost use Rattle.basket_report.specs.Table.{HasFields, HasText, names_of, rule_record, set_record, writer_of};
 
 use crate::texts::{put_fraction, put_number};
 use basket_core::Fraction;
 use basket_csv::Names;
-use basket_rules::Rule;
+use basket_rules::{Figures, Sides};
 use csv::{Writer, WriterBuilder};
 use std::alloc::{AllocError, Global};
 
@@ -47,21 +48,21 @@ impl<'a> Table<'a> {
     }
 
     /// Adds the record of a rule.
-    pub fn put_rule(&mut self, rule: &Rule) -> Result<(), AllocError>
+    pub fn put_rule(&mut self, sides: &Sides, figures: &Figures) -> Result<(), AllocError>
         ensures { (separator : ℕ) (names : List (List ℕ)) (text : List ℕ) → HasText self.old separator names text
-            → OnOk result (HasText self.new separator names (text ++ rule_record separator names rule.now)) }
+            → OnOk result (HasText self.new separator names (text ++ rule_record separator names (rule_from sides.now figures.now))) }
     {
         let Table {
             names,
             writer,
             field,
         } = self;
-        put_number_field(writer, field, rule.count)?;
-        put_fraction_field(writer, field, &rule.confidence)?;
-        put_fraction_field(writer, field, &rule.lift)?;
-        put_number_field(writer, field, rule.left.len() as u64)?;
-        put_names(writer, names, rule.left.items())?;
-        put_names(writer, names, rule.right.items())?;
+        put_number_field(writer, field, figures.count)?;
+        put_fraction_field(writer, field, &figures.confidence)?;
+        put_fraction_field(writer, field, &figures.lift)?;
+        put_number_field(writer, field, sides.left.len() as u64)?;
+        put_names(writer, names, &sides.left)?;
+        put_names(writer, names, &sides.right)?;
         end_record(writer)
     }
 

@@ -11,7 +11,7 @@ use Rattle.std.proofs.lemmas.Nat.Bits.{bit_at-lt, bit_at-pow_other, bit_at-pow_s
 use Rattle.basket_sets.specs.Itemset.{IsRising, has}
 use Rattle.basket_sets.specs.Subsets.{subsets_of_size}
 use Rattle.basket_sets.proofs.theory.Members.{Member, Member-append, Member-append_left, Member-append_right, Member-filter, Member-from_filter, Member-map, Member-from_map}
-use Rattle.basket_sets.proofs.theory.Rising.{has-from_Member, Member-from_has, first_below, rest_rises}
+use Rattle.basket_sets.proofs.theory.Rising.{has-from_Member, Member-from_has, cons_rises, first_below, rest_rises}
 use Rattle.basket_rules.specs.declared.rights.Right.{Right}
 use Rattle.basket_rules.specs.declared.rights.TheConstants.{MOST_PLACES}
 use Rattle.basket_rules.specs.Rights.{chosen, chosen_from, has_place, longer, longer_by, no_places, side_of, with_place}
@@ -62,6 +62,19 @@ Member-chosen test place (x ∷ items) item m = at (Member-chosen test (suc plac
     at rest true (inl e) = inl e
     at rest true (inr n) = inr (rest n)
     at rest false n = inr (rest n)
+
+-- they rise where the list does
+pub chosen_rises : (test : ℕ → Bool) (place : ℕ) (items : List ℕ) → IsRising items → IsRising (chosen_from test place items)
+chosen_rises test place [] up = up
+chosen_rises test place (x ∷ items) up =
+    let rest = chosen_from test (suc place) items in
+    let rises = chosen_rises test (suc place) items (rest_rises x items up) in
+    elim (cases_Bool (test place)) [
+      | inl e ↦
+          subst (λ b. IsRising (cond b (x ∷ rest) rest)) (sym e)
+          (cons_rises x rest (λ item m. first_below x items up item (Member-chosen test (suc place) items item m)) rises)
+      | inr e ↦ subst (λ b. IsRising (cond b (x ∷ rest) rest)) (sym e) rises
+    ]
 
 -- the more places pass, the more items
 pub chosen_grows : (less more : ℕ → Bool) (place : ℕ) (items : List ℕ) (item : ℕ) → ((i : ℕ) → less i ≡ true → more i ≡ true)

@@ -1,5 +1,5 @@
 -- Rules: their left sides are listed, and their confidence falls as the right side grows.
-use Rattle.std.proofs.Common.{leb, ◌≡◌, ◌≢◌, ℕ, ◌*◌, ◌<◌, ◌≤◌, true, false, not, cond, List, [], length, Some, None, sym, ap, ◌∙◌, subst, inl, inr, arith}
+use Rattle.std.proofs.Common.{leb, ◌≡◌, ◌≢◌, ℕ, ◌*◌, ◌<◌, ◌≤◌, true, false, not, cond, List, [], length, Option, Some, None, IfSome, IfNone, ◌⊎◌, refl, sym, ap, ◌∙◌, subst, inl, inr, arith}
 use Rattle.std.proofs.lemmas.Bool.{cases_Bool, leb-true, le-leb, true≢false, false_from_ne_true}
 use Rattle.std.proofs.lemmas.List.Kept.{IsStrictlySortedBy-filter}
 use Rattle.std.specs.Ordering.{nat_cmp}
@@ -9,13 +9,17 @@ use Rattle.basket_sets.specs.declared.weighted.Weighted.{Weighted}
 use Rattle.basket_sets.specs.declared.counted.Counted.{Counted}
 use Rattle.basket_sets.specs.declared.minimum.Minimum.{Minimum}
 use Rattle.basket_sets.specs.Frequent.{is_frequent, counted, IsNonemptySet}
-use Rattle.basket_sets.specs.Itemset.{IsRising, has, contains, rising}
+use Rattle.basket_sets.specs.Itemset.{IsRising, has, contains}
 use Rattle.basket_sets.specs.Support.{support_of, total_of}
 use Rattle.basket_sets.proofs.theory.Members.{Member, Member-filter, Member-from_filter}
-use Rattle.basket_sets.proofs.theory.Rising.{has_each, contains_each, has-from_Member, Member-from_has, length-le-contains, rising-rising}
+use Rattle.basket_sets.proofs.theory.Rising.{has_each, contains_each, has-from_Member, Member-from_has, length-le-contains}
 use Rattle.basket_sets.proofs.theory.Support.{support_falls, subsets_are_frequent, at_least_one}
 use Rattle.basket_rules.specs.declared.association.Rule.{Rule}
+use Rattle.basket_rules.specs.declared.met.MetRule.{MetRule}
+use Rattle.basket_rules.specs.declared.rights.Right.{Right}
 use Rattle.basket_rules.specs.Listed.{IsListingOf, set_at, count_at}
+use Rattle.basket_rules.specs.Met.{found_rule, rule_in}
+use Rattle.basket_rules.specs.Rights.{side_of}
 use Rattle.basket_rules.specs.Rules.{difference, is_confident, rule_of, ConfidenceFalls, IsCountIn, IsRightSide, IsRuleFor}
 use Rattle.basket_rules.proofs.CondensedLemmas.{not_true, true_not, lists, is_sorted, entry}
 use Rattle.basket_rules.proofs.SearchLemmas.{set_is}
@@ -115,9 +119,16 @@ module _ (listing : Listing) (number : ℕ) (within : number < length listing.se
       sym (ap (λ b. cond b (Some (rule_of baskets (set_at listing.sets number) right)) None)
       ((λ i. leb (confidence.0 * sym (left_count_is baskets minimum is side left_count left_is) i) (sym (union_count_is baskets minimum is side) i * confidence.1)) ∙ test))
 
+  pub some_counts : (left_count right_count : ℕ) → IsCountIn listing.sets (difference (set_at listing.sets number) right) left_count → IsCountIn listing.sets right right_count
+      → (baskets : List Weighted) (minimum : Minimum) → IsListingOf baskets minimum listing → IsRightSide listing number right → (1 ≤ left_count) × (1 ≤ right_count)
+  some_counts left_count right_count left_is right_is baskets minimum is side = (
+    subst (λ n. 1 ≤ n) (sym (left_count_is baskets minimum is side left_count left_is)) (left_some baskets minimum is side),
+    subst (λ n. 1 ≤ n) (sym (right_count_is baskets minimum is side right_count right_is)) (right_some baskets minimum is side),
+  )
+
   pub a_rule : (confidence : ℕ × ℕ) (left_count right_count : ℕ) (rule : Rule) → IsCountIn listing.sets (difference (set_at listing.sets number) right) left_count → IsCountIn listing.sets right right_count
       → leb (confidence.0 * left_count) (count_at listing.sets number * confidence.1) ≡ true
-      → rule.left ≡ rising (difference (set_at listing.sets number) right) → rule.right ≡ rising right → rule.count ≡ count_at listing.sets number
+      → rule.left ≡ difference (set_at listing.sets number) right → rule.right ≡ right → rule.count ≡ count_at listing.sets number
       → (1 ≤ left_count → rule.confidence ≡ lowest (count_at listing.sets number) left_count)
       → (1 ≤ left_count * right_count → rule.lift ≡ lowest (count_at listing.sets number * listing.total) (left_count * right_count))
       → IsRuleFor listing confidence number right (Some rule)
@@ -136,23 +147,32 @@ module _ (listing : Listing) (number : ℕ) (within : number < length listing.se
       passes : is_confident baskets confidence (set_at listing.sets number) right ≡ true
       passes = (λ i. leb (confidence.0 * sym l i) (sym u i * confidence.1)) ∙ test
 
-      left : rule.left ≡ difference (set_at listing.sets number) right
-      left = e_left ∙ rising-rising (difference (set_at listing.sets number) right) (difference-rises (set_at listing.sets number) right (rises baskets minimum is side))
-
-      some : 1 ≤ left_count
-      some = subst (λ n. 1 ≤ n) (sym l) (left_some baskets minimum is side)
-
-      both : 1 ≤ left_count * right_count
-      both = product left_count right_count some (subst (λ n. 1 ≤ n) (sym r) (right_some baskets minimum is side))
-
-      right_is_side : rule.right ≡ right
-      right_is_side = e_right ∙ rising-rising right side.0.0
+      some : (1 ≤ left_count) × (1 ≤ right_count)
+      some = some_counts left_count right_count left_is right_is baskets minimum is side
 
       share : rule.confidence ≡ lowest (support_of baskets (set_at listing.sets number)) (support_of baskets (difference (set_at listing.sets number) right))
-      share = e_confidence some ∙ (λ i. lowest (u i) (l i))
+      share = e_confidence some.0 ∙ (λ i. lowest (u i) (l i))
 
       lift : rule.lift ≡ lowest (support_of baskets (set_at listing.sets number) * total_of baskets) (support_of baskets (difference (set_at listing.sets number) right) * support_of baskets right)
-      lift = e_lift both ∙ (λ i. lowest (u i * is.total i) (l i * r i))
+      lift = e_lift (product left_count right_count some.0 some.1) ∙ (λ i. lowest (u i * is.total i) (l i * r i))
 
       same : rule ≡ rule_of baskets (set_at listing.sets number) right
-      same = λ i. record { left = left i; right = right_is_side i; count = (e_count ∙ u) i; confidence = share i; lift = lift i }
+      same = λ i. record { left = e_left i; right = e_right i; count = (e_count ∙ u) i; confidence = share i; lift = lift i }
+
+-- the rule that is found for a right side, with the counts of both sides
+pub a_found_rule : (listing : Listing) (number : ℕ) → number < length listing.sets → (right : Right) (confidence : ℕ × ℕ) (left_count right_count : ℕ) (found : Option MetRule)
+    → IsCountIn listing.sets (difference (set_at listing.sets number) (side_of (set_at listing.sets number) right)) left_count
+    → IsCountIn listing.sets (side_of (set_at listing.sets number) right) right_count
+    → leb (confidence.0 * left_count) (count_at listing.sets number * confidence.1) ≡ true
+    → IfSome found (λ met. (met.right ≡ right) × (met.left_count ≡ left_count) × (met.right_count ≡ right_count))
+    → IfNone found ((left_count ≡ 0) ⊎ (right_count ≡ 0))
+    → IsRuleFor listing confidence number (side_of (set_at listing.sets number) right) (found_rule listing number found)
+a_found_rule listing number within right confidence left_count right_count (Some met) left_is right_is test some none =
+    let union = set_at listing.sets number in
+    let count = count_at listing.sets number in
+    a_rule listing number within (side_of union right) confidence left_count right_count (rule_in listing number met) left_is right_is test
+    (ap (λ r. difference union (side_of union r)) some.0) (ap (side_of union) some.0) refl
+    (λ _. ap (lowest count) some.1) (λ _. λ i. lowest (count * listing.total) (some.1 i * some.2 i))
+a_found_rule listing number within right confidence left_count right_count None left_is right_is test some none = λ baskets minimum is side.
+    let counts = some_counts listing number within (side_of (set_at listing.sets number) right) left_count right_count left_is right_is baskets minimum is side in
+    elim none [ inl e ↦ absurd (omega (arith, counts.0, e)) | inr e ↦ absurd (omega (arith, counts.1, e)) ]

@@ -1,4 +1,5 @@
 pub mod Listed
+pub mod Met
 pub mod Search
 pub mod Subset
 pub mod Tree

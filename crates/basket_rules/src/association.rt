@@ -1,14 +1,15 @@
 //! Association rules (Agrawal and Srikant 1994).
-ghost use Rattle.std.specs.Prelude.{◌≡◌, ◌≤◌, ◌<◌, ◌-◌, ◌*◌, IfOk, length, nat_le};
-ghost use Rattle.basket_core.specs.Fraction.{lowest};
+ghost use Rattle.std.specs.Prelude.{◌≡◌, ◌<◌, ◌-◌, ◌*◌, ◌++◌, IfOk, OnOk, length, nat_le};
+ghost use Rattle.basket_sets.specs.Itemset.{IsRising};
 ghost use Rattle.basket_rules.specs.Listed.{set_at};
+ghost use Rattle.basket_rules.specs.Met.{found_rule, rule_from, rules_in};
 ghost use Rattle.basket_rules.specs.Rights.{side_of};
 ghost use Rattle.basket_rules.specs.Rules.{KeepsConfident, AreRules, AreRulesWith, IsCountIn, IsRuleFor};
 
-use crate::fractions::Fractions;
-use crate::lookups::Lookups;
+use crate::lookups::{Figures, Lookups};
+use crate::met::MetRule;
 use crate::places::Places;
-use crate::rights::{MOST_PLACES, Right, longer_rights};
+use crate::rights::{MOST_PLACES, Right, Sides, longer_rights};
 use crate::search::find;
 use basket_core::{Counted, Fraction, Itemset, Unpacked};
 use std::alloc::{AllocError, Global};
@@ -39,8 +40,8 @@ pub fn rules(
     let mut lookups = Lookups::of(alloc, frequent.sets())?;
     let mut rules = Vec::new(alloc);
     for number in 0..frequent.sets().len() {
-        let mut more = rules_with_lookups(alloc, frequent, number, confidence, &mut lookups)?;
-        rules.append(&mut more)?;
+        let met = met_rules(alloc, frequent, number, confidence, &mut lookups)?;
+        add_rules(alloc, frequent, number, &met, &mut lookups, &mut rules)?;
     }
     Ok(rules)
 }
@@ -56,20 +57,58 @@ pub fn rules_with(
     ensures { IfOk result (λ rules. AreRulesWith frequent.now confidence number rules.items) }
 {
     let mut lookups = Lookups::none(alloc);
-    rules_with_lookups(alloc, frequent, number, confidence, &mut lookups)
+    let met = met_rules(alloc, frequent, number, confidence, &mut lookups)?;
+    let mut rules = Vec::with_capacity(alloc, met.len())?;
+    add_rules(alloc, frequent, number, &met, &mut lookups, &mut rules)?;
+    Ok(rules)
 }
 
-/// The same for one union after another. Right sides go level by level: those of one more item are
-/// the ones that met the confidence, each with an item before its first.
-pub fn rules_with_lookups(
+/// Adds the rules with the set at the place as their union.
+fn add_rules(
+    alloc: Global,
+    frequent: &Unpacked,
+    number: usize,
+    met: &[MetRule],
+    lookups: &mut Lookups,
+    rules: &mut Vec<Rule>,
+) -> Result<(), AllocError>
+    requires { number < length frequent.now.sets }
+    ensures { OnOk result (rules.new.items ≡ rules.old.items ++ rules_in frequent.now number met.now) }
+{
+    for rule in met {
+        let figures = lookups.rule(frequent, number, rule)?;
+        rules.push(rule_of_sides(alloc, &lookups.sides, &figures)?)?;
+    }
+    Ok(())
+}
+
+/// The rule with these sides and figures.
+fn rule_of_sides(alloc: Global, sides: &Sides, figures: &Figures) -> Result<Rule, AllocError>
+    requires left { IsRising sides.now.left.items }
+    requires right { IsRising sides.now.right.items }
+    ensures { IfOk result (λ rule. rule ≡ rule_from sides.now figures.now) }
+{
+    Ok(Rule {
+        left: Itemset::from_items(alloc, &sides.left)?,
+        right: Itemset::from_items(alloc, &sides.right)?,
+        count: figures.count,
+        confidence: figures.confidence,
+        lift: figures.lift,
+    })
+}
+
+/// Those of the rules whose union is the set at the place, without their items. Right sides go level
+/// by level: those of one more item are the ones that met the confidence, each with an item before
+/// its first.
+pub fn met_rules(
     alloc: Global,
     frequent: &Unpacked,
     number: usize,
     confidence: (u32, u32),
     lookups: &mut Lookups,
-) -> Result<Vec<Rule>, AllocError>
+) -> Result<Vec<MetRule>, AllocError>
     requires { number < length frequent.now.sets }
-    ensures { IfOk result (λ rules. AreRulesWith frequent.now confidence number rules.items) }
+    ensures { IfOk result (λ rules. AreRulesWith frequent.now confidence number (rules_in frequent.now number rules.items)) }
 {
     let mut rules = Vec::new(alloc);
     let count = frequent.sets()[number].set.len();
@@ -102,15 +141,15 @@ fn keep_confident(
     confidence: (u32, u32),
     tried: &[Right],
     lookups: &mut Lookups,
-    rules: &mut Vec<Rule>,
+    rules: &mut Vec<MetRule>,
 ) -> Result<Vec<Right>, AllocError>
-    requires listed { number < length frequent.now.sets }
-    requires few { length (set_at frequent.now.sets number) ≤ MOST_PLACES }
-    ensures { IfOk result (λ met. KeepsConfident frequent.now confidence number tried.now met.items rules.old.items rules.new.items) }
+    requires { number < length frequent.now.sets }
+    ensures { IfOk result (λ met. KeepsConfident frequent.now confidence number tried.now met.items
+        (rules_in frequent.now number rules.old.items) (rules_in frequent.now number rules.new.items)) }
 {
     let mut met = Vec::with_capacity(alloc, tried.len())?;
     for right in tried {
-        if let Some(rule) = rule_for(alloc, frequent, number, confidence, *right, lookups)? {
+        if let Some(rule) = rule_for(frequent, number, confidence, *right, lookups)? {
             rules.push(rule)?;
             met.push(*right)?;
         }
@@ -121,38 +160,25 @@ fn keep_confident(
 /// The rule whose sides make the set at the place, with this right side, where it meets the
 /// confidence.
 fn rule_for(
-    alloc: Global,
     frequent: &Unpacked,
     number: usize,
     confidence: (u32, u32),
     right: Right,
     lookups: &mut Lookups,
-) -> Result<Option<Rule>, AllocError>
-    requires listed { number < length frequent.now.sets }
-    requires few { length (set_at frequent.now.sets number) ≤ MOST_PLACES }
-    ensures { IfOk result (λ found. IsRuleFor frequent.now confidence number (side_of (set_at frequent.now.sets number) right) found) }
+) -> Result<Option<MetRule>, AllocError>
+    requires { number < length frequent.now.sets }
+    ensures { IfOk result (λ found. IsRuleFor frequent.now confidence number (side_of (set_at frequent.now.sets number) right) (found_rule frequent.now number found)) }
 {
     let sets = frequent.sets();
     let union = &sets[number];
-    let count = union.count;
-    let Lookups {
-        places,
-        fractions,
-        sides,
-    } = lookups;
+    let Lookups { places, sides, .. } = lookups;
     sides.fill(union.set.items(), right)?;
     let left_count = count_of(sets, places, &sides.left);
-    if !meets(confidence, count, left_count) {
+    if !meets(confidence, union.count, left_count) {
         return Ok(None);
     }
     let right_count = count_of(sets, places, &sides.right);
-    Ok(Some(Rule {
-        left: Itemset::from_items(alloc, &sides.left)?,
-        right: Itemset::from_items(alloc, &sides.right)?,
-        count,
-        confidence: ratio(fractions, u128::from(count), u128::from(left_count)),
-        lift: lift(fractions, count, frequent.total(), left_count, right_count),
-    }))
+    Ok(MetRule::new(right, left_count, right_count))
 }
 
 /// Whether a count is at least such a share of that of the left side.
@@ -163,23 +189,6 @@ fn meets(confidence: (u32, u32), count: u64, left_count: u64) -> bool
         <= u128::from(count) * u128::from(confidence.1)
 }
 
-/// The lift of a rule, by the counts of its union, of all baskets and of its sides.
-fn lift(
-    fractions: &mut Fractions,
-    count: u64,
-    total: u64,
-    left_count: u64,
-    right_count: u64,
-) -> Fraction
-    ensures { 1 ≤ left_count * right_count → result ≡ lowest (count * total) (left_count * right_count) }
-{
-    ratio(
-        fractions,
-        u128::from(count) * u128::from(total),
-        u128::from(left_count) * u128::from(right_count),
-    )
-}
-
 /// The count of the set with these items, or 0 where the list doesn't have it.
 fn count_of(sets: &[Counted], places: &Places, items: &[u32]) -> u64
     ensures { IsCountIn sets.now items.now result }
@@ -188,11 +197,4 @@ fn count_of(sets: &[Counted], places: &Places, items: &[u32]) -> u64
         Ok(at) => sets[at].count,
         Err(_) => 0,
     }
-}
-
-/// The fraction in lowest terms. A support of a frequent set is at least 1.
-fn ratio(fractions: &mut Fractions, numerator: u128, denominator: u128) -> Fraction
-    ensures { 1 ≤ denominator → result ≡ lowest numerator denominator }
-{
-    fractions.reduced(numerator, denominator.max(1))
 }

@@ -7,12 +7,15 @@ mod condensed;
 mod fractions;
 pub mod laws;
 mod lookups;
+mod met;
 mod places;
 mod rights;
 mod search;
 mod tree;
 pub mod worked;
 
-pub use association::{Rule, rules, rules_with, rules_with_lookups};
+pub use association::{Rule, met_rules, rules, rules_with};
 pub use condensed::{closed, maximal};
-pub use lookups::Lookups;
+pub use lookups::{Figures, Lookups};
+pub use met::MetRule;
+pub use rights::Sides;

@@ -35,14 +35,6 @@ impl Right {
             first: place,
         }
     }
-
-    /// Whether it has the place.
-    fn has(&self, place: usize) -> bool
-        requires { place < MOST_PLACES }
-        ensures { result ≡ has_place self.now.places place }
-    {
-        (self.places >> place) % 2 == 1
-    }
 }
 
 /// The right sides with a place more before their first, in report order where these are.
@@ -87,19 +79,20 @@ impl Sides {
     }
 
     /// Makes `right` the items of the union at the places of a right side, and `left` the others.
-    pub fn fill(&mut self, union: &[u32], of: Right) -> Result<(), AllocError>
-        requires { length union.now ≤ MOST_PLACES }
+    pub(crate) fn fill(&mut self, union: &[u32], of: Right) -> Result<(), AllocError>
         ensures left { OnOk result (self.new.left.items ≡ chosen (λ place. not (has_place of.places place)) union.now) }
         ensures right { OnOk result (self.new.right.items ≡ chosen (has_place of.places) union.now) }
     {
         self.left.clear();
         self.right.clear();
-        for (place, item) in union.iter().enumerate() {
-            if of.has(place) {
+        let mut places = of.places;
+        for item in union {
+            if places % 2 == 1 {
                 self.right.push(*item)?;
             } else {
                 self.left.push(*item)?;
             }
+            places /= 2;
         }
         Ok(())
     }

@@ -1,5 +1,6 @@
 use Rattle.std.proofs.Common.{◌<◌, ◌≤◌, ◌++◌, length, subst, sym}
 use Rattle.std.proofs.lemmas.Result.{IfOk-weaker}
+use Rattle.basket_rules.specs.Met.{rules_in}
 use Rattle.basket_report.specs.Rules.{ReportsRules}
 use Rattle.basket_report.specs.Report.{HasSoFar, rules_report_of}
 use Rattle.basket_report.specs.Style.{wording_of}
@@ -11,11 +12,12 @@ loop-number-preserved c =
     let wording = wording_of c.args.style in
     let listing = c.args.frequent.now in
     let number = c.loop-number.number in
-    let rules = c.in_ok-rules.rules.items in
+    let met = c.in_ok-met.met.items in
+    let rules = rules_in listing number met in
     let (text, so, reports) = c.loop-number.invariant in
     let below : number < length listing.sets = subst (λ l. number < length l) c.sets-number-end.ensures c.loop-number-test.true in
-    let added = subst (λ r. HasSoFar c.put_rules.new.self wording (text ++ rules_report_of wording r)) c.deref.ensures.value (c.in_ok-put_rules.ensures wording text so) in
-    (text ++ rules_report_of wording rules, added, more_rules wording listing c.args.confidence number text rules below reports c.in_ok-rules.ensures)
+    let added = subst (λ r. HasSoFar c.put_rules.new.self wording (text ++ rules_report_of wording (rules_in listing number r))) c.deref.ensures.value (c.in_ok-put_rules.ensures wording text so) in
+    (text ++ rules_report_of wording rules, added, more_rules wording listing c.args.confidence number text rules below reports c.in_ok-met.ensures)
 
 pub returns : goal.returns
 returns c =

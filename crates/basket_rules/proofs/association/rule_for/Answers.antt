@@ -1,14 +1,13 @@
-use Rattle.std.proofs.Common.{leb, ◌≡◌, ◌≤◌, ◌*◌, ◌<◌, length, sym, ap, ◌∙◌, subst}
+use Rattle.std.proofs.Common.{leb, ◌≡◌, ◌*◌, ◌<◌, length, sym, ap, ◌∙◌, subst}
 use Rattle.std.proofs.lemmas.List.{get_or-map}
-use Rattle.basket_core.specs.Fraction.{lowest}
 use Rattle.basket_sets.specs.declared.counted.Counted.{Counted}
-use Rattle.basket_sets.specs.Itemset.{IsRising, rising}
+use Rattle.basket_sets.specs.Itemset.{IsRising}
 use Rattle.basket_rules.specs.Listed.{set_at, count_at}
 use Rattle.basket_rules.specs.Rights.{has_place, side_of}
 use Rattle.basket_rules.specs.Rules.{difference, IsCountIn}
 use Rattle.basket_rules.proofs.SearchLemmas.{set_is}
 use Rattle.basket_rules.proofs.RightLemmas.{others_are}
-use Rattle.basket_rules.proofs.RuleLemmas.{no_rule, a_rule}
+use Rattle.basket_rules.proofs.RuleLemmas.{no_rule, a_found_rule}
 use Rattle.basket_rules.proofs.association.rule_for.Goals as goal
 
 pub returns-then-not-meets : goal.returns-then-not-meets
@@ -17,7 +16,7 @@ returns-then-not-meets c =
     let number = c.args.number in
     let list = c.sets-sets.result.now in
     let same : list ≡ listing.sets = c.sets-sets.ensures in
-    let below : number < length list = subst (λ l. number < length l) (sym same) c.requires.listed in
+    let below : number < length list = subst (λ l. number < length l) (sym same) c.requires in
     let entry = c.index-sets-number.result in
     let set : set_at listing.sets number ≡ entry.set = ap (λ l. set_at l number) (sym same) ∙ set_is list number entry below ∙ ap (λ (x : Counted). x.set) (sym c.index-sets-number.is) in
     let counted : count_at listing.sets number ≡ entry.count =
@@ -33,7 +32,7 @@ returns-then-not-meets c =
     subst (λ l. IsCountIn l rest left_count) same (subst (λ l. IsCountIn list l left_count) left c.count_of-left_count.ensures) in
     let test : c.meets.result ≡ leb (c.args.confidence.0 * left_count) (count_at listing.sets number * c.args.confidence.1) =
     c.meets.ensures ∙ ap (λ n. leb (c.args.confidence.0 * left_count) (n * c.args.confidence.1)) (sym counted) in
-    no_rule listing number c.requires.listed right c.args.confidence left_count left_is (sym test ∙ c.if-not-meets.true)
+    no_rule listing number c.requires right c.args.confidence left_count left_is (sym test ∙ c.if-not-meets.true)
 
 pub returns : goal.returns
 returns c =
@@ -41,7 +40,7 @@ returns c =
     let number = c.args.number in
     let list = c.sets-sets.result.now in
     let same : list ≡ listing.sets = c.sets-sets.ensures in
-    let below : number < length list = subst (λ l. number < length l) (sym same) c.requires.listed in
+    let below : number < length list = subst (λ l. number < length l) (sym same) c.requires in
     let entry = c.index-sets-number.result in
     let set : set_at listing.sets number ≡ entry.set = ap (λ l. set_at l number) (sym same) ∙ set_is list number entry below ∙ ap (λ (x : Counted). x.set) (sym c.index-sets-number.is) in
     let counted : count_at listing.sets number ≡ entry.count =
@@ -61,9 +60,4 @@ returns c =
     subst (λ l. IsCountIn l right right_count) same (subst (λ l. IsCountIn list l right_count) filled c.count_of-right_count.ensures) in
     let test : c.meets.result ≡ leb (c.args.confidence.0 * left_count) (count_at listing.sets number * c.args.confidence.1) =
     c.meets.ensures ∙ ap (λ n. leb (c.args.confidence.0 * left_count) (n * c.args.confidence.1)) (sym counted) in
-    a_rule listing number c.requires.listed right c.args.confidence left_count right_count _ left_is right_is (sym test ∙ c.if-not-meets.false)
-    (c.in_ok-from_items.ensures.ok ∙ ap rising (c.deref-3.ensures.value ∙ sym c.deref.ensures.value ∙ left))
-    (c.in_ok-from_items-2.ensures.ok ∙ ap rising (c.deref-4.ensures.value ∙ sym c.deref-2.ensures.value ∙ filled))
-    (sym counted)
-    (λ some. c.ratio.ensures (subst (λ n. 1 ≤ n) (sym c.from-2.ensures) some) ∙ (λ i. lowest ((c.from.ensures ∙ sym counted) i) (c.from-2.ensures i)))
-    (λ some. c.lift.ensures some ∙ (λ i. lowest (sym counted i * c.total.ensures i) (left_count * right_count)))
+    a_found_rule listing number c.requires c.args.right c.args.confidence left_count right_count c.new.result left_is right_is (sym test ∙ c.if-not-meets.false) c.new.ensures.some c.new.ensures.none

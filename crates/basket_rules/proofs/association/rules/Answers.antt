@@ -1,4 +1,5 @@
-use Rattle.std.proofs.Common.{◌≤◌, ◌<◌, ◌+◌, length, sym, subst}
+use Rattle.std.proofs.Common.{◌≤◌, ◌<◌, ◌+◌, ◌++◌, length, sym, ap, ◌∙◌, subst}
+use Rattle.basket_rules.specs.Met.{rules_in}
 use Rattle.basket_rules.proofs.LevelLemmas.{AreRulesUpTo, more_rules, all_rules}
 use Rattle.basket_rules.proofs.association.rules.Goals as goal
 
@@ -7,8 +8,10 @@ loop-number-preserved c =
     let listing = c.args.frequent.now in
     let number = c.loop-number.number in
     let below : number < length listing.sets = subst (λ l. number < length l) c.sets-number-end.ensures c.loop-number-test.true in
-    subst (AreRulesUpTo listing c.args.confidence (number + 1)) (sym c.in_ok-append.ensures.items)
-    (more_rules listing c.args.confidence number c.loop-number.rules.items c.in_ok-more.more.items below c.loop-number.invariant c.in_ok-more.ensures)
+    let met = c.in_ok-met.met.items in
+    let added = c.in_ok-add_rules.ensures ∙ ap (λ l. c.loop-number.rules.items ++ rules_in listing number l) c.deref.ensures.value in
+    subst (AreRulesUpTo listing c.args.confidence (number + 1)) (sym added)
+    (more_rules listing c.args.confidence number c.loop-number.rules.items (rules_in listing number met) below c.loop-number.invariant c.in_ok-met.ensures)
 
 pub returns : goal.returns
 returns c =

@@ -3,10 +3,11 @@ use Rattle.basket_sets.specs.declared.counted.Counted.{Counted}
 use Rattle.basket_rules.specs.declared.rights.TheConstants.{MOST_PLACES}
 use Rattle.basket_rules.specs.Listed.{set_at}
 use Rattle.basket_rules.specs.Rights.{longer, no_places}
+use Rattle.basket_rules.specs.Met.{rules_in}
 use Rattle.basket_rules.specs.Rules.{KeepsConfident}
 use Rattle.basket_rules.proofs.SearchLemmas.{set_is}
 use Rattle.basket_rules.proofs.LevelLemmas.{IsLevelAt, first_level, more_level, all_levels, none_so_large}
-use Rattle.basket_rules.proofs.association.rules_with_lookups.Goals as goal
+use Rattle.basket_rules.proofs.association.met_rules.Goals as goal
 
 pub returns-then-count-gt-MOST_PLACES : goal.returns-then-count-gt-MOST_PLACES
 returns-then-count-gt-MOST_PLACES c = λ baskets minimum is.
@@ -27,7 +28,7 @@ loop-size-init c =
     let sized : c.len-count.result ≡ length (set_at listing.sets number) = c.len-count.ensures ∙ ap length (sym set) in
     let made : c.in_ok-rights.rights.items ≡ longer (length (set_at listing.sets number)) (no_places ∷ []) =
     c.in_ok-rights.ensures ∙ (λ i. longer (sized i) (c.none.ensures i ∷ [])) in
-    subst (λ l. IsLevelAt listing c.args.confidence number 1 c.in_ok-rights.rights.items l) (sym c.new-rules.ensures.items)
+    subst (λ l. IsLevelAt listing c.args.confidence number 1 c.in_ok-rights.rights.items (rules_in listing number l)) (sym c.new-rules.ensures.items)
     (subst (λ l. IsLevelAt listing c.args.confidence number 1 l []) (sym made) (first_level listing c.args.confidence number (subst (λ n. n ≤ MOST_PLACES) sized c.if-count-gt-MOST_PLACES.false)))
 
 pub loop-size-preserved : goal.loop-size-preserved
@@ -46,9 +47,9 @@ loop-size-preserved c =
     let most : c.most_right_items-size-end.result ≡ length (set_at listing.sets number) - 1 = c.most_right_items-size-end.ensures ∙ ap (λ n. n - 1) sized in
     let some : 1 ≤ size = omega arith in
     let less : size < length (set_at listing.sets number) = omega (arith, most, c.loop-size-test.true) in
-    subst (λ l. IsLevelAt listing c.args.confidence number (size + 1) l c.keep_confident.new.rules.items) (sym made)
-    (more_level listing c.args.confidence number size c.loop-size.rights.items met c.loop-size.rules.items c.keep_confident.new.rules.items
-    c.requires few some less (subst (λ r. KeepsConfident listing c.args.confidence number r met c.loop-size.rules.items c.keep_confident.new.rules.items) c.deref.ensures.value c.in_ok-met.ensures) c.loop-size.invariant)
+    subst (λ l. IsLevelAt listing c.args.confidence number (size + 1) l (rules_in listing number c.keep_confident.new.rules.items)) (sym made)
+    (more_level listing c.args.confidence number size c.loop-size.rights.items met (rules_in listing number c.loop-size.rules.items) (rules_in listing number c.keep_confident.new.rules.items)
+    c.requires few some less (subst (λ r. KeepsConfident listing c.args.confidence number r met (rules_in listing number c.loop-size.rules.items) (rules_in listing number c.keep_confident.new.rules.items)) c.deref.ensures.value c.in_ok-met.ensures) c.loop-size.invariant)
 
 pub returns : goal.returns
 returns c =
@@ -61,5 +62,5 @@ returns c =
     let sized : c.len-count.result ≡ length (set_at listing.sets number) = c.len-count.ensures ∙ ap length (sym set) in
     let size = c.loop-size.size in
     let most : c.most_right_items-size-end.result ≡ length (set_at listing.sets number) - 1 = c.most_right_items-size-end.ensures ∙ ap (λ n. n - 1) sized in
-    all_levels listing c.args.confidence number (size + 1) c.loop-size.rights.items c.loop-size.rules.items c.requires
+    all_levels listing c.args.confidence number (size + 1) c.loop-size.rights.items (rules_in listing number c.loop-size.rules.items) c.requires
     (omega (arith, most, c.loop-size-test.false)) (λ some. omega (arith, most, c.loop-size.auto.size-end)) c.loop-size.invariant
