@@ -10,7 +10,8 @@ use Rattle.std.proofs.lemmas.Bool.{cases_eq, cases_lt, cases_order, or_cases, co
 use Rattle.std.proofs.lemmas.Map.Keys.{below_from_sorted}
 use Rattle.basket_sets.specs.declared.weighted.Weighted.{Weighted}
 use Rattle.basket_sets.specs.Itemset.{IsRising, has}
-use Rattle.basket_sets.specs.Counts.{item_supports, tally, IsTable, slot_with, AllBelow, entries_from, entries_of}
+use Rattle.basket_sets.specs.Counts.{item_supports, tally, IsTable, AllBelow, entries_from, entries_of}
+use Rattle.basket_sets.specs.Slot.{slot_with}
 use Rattle.basket_sets.specs.Database.{MOST_WEIGHT}
 use Rattle.basket_sets.specs.Support.{weight_at, support_of, total_of, all_items, items_of}
 use Rattle.basket_sets.proofs.theory.Members.{Member, Contains-from_Member}
@@ -52,22 +53,25 @@ pub slot_before : (items : List ℕ) (old table : List (Option ℕ)) (i weight :
     → get_or table (get_or items i 0) None ≡ get_or old (get_or items i 0) None
 slot_before items old table i weight up below added = added (get_or items i 0) ∙ cond-false _ _ _ (not_before items i up below)
 
-pub added_more : (items : List ℕ) (old table : List (Option ℕ)) (i weight sum : ℕ) → IsRising items → i < length items → get_or items i 0 < length table
-    → sum ≡ unwrap_or (get_or table (get_or items i 0) None) 0 → HasAdded old weight (take i items) table
-    → HasAdded old weight (take (i + 1) items) (set table (get_or items i 0) (Some (sum + weight)))
-added_more items old table i weight sum up below within is added number = elim (cases_eq (get_or items i 0) number) [
+pub added_more : (items : List ℕ) (old table : List (Option ℕ)) (i weight : ℕ) → IsRising items → i < length items → get_or items i 0 < length table
+    → HasAdded old weight (take i items) table
+    → HasAdded old weight (take (i + 1) items) (set table (get_or items i 0) (slot_with weight (get_or table (get_or items i 0) None)))
+added_more items old table i weight up below within added number = elim (cases_eq (get_or items i 0) number) [
   | inl same ↦ subst At same
-      (get_or-set_same table (get_or items i 0) (Some (sum + weight)) None within
-      ∙ ap (λ n. Some (n + weight)) (is ∙ ap (λ s. unwrap_or s 0) (slot_before items old table i weight up below added))
+      (get_or-set_same table (get_or items i 0) more None within
+      ∙ ap (slot_with weight) (slot_before items old table i weight up below added)
       ∙ sym (cond-true _ _ _ (has_more items i (get_or items i 0) below ∙ ap (λ t. has (take i items) (get_or items i 0) || t) (eq-eqb _ _ refl) ∙ or-true (has (take i items) (get_or items i 0)))))
-  | inr apart ↦ get_or-set_other table (get_or items i 0) number (Some (sum + weight)) None (λ e. apart (sym e))
+  | inr apart ↦ get_or-set_other table (get_or items i 0) number more None (λ e. apart (sym e))
       ∙ added number
       ∙ ap (λ t. cond t (slot_with weight (get_or old number None)) (get_or old number None))
       (sym (has_more items i number below ∙ ap (λ t. has (take i items) number || t) (ne_eqb _ _ apart) ∙ or-false (has (take i items) number)))
 ]
   where
+    more : Option ℕ
+    more = slot_with weight (get_or table (get_or items i 0) None)
+
     At : ℕ → Type 0
-    At n = get_or (set table (get_or items i 0) (Some (sum + weight))) n None ≡ cond (has (take (i + 1) items) n) (slot_with weight (get_or old n None)) (get_or old n None)
+    At n = get_or (set table (get_or items i 0) more) n None ≡ cond (has (take (i + 1) items) n) (slot_with weight (get_or old n None)) (get_or old n None)
 
 -- ---- the table after so many places
 
@@ -93,7 +97,7 @@ weight_of_item place item = at (has place.basket item)
 
 -- the sum fits: it is a support, and so at most the total
 pub fits_more : (baskets : List Weighted) (i : ℕ) (place : Weighted) (item sum : ℕ) → i < length baskets → place ≡ get_or baskets i place → total_of baskets ≤ MOST_WEIGHT
-    → has place.basket item ≡ true → sum ≤ support_of (take i baskets) (item ∷ []) → sum + place.weight < 2 ^ 64
+    → has place.basket item ≡ true → sum ≤ support_of (take i baskets) (item ∷ []) → sum + place.weight + 1 < 2 ^ 64
 fits_more baskets i place item sum below is light h small =
     let more = sum_by_more_le (weight_at (item ∷ [])) baskets i place below in
     let its : weight_at (item ∷ []) (get_or baskets i place) ≡ place.weight = ap (weight_at (item ∷ [])) (sym is) ∙ weight_of_item place item ∙ cond-true _ _ _ h in

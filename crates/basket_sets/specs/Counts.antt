@@ -1,4 +1,4 @@
-use Rattle.std.specs.Prelude.{◌≡◌, ◌<◌, ℕ, ◌+◌, Option, Some, None, unwrap_or, if◌then◌else◌, List, [], ◌∷◌, map, length, slice_index_or}
+use Rattle.std.specs.Prelude.{◌≡◌, ◌<◌, ℕ, ◌+◌, Option, Some, None, if◌then◌else◌, List, [], ◌∷◌, map, length, slice_index_or}
 use Rattle.basket_sets.specs.declared.weighted.Weighted.{Weighted}
 use Rattle.basket_sets.specs.Itemset.{has}
 use Rattle.basket_sets.specs.Support.{support_of, all_items, items_of}
@@ -15,10 +15,6 @@ tally baskets item = if has (all_items baskets) item then Some (support_of baske
 -- a table has at each number what is known of it
 abbrev pub IsTable : List Weighted → List (Option ℕ) → Type 0
 IsTable baskets table = (item : ℕ) → item < length table → slice_index_or table item None ≡ tally baskets item
-
--- a slot with some more weight
-abbrev pub slot_with : ℕ → Option ℕ → Option ℕ
-slot_with weight slot = Some (unwrap_or slot 0 + weight)
 
 -- the entries of a table whose first slot has a number: each slot that has something, with its number
 abbrev pub entries_from : ℕ → List (Option ℕ) → List (ℕ × ℕ)

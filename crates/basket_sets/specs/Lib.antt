@@ -1,6 +1,7 @@
 pub mod Itemset
 pub mod Order
 pub mod Support
+pub mod Slot
 pub mod Counts
 pub mod Database
 pub mod Merge

@@ -1,10 +1,12 @@
 ghost use Rattle.std.specs.Prelude.{◌≡◌, ◌<◌, ◌≤◌, ◌+◌, ◌^◌, ℕ, None, IfOk, IsTrue, if◌then◌else◌, length, map, unwrap_or, slice_index, slice_index_or};
 ghost use Rattle.std.specs.List.{zip};
-ghost use Rattle.basket_sets.specs.Counts.{item_supports, tally, IsTable, slot_with, AllBelow, entries_of};
+ghost use Rattle.basket_sets.specs.Counts.{item_supports, tally, IsTable, AllBelow, entries_of};
 ghost use Rattle.basket_sets.specs.Database.{MOST_WEIGHT};
 ghost use Rattle.basket_sets.specs.Itemset.{IsRising, has};
+ghost use Rattle.basket_sets.specs.Slot.{slot_with};
 ghost use Rattle.basket_sets.specs.Support.{total_of, all_items, items_of};
 
+use crate::slot::Slot;
 use crate::weighted::Weighted;
 use std::alloc::{AllocError, Global};
 
@@ -57,7 +59,7 @@ fn count_by_table(
     requires within { AllBelow (greatest + 1) (all_items baskets.now) }
     ensures { IfOk result (λ counts. counts.items ≡ item_supports baskets.now) }
 {
-    let mut table = vec![in alloc; None; greatest as usize + 1]?;
+    let mut table = vec![in alloc; Slot::empty(); greatest as usize + 1]?;
     for place in baskets {
         add_to_table(&mut table, place);
     }
@@ -65,30 +67,29 @@ fn count_by_table(
 }
 
 /// Adds the weight of a place at each of its items.
-fn add_to_table(table: &mut [Option<u64>], place: &Weighted)
+fn add_to_table(table: &mut [Slot], place: &Weighted)
     requires within { AllBelow (length table.old) place.now.basket }
     requires fits { (item : ℕ) → IsTrue (has place.now.basket item)
-        → unwrap_or (slice_index_or table.old item None) 0 + place.now.weight < 2 ^ 64 }
+        → unwrap_or (slice_index_or table.old item None) 0 + place.now.weight + 1 < 2 ^ 64 }
     ensures { (item : ℕ) → slice_index_or table.new item None
         ≡ (if has place.now.basket item
         then slot_with place.now.weight (slice_index_or table.old item None)
         else slice_index_or table.old item None) }
 {
     for item in place.basket.items() {
-        let slot = &mut table[*item as usize];
-        *slot = Some(slot.unwrap_or(0) + place.weight);
+        table[*item as usize].add(place.weight);
     }
 }
 
 /// The numbers of the slots that have something.
-fn listed(alloc: Global, table: &[Option<u64>]) -> Result<Vec<(u32, u64)>, AllocError>
+fn listed(alloc: Global, table: &[Slot]) -> Result<Vec<(u32, u64)>, AllocError>
     requires { length table.now ≤ 2 ^ 32 }
     ensures { IfOk result (λ entries. entries.items ≡ entries_of table.now) }
 {
     let mut entries = Vec::new(alloc);
     for (item, slot) in table.iter().enumerate() {
-        if let Some(support) = slot {
-            entries.push((item as u32, *support))?;
+        if let Some(support) = slot.support() {
+            entries.push((item as u32, support))?;
         }
     }
     Ok(entries)

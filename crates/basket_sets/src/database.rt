@@ -77,6 +77,14 @@ impl Database {
         &self.baskets
     }
 
+    /// The baskets in the order in which they were added.
+    pub fn into_baskets(self) -> Vec<Weighted>
+        ensures { result.items ≡ self }
+    {
+        let Database { baskets, .. } = self;
+        baskets
+    }
+
     /// The number of baskets.
     pub fn len(&self) -> usize
         ensures { result ≡ length self.now }
@@ -88,6 +96,15 @@ impl Database {
         ensures { IsTrue result ↔ (self.now ≡ []) }
     {
         self.baskets.is_empty()
+    }
+
+    pub fn copied(&self, alloc: Global) -> Result<Database, AllocError>
+        ensures { IfOk result (λ copy. copy ≡ self.now) }
+    {
+        Ok(Database {
+            baskets: copied(alloc, self.baskets())?,
+            total: self.total,
+        })
     }
 
     /// Each distinct basket once, at its first place, with the sum of its weights.

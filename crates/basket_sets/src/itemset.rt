@@ -26,6 +26,20 @@ pub fn is_rising(numbers: &[u32]) -> bool
     numbers.is_sorted_by(|number, next| number < next)
 }
 
+/// Puts the numbers in rising order, each once.
+fn put_rising(items: &mut SmallVec<u32, { INLINE_ITEMS }>)
+    ensures { items.new.items ≡ rising items.old.items }
+{
+    if is_rising(items.as_slice()) {
+        return;
+    }
+    if put_in_order(items.as_mut_slice()) {
+        return;
+    }
+    items.as_mut_slice().sort_unstable();
+    items.dedup();
+}
+
 /// Puts the name of each number in its place.
 fn rename(numbers: &mut [u32], names: &[u32])
     requires { AllBelow (length names.now) numbers.old }
@@ -59,21 +73,19 @@ impl Itemset {
         ensures ok { IfOk result (λ set. set ≡ rising numbers.now) }
         ensures short { length numbers.now ≤ INLINE_ITEMS → IsOk result }
     {
-        Ok(Itemset::of_numbers(SmallVec::from_slice(alloc, numbers)?))
+        let mut items = SmallVec::from_slice(alloc, numbers)?;
+        put_rising(&mut items);
+        Ok(Itemset { items })
     }
 
-    /// The set of the numbers, which stay where they are.
-    fn of_numbers(mut items: SmallVec<u32, { INLINE_ITEMS }>) -> Self
-        ensures { result ≡ rising items.items }
+    /// Puts the set of other numbers in the place of this one. It takes the room of the items.
+    pub fn refill(&mut self, numbers: &[u32])
+        requires { length numbers.now ≤ length self.old }
+        ensures { self.new ≡ rising numbers.now }
     {
-        if is_rising(items.as_slice()) {
-            return Itemset { items };
-        }
-        if !put_in_order(items.as_mut_slice()) {
-            items.as_mut_slice().sort_unstable();
-            items.dedup();
-        }
-        Itemset { items }
+        self.items.truncate(numbers.len());
+        self.items.as_mut_slice().copy_from_slice(numbers);
+        put_rising(&mut self.items);
     }
 
     /// The set of the names of the items, where the name of an item stands at its place in the
@@ -84,7 +96,8 @@ impl Itemset {
     {
         let Itemset { mut items } = self;
         rename(items.as_mut_slice(), names);
-        Itemset::of_numbers(items)
+        put_rising(&mut items);
+        Itemset { items }
     }
 
     /// The set with one item more, or the same where the item is there.

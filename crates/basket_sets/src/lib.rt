@@ -10,6 +10,7 @@ mod merge;
 mod minimum;
 mod order;
 mod short;
+mod slot;
 mod weighted;
 pub mod worked;
 

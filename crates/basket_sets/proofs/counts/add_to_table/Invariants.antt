@@ -1,6 +1,6 @@
 use Rattle.std.proofs.Common.{◌≡◌, ℕ, take, None, cond, get_or}
-use Rattle.basket_sets.specs.Counts.{slot_with}
 use Rattle.basket_sets.specs.Itemset.{has}
+use Rattle.basket_sets.specs.Slot.{slot_with}
 use Rattle.basket_sets.proofs.counts.add_to_table.Given as goal
 
 abbrev pub invariant-loop-item : goal.invariant-loop-item

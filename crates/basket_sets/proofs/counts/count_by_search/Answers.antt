@@ -22,7 +22,8 @@ add_to_found-requires-clause-fits c = λ k below h.
     (let e = ap (λ l. get_or l k 0) c.deref_mut.ensures.value in
     let f = ap (λ l. support_of before (get_or l k 0 ∷ [])) c.deref.ensures.value in
     omega arith) in
-    fits_more c.args.baskets.now c.loop-place.place-index c.place-item.result item (get_or c.deref_mut.result.now k 0) c.loop-place-test.true c.place-item.is c.requires h small
+    let fits = fits_more c.args.baskets.now c.loop-place.place-index c.place-item.result item (get_or c.deref_mut.result.now k 0) c.loop-place-test.true c.place-item.is c.requires h small in
+    omega (arith, fits)
 
 pub returns : goal.returns
 returns c =
