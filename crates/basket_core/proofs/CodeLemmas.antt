@@ -1,8 +1,8 @@
 -- The code finds the ranks of each basket, and what it makes is a coding.
-use Rattle.std.proofs.Common.{◌≡◌, ℕ, ◌+◌, ◌<◌, ◌≤◌, List, [], ◌∷◌, ◌++◌, length, take, get_or, map, Option, Some, None, refl, sym, ap, ◌∙◌, subst, inl, inr}
+use Rattle.std.proofs.Common.{◌≡◌, ℕ, zero, suc, ◌+◌, ◌<◌, ◌≤◌, List, [], ◌∷◌, ◌++◌, length, take, drop, get_or, set, arith, map, Option, Some, None, refl, sym, ap, ◌∙◌, subst, inl, inr}
 use Rattle.std.specs.Prelude.{nat_eq}
 use Rattle.std.specs.List.{All, cons_option, IsDistinct, filter_map}
-use Rattle.std.proofs.lemmas.List.{take_more, map_push}
+use Rattle.std.proofs.lemmas.List.{take_more}
 use Rattle.std.proofs.lemmas.List.Elements.{All-map, filter_map-append, All-from_recursion, recursion_from_All}
 use Rattle.basket_sets.specs.declared.weighted.Weighted.{Weighted}
 use Rattle.basket_sets.specs.declared.minimum.Minimum.{Minimum}
@@ -52,10 +52,27 @@ coded_is ranked basket apart = rising_is (filter_map (rank_of ranked) basket) (c
 pub filter_map_more : (h : ℕ → Option ℕ) (xs : List ℕ) (i : ℕ) → i < length xs → filter_map h (take (i + 1) xs) ≡ filter_map h (take i xs) ++ cons_option (h (get_or xs i 0)) []
 filter_map_more h xs i below = ap (filter_map h) (take_more xs i 0 below) ∙ filter_map-append h (take i xs) (get_or xs i 0 ∷ [])
 
-pub coded_more : (ranked : List ℕ) (baskets : List Weighted) (i : ℕ) (place : Weighted) → i < length baskets → place ≡ get_or baskets i place
-    → map (coded_place ranked) (take (i + 1) baskets) ≡ map (coded_place ranked) (take i baskets) ++ coded_place ranked place ∷ []
-coded_more ranked baskets i place below is =
-    ap (map (coded_place ranked)) (take_more baskets i place below ∙ ap (λ p. take i baskets ++ p ∷ []) (sym is)) ∙ map_push (coded_place ranked) (take i baskets) place
+-- ---- a list is mapped place by place
+
+pub mapped_at : {A : Type 0} (f : A → A) (xs : List A) (k : ℕ) (d : A) → k < length xs → get_or (map f (take k xs) ++ drop k xs) k d ≡ get_or xs k d
+mapped_at f [] k d below = absurd (omega arith)
+mapped_at f (x ∷ xs) zero d below = refl
+mapped_at f (x ∷ xs) (suc k) d below = mapped_at f xs k d (omega arith)
+
+mapped_more : {A : Type 0} (f : A → A) (xs : List A) (k : ℕ) (d : A) → k < length xs → set (map f (take k xs) ++ drop k xs) k (f (get_or xs k d)) ≡ map f (take (suc k) xs) ++ drop (suc k) xs
+mapped_more f [] k d below = absurd (omega arith)
+mapped_more f (x ∷ xs) zero d below = refl
+mapped_more f (x ∷ xs) (suc k) d below = ap (λ l. f x ∷ l) (mapped_more f xs k d (omega arith))
+
+-- one place more is coded where it lies
+pub coded_more : (ranked : List ℕ) (baskets now : List Weighted) (k : ℕ) (d place : Weighted) → k < length baskets
+    → now ≡ map (coded_place ranked) (take k baskets) ++ drop k baskets → place ≡ coded_place ranked (get_or now k d)
+    → set now k place ≡ map (coded_place ranked) (take (k + 1) baskets) ++ drop (k + 1) baskets
+coded_more ranked baskets now k d place below so_far is =
+    let one : k + 1 ≡ suc k = omega arith in
+    let item = is ∙ ap (coded_place ranked) (ap (λ l. get_or l k d) so_far ∙ mapped_at (coded_place ranked) baskets k d below) in
+    (λ i. set (so_far i) k (item i)) ∙ mapped_more (coded_place ranked) baskets k d below
+    ∙ ap (λ n. map (coded_place ranked) (take n baskets) ++ drop n baskets) (sym one)
 
 -- what is made of codes and a database is a coding
 pub coding_is : (items : List ℕ) (minimum : Minimum) (database coded : List Weighted) → IsDistinct nat_eq items → length items < MOST_RANKS → total_of database ≤ MOST_WEIGHT

@@ -1,5 +1,5 @@
 //! The frequent items by rank, and baskets as lists of ranks.
-ghost use Rattle.std.specs.Prelude.{◌≡◌, ◌<◌, List, ℕ, IfOk, length, map, slice_index_or};
+ghost use Rattle.std.specs.Prelude.{◌≡◌, ◌<◌, List, ℕ, IfOk, OnOk, length, map, slice_index_or};
 ghost use Rattle.basket_sets.specs.Counts.{AllBelow};
 ghost use Rattle.basket_core.specs.Codes.{IsCoding, coded_place, coding_of, decoded, merged_coding, ranking_of, ranks_of_counts};
 ghost use Rattle.basket_sets.specs.Itemset.{IsRising};
@@ -60,7 +60,18 @@ impl Codes {
         requires { self ≡ ranking_of database.now self.minimum }
         ensures { IfOk result (λ coded. coded ≡ coding_of database.now self.minimum) }
     {
-        let baskets = coded_baskets(alloc, &self.ranks, database.baskets())?;
+        self.code_in_place(alloc, database.copied(alloc)?)
+    }
+
+    /// The same, where the ranks take the room of the items.
+    pub fn code_in_place(self, alloc: Global, database: Database) -> Result<Coded, AllocError>
+        requires { self ≡ ranking_of database self.minimum }
+        ensures { IfOk result (λ coded. coded ≡ coding_of database self.minimum) }
+    {
+        // Nothing is read here: the call brings its contract, which says what a database is.
+        let _places = database.baskets();
+        let mut baskets = database.into_baskets();
+        put_codes(alloc, &self.ranks, &mut baskets)?;
         Ok(Coded {
             items: self.items,
             minimum: self.minimum,
@@ -178,21 +189,15 @@ impl Coded {
     }
 }
 
-fn coded_baskets(
-    alloc: Global,
-    table: &RankTable,
-    baskets: &[Weighted],
-) -> Result<Vec<Weighted>, AllocError>
-    ensures { IfOk result (λ coded. (ranked : List ℕ) → IsRankTable ranked table.now → coded.items ≡ map (coded_place ranked) baskets.now) }
+/// Puts each basket's ranks in the place of its items.
+fn put_codes(alloc: Global, table: &RankTable, baskets: &mut [Weighted]) -> Result<(), AllocError>
+    ensures { OnOk result ((ranked : List ℕ) → IsRankTable ranked table.now → baskets.new ≡ map (coded_place ranked) baskets.old) }
 {
-    let mut coded = Vec::with_capacity(alloc, baskets.len())?;
     let mut ranks = Vec::new(alloc);
-    for place in baskets {
-        table.put_ranks(&mut ranks, &place.basket)?;
-        coded.push(Weighted {
-            basket: Itemset::from_items(alloc, &ranks)?,
-            weight: place.weight,
-        })?;
+    for place in 0..baskets.len() {
+        let basket = &mut baskets[place].basket;
+        table.put_ranks(&mut ranks, basket)?;
+        basket.refill(&ranks);
     }
-    Ok(coded)
+    Ok(())
 }

@@ -1,5 +1,5 @@
 //! From items to ranks.
-ghost use Rattle.std.specs.Prelude.{◌≡◌, ◌<◌, List, ℕ, IfOk, OnOk, length, map, filter, nat_eq};
+ghost use Rattle.std.specs.Prelude.{◌≡◌, ◌<◌, ◌≤◌, List, ℕ, IfOk, OnOk, length, map, filter, nat_eq};
 ghost use Rattle.std.specs.List.{IsDistinct, filter_map};
 ghost use Rattle.basket_core.specs.Codes.{MOST_RANKS, rank_of, ranks_of_counts};
 ghost use Rattle.basket_sets.specs.Itemset.{IsRising, rising};
@@ -113,7 +113,8 @@ impl RankTable {
 
     /// Puts the ranks of the basket's frequent items in the place of what the list had.
     pub fn put_ranks(&self, ranks: &mut Vec<u32>, basket: &Itemset) -> Result<(), AllocError>
-        ensures { OnOk result ((ranked : List ℕ) → IsRankTable ranked self.now → ranks.new.items ≡ filter_map (rank_of ranked) basket.now) }
+        ensures ranks { OnOk result ((ranked : List ℕ) → IsRankTable ranked self.now → ranks.new.items ≡ filter_map (rank_of ranked) basket.now) }
+        ensures few { OnOk result (length ranks.new.items ≤ length basket.now) }
     {
         ranks.clear();
         for item in basket.items() {
