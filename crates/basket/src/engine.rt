@@ -6,8 +6,8 @@ ghost use Rattle.basket.specs.Engine.{WritesReport, WritesFront, RefusesInput, R
 ghost use Rattle.basket.specs.Outcome.{outcome_for};
 
 use crate::fault::RunFault;
-use crate::input::Input;
-use crate::mining::{cutting, mine};
+use crate::input::{Input, style_of};
+use crate::mining::{cutting, mine_in_place};
 use crate::write::write_all;
 use basket_core::{CountedSets, MineFault, Sink, Source};
 use basket_plan::{Ask, Plan};
@@ -50,7 +50,7 @@ pub fn run<R: RandomSource + Threads + Sync, S: Source, W: Sink>(
         Ok(input) => input,
         Err(fault) => return Err(RunFault::Input(fault)),
     };
-    let report = match report(rt, alloc, &input, plan) {
+    let report = match report(rt, alloc, input, plan) {
         Ok(report) => report,
         Err(fault) => return Err(RunFault::Mine(fault)),
     };
@@ -62,14 +62,14 @@ pub fn run<R: RandomSource + Threads + Sync, S: Source, W: Sink>(
 fn report<R: Threads + Sync>(
     rt: &R,
     alloc: Global,
-    input: &Input,
+    input: Input,
     plan: &Plan,
 ) -> Result<Vec<u8>, MineFault>
-    ensures ok { IfOk result (λ report. outcome_for input.now plan.now.question ≡ Ok report.items) }
-    ensures err { (fault : MiningFault) → result ≡ Err fault → fault ≢ MineFault.Memory → outcome_for input.now plan.now.question ≡ Err fault }
+    ensures ok { IfOk result (λ report. outcome_for input plan.now.question ≡ Ok report.items) }
+    ensures err { (fault : MiningFault) → result ≡ Err fault → fault ≢ MineFault.Memory → outcome_for input plan.now.question ≡ Err fault }
 {
-    let database = input.database();
-    let style = input.style(plan.sep());
+    let (database, names) = input.into_parts();
+    let style = style_of(&names, plan.sep());
     match plan.ask() {
         Ask::Items => {
             let counts = count_shared(rt, alloc, database.baskets(), cutting(plan), &Open)?;
@@ -77,21 +77,21 @@ fn report<R: Threads + Sync>(
             Ok(items_report(alloc, &counts, minimum, database.total(), style)?)
         }
         Ask::Sets => {
-            let (frequent, _) = mine(rt, alloc, database, plan, &Open)?;
+            let (frequent, _) = mine_in_place(rt, alloc, database, plan, &Open)?;
             Ok(sets_report(alloc, frequent.sets(), style)?)
         }
         Ask::Closed => {
-            let (frequent, _) = mine(rt, alloc, database, plan, &Open)?;
+            let (frequent, _) = mine_in_place(rt, alloc, database, plan, &Open)?;
             let sets = closed(alloc, &frequent.unpacked(alloc)?)?;
             Ok(sets_report(alloc, &CountedSets::of_sets(alloc, sets), style)?)
         }
         Ask::Maximal => {
-            let (frequent, _) = mine(rt, alloc, database, plan, &Open)?;
+            let (frequent, _) = mine_in_place(rt, alloc, database, plan, &Open)?;
             let sets = maximal(alloc, &frequent.unpacked(alloc)?)?;
             Ok(sets_report(alloc, &CountedSets::of_sets(alloc, sets), style)?)
         }
         Ask::Rules(above, below) => {
-            let (frequent, _) = mine(rt, alloc, database, plan, &Open)?;
+            let (frequent, _) = mine_in_place(rt, alloc, database, plan, &Open)?;
             let frequent = frequent.unpacked(alloc)?;
             Ok(rules_report(alloc, &frequent, (above, below), style)?)
         }

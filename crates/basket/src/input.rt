@@ -55,20 +55,23 @@ impl Input {
         }
     }
 
-    pub fn database(&self) -> &Database
-        ensures { result.now ≡ self.now.baskets }
+    /// The baskets, and of CSV the names of their items.
+    pub fn into_parts(self) -> (Database, Option<Names>)
+        ensures baskets { result.0 ≡ self.baskets }
+        ensures names { result.1 ≡ self.names }
     {
-        &self.database
+        let Input { database, names } = self;
+        (database, names)
     }
+}
 
-    /// How a report writes items: as the input does, with this byte between the fields of CSV.
-    pub fn style(&self, separator: u8) -> Style<'_>
-        ensures { wording_of result ≡ wording_with separator self.now.names }
-    {
-        match &self.names {
-            Some(names) => Style::Names { names, separator },
-            None => Style::Numbers,
-        }
+/// How a report writes items: as the input does, with this byte between the fields of CSV.
+pub fn style_of(names: &Option<Names>, separator: u8) -> Style<'_>
+    ensures { wording_of result ≡ wording_with separator names.now }
+{
+    match names {
+        Some(names) => Style::Names { names, separator },
+        None => Style::Numbers,
     }
 }
 

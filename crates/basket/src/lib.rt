@@ -13,4 +13,4 @@ pub use basket_report::{Style, sets_report};
 pub use engine::run;
 pub use fault::{RunFault, status_of};
 pub use mine_phases::{Gate, Open};
-pub use mining::{Work, mine};
+pub use mining::{Work, mine, mine_in_place};

@@ -83,6 +83,24 @@ pub fn mine<R: Threads + Sync, G: Gate + Sync>(
     ensures too_many { (most : ℕ) → result ≡ Err (TooMany most)
         → (most ≡ plan.now.question.limit) × (plan.now.question.limit < length (frequent_of database.now plan.now.question.minimum)) }
 {
+    mine_in_place(rt, alloc, database.copied(alloc)?, plan, gate)
+}
+
+/// The same, where the ranks of the baskets take the room of their items.
+pub fn mine_in_place<R: Threads + Sync, G: Gate + Sync>(
+    rt: &R,
+    alloc: Global,
+    database: Database,
+    plan: &Plan,
+    gate: &G,
+) -> Result<(Frequent, Work), MineFault>
+    ensures sets { IfOk result (λ mined. mined.0.sets ≡ frequent_of database plan.now.question.minimum) }
+    ensures total { IfOk result (λ mined. mined.0.total ≡ total_of database) }
+    ensures within { IfOk result (λ mined. length mined.0.sets ≤ plan.now.question.limit) }
+    ensures work { IfOk result (λ mined. IsWorkOf plan.now.miner database plan.now.question.minimum mined.1) }
+    ensures too_many { (most : ℕ) → result ≡ Err (TooMany most)
+        → (most ≡ plan.now.question.limit) × (plan.now.question.limit < length (frequent_of database plan.now.question.minimum)) }
+{
     let limit = plan.limit();
     let cutting = cutting(plan);
     let coded = coded(rt, alloc, database, plan.minimum(), cutting, gate)?;
@@ -118,16 +136,16 @@ pub fn cutting(plan: &Plan) -> Cutting {
 fn coded<R: Threads + Sync, G: Gate + Sync>(
     rt: &R,
     alloc: Global,
-    database: &Database,
+    database: Database,
     minimum: Minimum,
     cutting: Cutting,
     gate: &G,
 ) -> Result<Coded, AllocError>
-    ensures { IfOk result (λ coded. coded ≡ coding_of database.now minimum) }
+    ensures { IfOk result (λ coded. coded ≡ coding_of database minimum) }
 {
     let counts = count_shared(rt, alloc, database.baskets(), cutting, gate)?;
     let codes = Codes::of(alloc, &counts, database.total(), minimum)?;
-    codes.code(alloc, database)
+    codes.code_in_place(alloc, database)
 }
 
 /// The list of the frequent sets by Eclat over rows of one type, and how many joins were made for it.

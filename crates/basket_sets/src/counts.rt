@@ -81,12 +81,21 @@ fn add_to_table(table: &mut [Slot], place: &Weighted)
     }
 }
 
+/// How many slots have something.
+fn seen(table: &[Slot]) -> usize {
+    let mut seen = 0usize;
+    for slot in table {
+        seen = seen.saturating_add(usize::from(slot.support().is_some()));
+    }
+    seen
+}
+
 /// The numbers of the slots that have something.
 fn listed(alloc: Global, table: &[Slot]) -> Result<Vec<(u32, u64)>, AllocError>
     requires { length table.now ≤ 2 ^ 32 }
     ensures { IfOk result (λ entries. entries.items ≡ entries_of table.now) }
 {
-    let mut entries = Vec::new(alloc);
+    let mut entries = Vec::with_capacity(alloc, seen(table))?;
     for (item, slot) in table.iter().enumerate() {
         if let Some(support) = slot.support() {
             entries.push((item as u32, support))?;

@@ -11,10 +11,10 @@ use Rattle.basket.proofs.engine.report.Goals as goal
 
 pub returns-in_ok-items_report-in-Items-clause-ok : goal.returns-in_ok-items_report-in-Items-clause-ok
 returns-in_ok-items_report-in-Items-clause-ok g c =
-    let said = c.args.input.now in
+    let said = c.args.input in
     let question = c.args.plan.now.question in
     let is : question.ask ≡ Items = sym c.ask.ensures ∙ c.in-Items.is in
-    let wording : wording_of c.style-style.result ≡ wording_with question.separator said.names = c.style-style.ensures ∙ ap (λ s. wording_with s said.names) c.sep.ensures in
+    let wording : wording_of c.style_of-style.result ≡ wording_with question.separator said.names = c.style_of-style.ensures ∙ ap (λ s. wording_with s said.names) c.sep.ensures in
     let baskets = c.baskets.ensures.baskets ∙ c.database-database.ensures in
     let counts = c.deref.ensures.value ∙ c.in_ok-counts-in-Items.ensures.counts ∙ ap item_supports baskets in
     let total = c.total.ensures ∙ ap total_of c.database-database.ensures in

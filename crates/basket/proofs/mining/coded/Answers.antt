@@ -9,6 +9,6 @@ use Rattle.basket.proofs.mining.coded.Goals as goal
 
 pub of-requires : goal.of-requires
 of-requires g c =
-    let baskets = c.args.database.now in
+    let baskets = c.args.database in
     let is = c.deref.ensures.value ∙ c.in_ok-counts.ensures.counts ∙ ap item_supports c.baskets.ensures.baskets in
     subst IsRising (sym (ap items_of_counts is ∙ items_of_map (λ item. support_of baskets (item ∷ [])) (items_of baskets))) (rising-rises (all_items baskets))

@@ -6,11 +6,11 @@ use Rattle.basket.specs.Classes.{IsTrees}
 use Rattle.basket_plan.specs.declared.plan.Miner.TheVariants.{Apriori, Eclat, EclatDiff, EclatBits, FpGrowth}
 use Rattle.mine_phases.specs.Classes.{IsWorkOfAll}
 use Rattle.basket.proofs.MiningLemmas.{count_is, list_is, merged_list, merged_total, sets_are, settled, total_is, totals_are, trees_are, work_is}
-use Rattle.basket.proofs.mining.mine.Goals as goal
+use Rattle.basket.proofs.mining.mine_in_place.Goals as goal
 
 pub returns-then-branch-clause-too_many : goal.returns-then-branch-clause-too_many
 returns-then-branch-clause-too_many g c most e =
-    let database = c.args.database.now in
+    let database = c.args.database in
     let question = c.args.plan.now.question in
     let made = c.in_ok-coded.ensures ∙ ap (coding_of database) c.minimum.ensures in
     let more = settled database question.minimum c.in_ok-coded.coded made c.settling_size.result c.limit-limit.result c.settling_size.ensures.settles (c.in_ok-deep.ensures c.if-branch.true) in
@@ -18,7 +18,7 @@ returns-then-branch-clause-too_many g c most e =
 
 pub returns-in_err-frequent-in-Apriori-clause-too_many : goal.returns-in_err-frequent-in-Apriori-clause-too_many
 returns-in_err-frequent-in-Apriori-clause-too_many g c most e =
-    let database = c.args.database.now in
+    let database = c.args.database in
     let question = c.args.plan.now.question in
     let made = c.in_ok-coded.ensures ∙ ap (coding_of database) c.minimum.ensures in
     let same = ap length (merged_list database question.minimum c.in_ok-coded.coded made c.in_ok-merged-in-Apriori.merged c.in_ok-merged-in-Apriori.ensures) in
@@ -30,21 +30,21 @@ returns-in_err-frequent-in-Apriori-clause-too_many g c most e =
 
 pub returns-in_ok-frequent-in-Apriori-clause-sets : goal.returns-in_ok-frequent-in-Apriori-clause-sets
 returns-in_ok-frequent-in-Apriori-clause-sets g c =
-    let database = c.args.database.now in
+    let database = c.args.database in
     let question = c.args.plan.now.question in
     let made = c.in_ok-coded.ensures ∙ ap (coding_of database) c.minimum.ensures in
     ap (λ f. f.sets) c.in_ok-frequent-in-Apriori.ensures.ok ∙ merged_list database question.minimum c.in_ok-coded.coded made c.in_ok-merged-in-Apriori.merged c.in_ok-merged-in-Apriori.ensures
 
 pub returns-in_ok-frequent-in-Apriori-clause-total : goal.returns-in_ok-frequent-in-Apriori-clause-total
 returns-in_ok-frequent-in-Apriori-clause-total g c =
-    let database = c.args.database.now in
+    let database = c.args.database in
     let question = c.args.plan.now.question in
     let made = c.in_ok-coded.ensures ∙ ap (coding_of database) c.minimum.ensures in
     ap (λ f. f.total) c.in_ok-frequent-in-Apriori.ensures.ok ∙ merged_total database question.minimum c.in_ok-coded.coded made c.in_ok-merged-in-Apriori.merged c.in_ok-merged-in-Apriori.ensures
 
 pub returns-in_ok-frequent-in-Apriori-clause-work : goal.returns-in_ok-frequent-in-Apriori-clause-work
 returns-in_ok-frequent-in-Apriori-clause-work g c =
-    let database = c.args.database.now in
+    let database = c.args.database in
     let question = c.args.plan.now.question in
     let made = c.in_ok-coded.ensures ∙ ap (coding_of database) c.minimum.ensures in
     let is : c.args.plan.now.miner ≡ Apriori = sym c.miner.ensures ∙ c.in-Apriori.is in
@@ -53,21 +53,21 @@ returns-in_ok-frequent-in-Apriori-clause-work g c =
 
 pub returns-in-Eclat-clause-sets : goal.returns-in-Eclat-clause-sets
 returns-in-Eclat-clause-sets g c =
-    let database = c.args.database.now in
+    let database = c.args.database in
     let question = c.args.plan.now.question in
     let made = c.in_ok-coded.ensures ∙ ap (coding_of database) c.minimum.ensures in
     sets_are database question.minimum c.in_ok-coded.coded made c.joined.result c.joined.ensures.list
 
 pub returns-in-Eclat-clause-total : goal.returns-in-Eclat-clause-total
 returns-in-Eclat-clause-total g c =
-    let database = c.args.database.now in
+    let database = c.args.database in
     let question = c.args.plan.now.question in
     let made = c.in_ok-coded.ensures ∙ ap (coding_of database) c.minimum.ensures in
     totals_are database question.minimum c.in_ok-coded.coded made c.joined.result c.joined.ensures.list
 
 pub returns-in-Eclat-clause-work : goal.returns-in-Eclat-clause-work
 returns-in-Eclat-clause-work g c =
-    let database = c.args.database.now in
+    let database = c.args.database in
     let question = c.args.plan.now.question in
     let made = c.in_ok-coded.ensures ∙ ap (coding_of database) c.minimum.ensures in
     let is : c.args.plan.now.miner ≡ Eclat = sym c.miner.ensures ∙ c.in-Eclat.is in
@@ -75,7 +75,7 @@ returns-in-Eclat-clause-work g c =
 
 pub returns-in-Eclat-clause-too_many : goal.returns-in-Eclat-clause-too_many
 returns-in-Eclat-clause-too_many g c most e =
-    let database = c.args.database.now in
+    let database = c.args.database in
     let question = c.args.plan.now.question in
     let made = c.in_ok-coded.ensures ∙ ap (coding_of database) c.minimum.ensures in
     let same = ap length (list_is database question.minimum c.in_ok-coded.coded made) in
@@ -84,21 +84,21 @@ returns-in-Eclat-clause-too_many g c most e =
 
 pub returns-in-EclatDiff-clause-sets : goal.returns-in-EclatDiff-clause-sets
 returns-in-EclatDiff-clause-sets g c =
-    let database = c.args.database.now in
+    let database = c.args.database in
     let question = c.args.plan.now.question in
     let made = c.in_ok-coded.ensures ∙ ap (coding_of database) c.minimum.ensures in
     sets_are database question.minimum c.in_ok-coded.coded made c.joined-in-EclatDiff.result c.joined-in-EclatDiff.ensures.list
 
 pub returns-in-EclatDiff-clause-total : goal.returns-in-EclatDiff-clause-total
 returns-in-EclatDiff-clause-total g c =
-    let database = c.args.database.now in
+    let database = c.args.database in
     let question = c.args.plan.now.question in
     let made = c.in_ok-coded.ensures ∙ ap (coding_of database) c.minimum.ensures in
     totals_are database question.minimum c.in_ok-coded.coded made c.joined-in-EclatDiff.result c.joined-in-EclatDiff.ensures.list
 
 pub returns-in-EclatDiff-clause-work : goal.returns-in-EclatDiff-clause-work
 returns-in-EclatDiff-clause-work g c =
-    let database = c.args.database.now in
+    let database = c.args.database in
     let question = c.args.plan.now.question in
     let made = c.in_ok-coded.ensures ∙ ap (coding_of database) c.minimum.ensures in
     let is : c.args.plan.now.miner ≡ EclatDiff = sym c.miner.ensures ∙ c.in-EclatDiff.is in
@@ -106,7 +106,7 @@ returns-in-EclatDiff-clause-work g c =
 
 pub returns-in-EclatDiff-clause-too_many : goal.returns-in-EclatDiff-clause-too_many
 returns-in-EclatDiff-clause-too_many g c most e =
-    let database = c.args.database.now in
+    let database = c.args.database in
     let question = c.args.plan.now.question in
     let made = c.in_ok-coded.ensures ∙ ap (coding_of database) c.minimum.ensures in
     let same = ap length (list_is database question.minimum c.in_ok-coded.coded made) in
@@ -115,21 +115,21 @@ returns-in-EclatDiff-clause-too_many g c most e =
 
 pub returns-in-EclatBits-clause-sets : goal.returns-in-EclatBits-clause-sets
 returns-in-EclatBits-clause-sets g c =
-    let database = c.args.database.now in
+    let database = c.args.database in
     let question = c.args.plan.now.question in
     let made = c.in_ok-coded.ensures ∙ ap (coding_of database) c.minimum.ensures in
     sets_are database question.minimum c.in_ok-coded.coded made c.joined-in-EclatBits.result c.joined-in-EclatBits.ensures.list
 
 pub returns-in-EclatBits-clause-total : goal.returns-in-EclatBits-clause-total
 returns-in-EclatBits-clause-total g c =
-    let database = c.args.database.now in
+    let database = c.args.database in
     let question = c.args.plan.now.question in
     let made = c.in_ok-coded.ensures ∙ ap (coding_of database) c.minimum.ensures in
     totals_are database question.minimum c.in_ok-coded.coded made c.joined-in-EclatBits.result c.joined-in-EclatBits.ensures.list
 
 pub returns-in-EclatBits-clause-work : goal.returns-in-EclatBits-clause-work
 returns-in-EclatBits-clause-work g c =
-    let database = c.args.database.now in
+    let database = c.args.database in
     let question = c.args.plan.now.question in
     let made = c.in_ok-coded.ensures ∙ ap (coding_of database) c.minimum.ensures in
     let is : c.args.plan.now.miner ≡ EclatBits = sym c.miner.ensures ∙ c.in-EclatBits.is in
@@ -137,7 +137,7 @@ returns-in-EclatBits-clause-work g c =
 
 pub returns-in-EclatBits-clause-too_many : goal.returns-in-EclatBits-clause-too_many
 returns-in-EclatBits-clause-too_many g c most e =
-    let database = c.args.database.now in
+    let database = c.args.database in
     let question = c.args.plan.now.question in
     let made = c.in_ok-coded.ensures ∙ ap (coding_of database) c.minimum.ensures in
     let same = ap length (list_is database question.minimum c.in_ok-coded.coded made) in
@@ -146,7 +146,7 @@ returns-in-EclatBits-clause-too_many g c most e =
 
 pub returns-in_err-frequent-in-FpGrowth-clause-too_many : goal.returns-in_err-frequent-in-FpGrowth-clause-too_many
 returns-in_err-frequent-in-FpGrowth-clause-too_many g c most e =
-    let database = c.args.database.now in
+    let database = c.args.database in
     let question = c.args.plan.now.question in
     let made = c.in_ok-coded.ensures ∙ ap (coding_of database) c.minimum.ensures in
     let same = ap length (list_is database question.minimum c.in_ok-coded.coded made) in
@@ -158,21 +158,21 @@ returns-in_err-frequent-in-FpGrowth-clause-too_many g c most e =
 
 pub returns-in_ok-frequent-in-FpGrowth-clause-sets : goal.returns-in_ok-frequent-in-FpGrowth-clause-sets
 returns-in_ok-frequent-in-FpGrowth-clause-sets g c =
-    let database = c.args.database.now in
+    let database = c.args.database in
     let question = c.args.plan.now.question in
     let made = c.in_ok-coded.ensures ∙ ap (coding_of database) c.minimum.ensures in
     ap (λ f. f.sets) c.in_ok-frequent-in-FpGrowth.ensures.list ∙ list_is database question.minimum c.in_ok-coded.coded made
 
 pub returns-in_ok-frequent-in-FpGrowth-clause-total : goal.returns-in_ok-frequent-in-FpGrowth-clause-total
 returns-in_ok-frequent-in-FpGrowth-clause-total g c =
-    let database = c.args.database.now in
+    let database = c.args.database in
     let question = c.args.plan.now.question in
     let made = c.in_ok-coded.ensures ∙ ap (coding_of database) c.minimum.ensures in
     ap (λ f. f.total) c.in_ok-frequent-in-FpGrowth.ensures.list ∙ total_is database question.minimum c.in_ok-coded.coded made
 
 pub returns-in_ok-frequent-in-FpGrowth-clause-work : goal.returns-in_ok-frequent-in-FpGrowth-clause-work
 returns-in_ok-frequent-in-FpGrowth-clause-work g c =
-    let database = c.args.database.now in
+    let database = c.args.database in
     let question = c.args.plan.now.question in
     let made = c.in_ok-coded.ensures ∙ ap (coding_of database) c.minimum.ensures in
     let is : c.args.plan.now.miner ≡ FpGrowth = sym c.miner.ensures ∙ c.in-FpGrowth.is in
