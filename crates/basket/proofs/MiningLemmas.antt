@@ -1,22 +1,19 @@
 -- From the frequent sets of coded baskets to those of a database.
-use Rattle.std.proofs.Common.{◌≡◌, ◌+◌, ◌^◌, ◌<◌, ◌&&◌, ℕ, List, [], ◌∷◌, get_or, length, min, refl, sym, ap, ◌∙◌, subst, arith, suc}
-use Rattle.std.specs.List.{filter, range_with_len, sum, sum_by}
+use Rattle.std.proofs.Common.{◌≡◌, ◌+◌, ◌^◌, ◌<◌, ℕ, List, [], ◌∷◌, get_or, length, min, refl, sym, ap, ◌∙◌, subst, arith, suc}
+use Rattle.std.specs.List.{range_with_len, sum, sum_by}
 use Rattle.std.proofs.lemmas.List.Sums.{sum_by-cons}
 use Rattle.basket_sets.specs.declared.minimum.Minimum.{Minimum}
 use Rattle.basket_sets.specs.declared.weighted.Weighted.{Weighted}
 use Rattle.basket_core.specs.Codes.{Coding, IsCoding, coding_of, merged_coding, baskets_of, frequent_of_coding, ranks_of}
 use Rattle.basket_core.specs.Depth.{HasSetOfSize}
-use Rattle.basket_sets.specs.Frequent.{frequent_of, is_frequent}
-use Rattle.basket_sets.specs.Support.{support_of, total_of}
+use Rattle.basket_sets.specs.Frequent.{frequent_of}
+use Rattle.basket_sets.specs.Support.{total_of}
 use Rattle.basket_core.proofs.theory.Coding.{coding_keeps_frequent, coded_total, merging_keeps_coded}
 use Rattle.basket_core.proofs.theory.Depth.{deep_sets_are_many}
-use Rattle.basket_sets.specs.Database.{merged_of}
-use Rattle.basket_sets.specs.Minimum.{meets}
-use Rattle.basket_sets.proofs.theory.Merging.{merging_keeps_supports}
 use Rattle.mine_classes.specs.Mined.{CodedRanksAreFrequent, RanksAreFrequent}
 use Rattle.mine_fp.specs.Trees.{ClassTreesAddUp, class_trees, trees_of}
 use Rattle.mine_phases.specs.Classes.{IsWorkOfAll, MOST_WORK}
-use Rattle.mine_vertical.specs.Joins.{ClassJoinsAddUp, class_joins, is_join, joins_of, sets_of_ranks}
+use Rattle.mine_vertical.specs.Joins.{ClassJoinsAddUp, class_joins, joins_of}
 use Rattle.basket.specs.Classes.{IsJoins, IsTrees}
 use Rattle.basket.specs.Mining.{join_work}
 use Rattle.basket.specs.declared.mining.Work.{Work}
