@@ -196,8 +196,9 @@ fn put_codes(alloc: Global, table: &RankTable, baskets: &mut [Weighted]) -> Resu
     let mut ranks = Vec::new(alloc);
     for place in 0..baskets.len() {
         let basket = &mut baskets[place].basket;
-        table.put_ranks(&mut ranks, basket)?;
-        basket.refill(&ranks);
+        ranks.resize(basket.len(), 0)?;
+        let len = table.put_ranks(basket.items(), &mut ranks);
+        basket.refill(&ranks[..len]);
     }
     Ok(())
 }

@@ -1,5 +1,5 @@
 //! From items to ranks.
-ghost use Rattle.std.specs.Prelude.{◌≡◌, ◌<◌, ◌≤◌, List, ℕ, IfOk, OnOk, length, map, filter, nat_eq};
+ghost use Rattle.std.specs.Prelude.{◌≡◌, ◌<◌, ◌≤◌, List, ℕ, IfOk, length, map, filter, nat_eq, take};
 ghost use Rattle.std.specs.List.{IsDistinct, filter_map};
 ghost use Rattle.basket_core.specs.Codes.{MOST_RANKS, rank_of, ranks_of_counts};
 ghost use Rattle.basket_sets.specs.Itemset.{IsRising, rising};
@@ -111,18 +111,21 @@ impl RankTable {
         }
     }
 
-    /// Puts the ranks of the basket's frequent items in the place of what the list had.
-    pub fn put_ranks(&self, ranks: &mut Vec<u32>, basket: &Itemset) -> Result<(), AllocError>
-        ensures ranks { OnOk result ((ranked : List ℕ) → IsRankTable ranked self.now → ranks.new.items ≡ filter_map (rank_of ranked) basket.now) }
-        ensures few { OnOk result (length ranks.new.items ≤ length basket.now) }
+    /// Puts the ranks of the basket's frequent items at the front of a list, and answers how many they
+    /// are. A rank is written for each item, and the next one over it where the item has none: which
+    /// have one can't be predicted, so a branch would cost more.
+    pub fn put_ranks(&self, basket: &[u32], ranks: &mut [u32]) -> usize
+        requires room { length basket.now ≤ length ranks.old }
+        ensures ranks { (ranked : List ℕ) → IsRankTable ranked self.now → take result ranks.new ≡ filter_map (rank_of ranked) basket.now }
+        ensures few { result ≤ length basket.now }
     {
-        ranks.clear();
-        for item in basket.items() {
-            if let Some(rank) = self.rank(*item) {
-                ranks.push(rank)?;
-            }
+        let mut len = 0;
+        for item in basket {
+            let rank = self.rank(*item);
+            ranks[len] = rank.unwrap_or(0);
+            len += usize::from(rank.is_some());
         }
-        Ok(())
+        len
     }
 }
 

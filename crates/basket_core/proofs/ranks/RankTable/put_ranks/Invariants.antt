@@ -6,6 +6,7 @@ use Rattle.basket_core.proofs.ranks.RankTable.put_ranks.Given as goal
 
 abbrev pub invariant-loop-item : goal.invariant-loop-item
 invariant-loop-item l = record {
-  ranks : (ranked : List ℕ) → IsRankTable ranked l.self → l.ranks.items ≡ filter_map (rank_of ranked) (take l.item-index l.item-items);
-  few : length l.ranks.items ≤ l.item-index;
+  room : length l.basket ≤ length l.ranks;
+  few : l.len ≤ l.item-index;
+  put : (ranked : List ℕ) → IsRankTable ranked l.self → take l.len l.ranks ≡ filter_map (rank_of ranked) (take l.item-index l.basket);
 }
