@@ -8,7 +8,7 @@ use std::alloc::{AllocError, Global};
 const BUCKET: usize = 4;
 
 /// An odd number whose bits look random.
-const MULTIPLIER: u64 = 0x9E37_79B9_7F4A_7C15;
+pub const MULTIPLIER: u64 = 0x9E37_79B9_7F4A_7C15;
 
 /// The hash of a set: the sum of those of its items. So what is left of a set without a part of it
 /// has the hash of the set less that of the part.
@@ -95,11 +95,17 @@ impl Places {
         Ok(places)
     }
 
-    /// The place where a set with this hash may stand.
+    /// The place where a set with this hash may stand. All slots of its bucket are looked at, since
+    /// to stop at the right one is a branch that can't be foreseen.
     pub fn near(&self, hash: SetHash) -> Option<usize> {
         let bucket = self.buckets.get(self.bucket_of(hash))?;
-        let slot = bucket.iter().find(|slot| slot.tag == hash.upper_half())?;
-        Some(slot.place as usize)
+        let mut place = EMPTY.place;
+        for slot in bucket {
+            if slot.tag == hash.upper_half() {
+                place = slot.place;
+            }
+        }
+        Some(place as usize)
     }
 
     /// Keeps the place of the set with this hash, if its bucket has room.
@@ -109,7 +115,7 @@ impl Places {
             return;
         };
         if let Some(bucket) = self.buckets.get_mut(number) {
-            if let Some(free) = bucket.iter().position(|slot| slot.place == u32::MAX) {
+            if let Some(free) = bucket.iter().position(|slot| slot.place == EMPTY.place) {
                 bucket[free] = Slot {
                     tag: hash.upper_half(),
                     place,
