@@ -99,13 +99,14 @@ impl Places {
     /// to stop at the right one is a branch that can't be foreseen.
     pub fn near(&self, hash: SetHash) -> Option<usize> {
         let bucket = self.buckets.get(self.bucket_of(hash))?;
-        let mut place = EMPTY.place;
-        for slot in bucket {
-            if slot.tag == hash.upper_half() {
-                place = slot.place;
+        let mut number = 0;
+        for other in 1..BUCKET {
+            if bucket[other].tag == hash.upper_half() {
+                number = other;
             }
         }
-        Some(place as usize)
+        let slot = bucket.get(number)?;
+        Some(slot.place as usize)
     }
 
     /// Keeps the place of the set with this hash, if its bucket has room.
