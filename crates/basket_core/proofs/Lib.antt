@@ -3,3 +3,4 @@ mod RankLemmas
 mod CodeLemmas
 mod DepthLemmas
 mod FractionLemmas
+mod DivisorLemmas

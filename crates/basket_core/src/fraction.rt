@@ -1,5 +1,5 @@
 //! Fractions in lowest terms.
-ghost use Rattle.std.specs.Prelude.{◌≡◌, ◌≤◌};
+ghost use Rattle.std.specs.Prelude.{◌≡◌, ◌≤◌, ◌%◌};
 ghost use Rattle.std.specs.Int.{IsGcd};
 ghost use Rattle.basket_core.specs.Fraction.{IsLowest, IsRatioOf, lowest};
 
@@ -33,10 +33,28 @@ impl Fraction {
         ensures same { IsRatioOf numerator denominator result }
         ensures lowest { IsLowest result }
     {
-        let divisor = greatest_common_divisor(numerator, denominator);
+        let most = u128::from(u64::MAX);
+        if numerator <= most && denominator <= most {
+            return Fraction::reduced_short(numerator as u64, denominator as u64);
+        }
+        let divisor = long_divisor(numerator, denominator);
         Fraction {
             numerator: numerator / divisor,
             denominator: denominator / divisor,
+        }
+    }
+
+    /// The same where division is quick.
+    fn reduced_short(numerator: u64, denominator: u64) -> Self
+        requires { 1 ≤ denominator }
+        ensures value { result ≡ lowest numerator denominator }
+        ensures same { IsRatioOf numerator denominator result }
+        ensures lowest { IsLowest result }
+    {
+        let divisor = short_divisor(numerator, denominator);
+        Fraction {
+            numerator: u128::from(numerator / divisor),
+            denominator: u128::from(denominator / divisor),
         }
     }
 
@@ -55,17 +73,6 @@ impl Fraction {
     }
 }
 
-fn greatest_common_divisor(a: u128, b: u128) -> u128
-    ensures { IsGcd a b result }
-{
-    let most = u128::from(u64::MAX);
-    if a <= most && b <= most {
-        u128::from(short_divisor(a as u64, b as u64))
-    } else {
-        long_divisor(a, b)
-    }
-}
-
 /// The greatest common divisor, by Euclid's algorithm.
 fn long_divisor(a: u128, b: u128) -> u128
     ensures { IsGcd a b result }
@@ -80,18 +87,37 @@ fn long_divisor(a: u128, b: u128) -> u128
     greater
 }
 
-/// The same where division is quick.
+/// The same without a division (Stein 1967): what both have of twos, and what is common to the rest,
+/// of which one is odd.
 fn short_divisor(a: u64, b: u64) -> u64
+    requires { 1 ≤ b }
     ensures { IsGcd a b result }
 {
-    let mut greater = a;
-    let mut less = b;
-    while less != 0 {
-        let rest = greater % less;
-        greater = less;
-        less = rest;
+    let twos = a.trailing_zeros().min(b.trailing_zeros());
+    let a = a >> twos;
+    let b = b >> twos;
+    let divisor = if a % 2 == 1 {
+        odd_divisor(a, b)
+    } else {
+        odd_divisor(b, a)
+    };
+    divisor << twos
+}
+
+/// The greatest common divisor of an odd number and another: that has no twos, and the difference of
+/// two odd numbers may take the place of the greater.
+fn odd_divisor(odd: u64, other: u64) -> u64
+    requires { odd % 2 ≡ 1 }
+    ensures { IsGcd odd other result }
+{
+    let mut least = odd;
+    let mut rest = other;
+    while rest != 0 {
+        let next = rest >> rest.trailing_zeros();
+        rest = next.abs_diff(least);
+        least = least.min(next);
     }
-    greater
+    least
 }
 
 /// The numerator, a slash and the denominator.

@@ -5,4 +5,5 @@ mod TreeLemmas
 mod CondensedLemmas
 mod RuleLemmas
 mod RightLemmas
+mod SideLemmas
 mod LevelLemmas

@@ -1,17 +1,17 @@
 //! Association rules (Agrawal and Srikant 1994).
-ghost use Rattle.std.specs.Prelude.{◌≡◌, ◌<◌, ◌-◌, ◌*◌, ◌++◌, IfOk, OnOk, length, nat_le};
+ghost use Rattle.std.specs.Prelude.{◌≡◌, ◌≤◌, ◌<◌, ◌-◌, ◌*◌, ◌++◌, IfOk, OnOk, length, nat_le};
 ghost use Rattle.basket_sets.specs.Itemset.{IsRising};
 ghost use Rattle.basket_rules.specs.Listed.{set_at};
 ghost use Rattle.basket_rules.specs.Met.{found_rule, rule_from, rules_in};
 ghost use Rattle.basket_rules.specs.Rights.{side_of};
-ghost use Rattle.basket_rules.specs.Rules.{KeepsConfident, AreRules, AreRulesWith, IsCountIn, IsRuleFor};
+ghost use Rattle.basket_rules.specs.Rules.{KeepsConfident, AreRules, AreRulesWith, IsRuleFor};
 
 use crate::lookups::{Figures, Lookups};
 use crate::met::MetRule;
-use crate::places::Places;
+use crate::places::SetHash;
 use crate::rights::{MOST_PLACES, Right, Sides, longer_rights};
-use crate::search::find;
-use basket_core::{Counted, Fraction, Itemset, Unpacked};
+use crate::supports::count_of;
+use basket_core::{Fraction, Itemset, Unpacked};
 use std::alloc::{AllocError, Global};
 
 /// A rule: baskets that have the left side often have the right side too. Neither side is empty,
@@ -143,13 +143,15 @@ fn keep_confident(
     lookups: &mut Lookups,
     rules: &mut Vec<MetRule>,
 ) -> Result<Vec<Right>, AllocError>
-    requires { number < length frequent.now.sets }
+    requires listed { number < length frequent.now.sets }
+    requires few { length (set_at frequent.now.sets number) ≤ MOST_PLACES }
     ensures { IfOk result (λ met. KeepsConfident frequent.now confidence number tried.now met.items
         (rules_in frequent.now number rules.old.items) (rules_in frequent.now number rules.new.items)) }
 {
+    let whole = SetHash::of(frequent.sets()[number].set.items());
     let mut met = Vec::with_capacity(alloc, tried.len())?;
     for right in tried {
-        if let Some(rule) = rule_for(frequent, number, confidence, *right, lookups)? {
+        if let Some(rule) = rule_for(frequent, number, confidence, *right, whole, lookups)? {
             rules.push(rule)?;
             met.push(*right)?;
         }
@@ -158,26 +160,28 @@ fn keep_confident(
 }
 
 /// The rule whose sides make the set at the place, with this right side, where it meets the
-/// confidence.
+/// confidence. `whole` is the hash of that set.
 fn rule_for(
     frequent: &Unpacked,
     number: usize,
     confidence: (u32, u32),
     right: Right,
+    whole: SetHash,
     lookups: &mut Lookups,
 ) -> Result<Option<MetRule>, AllocError>
-    requires { number < length frequent.now.sets }
+    requires listed { number < length frequent.now.sets }
+    requires few { length (set_at frequent.now.sets number) ≤ MOST_PLACES }
     ensures { IfOk result (λ found. IsRuleFor frequent.now confidence number (side_of (set_at frequent.now.sets number) right) (found_rule frequent.now number found)) }
 {
     let sets = frequent.sets();
     let union = &sets[number];
-    let Lookups { places, sides, .. } = lookups;
-    sides.fill(union.set.items(), right)?;
-    let left_count = count_of(sets, places, &sides.left);
+    let items = union.set.items();
+    let part = SetHash::of_side(items, right.places);
+    let left_count = count_of(sets, items, !right.places, whole.without(part), lookups)?;
     if !meets(confidence, union.count, left_count) {
         return Ok(None);
     }
-    let right_count = count_of(sets, places, &sides.right);
+    let right_count = count_of(sets, items, right.places, part, lookups)?;
     Ok(MetRule::new(right, left_count, right_count))
 }
 
@@ -187,14 +191,4 @@ fn meets(confidence: (u32, u32), count: u64, left_count: u64) -> bool
 {
     u128::from(confidence.0) * u128::from(left_count)
         <= u128::from(count) * u128::from(confidence.1)
-}
-
-/// The count of the set with these items, or 0 where the list doesn't have it.
-fn count_of(sets: &[Counted], places: &Places, items: &[u32]) -> u64
-    ensures { IsCountIn sets.now items.now result }
-{
-    match find(sets, items, places.near(items)) {
-        Ok(at) => sets[at].count,
-        Err(_) => 0,
-    }
 }

@@ -2,12 +2,12 @@
 ghost use Rattle.std.specs.Prelude.{◌≡◌, ◌≤◌};
 ghost use Rattle.basket_core.specs.Fraction.{lowest};
 
+use crate::places::MULTIPLIER;
 use basket_core::Fraction;
 use std::alloc::{AllocError, Global};
-use std::hash::{FoldHasher, Hasher};
 
 /// How many fractions are kept.
-const SLOTS: usize = 8_192;
+const SLOTS: usize = 2_048;
 
 /// A numerator and a denominator, and the fraction that they are.
 #[derive(Clone, Copy, Debug)]
@@ -82,8 +82,6 @@ impl Reduced {
 }
 
 fn slot_of(numerator: u64, denominator: u64) -> usize {
-    let mut hasher = FoldHasher::default();
-    hasher.write_u64(numerator);
-    hasher.write_u64(denominator);
-    hasher.finish() as usize % SLOTS
+    let mixed = numerator.wrapping_mul(MULTIPLIER) ^ denominator;
+    (mixed.wrapping_mul(MULTIPLIER) >> 32) as usize % SLOTS
 }

@@ -11,6 +11,7 @@ mod met;
 mod places;
 mod rights;
 mod search;
+mod supports;
 mod tree;
 pub mod worked;
 

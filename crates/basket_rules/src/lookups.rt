@@ -65,7 +65,7 @@ impl Lookups {
         ensures right { IfOk result (λ _. IsRising self.new.sides.right.items) }
     {
         let union = &frequent.sets()[number];
-        self.sides.fill(union.set.items(), met.right)?;
+        self.sides.fill(union.set.items(), met.right.places)?;
         Ok(Figures {
             count: union.count,
             confidence: self

@@ -3,10 +3,55 @@
 
 use basket_core::Counted;
 use std::alloc::{AllocError, Global};
-use std::hash::{FoldHasher, Hasher};
 
 /// How many sets with neighbouring hashes are kept.
 const BUCKET: usize = 4;
+
+/// An odd number whose bits look random.
+pub const MULTIPLIER: u64 = 0x9E37_79B9_7F4A_7C15;
+
+/// The hash of a set: the sum of those of its items. So what is left of a set without a part of it
+/// has the hash of the set less that of the part.
+#[derive(Clone, Copy, Debug)]
+pub struct SetHash {
+    sum: u64,
+}
+
+impl SetHash {
+    pub fn of(items: &[u32]) -> Self {
+        let mut sum: u64 = 0;
+        for item in items {
+            sum = sum.wrapping_add(item_hash(*item));
+        }
+        SetHash { sum }
+    }
+
+    /// That of the items of a union at the places of a word.
+    pub fn of_side(union: &[u32], places: u64) -> Self {
+        let mut sum: u64 = 0;
+        let mut rest = places;
+        for item in union {
+            sum = sum.wrapping_add(item_hash(*item).wrapping_mul(rest % 2));
+            rest /= 2;
+        }
+        SetHash { sum }
+    }
+
+    pub fn without(self, part: SetHash) -> Self {
+        SetHash {
+            sum: self.sum.wrapping_sub(part.sum),
+        }
+    }
+
+    fn upper_half(self) -> u32 {
+        (self.sum >> 32) as u32
+    }
+}
+
+fn item_hash(item: u32) -> u64 {
+    let spread = (u64::from(item) + 1).wrapping_mul(MULTIPLIER);
+    (spread ^ (spread >> 32)).wrapping_mul(MULTIPLIER)
+}
 
 /// A set that is kept: the upper half of its hash, and its place. An empty slot has a place that no
 /// list reaches.
@@ -45,49 +90,42 @@ impl Places {
             buckets: vec![in alloc; [EMPTY; BUCKET]; buckets]?,
         };
         for place in 0..sets.len() {
-            places.keep(sets[place].set.items(), place);
+            places.keep(SetHash::of(sets[place].set.items()), place);
         }
         Ok(places)
     }
 
-    /// The place where the set with these items may stand.
-    pub fn near(&self, items: &[u32]) -> Option<usize> {
-        let hash = hash_of(items);
+    /// The place where a set with this hash may stand. All slots of its bucket are looked at, since
+    /// to stop at the right one is a branch that can't be foreseen.
+    pub fn near(&self, hash: SetHash) -> Option<usize> {
         let bucket = self.buckets.get(self.bucket_of(hash))?;
-        let slot = bucket.iter().find(|slot| slot.tag == tag_of(hash))?;
+        let mut number = 0;
+        for other in 1..BUCKET {
+            if bucket[other].tag == hash.upper_half() {
+                number = other;
+            }
+        }
+        let slot = bucket.get(number)?;
         Some(slot.place as usize)
     }
 
-    /// Keeps the place of the set with these items, if its bucket has room.
-    fn keep(&mut self, items: &[u32], place: usize) {
-        let hash = hash_of(items);
+    /// Keeps the place of the set with this hash, if its bucket has room.
+    fn keep(&mut self, hash: SetHash, place: usize) {
         let number = self.bucket_of(hash);
         let Ok(place) = u32::try_from(place) else {
             return;
         };
         if let Some(bucket) = self.buckets.get_mut(number) {
-            if let Some(free) = bucket.iter().position(|slot| slot.place == u32::MAX) {
+            if let Some(free) = bucket.iter().position(|slot| slot.place == EMPTY.place) {
                 bucket[free] = Slot {
-                    tag: tag_of(hash),
+                    tag: hash.upper_half(),
                     place,
                 };
             }
         }
     }
 
-    fn bucket_of(&self, hash: u64) -> usize {
-        hash as usize & self.buckets.len().saturating_sub(1)
+    fn bucket_of(&self, hash: SetHash) -> usize {
+        hash.sum as usize & self.buckets.len().saturating_sub(1)
     }
-}
-
-fn hash_of(items: &[u32]) -> u64 {
-    let mut hasher = FoldHasher::default();
-    for item in items {
-        hasher.write_u32(*item);
-    }
-    hasher.finish()
-}
-
-fn tag_of(hash: u64) -> u32 {
-    (hash >> 32) as u32
 }

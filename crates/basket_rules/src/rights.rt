@@ -1,5 +1,5 @@
 //! Right sides of the rules with one union, each as the places of its items in the union.
-ghost use Rattle.std.specs.Prelude.{◌≡◌, ◌≤◌, ◌<◌, ◌++◌, IfOk, OnOk, length, not};
+ghost use Rattle.std.specs.Prelude.{◌≡◌, ◌≤◌, ◌<◌, ◌++◌, IfOk, OnOk, length, not, take};
 ghost use Rattle.basket_rules.specs.Rights.{chosen, has_place, longer, longer_by, no_places, with_place};
 
 use std::alloc::{AllocError, Global};
@@ -78,22 +78,39 @@ impl Sides {
         }
     }
 
-    /// Makes `right` the items of the union at the places of a right side, and `left` the others.
-    pub(crate) fn fill(&mut self, union: &[u32], of: Right) -> Result<(), AllocError>
-        ensures left { OnOk result (self.new.left.items ≡ chosen (λ place. not (has_place of.places place)) union.now) }
-        ensures right { OnOk result (self.new.right.items ≡ chosen (has_place of.places) union.now) }
+    /// Makes `right` the items of the union at the places of a word, and `left` the others. Each item
+    /// is put on both sides, and stays on one: no branch depends on the word.
+    pub(crate) fn fill(&mut self, union: &[u32], places: u64) -> Result<(), AllocError>
+        ensures left { OnOk result (self.new.left.items ≡ chosen (λ place. not (has_place places place)) union.now) }
+        ensures right { OnOk result (self.new.right.items ≡ chosen (has_place places) union.now) }
     {
-        self.left.clear();
-        self.right.clear();
-        let mut places = of.places;
-        for item in union {
-            if places % 2 == 1 {
-                self.right.push(*item)?;
-            } else {
-                self.left.push(*item)?;
-            }
-            places /= 2;
-        }
+        self.left.resize(union.len(), 0)?;
+        self.right.resize(union.len(), 0)?;
+        let (left, right) = part(union, places, &mut self.left, &mut self.right);
+        self.left.truncate(left);
+        self.right.truncate(right);
         Ok(())
     }
+}
+
+/// Puts the items of the union at the places of a word in front of `right`, and the others in front
+/// of `left`. Answers how many these and those are.
+fn part(union: &[u32], places: u64, left: &mut [u32], right: &mut [u32]) -> (usize, usize)
+    requires left { length left.old ≡ length union.now }
+    requires right { length right.old ≡ length union.now }
+    ensures left { take result.0 left.new ≡ chosen (λ place. not (has_place places place)) union.now }
+    ensures right { take result.1 right.new ≡ chosen (has_place places) union.now }
+{
+    let mut rest = places;
+    let mut on_left = 0;
+    let mut on_right = 0;
+    for item in union {
+        left[on_left] = *item;
+        right[on_right] = *item;
+        let taken = (rest % 2) as usize;
+        on_left += 1 - taken;
+        on_right += taken;
+        rest /= 2;
+    }
+    (on_left, on_right)
 }

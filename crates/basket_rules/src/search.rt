@@ -59,17 +59,12 @@ fn find_before(sets: &[Counted], front: &[u32], rest: &[u32], near: usize) -> Re
     find_between(sets, front, rest, 0, end)
 }
 
-/// Where the set with these items stands, or where it is missing. It may stand at the place `near`.
-pub fn find(sets: &[Counted], items: &[u32], near: Option<usize>) -> Result<usize, usize>
+/// Where the set with these items stands, or where it is missing.
+pub fn find(sets: &[Counted], items: &[u32]) -> Result<usize, usize>
     ensures bound { IsSearchInRange result (length sets.now) }
     ensures found { IfOk result (λ at. set_at sets.now at ≡ items.now) }
     ensures missing { IfErr result (λ _. IsMissing sets.now items.now) }
 {
-    if let Some(near) = near {
-        if near < sets.len() && sets[near].set.items() == items {
-            return Ok(near);
-        }
-    }
     find_between(sets, items, &[], 0, sets.len())
 }
 

@@ -1,12 +1,13 @@
-use Rattle.std.proofs.Common.{leb, ◌≡◌, ◌*◌, ◌<◌, length, sym, ap, ◌∙◌, subst}
+use Rattle.std.proofs.Common.{leb, ◌≡◌, ◌*◌, ◌<◌, w64, length, sym, ap, ◌∙◌, subst, arith}
+use Rattle.std.specs.Int.{bit_not}
 use Rattle.std.proofs.lemmas.List.{get_or-map}
 use Rattle.basket_sets.specs.declared.counted.Counted.{Counted}
 use Rattle.basket_sets.specs.Itemset.{IsRising}
 use Rattle.basket_rules.specs.Listed.{set_at, count_at}
-use Rattle.basket_rules.specs.Rights.{has_place, side_of}
+use Rattle.basket_rules.specs.Rights.{chosen, has_place, side_of}
 use Rattle.basket_rules.specs.Rules.{difference, IsCountIn}
 use Rattle.basket_rules.proofs.SearchLemmas.{set_is}
-use Rattle.basket_rules.proofs.RightLemmas.{others_are}
+use Rattle.basket_rules.proofs.SideLemmas.{left_side}
 use Rattle.basket_rules.proofs.RuleLemmas.{no_rule, a_found_rule}
 use Rattle.basket_rules.proofs.association.rule_for.Goals as goal
 
@@ -16,7 +17,7 @@ returns-then-not-meets c =
     let number = c.args.number in
     let list = c.sets-sets.result.now in
     let same : list ≡ listing.sets = c.sets-sets.ensures in
-    let below : number < length list = subst (λ l. number < length l) (sym same) c.requires in
+    let below : number < length list = subst (λ l. number < length l) (sym same) c.requires.listed in
     let entry = c.index-sets-number.result in
     let set : set_at listing.sets number ≡ entry.set = ap (λ l. set_at l number) (sym same) ∙ set_is list number entry below ∙ ap (λ (x : Counted). x.set) (sym c.index-sets-number.is) in
     let counted : count_at listing.sets number ≡ entry.count =
@@ -24,15 +25,16 @@ returns-then-not-meets c =
     let union = set_at listing.sets number in
     let right = side_of union c.args.right in
     let rest = difference union right in
-    let left : c.deref.result.now ≡ rest = c.deref.ensures.value ∙ c.in_ok-fill.ensures.left
-    ∙ others_are (has_place c.args.right.places) 0 c.items.result.now (subst IsRising (sym c.items.ensures.items) c.items.ensures.rising)
-    ∙ ap (λ l. difference l (side_of l c.args.right)) (c.items.ensures.items ∙ sym set) in
-    let left_count = c.count_of-left_count.result in
+    let items : c.items-items.result.now ≡ union = c.items-items.ensures.items ∙ sym set in
+    let up : IsRising union = subst IsRising (sym set) c.items-items.ensures.rising in
+    let left : chosen (has_place (bit_not w64 c.args.right.places)) c.items-items.result.now ≡ rest =
+    ap (chosen (has_place (bit_not w64 c.args.right.places))) items ∙ left_side c.args.right union (omega arith) c.requires.few up in
+    let left_count = c.in_ok-left_count.left_count in
     let left_is : IsCountIn listing.sets rest left_count =
-    subst (λ l. IsCountIn l rest left_count) same (subst (λ l. IsCountIn list l left_count) left c.count_of-left_count.ensures) in
+    subst (λ l. IsCountIn l rest left_count) same (subst (λ l. IsCountIn list l left_count) left c.in_ok-left_count.ensures) in
     let test : c.meets.result ≡ leb (c.args.confidence.0 * left_count) (count_at listing.sets number * c.args.confidence.1) =
     c.meets.ensures ∙ ap (λ n. leb (c.args.confidence.0 * left_count) (n * c.args.confidence.1)) (sym counted) in
-    no_rule listing number c.requires right c.args.confidence left_count left_is (sym test ∙ c.if-not-meets.true)
+    no_rule listing number c.requires.listed right c.args.confidence left_count left_is (sym test ∙ c.if-not-meets.true)
 
 pub returns : goal.returns
 returns c =
@@ -40,7 +42,7 @@ returns c =
     let number = c.args.number in
     let list = c.sets-sets.result.now in
     let same : list ≡ listing.sets = c.sets-sets.ensures in
-    let below : number < length list = subst (λ l. number < length l) (sym same) c.requires in
+    let below : number < length list = subst (λ l. number < length l) (sym same) c.requires.listed in
     let entry = c.index-sets-number.result in
     let set : set_at listing.sets number ≡ entry.set = ap (λ l. set_at l number) (sym same) ∙ set_is list number entry below ∙ ap (λ (x : Counted). x.set) (sym c.index-sets-number.is) in
     let counted : count_at listing.sets number ≡ entry.count =
@@ -48,16 +50,16 @@ returns c =
     let union = set_at listing.sets number in
     let right = side_of union c.args.right in
     let rest = difference union right in
-    let left : c.deref.result.now ≡ rest = c.deref.ensures.value ∙ c.in_ok-fill.ensures.left
-    ∙ others_are (has_place c.args.right.places) 0 c.items.result.now (subst IsRising (sym c.items.ensures.items) c.items.ensures.rising)
-    ∙ ap (λ l. difference l (side_of l c.args.right)) (c.items.ensures.items ∙ sym set) in
-    let left_count = c.count_of-left_count.result in
+    let items : c.items-items.result.now ≡ union = c.items-items.ensures.items ∙ sym set in
+    let up : IsRising union = subst IsRising (sym set) c.items-items.ensures.rising in
+    let left : chosen (has_place (bit_not w64 c.args.right.places)) c.items-items.result.now ≡ rest =
+    ap (chosen (has_place (bit_not w64 c.args.right.places))) items ∙ left_side c.args.right union (omega arith) c.requires.few up in
+    let left_count = c.in_ok-left_count.left_count in
     let left_is : IsCountIn listing.sets rest left_count =
-    subst (λ l. IsCountIn l rest left_count) same (subst (λ l. IsCountIn list l left_count) left c.count_of-left_count.ensures) in
-    let filled : c.deref-2.result.now ≡ right = c.deref-2.ensures.value ∙ c.in_ok-fill.ensures.right ∙ ap (λ l. side_of l c.args.right) (c.items.ensures.items ∙ sym set) in
-    let right_count = c.count_of-right_count.result in
-    let right_is : IsCountIn listing.sets right right_count =
-    subst (λ l. IsCountIn l right right_count) same (subst (λ l. IsCountIn list l right_count) filled c.count_of-right_count.ensures) in
+    subst (λ l. IsCountIn l rest left_count) same (subst (λ l. IsCountIn list l left_count) left c.in_ok-left_count.ensures) in
     let test : c.meets.result ≡ leb (c.args.confidence.0 * left_count) (count_at listing.sets number * c.args.confidence.1) =
     c.meets.ensures ∙ ap (λ n. leb (c.args.confidence.0 * left_count) (n * c.args.confidence.1)) (sym counted) in
-    a_found_rule listing number c.requires c.args.right c.args.confidence left_count right_count c.new.result left_is right_is (sym test ∙ c.if-not-meets.false) c.new.ensures.some c.new.ensures.none
+    let right_count = c.in_ok-right_count.right_count in
+    let right_is : IsCountIn listing.sets right right_count =
+    subst (λ l. IsCountIn l right right_count) same (subst (λ l. IsCountIn list (side_of l c.args.right) right_count) items c.in_ok-right_count.ensures) in
+    a_found_rule listing number c.requires.listed c.args.right c.args.confidence left_count right_count c.new.result left_is right_is (sym test ∙ c.if-not-meets.false) c.new.ensures.some c.new.ensures.none
