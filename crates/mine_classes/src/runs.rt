@@ -113,13 +113,44 @@ impl Runs {
     }
 }
 
-/// An empty list of runs for each rank.
-fn no_runs(alloc: Global, count: u32) -> Result<Vec<Vec<Span>>, AllocError>
-    ensures { IfOk result (λ of. runs_of of.items ≡ replicate count []) }
+/// How many runs each rank gets.
+fn run_counts(
+    alloc: Global,
+    count: u32,
+    ranks: &[u32],
+    baskets: &[Span],
+) -> Result<Vec<usize>, AllocError>
+    requires { All (IsWithin (length ranks.now)) baskets.now }
+    ensures { IfOk result (λ counts. length counts.items ≡ count) }
 {
-    let mut of = Vec::with_capacity(alloc, count as usize)?;
-    for _rank in 0..count {
-        of.push(Vec::new(alloc))?;
+    let mut counts = vec![in alloc; 0; count as usize]?;
+    let mut last = &ranks[..0];
+    for basket in baskets {
+        let path = basket.of(ranks);
+        let same = shared(last, path);
+        count_each(&mut counts, &path[same..]);
+        last = path;
+    }
+    Ok(counts)
+}
+
+/// Counts one more for each of some ranks.
+fn count_each(counts: &mut [usize], ranks: &[u32]) {
+    for rank in ranks {
+        if (*rank as usize) < counts.len() {
+            counts[*rank as usize] = counts[*rank as usize].wrapping_add(1);
+        }
+    }
+}
+
+/// An empty list for each rank, with room for so many runs.
+fn no_runs(alloc: Global, counts: &[usize]) -> Result<Vec<Vec<Span>>, AllocError>
+    ensures { IfOk result (λ of. runs_of of.items ≡ replicate (length counts.now) []) }
+{
+    let mut of = Vec::with_capacity(alloc, counts.len())?;
+    for count in counts {
+        let runs = Vec::with_capacity(alloc, *count)?;
+        of.push(runs)?;
     }
     Ok(of)
 }
@@ -135,7 +166,7 @@ fn all_runs(
     requires ranked { AreRankBaskets (record { ranks = count; baskets = baskets_at ranks.now baskets.now }) }
     ensures { IfOk result (λ of. HaveAllRuns count ranks.now (baskets_at ranks.now baskets.now) (runs_of of.items)) }
 {
-    let mut of = no_runs(alloc, count)?;
+    let mut of = no_runs(alloc, &run_counts(alloc, count, ranks, baskets)?)?;
     let mut last = &ranks[..0];
     for basket in baskets {
         let path = basket.of(ranks);
