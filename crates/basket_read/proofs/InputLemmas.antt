@@ -5,6 +5,7 @@ use Rattle.std.specs.List.{starts_with}
 use Rattle.std.proofs.lemmas.Bool.{cases_lt, ne_eqb, eqb-false, lt-ltb, le-ltb}
 use Rattle.std.proofs.lemmas.List.{length-append, length-drop, take_all, take-append-le}
 use Rattle.std.proofs.Math.Logic.{∥∥₁_map}
+use Rattle.basket_sets.specs.declared.weighted.Weighted.{Weighted}
 use Rattle.basket_read.specs.declared.fault.ReadFault.{ReadFault}
 use Rattle.basket_read.specs.declared.fault.ReadFault.TheVariants.{Byte, TooLong}
 use Rattle.basket_read.specs.declared.input.Front.{Front}
@@ -161,32 +162,32 @@ text_behind_le TwoBytes bytes = omega arith
 text_behind_le Decided bytes = text_of_le bytes
 
 -- the text has room for what the input has room for
-pub has_room : (input : Input) (more : ℕ) → ((bytes : List ℕ) → IsInputSoFar input bytes → length bytes + more ≤ MOST_BYTES) → IsSomeInput input → HasRoom input.text more
+pub has_room : (input : Input) (more : ℕ) → ((past : List Weighted) (bytes : List ℕ) → IsInputSoFar input past bytes → length bytes + more ≤ MOST_BYTES) → IsSomeInput input → HasRoom input.text more
 has_room input more few some =
-    ∥∥₁_map some (λ w. (text_behind input.front w.0, w.1.text, let shorter = text_behind_le input.front w.0 in let enough = few w.0 w.1 in omega arith))
+    ∥∥₁_map some (λ w. (w.0, text_behind input.front w.1, w.2.text, let shorter = text_behind_le input.front w.1 in let enough = few w.0 w.1 w.2 in omega arith))
 
-module _ (input : Input) (bytes : List ℕ) (r : IsInputSoFar input bytes) where
-  pub at_front : (front : Front) → input.front ≡ front → IsFront front bytes × IsTextSoFar input.text (text_behind front bytes)
-  at_front front e = (subst (λ f. IsFront f bytes) e r.front, subst (λ f. IsTextSoFar input.text (text_behind f bytes)) e r.text)
+module _ (input : Input) (past : List Weighted) (bytes : List ℕ) (r : IsInputSoFar input past bytes) where
+  pub at_front : (front : Front) → input.front ≡ front → IsFront front bytes × IsTextSoFar input.text past (text_behind front bytes)
+  at_front front e = (subst (λ f. IsFront f bytes) e r.front, subst (λ f. IsTextSoFar input.text past (text_behind f bytes)) e r.text)
 
   -- the input with one more byte, at a front that is known
   pub with_front : (front : Front) (text : Text) (byte : ℕ) (before after : List ℕ) → bytes ≡ before → before ++ byte ∷ [] ≡ after → length after ≤ 3
-      → IsFront front after → IsTextSoFar text (text_behind front after) → IsInputSoFar (record { front = front; taken = length after; text = text }) (bytes ++ byte ∷ [])
+      → IsFront front after → IsTextSoFar text past (text_behind front after) → IsInputSoFar (record { front = front; taken = length after; text = text }) past (bytes ++ byte ∷ [])
   with_front front text byte before after e f small at t =
       let same : after ≡ bytes ++ byte ∷ [] = sym f ∙ ap (λ l. l ++ byte ∷ []) (sym e) in
-      subst (IsInputSoFar (record { front = front; taken = length after; text = text })) same
+      subst (IsInputSoFar (record { front = front; taken = length after; text = text }) past) same
       (record { front = at; taken = refl; few = omega arith; text = t })
 
   -- behind the front the text goes on
-  pub with_text : (text : Text) (piece : List ℕ) → input.front ≡ Decided → length bytes + length piece ≤ MOST_BYTES → IsTextSoFar text (text_of bytes ++ piece)
-      → IsInputSoFar (record { front = input.front; taken = input.taken + length piece; text = text }) (bytes ++ piece)
+  pub with_text : (text : Text) (piece : List ℕ) → input.front ≡ Decided → length bytes + length piece ≤ MOST_BYTES → IsTextSoFar text past (text_of bytes ++ piece)
+      → IsInputSoFar (record { front = input.front; taken = input.taken + length piece; text = text }) past (bytes ++ piece)
   with_text text piece e few t =
       let h = (at_front Decided e).0 in
       record {
         front = subst (λ f. IsFront f (bytes ++ piece)) (sym e) (decided-append bytes piece h).1;
         taken = ap (λ n. n + length piece) r.taken ∙ sym (length-append bytes piece);
         few = let sum = length-append bytes piece in omega arith;
-        text = subst (λ f. IsTextSoFar text (text_behind f (bytes ++ piece))) (sym e) (subst (IsTextSoFar text) (sym (decided-append bytes piece h).0) t);
+        text = subst (λ f. IsTextSoFar text past (text_behind f (bytes ++ piece))) (sym e) (subst (IsTextSoFar text past) (sym (decided-append bytes piece h).0) t);
       }
 
   -- the fault of a text behind the front is that of the input
@@ -207,7 +208,7 @@ module _ (input : Input) (bytes : List ℕ) (r : IsInputSoFar input bytes) where
   pub faultless_input : settled_fault bytes ≡ None
   faultless_input = at input.front r.front r.text
     where
-      at : (front : Front) → IsFront front bytes → IsTextSoFar input.text (text_behind front bytes) → settled_fault bytes ≡ None
+      at : (front : Front) → IsFront front bytes → IsTextSoFar input.text past (text_behind front bytes) → settled_fault bytes ≡ None
       at Empty e t = ap settled_fault e
       at OneByte e t = ap settled_fault e
       at TwoBytes e t = ap settled_fault e
@@ -239,8 +240,9 @@ pub no_mark : (byte : ℕ) → byte ≢ 239 → (text_of (byte ∷ []) ≡ byte 
 no_mark byte other = other_first byte [] (ne_eqb byte 239 other)
 
 -- after a part of a piece the input is of some bytes
-pub some_after : (input new : Input) (before : List ℕ) → IsSomeInput input → ((bytes : List ℕ) → IsInputSoFar input bytes → IsInputSoFar new (bytes ++ before)) → IsSomeInput new
-some_after input new before some step = ∥∥₁_map some (λ w. (w.0 ++ before, step w.0 w.1))
+pub some_after : (input new : Input) (before : List ℕ) → IsSomeInput input
+    → ((past : List Weighted) (bytes : List ℕ) → IsInputSoFar input past bytes → IsInputSoFar new past (bytes ++ before)) → IsSomeInput new
+some_after input new before some step = ∥∥₁_map some (λ w. (w.0, w.1 ++ before, step w.0 w.1 w.2))
 
 -- a settled fault at a byte of a piece is that of the piece
 pub settled_in_piece : (bytes piece : List ℕ) (i : ℕ) (fault : ReadFault) → i < length piece

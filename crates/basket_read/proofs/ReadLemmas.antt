@@ -1,7 +1,8 @@
 -- What a read of blocks answers.
-use Rattle.std.proofs.Common.{◌≡◌, ◌≢◌, ℕ, Bool, true, false, List, [], ◌∷◌, ◌++◌, cond, Option, Some, None, Result, Ok, Err, refl, sym, ap, ◌∙◌, subst, append_assoc, leb, ltb, take, length}
-use Rattle.std.specs.Prelude.{IfSome}
-use Rattle.std.specs.Io.KnownBytes.{Consumes}
+use Rattle.std.proofs.Common.{◌≡◌, ◌≢◌, ◌≤◌, ℕ, Bool, true, false, List, [], ◌∷◌, ◌++◌, cond, Option, Some, None, Result, Ok, Err, append-nil, refl, sym, ap, ◌∙◌, subst, append_assoc, leb, ltb, take, length}
+use Rattle.std.proofs.lemmas.Bool.{leb-true}
+use Rattle.std.specs.Prelude.{IfOk, IfSome, unwrap_or}
+use Rattle.std.specs.Io.KnownBytes.{Consumes, IsAtEnd, Keeps}
 use Rattle.basket_sets.specs.declared.weighted.Weighted.{Weighted}
 use Rattle.basket_sets.specs.Minimum.{is_digit}
 use Rattle.basket_sets.specs.Support.{total_of}
@@ -9,7 +10,10 @@ use Rattle.basket_sets.specs.Database.{MOST_WEIGHT}
 use Rattle.basket_read.specs.declared.fault.ReadFault.{ReadFault}
 use Rattle.basket_read.specs.declared.fault.ReadFault.TheVariants.{Memory, Read, TooLong, Byte, Number, Heavy}
 use Rattle.basket_read.specs.Fimi.{is_good, line_after, fault_after, first_fault, or_else, fault_in, text_of, settled_fault, baskets_of, answer_of, fimi_of, MOST_BYTES}
+use Rattle.basket_read.specs.ItemCounts.{AreLightCounts, Counts}
+use Rattle.basket_read.specs.Read.{FailsAfter}
 use Rattle.basket_read.specs.Text.{Tells, Answers}
+use Rattle.basket_read.specs.declared.item_counts.ItemCounts.{ItemCounts}
 use Rattle.basket_read.proofs.InputLemmas.{settled_stays, fault-settled}
 use Rattle.basket_read.proofs.PartsLemmas.{answer_told}
 
@@ -68,3 +72,43 @@ refused_answer (Some bytes) (Some left) given fault answer e p told =
 pub memory_answer : (old : Option (List ℕ)) (answer : Result (List Weighted) ReadFault) → answer ≡ Err Memory → IfSome old (λ bytes. Answers answer (fimi_of bytes))
 memory_answer None answer e = tt
 memory_answer (Some bytes) answer e = subst (λ a. Answers a (fimi_of bytes)) (sym e) (λ no_memory. absurd (no_memory refl))
+
+-- ---- the same of counts
+
+pub refused_counts : (old new : Option (List ℕ)) (given : List ℕ) (fault : ReadFault) (answer : Result ItemCounts ReadFault)
+    → answer ≡ Err fault → Consumes old new given → Tells fault (settled_fault given) → IfSome old (λ bytes. Counts answer (fimi_of bytes))
+refused_counts old new given fault answer e p told =
+    subst (λ (a : Result ItemCounts ReadFault). IfSome old (λ bytes. Counts a (fimi_of bytes))) (sym e) (refused_answer old new given fault (Err fault) refl p told)
+
+pub memory_counts : (old : Option (List ℕ)) (answer : Result ItemCounts ReadFault) → answer ≡ Err Memory → IfSome old (λ bytes. Counts answer (fimi_of bytes))
+memory_counts old answer e =
+    subst (λ (a : Result ItemCounts ReadFault). IfSome old (λ bytes. Counts a (fimi_of bytes))) (sym e) (memory_answer old (Err Memory) refl)
+
+-- what holds of the bytes that a reader gave up to its end holds of all its bytes
+pub of_all_bytes : (old now new : Option (List ℕ)) (given taken : List ℕ) (P : List ℕ → Type 0) → Consumes old now given → Consumes now new taken → taken ≡ [] → IsAtEnd new → P given → IfSome old P
+of_all_bytes None now new given taken P p q none end h = tt
+of_all_bytes (Some all) None new given taken P p q none end h = absurd p
+of_all_bytes (Some all) (Some rest) None given taken P p q none end h = absurd q
+of_all_bytes (Some all) (Some rest) (Some left) given taken P p q none end h =
+    subst P (sym (p ∙ ap (λ l. given ++ l) (q ∙ (λ i. none i ++ end i)) ∙ append-nil given)) h
+
+-- a reader that failed behind the bytes that it gave
+pub fails_after : (old now new : Option (List ℕ)) (given : List ℕ) (fault : ReadFault) → Consumes old now given → Keeps now new → fault ≡ unwrap_or (fault_in given) Read
+    → IfSome old (λ bytes. FailsAfter bytes new (Err fault))
+fails_after None now new given fault p kept is = tt
+fails_after (Some all) None new given fault p kept is = absurd p
+fails_after (Some all) (Some rest) None given fault p kept is = absurd kept
+fails_after (Some all) (Some rest) (Some left) given fault p kept is = (given, p ∙ ap (λ l. given ++ l) (sym kept), λ no_memory. is)
+
+-- the baskets that an input says are light
+light_answer : (found : Option ReadFault) (all baskets : List Weighted) → answer_of found all ≡ Ok baskets → total_of baskets ≤ MOST_WEIGHT
+light_answer (Some fault) all baskets e = absurd cc
+light_answer None all baskets e = at (leb (total_of all) MOST_WEIGHT) refl e
+  where
+    at : (b : Bool) → leb (total_of all) MOST_WEIGHT ≡ b → cond b (Ok all) (Err Heavy) ≡ Ok baskets → total_of baskets ≤ MOST_WEIGHT
+    at true light e = let same : all ≡ baskets = cc in subst (λ l. total_of l ≤ MOST_WEIGHT) same (leb-true (total_of all) MOST_WEIGHT light)
+    at false light e = absurd cc
+
+pub light_counts : (bytes : List ℕ) (answer : Result ItemCounts ReadFault) → Counts answer (fimi_of bytes) → IfOk answer AreLightCounts
+light_counts bytes (Ok counts) (baskets, is, counted) = (baskets, counted, light_answer (fault_in bytes) (baskets_of (text_of bytes)) baskets is)
+light_counts bytes (Err fault) h = tt

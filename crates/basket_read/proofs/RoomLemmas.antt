@@ -4,9 +4,12 @@ use Rattle.std.specs.List.{flat_map}
 use Rattle.std.proofs.lemmas.Bool.{cases_lt}
 use Rattle.std.proofs.lemmas.Grind.{not_there, flat_map-append}
 use Rattle.std.proofs.lemmas.List.{append-nil, length-append}
+use Rattle.std.proofs.lemmas.List.Sums.{sum_by-append}
 use Rattle.std.proofs.Math.Logic.{∥∥₁_map}
+use Rattle.basket_sets.specs.declared.weighted.Weighted.{Weighted}
 use Rattle.basket_sets.specs.Itemset.{rising, with_item}
-use Rattle.basket_sets.specs.Database.{MOST_BASKETS}
+use Rattle.basket_sets.specs.Database.{MOST_BASKETS, MOST_WEIGHT}
+use Rattle.basket_sets.specs.Support.{total_of, weight_at}
 use Rattle.basket_read.specs.declared.text.Text.{Text}
 use Rattle.basket_read.specs.Cut.{Cut, cut_more, cut_at}
 use Rattle.basket_read.specs.Fimi.{is_line_feed, is_times, basket_of, basket_of_numbers, numbers_of, weight_before}
@@ -19,6 +22,21 @@ merely_below a b h f = elim (cases_lt a b) [
   | inl lt ↦ lt
   | inr le ↦ absurd (not_there h (λ w. let lt = f w in absurd (omega arith)))
 ]
+
+pub merely_at_most : {A : Type 0} (a b : ℕ) → ∥ A ∥₁ → (A → a ≤ b) → a ≤ b
+merely_at_most a b h f = elim (cases_lt b a) [
+  | inl lt ↦ absurd (not_there h (λ w. let le = f w in absurd (omega arith)))
+  | inr le ↦ le
+]
+
+-- what the baskets that are past and those that are kept weigh together
+pub light_together : (text : Text) (past : List Weighted) (bytes : List ℕ) → IsTextSoFar text past bytes → text.heavy ≡ false
+    → total_of past + total_of text.baskets ≤ MOST_WEIGHT
+light_together text past bytes t light =
+    let same = subst (λ b. HasBaskets b (past ++ text.baskets) (flat_map basket_of (cut_at is_line_feed bytes).ended)) light t.baskets in
+    let sum = sum_by-append (weight_at []) past text.baskets in
+    let whole = ap total_of same.0 in
+    omega (arith, same.1)
 
 -- a separator for each part that has ended
 ended_after : (p : ℕ → Bool) (c : Cut) (xs : List ℕ) → length (fold (cut_more p) c xs).ended ≤ length c.ended + length xs
@@ -33,7 +51,7 @@ ended_after p c (x ∷ xs) = at (p x) (ended_after p (cut (c.ended ++ c.last ∷
 
 pub few_lines : (text : Text) (more : ℕ) → HasRoom text (more + 1) → text.lines + 1 < 2 ^ 32
 few_lines text more room =
-    merely_below (text.lines + 1) (2 ^ 32) room (λ w. let t = w.1.lines in let e = ended_after is_line_feed (cut [] []) w.0 in let small = w.2 in omega arith)
+    merely_below (text.lines + 1) (2 ^ 32) room (λ w. let t = w.2.lines in let e = ended_after is_line_feed (cut [] []) w.1 in let small = w.3 in omega arith)
 
 -- a basket has a number, and so its line a byte
 basket_size : (line : List ℕ) → 2 * length (basket_of line) ≤ length line + 1
@@ -66,14 +84,14 @@ baskets_after c (x ∷ xs) = at (is_line_feed x) (baskets_after (cut (c.ended ++
 pub few_baskets : (text : Text) (more : ℕ) → HasRoom text more → text.heavy ≡ false → length text.baskets < MOST_BASKETS
 few_baskets text more room light =
     merely_below (length text.baskets) MOST_BASKETS room
-    (λ w. let same = subst (λ b. HasBaskets b text.baskets (flat_map basket_of (cut_at is_line_feed w.0).ended)) light w.1.baskets in
-    let few = baskets_after (cut [] []) w.0 in let small = w.2 in let length_same = ap length same.0 in omega arith)
+    (λ w. let same = subst (λ b. HasBaskets b (w.0 ++ text.baskets) (flat_map basket_of (cut_at is_line_feed w.1).ended)) light w.2.baskets in
+    let few = baskets_after (cut [] []) w.1 in let small = w.3 in let length_same = ap length same.0 in let parts = length-append w.0 text.baskets in omega arith)
 
 -- after a part of a piece there is room for its rest
 pub room_after : (text new : Text) (before : List ℕ) (more : ℕ) (all : ℕ) → length before + more ≤ all → HasRoom text all
-    → ((bytes : List ℕ) → IsTextSoFar text bytes → IsTextSoFar new (bytes ++ before)) → HasRoom new more
+    → ((past : List Weighted) (bytes : List ℕ) → IsTextSoFar text past bytes → IsTextSoFar new past (bytes ++ before)) → HasRoom new more
 room_after text new before more all few room step =
-    ∥∥₁_map room (λ w. (w.0 ++ before, step w.0 w.1, let sum = length-append w.0 before in let small = w.2 in omega arith))
+    ∥∥₁_map room (λ w. (w.0, w.1 ++ before, step w.0 w.1 w.2, let sum = length-append w.1 before in let small = w.3 in omega arith))
 
 -- a set of some numbers is not empty
 pub rising_nonempty : (numbers : List ℕ) → numbers ≢ [] → rising numbers ≢ []

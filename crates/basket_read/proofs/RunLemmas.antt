@@ -6,6 +6,7 @@ use Rattle.std.proofs.lemmas.List.{append-nil, length-take, take_all, take_more}
 use Rattle.std.proofs.Math.Nat.{pow-suc, pow-le-pow_right}
 use Rattle.std.proofs.Math.Seq.{take-add}
 use Rattle.std.proofs.lemmas.List.Folds.{list_all-append}
+use Rattle.basket_sets.specs.declared.weighted.Weighted.{Weighted}
 use Rattle.basket_sets.specs.Minimum.{is_digit, value_of}
 use Rattle.basket_read.specs.declared.line.Line.{Line}
 use Rattle.basket_read.specs.declared.line.Place.{Place}
@@ -255,10 +256,10 @@ same_line text (byte ∷ run) h =
     ∙ ap (cut k.ended) (append_assoc k.last (byte ∷ []) run)
 
 -- a text whose last line goes on
-pub text_goes_on : (text : Text) (bytes run : List ℕ) (line : Line) → IsTextSoFar text bytes
+pub text_goes_on : (text : Text) (past : List Weighted) (bytes run : List ℕ) (line : Line) → IsTextSoFar text past bytes
     → ((front : List ℕ) → IsLineSoFar text.line front → IsLineSoFar line (front ++ run))
-    → IsTextSoFar (record text { line = line }) (bytes ++ run)
-text_goes_on text bytes run line t goes_on =
+    → IsTextSoFar (record text { line = line }) past (bytes ++ run)
+text_goes_on text past bytes run line t goes_on =
     let k = cut_at is_line_feed bytes in
     let lines = lines_good bytes t.faultless in
     let s = goes_on k.last (record { good = lines.1; state = t.line }) in
@@ -268,6 +269,7 @@ text_goes_on text bytes run line t goes_on =
           (ap (λ (j : Cut). list_all is_line (j.ended ++ j.last ∷ [])) joined
           ∙ all_push is_line k.ended (k.last ++ run) ∙ and_from (list_all is_line k.ended) (is_line (k.last ++ run)) lines.0 s.good);
       lines = t.lines ∙ ap (λ (j : Cut). length j.ended) (sym joined);
-      baskets = subst (λ (j : Cut). HasBaskets text.heavy text.baskets (flat_map basket_of j.ended)) (sym joined) t.baskets;
+      baskets = subst (λ (j : Cut). HasBaskets text.heavy (past ++ text.baskets) (flat_map basket_of j.ended)) (sym joined) t.baskets;
+      past_weight = t.past_weight;
       line = s.state ∙ ap (λ (j : Cut). line_at j.last) (sym joined);
     }

@@ -102,7 +102,7 @@ refused : {S : Type 0} (x : S) (b : Bool) → ◌≡◌ {A = Option S} None (con
 refused x true e = absurd cc
 refused x false e = refl
 
-module _ (text : Text) (bytes : List ℕ) (t : IsTextSoFar text bytes) where
+module _ (text : Text) (past : List Weighted) (bytes : List ℕ) (t : IsTextSoFar text past bytes) where
   -- the text with another last line
   abbrev with_line : Line → Text
   with_line line = record text { line = line }
@@ -111,18 +111,19 @@ module _ (text : Text) (bytes : List ℕ) (t : IsTextSoFar text bytes) where
   last = (cut_at is_line_feed bytes).last
 
   goes_on : (line : Line) (byte : ℕ) → is_line_feed byte ≡ false → is_line (last ++ byte ∷ []) ≡ true → line_state line ≡ line_at (last ++ byte ∷ [])
-      → IsTextSoFar (with_line line) (bytes ++ byte ∷ [])
+      → IsTextSoFar (with_line line) past (bytes ++ byte ∷ [])
   goes_on line byte e good is =
       let joined = cut_joined is_line_feed bytes byte e in
       record {
         faultless = no_fault_here bytes t.faultless byte e good;
         lines = t.lines ∙ ap (λ (k : Cut). length k.ended) (sym joined);
-        baskets = subst (λ (k : Cut). HasBaskets text.heavy text.baskets (flat_map basket_of k.ended)) (sym joined) t.baskets;
+        baskets = subst (λ (k : Cut). HasBaskets text.heavy (past ++ text.baskets) (flat_map basket_of k.ended)) (sym joined) t.baskets;
+        past_weight = t.past_weight;
         line = is ∙ ap (λ (k : Cut). line_at k.last) (sym joined);
       }
 
   pub takes_digit : (line : Line) (byte digit : ℕ) → is_digit byte ≡ true → byte ≡ 48 + digit → Some (line_state line) ≡ digit_added (line_state text.line) digit
-      → IsTextSoFar (with_line line) (bytes ++ byte ∷ [])
+      → IsTextSoFar (with_line line) past (bytes ++ byte ∷ [])
   takes_digit line byte digit d e is =
       let k = chosen (line_state line) (line_at (last ++ byte ∷ [])) (is_line (last ++ byte ∷ []))
       (is ∙ ap (λ s. digit_added s digit) t.line ∙ line_digit last byte digit (line_good bytes t.faultless) d e) in
@@ -135,12 +136,12 @@ module _ (text : Text) (bytes : List ℕ) (t : IsTextSoFar text bytes) where
       (refused (line_at (last ++ byte ∷ [])) (is_line (last ++ byte ∷ [])) (is ∙ ap (λ s. digit_added s digit) t.line ∙ line_digit last byte digit (line_good bytes t.faultless) d e))
       ∙ ap (λ b. Some (cond b (Number (line_after bytes)) (Byte (line_after bytes) byte))) d ∙ ap (λ n. Some (Number (n + 1))) (sym t.lines)
 
-  pub takes_blank : (line : Line) (byte : ℕ) → is_blank byte ≡ true → line_state line ≡ blank_added (line_state text.line) → IsTextSoFar (with_line line) (bytes ++ byte ∷ [])
+  pub takes_blank : (line : Line) (byte : ℕ) → is_blank byte ≡ true → line_state line ≡ blank_added (line_state text.line) → IsTextSoFar (with_line line) past (bytes ++ byte ∷ [])
   takes_blank line byte d is =
       let k = line_blank last byte (line_good bytes t.faultless) d in
       goes_on line byte (blank_is_no_other byte d).2 k.0 (is ∙ ap blank_added t.line ∙ k.1)
 
-  pub takes_times : (line : Line) (byte : ℕ) → is_times byte ≡ true → Some (line_state line) ≡ times_added (line_state text.line) → IsTextSoFar (with_line line) (bytes ++ byte ∷ [])
+  pub takes_times : (line : Line) (byte : ℕ) → is_times byte ≡ true → Some (line_state line) ≡ times_added (line_state text.line) → IsTextSoFar (with_line line) past (bytes ++ byte ∷ [])
   takes_times line byte d is =
       let k = chosen (line_state line) (line_at (last ++ byte ∷ [])) (is_line (last ++ byte ∷ []))
       (is ∙ ap times_added t.line ∙ line_times last byte (line_good bytes t.faultless) d) in
@@ -172,27 +173,28 @@ module _ (text : Text) (bytes : List ℕ) (t : IsTextSoFar text bytes) where
       sym (flat_map-append basket_of (cut_at is_line_feed bytes).ended (last ∷ []) ∙ ap (λ l. flat_map basket_of (cut_at is_line_feed bytes).ended ++ l) (append-nil (basket_of last)))
 
   pub takes_line_feed : (new : Text) (byte : ℕ) → is_line_feed byte ≡ true → line_state new.line ≡ line_at [] → new.lines ≡ text.lines + 1
-      → ((baskets : List Weighted) → HasBaskets text.heavy text.baskets baskets
-      → HasBaskets new.heavy new.baskets (baskets ++ basket_of_numbers (blank_added (line_state text.line)).numbers (blank_added (line_state text.line)).weight))
-      → IsTextSoFar new (bytes ++ byte ∷ [])
-  takes_line_feed new byte e is lines more =
+      → ((baskets : List Weighted) → HasBaskets text.heavy (past ++ text.baskets) baskets
+      → HasBaskets new.heavy (past ++ new.baskets) (baskets ++ basket_of_numbers (blank_added (line_state text.line)).numbers (blank_added (line_state text.line)).weight))
+      → new.past_weight ≡ text.past_weight → IsTextSoFar new past (bytes ++ byte ∷ [])
+  takes_line_feed new byte e is lines more same =
       let ended = cut_ended is_line_feed bytes byte e in
       record {
         faultless = line_feed_here bytes t.faultless byte e;
         lines = lines ∙ ap (λ n. n + 1) t.lines ∙ sym (length-append (cut_at is_line_feed bytes).ended (last ∷ [])) ∙ ap (λ (k : Cut). length k.ended) (sym ended);
-        baskets = subst (HasBaskets new.heavy new.baskets)
+        baskets = subst (HasBaskets new.heavy (past ++ new.baskets))
             (ap (λ l. flat_map basket_of (cut_at is_line_feed bytes).ended ++ l) its_basket ∙ all_baskets ∙ ap (λ (k : Cut). flat_map basket_of k.ended) (sym ended))
             (more (flat_map basket_of (cut_at is_line_feed bytes).ended) t.baskets);
+        past_weight = same ∙ t.past_weight;
         line = is ∙ ap (λ (k : Cut). line_at k.last) (sym ended);
       }
 
   -- once the last line has ended, the baskets are those of the whole text
   pub has_all : (new : Text)
-      → ((baskets : List Weighted) → HasBaskets text.heavy text.baskets baskets
-      → HasBaskets new.heavy new.baskets (baskets ++ basket_of_numbers (blank_added (line_state text.line)).numbers (blank_added (line_state text.line)).weight))
-      → HasBaskets new.heavy new.baskets (baskets_of bytes)
+      → ((baskets : List Weighted) → HasBaskets text.heavy (past ++ text.baskets) baskets
+      → HasBaskets new.heavy (past ++ new.baskets) (baskets ++ basket_of_numbers (blank_added (line_state text.line)).numbers (blank_added (line_state text.line)).weight))
+      → HasBaskets new.heavy (past ++ new.baskets) (baskets_of bytes)
   has_all new more =
-      subst (HasBaskets new.heavy new.baskets) (ap (λ l. flat_map basket_of (cut_at is_line_feed bytes).ended ++ l) its_basket ∙ all_baskets)
+      subst (HasBaskets new.heavy (past ++ new.baskets)) (ap (λ l. flat_map basket_of (cut_at is_line_feed bytes).ended ++ l) its_basket ∙ all_baskets)
       (more (flat_map basket_of (cut_at is_line_feed bytes).ended) t.baskets)
 
 -- the answer of baskets that are light, and of those that are not

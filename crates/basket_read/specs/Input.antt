@@ -1,5 +1,6 @@
 -- What an input that comes in pieces stands for.
 use Rattle.std.specs.Prelude.{◌≡◌, ◌≤◌, ℕ, Bool, true, false, not, List, [], ◌∷◌, length}
+use Rattle.basket_sets.specs.declared.weighted.Weighted.{Weighted}
 use Rattle.basket_read.specs.declared.input.Front.{Front}
 use Rattle.basket_read.specs.declared.input.Front.TheVariants.{Empty, OneByte, TwoBytes, Decided}
 use Rattle.basket_read.specs.declared.input.Input.{Input}
@@ -25,13 +26,13 @@ text_behind OneByte bytes = []
 text_behind TwoBytes bytes = []
 text_behind Decided bytes = text_of bytes
 
--- the input that was read is of these bytes, and has no fault that is settled
-pub record IsInputSoFar (input : Input) (bytes : List ℕ) : Type 0 where
+-- the input that was read is of these bytes, and has no fault that is settled; the baskets that are past were counted and are not kept
+pub record IsInputSoFar (input : Input) (past : List Weighted) (bytes : List ℕ) : Type 0 where
   pub front : IsFront input.front bytes
   pub taken : input.taken ≡ length bytes
   pub few : length bytes ≤ MOST_BYTES
-  pub text : IsTextSoFar input.text (text_behind input.front bytes)
+  pub text : IsTextSoFar input.text past (text_behind input.front bytes)
 
 -- the input that was read is of some bytes
 abbrev pub IsSomeInput : Input → Type 0
-IsSomeInput input = ∥ ((bytes : List ℕ) × IsInputSoFar input bytes) ∥₁
+IsSomeInput input = ∥ ((past : List Weighted) × (bytes : List ℕ) × IsInputSoFar input past bytes) ∥₁

@@ -4,6 +4,7 @@ pub mod Fimi
 pub mod Number
 pub mod Line
 pub mod Text
+pub mod ItemCounts
 pub mod Input
 pub mod Parts
 pub mod Read

@@ -1,5 +1,5 @@
 -- What a text that is being read stands for.
-use Rattle.std.specs.Prelude.{◌≡◌, ◌≢◌, ◌<◌, ◌≤◌, ◌+◌, ℕ, Bool, true, false, List, length, Option, Some, None, Result, Ok, Err}
+use Rattle.std.specs.Prelude.{◌≡◌, ◌≢◌, ◌<◌, ◌≤◌, ◌+◌, ℕ, Bool, true, false, List, ◌++◌, length, Option, Some, None, Result, Ok, Err}
 use Rattle.std.specs.List.{flat_map}
 use Rattle.basket_sets.specs.declared.weighted.Weighted.{Weighted}
 use Rattle.basket_sets.specs.Support.{total_of}
@@ -16,16 +16,17 @@ abbrev pub HasBaskets : Bool → List Weighted → List Weighted → Type 0
 HasBaskets true database baskets = MOST_WEIGHT < total_of baskets
 HasBaskets false database baskets = (database ≡ baskets) × (total_of baskets ≤ MOST_WEIGHT)
 
--- the text that was read is of these bytes, and has no fault
-pub record IsTextSoFar (text : Text) (bytes : List ℕ) : Type 0 where
+-- the text that was read is of these bytes, and has no fault; the baskets that are past were counted and are not kept
+pub record IsTextSoFar (text : Text) (past : List Weighted) (bytes : List ℕ) : Type 0 where
   pub faultless : first_fault bytes ≡ None
   pub lines : text.lines ≡ length (cut_at is_line_feed bytes).ended
-  pub baskets : HasBaskets text.heavy text.baskets (flat_map basket_of (cut_at is_line_feed bytes).ended)
+  pub baskets : HasBaskets text.heavy (past ++ text.baskets) (flat_map basket_of (cut_at is_line_feed bytes).ended)
+  pub past_weight : text.past_weight ≡ total_of past
   pub line : line_state text.line ≡ line_at (cut_at is_line_feed bytes).last
 
 -- the text that was read is of so few bytes that an input may have so many more
 abbrev pub HasRoom : Text → ℕ → Type 0
-HasRoom text more = ∥ ((bytes : List ℕ) × IsTextSoFar text bytes × (length bytes + more ≤ MOST_BYTES)) ∥₁
+HasRoom text more = ∥ ((past : List Weighted) × (bytes : List ℕ) × IsTextSoFar text past bytes × (length bytes + more ≤ MOST_BYTES)) ∥₁
 
 -- but for want of memory, the fault is the one that was found
 abbrev pub Tells : ReadFault → Option ReadFault → Type 0
@@ -35,3 +36,8 @@ Tells fault found = fault ≢ Memory → found ≡ Some fault
 abbrev pub Answers : Result (List Weighted) ReadFault → Result (List Weighted) ReadFault → Type 0
 Answers (Ok baskets) answer = answer ≡ Ok baskets
 Answers (Err fault) answer = fault ≢ Memory → answer ≡ Err fault
+
+-- the same, where the answer is behind baskets that are past
+abbrev pub AnswersBehind : List Weighted → Result (List Weighted) ReadFault → Result (List Weighted) ReadFault → Type 0
+AnswersBehind past (Ok baskets) answer = answer ≡ Ok (past ++ baskets)
+AnswersBehind past (Err fault) answer = fault ≢ Memory → answer ≡ Err fault

@@ -1,13 +1,15 @@
 //! An input of which not all has been read.
-ghost use Rattle.std.specs.Prelude.{◌≡◌, ◌≢◌, ◌+◌, ◌≤◌, ℕ, List, [], ◌∷◌, ◌++◌, length, MatchResult};
+ghost use Rattle.std.specs.Prelude.{◌≡◌, ◌≢◌, ◌+◌, ◌≤◌, ℕ, List, [], ◌∷◌, ◌++◌, length, MatchResult, OnOk};
 ghost use Rattle.basket_read.specs.Fimi.{settled_fault, fault_in, fimi_of};
-ghost use Rattle.basket_read.specs.Text.{Tells, Answers};
+ghost use Rattle.basket_read.specs.Text.{Tells, AnswersBehind};
+ghost use Rattle.basket_sets.specs.ItemTable.{HasCounted};
+ghost use Rattle.basket_sets.specs.declared.weighted.Weighted.{Weighted};
 ghost use Rattle.basket_read.specs.Input.{IsInputSoFar, IsSomeInput};
 
 use crate::fault::ReadFault;
 use crate::text::Text;
-use basket_sets::Database;
-use std::alloc::Global;
+use basket_sets::{Database, ItemTable};
+use std::alloc::{AllocError, Global};
 
 /// The greatest number of bytes of an input.
 const MAX_BYTES: u32 = 4_294_967_295;
@@ -45,7 +47,7 @@ pub struct Input {
 
 impl Input {
     pub fn new(alloc: Global) -> Self
-        ensures { IsInputSoFar result [] }
+        ensures { IsInputSoFar result [] [] }
     {
         Input {
             front: Front::Empty,
@@ -57,8 +59,8 @@ impl Input {
     /// Takes more of the input, up to its first fault.
     pub fn take(&mut self, piece: &[u8]) -> Result<(), ReadFault>
         requires { IsSomeInput self.old }
-        ensures { (bytes : List ℕ) → IsInputSoFar self.old bytes →
-            MatchResult result (λ _. IsInputSoFar self.new (bytes ++ piece.now)) (λ fault. Tells fault (settled_fault (bytes ++ piece.now))) }
+        ensures { (past : List Weighted) (bytes : List ℕ) → IsInputSoFar self.old past bytes →
+            MatchResult result (λ _. IsInputSoFar self.new past (bytes ++ piece.now)) (λ fault. Tells fault (settled_fault (bytes ++ piece.now))) }
     {
         for (place, byte) in piece.iter().enumerate() {
             if let Front::Decided = self.front {
@@ -72,8 +74,8 @@ impl Input {
     /// Takes a byte, behind the mark or where it may stand.
     fn take_byte(&mut self, byte: u8) -> Result<(), ReadFault>
         requires { IsSomeInput self.old }
-        ensures { (bytes : List ℕ) → IsInputSoFar self.old bytes →
-            MatchResult result (λ _. IsInputSoFar self.new (bytes ++ byte ∷ [])) (λ fault. Tells fault (settled_fault (bytes ++ byte ∷ []))) }
+        ensures { (past : List Weighted) (bytes : List ℕ) → IsInputSoFar self.old past bytes →
+            MatchResult result (λ _. IsInputSoFar self.new past (bytes ++ byte ∷ [])) (λ fault. Tells fault (settled_fault (bytes ++ byte ∷ []))) }
     {
         match self.front {
             Front::Empty => {
@@ -108,8 +110,8 @@ impl Input {
     fn take_text(&mut self, piece: &[u8]) -> Result<(), ReadFault>
         requires some { IsSomeInput self.old }
         requires decided { self.old.front ≡ Front.Decided }
-        ensures { (bytes : List ℕ) → IsInputSoFar self.old bytes →
-            MatchResult result (λ _. IsInputSoFar self.new (bytes ++ piece.now)) (λ fault. Tells fault (settled_fault (bytes ++ piece.now))) }
+        ensures { (past : List Weighted) (bytes : List ℕ) → IsInputSoFar self.old past bytes →
+            MatchResult result (λ _. IsInputSoFar self.new past (bytes ++ piece.now)) (λ fault. Tells fault (settled_fault (bytes ++ piece.now))) }
     {
         let room = (MAX_BYTES - self.taken) as usize;
         if piece.len() > room {
@@ -123,7 +125,7 @@ impl Input {
 
     /// The fault of the bytes so far if none follow.
     pub fn fault_so_far(&self) -> Option<ReadFault>
-        ensures { (bytes : List ℕ) → IsInputSoFar self.now bytes → result ≡ fault_in bytes }
+        ensures { (past : List Weighted) (bytes : List ℕ) → IsInputSoFar self.now past bytes → result ≡ fault_in bytes }
     {
         match self.front {
             Front::OneByte | Front::TwoBytes => Some(HALF_A_MARK),
@@ -131,10 +133,26 @@ impl Input {
         }
     }
 
-    /// The baskets of the whole input.
+    /// How many baskets are kept.
+    pub fn kept(&self) -> usize {
+        self.text.kept()
+    }
+
+    /// Counts the baskets of the lines that have ended, which are past then, unless they weigh too much
+    /// or the table would be too large for them. The answer is whether they were counted.
+    pub fn count(&mut self, table: &mut ItemTable) -> Result<bool, AllocError>
+        requires { ∥ ((past : List Weighted) × (bytes : List ℕ) × IsInputSoFar self.old past bytes × HasCounted table.old past) ∥₁ }
+        ensures taken { self.new.taken ≡ self.old.taken }
+        ensures counted { (past : List Weighted) (bytes : List ℕ) → IsInputSoFar self.old past bytes → HasCounted table.old past →
+            OnOk result ((now : List Weighted) × IsInputSoFar self.new now bytes × HasCounted table.new now) }
+    {
+        self.text.count(table)
+    }
+
+    /// The baskets of the whole input that are not past.
     pub fn finish(self) -> Result<Database, ReadFault>
         requires { IsSomeInput self }
-        ensures { (bytes : List ℕ) → IsInputSoFar self bytes → Answers result (fimi_of bytes) }
+        ensures { (past : List Weighted) (bytes : List ℕ) → IsInputSoFar self past bytes → AnswersBehind past result (fimi_of bytes) }
     {
         if let Some(fault) = self.fault_so_far() {
             return Err(fault);

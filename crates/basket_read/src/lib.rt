@@ -4,6 +4,7 @@
 mod class;
 mod fault;
 mod input;
+mod item_counts;
 pub mod laws;
 mod line;
 mod number;
@@ -13,5 +14,6 @@ mod text;
 pub mod worked;
 
 pub use fault::ReadFault;
+pub use item_counts::ItemCounts;
 pub use parts::FimiParts;
-pub use read::{MAX_BLOCK, read_fimi, read_fimi_by};
+pub use read::{MAX_BLOCK, count_fimi, read_fimi, read_fimi_by};

@@ -1,11 +1,13 @@
 //! Reading a FIMI input block by block.
-ghost use Rattle.std.specs.Prelude.{◌≡◌, ◌<◌, ◌≤◌, true, false, length, IfSome, IsErr, Err};
+ghost use Rattle.std.specs.Prelude.{◌≡◌, ◌<◌, ◌≤◌, true, false, length, IfErr, IfOk, IfSome, IsErr, Err};
 ghost use Rattle.basket_read.specs.declared.fault.ReadFault.TheVariants.{Read};
 ghost use Rattle.basket_read.specs.Fimi.{fimi_of};
 ghost use Rattle.basket_read.specs.Text.{Answers};
+ghost use Rattle.basket_read.specs.ItemCounts.{AreLightCounts, Counts};
 ghost use Rattle.basket_read.specs.Read.{FailsAfter};
 
 use crate::fault::ReadFault;
+use crate::item_counts::{ItemCounts, ItemParts};
 use crate::parts::FimiParts;
 use basket_sets::Database;
 use basket_stream::Source;
@@ -65,6 +67,48 @@ fn read_blocks<S: Source>(
     ensures read_is_failed { result ≡ Err Read → S.has_failed reader.new ≡ true }
 {
     let mut parts = FimiParts::new(alloc);
+    'reading: loop {
+        match reader.read(buffer) {
+            Ok(0) => return parts.finish(),
+            Ok(count) => parts.feed(&buffer[..count])?,
+            Err(_) => return Err(parts.fault_so_far().unwrap_or(ReadFault::Read)),
+        }
+    }
+}
+
+/// Reads a FIMI input to its end, in blocks of 65,536 bytes, and counts its items. The baskets of a
+/// block are counted before the next is read, so that only those are kept whose items are too great
+/// for a table.
+pub fn count_fimi<S: Source>(alloc: Global, reader: &mut S) -> Result<ItemCounts, ReadFault>
+    requires { S.has_failed reader.old ≡ false }
+    // Where the reader doesn't fail, the answer is that of all its bytes.
+    ensures exact { S.has_failed reader.new ≡ false → IfSome (S.left reader.old) (λ bytes. Counts result (fimi_of bytes)) }
+    // So far as the reader doesn't tell its bytes too, the counts are those of some baskets.
+    ensures light { IfOk result AreLightCounts }
+    // Where it fails, the answer is the fault in the bytes that it gave, else `Read`.
+    ensures failed { S.has_failed reader.new ≡ true → IfErr result (λ fault. IfSome (S.left reader.old) (λ bytes. FailsAfter bytes (S.left reader.new) (Err fault))) }
+    // So far as the reader doesn't tell its bytes too.
+    ensures failed_is_err { S.has_failed reader.new ≡ true → IsErr result }
+    ensures read_is_failed { result ≡ Err Read → S.has_failed reader.new ≡ true }
+{
+    let mut buffer = vec![in alloc; 0u8; BLOCK]?;
+    count_blocks(alloc, reader, &mut buffer)
+}
+
+fn count_blocks<S: Source>(
+    alloc: Global,
+    reader: &mut S,
+    buffer: &mut [u8],
+) -> Result<ItemCounts, ReadFault>
+    requires fresh { S.has_failed reader.old ≡ false }
+    requires some { 0 < length buffer.old }
+    ensures exact { S.has_failed reader.new ≡ false → IfSome (S.left reader.old) (λ bytes. Counts result (fimi_of bytes)) }
+    ensures light { IfOk result AreLightCounts }
+    ensures failed { S.has_failed reader.new ≡ true → IfErr result (λ fault. IfSome (S.left reader.old) (λ bytes. FailsAfter bytes (S.left reader.new) (Err fault))) }
+    ensures failed_is_err { S.has_failed reader.new ≡ true → IsErr result }
+    ensures read_is_failed { result ≡ Err Read → S.has_failed reader.new ≡ true }
+{
+    let mut parts = ItemParts::new(alloc);
     'reading: loop {
         match reader.read(buffer) {
             Ok(0) => return parts.finish(),

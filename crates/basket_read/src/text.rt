@@ -1,23 +1,28 @@
 //! A text of which not all has been read.
 ghost use Rattle.std.specs.Prelude.{◌≡◌, ◌≢◌, ◌<◌, ◌≤◌, ◌+◌, ℕ, List, [], ◌∷◌, ◌++◌, length, take, false, OnOk, IfOk, IfErr, MatchResult};
 ghost use Rattle.basket_sets.specs.declared.weighted.Weighted.{Weighted};
-ghost use Rattle.basket_sets.specs.Database.{MOST_BASKETS};
+ghost use Rattle.basket_sets.specs.Database.{MOST_BASKETS, MOST_WEIGHT};
+ghost use Rattle.basket_sets.specs.ItemTable.{HasCounted};
+ghost use Rattle.basket_sets.specs.Support.{total_of};
 ghost use Rattle.basket_read.specs.Fimi.{first_fault, basket_of_numbers, baskets_of, if_light};
 ghost use Rattle.basket_read.specs.Line.{line_state, line_at, blank_added};
-ghost use Rattle.basket_read.specs.Text.{HasBaskets, IsTextSoFar, HasRoom, Tells, Answers};
+ghost use Rattle.basket_read.specs.Text.{HasBaskets, IsTextSoFar, HasRoom, Tells, AnswersBehind};
 
 use crate::class::{Class, class_of};
 use crate::fault::ReadFault;
 use crate::line::Line;
-use basket_sets::{Database, Itemset};
-use std::alloc::Global;
+use basket_sets::{Database, ItemTable, Itemset};
+use std::alloc::{AllocError, Global};
 
 /// What has been read of a text: how many lines have ended, their baskets, and the line after them.
 #[derive(Debug, Drop)]
 pub struct Text {
     alloc: Global,
     lines: u32,
+    /// The baskets of the lines that have ended, but for those that are past: that were counted.
     baskets: Database,
+    /// What those that are past weigh together.
+    past_weight: u64,
     /// Whether the baskets weigh too much for a database, which then has not all of them.
     heavy: bool,
     line: Line,
@@ -25,12 +30,13 @@ pub struct Text {
 
 impl Text {
     pub fn new(alloc: Global) -> Self
-        ensures { IsTextSoFar result [] }
+        ensures { IsTextSoFar result [] [] }
     {
         Text {
             alloc,
             lines: 0,
             baskets: Database::new(alloc),
+            past_weight: 0,
             heavy: false,
             line: Line::new(alloc),
         }
@@ -39,8 +45,8 @@ impl Text {
     /// Takes more of the text, up to its first fault.
     pub fn feed(&mut self, piece: &[u8]) -> Result<(), ReadFault>
         requires { HasRoom self.old (length piece.now) }
-        ensures { (bytes : List ℕ) → IsTextSoFar self.old bytes →
-            MatchResult result (λ _. IsTextSoFar self.new (bytes ++ piece.now)) (λ fault. Tells fault (first_fault (bytes ++ piece.now))) }
+        ensures { (past : List Weighted) (bytes : List ℕ) → IsTextSoFar self.old past bytes →
+            MatchResult result (λ _. IsTextSoFar self.new past (bytes ++ piece.now)) (λ fault. Tells fault (first_fault (bytes ++ piece.now))) }
     {
         let mut taken = 0;
         loop {
@@ -57,8 +63,8 @@ impl Text {
     #[inline(always)]
     fn take_numbers(&mut self, piece: &[u8]) -> Result<usize, ReadFault>
         ensures within { IfOk result (λ taken. taken ≤ length piece.now) }
-        ensures text { (bytes : List ℕ) → IsTextSoFar self.old bytes →
-            IfOk result (λ taken. IsTextSoFar self.new (bytes ++ take taken piece.now)) }
+        ensures text { (past : List Weighted) (bytes : List ℕ) → IsTextSoFar self.old past bytes →
+            IfOk result (λ taken. IsTextSoFar self.new past (bytes ++ take taken piece.now)) }
         ensures err { IfErr result (λ fault. fault ≡ ReadFault.Memory) }
     {
         // An empty line.
@@ -72,8 +78,8 @@ impl Text {
     #[inline(always)]
     fn take(&mut self, byte: u8) -> Result<(), ReadFault>
         requires { HasRoom self.old 1 }
-        ensures { (bytes : List ℕ) → IsTextSoFar self.old bytes →
-            MatchResult result (λ _. IsTextSoFar self.new (bytes ++ byte ∷ [])) (λ fault. Tells fault (first_fault (bytes ++ byte ∷ []))) }
+        ensures { (past : List Weighted) (bytes : List ℕ) → IsTextSoFar self.old past bytes →
+            MatchResult result (λ _. IsTextSoFar self.new past (bytes ++ byte ∷ [])) (λ fault. Tells fault (first_fault (bytes ++ byte ∷ []))) }
     {
         match class_of(byte) {
             Class::Digit(digit) => {
@@ -112,16 +118,18 @@ impl Text {
         requires { self.old.heavy ≡ false → length self.old.baskets < MOST_BASKETS }
         ensures line { OnOk result (line_state self.new.line ≡ line_at []) }
         ensures lines { self.new.lines ≡ self.old.lines }
-        ensures baskets { (baskets : List Weighted) → HasBaskets self.old.heavy self.old.baskets baskets →
+        ensures past_weight { self.new.past_weight ≡ self.old.past_weight }
+        ensures baskets { (past baskets : List Weighted) → self.old.past_weight ≡ total_of past → HasBaskets self.old.heavy (past ++ self.old.baskets) baskets →
             let line = blank_added (line_state self.old.line) in
-            OnOk result (HasBaskets self.new.heavy self.new.baskets (baskets ++ basket_of_numbers line.numbers line.weight)) }
+            OnOk result (HasBaskets self.new.heavy (past ++ self.new.baskets) (baskets ++ basket_of_numbers line.numbers line.weight)) }
         ensures err { IfErr result (λ fault. fault ≡ ReadFault.Memory) }
     {
         self.line.add_blank()?;
         let numbers = self.line.numbers();
         if !numbers.is_empty() {
             let weight = u64::from(self.line.weight());
-            if weight > Database::MAX_WEIGHT.saturating_sub(self.baskets.total()) {
+            let room = Database::MAX_WEIGHT.saturating_sub(self.past_weight);
+            if weight > room.saturating_sub(self.baskets.total()) {
                 self.heavy = true;
             }
             if !self.heavy {
@@ -135,10 +143,34 @@ impl Text {
         Ok(())
     }
 
-    /// The baskets of the whole text, if they don't weigh too much.
+    /// How many baskets are kept.
+    pub fn kept(&self) -> usize {
+        self.baskets.len()
+    }
+
+    /// Counts the baskets of the lines that have ended, which are past then, unless they weigh too much
+    /// or the table would be too large for them. The answer is whether they were counted.
+    pub fn count(&mut self, table: &mut ItemTable) -> Result<bool, AllocError>
+        requires light { self.old.heavy ≡ false → self.old.past_weight + total_of self.old.baskets ≤ MOST_WEIGHT }
+        requires room { self.old.heavy ≡ false → table.old.total + total_of self.old.baskets ≤ MOST_WEIGHT }
+        ensures { (past : List Weighted) (bytes : List ℕ) → IsTextSoFar self.old past bytes → HasCounted table.old past →
+            OnOk result ((now : List Weighted) × IsTextSoFar self.new now bytes × HasCounted table.new now) }
+    {
+        if self.heavy {
+            return Ok(false);
+        }
+        let counted = table.add(self.baskets.baskets())?;
+        if counted {
+            self.past_weight += self.baskets.total();
+            self.baskets.clear();
+        }
+        Ok(counted)
+    }
+
+    /// The baskets of the whole text that are not past, if all don't weigh too much.
     pub fn finish(mut self) -> Result<Database, ReadFault>
         requires { HasRoom self 0 }
-        ensures { (bytes : List ℕ) → IsTextSoFar self bytes → Answers result (if_light (baskets_of bytes)) }
+        ensures { (past : List Weighted) (bytes : List ℕ) → IsTextSoFar self past bytes → AnswersBehind past result (if_light (baskets_of bytes)) }
     {
         self.end_line()?;
         if self.heavy {

@@ -4,7 +4,7 @@ use Rattle.std.specs.List.{zip}
 use Rattle.std.specs.Prelude.{IfOk}
 use Rattle.std.proofs.lemmas.List.{append-nil, length-take, take_more, get_or-set_same, get_or-set_other, get_or_default}
 use Rattle.std.proofs.lemmas.List.Concat.{flat_map-append}
-use Rattle.std.proofs.lemmas.List.Sums.{sum_by_more, sum_by_more_le}
+use Rattle.std.proofs.lemmas.List.Sums.{sum_by_more_le, sum_by_push}
 use Rattle.std.proofs.Math.Bool.{or-false, or-true}
 use Rattle.std.proofs.lemmas.Bool.{cases_eq, cases_lt, cases_order, or_cases, cond-true, cond-false, eq-eqb, ne_eqb, false≢true}
 use Rattle.std.proofs.lemmas.Map.Keys.{below_from_sorted}
@@ -104,40 +104,48 @@ fits_more baskets i place item sum below is light h small =
     let falls = support_falls baskets (item ∷ []) [] refl in
     omega arith
 
-pub table_more : (baskets : List Weighted) (i : ℕ) (place : Weighted) (old table : List (Option ℕ)) → i < length baskets → place ≡ get_or baskets i place → length table ≡ length old
-    → HasAdded old place.weight place.basket table → IsTable (take i baskets) old → IsTable (take (i + 1) baskets) table
-table_more baskets i place old table below is long added before item within =
-    added item ∙ ap (λ s. cond (has place.basket item) (slot_with place.weight s) s) (before item (omega arith))
-    ∙ at (has place.basket item) (has (all_items (take i baskets)) item) refl refl
+-- the table behind one more place
+pub table_push : (before : List Weighted) (place : Weighted) (old table : List (Option ℕ)) → length table ≡ length old
+    → HasAdded old place.weight place.basket table → IsTable before old → IsTable (before ++ place ∷ []) table
+table_push before place old table long added so_far item within =
+    added item ∙ ap (λ s. cond (has place.basket item) (slot_with place.weight s) s) (so_far item (omega arith))
+    ∙ at (has place.basket item) (has (all_items before) item) refl refl
   where
-    items_now : has (all_items (take (i + 1) baskets)) item ≡ (has (all_items (take i baskets)) item || has place.basket item)
+    items_now : has (all_items (before ++ place ∷ [])) item ≡ (has (all_items before) item || has place.basket item)
     items_now =
-        ap (λ l. has l item) (all_items_more baskets i place below) ∙ has-append (all_items (take i baskets)) (get_or baskets i place).basket item
-        ∙ ap (λ p. has (all_items (take i baskets)) item || has p.basket item) (sym is)
+        ap (λ l. has l item) (flat_map-append (λ p. p.basket) before (place ∷ []) ∙ ap (λ l. all_items before ++ l) (append-nil place.basket))
+        ∙ has-append (all_items before) place.basket item
 
-    support_now : support_of (take (i + 1) baskets) (item ∷ []) ≡ support_of (take i baskets) (item ∷ []) + cond (has place.basket item) place.weight 0
-    support_now =
-        sum_by_more (weight_at (item ∷ [])) baskets i place below
-        ∙ ap (λ p. support_of (take i baskets) (item ∷ []) + weight_at (item ∷ []) p) (sym is)
-        ∙ ap (λ n. support_of (take i baskets) (item ∷ []) + n) (weight_of_item place item)
+    support_now : support_of (before ++ place ∷ []) (item ∷ []) ≡ support_of before (item ∷ []) + cond (has place.basket item) place.weight 0
+    support_now = sum_by_push (weight_at (item ∷ [])) before place ∙ ap (λ n. support_of before (item ∷ []) + n) (weight_of_item place item)
 
-    now : (g h : Bool) (n : ℕ) → has (all_items (take (i + 1) baskets)) item ≡ (g || h) → support_of (take (i + 1) baskets) (item ∷ []) ≡ n → tally (take (i + 1) baskets) item ≡ cond (g || h) (Some n) None
-    now g h n e f = ap (λ t. cond t (Some (support_of (take (i + 1) baskets) (item ∷ []))) None) e ∙ ap (λ m. cond (g || h) (Some m) None) f
+    now : (g h : Bool) (n : ℕ) → has (all_items (before ++ place ∷ [])) item ≡ (g || h) → support_of (before ++ place ∷ []) (item ∷ []) ≡ n → tally (before ++ place ∷ []) item ≡ cond (g || h) (Some n) None
+    now g h n e f = ap (λ t. cond t (Some (support_of (before ++ place ∷ []) (item ∷ []))) None) e ∙ ap (λ m. cond (g || h) (Some m) None) f
 
-    at : (h g : Bool) → has place.basket item ≡ h → has (all_items (take i baskets)) item ≡ g
-        → cond h (slot_with place.weight (cond g (Some (support_of (take i baskets) (item ∷ []))) None)) (cond g (Some (support_of (take i baskets) (item ∷ []))) None)
-        ≡ tally (take (i + 1) baskets) item
+    at : (h g : Bool) → has place.basket item ≡ h → has (all_items before) item ≡ g
+        → cond h (slot_with place.weight (cond g (Some (support_of before (item ∷ []))) None)) (cond g (Some (support_of before (item ∷ []))) None)
+        ≡ tally (before ++ place ∷ []) item
     at h g e f = cases h g e f ∙ sym (now g h _ (items_now ∙ ap (λ t. t || has place.basket item) f ∙ ap (λ t. g || t) e) support_now)
       where
         s : ℕ
-        s = support_of (take i baskets) (item ∷ [])
+        s = support_of before (item ∷ [])
 
-        cases : (h g : Bool) → has place.basket item ≡ h → has (all_items (take i baskets)) item ≡ g
+        cases : (h g : Bool) → has place.basket item ≡ h → has (all_items before) item ≡ g
             → cond h (slot_with place.weight (cond g (Some s) None)) (cond g (Some s) None) ≡ cond (g || h) (Some (s + cond (has place.basket item) place.weight 0)) None
         cases true true e f = ap (λ t. Some (s + cond t place.weight 0)) (sym e)
-        cases true false e f = ap (λ n. Some (n + place.weight)) (sym (support_absent (take i baskets) item f)) ∙ ap (λ t. Some (s + cond t place.weight 0)) (sym e)
+        cases true false e f = ap (λ n. Some (n + place.weight)) (sym (support_absent before item f)) ∙ ap (λ t. Some (s + cond t place.weight 0)) (sym e)
         cases false true e f = ap Some (sym (add-zero s)) ∙ ap (λ t. Some (s + cond t place.weight 0)) (sym e)
         cases false false e f = refl
+
+-- no support grows by more than the weight of the place
+pub bounded_push : (place : Weighted) (old table : List (Option ℕ)) (item : ℕ) → HasAdded old place.weight place.basket table
+    → unwrap_or (get_or table item None) 0 ≤ unwrap_or (get_or old item None) 0 + place.weight
+bounded_push place old table item added =
+    subst (λ s. unwrap_or s 0 ≤ unwrap_or (get_or old item None) 0 + place.weight) (sym (added item)) (at (has place.basket item))
+  where
+    at : (h : Bool) → unwrap_or (cond h (slot_with place.weight (get_or old item None)) (get_or old item None)) 0 ≤ unwrap_or (get_or old item None) 0 + place.weight
+    at true = omega arith
+    at false = omega arith
 
 -- ---- the entries of a table
 
@@ -166,7 +174,7 @@ at_least number (None ∷ slots) x m = let n = at_least (number + 1) slots x m i
 at_least number (Some support ∷ slots) x (inl e) = omega arith
 at_least number (Some support ∷ slots) x (inr m) = let n = at_least (number + 1) slots x m in omega arith
 
-numbers_rise : (number : ℕ) (slots : List (Option ℕ)) → IsRising (numbers_from number slots)
+pub numbers_rise : (number : ℕ) (slots : List (Option ℕ)) → IsRising (numbers_from number slots)
 numbers_rise number [] = nil_rises
 numbers_rise number (None ∷ slots) = numbers_rise (number + 1) slots
 numbers_rise number (Some support ∷ slots) =

@@ -4,6 +4,7 @@ pub mod Support
 pub mod Slot
 pub mod Counts
 pub mod Database
+pub mod ItemTable
 pub mod Merge
 pub mod Subsets
 pub mod Minimum

@@ -1,5 +1,6 @@
-ghost use Rattle.std.specs.Prelude.{◌≡◌, ◌<◌, ◌≤◌, ◌+◌, ◌^◌, ℕ, None, IfOk, IsTrue, if◌then◌else◌, length, map, unwrap_or, slice_index, slice_index_or};
+ghost use Rattle.std.specs.Prelude.{◌≡◌, ◌<◌, ◌≤◌, ◌+◌, ◌++◌, ◌^◌, ℕ, List, None, IfOk, IsTrue, if◌then◌else◌, length, map, unwrap_or, slice_index, slice_index_or};
 ghost use Rattle.std.specs.List.{zip};
+ghost use Rattle.basket_sets.specs.declared.weighted.Weighted.{Weighted as Place};
 ghost use Rattle.basket_sets.specs.Counts.{item_supports, tally, IsTable, AllBelow, entries_of};
 ghost use Rattle.basket_sets.specs.Database.{MOST_WEIGHT};
 ghost use Rattle.basket_sets.specs.Itemset.{IsRising, has};
@@ -11,7 +12,7 @@ use crate::weighted::Weighted;
 use std::alloc::{AllocError, Global};
 
 /// A table of so many slots is made for any baskets, however few items they have.
-const SMALL_TABLE: usize = 65_536;
+pub const SMALL_TABLE: usize = 65_536;
 
 /// The items of the baskets in rising order, each with its support.
 pub fn count_items(alloc: Global, baskets: &[Weighted]) -> Result<Vec<(u32, u64)>, AllocError>
@@ -28,7 +29,7 @@ pub fn count_items(alloc: Global, baskets: &[Weighted]) -> Result<Vec<(u32, u64)
 }
 
 /// How many items the baskets have together, or `usize::MAX` where they have more.
-fn occurrences(baskets: &[Weighted]) -> usize {
+pub fn occurrences(baskets: &[Weighted]) -> usize {
     let mut occurrences = 0usize;
     for place in baskets {
         occurrences = occurrences.saturating_add(place.basket.len());
@@ -37,7 +38,7 @@ fn occurrences(baskets: &[Weighted]) -> usize {
 }
 
 /// The greatest item of any basket, or 0.
-fn greatest_item(baskets: &[Weighted]) -> u32
+pub fn greatest_item(baskets: &[Weighted]) -> u32
     ensures { AllBelow (result + 1) (all_items baskets.now) }
 {
     let mut greatest = 0u32;
@@ -60,10 +61,20 @@ fn count_by_table(
     ensures { IfOk result (λ counts. counts.items ≡ item_supports baskets.now) }
 {
     let mut table = vec![in alloc; Slot::empty(); greatest as usize + 1]?;
-    for place in baskets {
-        add_to_table(&mut table, place);
-    }
+    add_places(&mut table, baskets);
     listed(alloc, &table)
+}
+
+/// Adds the weights of places at their items.
+pub fn add_places(table: &mut [Slot], baskets: &[Weighted])
+    requires within { AllBelow (length table.old) (all_items baskets.now) }
+    requires fits { (item : ℕ) → unwrap_or (slice_index_or table.old item None) 0 + total_of baskets.now ≤ MOST_WEIGHT }
+    ensures table { (before : List Place) → IsTable before table.old → IsTable (before ++ baskets.now) table.new }
+    ensures bounded { (item : ℕ) → unwrap_or (slice_index_or table.new item None) 0 ≤ unwrap_or (slice_index_or table.old item None) 0 + total_of baskets.now }
+{
+    for place in baskets {
+        add_to_table(table, place);
+    }
 }
 
 /// Adds the weight of a place at each of its items.
@@ -91,7 +102,7 @@ fn seen(table: &[Slot]) -> usize {
 }
 
 /// The numbers of the slots that have something.
-fn listed(alloc: Global, table: &[Slot]) -> Result<Vec<(u32, u64)>, AllocError>
+pub fn listed(alloc: Global, table: &[Slot]) -> Result<Vec<(u32, u64)>, AllocError>
     requires { length table.now ≤ 2 ^ 32 }
     ensures { IfOk result (λ entries. entries.items ≡ entries_of table.now) }
 {

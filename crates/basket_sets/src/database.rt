@@ -77,6 +77,14 @@ impl Database {
         &self.baskets
     }
 
+    /// Takes all baskets out, and keeps their room.
+    pub fn clear(&mut self)
+        ensures { self.new ≡ [] }
+    {
+        self.baskets.clear();
+        self.total = 0;
+    }
+
     /// The baskets in the order in which they were added.
     pub fn into_baskets(self) -> Vec<Weighted>
         ensures { result.items ≡ self }

@@ -4,6 +4,7 @@
 mod counted;
 mod counts;
 mod database;
+mod item_table;
 mod itemset;
 pub mod laws;
 mod merge;
@@ -17,6 +18,7 @@ pub mod worked;
 pub use counted::Counted;
 pub use counts::count_items;
 pub use database::{Database, support};
+pub use item_table::ItemTable;
 pub use itemset::{INLINE_ITEMS, Itemset, is_rising};
 pub use merge::merge_equal;
 pub use minimum::{Minimum, parse_minimum, parse_share};

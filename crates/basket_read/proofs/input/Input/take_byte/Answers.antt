@@ -6,21 +6,21 @@ use Rattle.basket_read.proofs.InputLemmas.{has_room, at_front, settled-decided, 
 use Rattle.basket_read.proofs.input.Input.take_byte.Goals as goal
 
 pub feed-requires : goal.feed-requires
-feed-requires c = has_room c.args.self.now 1 (λ bytes r. omega (arith, ap length (at_front c.args.self.now bytes r Empty c.in-Empty.is).0)) c.requires
+feed-requires c = has_room c.args.self.now 1 (λ past bytes r. omega (arith, ap length (at_front c.args.self.now past bytes r Empty c.in-Empty.is).0)) c.requires
 
 pub returns-in_err-feed-in-Empty : goal.returns-in_err-feed-in-Empty
-returns-in_err-feed-in-Empty c = λ bytes r.
+returns-in_err-feed-in-Empty c = λ past bytes r.
     let p = err_from_is_err_and c.from_residual.result c.from_residual.ensures.1 in
-    let at = at_front c.args.self.now bytes r Empty c.in-Empty.is in
+    let at = at_front c.args.self.now past bytes r Empty c.in-Empty.is in
     let text = no_mark c.args.byte c.if-byte.false in
     rw (p.1, p.2) (λ no_memory.
     ap (λ l. settled_fault (l ++ c.args.byte ∷ [])) at.0 ∙ settled-decided (c.args.byte ∷ []) text.1 ∙ fault_few (c.args.byte ∷ []) (omega arith)
-    ∙ ap first_fault text.0 ∙ c.in_err-feed-in-Empty.ensures [] at.1 no_memory)
+    ∙ ap first_fault text.0 ∙ c.in_err-feed-in-Empty.ensures past [] at.1 no_memory)
 
 pub returns-then-byte-2 : goal.returns-then-byte-2
-returns-then-byte-2 c = λ bytes r _.
-    ap (λ l. settled_fault (l ++ c.args.byte ∷ [])) (at_front c.args.self.now bytes r OneByte c.in-OneByte.is).0 ∙ half_of_one c.args.byte c.if-byte-2.true
+returns-then-byte-2 c = λ past bytes r _.
+    ap (λ l. settled_fault (l ++ c.args.byte ∷ [])) (at_front c.args.self.now past bytes r OneByte c.in-OneByte.is).0 ∙ half_of_one c.args.byte c.if-byte-2.true
 
 pub returns-then-byte-3 : goal.returns-then-byte-3
-returns-then-byte-3 c = λ bytes r _.
-    ap (λ l. settled_fault (l ++ c.args.byte ∷ [])) (at_front c.args.self.now bytes r TwoBytes c.in-TwoBytes.is).0 ∙ half_of_two c.args.byte c.if-byte-3.true
+returns-then-byte-3 c = λ past bytes r _.
+    ap (λ l. settled_fault (l ++ c.args.byte ∷ [])) (at_front c.args.self.now past bytes r TwoBytes c.in-TwoBytes.is).0 ∙ half_of_two c.args.byte c.if-byte-3.true

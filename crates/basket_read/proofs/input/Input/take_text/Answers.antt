@@ -10,33 +10,33 @@ use Rattle.basket_read.proofs.input.Input.take_text.Goals as goal
 pub feed-requires : goal.feed-requires
 feed-requires c =
     has_room c.args.self.now (length (take (4294967295 - c.args.self.now.taken) c.args.piece.now))
-    (λ bytes r. omega (arith, length-take (4294967295 - c.args.self.now.taken) c.args.piece.now, r.few, r.taken)) c.requires.some
+    (λ past bytes r. omega (arith, length-take (4294967295 - c.args.self.now.taken) c.args.piece.now, r.few, r.taken)) c.requires.some
 
 pub returns-in_err-feed : goal.returns-in_err-feed
-returns-in_err-feed c = λ bytes r.
+returns-in_err-feed c = λ past bytes r.
     let p = err_from_is_err_and c.from_residual.result c.from_residual.ensures.1 in
     let room = 4294967295 - c.args.self.now.taken in
     rw (p.1, p.2) (λ no_memory.
-    long_fault c.args.self.now bytes r c.args.piece.now room c.requires.decided (omega (arith, r.few, r.taken)) c.if-piece-room.true
-    ∙ ap (λ f. or_else f (Some TooLong)) (c.in_err-feed.ensures (text_of bytes) (at_front c.args.self.now bytes r Decided c.requires.decided).1 no_memory))
+    long_fault c.args.self.now past bytes r c.args.piece.now room c.requires.decided (omega (arith, r.few, r.taken)) c.if-piece-room.true
+    ∙ ap (λ f. or_else f (Some TooLong)) (c.in_err-feed.ensures past (text_of bytes) (at_front c.args.self.now past bytes r Decided c.requires.decided).1 no_memory))
 
 pub returns-then-piece-room : goal.returns-then-piece-room
-returns-then-piece-room c = λ bytes r _.
+returns-then-piece-room c = λ past bytes r _.
     let room = 4294967295 - c.args.self.now.taken in
-    long_fault c.args.self.now bytes r c.args.piece.now room c.requires.decided (omega (arith, r.few, r.taken)) c.if-piece-room.true
-    ∙ ap (λ f. or_else f (Some TooLong)) (c.in_ok-feed.ensures (text_of bytes) (at_front c.args.self.now bytes r Decided c.requires.decided).1).faultless
+    long_fault c.args.self.now past bytes r c.args.piece.now room c.requires.decided (omega (arith, r.few, r.taken)) c.if-piece-room.true
+    ∙ ap (λ f. or_else f (Some TooLong)) (c.in_ok-feed.ensures past (text_of bytes) (at_front c.args.self.now past bytes r Decided c.requires.decided).1).faultless
 
 pub feed-requires-2 : goal.feed-requires-2
-feed-requires-2 c = has_room c.args.self.now (length c.args.piece.now) (λ bytes r. omega (arith, r.few, r.taken)) c.requires.some
+feed-requires-2 c = has_room c.args.self.now (length c.args.piece.now) (λ past bytes r. omega (arith, r.few, r.taken)) c.requires.some
 
 pub returns-in_err-feed-2 : goal.returns-in_err-feed-2
-returns-in_err-feed-2 c = λ bytes r.
+returns-in_err-feed-2 c = λ past bytes r.
     let p = err_from_is_err_and c.from_residual-in_err-feed-2.result c.from_residual-in_err-feed-2.ensures.1 in
     rw (p.1, p.2) (λ no_memory.
-    text_fault c.args.self.now bytes r c.args.piece.now c.in_err-feed-2.field-0.0 c.requires.decided (omega (arith, r.few, r.taken))
-    (c.in_err-feed-2.ensures (text_of bytes) (at_front c.args.self.now bytes r Decided c.requires.decided).1 no_memory))
+    text_fault c.args.self.now past bytes r c.args.piece.now c.in_err-feed-2.field-0.0 c.requires.decided (omega (arith, r.few, r.taken))
+    (c.in_err-feed-2.ensures past (text_of bytes) (at_front c.args.self.now past bytes r Decided c.requires.decided).1 no_memory))
 
 pub returns : goal.returns
-returns c = λ bytes r.
-    with_text c.args.self.now bytes r c.feed-2.new.self c.args.piece.now c.requires.decided (omega (arith, r.few, r.taken))
-    (c.in_ok-feed-2.ensures (text_of bytes) (at_front c.args.self.now bytes r Decided c.requires.decided).1)
+returns c = λ past bytes r.
+    with_text c.args.self.now past bytes r c.feed-2.new.self c.args.piece.now c.requires.decided (omega (arith, r.few, r.taken))
+    (c.in_ok-feed-2.ensures past (text_of bytes) (at_front c.args.self.now past bytes r Decided c.requires.decided).1)

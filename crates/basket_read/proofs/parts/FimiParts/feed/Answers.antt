@@ -1,4 +1,4 @@
-use Rattle.std.proofs.Common.{◌++◌, Err, ap}
+use Rattle.std.proofs.Common.{[], ◌++◌, Err, ap}
 use Rattle.basket_read.proofs.InputLemmas.{settled_stays, some_after, faultless_input}
 use Rattle.basket_read.proofs.PartsLemmas.{fault_told, fed_told, fed_input, input_is}
 use Rattle.basket_read.proofs.parts.FimiParts.feed.Goals as goal
@@ -18,16 +18,16 @@ invariant_of-self c = record {
 
 pub returns-in-Ok-clause-exact : goal.returns-in-Ok-clause-exact
 returns-in-Ok-clause-exact c = λ bytes fed.
-    faultless_input c.take.new.self (bytes ++ c.args.piece.now) (c.in-Ok.ensures bytes (input_is c.args.self.now bytes fed c.in_default.is))
+    faultless_input c.take.new.self [] (bytes ++ c.args.piece.now) (c.in-Ok.ensures [] bytes (input_is c.args.self.now bytes fed c.in_default.is))
 
 pub returns-in-Ok-clause-fed : goal.returns-in-Ok-clause-fed
 returns-in-Ok-clause-fed c = λ bytes fed _.
     fed_input c.args.self.now.refusal c.take.new.self (bytes ++ c.args.piece.now) c.in_default.is
-    (c.in-Ok.ensures bytes (input_is c.args.self.now bytes fed c.in_default.is))
+    (c.in-Ok.ensures [] bytes (input_is c.args.self.now bytes fed c.in_default.is))
 
 pub returns-in-Err-clause-exact : goal.returns-in-Err-clause-exact
-returns-in-Err-clause-exact c = λ bytes fed. c.in-Err.ensures bytes (input_is c.args.self.now bytes fed c.in_default.is)
+returns-in-Err-clause-exact c = λ bytes fed. c.in-Err.ensures [] bytes (input_is c.args.self.now bytes fed c.in_default.is)
 
 pub returns-in-Err-clause-fed : goal.returns-in-Err-clause-fed
 returns-in-Err-clause-fed c = λ bytes fed no_memory.
-    c.in-Err.ensures bytes (input_is c.args.self.now bytes fed c.in_default.is) (λ e. no_memory (ap Err e))
+    c.in-Err.ensures [] bytes (input_is c.args.self.now bytes fed c.in_default.is) (λ e. no_memory (ap Err e))

@@ -8,16 +8,16 @@ pub overflow_add-result : goal.overflow_add-result
 overflow_add-result c = omega (arith, few_lines c.args.self.now 0 c.requires)
 
 pub returns-then-not-add_digit : goal.returns-then-not-add_digit
-returns-then-not-add_digit c = λ bytes t _.
-    refuses_digit c.args.self.now bytes t c.args.byte c.in-Digit.digit c.in-Digit.ensures.0 c.in-Digit.ensures.1
+returns-then-not-add_digit c = λ past bytes t _.
+    refuses_digit c.args.self.now past bytes t c.args.byte c.in-Digit.digit c.in-Digit.ensures.0 c.in-Digit.ensures.1
     (ap (λ b. cond b (Some (line_state c.add_digit.new.self)) None) (sym c.if-not-add_digit.true) ∙ c.add_digit.ensures)
 
 pub overflow_add-result-then-not-add_times : goal.overflow_add-result-then-not-add_times
 overflow_add-result-then-not-add_times c = omega (arith, few_lines c.args.self.now 0 c.requires)
 
 pub returns-then-not-add_times : goal.returns-then-not-add_times
-returns-then-not-add_times c = λ bytes t _.
-    refuses_times c.args.self.now bytes t c.args.byte c.in-Times.ensures
+returns-then-not-add_times c = λ past bytes t _.
+    refuses_times c.args.self.now past bytes t c.args.byte c.in-Times.ensures
     (ap (λ b. cond b (Some (line_state c.add_times.new.self)) None) (sym c.if-not-add_times.true) ∙ c.add_times.ensures)
 
 pub end_line-requires : goal.end_line-requires
@@ -30,23 +30,23 @@ pub overflow_add-result-in-Other : goal.overflow_add-result-in-Other
 overflow_add-result-in-Other c = omega (arith, few_lines c.args.self.now 0 c.requires)
 
 pub returns-in-Other : goal.returns-in-Other
-returns-in-Other c = λ bytes t _.
-    refuses_other c.args.self.now bytes t c.args.byte c.in-Other.ensures.0 c.in-Other.ensures.1 c.in-Other.ensures.2 c.in-Other.ensures.3
+returns-in-Other c = λ past bytes t _.
+    refuses_other c.args.self.now past bytes t c.args.byte c.in-Other.ensures.0 c.in-Other.ensures.1 c.in-Other.ensures.2 c.in-Other.ensures.3
 
 pub returns-else-not-add_digit : goal.returns-else-not-add_digit
-returns-else-not-add_digit c = λ bytes t.
-    takes_digit c.args.self.now bytes t c.add_digit.new.self c.args.byte c.in-Digit.digit c.in-Digit.ensures.0 c.in-Digit.ensures.1
+returns-else-not-add_digit c = λ past bytes t.
+    takes_digit c.args.self.now past bytes t c.add_digit.new.self c.args.byte c.in-Digit.digit c.in-Digit.ensures.0 c.in-Digit.ensures.1
     (ap (λ b. cond b (Some (line_state c.add_digit.new.self)) None) (sym c.if-not-add_digit.false) ∙ c.add_digit.ensures)
 
 pub returns-in_ok-add_blank-in-Blank : goal.returns-in_ok-add_blank-in-Blank
-returns-in_ok-add_blank-in-Blank c = λ bytes t. takes_blank c.args.self.now bytes t c.add_blank.new.self c.args.byte c.in-Blank.ensures c.in_ok-add_blank-in-Blank.ensures
+returns-in_ok-add_blank-in-Blank c = λ past bytes t. takes_blank c.args.self.now past bytes t c.add_blank.new.self c.args.byte c.in-Blank.ensures c.in_ok-add_blank-in-Blank.ensures
 
 pub returns-else-not-add_times : goal.returns-else-not-add_times
-returns-else-not-add_times c = λ bytes t.
-    takes_times c.args.self.now bytes t c.add_times.new.self c.args.byte c.in-Times.ensures
+returns-else-not-add_times c = λ past bytes t.
+    takes_times c.args.self.now past bytes t c.add_times.new.self c.args.byte c.in-Times.ensures
     (ap (λ b. cond b (Some (line_state c.add_times.new.self)) None) (sym c.if-not-add_times.false) ∙ c.add_times.ensures)
 
 pub returns-in_ok-end_line-in-LineFeed : goal.returns-in_ok-end_line-in-LineFeed
-returns-in_ok-end_line-in-LineFeed c = λ bytes t.
-    takes_line_feed c.args.self.now bytes t _ c.args.byte c.in-LineFeed.ensures c.in_ok-end_line-in-LineFeed.ensures.line
-    (ap (λ n. n + 1) c.in_ok-end_line-in-LineFeed.ensures.lines) c.in_ok-end_line-in-LineFeed.ensures.baskets
+returns-in_ok-end_line-in-LineFeed c = λ past bytes t.
+    takes_line_feed c.args.self.now past bytes t _ c.args.byte c.in-LineFeed.ensures c.in_ok-end_line-in-LineFeed.ensures.line
+    (ap (λ n. n + 1) c.in_ok-end_line-in-LineFeed.ensures.lines) (λ baskets. c.in_ok-end_line-in-LineFeed.ensures.baskets past baskets t.past_weight) c.in_ok-end_line-in-LineFeed.ensures.past_weight

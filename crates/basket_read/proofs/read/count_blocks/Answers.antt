@@ -1,0 +1,75 @@
+use Rattle.std.proofs.Common.{◌≡◌, ◌++◌, take, length-append, unwrap_or, Err, ap, ◌∙◌, subst, arith}
+use Rattle.std.proofs.lemmas.List.{length-take}
+use Rattle.std.proofs.lemmas.Result.{err_from_is_err_and}
+use Rattle.basket_read.specs.Fimi.{fimi_of, settled_fault}
+use Rattle.basket_read.specs.ItemCounts.{Counts}
+use Rattle.basket_read.specs.Text.{Tells}
+use Rattle.basket_read.specs.declared.fault.ReadFault.TheVariants.{Read}
+use Rattle.basket_read.proofs.ReadLemmas.{not_settled, not_answered, consumes_more, refused_counts, of_all_bytes, fails_after, light_counts}
+use Rattle.basket_read.proofs.read.count_blocks.Goals as goal
+
+pub returns-in-Ok-eq0-clause-read_is_failed : goal.returns-in-Ok-eq0-clause-read_is_failed
+returns-in-Ok-eq0-clause-read_is_failed g c = λ e.
+    let read = c.reading.invariant.read in
+    let answers = subst (λ r. Counts r (fimi_of read.0)) e (c.finish.ensures read.0 read.2) in
+    absurd (not_answered read.0 (answers (λ m. absurd cc)))
+
+pub reading-preserved : goal.reading-preserved
+reading-preserved g c =
+    let read = c.reading.invariant.read in
+    record {
+      unfailed = c.in-Ok.ensures.failed;
+      read = (
+        read.0 ++ take c.in-Ok.count c.read.new.buf,
+        consumes_more _ _ _ read.0 (take c.in-Ok.count c.read.new.buf) read.1 c.in-Ok.ensures.bytes.0,
+        c.in_ok-feed-in-Ok.ensures read.0 read.2,
+      );
+    }
+
+pub returns-in_err-feed-in-Ok-clause-exact : goal.returns-in_err-feed-in-Ok-clause-exact
+returns-in_err-feed-in-Ok-clause-exact g c = λ _.
+    let read = c.reading.invariant.read in
+    let p = err_from_is_err_and c.from_residual.result c.from_residual.ensures.1 in
+    refused_counts _ _ (read.0 ++ take c.in-Ok.count c.read.new.buf) c.in_err-feed-in-Ok.field-0.0 c.from_residual.result (p.1 ∙ ap Err p.2)
+    (consumes_more _ _ _ read.0 (take c.in-Ok.count c.read.new.buf) read.1 c.in-Ok.ensures.bytes.0)
+    (c.in_err-feed-in-Ok.ensures read.0 read.2)
+
+pub returns-in_err-feed-in-Ok-clause-read_is_failed : goal.returns-in_err-feed-in-Ok-clause-read_is_failed
+returns-in_err-feed-in-Ok-clause-read_is_failed g c = λ e.
+    let read = c.reading.invariant.read in
+    let p = err_from_is_err_and c.from_residual.result c.from_residual.ensures.1 in
+    let is_read : c.in_err-feed-in-Ok.field-0.0 ≡ Read = cc (p.1, p.2, e) in
+    let told = subst (λ f. Tells f (settled_fault (read.0 ++ take c.in-Ok.count c.read.new.buf))) is_read (c.in_err-feed-in-Ok.ensures read.0 read.2) in
+    absurd (not_settled (read.0 ++ take c.in-Ok.count c.read.new.buf) (told (λ m. absurd cc)))
+
+pub returns-in-Ok-eq0-clause-exact : goal.returns-in-Ok-eq0-clause-exact
+returns-in-Ok-eq0-clause-exact g c = λ working.
+    let read = c.reading.invariant.read in
+    let ended = c.in-Ok-eq0.ensures.bytes in
+    let none : c.in-Ok-eq0.field-0 ≡ 0 = c.in-Ok-eq0.field-0-test in
+    of_all_bytes _ _ _ read.0 (take c.in-Ok-eq0.field-0 c.read.new.buf) (λ bytes. Counts c.finish.result (fimi_of bytes)) read.1 ended.0 (ap (λ n. take n c.read.new.buf) none)
+    (ended.1 none (omega (arith, c.requires.some, c.reading.auto.buffer, c.read.auto.buf))) (c.finish.ensures read.0 read.2)
+
+pub reading-smaller : goal.reading-smaller
+reading-smaller g c =
+    let read = c.reading.invariant.read in
+    let next = c.in_ok-feed-in-Ok.ensures read.0 read.2 in
+    let before = read.2.1.taken in
+    let after = next.1.taken in
+    let few = next.1.few in
+    let sum = length-append read.0 (take c.in-Ok.count c.read.new.buf) in
+    let some = length-take c.in-Ok.count c.read.new.buf in
+    let within = c.in-Ok.ensures.bound in
+    let test = c.in-Ok.count-test in
+    omega arith
+
+pub returns-in-Err-clause-failed : goal.returns-in-Err-clause-failed
+returns-in-Err-clause-failed g c = λ failed.
+    let read = c.reading.invariant.read in
+    fails_after _ _ _ read.0 c.unwrap_or.result read.1 c.in-Err.ensures.bytes
+    (c.unwrap_or.ensures ∙ ap (λ found. unwrap_or found Read) (c.fault_so_far.ensures read.0 read.2))
+
+pub returns-in-Ok-eq0-clause-light : goal.returns-in-Ok-eq0-clause-light
+returns-in-Ok-eq0-clause-light g c =
+    let read = c.reading.invariant.read in
+    light_counts read.0 c.finish.result (c.finish.ensures read.0 read.2)

@@ -1,0 +1,70 @@
+//! The counts of the items of a FIMI input that comes in pieces.
+ghost use Rattle.std.specs.Prelude.{◌≡◌, ℕ, List, [], ◌++◌, MatchResult};
+ghost use Rattle.basket_read.specs.Fimi.{settled_fault, fault_in, fimi_of};
+ghost use Rattle.basket_read.specs.ItemCounts.{Counts, HasRead};
+ghost use Rattle.basket_read.specs.Text.{Tells};
+
+use crate::fault::ReadFault;
+use crate::input::Input;
+use basket_sets::{Database, ItemTable};
+use std::alloc::Global;
+
+/// What an input says of its items: their supports in the first of its baskets, and the others.
+#[derive(Debug, Drop)]
+pub struct ItemCounts {
+    pub table: ItemTable,
+    pub rest: Database,
+}
+
+/// What has been read of an input whose items are counted.
+#[derive(Debug, Drop)]
+pub struct ItemParts {
+    input: Input,
+    table: ItemTable,
+    /// How many baskets were kept when the table was too small for them, or 0. It is tried again
+    /// once there are twice as many.
+    refused: usize,
+}
+
+impl ItemParts {
+    pub fn new(alloc: Global) -> Self
+        ensures { HasRead result [] }
+    {
+        ItemParts {
+            input: Input::new(alloc),
+            table: ItemTable::new(alloc),
+            refused: 0,
+        }
+    }
+
+    /// Takes the next piece, up to the first fault.
+    pub fn feed(&mut self, piece: &[u8]) -> Result<(), ReadFault>
+        requires { ∥ ((bytes : List ℕ) × HasRead self.old bytes) ∥₁ }
+        ensures { (bytes : List ℕ) → HasRead self.old bytes →
+            MatchResult result (λ _. HasRead self.new (bytes ++ piece.now)) (λ fault. Tells fault (settled_fault (bytes ++ piece.now))) }
+    {
+        self.input.take(piece)?;
+        if self.input.kept() / 2 >= self.refused {
+            let counted = self.input.count(&mut self.table)?;
+            self.refused = if counted { 0 } else { self.input.kept() };
+        }
+        Ok(())
+    }
+
+    /// The fault of the bytes so far if none follow.
+    pub fn fault_so_far(&self) -> Option<ReadFault>
+        ensures { (bytes : List ℕ) → HasRead self.now bytes → result ≡ fault_in bytes }
+    {
+        self.input.fault_so_far()
+    }
+
+    /// The counts of the whole input, or its first fault.
+    pub fn finish(self) -> Result<ItemCounts, ReadFault>
+        requires { ∥ ((bytes : List ℕ) × HasRead self bytes) ∥₁ }
+        ensures { (bytes : List ℕ) → HasRead self bytes → Counts result (fimi_of bytes) }
+    {
+        let ItemParts { input, table, .. } = self;
+        let rest = input.finish()?;
+        Ok(ItemCounts { table, rest })
+    }
+}

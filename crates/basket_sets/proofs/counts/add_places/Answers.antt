@@ -1,0 +1,54 @@
+use Rattle.std.proofs.Common.{◌≡◌, ◌+◌, ◌++◌, [], ◌∷◌, length, take, sym, subst, ap, ◌∙◌, arith, append_assoc, append-nil}
+use Rattle.std.proofs.lemmas.List.{take_all, take_more}
+use Rattle.std.proofs.lemmas.List.Sums.{sum_by_more, sum_by_more_le}
+use Rattle.basket_sets.specs.declared.weighted.Weighted.{Weighted}
+use Rattle.basket_sets.specs.Counts.{IsTable}
+use Rattle.basket_sets.specs.Support.{total_of}
+use Rattle.basket_sets.proofs.CountLemmas.{item_of_place, table_push, bounded_push}
+use Rattle.basket_sets.proofs.counts.add_places.Goals as goal
+
+pub loop-place-init : goal.loop-place-init
+loop-place-init c = record {
+  table = λ before is. subst (λ l. IsTable l c.args.table.now) (sym (append-nil before)) is;
+  bounded = λ item. omega arith;
+}
+
+pub add_to_table-requires-clause-within : goal.add_to_table-requires-clause-within
+add_to_table-requires-clause-within c = λ item h.
+    let k = c.requires.within item (item_of_place c.args.baskets.now c.loop-place.place-index c.place-item.result c.loop-place-test.true c.place-item.is item h) in
+    omega (arith, c.loop-place.auto.table)
+
+pub add_to_table-requires-clause-fits : goal.add_to_table-requires-clause-fits
+add_to_table-requires-clause-fits c = λ item h.
+    let more = sum_by_more_le (λ (place : Weighted). place.weight) c.args.baskets.now c.loop-place.place-index c.place-item.result c.loop-place-test.true in
+    let its = ap (λ (place : Weighted). place.weight) c.place-item.is in
+    let small = c.loop-place.invariant.bounded item in
+    let fits = c.requires.fits item in
+    omega arith
+
+pub loop-place-preserved : goal.loop-place-preserved
+loop-place-preserved c =
+    let baskets = c.args.baskets.now in
+    let i = c.loop-place.place-index in
+    let place = c.place-item.result in
+    let same : length c.add_to_table.new.table ≡ length c.loop-place.table = c.add_to_table.auto.table in
+    let next : take i baskets ++ place ∷ [] ≡ take (i + 1) baskets = ap (λ p. take i baskets ++ p ∷ []) c.place-item.is ∙ sym (take_more baskets i place c.loop-place-test.true) in
+    record {
+      table = λ before is.
+          subst (λ l. IsTable l c.add_to_table.new.table) (append_assoc before (take i baskets) (place ∷ []) ∙ ap (λ l. before ++ l) next)
+          (table_push (before ++ take i baskets) place c.loop-place.table c.add_to_table.new.table same c.add_to_table.ensures (c.loop-place.invariant.table before is));
+      bounded = λ item.
+          let more = sum_by_more (λ (p : Weighted). p.weight) baskets i place c.loop-place-test.true in
+          let its = ap (λ (p : Weighted). p.weight) c.place-item.is in
+          let step = bounded_push place c.loop-place.table c.add_to_table.new.table item c.add_to_table.ensures in
+          let small = c.loop-place.invariant.bounded item in
+          omega arith;
+    }
+
+pub returns : goal.returns
+returns c =
+    let whole = take_all c.loop-place.place-index c.args.baskets.now c.loop-place-test.false in
+    record {
+      table = λ before is. subst (λ l. IsTable (before ++ l) c.loop-place.table) whole (c.loop-place.invariant.table before is);
+      bounded = λ item. let e = ap total_of whole in let small = c.loop-place.invariant.bounded item in omega arith;
+    }

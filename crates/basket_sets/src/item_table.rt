@@ -1,0 +1,116 @@
+//! The supports of items while baskets come.
+ghost use Rattle.std.specs.Prelude.{◌≡◌, ◌<◌, ◌≤◌, ◌+◌, ◌++◌, ◌^◌, [], List, false, IfOk, IsTrue, OnOk, length, map};
+ghost use Rattle.basket_sets.specs.declared.weighted.Weighted.{Weighted as Place};
+ghost use Rattle.basket_sets.specs.Counts.{AllBelow, item_supports};
+ghost use Rattle.basket_sets.specs.Database.{MOST_WEIGHT};
+ghost use Rattle.basket_sets.specs.ItemTable.{HasCounted};
+ghost use Rattle.basket_sets.specs.Itemset.{IsRising};
+ghost use Rattle.basket_sets.specs.Support.{all_items, total_of};
+
+use crate::counts::{SMALL_TABLE, add_places, greatest_item, listed, occurrences};
+use crate::slot::Slot;
+use crate::weighted::Weighted;
+use std::alloc::{AllocError, Global};
+use std::marker::Model;
+
+/// The supports of the items of baskets that come one after another. The table has a slot for each
+/// number, and grows with the greatest item.
+#[derive(Debug, Drop)]
+pub struct ItemTable {
+    slots: Vec<Slot>,
+    /// What the baskets weigh together.
+    total: u64,
+    /// How many items they have together, or `usize::MAX` where they have more.
+    occurrences: usize,
+}
+
+impl Model for ItemTable {
+    ghost use Rattle.basket_sets.specs.ItemTable.{Tabled, IsBounded};
+
+    ghost Value = { Tabled };
+
+    ghost view = { λ t. record { slots = t.slots.items; total = t.total } };
+
+    ghost invariant = { λ t. IsBounded t.slots.items t.total };
+}
+
+impl ItemTable {
+    /// No baskets have come.
+    pub fn new(alloc: Global) -> Self
+        ensures { HasCounted result [] }
+    {
+        ItemTable {
+            slots: Vec::new(alloc),
+            total: 0,
+            occurrences: 0,
+        }
+    }
+
+    /// What the baskets weigh together.
+    pub fn total(&self) -> u64
+        ensures { result ≡ self.now.total }
+    {
+        self.total
+    }
+
+    /// Counts more baskets, unless their greatest item is far above the number of occurrences, so that
+    /// the table would be too large for them. The answer is whether they were counted.
+    pub fn add(&mut self, baskets: &[Weighted]) -> Result<bool, AllocError>
+        requires { self.old.total + total_of baskets.now ≤ MOST_WEIGHT }
+        ensures counted { IfOk result (λ counted. IsTrue counted → (before : List Place) → HasCounted self.old before → HasCounted self.new (before ++ baskets.now)) }
+        ensures left { IfOk result (λ counted. counted ≡ false → self.new ≡ self.old) }
+    {
+        let greatest = greatest_item(baskets) as usize;
+        let occurrences = self.occurrences.saturating_add(occurrences(baskets));
+        if greatest >= SMALL_TABLE && greatest >= occurrences {
+            return Ok(false);
+        }
+        self.reach(greatest)?;
+        self.count(baskets, occurrences);
+        Ok(true)
+    }
+
+    /// Makes the table reach an item.
+    fn reach(&mut self, item: usize) -> Result<(), AllocError>
+        requires { item < 2 ^ 32 }
+        ensures reaches { OnOk result (item < length self.new.slots) }
+        ensures same { OnOk result ((before : List Place) → HasCounted self.old before → HasCounted self.new before) }
+        ensures total { self.new.total ≡ self.old.total }
+    {
+        if item >= self.slots.len() {
+            self.slots.resize(item + 1, Slot::empty())?;
+        }
+        Ok(())
+    }
+
+    /// Counts more baskets, with which there are so many occurrences.
+    fn count(&mut self, baskets: &[Weighted], occurrences: usize)
+        requires within { AllBelow (length self.old.slots) (all_items baskets.now) }
+        requires light { self.old.total + total_of baskets.now ≤ MOST_WEIGHT }
+        ensures { (before : List Place) → HasCounted self.old before → HasCounted self.new (before ++ baskets.now) }
+    {
+        add_places(&mut self.slots, baskets);
+        self.total += weight_of(baskets);
+        self.occurrences = occurrences;
+    }
+
+    /// The items in rising order, each with its support.
+    pub fn counts(&self, alloc: Global) -> Result<Vec<(u32, u64)>, AllocError>
+        ensures counts { IfOk result (λ counts. (baskets : List Place) → HasCounted self.now baskets → counts.items ≡ item_supports baskets) }
+        ensures rising { IfOk result (λ counts. IsRising (map (λ entry. entry.0) counts.items)) }
+    {
+        listed(alloc, &self.slots)
+    }
+}
+
+/// What baskets weigh together.
+fn weight_of(baskets: &[Weighted]) -> u64
+    requires { total_of baskets.now ≤ MOST_WEIGHT }
+    ensures { result ≡ total_of baskets.now }
+{
+    let mut weight = 0;
+    for place in baskets {
+        weight += place.weight;
+    }
+    weight
+}
