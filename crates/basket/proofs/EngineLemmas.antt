@@ -1,17 +1,18 @@
 -- From what reading, mining and writing ensure to what a run ensures.
-use Rattle.std.proofs.Common.{◌≡◌, ◌≢◌, ◌≤◌, ℕ, List, Option, Some, None, Result, Ok, Err, Bool, true, false, length, take, refl, ap, ◌∙◌}
+use Rattle.std.proofs.Common.{◌≡◌, ◌≢◌, ◌≤◌, ℕ, List, Option, Some, None, Result, Ok, Err, Bool, true, false, length, take, refl, sym, ap, subst, ◌∙◌}
 use Rattle.std.proofs.lemmas.Bool.{false≢true}
 use Rattle.std.specs.Prelude.{IfSome, IsErr}
 use Rattle.std.specs.Io.KnownBytes.{Appends}
 use Rattle.basket_core.specs.declared.fault.MineFault.{MineFault}
 use Rattle.basket_core.specs.declared.fault.MineFault.TheVariants.{Memory}
 use Rattle.basket_read.specs.declared.fault.ReadFault.{ReadFault}
+use Rattle.basket_read.specs.declared.fault.ReadFault.TheVariants.{Read}
 use Rattle.basket.specs.Input.{Answers, Said, said_of}
 use Rattle.basket.specs.declared.fault.RunFault.{RunFault}
 use Rattle.basket.specs.declared.fault.RunFault.TheVariants.{Input, Mine, Write}
-use Rattle.basket.specs.Outcome.{outcome_of, outcome_for, of_mining}
+use Rattle.basket.specs.Outcome.{outcome, outcome_of, outcome_for, of_mining}
 use Rattle.basket_plan.specs.Plan.{Question}
-use Rattle.basket.specs.Engine.{WritesReport, WritesFront, RefusesSets}
+use Rattle.basket.specs.Engine.{FailsInput, MakesReport, RefusesInput, RefusesSets, WritesFront, WritesReport}
 
 abbrev input_fault : ReadFault → Result Unit RunFault → ReadFault
 input_fault other (Err (Input fault)) = fault
@@ -44,20 +45,68 @@ not_failed false x err = refl
 
 -- ---- the outcome for an input
 
-pub writes_report : (left : Option (List ℕ)) (question : Question) (before after : Option (List ℕ)) (said : Said) (text : List ℕ)
-    → IfSome left (λ bytes. Answers (Ok said) (said_of question bytes)) → outcome_for said question ≡ Ok text
-    → Appends before after text → WritesReport left question before after
-writes_report None question before after said text read made taken = tt
-writes_report (Some bytes) question before after said text read made taken = (text, ap (λ a. outcome_of a question) read ∙ ap of_mining made, taken)
+-- the report for an input is that of what the reader had left
+pub report_is : (left : Option (List ℕ)) (question : Question) (said : Said) (text : List ℕ)
+    → IfSome left (λ bytes. Answers (Ok said) (said_of question bytes)) → outcome_for said question ≡ Ok text → IfSome left (λ bytes. outcome bytes question ≡ Ok text)
+report_is None question said text read made = tt
+report_is (Some bytes) question said text read made = ap (λ a. outcome_of a question) read ∙ ap of_mining made
 
-pub writes_front : (left : Option (List ℕ)) (question : Question) (before after : Option (List ℕ)) (said : Said) (text : List ℕ)
-    → IfSome left (λ bytes. Answers (Ok said) (said_of question bytes)) → outcome_for said question ≡ Ok text
-    → ((n : ℕ) × (n ≤ length text) × Appends before after (take n text)) → WritesFront left question before after
-writes_front None question before after said text read made taken = tt
-writes_front (Some bytes) question before after said text read made (n, small, front) =
-    (text, n, ap (λ a. outcome_of a question) read ∙ ap of_mining made, small, front)
+pub refuses_input : (left : Option (List ℕ)) (question : Question) (fault : ReadFault) → IfSome left (λ bytes. Answers (Err fault) (said_of question bytes)) → RefusesInput left question fault
+refuses_input None question fault read = tt
+refuses_input (Some bytes) question fault read = λ other. ap (λ a. outcome_of a question) (read other)
 
 pub refuses_sets : (left : Option (List ℕ)) (question : Question) (said : Said) (fault : MineFault)
     → IfSome left (λ bytes. Answers (Ok said) (said_of question bytes)) → (fault ≢ Memory → outcome_for said question ≡ Err fault) → RefusesSets left question fault
 refuses_sets None question said fault read refused = tt
 refuses_sets (Some bytes) question said fault read refused = λ other. ap (λ a. outcome_of a question) read ∙ ap of_mining (refused other)
+
+-- ---- what is written of a report that was made, and what is told where none was
+
+pub writes_report : (left : Option (List ℕ)) (question : Question) (before after : Option (List ℕ)) (text : List ℕ)
+    → IfSome left (λ bytes. outcome bytes question ≡ Ok text) → Appends before after text → WritesReport left question before after
+writes_report None question before after text is taken = tt
+writes_report (Some bytes) question before after text is taken = (text, is, taken)
+
+pub writes_front : (left : Option (List ℕ)) (question : Question) (before after : Option (List ℕ)) (text : List ℕ)
+    → IfSome left (λ bytes. outcome bytes question ≡ Ok text) → ((n : ℕ) × (n ≤ length text) × Appends before after (take n text)) → WritesFront left question before after
+writes_front None question before after text is front = tt
+writes_front (Some bytes) question before after text is (n, small, front) = (text, n, is, small, front)
+
+abbrev answer : RunFault → Result Unit RunFault
+answer fault = Err fault
+
+module _ (question : Question) (left after : Option (List ℕ)) (failed : Bool) where
+  pub told_input : (fault : RunFault) → MakesReport question left after failed (Err fault) → (other : ReadFault) → answer fault ≡ Err (Input other) → failed ≡ false → RefusesInput left question other
+  told_input (Input fault) made other is = subst (λ f. failed ≡ false → RefusesInput left question f) (same_refusal fault other is) made.0
+  told_input (Mine fault) made other is = absurd cc
+  told_input Write made other is = absurd made
+
+  pub told_failed : (fault : RunFault) → MakesReport question left after failed (Err fault) → (other : ReadFault) → answer fault ≡ Err (Input other) → failed ≡ true → FailsInput left question after other
+  told_failed (Input fault) made other is = subst (λ f. failed ≡ true → FailsInput left question after f) (same_refusal fault other is) made.1
+  told_failed (Mine fault) made other is = absurd cc
+  told_failed Write made other is = absurd made
+
+  pub told_by_reader : (fault : RunFault) → MakesReport question left after failed (Err fault) → failed ≡ true → (other : ReadFault) × (answer fault ≡ Err (Input other))
+  told_by_reader (Input fault) made broken = (fault, refl)
+  told_by_reader (Mine fault) made broken = absurd (false≢true (sym made.0 ∙ broken))
+  told_by_reader Write made broken = absurd made
+
+  pub told_read : (fault : RunFault) → MakesReport question left after failed (Err fault) → answer fault ≡ Err (Input Read) → failed ≡ true
+  told_read (Input fault) made is = made.2 (same_refusal fault Read is)
+  told_read (Mine fault) made is = absurd cc
+  told_read Write made is = absurd made
+
+  pub told_mine : (fault : RunFault) → MakesReport question left after failed (Err fault) → (other : MineFault) → answer fault ≡ Err (Mine other) → RefusesSets left question other
+  told_mine (Input fault) made other is = absurd cc
+  told_mine (Mine fault) made other is = subst (RefusesSets left question) (same_fault fault other is) made.1
+  told_mine Write made other is = absurd made
+
+  pub not_write : (fault : RunFault) → MakesReport question left after failed (Err fault) → answer fault ≡ Err Write → ⊥
+  not_write (Input fault) made is = cc
+  not_write (Mine fault) made is = cc
+  not_write Write made is = made
+
+-- want of memory refuses nothing
+pub memory_refuses : (left : Option (List ℕ)) (question : Question) → RefusesSets left question Memory
+memory_refuses None question = tt
+memory_refuses (Some bytes) question = λ other. absurd (other refl)

@@ -1,4 +1,5 @@
 mod Fronts
 mod MiningLemmas
 mod InputLemmas
+mod ItemLemmas
 mod EngineLemmas

@@ -1,11 +1,14 @@
 -- What a run does to its reader and its writer.
-use Rattle.std.specs.Prelude.{◌≡◌, ◌≢◌, ◌≤◌, ℕ, List, Option, IfSome, Ok, Err, length, take}
+use Rattle.std.specs.Prelude.{◌≡◌, ◌≢◌, ◌≤◌, ℕ, List, Bool, true, false, Option, IfSome, Result, Ok, Err, length, take}
 use Rattle.std.specs.Io.KnownBytes.{Appends}
 use Rattle.basket_read.specs.declared.fault.ReadFault.{ReadFault}
-use Rattle.basket_read.specs.declared.fault.ReadFault.TheVariants.{Memory}
+use Rattle.std.specs.declared.alloc.Global.{Global}
+use Rattle.std.specs.declared.vec.Vec.{Vec}
+use Rattle.basket_read.specs.declared.fault.ReadFault.TheVariants.{Memory, Read}
 use Rattle.basket_core.specs.declared.fault.MineFault.{MineFault}
 use Rattle.basket_core.specs.declared.fault.MineFault.TheVariants as mine
-use Rattle.basket.specs.declared.fault.RunFault.TheVariants.{Input, Mine}
+use Rattle.basket.specs.declared.fault.RunFault.{RunFault}
+use Rattle.basket.specs.declared.fault.RunFault.TheVariants.{Input, Mine, Write}
 use Rattle.basket.specs.Input.{FailsIn}
 use Rattle.basket.specs.Outcome.{outcome}
 use Rattle.basket_plan.specs.Plan.{Question}
@@ -30,3 +33,11 @@ RefusesSets left question fault = IfSome left (λ bytes. fault ≢ mine.Memory �
 -- where the reader failed, the fault is what the form of the input says of that
 abbrev pub FailsInput : Option (List ℕ) → Question → Option (List ℕ) → ReadFault → Type 0
 FailsInput left question after fault = IfSome left (λ bytes. FailsIn question.form bytes after fault)
+
+-- what comes of a reader: the report of what it had left, or why there is none
+abbrev pub MakesReport : Question → Option (List ℕ) → Option (List ℕ) → Bool → Result (Vec ℕ Global) RunFault → Type 0
+MakesReport question left after failed (Ok report) = (failed ≡ false) × IfSome left (λ bytes. outcome bytes question ≡ Ok report.items)
+MakesReport question left after failed (Err (Input fault)) =
+    (failed ≡ false → RefusesInput left question fault) × (failed ≡ true → FailsInput left question after fault) × (fault ≡ Read → failed ≡ true)
+MakesReport question left after failed (Err (Mine fault)) = (failed ≡ false) × RefusesSets left question fault
+MakesReport question left after failed (Err Write) = ⊥

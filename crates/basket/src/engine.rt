@@ -2,15 +2,16 @@ ghost use Rattle.std.specs.Prelude.{◌≡◌, ◌≢◌, ◌↔◌, true, false
 ghost use Rattle.std.specs.Io.KnownBytes.{Keeps};
 ghost use Rattle.basket_core.specs.declared.fault.MineFault.{MineFault as MiningFault};
 ghost use Rattle.basket_read.specs.declared.fault.ReadFault.{ReadFault as InputFault};
-ghost use Rattle.basket.specs.Engine.{WritesReport, WritesFront, RefusesInput, RefusesSets, FailsInput};
+ghost use Rattle.basket.specs.Engine.{MakesReport, WritesReport, WritesFront, RefusesInput, RefusesSets, FailsInput};
 ghost use Rattle.basket.specs.Outcome.{outcome_for};
 
 use crate::fault::RunFault;
 use crate::input::{Input, style_of};
+use crate::items::report_items;
 use crate::mining::{cutting, mine_in_place};
 use crate::write::write_all;
 use basket_core::{CountedSets, MineFault, Sink, Source};
-use basket_plan::{Ask, Plan};
+use basket_plan::{Ask, Form, Plan};
 use basket_read::ReadFault;
 use basket_report::{items_report, rules_report, sets_report};
 use basket_rules::{closed, maximal};
@@ -46,16 +47,49 @@ pub fn run<R: RandomSource + Threads + Sync, S: Source, W: Sink>(
     ensures mine { (fault : MiningFault) → result ≡ Err (RunFault.Mine fault) → RefusesSets (S.left reader.old) plan.now.question fault }
     ensures write { (result ≡ Err RunFault.Write) ↔ (W.has_failed writer.new ≡ true) }
 {
+    let report = match reported(rt, alloc, plan, reader) {
+        Ok(report) => report,
+        Err(fault) => return Err(fault),
+    };
+    write_all(writer, &report)?;
+    Ok(())
+}
+
+/// The report that the plan asks for over an input, which is read to its end. Items of a FIMI input
+/// are counted while it is read.
+fn reported<R: RandomSource + Threads + Sync, S: Source>(
+    rt: &R,
+    alloc: Global,
+    plan: &Plan,
+    reader: &mut S,
+) -> Result<Vec<u8>, RunFault>
+    requires { S.has_failed reader.old ≡ false }
+    ensures { MakesReport plan.now.question (S.left reader.old) (S.left reader.new) (S.has_failed reader.new) result }
+{
+    match (plan.ask(), plan.form()) {
+        (Ask::Items, Form::Fimi) => report_items(rt, alloc, plan, reader),
+        _ => report_baskets(rt, alloc, plan, reader),
+    }
+}
+
+/// The same by way of the baskets.
+fn report_baskets<R: RandomSource + Threads + Sync, S: Source>(
+    rt: &R,
+    alloc: Global,
+    plan: &Plan,
+    reader: &mut S,
+) -> Result<Vec<u8>, RunFault>
+    requires { S.has_failed reader.old ≡ false }
+    ensures { MakesReport plan.now.question (S.left reader.old) (S.left reader.new) (S.has_failed reader.new) result }
+{
     let input = match Input::read(rt, alloc, plan, reader) {
         Ok(input) => input,
         Err(fault) => return Err(RunFault::Input(fault)),
     };
-    let report = match report(rt, alloc, input, plan) {
-        Ok(report) => report,
-        Err(fault) => return Err(RunFault::Mine(fault)),
-    };
-    write_all(writer, &report)?;
-    Ok(())
+    match report(rt, alloc, input, plan) {
+        Ok(report) => Ok(report),
+        Err(fault) => Err(RunFault::Mine(fault)),
+    }
 }
 
 /// The report that the plan asks for over the baskets.

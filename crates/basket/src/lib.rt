@@ -5,6 +5,7 @@ mod class_miner;
 mod engine;
 mod fault;
 mod input;
+mod items;
 mod mining;
 mod write;
 

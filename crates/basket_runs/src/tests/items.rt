@@ -14,6 +14,12 @@ fn reports(rt: HostRuntime) -> Result<(), Fail> {
         (b"10 2", "1", b"2 (1)\n10 (1)\n"),
         (b"7 7 007\n", "1", b"7 (1)\n"),
         (b"9x \n1\n", "1", b"1 (1)\n"),
+        // Some baskets are counted, and those behind the great item are kept.
+        (
+            b"1 2\n2x 2 3\n4294967295 1\n1 2\n",
+            "1",
+            b"1 (3)\n2 (4)\n3 (2)\n4294967295 (1)\n",
+        ),
     ];
     for &(input, minimum, want) in cases {
         assert_writes(&rt, rt.alloc(), &["items", "--min", minimum], input, want)?;

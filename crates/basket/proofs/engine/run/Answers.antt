@@ -1,29 +1,43 @@
-use Rattle.std.proofs.Common.{Ok, refl, sym, ap, subst, ◌∙◌}
-use Rattle.basket.specs.Engine.{FailsInput, RefusesSets}
-use Rattle.basket.proofs.EngineLemmas.{same_refusal, not_failed, writes_report, writes_front, refuses_sets, same_fault}
+use Rattle.std.proofs.Common.{◌≡◌, Ok, sym, subst}
+use Rattle.std.specs.Prelude.{IfSome}
+use Rattle.basket.specs.Outcome.{outcome}
+use Rattle.basket.proofs.EngineLemmas.{not_write, told_by_reader, told_failed, told_input, told_mine, told_read, writes_front, writes_report}
 use Rattle.basket.proofs.engine.run.Goals as goal
 
-pub returns-in-Err-clause-failed_input : goal.returns-in-Err-clause-failed_input
-returns-in-Err-clause-failed_input g c fault same failed =
-    subst (FailsInput (g.S.Source.left c.args.reader.now) c.args.plan.now.question (g.S.Source.left c.read.new.reader)) (same_refusal c.in-Err.fault fault same) (c.in-Err.ensures.failed failed)
+pub returns-in-Err-clause-input : goal.returns-in-Err-clause-input
+returns-in-Err-clause-input g c = told_input c.args.plan.now.question (g.S.Source.left c.args.reader.now) _ _ c.in-Err.fault c.in-Err.ensures
 
-pub returns-in-Err-report-clause-mine : goal.returns-in-Err-report-clause-mine
-returns-in-Err-report-clause-mine g c fault same =
-    let said = c.in-Ok.input in
-    let question = c.args.plan.now.question in
-    let left = g.S.Source.left c.args.reader.now in
-    let working = not_failed _ said c.in-Ok.ensures.failed_is_err in
-    subst (RefusesSets left question) (same_fault c.in-Err-report.fault fault same)
-    (refuses_sets left question said c.in-Err-report.fault (c.in-Ok.ensures.exact working) (c.in-Err-report.ensures.err c.in-Err-report.fault refl))
+pub returns-in-Err-clause-failed_input : goal.returns-in-Err-clause-failed_input
+returns-in-Err-clause-failed_input g c = told_failed c.args.plan.now.question (g.S.Source.left c.args.reader.now) _ _ c.in-Err.fault c.in-Err.ensures
+
+pub returns-in-Err-clause-reader_failed : goal.returns-in-Err-clause-reader_failed
+returns-in-Err-clause-reader_failed g c = told_by_reader c.args.plan.now.question (g.S.Source.left c.args.reader.now) _ _ c.in-Err.fault c.in-Err.ensures
+
+pub returns-in-Err-clause-read : goal.returns-in-Err-clause-read
+returns-in-Err-clause-read g c = told_read c.args.plan.now.question (g.S.Source.left c.args.reader.now) _ _ c.in-Err.fault c.in-Err.ensures
+
+pub returns-in-Err-clause-mine : goal.returns-in-Err-clause-mine
+returns-in-Err-clause-mine g c = told_mine c.args.plan.now.question (g.S.Source.left c.args.reader.now) _ _ c.in-Err.fault c.in-Err.ensures
+
+pub returns-in-Err-clause-front : goal.returns-in-Err-clause-front
+returns-in-Err-clause-front g c = λ is. absurd (not_write c.args.plan.now.question (g.S.Source.left c.args.reader.now) _ _ c.in-Err.fault c.in-Err.ensures is)
+
+pub returns-in-Err-clause-write : goal.returns-in-Err-clause-write
+returns-in-Err-clause-write g c = (
+  λ is. absurd (not_write c.args.plan.now.question (g.S.Source.left c.args.reader.now) _ _ c.in-Err.fault c.in-Err.ensures is),
+  λ failed. absurd (let working = c.requires.writer in cc),
+)
 
 pub returns-in_err-write_all-clause-front : goal.returns-in_err-write_all-clause-front
 returns-in_err-write_all-clause-front g c is =
-    let said = c.in-Ok.input in
-    let working = not_failed _ said c.in-Ok.ensures.failed_is_err in
-    writes_front _ c.args.plan.now.question _ _ said _ (c.in-Ok.ensures.exact working) (c.in-Ok-report.ensures.ok ∙ ap Ok (sym c.deref.ensures.value)) c.in_err-write_all.ensures.err
+    let left = g.S.Source.left c.args.reader.now in
+    let question = c.args.plan.now.question in
+    let made = subst (λ text. IfSome left (λ bytes. outcome bytes question ≡ Ok text)) (sym c.deref.ensures.value) c.in-Ok.ensures.1 in
+    writes_front left question _ _ c.deref.result.now made c.in_err-write_all.ensures.err
 
 pub returns-clause-report : goal.returns-clause-report
 returns-clause-report g c =
-    let said = c.in-Ok.input in
-    let working = not_failed _ said c.in-Ok.ensures.failed_is_err in
-    writes_report _ c.args.plan.now.question _ _ said _ (c.in-Ok.ensures.exact working) (c.in-Ok-report.ensures.ok ∙ ap Ok (sym c.deref.ensures.value)) c.in_ok-write_all.ensures.ok
+    let left = g.S.Source.left c.args.reader.now in
+    let question = c.args.plan.now.question in
+    let made = subst (λ text. IfSome left (λ bytes. outcome bytes question ≡ Ok text)) (sym c.deref.ensures.value) c.in-Ok.ensures.1 in
+    writes_report left question _ _ c.deref.result.now made c.in_ok-write_all.ensures.ok

@@ -1,0 +1,78 @@
+-- The items of an input that are counted while it is read.
+use Rattle.std.proofs.Common.{◌≡◌, ℕ, ◌+◌, ◌≤◌, ◌<◌, ◌^◌, List, [], ◌∷◌, ◌++◌, Bool, true, false, cond, Option, Some, None, Ok, Err, refl, sym, ap, ◌∙◌, subst, arith}
+use Rattle.std.specs.Prelude.{IfSome}
+use Rattle.basket_core.proofs.theory.Added.{number_is_support, item_supports_add_up, items_of_map}
+use Rattle.basket_core.specs.Added.{added_counts, items_of_counts, number_of}
+use Rattle.basket_core.specs.declared.fault.MineFault.TheVariants.{TooMany}
+use Rattle.basket_plan.specs.declared.plan.Ask.TheVariants.{Items}
+use Rattle.basket_plan.specs.declared.plan.Form.TheVariants.{Fimi}
+use Rattle.basket_plan.specs.Plan.{Question}
+use Rattle.basket_read.specs.declared.fault.ReadFault.{ReadFault}
+use Rattle.basket_read.specs.declared.fault.ReadFault.TheVariants.{Read}
+use Rattle.basket_read.specs.declared.item_counts.ItemCounts.{ItemCounts}
+use Rattle.basket_read.specs.Fimi.{fimi_of}
+use Rattle.basket_read.specs.ItemCounts.{AreCountsOf, Counts}
+use Rattle.basket_read.specs.Read.{FailsAfter}
+use Rattle.basket_report.specs.Report.{report_of}
+use Rattle.basket_report.specs.Style.{Numbered}
+use Rattle.basket_sets.proofs.theory.Rising.{rising-rises}
+use Rattle.basket_sets.proofs.theory.Support.{support-append, support_falls}
+use Rattle.basket_sets.specs.declared.weighted.Weighted.{Weighted}
+use Rattle.basket_sets.specs.Counts.{item_supports}
+use Rattle.basket_sets.specs.Database.{MOST_WEIGHT}
+use Rattle.basket_sets.specs.Frequent.{frequent_items_of}
+use Rattle.basket_sets.specs.Itemset.{IsRising}
+use Rattle.basket_sets.specs.Support.{support_of, total_of, items_of, all_items}
+use Rattle.basket.specs.declared.fault.RunFault.TheVariants.{Input}
+use Rattle.basket.specs.Engine.{MakesReport, RefusesInput}
+use Rattle.basket.specs.Input.{FailsIn, numbered, said_in, wording_with}
+use Rattle.basket.specs.Outcome.{are_too_many, of_mining, outcome, outcome_of, text_of}
+
+-- ---- counts of two lists of baskets
+
+pub supports_rise : (counts : List (ℕ × ℕ)) (baskets : List Weighted) → counts ≡ item_supports baskets → IsRising (items_of_counts counts)
+supports_rise counts baskets is =
+    subst IsRising (sym (ap items_of_counts is ∙ items_of_map (λ item. support_of baskets (item ∷ [])) (items_of baskets))) (rising-rises (all_items baskets))
+
+module _ (a b : List (ℕ × ℕ)) (front back baskets : List Weighted) (a_is : a ≡ item_supports front) (b_is : b ≡ item_supports back) (whole : baskets ≡ front ++ back) where
+  pub numbers_fit : total_of baskets ≤ MOST_WEIGHT → (item : ℕ) → number_of a item + number_of b item < 2 ^ 64
+  numbers_fit light item =
+      let p = ap (λ l. number_of l item) a_is ∙ number_is_support front item in
+      let q = ap (λ l. number_of l item) b_is ∙ number_is_support back item in
+      let s = support-append front back (item ∷ []) in
+      let e = ap (λ l. support_of l (item ∷ [])) whole in
+      let f = support_falls baskets (item ∷ []) [] refl in omega arith
+
+  pub added_is : added_counts a b ≡ item_supports baskets
+  added_is = ap (λ l. added_counts l b) a_is ∙ ap (added_counts (item_supports front)) b_is ∙ item_supports_add_up front back ∙ ap item_supports (sym whole)
+
+pub totals_add : (front back baskets : List Weighted) → baskets ≡ front ++ back → total_of front + total_of back ≡ total_of baskets
+totals_add front back baskets whole = let s = support-append front back [] in let e = ap total_of whole in omega arith
+
+-- ---- what comes of a reader
+
+-- its fault is that of the input
+pub counts_refuse : (left after : Option (List ℕ)) (question : Question) (fault : ReadFault) (failed : Bool) → question.form ≡ Fimi
+    → (failed ≡ false → IfSome left (λ bytes. Counts (Err fault) (fimi_of bytes)))
+    → (failed ≡ true → IfSome left (λ bytes. FailsAfter bytes after (Err fault)))
+    → (fault ≡ Read → failed ≡ true) → MakesReport question left after failed (Err (Input fault))
+counts_refuse left after question fault failed form exact fails read = (
+  λ working. refused left (exact working),
+  λ broken. subst (λ f. IfSome left (λ bytes. FailsIn f bytes after fault)) (sym form) (fails broken),
+  read,
+)
+  where
+    refused : (left : Option (List ℕ)) → IfSome left (λ bytes. Counts (Err fault) (fimi_of bytes)) → RefusesInput left question fault
+    refused None h = tt
+    refused (Some bytes) h = λ other. ap (λ f. outcome_of (said_in f question bytes) question) form ∙ ap (λ r. outcome_of (numbered r) question) (h other)
+
+-- the report of the counts is that of the input
+pub counts_report : (left : Option (List ℕ)) (question : Question) (counts : ItemCounts) (report : List ℕ) → question.ask ≡ Items → question.form ≡ Fimi
+    → IfSome left (λ bytes. Counts (Ok counts) (fimi_of bytes))
+    → ((baskets : List Weighted) → AreCountsOf counts baskets → report ≡ report_of Numbered (frequent_items_of baskets question.minimum))
+    → IfSome left (λ bytes. outcome bytes question ≡ Ok report)
+counts_report None question counts report items form read made = tt
+counts_report (Some bytes) question counts report items form (baskets, is, counted) made =
+    ap (λ f. outcome_of (said_in f question bytes) question) form ∙ ap (λ r. outcome_of (numbered r) question) is
+    ∙ ap (λ a. of_mining (cond (are_too_many a baskets question.minimum question.limit) (Err (TooMany question.limit)) (Ok (text_of (wording_with question.separator None) a baskets question.minimum)))) items
+    ∙ ap Ok (sym (made baskets counted))

@@ -1,0 +1,59 @@
+//! The frequent items of a FIMI input.
+ghost use Rattle.std.specs.Prelude.{◌≡◌, false, List, IfOk};
+ghost use Rattle.basket_read.specs.ItemCounts.{AreCountsOf, AreLightCounts};
+ghost use Rattle.basket_report.specs.Report.{report_of};
+ghost use Rattle.basket_report.specs.Style.{Numbered};
+ghost use Rattle.basket_sets.specs.declared.weighted.Weighted.{Weighted as Basket};
+ghost use Rattle.basket_sets.specs.Frequent.{frequent_items_of};
+ghost use Rattle.basket.specs.Engine.{MakesReport};
+
+use crate::fault::RunFault;
+use crate::mining::cutting;
+use basket_core::{MineFault, Source, add_counts};
+use basket_plan::{Ask, Form, Plan};
+use basket_read::{ItemCounts, count_fimi};
+use basket_report::{Style, items_report};
+use mine_phases::{Open, count_shared};
+use std::alloc::{AllocError, Global};
+use std::thread::Threads;
+
+/// The report of the frequent items of a FIMI input, which are counted while it is read.
+pub fn report_items<R: Threads + Sync, S: Source>(
+    rt: &R,
+    alloc: Global,
+    plan: &Plan,
+    reader: &mut S,
+) -> Result<Vec<u8>, RunFault>
+    requires reader { S.has_failed reader.old ≡ false }
+    requires items { plan.now.question.ask ≡ Ask.Items }
+    requires lines { plan.now.question.form ≡ Form.Fimi }
+    ensures { MakesReport plan.now.question (S.left reader.old) (S.left reader.new) (S.has_failed reader.new) result }
+{
+    let counts = match count_fimi(alloc, reader) {
+        Ok(counts) => counts,
+        Err(fault) => return Err(RunFault::Input(fault)),
+    };
+    match report_counts(rt, alloc, &counts, plan) {
+        Ok(report) => Ok(report),
+        Err(AllocError) => Err(RunFault::Mine(MineFault::Memory)),
+    }
+}
+
+/// The report of the frequent items of baskets of which the first have been counted. Workers count
+/// the others.
+fn report_counts<R: Threads + Sync>(
+    rt: &R,
+    alloc: Global,
+    counts: &ItemCounts,
+    plan: &Plan,
+) -> Result<Vec<u8>, AllocError>
+    requires { AreLightCounts counts.now }
+    ensures { (baskets : List Basket) → AreCountsOf counts.now baskets
+        → IfOk result (λ report. report.items ≡ report_of Numbered (frequent_items_of baskets plan.now.question.minimum)) }
+{
+    let first = counts.table.counts(alloc)?;
+    let rest = count_shared(rt, alloc, counts.rest.baskets(), cutting(plan), &Open)?;
+    let all = add_counts(alloc, &first, &rest)?;
+    let total = counts.table.total() + counts.rest.total();
+    items_report(alloc, &all, plan.minimum(), total, Style::Numbers)
+}
