@@ -23,6 +23,10 @@ sides_text left right = items_text left ++ codes " => " ++ items_text right
 abbrev pub ratios_text : Ratio → Ratio → List ℕ
 ratios_text confidence lift = ratio_text confidence ++ 32 ∷ ratio_text lift
 
+-- a space, the count of a rule in parentheses, a space
+abbrev pub count_text : ℕ → List ℕ
+count_text count = codes " (" ++ decimal count ++ codes ") "
+
 -- the line of a rule: its sides, a space, the count in parentheses, a space, the confidence, a space, the lift, a line feed
 abbrev pub rule_line : Rule → List ℕ
 rule_line rule = sides_text rule.left rule.right ++ codes " (" ++ decimal rule.count ++ codes ") " ++ ratios_text rule.confidence rule.lift ++ 10 ∷ []

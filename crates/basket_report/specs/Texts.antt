@@ -11,3 +11,6 @@ AreTexts texts = (place : ℕ) (none : Vec ℕ Global) → place < length texts 
 -- a numerator, a slash and a denominator
 abbrev pub ratio_text : Ratio → List ℕ
 ratio_text ratio = decimal ratio.numerator ++ 47 ∷ decimal ratio.denominator
+
+abbrev pub short_text : ℕ → ℕ → List ℕ
+short_text numerator denominator = decimal numerator ++ 47 ∷ decimal denominator

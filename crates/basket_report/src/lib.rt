@@ -5,6 +5,8 @@ mod beginning;
 mod extent;
 mod items;
 mod lines;
+mod middle;
+mod ratios;
 mod report;
 mod rules;
 mod sets;

@@ -6,7 +6,9 @@ ghost use Rattle.basket_rules.specs.Met.{rule_from};
 
 use crate::beginning::Beginning;
 use crate::extent::Extent;
-use crate::texts::{Texts, put_fraction, put_number};
+use crate::middle::Middle;
+use crate::ratios::Ratios;
+use crate::texts::{Texts, put_number};
 use basket_core::{Counted, CountedSets};
 use basket_rules::{Figures, Sides};
 use std::alloc::{AllocError, Global};
@@ -21,6 +23,9 @@ pub struct Lines {
     texts: Texts,
     /// The items of the last set of many.
     beginning: Beginning,
+    /// The count of the last rule.
+    middle: Middle,
+    ratios: Ratios,
     text: Vec<u8>,
 }
 
@@ -40,6 +45,8 @@ impl Lines {
         Ok(Lines {
             texts: Texts::below(alloc, 0)?,
             beginning: Beginning::new(alloc),
+            middle: Middle::new(alloc, 0)?,
+            ratios: Ratios::none(alloc),
             text: Vec::new(alloc),
         })
     }
@@ -52,6 +59,8 @@ impl Lines {
         Ok(Lines {
             texts: extent.texts(alloc)?,
             beginning: Beginning::new(alloc),
+            middle: Middle::new(alloc, 0)?,
+            ratios: Ratios::none(alloc),
             text: Vec::with_capacity(alloc, extent.room())?,
         })
     }
@@ -63,6 +72,8 @@ impl Lines {
         Ok(Lines {
             texts: Extent::of_unpacked(sets).texts(alloc)?,
             beginning: Beginning::new(alloc),
+            middle: Middle::new(alloc, 0)?,
+            ratios: Ratios::new(alloc)?,
             text: Vec::new(alloc),
         })
     }
@@ -93,10 +104,8 @@ impl Lines {
         ensures { OnOk result (self.new ≡ self.old ++ rule_line (rule_from sides.now figures.now)) }
     {
         put_sides(&mut self.text, &self.texts, sides)?;
-        self.text.extend_from_slice(b" (")?;
-        put_number(&mut self.text, figures.count)?;
-        self.text.extend_from_slice(b") ")?;
-        put_ratios(&mut self.text, figures)?;
+        self.middle.put(&mut self.text, figures.count)?;
+        put_ratios(&mut self.text, &mut self.ratios, figures)?;
         self.text.push(b'\n')?;
         Ok(())
     }
@@ -115,7 +124,7 @@ fn put_items(report: &mut Vec<u8>, texts: &Texts, items: &[u32]) -> Result<(), A
     ensures { OnOk result (report.new.items ≡ report.old.items ++ items_text items.now) }
 {
     if let Some((first, others)) = items.split_first() {
-        put_number(report, u64::from(*first))?;
+        texts.put_first(report, *first)?;
         for item in others {
             texts.put(report, *item)?;
         }
@@ -131,10 +140,14 @@ fn put_sides(report: &mut Vec<u8>, texts: &Texts, sides: &Sides) -> Result<(), A
     put_items(report, texts, &sides.right)
 }
 
-fn put_ratios(report: &mut Vec<u8>, figures: &Figures) -> Result<(), AllocError>
+fn put_ratios(
+    report: &mut Vec<u8>,
+    ratios: &mut Ratios,
+    figures: &Figures,
+) -> Result<(), AllocError>
     ensures { OnOk result (report.new.items ≡ report.old.items ++ ratios_text figures.now.confidence figures.now.lift) }
 {
-    put_fraction(report, &figures.confidence)?;
+    ratios.put(report, &figures.confidence)?;
     report.push(b' ')?;
-    put_fraction(report, &figures.lift)
+    ratios.put(report, &figures.lift)
 }

@@ -38,6 +38,19 @@ impl Texts {
         Ok(Texts { texts })
     }
 
+    /// Adds the number.
+    pub fn put_first(&self, report: &mut Vec<u8>, number: u32) -> Result<(), AllocError>
+        ensures { OnOk result (report.new.items ≡ report.old.items ++ decimal number) }
+    {
+        match self.texts.get(number as usize) {
+            Some(text) => match text.split_first() {
+                Some((_space, digits)) => report.extend_from_slice(digits),
+                None => Ok(()),
+            },
+            None => put_number(report, u64::from(number)),
+        }
+    }
+
     /// Adds a space and the number.
     pub fn put(&self, report: &mut Vec<u8>, number: u32) -> Result<(), AllocError>
         ensures { OnOk result (report.new.items ≡ report.old.items ++ 32 ∷ decimal number) }

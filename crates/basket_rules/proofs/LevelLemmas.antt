@@ -1,4 +1,5 @@
 -- Right sides level by level.
+use Rattle.std.specs.Prelude.{bit_or}
 use Rattle.std.proofs.Common.{◌≡◌, ◌≢◌, ℕ, ◌+◌, ◌-◌, ◌<◌, ◌≤◌, ◌^◌, Bool, true, false, cond, ltb, List, [], ◌∷◌, ◌++◌, length, take, get_or, map, filter, Some, None, refl, sym, ap, ◌∙◌, subst, inl, inr, arith, zero, suc, add-one}
 use Rattle.std.specs.List.{AllByRecursion, flat_map}
 use Rattle.std.proofs.lemmas.Bool.{lt-ltb, le-ltb}
@@ -15,18 +16,19 @@ use Rattle.basket_sets.specs.declared.minimum.Minimum.{Minimum}
 use Rattle.basket_sets.specs.Frequent.{frequent_of}
 use Rattle.basket_sets.specs.Itemset.{IsRising}
 use Rattle.basket_sets.specs.Subsets.{subsets_of_size, subsets_up_to}
-use Rattle.basket_sets.proofs.theory.Members.{Member, Member-map, All-from_Member}
+use Rattle.basket_sets.proofs.theory.Members.{Member, Member-filter, Member-map, All-from_Member}
 use Rattle.basket_sets.proofs.theory.Rising.{contains_each}
 use Rattle.basket_sets.proofs.theory.Subsets.{IsSubset-from_Member, size_of_Member}
 use Rattle.basket_rules.specs.declared.association.Rule.{Rule}
 use Rattle.basket_rules.specs.declared.rights.Right.{Right}
 use Rattle.basket_rules.specs.declared.rights.TheConstants.{MOST_PLACES}
 use Rattle.basket_rules.specs.Listed.{IsListingOf, set_at}
-use Rattle.basket_rules.specs.Rights.{longer, no_places, side_of, with_place}
+use Rattle.basket_rules.specs.Rights.{chosen, has_parts, has_place, longer, next_sides, no_places, side_of, with_place, words_of}
 use Rattle.basket_rules.specs.Rules.{is_confident, rule_of, right_sides_of, IsRightSide, IsRuleFor, KeepsConfident, AreRulesWith, AreRules, rules_with}
 use Rattle.basket_rules.proofs.CondensedLemmas.{entry, none}
 use Rattle.basket_rules.proofs.SearchLemmas.{set_is}
 use Rattle.basket_rules.proofs.RuleLemmas.{confidence_falls}
+use Rattle.basket_rules.proofs.PartLemmas.{left_out, parts_pass}
 use Rattle.basket_rules.proofs.RightLemmas.{sides_of, sides_are_subsets, all_longer, first_longer, kept_longer, fewer_longer, side_grows}
 
 -- ---- what is kept of a level
@@ -170,6 +172,35 @@ more_level listing confidence number size rights met rules more below few some l
         ap (λ n. map (rule_of baskets union) (filter (is_confident baskets confidence union) (subsets_up_to n union)) ++ map (rule_of baskets union) (filter (is_confident baskets confidence union) (subsets_of_size (suc k) union))) same
         ∙ sym (map-append (rule_of baskets union) (filter (is_confident baskets confidence union) (subsets_up_to k union)) (filter (is_confident baskets confidence union) (subsets_of_size (suc k) union)))
         ∙ ap (map (rule_of baskets union)) (sym (filter-append (is_confident baskets confidence union) (subsets_up_to k union) (subsets_of_size (suc k) union)))
+
+-- the same of those that are tried
+pub next_level : (listing : Listing) (confidence : ℕ × ℕ) (number size : ℕ) (rights met : List Right) (rules more : List Rule) (every : Bool)
+    → number < length listing.sets → length (set_at listing.sets number) ≤ MOST_PLACES → 1 ≤ size → size < length (set_at listing.sets number)
+    → KeepsConfident listing confidence number rights met rules more
+    → IsLevelAt listing confidence number size rights rules → IsLevelAt listing confidence number (size + 1) (next_sides every (length (set_at listing.sets number)) met) more
+next_level listing confidence number size rights met rules more true below few some less keeps level baskets minimum is =
+    more_level listing confidence number size rights met rules more below few some less keeps level baskets minimum is
+next_level listing confidence number size rights met rules more false below few some less keeps level baskets minimum is =
+    let union = set_at listing.sets number in
+    let up = (entry baskets minimum listing is number below).0.0 in
+    let l = level baskets minimum is in
+    let next = more_level listing confidence number size rights met rules more below few some less keeps level baskets minimum is in
+    let test : Right → Bool = λ right. is_confident baskets confidence union (side_of union right) in
+    let kept : Right → Bool = λ right. has_parts (words_of met) right.places (length union) in
+    let met_is : met ≡ filter test (sides_of size 0 union) = (keeps baskets minimum is (right_sides listing number size rights up few some less l.within)).0 ∙ l.all in
+    let falls : (right part : Right) (i : ℕ) → bit_or part.places (2 ^ i) ≡ right.places → test right ≡ true → test part ≡ true = λ right part i e h.
+    confidence_falls baskets confidence union (side_of union (with_place i part)) (side_of union part)
+    (contains_each (side_of union (with_place i part)) (side_of union part) (side_grows union i part))
+    (ap (λ w. is_confident baskets confidence union (chosen (has_place w) union)) e ∙ h) in
+    let longer_sides = longer (length union) met in
+    record {
+      within = λ right m. next.within right (Member-filter kept right longer_sides m).0;
+      all = left_out test kept longer_sides
+          (λ right m h. ap (λ n. has_parts (words_of n) right.places (length union)) met_is
+          ∙ parts_pass test falls size (length union) union few right (subst (λ n. Member right (sides_of n 0 union)) (add-one size) (next.within right m)) h)
+          ∙ next.all;
+      smaller = next.smaller;
+    }
 
 -- ---- all sizes but the union's own
 

@@ -6,4 +6,5 @@ mod CondensedLemmas
 mod RuleLemmas
 mod RightLemmas
 mod SideLemmas
+mod PartLemmas
 mod LevelLemmas

@@ -1,5 +1,5 @@
 //! Association rules (Agrawal and Srikant 1994).
-ghost use Rattle.std.specs.Prelude.{◌≡◌, ◌≤◌, ◌<◌, ◌-◌, ◌*◌, ◌++◌, IfOk, OnOk, length, nat_le};
+ghost use Rattle.std.specs.Prelude.{◌≡◌, ◌≤◌, ◌<◌, ◌-◌, ◌*◌, ◌++◌, IfOk, IsTrue, OnOk, length, nat_le};
 ghost use Rattle.basket_sets.specs.Itemset.{IsRising};
 ghost use Rattle.basket_rules.specs.Listed.{set_at};
 ghost use Rattle.basket_rules.specs.Met.{found_rule, rule_from, rules_in};
@@ -8,11 +8,15 @@ ghost use Rattle.basket_rules.specs.Rules.{KeepsConfident, AreRules, AreRulesWit
 
 use crate::lookups::{Figures, Lookups};
 use crate::met::MetRule;
+use crate::parts::next_rights;
 use crate::places::SetHash;
 use crate::rights::{MOST_PLACES, Right, Sides, longer_rights};
 use crate::supports::count_of;
 use basket_core::{Fraction, Itemset, Unpacked};
 use std::alloc::{AllocError, Global};
+
+/// The rules of a union of so many items have room before they are made.
+const MOST_ROOM: usize = 10;
 
 /// A rule: baskets that have the left side often have the right side too. Neither side is empty,
 /// and they have no item in common.
@@ -99,7 +103,7 @@ fn rule_of_sides(alloc: Global, sides: &Sides, figures: &Figures) -> Result<Rule
 
 /// Those of the rules whose union is the set at the place, without their items. Right sides go level
 /// by level: those of one more item are the ones that met the confidence, each with an item before
-/// its first.
+/// its first, as far as no part of them failed it.
 pub fn met_rules(
     alloc: Global,
     frequent: &Unpacked,
@@ -110,20 +114,30 @@ pub fn met_rules(
     requires { number < length frequent.now.sets }
     ensures { IfOk result (λ rules. AreRulesWith frequent.now confidence number (rules_in frequent.now number rules.items)) }
 {
-    let mut rules = Vec::new(alloc);
     let count = frequent.sets()[number].set.len();
+    let mut rules = Vec::with_capacity(alloc, 1 << count.min(MOST_ROOM))?;
     // No list has the subsets of a larger set.
     if count > MOST_PLACES {
         return Ok(rules);
     }
     let mut rights = longer_rights(alloc, &[Right::none()], count)?;
+    let mut all = true;
     for size in 0..most_right_items(count) {
         let met = keep_confident(
             alloc, frequent, number, confidence, &rights, lookups, &mut rules,
         )?;
-        rights = longer_rights(alloc, &met, count)?;
+        all = still_all(all, &rights, &met);
+        rights = next_rights(alloc, &met, all, count)?;
     }
     Ok(rules)
+}
+
+/// Whether all right sides have met the confidence so far, where `before` says so of smaller ones.
+fn still_all(before: bool, tried: &[Right], met: &[Right]) -> bool
+    ensures before { IsTrue result → IsTrue before }
+    ensures met { IsTrue result → length met.now ≡ length tried.now }
+{
+    before && met.len() == tried.len()
 }
 
 /// How many items a right side has at most, since a left side has one too.

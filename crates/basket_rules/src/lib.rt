@@ -8,6 +8,7 @@ mod fractions;
 pub mod laws;
 mod lookups;
 mod met;
+mod parts;
 mod places;
 mod rights;
 mod search;

@@ -42,7 +42,7 @@ pub fn longer_rights(alloc: Global, met: &[Right], count: usize) -> Result<Vec<R
     requires { count ≤ MOST_PLACES }
     ensures { IfOk result (λ rights. rights.items ≡ longer count met.now) }
 {
-    let mut rights = Vec::new(alloc);
+    let mut rights = Vec::with_capacity(alloc, met.len())?;
     for place in 0..count {
         add_longer(&mut rights, met, place)?;
     }

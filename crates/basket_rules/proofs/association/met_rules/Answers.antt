@@ -2,11 +2,11 @@ use Rattle.std.proofs.Common.{arith, ◌≡◌, ◌≤◌, ◌<◌, ◌+◌, ◌
 use Rattle.basket_sets.specs.declared.counted.Counted.{Counted}
 use Rattle.basket_rules.specs.declared.rights.TheConstants.{MOST_PLACES}
 use Rattle.basket_rules.specs.Listed.{set_at}
-use Rattle.basket_rules.specs.Rights.{longer, no_places}
+use Rattle.basket_rules.specs.Rights.{longer, next_sides, no_places}
 use Rattle.basket_rules.specs.Met.{rules_in}
 use Rattle.basket_rules.specs.Rules.{KeepsConfident}
 use Rattle.basket_rules.proofs.SearchLemmas.{set_is}
-use Rattle.basket_rules.proofs.LevelLemmas.{IsLevelAt, first_level, more_level, all_levels, none_so_large}
+use Rattle.basket_rules.proofs.LevelLemmas.{IsLevelAt, first_level, next_level, all_levels, none_so_large}
 use Rattle.basket_rules.proofs.association.met_rules.Goals as goal
 
 pub returns-then-count-gt-MOST_PLACES : goal.returns-then-count-gt-MOST_PLACES
@@ -28,7 +28,7 @@ loop-size-init c =
     let sized : c.len-count.result ≡ length (set_at listing.sets number) = c.len-count.ensures ∙ ap length (sym set) in
     let made : c.in_ok-rights.rights.items ≡ longer (length (set_at listing.sets number)) (no_places ∷ []) =
     c.in_ok-rights.ensures ∙ (λ i. longer (sized i) (c.none.ensures i ∷ [])) in
-    subst (λ l. IsLevelAt listing c.args.confidence number 1 c.in_ok-rights.rights.items (rules_in listing number l)) (sym c.new-rules.ensures.items)
+    subst (λ l. IsLevelAt listing c.args.confidence number 1 c.in_ok-rights.rights.items (rules_in listing number l)) (sym c.in_ok-rules.ensures.items)
     (subst (λ l. IsLevelAt listing c.args.confidence number 1 l []) (sym made) (first_level listing c.args.confidence number (subst (λ n. n ≤ MOST_PLACES) sized c.if-count-gt-MOST_PLACES.false)))
 
 pub loop-size-preserved : goal.loop-size-preserved
@@ -42,13 +42,14 @@ loop-size-preserved c =
     let sized : c.len-count.result ≡ length (set_at listing.sets number) = c.len-count.ensures ∙ ap length (sym set) in
     let size = c.loop-size.size + 1 in
     let met = c.in_ok-met.met.items in
-    let made : c.in_ok-rights-2.rights.items ≡ longer (length (set_at listing.sets number)) met = c.in_ok-rights-2.ensures ∙ (λ i. longer (sized i) (c.deref-in-loop-size.ensures.value i)) in
+    let every = c.still_all-all.result in
+    let made : c.in_ok-rights-2.rights.items ≡ next_sides every (length (set_at listing.sets number)) met = c.in_ok-rights-2.ensures ∙ (λ i. next_sides every (sized i) (c.deref-in-loop-size-3.ensures.value i)) in
     let few : length (set_at listing.sets number) ≤ MOST_PLACES = subst (λ n. n ≤ MOST_PLACES) sized c.if-count-gt-MOST_PLACES.false in
     let most : c.most_right_items-size-end.result ≡ length (set_at listing.sets number) - 1 = c.most_right_items-size-end.ensures ∙ ap (λ n. n - 1) sized in
     let some : 1 ≤ size = omega arith in
     let less : size < length (set_at listing.sets number) = omega (arith, most, c.loop-size-test.true) in
     subst (λ l. IsLevelAt listing c.args.confidence number (size + 1) l (rules_in listing number c.keep_confident.new.rules.items)) (sym made)
-    (more_level listing c.args.confidence number size c.loop-size.rights.items met (rules_in listing number c.loop-size.rules.items) (rules_in listing number c.keep_confident.new.rules.items)
+    (next_level listing c.args.confidence number size c.loop-size.rights.items met (rules_in listing number c.loop-size.rules.items) (rules_in listing number c.keep_confident.new.rules.items) every
     c.requires few some less (subst (λ r. KeepsConfident listing c.args.confidence number r met (rules_in listing number c.loop-size.rules.items) (rules_in listing number c.keep_confident.new.rules.items)) c.deref.ensures.value c.in_ok-met.ensures) c.loop-size.invariant)
 
 pub returns : goal.returns
