@@ -13,6 +13,7 @@ mod BuildLemmas
 mod ContainLemmas
 mod TreeLemmas
 mod UsedLemmas
+mod EndingLemmas
 mod SupportLemmas
 mod RegularLemmas
 mod LevelsLemmas

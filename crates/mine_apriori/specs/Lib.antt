@@ -5,6 +5,7 @@ pub mod Search
 pub mod Nodes
 pub mod Run
 pub mod Used
+pub mod Endings
 pub mod Tree
 pub mod Shard
 pub mod Pairs

@@ -3,10 +3,13 @@ ghost use Rattle.std.specs.Prelude.{◌≡◌, ◌<◌, ◌≤◌, ◌+◌, ◌-
 ghost use Rattle.basket_sets.specs.Itemset.{IsRising};
 ghost use Rattle.basket_sets.specs.Order.{IsInReportOrder};
 ghost use Rattle.mine_apriori.specs.Candidates.{is_one_of, has_subsets, candidates_of};
+ghost use Rattle.mine_apriori.specs.Endings.{AreEndings};
 ghost use Rattle.mine_apriori.specs.Join.{AreJoinable, IsJoin, without, joined_with};
 ghost use Rattle.mine_apriori.specs.Sizes.{AreOfOneSize};
 
+use crate::endings::{ending_with, endings};
 use crate::search::find_near;
+use crate::used::may_be_used;
 use basket_core::Itemset;
 use std::alloc::{AllocError, Global};
 
@@ -21,24 +24,36 @@ pub fn candidates(alloc: Global, sets: &[Itemset]) -> Result<Vec<Itemset>, Alloc
     let mut joined = Vec::new(alloc);
     let size = sets.first().map_or(0, |set| set.len());
     let mut hints = vec![in alloc; 0; size]?;
+    let table = endings(alloc, sets)?;
     for place in 0..sets.len() {
-        join_later(alloc, sets, place, &mut joined, &mut hints, &mut found)?;
+        join_later(
+            alloc,
+            sets,
+            place,
+            &table,
+            &mut joined,
+            &mut hints,
+            &mut found,
+        )?;
     }
     Ok(found)
 }
 
 /// Adds the candidates that are joins of the set at the place with a later one. The sets that it
 /// can be joined to have the same items before the last, so they stand right behind it. The hints
-/// for `has_all_subsets` stay from set to set, since the sets that are looked up mostly rise.
+/// for `has_all_subsets` stay from set to set, since the sets that are looked up mostly rise. Most
+/// joins lack the subset without the first item, which the endings tell without a search.
 fn join_later(
     alloc: Global,
     sets: &[Itemset],
     place: usize,
+    endings: &[bool],
     joined: &mut Vec<u32>,
     hints: &mut [usize],
     found: &mut Vec<Itemset>,
 ) -> Result<(), AllocError>
     requires within { place < length sets.now }
+    requires endings { AreEndings sets.now endings.now }
     requires hinted { length (slice_index_or sets.now place []) ≤ length hints.old }
     requires joinable { AreJoinable (length (slice_index_or sets.now place []) - 1) sets.now }
     ensures joins { let set = slice_index_or sets.now place [] in
@@ -53,9 +68,11 @@ fn join_later(
         if other[..last] != set[..last] {
             return Ok(());
         }
-        fill(joined, set, other[last])?;
-        if has_all_subsets(sets, joined, hints) {
-            found.push(Itemset::from_items(alloc, joined)?)?;
+        if may_be_used(endings, ending_with(set, other[last])) {
+            fill(joined, set, other[last])?;
+            if has_all_subsets(sets, joined, hints) {
+                found.push(Itemset::from_items(alloc, joined)?)?;
+            }
         }
     }
     Ok(())

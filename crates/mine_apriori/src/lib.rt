@@ -1,12 +1,14 @@
 //! The miner Apriori (Agrawal and Srikant 1994): from the frequent sets of one size it makes the
 //! candidates of the next, counts them, and keeps those that are frequent.
 //!
-//! `levels` goes from size to size, `join` makes candidates, whose subsets `search` looks up, and
-//! `shard` counts sets, by a prefix tree where it can: `tree`, whose inner nodes are in `nodes`.
-//! `run` looks items up in the tree. `pairs` finds the frequent pairs without a list of all pairs,
-//! by a count for each in `triangle` where these are few.
+//! `levels` goes from size to size, `join` makes candidates, whose subsets `search` looks up where
+//! `endings` doesn't tell already that one is missing, and `shard` counts sets, by a prefix tree
+//! where it can: `tree`, whose inner nodes are in `nodes`. `run` looks items up in the tree. `pairs`
+//! finds the frequent pairs without a list of all pairs, by a count for each in `triangle` where
+//! these are few.
 #![tactic(auto)]
 
+mod endings;
 mod join;
 pub mod laws;
 mod levels;

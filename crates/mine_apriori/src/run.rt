@@ -88,6 +88,13 @@ fn begins_above(items: &[u32], item: u32) -> bool
     }
 }
 
+/// How long a run is at most that is gone over by the marks, where so many items would be looked up
+/// in it otherwise: to look an item up takes as long as to test some eight marks.
+#[inline]
+pub fn marked_at_most(items: usize) -> usize {
+    items.saturating_mul(8)
+}
+
 /// Adds the weight at each leaf of a run whose item is among the items, which the marks tell of
 /// each item that they know.
 pub fn count_leaves(
@@ -108,7 +115,7 @@ pub fn count_leaves(
     requires fits { AllWithin (λ count. count + weight < 2 ^ 64) counts.old start end }
     ensures { AddsWithin (λ leaf. has items.now (slice_index leaves.now leaf)) weight start end counts.old counts.new }
 {
-    if end - start <= items.len() && are_known(leaves, start, end, marks) {
+    if end - start <= marked_at_most(items.len()) && are_known(leaves, start, end, marks) {
         count_marked(leaves, start, end, marks, weight, counts);
     } else if is_dense(leaves, start, end) {
         count_dense(leaves[start], start, end, items, weight, counts);

@@ -12,7 +12,7 @@ ghost use Rattle.mine_apriori.specs.Sizes.{AreOfOneSize};
 ghost use Rattle.mine_apriori.specs.Used.{IsClear};
 
 use crate::nodes::{Nodes, items_at, nodes_at};
-use crate::run::{are_known, count_leaves, find, find_by};
+use crate::run::{are_known, count_leaves, find, find_by, marked_at_most};
 use crate::used::{keep_used, longest, mark, no_items, places_before, unmark, used_items};
 use basket_core::{Itemset, Weighted};
 use std::alloc::{AllocError, Global};
@@ -110,9 +110,14 @@ impl<'a> CandidateTree<'a> {
     {
         let items = place.basket.items();
         if self.inner.len() > 1 {
-            // Most baskets are left with few items where the candidates are large.
+            // Where the candidates are large, most baskets are left with fewer items than a set
+            // has, and need no marks.
             let len = keep_used(&self.used, items, kept);
             let kept = &kept[..len];
+            if len <= self.inner.len() {
+                self.walk(0, 0, roots, kept, &[], place.weight, counts);
+                return;
+            }
             mark(marks, kept);
             self.walk(0, 0, roots, kept, marks, place.weight, counts);
             unmark(marks, kept);
@@ -209,7 +214,7 @@ impl<'a> CandidateTree<'a> {
         };
         // An item with fewer behind it than a set has below the depth can't begin the rest of one.
         let most = items.len().saturating_sub(self.inner.len() - depth);
-        if end - start <= most && are_known(&nodes.items, start, end, marks) {
+        if end - start <= marked_at_most(most) && are_known(&nodes.items, start, end, marks) {
             self.walk_marked(depth, start, end, items, marks, weight, counts);
             return;
         }

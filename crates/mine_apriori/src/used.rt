@@ -62,7 +62,7 @@ pub fn unmark(table: &mut [bool], items: &[u32])
 
 /// Whether an item may be in a set.
 #[inline]
-fn may_be_used(table: &[bool], item: u32) -> bool
+pub fn may_be_used(table: &[bool], item: u32) -> bool
     ensures { result ≡ may_be_used table.now item }
 {
     item as usize >= table.len() || table[item as usize]

@@ -15,19 +15,24 @@ walk-requires-clause-rising c =
     subst IsRising (sym (c.keep_used-len.ensures.kept))
     (IsStrictlySortedBy-filter nat_cmp (may_be_used c.deref.result.now) c.items-items.result.now (subst IsRising (sym c.items-items.ensures.items) c.items-items.ensures.rising))
 
+pub walk-requires-then-len-gt1-clause-rising : goal.walk-requires-then-len-gt1-clause-rising
+walk-requires-then-len-gt1-clause-rising c =
+    subst IsRising (sym (c.keep_used-len.ensures.kept))
+    (IsStrictlySortedBy-filter nat_cmp (may_be_used c.deref.result.now) c.items-items.result.now (subst IsRising (sym c.items-items.ensures.items) c.items-items.ensures.rising))
+
 -- the marks tell of what is kept
 told : (c : After-mark) → (item : ℕ) → Tells c.mark.new.table (take c.keep_used-len.result c.keep_used-len.new.kept) item
 told c = marked_tells c.args.marks.now c.mark.new.table (take c.keep_used-len.result c.keep_used-len.new.kept) c.requires.clear c.mark.auto.table c.mark.ensures
 
-pub walk-requires-clause-marks : goal.walk-requires-clause-marks
-walk-requires-clause-marks c leaf at from to low high = told (goal.at.walk-requires-clause-marks c).After-mark (item_of c.args.self.now at leaf)
+pub walk-requires-then-len-gt1-clause-marks : goal.walk-requires-then-len-gt1-clause-marks
+walk-requires-then-len-gt1-clause-marks c leaf at from to low high = told (goal.at.walk-requires-then-len-gt1-clause-marks c).After-mark (item_of c.args.self.now at leaf)
 
-pub returns-then-len-gt1-clause-clear : goal.returns-then-len-gt1-clause-clear
-returns-then-len-gt1-clause-clear c =
-    clear_again c.mark.new.table c.unmark.new.table (take c.keep_used-len.result c.keep_used-len.new.kept) (told (goal.at.returns-then-len-gt1-clause-clear c).After-mark) c.unmark.ensures
+pub returns-else-len-clause-clear : goal.returns-else-len-clause-clear
+returns-else-len-clause-clear c =
+    clear_again c.mark.new.table c.unmark.new.table (take c.keep_used-len.result c.keep_used-len.new.kept) (told (goal.at.returns-else-len-clause-clear c).After-mark) c.unmark.ensures
 
-pub returns-then-len-gt1-clause-counted : goal.returns-then-len-gt1-clause-counted
-returns-then-len-gt1-clause-counted c =
+pub returns-then-len-clause-counted : goal.returns-then-len-clause-counted
+returns-then-len-clause-counted c =
     let sets = c.args.self.now in
     let basket = c.args.place.now.basket in
     let table = c.self.inside.used.items in
@@ -36,6 +41,17 @@ returns-then-len-gt1-clause-counted c =
     let kept = c.keep_used-len.ensures.kept ∙ ap (λ t. filter (may_be_used t) c.items-items.result.now) c.deref.ensures.value ∙ ap (filter (may_be_used table)) c.items-items.ensures.items in
     walked_from_roots sets items basket c.args.roots c.args.place.now.weight c.args.counts.now c.walk.new.counts c.requires.roots
     (λ k below. ap (λ l. contains l (get_or sets k [])) kept ∙ kept_contains sets table basket k marked below) c.walk.ensures
+
+pub returns-else-len-clause-counted : goal.returns-else-len-clause-counted
+returns-else-len-clause-counted c =
+    let sets = c.args.self.now in
+    let basket = c.args.place.now.basket in
+    let table = c.self.inside.used.items in
+    let marked = subst (λ s. AreMarked s table) c.self.view_is c.self.invariant.1 in
+    let items = take c.keep_used-len.result c.keep_used-len.new.kept in
+    let kept = c.keep_used-len.ensures.kept ∙ ap (λ t. filter (may_be_used t) c.items-items.result.now) c.deref.ensures.value ∙ ap (filter (may_be_used table)) c.items-items.ensures.items in
+    walked_from_roots sets items basket c.args.roots c.args.place.now.weight c.args.counts.now c.walk-then-len-gt1.new.counts c.requires.roots
+    (λ k below. ap (λ l. contains l (get_or sets k [])) kept ∙ kept_contains sets table basket k marked below) c.walk-then-len-gt1.ensures
 
 pub returns-else-len-gt1-clause-counted : goal.returns-else-len-gt1-clause-counted
 returns-else-len-gt1-clause-counted c =
