@@ -1,4 +1,3 @@
-mod Fronts
 mod MiningLemmas
 mod InputLemmas
 mod ItemLemmas

@@ -2,14 +2,14 @@
 use Rattle.std.specs.Prelude.{◌≡◌, ◌≢◌, ◌≤◌, ℕ, List, Bool, true, false, Option, IfSome, Result, Ok, Err, length, take}
 use Rattle.std.specs.Io.KnownBytes.{Appends}
 use Rattle.basket_read.specs.declared.fault.ReadFault.{ReadFault}
-use Rattle.std.specs.declared.alloc.Global.{Global}
-use Rattle.std.specs.declared.vec.Vec.{Vec}
 use Rattle.basket_read.specs.declared.fault.ReadFault.TheVariants.{Memory, Read}
 use Rattle.basket_core.specs.declared.fault.MineFault.{MineFault}
 use Rattle.basket_core.specs.declared.fault.MineFault.TheVariants as mine
 use Rattle.basket.specs.declared.fault.RunFault.{RunFault}
 use Rattle.basket.specs.declared.fault.RunFault.TheVariants.{Input, Mine, Write}
+use Rattle.basket.specs.declared.made.Made.{Made}
 use Rattle.basket.specs.Input.{FailsIn}
+use Rattle.basket.specs.Made.{made_text}
 use Rattle.basket.specs.Outcome.{outcome}
 use Rattle.basket_plan.specs.Plan.{Question}
 
@@ -35,8 +35,8 @@ abbrev pub FailsInput : Option (List ℕ) → Question → Option (List ℕ) →
 FailsInput left question after fault = IfSome left (λ bytes. FailsIn question.form bytes after fault)
 
 -- what comes of a reader: the report of what it had left, or why there is none
-abbrev pub MakesReport : Question → Option (List ℕ) → Option (List ℕ) → Bool → Result (Vec ℕ Global) RunFault → Type 0
-MakesReport question left after failed (Ok report) = (failed ≡ false) × IfSome left (λ bytes. outcome bytes question ≡ Ok report.items)
+abbrev pub MakesReport : Question → Option (List ℕ) → Option (List ℕ) → Bool → Result Made RunFault → Type 0
+MakesReport question left after failed (Ok made) = (failed ≡ false) × IfSome left (λ bytes. outcome bytes question ≡ Ok (made_text made))
 MakesReport question left after failed (Err (Input fault)) =
     (failed ≡ false → RefusesInput left question fault) × (failed ≡ true → FailsInput left question after fault) × (fault ≡ Read → failed ≡ true)
 MakesReport question left after failed (Err (Mine fault)) = (failed ≡ false) × RefusesSets left question fault

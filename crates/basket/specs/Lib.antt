@@ -3,4 +3,5 @@ pub mod Status
 pub mod Classes
 pub mod Mining
 pub mod Outcome
+pub mod Made
 pub mod Engine

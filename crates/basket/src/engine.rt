@@ -3,25 +3,25 @@ ghost use Rattle.std.specs.Io.KnownBytes.{Keeps};
 ghost use Rattle.basket_core.specs.declared.fault.MineFault.{MineFault as MiningFault};
 ghost use Rattle.basket_read.specs.declared.fault.ReadFault.{ReadFault as InputFault};
 ghost use Rattle.basket.specs.Engine.{MakesReport, WritesReport, WritesFront, RefusesInput, RefusesSets, FailsInput};
+ghost use Rattle.basket.specs.Made.{made_text};
 ghost use Rattle.basket.specs.Outcome.{outcome_for};
 
 use crate::fault::RunFault;
 use crate::input::{Input, style_of};
 use crate::items::report_items;
+use crate::made::Made;
 use crate::mining::{cutting, mine_in_place};
-use crate::write::write_all;
-use basket_core::{CountedSets, MineFault, Sink, Source};
+use basket_core::{MineFault, Sink, Source};
 use basket_plan::{Ask, Form, Plan};
 use basket_read::ReadFault;
-use basket_report::{items_report, rules_report, sets_report};
-use basket_rules::{closed, maximal};
+use basket_report::{items_report, rules_report};
 use mine_phases::{Open, count_shared};
 use std::alloc::Global;
 use std::random::RandomSource;
 use std::thread::Threads;
 
-/// Reads the input to its end and writes the report that the plan asks for. The whole report is
-/// made before its first byte is written, and a flush ends the run.
+/// Reads the input to its end and writes the report that the plan asks for. Once its first byte is
+/// written nothing but the writer can refuse the others, and a flush ends the run.
 pub fn run<R: RandomSource + Threads + Sync, S: Source, W: Sink>(
     rt: &R,
     alloc: Global,
@@ -47,11 +47,11 @@ pub fn run<R: RandomSource + Threads + Sync, S: Source, W: Sink>(
     ensures mine { (fault : MiningFault) → result ≡ Err (RunFault.Mine fault) → RefusesSets (S.left reader.old) plan.now.question fault }
     ensures write { (result ≡ Err RunFault.Write) ↔ (W.has_failed writer.new ≡ true) }
 {
-    let report = match reported(rt, alloc, plan, reader) {
-        Ok(report) => report,
+    let made = match reported(rt, alloc, plan, reader) {
+        Ok(made) => made,
         Err(fault) => return Err(fault),
     };
-    write_all(writer, &report)?;
+    made.write(writer)?;
     Ok(())
 }
 
@@ -62,7 +62,7 @@ fn reported<R: RandomSource + Threads + Sync, S: Source>(
     alloc: Global,
     plan: &Plan,
     reader: &mut S,
-) -> Result<Vec<u8>, RunFault>
+) -> Result<Made, RunFault>
     requires { S.has_failed reader.old ≡ false }
     ensures { MakesReport plan.now.question (S.left reader.old) (S.left reader.new) (S.has_failed reader.new) result }
 {
@@ -78,7 +78,7 @@ fn report_baskets<R: RandomSource + Threads + Sync, S: Source>(
     alloc: Global,
     plan: &Plan,
     reader: &mut S,
-) -> Result<Vec<u8>, RunFault>
+) -> Result<Made, RunFault>
     requires { S.has_failed reader.old ≡ false }
     ensures { MakesReport plan.now.question (S.left reader.old) (S.left reader.new) (S.has_failed reader.new) result }
 {
@@ -87,7 +87,7 @@ fn report_baskets<R: RandomSource + Threads + Sync, S: Source>(
         Err(fault) => return Err(RunFault::Input(fault)),
     };
     match report(rt, alloc, input, plan) {
-        Ok(report) => Ok(report),
+        Ok(made) => Ok(made),
         Err(fault) => Err(RunFault::Mine(fault)),
     }
 }
@@ -98,8 +98,8 @@ fn report<R: Threads + Sync>(
     alloc: Global,
     input: Input,
     plan: &Plan,
-) -> Result<Vec<u8>, MineFault>
-    ensures ok { IfOk result (λ report. outcome_for input plan.now.question ≡ Ok report.items) }
+) -> Result<Made, MineFault>
+    ensures ok { IfOk result (λ made. outcome_for input plan.now.question ≡ Ok (made_text made)) }
     ensures err { (fault : MiningFault) → result ≡ Err fault → fault ≢ MineFault.Memory → outcome_for input plan.now.question ≡ Err fault }
 {
     let (database, names) = input.into_parts();
@@ -108,26 +108,24 @@ fn report<R: Threads + Sync>(
         Ask::Items => {
             let counts = count_shared(rt, alloc, database.baskets(), cutting(plan), &Open)?;
             let minimum = plan.minimum();
-            Ok(items_report(alloc, &counts, minimum, database.total(), style)?)
+            Ok(Made::Text(items_report(alloc, &counts, minimum, database.total(), style)?))
         }
         Ask::Sets => {
             let (frequent, _) = mine_in_place(rt, alloc, database, plan, &Open)?;
-            Ok(sets_report(alloc, frequent.sets(), style)?)
+            Ok(Made::of_sets(alloc, frequent.into_sets(), style)?)
         }
         Ask::Closed => {
             let (frequent, _) = mine_in_place(rt, alloc, database, plan, &Open)?;
-            let sets = closed(alloc, &frequent.unpacked(alloc)?)?;
-            Ok(sets_report(alloc, &CountedSets::of_sets(alloc, sets), style)?)
+            Ok(Made::of_closed(alloc, frequent, style)?)
         }
         Ask::Maximal => {
             let (frequent, _) = mine_in_place(rt, alloc, database, plan, &Open)?;
-            let sets = maximal(alloc, &frequent.unpacked(alloc)?)?;
-            Ok(sets_report(alloc, &CountedSets::of_sets(alloc, sets), style)?)
+            Ok(Made::of_maximal(alloc, frequent, style)?)
         }
         Ask::Rules(above, below) => {
             let (frequent, _) = mine_in_place(rt, alloc, database, plan, &Open)?;
             let frequent = frequent.unpacked(alloc)?;
-            Ok(rules_report(alloc, &frequent, (above, below), style)?)
+            Ok(Made::Text(rules_report(alloc, &frequent, (above, below), style)?))
         }
     }
 }

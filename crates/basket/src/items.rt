@@ -8,6 +8,7 @@ ghost use Rattle.basket_sets.specs.Frequent.{frequent_items_of};
 ghost use Rattle.basket.specs.Engine.{MakesReport};
 
 use crate::fault::RunFault;
+use crate::made::Made;
 use crate::mining::cutting;
 use basket_core::{MineFault, Source, add_counts};
 use basket_plan::{Ask, Form, Plan};
@@ -23,7 +24,7 @@ pub fn report_items<R: Threads + Sync, S: Source>(
     alloc: Global,
     plan: &Plan,
     reader: &mut S,
-) -> Result<Vec<u8>, RunFault>
+) -> Result<Made, RunFault>
     requires reader { S.has_failed reader.old ≡ false }
     requires items { plan.now.question.ask ≡ Ask.Items }
     requires lines { plan.now.question.form ≡ Form.Fimi }
@@ -34,7 +35,7 @@ pub fn report_items<R: Threads + Sync, S: Source>(
         Err(fault) => return Err(RunFault::Input(fault)),
     };
     match report_counts(rt, alloc, &counts, plan) {
-        Ok(report) => Ok(report),
+        Ok(report) => Ok(Made::Text(report)),
         Err(AllocError) => Err(RunFault::Mine(MineFault::Memory)),
     }
 }

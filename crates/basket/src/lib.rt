@@ -6,8 +6,8 @@ mod engine;
 mod fault;
 mod input;
 mod items;
+mod made;
 mod mining;
-mod write;
 
 pub use basket_plan::{Ask, Form, Miner, Plan, PlanFault, plan_of, plan_status};
 pub use basket_report::{Style, sets_report};

@@ -16,7 +16,7 @@ use mine_apriori::laws::candidates_by_sets;
 use mine_classes::laws::coded_ranks_are_frequent;
 use mine_fp::Forest;
 use mine_fp::laws::class_trees_add_up;
-use mine_phases::{Cutting, Gate, apriori_shared, count_shared, mine_shared};
+use mine_phases::{Cutting, Gate, apriori_shared, count_shared, mine_shared, runs_shared};
 use mine_vertical::laws::class_joins_add_up;
 use mine_vertical::{BitRow, DiffList, Row, TidList, Vertical};
 use std::alloc::{AllocError, Global};
@@ -120,7 +120,8 @@ pub fn mine_in_place<R: Threads + Sync, G: Gate + Sync>(
         Miner::FpGrowth => {
             class_trees_add_up();
             let _coding = coded.baskets();
-            let miner = Growth(Forest::of(alloc, &coded)?);
+            let runs = runs_shared(rt, alloc, &coded, cutting)?;
+            let miner = Growth(Forest::of_runs(alloc, &coded, runs)?);
             let (frequent, trees) = mine_shared(rt, alloc, &coded, &miner, limit, cutting, gate)?;
             Ok((frequent, Work::of_trees(trees)))
         }
@@ -164,8 +165,9 @@ fn joined<R: Threads + Sync, G: Gate + Sync, T: Row + Sync>(
 {
     coded_ranks_are_frequent();
     class_joins_add_up();
+    let runs = runs_shared(rt, alloc, coded, cutting)?;
     let miner = Joining::<T> {
-        vertical: Vertical::of(alloc, coded)?,
+        vertical: Vertical::of_runs(coded, runs),
         rows: PhantomData,
     };
     let (frequent, joins) = mine_shared(rt, alloc, coded, &miner, limit, cutting, gate)?;

@@ -50,6 +50,14 @@ impl Frequent {
         &self.sets
     }
 
+    /// The sets without the weight.
+    pub fn into_sets(self) -> CountedSets
+        ensures { result ≡ self.sets }
+    {
+        let Frequent { sets, .. } = self;
+        sets
+    }
+
     /// The weight of all baskets together.
     pub fn total(&self) -> u64
         ensures { result ≡ self.now.total }

@@ -16,7 +16,7 @@ mod unpacked;
 pub mod worked;
 
 pub use added::add_counts;
-pub use basket_lists::CountedSets;
+pub use basket_lists::{CountedSets, MOST_ITEMS};
 pub use basket_sets::{
     Counted, Database, INLINE_ITEMS, Itemset, Minimum, Weighted, count_items, parse_minimum,
     parse_share, report_order, support,

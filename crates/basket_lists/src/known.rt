@@ -1,5 +1,5 @@
 //! The items that sets are known to have.
-ghost use Rattle.std.specs.Prelude.{◌≡◌, ◌<◌, ◌≤◌, ◌*◌, ◌++◌, ◌^◌, [], IfSome, IsTrue, OnOk, length, map, slice_index_or};
+ghost use Rattle.std.specs.Prelude.{◌≡◌, ◌<◌, ◌≤◌, ◌+◌, ◌*◌, ◌++◌, ◌^◌, [], IfSome, IsTrue, length, map, slice_index_or, take};
 ghost use Rattle.basket_lists.specs.Known.{IsBitOf, IsLonger};
 ghost use Rattle.basket_lists.specs.Packed.{IsPacked, items_in, unpacked};
 ghost use Rattle.basket_sets.specs.Itemset.{AllBelow, rising};
@@ -10,7 +10,7 @@ use std::alloc::{AllocError, Global};
 use std::marker::Model;
 
 /// How many items are known at most, each with a bit of its own.
-const MOST_ITEMS: usize = 120;
+pub const MOST_ITEMS: usize = 120;
 
 /// How many places are kept, each by the low bits of its item.
 const PLACES: usize = 256;
@@ -147,28 +147,40 @@ impl KnownItems {
         Some(packed)
     }
 
-    /// Adds the items of a packed set, which rise, to a list.
-    pub fn fill(&self, packed: &Packed, items: &mut Vec<u32>) -> Result<(), AllocError>
+    /// Puts the items of a packed set, which rise, to the front of the room, and answers how many they
+    /// are.
+    pub fn put(&self, packed: &Packed, room: &mut [u32; MOST_ITEMS]) -> usize
         requires { packed.now.bits < 2 ^ length self.now }
-        ensures { OnOk result (items.new.items ≡ items.old.items ++ items_in self.now packed.now.bits) }
+        ensures items { take result room.new ≡ items_in self.now packed.now.bits }
+        ensures within { result ≤ MOST_ITEMS }
     {
-        self.fill_part(packed.high_bits(), 64, items)?;
-        self.fill_part(packed.low_bits(), 0, items)?;
-        Ok(())
+        let count = put_bits(&self.items, packed.high_bits(), 64, room, 0);
+        put_bits(&self.items, packed.low_bits(), 0, room, count)
     }
+}
 
-    /// Adds the items of 64 bits, of which the lowest is at a place, to a list.
-    fn fill_part(&self, bits: u64, from: u32, items: &mut Vec<u32>) -> Result<(), AllocError>
-        requires below { bits * 2 ^ from < 2 ^ length self.now }
-        requires from { from < 128 }
-        ensures { OnOk result (items.new.items ≡ items.old.items ++ items_in self.now (bits * 2 ^ from)) }
-    {
-        let mut rest = bits;
-        while rest != 0 {
-            let bit = rest.ilog2();
-            items.push(self.items[self.items.len() - 1 - (bit + from) as usize])?;
-            rest -= 1 << bit;
-        }
-        Ok(())
+/// Puts those of the items that have a one among 64 bits, of which the lowest is at a place, behind the
+/// first of the room, and answers how many there are then.
+fn put_bits(
+    items: &[u32],
+    bits: u64,
+    place: u32,
+    room: &mut [u32; MOST_ITEMS],
+    first: usize,
+) -> usize
+    requires below { bits * 2 ^ place < 2 ^ length items.now }
+    requires place { place < 128 }
+    requires room { first + length (items_in items.now (bits * 2 ^ place)) ≤ MOST_ITEMS }
+    ensures items { take result room.new ≡ take first room.old ++ items_in items.now (bits * 2 ^ place) }
+    ensures count { result ≡ first + length (items_in items.now (bits * 2 ^ place)) }
+{
+    let mut rest = bits;
+    let mut count = first;
+    while rest != 0 {
+        let bit = rest.ilog2();
+        room[count] = items[items.len() - 1 - (bit + place) as usize];
+        count += 1;
+        rest -= 1 << bit;
     }
+    count
 }

@@ -9,3 +9,4 @@ mod packed;
 mod parts;
 
 pub use counted_sets::CountedSets;
+pub use known::MOST_ITEMS;

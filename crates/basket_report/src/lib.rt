@@ -2,6 +2,7 @@
 #![tactic(auto)]
 
 mod beginning;
+mod block;
 mod extent;
 mod items;
 mod lines;
@@ -9,12 +10,15 @@ mod middle;
 mod ratios;
 mod report;
 mod rules;
+mod set_lines;
 mod sets;
 mod style;
 mod table;
 mod texts;
 
+pub use block::write_bytes;
 pub use items::items_report;
 pub use rules::rules_report;
+pub use set_lines::SetLines;
 pub use sets::sets_report;
 pub use style::Style;

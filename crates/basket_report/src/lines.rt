@@ -65,6 +65,19 @@ impl Lines {
         })
     }
 
+    /// No lines, for those of the sets one by one.
+    pub fn one_by_one(alloc: Global, sets: &CountedSets) -> Result<Self, AllocError>
+        ensures { IfOk result (λ lines. lines ≡ []) }
+    {
+        Ok(Lines {
+            texts: Extent::of(sets).texts(alloc)?,
+            beginning: Beginning::new(alloc),
+            middle: Middle::new(alloc, 0)?,
+            ratios: Ratios::none(alloc),
+            text: Vec::new(alloc),
+        })
+    }
+
     /// No lines, for rules between the sets.
     pub fn for_rules(alloc: Global, sets: &[Counted]) -> Result<Self, AllocError>
         ensures { IfOk result (λ lines. lines ≡ []) }
@@ -108,6 +121,20 @@ impl Lines {
         put_ratios(&mut self.text, &mut self.ratios, figures)?;
         self.text.push(b'\n')?;
         Ok(())
+    }
+
+    /// No lines any more.
+    pub fn clear(&mut self)
+        ensures { self.new ≡ [] }
+    {
+        self.text.clear();
+    }
+
+    /// The lines.
+    pub fn text(&self) -> &[u8]
+        ensures { result.now ≡ self.now }
+    {
+        &self.text
     }
 
     /// The text of all lines.

@@ -5,7 +5,7 @@ ghost use Rattle.basket_report.specs.Style.{wording_of};
 
 use crate::report::Report;
 use crate::style::Style;
-use basket_core::CountedSets;
+use basket_core::{CountedSets, MOST_ITEMS};
 use std::alloc::{AllocError, Global};
 
 /// The report of the sets with their counts.
@@ -17,10 +17,9 @@ pub fn sets_report(
     ensures { IfOk result (λ report. report.items ≡ report_of (wording_of style.entry) sets.now) }
 {
     let mut report = Report::for_sets(alloc, style, sets)?;
-    let mut items = Vec::new(alloc);
+    let mut room = [0u32; MOST_ITEMS];
     for place in 0..sets.len() {
-        sets.fill(place, &mut items)?;
-        report.put_set(&items, sets.count(place))?;
+        report.put_set(sets.items(place, &mut room), sets.count(place))?;
     }
     report.into_text()
 }

@@ -31,11 +31,27 @@ pub fn runs_with_pairs(alloc: Global, coded: &Coded) -> Result<Runs, AllocError>
     ensures weights { IfOk result (λ runs. HaveSameWeights coded.now.baskets runs.baskets) }
     ensures supports { IfOk result (λ runs. (set : List ℕ) → support_of runs.baskets set ≡ support_of coded.now.baskets set) }
 {
+    // Before the runs, which take the room that the counts leave.
+    let pairs = small_pairs(alloc, coded)?;
+    runs_keeping(alloc, coded, pairs)
+}
+
+/// The runs of the coded baskets. They keep the frequent pairs of each rank, or none where none are
+/// given.
+pub fn runs_keeping(
+    alloc: Global,
+    coded: &Coded,
+    pairs: Vec<Vec<(u32, u64)>>,
+) -> Result<Runs, AllocError>
+    requires { 0 < length pairs.items → ArePairs coded.now (lists_of pairs.items) }
+    ensures ranks { IfOk result (λ runs. runs.ranks ≡ length coded.now.items) }
+    ensures ranked { IfOk result AreRankBaskets }
+    ensures weights { IfOk result (λ runs. HaveSameWeights coded.now.baskets runs.baskets) }
+    ensures supports { IfOk result (λ runs. (set : List ℕ) → support_of runs.baskets set ≡ support_of coded.now.baskets set) }
+{
     // The baskets of a coding are light enough for a least support.
     let _ = coded.baskets();
     let least = coded.minimum().least(coded.total());
-    // Before the runs, which take the room that the counts leave.
-    let pairs = small_pairs(alloc, coded)?;
     let mut runs = Runs::of(alloc, Ordered::of_coded(alloc, coded)?)?;
     runs.keep_pairs(pairs, least);
     Ok(runs)

@@ -1,8 +1,9 @@
 //! All coded baskets, for FP-growth.
-ghost use Rattle.std.specs.Prelude.{◌≡◌, ◌≤◌, ◌<◌, ◌+◌, ◌⊎◌, [], ◌∷◌, ℕ, Err, IfOk, IsTrue, false, length, map, slice_index};
+ghost use Rattle.std.specs.Prelude.{◌≡◌, ◌≤◌, ◌<◌, ◌+◌, ◌⊎◌, [], ◌∷◌, ℕ, List, Err, IfOk, IsTrue, false, length, map, slice_index};
 ghost use Rattle.std.specs.List.{range_with_len};
 ghost use Rattle.basket_core.specs.declared.fault.MineFault.TheVariants.{TooMany};
 ghost use Rattle.basket_sets.specs.Support.{support_of};
+ghost use Rattle.mine_classes.specs.Ordered.{AreRankBaskets, HaveSameWeights};
 ghost use Rattle.mine_classes.specs.Mined.{ListsClassItems, class_size};
 ghost use Rattle.mine_fp.specs.Trees.{class_trees};
 
@@ -43,7 +44,19 @@ impl<'a> Forest<'a> {
     pub fn of(alloc: Global, coded: &'a Coded) -> Result<Self, AllocError>
         ensures { IfOk result (λ forest. forest ≡ coded.now) }
     {
-        let runs = runs_with_pairs(alloc, coded)?;
+        Forest::of_runs(alloc, coded, runs_with_pairs(alloc, coded)?)
+    }
+
+    /// The same with runs of the coded baskets that were made before.
+    pub fn of_runs(alloc: Global, coded: &'a Coded, runs: Runs) -> Result<Self, AllocError>
+        requires ranks { runs.ranks ≡ length coded.now.items }
+        requires ranked { AreRankBaskets runs }
+        requires weights { HaveSameWeights coded.now.baskets runs.baskets }
+        requires supports { (set : List ℕ) → support_of runs.baskets set ≡ support_of coded.now.baskets set }
+        ensures { IfOk result (λ forest. forest ≡ coded.now) }
+    {
+        // The baskets of a coding are light enough for a least support.
+        let _ = coded.baskets();
         let names = names_of(alloc, coded, &runs)?;
         Ok(Forest {
             coded,

@@ -11,27 +11,16 @@ use crate::cutting::Cutting;
 use crate::gate::Gate;
 use crate::level::count_level;
 use crate::pairs::count_pairs;
-use crate::triangle::count_triangle;
+use crate::triangle::small_pairs;
 use basket_core::{Coded, Frequent, MineFault};
 use mine_apriori::laws::pairs_by_supports;
-use mine_apriori::{FirstLevel, Levels, is_small_triangle, pairs_of_supports};
+use mine_apriori::{FirstLevel, Levels};
 use mine_classes::{Ordered, Runs};
 use std::alloc::{AllocError, Global};
 use std::thread::Threads;
 
 /// The number of the phase that counts the candidates of three items.
 const FIRST_OF_LEVELS: u32 = 3;
-
-/// As many of the workers as may have a count for each pair of ranks of their own, since these take no
-/// more memory together than the baskets. None where not even one may.
-fn with_triangles(ranks: u32, baskets: usize, cutting: Cutting) -> Option<Cutting> {
-    for workers in (1..=cutting.workers).rev() {
-        if is_small_triangle(ranks, baskets / workers as usize) {
-            return Some(Cutting::new(workers, cutting.pieces));
-        }
-    }
-    None
-}
 
 /// The frequent pairs of ranks. The workers count each pair of ranks where these are few, and
 /// otherwise only the pairs that occur, rank by rank.
@@ -44,11 +33,12 @@ fn pairs<R: Threads + Sync, G: Gate + Sync>(
 ) -> Result<Vec<Vec<(u32, u64)>>, AllocError>
     ensures { IfOk result (λ lists. ArePairs coded.now (lists_of lists.items)) }
 {
-    if let Some(fewer) = with_triangles(coded.ranks(), coded.baskets().len(), cutting) {
-        let supports = count_triangle(rt, alloc, coded, fewer, gate)?;
-        return pairs_of_supports(alloc, coded, &supports);
+    if let Some(pairs) = small_pairs(rt, alloc, coded, cutting, gate)? {
+        return Ok(pairs);
     }
     pairs_by_supports();
+    // The baskets of a coding are light enough for a least support.
+    let _baskets = coded.baskets();
     let least = coded.minimum().least(coded.total());
     let runs = Runs::of(alloc, Ordered::of_coded(alloc, coded)?)?;
     count_pairs(rt, alloc, &runs, least, cutting, gate)

@@ -3,9 +3,10 @@
 //! worker takes which.
 //!
 //! `counting` counts the items. Of `apriori`, `triangle` counts the pairs of few ranks, `pairs` finds
-//! the frequent pairs of many, and `level` counts the candidates of a level. `classes` mines class by
-//! class with a `class_miner`, whose sets are told to the tally `found`. `share` is what a worker hands
-//! back, `placed` puts the values of pieces in their order, and workers pass a `gate` with each piece.
+//! the frequent pairs of many, and `level` counts the candidates of a level. `runs` makes ready what
+//! `classes` mines class by class with a `class_miner`, whose sets are told to the tally `found`. `share`
+//! is what a worker hands back, `placed` puts the values of pieces in their order, and workers pass a
+//! `gate` with each piece.
 #![tactic(auto)]
 
 mod apriori;
@@ -19,6 +20,7 @@ mod joined;
 mod level;
 mod pairs;
 mod placed;
+mod runs;
 mod share;
 mod triangle;
 
@@ -30,3 +32,4 @@ pub use cutting::Cutting;
 pub use gate::{Gate, Open};
 pub use level::count_level;
 pub use pairs::count_pairs;
+pub use runs::runs_shared;

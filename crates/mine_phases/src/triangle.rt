@@ -1,6 +1,7 @@
 //! The pairs of few ranks, each of which has a counter that the workers share.
-ghost use Rattle.std.specs.Prelude.{◌≡◌, ◌≤◌, IfOk, length, map};
+ghost use Rattle.std.specs.Prelude.{◌≡◌, ◌≤◌, IfOk, IfSome, length, map};
 ghost use Rattle.basket_sets.specs.Support.{support_of};
+ghost use Rattle.mine_apriori.specs.Pairs.{ArePairs, lists_of};
 ghost use Rattle.mine_apriori.specs.Triangle.{AreSupports};
 ghost use Rattle.mine_phases.specs.Level.{AddsSupports, IsLevelShare};
 ghost use Rattle.mine_phases.specs.Triangle.{rank_pairs};
@@ -11,7 +12,7 @@ use crate::gate::Gate;
 use crate::pairs::PHASE;
 use crate::share::{Share, add_counts, by_workers, claim_piece};
 use basket_core::{Coded, MineFault, shard};
-use mine_apriori::{Triangle, pair_count};
+use mine_apriori::{Triangle, is_small_triangle, pair_count, pairs_of_supports};
 use mine_round::{Round, RoundSeat};
 use std::alloc::{AllocError, Global};
 use std::thread::Threads;
@@ -101,4 +102,36 @@ pub fn count_triangle<'a, R: Threads + Sync, G: Gate + Sync>(
         Ok(_) => Ok(totals.counters),
         Err(_) => Err(AllocError),
     }
+}
+
+/// As many of the workers as may have a count for each pair of ranks of their own, since these take no
+/// more memory together than the baskets. None where not even one may.
+fn with_triangles(ranks: u32, baskets: usize, cutting: Cutting) -> Option<Cutting> {
+    for workers in (1..=cutting.workers).rev() {
+        if is_small_triangle(ranks, baskets / workers as usize) {
+            return Some(Cutting::new(workers, cutting.pieces));
+        }
+    }
+    None
+}
+
+/// The frequent pairs of each rank, counted by so many workers over so many parts of the baskets, or
+/// none where a count for each pair of ranks is large.
+pub fn small_pairs<R: Threads + Sync, G: Gate + Sync>(
+    rt: &R,
+    alloc: Global,
+    coded: &Coded,
+    cutting: Cutting,
+    gate: &G,
+) -> Result<Option<Vec<Vec<(u32, u64)>>>, AllocError>
+    ensures { IfOk result (λ found. IfSome found (λ lists. ArePairs coded.now (lists_of lists.items))) }
+{
+    // Nothing is read here: the call brings its contract, which says that the baskets are a coding's.
+    let baskets = coded.baskets();
+    let Some(fewer) = with_triangles(coded.ranks(), baskets.len(), cutting) else {
+        return Ok(None);
+    };
+    let supports = count_triangle(rt, alloc, coded, fewer, gate)?;
+    let pairs = pairs_of_supports(alloc, coded, &supports)?;
+    Ok(Some(pairs))
 }

@@ -36,11 +36,19 @@ impl<'a> Vertical<'a> {
     pub fn of(alloc: Global, coded: &'a Coded) -> Result<Self, AllocError>
         ensures { IfOk result (λ vertical. vertical ≡ coded.now) }
     {
+        Ok(Vertical::of_runs(coded, runs_with_pairs(alloc, coded)?))
+    }
+
+    /// The same with runs of the coded baskets that were made before.
+    pub fn of_runs(coded: &'a Coded, runs: Runs) -> Self
+        requires ranks { runs.ranks ≡ length coded.now.items }
+        requires weights { HaveSameWeights coded.now.baskets runs.baskets }
+        ensures { result ≡ coded.now }
+    {
         // The baskets of a coding are light enough for a least support.
         let _ = coded.baskets();
         let least = coded.minimum().least(coded.total());
-        let runs = runs_with_pairs(alloc, coded)?;
-        Ok(Vertical { coded, least, runs })
+        Vertical { coded, least, runs }
     }
 }
 

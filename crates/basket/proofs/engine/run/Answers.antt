@@ -1,6 +1,4 @@
-use Rattle.std.proofs.Common.{◌≡◌, Ok, sym, subst}
-use Rattle.std.specs.Prelude.{IfSome}
-use Rattle.basket.specs.Outcome.{outcome}
+use Rattle.basket.specs.Made.{made_text}
 use Rattle.basket.proofs.EngineLemmas.{not_write, told_by_reader, told_failed, told_input, told_mine, told_read, writes_front, writes_report}
 use Rattle.basket.proofs.engine.run.Goals as goal
 
@@ -28,16 +26,8 @@ returns-in-Err-clause-write g c = (
   λ failed. absurd (let working = c.requires.writer in cc),
 )
 
-pub returns-in_err-write_all-clause-front : goal.returns-in_err-write_all-clause-front
-returns-in_err-write_all-clause-front g c is =
-    let left = g.S.Source.left c.args.reader.now in
-    let question = c.args.plan.now.question in
-    let made = subst (λ text. IfSome left (λ bytes. outcome bytes question ≡ Ok text)) (sym c.deref.ensures.value) c.in-Ok.ensures.1 in
-    writes_front left question _ _ c.deref.result.now made c.in_err-write_all.ensures.err
+pub returns-in_err-write-clause-front : goal.returns-in_err-write-clause-front
+returns-in_err-write-clause-front g c is = writes_front (g.S.Source.left c.args.reader.now) c.args.plan.now.question _ _ (made_text c.in-Ok.made) c.in-Ok.ensures.1 c.in_err-write.ensures.err
 
 pub returns-clause-report : goal.returns-clause-report
-returns-clause-report g c =
-    let left = g.S.Source.left c.args.reader.now in
-    let question = c.args.plan.now.question in
-    let made = subst (λ text. IfSome left (λ bytes. outcome bytes question ≡ Ok text)) (sym c.deref.ensures.value) c.in-Ok.ensures.1 in
-    writes_report left question _ _ c.deref.result.now made c.in_ok-write_all.ensures.ok
+returns-clause-report g c = writes_report (g.S.Source.left c.args.reader.now) c.args.plan.now.question _ _ (made_text c.in-Ok.made) c.in-Ok.ensures.1 c.in_ok-write.ensures.ok

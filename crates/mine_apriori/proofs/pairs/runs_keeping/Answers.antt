@@ -3,7 +3,7 @@ use Rattle.basket_sets.specs.Minimum.{IsLeastSupport}
 use Rattle.basket_sets.specs.Support.{support_of, total_of}
 use Rattle.mine_classes.specs.Ordered.{RankBaskets}
 use Rattle.mine_apriori.proofs.PairLemmas.{pairs_for}
-use Rattle.mine_apriori.proofs.pairs.runs_with_pairs.Goals as goal
+use Rattle.mine_apriori.proofs.pairs.runs_keeping.Goals as goal
 
 pub keep_pairs-requires : goal.keep_pairs-requires
 keep_pairs-requires c =
@@ -13,5 +13,5 @@ keep_pairs-requires c =
     (subst (λ n. IsLeastSupport c.minimum.result n least) c.total.ensures c.least-least.ensures) in
     let same : (set : List ℕ) → support_of c.in_ok-runs.runs.baskets set ≡ support_of coding.baskets set =
     λ set. ap (λ (o : RankBaskets). support_of o.baskets set) c.in_ok-runs.ensures ∙ c.in_ok-of_coded.ensures.supports set in
-    let lists = c.in_ok-pairs.pairs.items in
-    λ rank none below. pairs_for coding least c.in_ok-runs.runs.baskets lists settles same (c.in_ok-pairs.ensures (omega (arith, below))) rank none below
+    let lists = c.args.pairs.items in
+    λ rank none below. pairs_for coding least c.in_ok-runs.runs.baskets lists settles same (c.requires (omega (arith, below))) rank none below

@@ -6,15 +6,15 @@ use Rattle.basket_sets.specs.Minimum.{IsLeastSupport}
 use Rattle.basket_sets.specs.Support.{support_of, total_of}
 use Rattle.mine_classes.specs.Ordered.{RankBaskets}
 use Rattle.mine_fp.specs.Forest.{AreInForest}
-use Rattle.mine_fp.proofs.forest.Forest.of.Goals as goal
+use Rattle.mine_fp.proofs.forest.Forest.of_runs.Goals as goal
 
 pub invariant_of-result : goal.invariant_of-result
 invariant_of-result c =
     let coding = c.args.coded.now in
-    let runs = c.in_ok-runs.ensures in
+    let runs = c.requires in
     let least = c.least.result in
-    let is : c.of_runs.result ≡ c.in_ok-runs.runs = c.of_runs.ensures in
-    let name : ℕ → ℕ × ℕ = λ rank. (get_or coding.items rank 0, support_of c.in_ok-runs.runs.baskets (rank ∷ [])) in
+    let is : c.of_runs.result ≡ c.args.runs = c.of_runs.ensures in
+    let name : ℕ → ℕ × ℕ = λ rank. (get_or coding.items rank 0, support_of c.args.runs.baskets (rank ∷ [])) in
     let names : c.in_ok-names.names.items ≡ map name (range_with_len 0 (length coding.items)) = c.in_ok-names.ensures in
     let ranks : c.of_runs.result.ranks ≡ length coding.items = ap (λ (value : RankBaskets). value.ranks) is ∙ runs.ranks in (
       subst (AreInForest coding least) (sym is) (record {

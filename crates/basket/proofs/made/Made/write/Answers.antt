@@ -1,0 +1,10 @@
+use Rattle.std.proofs.Common.{sym, subst}
+use Rattle.std.specs.Prelude.{OnErr}
+use Rattle.basket_report.specs.Block.{TakesFront}
+use Rattle.basket.specs.declared.made.Made.{Made}
+use Rattle.basket.specs.Made.{made_text}
+use Rattle.basket.proofs.made.Made.write.Goals as goal
+
+pub returns-in-Sets-clause-err : goal.returns-in-Sets-clause-err
+returns-in-Sets-clause-err g c =
+    subst (λ (made : Made). OnErr c.write.result (TakesFront (g.W.Sink.taken c.args.writer.now) (g.W.Sink.taken c.write.new.writer) (made_text made))) (sym c.in-Sets.is) c.write.ensures.err

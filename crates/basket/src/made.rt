@@ -1,0 +1,88 @@
+//! A report that is made and not written yet.
+ghost use Rattle.std.specs.Prelude.{◌≡◌, ◌↔◌, List, false, IfOk, IsOk, OnErr, OnOk};
+ghost use Rattle.std.specs.Io.KnownBytes.{Appends};
+ghost use Rattle.basket_report.specs.Block.{TakesFront};
+ghost use Rattle.basket_report.specs.Report.{report_of};
+ghost use Rattle.basket_report.specs.Style.{wording_of};
+ghost use Rattle.basket_rules.specs.Condensed.{closed_of, maximal_of};
+ghost use Rattle.basket_rules.specs.Listed.{IsListingOf};
+ghost use Rattle.basket_sets.specs.declared.minimum.Minimum.{Minimum as Bound};
+ghost use Rattle.basket_sets.specs.declared.weighted.Weighted.{Weighted as Basket};
+ghost use Rattle.basket.specs.Made.{made_text};
+
+use basket_core::{CountedSets, Failed, Frequent, Sink};
+use basket_report::{SetLines, Style, sets_report, write_bytes};
+use basket_rules::{closed, maximal};
+use std::alloc::{AllocError, Global};
+
+/// A report: its text, or the sets whose lines are made while they are written.
+#[derive(Drop)]
+pub enum Made {
+    Text(Vec<u8>),
+    Sets(CountedSets, SetLines),
+}
+
+impl Made {
+    /// The report of the sets.
+    pub fn of_sets(alloc: Global, sets: CountedSets, style: Style<'_>) -> Result<Self, AllocError>
+        ensures { IfOk result (λ made. made_text made ≡ report_of (wording_of style.entry) sets) }
+    {
+        match style {
+            Style::Numbers => {
+                let lines = SetLines::new(alloc, &sets)?;
+                Ok(Made::Sets(sets, lines))
+            }
+            Style::Names { .. } => Ok(Made::Text(sets_report(alloc, &sets, style)?)),
+        }
+    }
+
+    /// The report of those of the frequent sets that are closed.
+    pub fn of_closed(
+        alloc: Global,
+        frequent: Frequent,
+        style: Style<'_>,
+    ) -> Result<Self, AllocError>
+        ensures { IfOk result (λ made. (baskets : List Basket) (minimum : Bound) → IsListingOf baskets minimum frequent
+            → made_text made ≡ report_of (wording_of style.entry) (closed_of baskets minimum)) }
+    {
+        let sets = closed(alloc, &frequent.unpacked(alloc)?)?;
+        Made::of_sets(alloc, CountedSets::of_sets(alloc, sets), style)
+    }
+
+    /// The report of those of the frequent sets that are maximal.
+    pub fn of_maximal(
+        alloc: Global,
+        frequent: Frequent,
+        style: Style<'_>,
+    ) -> Result<Self, AllocError>
+        ensures { IfOk result (λ made. (baskets : List Basket) (minimum : Bound) → IsListingOf baskets minimum frequent
+            → made_text made ≡ report_of (wording_of style.entry) (maximal_of baskets minimum)) }
+    {
+        let sets = maximal(alloc, &frequent.unpacked(alloc)?)?;
+        Made::of_sets(alloc, CountedSets::of_sets(alloc, sets), style)
+    }
+
+    /// Writes the report to its end and flushes. Where the sink fails, it has taken a front of it.
+    pub fn write<W: Sink>(self, writer: &mut W) -> Result<(), Failed>
+        requires { W.has_failed writer.old ≡ false }
+        ensures ok { OnOk result (Appends (W.taken writer.old) (W.taken writer.new) (made_text self)) }
+        ensures err { OnErr result (TakesFront (W.taken writer.old) (W.taken writer.new) (made_text self)) }
+        ensures failed { (W.has_failed writer.new ≡ false) ↔ IsOk result }
+    {
+        match self {
+            Made::Text(text) => write_all(writer, &text),
+            Made::Sets(sets, mut lines) => lines.write(&sets, writer),
+        }
+    }
+}
+
+/// Writes all bytes and flushes. Where the sink fails, it has taken a front of them.
+fn write_all<W: Sink>(writer: &mut W, bytes: &[u8]) -> Result<(), Failed>
+    requires { W.has_failed writer.old ≡ false }
+    ensures ok { OnOk result (Appends (W.taken writer.old) (W.taken writer.new) bytes.now) }
+    ensures err { OnErr result (TakesFront (W.taken writer.old) (W.taken writer.new) bytes.now) }
+    ensures failed { (W.has_failed writer.new ≡ false) ↔ IsOk result }
+{
+    write_bytes(writer, bytes)?;
+    writer.flush()
+}

@@ -1,0 +1,12 @@
+-- Bytes on their way to a writer.
+use Rattle.std.specs.Prelude.{◌≡◌, ◌≤◌, ℕ, Bool, true, false, List, ◌++◌, Option, length, take}
+use Rattle.std.specs.Io.KnownBytes.{Appends}
+
+-- the writer took a front of the text, which may be all of it
+abbrev pub TakesFront : Option (List ℕ) → Option (List ℕ) → List ℕ → Type 0
+TakesFront before after text = (count : ℕ) × (count ≤ length text) × Appends before after (take count text)
+
+-- the text but for the bytes that wait was written since the start, or a front of it where the writer has failed
+pub record IsOnItsWay (start : Option (List ℕ)) (taken : Option (List ℕ)) (has_failed : Bool) (waiting : List ℕ) (text : List ℕ) : Type 0 where
+  pub working : has_failed ≡ false → (sent : List ℕ) × Appends start taken sent × (text ≡ sent ++ waiting)
+  pub failed : has_failed ≡ true → TakesFront start taken text
