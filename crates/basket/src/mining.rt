@@ -122,7 +122,7 @@ pub fn mine_in_place<R: Threads + Sync, G: Gate + Sync>(
             let _coding = coded.baskets();
             let runs = runs_shared(rt, alloc, &coded, cutting)?;
             let miner = Growth(Forest::of_runs(alloc, &coded, runs)?);
-            let (frequent, trees) = mine_shared(rt, alloc, &coded, &miner, limit, cutting, gate)?;
+            let (frequent, trees) = mine_shared(rt, alloc, &coded, miner, limit, cutting, gate)?;
             Ok((frequent, Work::of_trees(trees)))
         }
     }
@@ -170,7 +170,7 @@ fn joined<R: Threads + Sync, G: Gate + Sync, T: Row + Sync>(
         vertical: Vertical::of_runs(coded, runs),
         rows: PhantomData,
     };
-    let (frequent, joins) = mine_shared(rt, alloc, coded, &miner, limit, cutting, gate)?;
+    let (frequent, joins) = mine_shared(rt, alloc, coded, miner, limit, cutting, gate)?;
     Ok((frequent, Work::of_joins(joins)))
 }
 

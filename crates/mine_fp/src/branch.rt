@@ -4,10 +4,10 @@ ghost use Rattle.basket_core.specs.declared.fault.MineFault.TheVariants.{TooMany
 ghost use Rattle.basket_sets.specs.declared.minimum.Minimum.TheVariants.{Count};
 ghost use Rattle.basket_sets.specs.Frequent.{frequent_of};
 ghost use Rattle.mine_classes.specs.Classes.{class_of};
-ghost use Rattle.mine_fp.specs.Level.{HasLower, IsChosen, IsLevel, ListsClassAsItems, ListsAllAsItems};
+ghost use Rattle.mine_fp.specs.Level.{HasLower, HasSuffix, IsChosen, IsLevel, ListsClassAsItems, ListsAllAsItems};
 ghost use Rattle.mine_fp.specs.Trees.{is_branch};
 
-use crate::found::{Found, choose, tell};
+use crate::found::{Found, choose};
 use crate::level::Level;
 use basket_core::{MineFault, Tally};
 use mine_classes::laws::{
@@ -26,6 +26,7 @@ impl Level {
         tally: &mut T,
     ) -> Result<(), MineFault>
         requires level { IsLevel self.now }
+        requires stands { HasSuffix self.now found.old.sets }
         requires branch { IsTrue (is_branch self.now.paths.baskets) }
         requires going { T.is_over tally.old ≡ false }
         ensures listed { OnOk result (ListsAllAsItems self.now found.old.sets found.new.sets) }
@@ -56,6 +57,7 @@ impl Level {
         tally: &mut T,
     ) -> Result<(), MineFault>
         requires level { IsLevel self.now }
+        requires stands { HasSuffix self.now found.old.sets }
         requires branch { IsTrue (is_branch self.now.paths.baskets) }
         requires rank { rank < self.now.paths.ranks }
         requires lower { HasLower self.now rank start found.old.sets }
@@ -79,8 +81,7 @@ impl Level {
             return Ok(());
         }
         let end = found.sets.len();
-        let set = self.set_with(alloc, rank)?;
-        tell(set, support, found, tally)?;
+        self.tell_rank(alloc, rank, support, found, tally)?;
         let item = self.item(rank);
         for at in start..end {
             choose(alloc, at, item, support, found, tally)?;

@@ -170,7 +170,7 @@ impl Level {
     }
 
     /// Tells the set of a rank to the tally, and adds it to those found.
-    fn tell_rank<T: Tally>(
+    pub fn tell_rank<T: Tally>(
         &self,
         alloc: Global,
         rank: u32,
@@ -200,7 +200,7 @@ impl Level {
     }
 
     /// The set of a rank, as items.
-    pub fn set_with(&self, alloc: Global, rank: u32) -> Result<Itemset, AllocError>
+    fn set_with(&self, alloc: Global, rank: u32) -> Result<Itemset, AllocError>
         requires { rank < vec_len self.now.names }
         ensures { IfOk result (λ set. set ≡ with_item (slice_index (items_of self.now) rank) self.now.suffix) }
     {

@@ -2,8 +2,9 @@
 ghost use Rattle.std.specs.Prelude.{◌≡◌, ◌≤◌, ◌<◌, ◌+◌, ◌⊎◌, ℕ, Err, IfOk, IsTrue, false, length, nat_lt, slice_index};
 ghost use Rattle.std.specs.List.{flat_map};
 ghost use Rattle.basket_core.specs.declared.fault.MineFault.TheVariants.{TooMany};
-ghost use Rattle.basket_core.specs.Codes.{frequent_of_coding};
+ghost use Rattle.basket_core.specs.Codes.{baskets_of, frequent_of_coding};
 ghost use Rattle.basket_core.specs.Listing.{listing_of};
+ghost use Rattle.basket_sets.specs.Frequent.{ListsOnce};
 ghost use Rattle.mine_round.specs.Record.{unused};
 ghost use Rattle.mine_phases.specs.Classes.{AreMined, HasLargeClass, IsClassShare, IsWorkOfAll, piece_size, ranks_of};
 ghost use Rattle.mine_phases.specs.Found.{CountsSets, still};
@@ -15,7 +16,7 @@ use crate::gate::Gate;
 use crate::joined::{Class, joined};
 use crate::placed::collected;
 use crate::share::{Share, by_workers, claim_piece};
-use basket_core::{Coded, Frequent, MineFault, Tally, shard};
+use basket_core::{Coded, CountedSets, Frequent, MineFault, Tally, shard};
 use mine_classes::laws::{class_items_are_all, class_sizes_add_up, lists_have_class_size};
 use mine_round::{Round, RoundSeat};
 use std::alloc::Global;
@@ -144,10 +145,10 @@ impl<M: ClassMiner, G: Gate> Classes<'_, M, G> {
     }
 }
 
-/// The list of the frequent sets, mined class by class by so many workers over so many pieces of the
-/// ranks, where it is no longer than the limit, and how much work that took. The workers share one
-/// count of the sets that they find, and each stops where it sees more than the limit.
-pub fn mine_shared<'a, R: Threads + Sync, G: Gate + Sync, M: ClassMiner + Sync>(
+/// The sets of each class, mined by so many workers over so many pieces of the ranks, where they are no
+/// more than the limit, and how much work that took. The workers share one count of the sets that they
+/// find, and each stops where it sees more than the limit.
+fn mined_classes<'a, R: Threads + Sync, G: Gate + Sync, M: ClassMiner + Sync>(
     rt: &R,
     alloc: Global,
     coded: &Coded,
@@ -155,10 +156,10 @@ pub fn mine_shared<'a, R: Threads + Sync, G: Gate + Sync, M: ClassMiner + Sync>(
     limit: u32,
     cutting: Cutting,
     gate: &'a G,
-) -> Result<(Frequent, u64), MineFault>
+) -> Result<(Vec<CountedSets>, u64), MineFault>
     requires coding { M.coding_of miner.now ≡ coded.now }
-    ensures list { IfOk result (λ mined. mined.0 ≡ listing_of coded.now) }
-    ensures within { IfOk result (λ mined. length mined.0.sets ≤ limit) }
+    ensures once { IfOk result (λ mined. ListsOnce (baskets_of coded.now) coded.now.minimum (flat_map (λ class. class) mined.0.items)) }
+    ensures within { IfOk result (λ _. length (frequent_of_coding coded.now) ≤ limit) }
     ensures work { IfOk result (λ mined. IsWorkOfAll (M.is_work miner.now) (length coded.now.items) mined.1) }
     ensures too_many { (most : ℕ) → result ≡ Err (TooMany most) → (most ≡ limit) × (limit < length (frequent_of_coding coded.now)) }
 {
@@ -193,5 +194,28 @@ pub fn mine_shared<'a, R: Threads + Sync, G: Gate + Sync, M: ClassMiner + Sync>(
         collected(alloc, cutting.pieces, values)?,
         coded.ranks(),
     )?;
+    Ok((classes, work))
+}
+
+/// The list of the frequent sets, mined class by class by so many workers over so many pieces of the
+/// ranks, where it is no longer than the limit, and how much work that took. What the classes are mined
+/// from is dropped before the list is made.
+pub fn mine_shared<R: Threads + Sync, G: Gate + Sync, M: ClassMiner + Sync + Drop>(
+    rt: &R,
+    alloc: Global,
+    coded: &Coded,
+    miner: M,
+    limit: u32,
+    cutting: Cutting,
+    gate: &G,
+) -> Result<(Frequent, u64), MineFault>
+    requires coding { M.coding_of miner ≡ coded.now }
+    ensures list { IfOk result (λ mined. mined.0 ≡ listing_of coded.now) }
+    ensures within { IfOk result (λ mined. length mined.0.sets ≤ limit) }
+    ensures work { IfOk result (λ mined. IsWorkOfAll (M.is_work miner) (length coded.now.items) mined.1) }
+    ensures too_many { (most : ℕ) → result ≡ Err (TooMany most) → (most ≡ limit) × (limit < length (frequent_of_coding coded.now)) }
+{
+    let (classes, work) = mined_classes(rt, alloc, coded, &miner, limit, cutting, gate)?;
+    drop(miner);
     Ok((Frequent::of_classes(alloc, coded, classes)?, work))
 }

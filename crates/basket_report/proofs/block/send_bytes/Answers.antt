@@ -1,4 +1,4 @@
-use Rattle.std.proofs.Common.{◌≡◌, false, sym, ◌∙◌}
+use Rattle.std.proofs.Common.{sym, ◌∙◌}
 use Rattle.basket_report.proofs.BlockLemmas.{is_sent}
 use Rattle.basket_report.proofs.block.send_bytes.Goals as goal
 

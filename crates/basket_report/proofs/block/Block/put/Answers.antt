@@ -1,4 +1,4 @@
-use Rattle.std.proofs.Common.{◌≡◌, [], ◌++◌, sym, ◌∙◌, subst}
+use Rattle.std.proofs.Common.{[], ◌++◌, sym, ◌∙◌, subst}
 use Rattle.basket_report.specs.Block.{IsOnItsWay}
 use Rattle.basket_report.proofs.BlockLemmas.{more_waits}
 use Rattle.basket_report.proofs.block.Block.put.Goals as goal

@@ -22,14 +22,14 @@ returns-then-support-self-clause-listed g c =
       added = sym (append-nil c.args.found.now.sets);
     }
 
-pub returns-in_err-tell-clause-at_most : goal.returns-in_err-tell-clause-at_most
-returns-in_err-tell-clause-at_most g c =
+pub returns-in_err-tell_rank-clause-at_most : goal.returns-in_err-tell_rank-clause-at_most
+returns-in_err-tell_rank-clause-at_most g c =
     let level = c.args.self.now in
     let met = met_by level.paths.baskets level.least c.args.rank c.support-support.result c.support-support.ensures c.requires.level.some c.if-support-self.false in
     let lower = c.requires.lower in
     let sets = flat_map (λ (class : List Counted). class) lower.classes in
     let size = choices_long level.paths.baskets level.least c.args.rank c.requires.branch met c.conditional_supports.ensures c.classes_are_all.ensures c.classes_are_conditional.ensures lower.classes lower.ranks lower.listed c.lists_have_class_size.ensures in
-    let most = c.in_err-tell.ensures.at_most in
+    let most = c.in_err-tell_rank.ensures.at_most in
     omega arith
 
 pub returns-in_err-choose-clause-at_most : goal.returns-in_err-choose-clause-at_most
@@ -50,14 +50,13 @@ loop-at-init g c =
     let alone = alone_as_items (items_of level) level.suffix c.args.rank c.support-support.result c.requires.level.rises in
     record {
       sets = λ classes before long are.
-          c.in_ok-tell.ensures.added ∙ (λ i. c.args.found.now.sets ++ record { set = c.in_ok-set.ensures i; count = c.support-support.result } ∷ [])
-          ∙ ap (λ s. c.args.found.now.sets ++ s ∷ []) (sym alone)
+          c.in_ok-tell_rank.ensures.added ∙ ap (λ s. c.args.found.now.sets ++ s ∷ []) (sym alone)
           ∙ (let none : 0 ≡ c.args.start - c.args.start = omega arith in
           ap (λ n. c.args.found.now.sets ++ map (as_items (items_of level) level.suffix) (chosen c.args.rank c.support-support.result (take n (flat_map (λ (class : List Counted). class) classes)))) none);
-      trees = c.in_ok-tell.ensures.trees;
-      told = omega (arith, c.in_ok-tell.ensures.told);
-      going_on = c.in_ok-tell.ensures.going_on;
-      limit = c.in_ok-tell.ensures.limit;
+      trees = c.in_ok-tell_rank.ensures.trees;
+      told = omega (arith, c.in_ok-tell_rank.ensures.told);
+      going_on = c.in_ok-tell_rank.ensures.going_on;
+      limit = c.in_ok-tell_rank.ensures.limit;
     }
 
 pub loop-at-preserved : goal.loop-at-preserved

@@ -7,7 +7,15 @@ use Rattle.basket_sets.proofs.theory.Frequent.{once_is_as_long}
 use Rattle.mine_classes.specs.Classes.{ListsClass}
 use Rattle.mine_fp.specs.Level.{as_items, items_of}
 use Rattle.mine_fp.proofs.ClassLemmas.{all_once, classes_fit, more_all, more_classes}
+use Rattle.mine_fp.proofs.SuffixLemmas.{suffix_kept}
 use Rattle.mine_fp.proofs.level.Level.read_off.Goals as goal
+
+pub choices-requires-clause-stands : goal.choices-requires-clause-stands
+choices-requires-clause-stands g c =
+    let level = c.args.self.now in
+    let so_far = c.loop-last.invariant in
+    let more = map (as_items (items_of level) level.suffix) (flat_map (λ (class : List Counted). class) so_far.listed.0) in
+    suffix_kept level c.args.found.now.sets more c.loop-last.found.sets c.requires.stands so_far.listed.3
 
 pub returns-in_err-choices-clause-at_most : goal.returns-in_err-choices-clause-at_most
 returns-in_err-choices-clause-at_most g c =

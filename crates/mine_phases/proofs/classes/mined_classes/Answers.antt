@@ -6,7 +6,6 @@ use Rattle.std.proofs.lemmas.List.{length-map}
 use Rattle.std.proofs.lemmas.List.Elements.{All-map, All-same}
 use Rattle.std.proofs.lemmas.Result.{IfOk-weaker, err_from_is_err_and}
 use Rattle.basket_core.specs.Codes.{Coding, IsCoding, baskets_of, frequent_of_coding}
-use Rattle.basket_core.specs.Listing.{Listing}
 use Rattle.basket_core.specs.declared.fault.MineFault.TheVariants.{TooMany}
 use Rattle.basket_sets.specs.declared.counted.Counted.{Counted}
 use Rattle.basket_sets.specs.Frequent.{ListsOnce}
@@ -19,7 +18,7 @@ use Rattle.mine_phases.specs.Share.{fault_of, pieces_of}
 use Rattle.mine_phases.proofs.Placing.{each_value}
 use Rattle.mine_phases.proofs.Shares.{Says, all_values, each_seat, pieces_are_claimed, some_ended, some_seat}
 use Rattle.mine_phases.proofs.Sharing.{ToldAll, mined_pieces, no_more_than_limit, once_of_all, too_many_are, work_of_all}
-use Rattle.mine_phases.proofs.classes.mine_shared.Goals as goal
+use Rattle.mine_phases.proofs.classes.mined_classes.Goals as goal
 
 -- what a worker hands back: the classes of its pieces
 abbrev Pieces : Type 0
@@ -88,8 +87,8 @@ mined_all coding is_work limit pieces shares lists values some count all says is
     (λ piece d below. each_value Mined (replicate pieces None) pieces (flat_map (λ list. list.items) lists) values refl is
     (all_values (MinesPieces coding is_work limit pieces) Mined (λ seat values says. says.mined) shares lists all says) piece d below)
 
-pub of_classes-requires : goal.of_classes-requires
-of_classes-requires g c =
+pub returns-clause-once : goal.returns-clause-once
+returns-clause-once g c =
     let coding : Coding = g.M.ClassMiner.coding_of c.args.miner.now in
     let is_work = g.M.ClassMiner.is_work c.args.miner.now in
     let mined = mined_all coding is_work c.args.limit c.args.cutting.pieces c.in_ok-seats.ensures.shares c.in_ok-values.values.items c.in_ok-collected.field-0.items
@@ -126,8 +125,7 @@ returns-clause-within g c =
     let few = no_more_than_limit coding c.args.limit pieces seats _ c.args.cutting.some_pieces.0 (subst IsCoding (sym c.requires.coding) c.baskets-baskets.ensures.coding) c.class_sizes_add_up.ensures by_seats claimed
     (c.in-Ok.ensures.sums 0 first) (c.in-Ok.ensures.greatest 0 first) in
     let same = ap (λ (k : Coding). length (frequent_of_coding k)) c.requires.coding in
-    let long = ap (λ (listing : Listing). length listing.sets) c.in_ok-of_classes.ensures in
-    omega (arith, few, same, long)
+    omega (arith, few, same)
 
 pub returns-clause-work : goal.returns-clause-work
 returns-clause-work g c =
