@@ -1,4 +1,5 @@
 //! Runs of `items`, and readers and writers that fail.
+use super::sets::THIRTEEN_SETS;
 use super::*;
 
 #[test]
@@ -111,20 +112,25 @@ fn readers_that_fail(rt: HostRuntime) -> Result<(), Fail> {
 #[test]
 fn writers(rt: HostRuntime) -> Result<(), Fail> {
     let write = Err(RunFault::Write);
+    let front = b"1 (6)\n2 (7".as_slice();
     let cases = &[
-        (100, 1, false, Ok(()), NINE_ITEMS),
-        (10, 100, false, write, b"1 (6)\n2 (7".as_slice()),
-        (10, 3, false, write, b"1 (6)\n2 (7"),
-        (100, 0, false, write, b""),
-        (100, 100, true, write, NINE_ITEMS),
+        ("items", 100, 1, false, Ok(()), NINE_ITEMS),
+        ("items", 10, 100, false, write, front),
+        ("items", 10, 3, false, write, front),
+        ("items", 100, 0, false, write, b""),
+        ("items", 100, 100, true, write, NINE_ITEMS),
+        ("sets", 300, 1, false, Ok(()), THIRTEEN_SETS),
+        ("sets", 10, 100, false, write, front),
+        ("sets", 300, 0, false, write, b""),
+        ("sets", 300, 100, true, write, THIRTEEN_SETS),
     ];
-    for &(room, piece, flush_fails, want, written) in cases {
+    for &(ask, room, piece, flush_fails, want, written) in cases {
         let mut reader = MemSource::new(NINE_BASKETS, 100, None);
         let mut writer = MemSink::new(rt.alloc(), room, piece, flush_fails)?;
         let result = run_words(
             &rt,
             rt.alloc(),
-            &["items", "--min", "2"],
+            &[ask, "--min", "2"],
             &mut reader,
             &mut writer,
         )?;
