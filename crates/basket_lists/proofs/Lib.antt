@@ -2,3 +2,4 @@ pub mod theory
 mod PackedLemmas
 mod OrderLemmas
 mod ListLemmas
+mod PlainLemmas

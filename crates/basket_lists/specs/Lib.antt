@@ -1,4 +1,5 @@
 pub mod Word
 pub mod Packed
 pub mod Known
+pub mod Plain
 pub mod CountedSets

@@ -7,6 +7,8 @@ mod keys;
 mod known;
 mod packed;
 mod parts;
+mod place;
+mod plain;
 
 pub use counted_sets::CountedSets;
 pub use known::MOST_ITEMS;

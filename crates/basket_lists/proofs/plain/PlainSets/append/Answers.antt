@@ -1,0 +1,21 @@
+use Rattle.std.proofs.Common.{◌≡◌, ◌<◌, [], ◌∷◌, ◌++◌, length, get_or, take, sym, ap, ◌∙◌, arith}
+use Rattle.std.proofs.lemmas.List.{append_assoc, append-nil, take_all, take_more}
+use Rattle.basket_sets.specs.declared.counted.Counted.{Counted}
+use Rattle.basket_lists.proofs.plain.PlainSets.append.Goals as goal
+
+pub loop-place-init : goal.loop-place-init
+loop-place-init c = sym (append-nil c.args.self.now)
+
+pub loop-place-preserved : goal.loop-place-preserved
+loop-place-preserved c =
+    let old = c.args.self.now in
+    let other = c.args.other.now in
+    let place = c.loop-place.place in
+    let none : Counted = record { set = []; count = 0 } in
+    let inside : place < length other = omega (arith, c.loop-place-test.true, c.len-place-end.ensures.value) in
+    let here : record { set = c.items.result.now; count = c.count.result } ≡ get_or other place none = λ i. record { set = c.items.ensures.items i; count = c.count.ensures i } in
+    c.in_ok-push.ensures ∙ ap (λ sets. sets ++ record { set = c.items.result.now; count = c.count.result } ∷ []) c.loop-place.invariant
+    ∙ append_assoc old (take place other) _ ∙ ap (λ one. old ++ (take place other ++ one ∷ [])) here ∙ ap (λ sets. old ++ sets) (sym (take_more other place none inside))
+
+pub returns : goal.returns
+returns c = c.loop-place.invariant ∙ ap (λ sets. c.args.self.now ++ sets) (take_all c.loop-place.place c.args.other.now (omega (arith, c.loop-place-test.false, c.len-place-end.ensures.value)))

@@ -1,0 +1,23 @@
+-- Sets whose items stand one behind another.
+use Rattle.std.specs.Prelude.{◌≤◌, ℕ, List, length, map}
+use Rattle.std.specs.List.{slice_range}
+use Rattle.basket_lists.specs.declared.place.Place.{Place}
+use Rattle.basket_sets.specs.declared.counted.Counted.{Counted}
+use Rattle.basket_sets.specs.Itemset.{IsRising}
+
+-- the place lies among so many items
+pub record IsWithin (count : ℕ) (place : Place) : Type 0 where
+  pub ordered : place.start ≤ place.end
+  pub within : place.end ≤ count
+
+-- a set stands there
+pub record IsPlaceOfSet (items : List ℕ) (place : Place) : Type 0 where
+  pub within : IsWithin (length items) place
+  pub rises : IsRising (slice_range items place.start place.end)
+
+-- the set with its count
+abbrev pub placed : List ℕ → Place → Counted
+placed items place = record { set = slice_range items place.start place.end; count = place.count }
+
+abbrev pub placed_sets : List ℕ → List Place → List Counted
+placed_sets items places = map (placed items) places
