@@ -46,7 +46,7 @@ impl Made {
             → made_text made ≡ report_of (wording_of style.entry) (closed_of baskets minimum)) }
     {
         let sets = closed(alloc, &frequent.unpacked(alloc)?)?;
-        Made::of_sets(alloc, CountedSets::of_sets(alloc, sets), style)
+        Made::of_sets(alloc, CountedSets::of_sets(alloc, &sets)?, style)
     }
 
     /// The report of those of the frequent sets that are maximal.
@@ -59,7 +59,7 @@ impl Made {
             → made_text made ≡ report_of (wording_of style.entry) (maximal_of baskets minimum)) }
     {
         let sets = maximal(alloc, &frequent.unpacked(alloc)?)?;
-        Made::of_sets(alloc, CountedSets::of_sets(alloc, sets), style)
+        Made::of_sets(alloc, CountedSets::of_sets(alloc, &sets)?, style)
     }
 
     /// Writes the report to its end and flushes. Where the sink fails, it has taken a front of it.

@@ -69,8 +69,8 @@ impl Frequent {
     pub fn unpacked(self, alloc: Global) -> Result<Unpacked, AllocError>
         ensures { IfOk result (λ unpacked. unpacked ≡ self) }
     {
-        let Frequent { mut sets, total } = self;
-        Ok(Unpacked::new(sets.take(alloc)?, total))
+        let Frequent { sets, total } = self;
+        Ok(Unpacked::new(sets.unpacked(alloc)?, total))
     }
 }
 
@@ -78,7 +78,7 @@ impl Frequent {
 fn gathered(alloc: Global, classes: Vec<CountedSets>) -> Result<CountedSets, AllocError>
     ensures { IfOk result (λ sets. sets ≡ flat_map (λ class. class) classes.items) }
 {
-    let mut sets = CountedSets::of_sets(alloc, Vec::new(alloc));
+    let mut sets = CountedSets::empty(alloc);
     for class in classes {
         if sets.is_empty() {
             sets = class;
