@@ -241,7 +241,9 @@ pub fn met_in_order(alloc: Global, sums: &[u64], least: u64) -> Result<Vec<(u32,
     requires { length sums.now ≤ 4294967295 }
     ensures { IfOk result (λ pairs. pairs.items ≡ map (λ rank. (rank, slice_index sums.now rank)) (filter (λ rank. is_met least (slice_index sums.now rank)) (range_with_len 0 (length sums.now)))) }
 {
-    let mut pairs = Vec::new(alloc);
+    // Counted first, so that the list has just its room.
+    let met = sums.iter().filter(|sum| **sum >= least.max(1)).count();
+    let mut pairs = Vec::with_capacity(alloc, met)?;
     for (rank, sum) in sums.iter().enumerate() {
         if *sum >= 1 && *sum >= least {
             pairs.push((rank as u32, *sum))?;
