@@ -1,6 +1,6 @@
 //! The list of sets as a prefix tree, in which the parent of a set is the set without its last item.
 //! In report order the children of a set stand side by side.
-ghost use Rattle.std.specs.Prelude.{◌≡◌, ◌≢◌, ◌<◌, IfOk, IfNone, IfSome, List, length, ℕ};
+ghost use Rattle.std.specs.Prelude.{◌≡◌, ◌≢◌, ◌<◌, IfOk, IfNone, IfSome, IsTrue, List, length, ℕ};
 ghost use Rattle.basket_sets.specs.declared.counted.Counted.{Counted};
 ghost use Rattle.basket_rules.specs.Listed.{set_at};
 ghost use Rattle.basket_rules.specs.Subset.{without};
@@ -13,7 +13,7 @@ use std::alloc::{AllocError, Global};
 /// Stands for no place.
 pub const NOWHERE: u32 = u32::MAX;
 
-/// How many children are tried before a set is searched for in the list.
+/// How many places are tried before a set is searched for in the list.
 const MOST_STEPS: usize = 32;
 
 /// A place in fewer bits.
@@ -43,14 +43,15 @@ pub fn nodes_of(alloc: Global, sets: &[Counted]) -> Result<Vec<Node>, AllocError
     let mut nodes = Vec::with_capacity(alloc, sets.len())?;
     let mut hint = 0;
     for number in 0..sets.len() {
-        nodes.push(node_of(sets, number, &mut hint))?;
+        let node = node_of(sets, &nodes, number, &mut hint);
+        nodes.push(node)?;
     }
     Ok(nodes)
 }
 
 /// The node of the set at a place. The search for the parent begins at the hint, which then becomes
-/// the place where it ended.
-fn node_of(sets: &[Counted], number: usize, hint: &mut usize) -> Node
+/// the place where it ended. The nodes of the sets before spare most comparisons.
+fn node_of(sets: &[Counted], before: &[Node], number: usize, hint: &mut usize) -> Node
     requires { number < length sets.now }
     ensures { IsNodeOf sets.now number result }
 {
@@ -65,16 +66,20 @@ fn node_of(sets: &[Counted], number: usize, hint: &mut usize) -> Node
         };
     }
     Node {
-        parent: parent_of(sets, &items[..size - 1], hint),
+        parent: parent_of(sets, before, &items[..size - 1], hint),
         last: items[size - 1],
         count: counted.count,
     }
 }
 
 /// The place of the set with these items.
-fn parent_of(sets: &[Counted], items: &[u32], hint: &mut usize) -> u32
+fn parent_of(sets: &[Counted], before: &[Node], items: &[u32], hint: &mut usize) -> u32
     ensures { IsPlaceOf sets.now items.now result }
 {
+    if let Some(at) = find_behind(sets, before, items, *hint) {
+        *hint = at;
+        return short(Some(at));
+    }
     match find_near(sets, items, &[], *hint) {
         Ok(at) => {
             *hint = at;
@@ -87,22 +92,82 @@ fn parent_of(sets: &[Counted], items: &[u32], hint: &mut usize) -> u32
     }
 }
 
-/// For each set, the place of its first child, or 0. Nothing is claimed of it.
-pub fn first_children(alloc: Global, nodes: &[Node]) -> Result<Vec<usize>, AllocError> {
-    let mut first = vec![in alloc; 0; nodes.len()]?;
-    for number in (0..nodes.len()).rev() {
-        if let Some(child) = first.get_mut(nodes[number].parent as usize) {
-            *child = number;
+/// The place of the set with these items, if it is the hint or stands a little behind it. A set
+/// with another last item is passed by.
+fn find_behind(sets: &[Counted], before: &[Node], items: &[u32], hint: usize) -> Option<usize>
+    ensures bound { IfSome result (λ at. at < length sets.now) }
+    ensures found { IfSome result (λ at. set_at sets.now at ≡ items.now) }
+{
+    let last = *items.last()?;
+    let end = hint
+        .saturating_add(MOST_STEPS)
+        .min(before.len())
+        .min(sets.len());
+    for at in hint..end {
+        if before[at].last == last && sets[at].set.items() == items {
+            return Some(at);
         }
     }
-    Ok(first)
+    None
+}
+
+/// From what the place of a child is guessed. Nothing is claimed of it.
+#[derive(Clone, Copy, Debug)]
+struct Children {
+    /// Those of the next 64 items from that of the first child on that are the last of a child.
+    items: u64,
+    /// The place of the first child, and its last item.
+    first: u32,
+    first_item: u32,
+}
+
+impl Children {
+    fn none() -> Self {
+        Children {
+            items: 0,
+            first: 0,
+            first_item: 0,
+        }
+    }
+
+    /// Adds the one behind all others.
+    fn add(&mut self, number: usize, last: u32) {
+        if self.items == 0 {
+            self.first = short(Some(number));
+            self.first_item = last;
+        }
+        self.items |= bit(last.wrapping_sub(self.first_item));
+    }
+
+    /// The place of the child by its last item, or one before it where that is far from the first.
+    fn place_of(&self, last: u32) -> usize {
+        let smaller = self.items & bit(last.wrapping_sub(self.first_item)).wrapping_sub(1);
+        (self.first as usize).saturating_add(smaller.count_ones() as usize)
+    }
+}
+
+/// The bit of a number, or 0 where a word has none for it.
+fn bit(number: u32) -> u64 {
+    1u64.checked_shl(number).unwrap_or(0)
+}
+
+/// The children of each set.
+fn children_of(alloc: Global, nodes: &[Node]) -> Result<Vec<Children>, AllocError> {
+    let mut children = vec![in alloc; Children::none(); nodes.len()]?;
+    for number in 0..nodes.len() {
+        let node = nodes[number];
+        if let Some(siblings) = children.get_mut(node.parent as usize) {
+            siblings.add(number, node.last);
+        }
+    }
+    Ok(children)
 }
 
 /// The tree of the list.
 #[derive(Debug, Drop)]
 pub struct Tree {
     pub nodes: Vec<Node>,
-    first_children: Vec<usize>,
+    children: Vec<Children>,
 }
 
 impl Tree {
@@ -110,33 +175,40 @@ impl Tree {
         ensures { IfOk result (λ tree. AreNodesOf sets.now tree.nodes.items) }
     {
         let nodes = nodes_of(alloc, sets)?;
-        let first_children = first_children(alloc, &nodes)?;
-        Ok(Tree {
-            nodes,
-            first_children,
-        })
+        let children = children_of(alloc, &nodes)?;
+        Ok(Tree { nodes, children })
     }
 
-    /// The child of a set by its last item. It is looked for from the cursor on, or else from the
-    /// first child on.
+    /// The child of a set by its last item, if it stands where it is guessed, or a little behind that
+    /// or behind the cursor.
     pub fn child(&self, parent: u32, last: u32, cursor: &mut Cursor) -> Option<usize>
         ensures { (list : List Counted) → AreNodesOf list self.now.nodes.items → parent ≢ NOWHERE
             → IfSome result (λ at. (at < length list) × IsChildOf list parent last at) }
     {
+        let guess = self.children.get(parent as usize)?.place_of(last);
+        if self.is_child(guess, parent, last) {
+            return Some(guess);
+        }
         if cursor.parent != parent {
             cursor.parent = parent;
-            cursor.next = self
-                .first_children
-                .get(parent as usize)
-                .copied()
-                .unwrap_or(0);
+            cursor.next = guess;
         }
         cursor.next = next_child(&self.nodes, cursor.next, last);
-        let node = self.nodes.get(cursor.next)?;
-        if node.parent == parent && node.last == last {
+        if self.is_child(cursor.next, parent, last) {
             Some(cursor.next)
         } else {
             None
+        }
+    }
+
+    /// Whether the set at a place is the child of another by the item.
+    fn is_child(&self, at: usize, parent: u32, last: u32) -> bool
+        ensures { IsTrue result → (list : List Counted) → AreNodesOf list self.now.nodes.items → parent ≢ NOWHERE
+            → (at < length list) × IsChildOf list parent last at }
+    {
+        match self.nodes.get(at) {
+            Some(node) => node.parent == parent && node.last == last,
+            None => false,
         }
     }
 }
