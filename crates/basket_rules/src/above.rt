@@ -1,14 +1,14 @@
 //! What the supersets with one item more say of the sets of a list.
-ghost use Rattle.std.specs.Prelude.{◌≡◌, ◌≤◌, ◌<◌, IfOk, IfSome, IfNone, List, OnOk, length};
+ghost use Rattle.std.specs.Prelude.{◌≡◌, ◌≤◌, ◌<◌, ◌+◌, IfOk, IfSome, IfNone, List, OnOk, length};
 ghost use Rattle.basket_sets.specs.declared.counted.Counted.{Counted};
 ghost use Rattle.basket_rules.specs.Above.{AreGreatestAbove, AreSized, IsBefore, WasSeen};
 ghost use Rattle.basket_rules.specs.Listed.{set_at};
 ghost use Rattle.basket_rules.specs.Search.{IsMissing};
 ghost use Rattle.basket_rules.specs.Subset.{without};
-ghost use Rattle.basket_rules.specs.Tree.{AreColumnsOf, AreNodesOf, IsColumnOf};
+ghost use Rattle.basket_rules.specs.Tree.{AreColumnsOf, AreNodesOf, ArePlacesOf, IsColumnOf, IsPlaceOf};
 
 use crate::search::find_near;
-use crate::tree::{Column, Cursor, NOWHERE, Tree, short};
+use crate::tree::{Column, NOWHERE, Tree, short};
 use basket_core::Counted;
 use std::alloc::{AllocError, Global};
 
@@ -109,11 +109,12 @@ fn raise_column(
     ensures column { IfOk result (λ raised. IsColumnOf sets.now pass.place raised) }
     ensures raised { OnOk result (AreGreatestAbove sets.now (WasSeen pass.start pass.end pass.place pass.end) counts.new) }
 {
-    let mut places = Vec::with_capacity(alloc, pass.end - pass.start)?;
-    let mut cursor = Cursor::new();
+    let mut places = places_below(alloc, sets, tree, column, pass)?;
+    let mut hint = 0;
     for number in pass.start..pass.end {
-        let below = find_below(sets, tree, column, pass, number, &mut cursor);
-        places.push(short(below))?;
+        let known = places[number - pass.start];
+        let below = find_below(sets, known, pass, number, &mut hint);
+        places[number - pass.start] = short(below);
         if let Some(at) = below {
             counts[at] = counts[at].max(tree.nodes[number].count);
         }
@@ -124,60 +125,79 @@ fn raise_column(
     })
 }
 
-/// Where the set at `number` stands without the item at the place of the pass.
-fn find_below(
+/// Where the sets of a pass stand without the item at its place, as far as the tree says it.
+fn places_below(
+    alloc: Global,
     sets: &[Counted],
     tree: &Tree,
     column: &Column,
     pass: Pass,
+) -> Result<Vec<u32>, AllocError>
+    requires ordered { pass.start ≤ pass.end }
+    requires within { pass.end ≤ length sets.now }
+    requires sized { AreSized sets.now pass.start pass.end pass.size }
+    requires place { pass.place < pass.size }
+    requires tree { AreNodesOf sets.now tree.now.nodes.items }
+    requires column { IsColumnOf sets.now pass.place column.now }
+    ensures long { IfOk result (λ places. pass.start + length places.items ≡ pass.end) }
+    ensures places { IfOk result (λ places. ArePlacesOf sets.now pass.start pass.place places.items) }
+{
+    let mut places = Vec::with_capacity(alloc, pass.end - pass.start)?;
+    for number in pass.start..pass.end {
+        places.push(place_below(tree, column, pass, number))?;
+    }
+    Ok(places)
+}
+
+/// The place of the set at `number` without the item at the place of the pass, as far as the tree
+/// says it. The set without its last item is the parent. The set without another is a child of the
+/// parent without that item.
+fn place_below(tree: &Tree, column: &Column, pass: Pass, number: usize) -> u32
+    requires listed { number < length tree.now.nodes.items }
+    requires place { pass.place < pass.size }
+    ensures { (list : List Counted) → AreNodesOf list tree.now.nodes.items → IsColumnOf list pass.place column.now → length (set_at list number) ≡ pass.size
+        → IsPlaceOf list (without pass.place (set_at list number)) result }
+{
+    let node = tree.nodes[number];
+    if node.parent == NOWHERE {
+        return NOWHERE;
+    }
+    if pass.place + 1 == pass.size {
+        return node.parent;
+    }
+    let shorter = column.place_of(node.parent);
+    if shorter == NOWHERE {
+        return NOWHERE;
+    }
+    tree.child(shorter, node.last)
+}
+
+/// Where the set at `number` stands without the item at the place of the pass, which is known or
+/// else looked for.
+fn find_below(
+    sets: &[Counted],
+    known: u32,
+    pass: Pass,
     number: usize,
-    cursor: &mut Cursor,
+    hint: &mut usize,
 ) -> Option<usize>
     requires listed { number < length sets.now }
     requires sized { length (set_at sets.now number) ≡ pass.size }
     requires place { pass.place < pass.size }
-    requires tree { AreNodesOf sets.now tree.now.nodes.items }
-    requires column { IsColumnOf sets.now pass.place column.now }
+    requires known { IsPlaceOf sets.now (without pass.place (set_at sets.now number)) known }
     ensures bound { IfSome result (λ at. at < length sets.now) }
     ensures found { IfSome result (λ at. set_at sets.now at ≡ without pass.place (set_at sets.now number)) }
     ensures missing { IfNone result (IsMissing sets.now (without pass.place (set_at sets.now number))) }
 {
-    match find_by_parent(tree, column, pass, number, cursor) {
-        Some(at) => Some(at),
-        None => find_without(sets, sets[number].set.items(), pass.place, &mut cursor.next),
+    if known != NOWHERE {
+        return Some(known as usize);
     }
-}
-
-/// The same by the parent in the tree. The set without its last item is the parent. The set without
-/// another is a child of the parent without that item.
-fn find_by_parent(
-    tree: &Tree,
-    column: &Column,
-    pass: Pass,
-    number: usize,
-    cursor: &mut Cursor,
-) -> Option<usize>
-    requires listed { number < length tree.now.nodes.items }
-    requires place { pass.place < pass.size }
-    ensures { (list : List Counted) → AreNodesOf list tree.now.nodes.items → IsColumnOf list pass.place column.now → length (set_at list number) ≡ pass.size
-        → IfSome result (λ at. (at < length list) × (set_at list at ≡ without pass.place (set_at list number))) }
-{
-    let node = tree.nodes[number];
-    if node.parent == NOWHERE {
-        return None;
-    }
-    if pass.place + 1 == pass.size {
-        return Some(node.parent as usize);
-    }
-    let shorter = column.place_of(node.parent);
-    if shorter == NOWHERE {
-        return None;
-    }
-    tree.child(shorter, node.last, cursor)
+    find_without(sets, sets[number].set.items(), pass.place, hint)
 }
 
 /// Where the items without the one at the place are a set of the list. The search begins at the
 /// hint, which then becomes the place where it ended.
+#[inline(never)]
 fn find_without(sets: &[Counted], items: &[u32], place: usize, hint: &mut usize) -> Option<usize>
     requires { place < length items.now }
     ensures bound { IfSome result (λ at. at < length sets.now) }

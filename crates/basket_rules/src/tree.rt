@@ -1,6 +1,6 @@
 //! The list of sets as a prefix tree, in which the parent of a set is the set without its last item.
 //! In report order the children of a set stand side by side.
-ghost use Rattle.std.specs.Prelude.{◌≡◌, ◌≢◌, ◌<◌, IfOk, IfNone, IfSome, IsTrue, List, length, ℕ};
+ghost use Rattle.std.specs.Prelude.{◌≡◌, ◌≢◌, ◌<◌, ◌≤◌, IfOk, IfNone, IfSome, IsTrue, List, length, ℕ};
 ghost use Rattle.basket_sets.specs.declared.counted.Counted.{Counted};
 ghost use Rattle.basket_rules.specs.Listed.{set_at};
 ghost use Rattle.basket_rules.specs.Subset.{without};
@@ -140,9 +140,9 @@ impl Children {
     }
 
     /// The place of the child by its last item, or one before it where that is far from the first.
-    fn place_of(&self, last: u32) -> usize {
+    fn place_of(&self, last: u32) -> u32 {
         let smaller = self.items & bit(last.wrapping_sub(self.first_item)).wrapping_sub(1);
-        (self.first as usize).saturating_add(smaller.count_ones() as usize)
+        self.first.wrapping_add(smaller.count_ones())
     }
 }
 
@@ -179,25 +179,33 @@ impl Tree {
         Ok(Tree { nodes, children })
     }
 
-    /// The child of a set by its last item, if it stands where it is guessed, or a little behind that
-    /// or behind the cursor.
-    pub fn child(&self, parent: u32, last: u32, cursor: &mut Cursor) -> Option<usize>
-        ensures { (list : List Counted) → AreNodesOf list self.now.nodes.items → parent ≢ NOWHERE
-            → IfSome result (λ at. (at < length list) × IsChildOf list parent last at) }
+    /// The place of the child of a set by its last item, if it stands where it is guessed or the tree
+    /// is that of a list in report order.
+    pub fn child(&self, parent: u32, last: u32) -> u32
+        ensures { (list : List Counted) → AreNodesOf list self.now.nodes.items → parent ≢ NOWHERE → result ≢ NOWHERE
+            → (result < length list) × IsChildOf list parent last result }
     {
-        let guess = self.children.get(parent as usize)?.place_of(last);
-        if self.is_child(guess, parent, last) {
-            return Some(guess);
+        let Some(children) = self.children.get(parent as usize) else {
+            return NOWHERE;
+        };
+        let guess = children.place_of(last);
+        if self.is_child(guess as usize, parent, last) {
+            return guess;
         }
-        if cursor.parent != parent {
-            cursor.parent = parent;
-            cursor.next = guess;
-        }
-        cursor.next = next_child(&self.nodes, cursor.next, last);
-        if self.is_child(cursor.next, parent, last) {
-            Some(cursor.next)
+        self.far_child(guess as usize, parent, last)
+    }
+
+    /// The same from a place before it.
+    #[inline(never)]
+    fn far_child(&self, start: usize, parent: u32, last: u32) -> u32
+        ensures { (list : List Counted) → AreNodesOf list self.now.nodes.items → parent ≢ NOWHERE → result ≢ NOWHERE
+            → (result < length list) × IsChildOf list parent last result }
+    {
+        let at = next_child(&self.nodes, start, parent, last);
+        if self.is_child(at, parent, last) {
+            short(Some(at))
         } else {
-            None
+            NOWHERE
         }
     }
 
@@ -213,30 +221,31 @@ impl Tree {
     }
 }
 
-/// The first place from `start` on whose last item isn't smaller, if it isn't far.
-fn next_child(nodes: &[Node], start: usize, last: u32) -> usize {
-    let end = start.saturating_add(MOST_STEPS).min(nodes.len());
-    let mut next = start;
-    while next < end && nodes[next].last < last {
-        next += 1;
-    }
-    next
+/// The first place from `start` on that isn't that of a child with a smaller last item.
+fn next_child(nodes: &[Node], start: usize, parent: u32, last: u32) -> usize {
+    let end = end_of_smaller(nodes, start, parent, last);
+    let start = start.min(end);
+    start + nodes[start..end].partition_point(|node| is_smaller(node, parent, last))
 }
 
-/// Where the search for the next set begins: among the children of a set.
-#[derive(Clone, Copy, Debug)]
-pub struct Cursor {
-    parent: u32,
-    pub next: usize,
-}
-
-impl Cursor {
-    pub fn new() -> Self {
-        Cursor {
-            parent: NOWHERE,
-            next: 0,
+/// A place behind the children from `start` on with a smaller last item, in steps that double.
+fn end_of_smaller(nodes: &[Node], start: usize, parent: u32, last: u32) -> usize
+    ensures { result ≤ length nodes.now }
+{
+    for exponent in 0..usize::BITS {
+        let place = start.saturating_add(1 << exponent);
+        match nodes.get(place) {
+            Some(node) if is_smaller(node, parent, last) => {}
+            Some(_) => return place,
+            None => return nodes.len(),
         }
     }
+    nodes.len()
+}
+
+/// Whether a node is a child with a smaller last item.
+fn is_smaller(node: &Node, parent: u32, last: u32) -> bool {
+    node.parent == parent && node.last < last
 }
 
 /// Where the sets from `start` on stand without the item at one place.
