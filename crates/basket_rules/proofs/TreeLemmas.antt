@@ -1,8 +1,8 @@
 -- Sets and their parents in the tree.
-use Rattle.std.proofs.Common.{◌≡◌, ◌≢◌, ℕ, Option, Some, None, IfSome, IfNone, ◌+◌, ◌-◌, ◌<◌, ◌≤◌, List, [], ◌∷◌, ◌++◌, length, take, get_or, set, refl, sym, ap, ◌∙◌, subst, inl, inr, arith, zero, suc, get_or-set_other, get_or-set_same}
+use Rattle.std.proofs.Common.{◌≡◌, ◌≢◌, ℕ, Option, Some, None, IfSome, IfNone, ◌+◌, ◌-◌, ◌<◌, ◌≤◌, List, [], ◌∷◌, ◌++◌, length, take, get_or, set, replicate, refl, sym, ap, ◌∙◌, subst, inl, inr, arith, zero, suc, get_or-set_other, get_or-set_same}
 use Rattle.std.proofs.Math.Seq.{get_or-append_seam}
 use Rattle.std.proofs.lemmas.Bool.{cases_lt, cases_eq}
-use Rattle.std.proofs.lemmas.List.{length-append, length-set, get_or_append_left, get_or_past, take_more, take_all}
+use Rattle.std.proofs.lemmas.List.{length-append, length-set, length-replicate, get_or-replicate, get_or_append_left, get_or_past, take_more, take_all}
 use Rattle.basket_sets.specs.declared.counted.Counted.{Counted}
 use Rattle.basket_rules.specs.Listed.{set_at}
 use Rattle.basket_rules.specs.Subset.{without}
@@ -97,6 +97,13 @@ pub places_more : (list : List Counted) (start place number : ℕ) (numbers : Li
 places_more list start place number numbers more long all here =
     each_more (λ offset n. IsPlaceOf list (without place (set_at list (start + offset))) n) numbers more NOWHERE all
     (subst (λ n. IsPlaceOf list (without place (set_at list n)) more) long here)
+
+-- numbers that say nothing are places of any sets
+pub places_none : (list : List Counted) (start place count : ℕ) → ArePlacesOf list start place (replicate count NOWHERE)
+places_none list start place count offset below known =
+    let long = length-replicate count NOWHERE in
+    let none : get_or (replicate count NOWHERE) offset NOWHERE ≡ NOWHERE = get_or-replicate count offset NOWHERE NOWHERE (omega arith) in
+    absurd (known none)
 
 -- the place of one of the sets, once more
 pub places_set : (list : List Counted) (start place number : ℕ) (numbers : List ℕ) (offset again : ℕ) → start + offset ≡ number → offset < length numbers → ArePlacesOf list start place numbers

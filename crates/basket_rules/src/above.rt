@@ -1,11 +1,11 @@
 //! What the supersets with one item more say of the sets of a list.
-ghost use Rattle.std.specs.Prelude.{◌≡◌, ◌≤◌, ◌<◌, ◌+◌, IfOk, IfSome, IfNone, List, OnOk, length};
+ghost use Rattle.std.specs.Prelude.{◌≡◌, ◌≤◌, ◌<◌, ◌+◌, IfOk, IfSome, IfNone, List, OnOk, length, max};
 ghost use Rattle.basket_sets.specs.declared.counted.Counted.{Counted};
 ghost use Rattle.basket_rules.specs.Above.{AreGreatestAbove, AreSized, IsBefore, WasSeen};
 ghost use Rattle.basket_rules.specs.Listed.{set_at};
 ghost use Rattle.basket_rules.specs.Search.{IsMissing};
 ghost use Rattle.basket_rules.specs.Subset.{without};
-ghost use Rattle.basket_rules.specs.Tree.{AreColumnsOf, AreNodesOf, ArePlacesOf, IsColumnOf, IsPlaceOf};
+ghost use Rattle.basket_rules.specs.Tree.{AreColumnsOf, AreNodesOf, ArePlacesOf, IsColumnOf, IsPlaceOf, IsTreeOf};
 
 use crate::search::find_near;
 use crate::tree::{Column, NOWHERE, Tree, short};
@@ -26,54 +26,38 @@ struct Pass {
 pub fn greatest_above(alloc: Global, sets: &[Counted]) -> Result<Vec<u64>, AllocError>
     ensures { IfOk result (λ counts. AreGreatestAbove sets.now (IsBefore (length sets.now)) counts.items) }
 {
-    let tree = Tree::of(alloc, sets)?;
+    let mut tree = Tree::new(alloc, sets.len())?;
     let mut counts = vec![in alloc; 0; sets.len()]?;
     let mut columns = Vec::new(alloc);
     let mut start = 0;
     while start < sets.len() {
-        let end = end_of_size(sets, start);
-        columns = raise_below(alloc, sets, &tree, &columns, start, end, &mut counts)?;
-        start = end;
+        let size = tree.add_size(sets)?;
+        columns = raise_below(alloc, sets, &tree, &columns, start, size, &mut counts)?;
+        start = tree.nodes.len();
     }
     Ok(counts)
 }
 
-/// Where the sets end that have the size of the one at `start` and stand behind it.
-fn end_of_size(sets: &[Counted], start: usize) -> usize
-    requires { start < length sets.now }
-    ensures more { start < result }
-    ensures within { result ≤ length sets.now }
-    ensures sized { AreSized sets.now start result (length (set_at sets.now start)) }
-{
-    let size = sets[start].set.len();
-    let mut end = start + 1;
-    while end < sets.len() && sets[end].set.len() == size {
-        end += 1;
-    }
-    end
-}
-
-/// Raises the counts beside the subsets of the sets from `start` up to `end` that have one item
-/// less. Gives the columns of these sets, by those of the sets of one item less.
+/// Raises the counts beside the subsets of the sets from `start` on that have one item less. Gives
+/// the columns of these sets, by those of the sets of one item less.
 fn raise_below(
     alloc: Global,
     sets: &[Counted],
     tree: &Tree,
     columns: &[Column],
     start: usize,
-    end: usize,
+    size: usize,
     counts: &mut [u64],
 ) -> Result<Vec<Column>, AllocError>
-    requires some { start < end }
-    requires within { end ≤ length sets.now }
-    requires sized { AreSized sets.now start end (length (set_at sets.now start)) }
-    requires tree { AreNodesOf sets.now tree.now.nodes.items }
+    requires ordered { start ≤ length tree.now.nodes.items }
+    requires sized { AreSized sets.now start (length tree.now.nodes.items) size }
+    requires tree { IsTreeOf sets.now tree.now }
     requires columns { AreColumnsOf sets.now columns.now }
     requires before { AreGreatestAbove sets.now (IsBefore start) counts.old }
     ensures columns { IfOk result (λ raised. AreColumnsOf sets.now raised.items) }
-    ensures raised { OnOk result (AreGreatestAbove sets.now (IsBefore end) counts.new) }
+    ensures raised { OnOk result (AreGreatestAbove sets.now (IsBefore (length tree.now.nodes.items)) counts.new) }
 {
-    let size = sets[start].set.len();
+    let end = tree.nodes.len();
     let none = Column::none(alloc);
     let mut raised = Vec::with_capacity(alloc, size)?;
     for place in 0..size {
@@ -100,10 +84,10 @@ fn raise_column(
     counts: &mut [u64],
 ) -> Result<Column, AllocError>
     requires ordered { pass.start ≤ pass.end }
-    requires within { pass.end ≤ length sets.now }
+    requires within { pass.end ≤ length tree.now.nodes.items }
     requires sized { AreSized sets.now pass.start pass.end pass.size }
     requires place { pass.place < pass.size }
-    requires tree { AreNodesOf sets.now tree.now.nodes.items }
+    requires tree { IsTreeOf sets.now tree.now }
     requires column { IsColumnOf sets.now pass.place column.now }
     requires before { AreGreatestAbove sets.now (WasSeen pass.start pass.end pass.place pass.start) counts.old }
     ensures column { IfOk result (λ raised. IsColumnOf sets.now pass.place raised) }
@@ -112,11 +96,9 @@ fn raise_column(
     let mut places = places_below(alloc, sets, tree, column, pass)?;
     let mut hint = 0;
     for number in pass.start..pass.end {
-        let known = places[number - pass.start];
-        let below = find_below(sets, known, pass, number, &mut hint);
-        places[number - pass.start] = short(below);
-        if let Some(at) = below {
-            counts[at] = counts[at].max(tree.nodes[number].count);
+        let known = &mut places[number - pass.start];
+        if let Some(at) = find_below(sets, pass, number, known, &mut hint) {
+            counts[at] = greater(counts[at], tree.counts[number]);
         }
     }
     Ok(Column {
@@ -134,17 +116,17 @@ fn places_below(
     pass: Pass,
 ) -> Result<Vec<u32>, AllocError>
     requires ordered { pass.start ≤ pass.end }
-    requires within { pass.end ≤ length sets.now }
+    requires within { pass.end ≤ length tree.now.nodes.items }
     requires sized { AreSized sets.now pass.start pass.end pass.size }
     requires place { pass.place < pass.size }
-    requires tree { AreNodesOf sets.now tree.now.nodes.items }
+    requires tree { IsTreeOf sets.now tree.now }
     requires column { IsColumnOf sets.now pass.place column.now }
     ensures long { IfOk result (λ places. pass.start + length places.items ≡ pass.end) }
     ensures places { IfOk result (λ places. ArePlacesOf sets.now pass.start pass.place places.items) }
 {
-    let mut places = Vec::with_capacity(alloc, pass.end - pass.start)?;
+    let mut places = vec![in alloc; NOWHERE; pass.end - pass.start]?;
     for number in pass.start..pass.end {
-        places.push(place_below(tree, column, pass, number))?;
+        places[number - pass.start] = place_below(tree, column, pass, number);
     }
     Ok(places)
 }
@@ -172,27 +154,37 @@ fn place_below(tree: &Tree, column: &Column, pass: Pass, number: usize) -> u32
     tree.child(shorter, node.last)
 }
 
-/// Where the set at `number` stands without the item at the place of the pass, which is known or
-/// else looked for.
+/// The greater of two counts, without a branch.
+fn greater(count: u64, other: u64) -> u64
+    ensures { result ≡ max count other }
+{
+    count + other.saturating_sub(count)
+}
+
+/// Where the set at `number` stands without the item at the place of the pass. Where that isn't
+/// known, it is looked for, and then it is.
 fn find_below(
     sets: &[Counted],
-    known: u32,
     pass: Pass,
     number: usize,
+    known: &mut u32,
     hint: &mut usize,
 ) -> Option<usize>
     requires listed { number < length sets.now }
     requires sized { length (set_at sets.now number) ≡ pass.size }
     requires place { pass.place < pass.size }
-    requires known { IsPlaceOf sets.now (without pass.place (set_at sets.now number)) known }
+    requires known { IsPlaceOf sets.now (without pass.place (set_at sets.now number)) known.old }
     ensures bound { IfSome result (λ at. at < length sets.now) }
     ensures found { IfSome result (λ at. set_at sets.now at ≡ without pass.place (set_at sets.now number)) }
     ensures missing { IfNone result (IsMissing sets.now (without pass.place (set_at sets.now number))) }
+    ensures known { IsPlaceOf sets.now (without pass.place (set_at sets.now number)) known.new }
 {
-    if known != NOWHERE {
-        return Some(known as usize);
+    if *known != NOWHERE {
+        return Some(*known as usize);
     }
-    find_without(sets, sets[number].set.items(), pass.place, hint)
+    let below = find_without(sets, sets[number].set.items(), pass.place, hint);
+    *known = short(below);
+    below
 }
 
 /// Where the items without the one at the place are a set of the list. The search begins at the

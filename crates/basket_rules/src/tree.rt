@@ -1,10 +1,11 @@
 //! The list of sets as a prefix tree, in which the parent of a set is the set without its last item.
 //! In report order the children of a set stand side by side.
-ghost use Rattle.std.specs.Prelude.{◌≡◌, ◌≢◌, ◌<◌, ◌≤◌, IfOk, IfNone, IfSome, IsTrue, List, length, ℕ};
+ghost use Rattle.std.specs.Prelude.{◌≡◌, ◌≢◌, ◌<◌, ◌≤◌, ◌+◌, IfOk, IfNone, IfSome, IsTrue, List, [], OnOk, length, ℕ};
 ghost use Rattle.basket_sets.specs.declared.counted.Counted.{Counted};
+ghost use Rattle.basket_rules.specs.Above.{AreSized};
 ghost use Rattle.basket_rules.specs.Listed.{set_at};
 ghost use Rattle.basket_rules.specs.Subset.{without};
-ghost use Rattle.basket_rules.specs.Tree.{AreNodesOf, IsChildOf, IsColumnOf, IsNodeOf, IsPlaceOf};
+ghost use Rattle.basket_rules.specs.Tree.{AreNodesOf, IsChildOf, IsColumnOf, IsNodeOf, IsPlaceOf, IsTreeOf};
 
 use crate::search::find_near;
 use basket_core::Counted;
@@ -33,20 +34,6 @@ pub struct Node {
     pub parent: u32,
     /// The last item.
     pub last: u32,
-    pub count: u64,
-}
-
-/// The nodes of the sets of the list.
-pub fn nodes_of(alloc: Global, sets: &[Counted]) -> Result<Vec<Node>, AllocError>
-    ensures { IfOk result (λ nodes. AreNodesOf sets.now nodes.items) }
-{
-    let mut nodes = Vec::with_capacity(alloc, sets.len())?;
-    let mut hint = 0;
-    for number in 0..sets.len() {
-        let node = node_of(sets, &nodes, number, &mut hint);
-        nodes.push(node)?;
-    }
-    Ok(nodes)
 }
 
 /// The node of the set at a place. The search for the parent begins at the hint, which then becomes
@@ -55,20 +42,17 @@ fn node_of(sets: &[Counted], before: &[Node], number: usize, hint: &mut usize) -
     requires { number < length sets.now }
     ensures { IsNodeOf sets.now number result }
 {
-    let counted = &sets[number];
-    let items = counted.set.items();
+    let items = sets[number].set.items();
     let size = items.len();
     if size == 0 {
         return Node {
             parent: NOWHERE,
             last: 0,
-            count: counted.count,
         };
     }
     Node {
         parent: parent_of(sets, before, &items[..size - 1], hint),
         last: items[size - 1],
-        count: counted.count,
     }
 }
 
@@ -151,32 +135,62 @@ fn bit(number: u32) -> u64 {
     1u64.checked_shl(number).unwrap_or(0)
 }
 
-/// The children of each set.
-fn children_of(alloc: Global, nodes: &[Node]) -> Result<Vec<Children>, AllocError> {
-    let mut children = vec![in alloc; Children::none(); nodes.len()]?;
-    for number in 0..nodes.len() {
-        let node = nodes[number];
-        if let Some(siblings) = children.get_mut(node.parent as usize) {
-            siblings.add(number, node.last);
-        }
-    }
-    Ok(children)
-}
-
-/// The tree of the list.
+/// The tree of the first sets of the list.
 #[derive(Debug, Drop)]
 pub struct Tree {
     pub nodes: Vec<Node>,
+    pub counts: Vec<u64>,
     children: Vec<Children>,
+    /// Where the search for the next parent begins.
+    hint: usize,
 }
 
 impl Tree {
-    pub fn of(alloc: Global, sets: &[Counted]) -> Result<Self, AllocError>
-        ensures { IfOk result (λ tree. AreNodesOf sets.now tree.nodes.items) }
+    /// That of no set, with room for so many.
+    pub fn new(alloc: Global, room: usize) -> Result<Self, AllocError>
+        ensures none { IfOk result (λ tree. tree.nodes.items ≡ []) }
+        ensures is { IfOk result (λ tree. (list : List Counted) → IsTreeOf list tree) }
     {
-        let nodes = nodes_of(alloc, sets)?;
-        let children = children_of(alloc, &nodes)?;
-        Ok(Tree { nodes, children })
+        Ok(Tree {
+            nodes: Vec::with_capacity(alloc, room)?,
+            counts: Vec::with_capacity(alloc, room)?,
+            children: Vec::with_capacity(alloc, room)?,
+            hint: 0,
+        })
+    }
+
+    /// Adds the next sets, up to one of another size. Answers how many items they have.
+    pub fn add_size(&mut self, sets: &[Counted]) -> Result<usize, AllocError>
+        requires some { length self.old.nodes.items < length sets.now }
+        requires tree { IsTreeOf sets.now self.old }
+        ensures some { OnOk result (length self.old.nodes.items < length self.new.nodes.items) }
+        ensures tree { OnOk result (IsTreeOf sets.now self.new) }
+        ensures sized { IfOk result (λ size. AreSized sets.now (length self.old.nodes.items) (length self.new.nodes.items) size) }
+    {
+        let size = sets[self.nodes.len()].set.len();
+        self.add(sets)?;
+        while self.nodes.len() < sets.len() && sets[self.nodes.len()].set.len() == size {
+            self.add(sets)?;
+        }
+        Ok(size)
+    }
+
+    /// Adds the next set.
+    fn add(&mut self, sets: &[Counted]) -> Result<(), AllocError>
+        requires some { length self.old.nodes.items < length sets.now }
+        requires tree { IsTreeOf sets.now self.old }
+        ensures tree { OnOk result (IsTreeOf sets.now self.new) }
+        ensures one { OnOk result (length self.new.nodes.items ≡ length self.old.nodes.items + 1) }
+    {
+        let number = self.nodes.len();
+        let node = node_of(sets, &self.nodes, number, &mut self.hint);
+        self.nodes.push(node)?;
+        self.counts.push(sets[number].count)?;
+        self.children.push(Children::none())?;
+        if let Some(siblings) = self.children.get_mut(node.parent as usize) {
+            siblings.add(number, node.last);
+        }
+        Ok(())
     }
 
     /// The place of the child of a set by its last item, if it stands where it is guessed or the tree
