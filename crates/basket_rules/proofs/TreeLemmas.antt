@@ -1,8 +1,8 @@
 -- Sets and their parents in the tree.
-use Rattle.std.proofs.Common.{◌≡◌, ◌≢◌, ℕ, Option, Some, None, IfSome, IfNone, ◌+◌, ◌-◌, ◌<◌, ◌≤◌, List, [], ◌∷◌, ◌++◌, length, take, get_or, refl, sym, ap, ◌∙◌, subst, inl, inr, arith, zero, suc}
+use Rattle.std.proofs.Common.{◌≡◌, ◌≢◌, ℕ, Option, Some, None, IfSome, IfNone, ◌+◌, ◌-◌, ◌<◌, ◌≤◌, List, [], ◌∷◌, ◌++◌, length, take, get_or, set, replicate, refl, sym, ap, ◌∙◌, subst, inl, inr, arith, zero, suc, get_or-set_other, get_or-set_same}
 use Rattle.std.proofs.Math.Seq.{get_or-append_seam}
-use Rattle.std.proofs.lemmas.Bool.{cases_lt}
-use Rattle.std.proofs.lemmas.List.{length-append, get_or_append_left, get_or_past, take_more, take_all}
+use Rattle.std.proofs.lemmas.Bool.{cases_lt, cases_eq}
+use Rattle.std.proofs.lemmas.List.{length-append, length-set, length-replicate, get_or-replicate, get_or_append_left, get_or_past, take_more, take_all}
 use Rattle.basket_sets.specs.declared.counted.Counted.{Counted}
 use Rattle.basket_rules.specs.Listed.{set_at}
 use Rattle.basket_rules.specs.Subset.{without}
@@ -20,6 +20,14 @@ each_more P xs x d each one k below = elim (cases_lt k (length xs)) [
   | inr more ↦ (let long = length-append xs (x ∷ []) in
       let here : length xs ≡ k = omega arith in
       subst (λ n. P n (get_or (xs ++ x ∷ []) n d)) here (subst (P (length xs)) (sym (get_or-append_seam xs x [] d)) one))
+]
+
+-- what holds of each of a list, and of another in the place of one
+pub each_set : {X : Type 0} (P : ℕ → X → Type 0) (xs : List X) (at : ℕ) (x : X) (d : X) → ((k : ℕ) → k < length xs → P k (get_or xs k d)) → at < length xs → P at x
+    → (k : ℕ) → k < length (set xs at x) → P k (get_or (set xs at x) k d)
+each_set P xs at x d each within one k below = elim (cases_eq k at) [
+  | inl same ↦ subst (λ n. P n (get_or (set xs at x) n d)) (sym same) (subst (P at) (sym (get_or-set_same xs at x d within)) one)
+  | inr other ↦ (let long = length-set xs at x in subst (P k) (sym (get_or-set_other xs at k x d other)) (each k (omega arith)))
 ]
 
 -- what holds of what was found, holds still
@@ -89,3 +97,17 @@ pub places_more : (list : List Counted) (start place number : ℕ) (numbers : Li
 places_more list start place number numbers more long all here =
     each_more (λ offset n. IsPlaceOf list (without place (set_at list (start + offset))) n) numbers more NOWHERE all
     (subst (λ n. IsPlaceOf list (without place (set_at list n)) more) long here)
+
+-- numbers that say nothing are places of any sets
+pub places_none : (list : List Counted) (start place count : ℕ) → ArePlacesOf list start place (replicate count NOWHERE)
+places_none list start place count offset below known =
+    let long = length-replicate count NOWHERE in
+    let none : get_or (replicate count NOWHERE) offset NOWHERE ≡ NOWHERE = get_or-replicate count offset NOWHERE NOWHERE (omega arith) in
+    absurd (known none)
+
+-- the place of one of the sets, once more
+pub places_set : (list : List Counted) (start place number : ℕ) (numbers : List ℕ) (offset again : ℕ) → start + offset ≡ number → offset < length numbers → ArePlacesOf list start place numbers
+    → IsPlaceOf list (without place (set_at list number)) again → ArePlacesOf list start place (set numbers offset again)
+places_set list start place number numbers offset again here within all is =
+    each_set (λ offset n. IsPlaceOf list (without place (set_at list (start + offset))) n) numbers offset again NOWHERE all within
+    (subst (λ n. IsPlaceOf list (without place (set_at list n)) again) (sym here) is)

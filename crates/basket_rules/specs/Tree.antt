@@ -1,8 +1,9 @@
 -- The list of sets as a prefix tree, and where sets stand without one of their items.
-use Rattle.std.specs.Prelude.{◌≡◌, ◌≢◌, ◌<◌, ◌+◌, ℕ, List, [], ◌∷◌, ◌++◌, length, slice_index_or}
+use Rattle.std.specs.Prelude.{◌≡◌, ◌≢◌, ◌<◌, ◌≤◌, ◌+◌, ℕ, List, [], ◌∷◌, ◌++◌, length, slice_index_or}
 use Rattle.basket_sets.specs.declared.counted.Counted.{Counted}
 use Rattle.basket_rules.specs.declared.tree.Node.{Node}
 use Rattle.basket_rules.specs.declared.tree.Column.{Column}
+use Rattle.basket_rules.specs.declared.tree.Tree.{Tree}
 use Rattle.basket_rules.specs.declared.tree.TheConstants.{NOWHERE}
 use Rattle.basket_rules.specs.Listed.{set_at, count_at}
 use Rattle.basket_rules.specs.Subset.{without}
@@ -11,15 +12,24 @@ use Rattle.basket_rules.specs.Subset.{without}
 abbrev pub IsChildOf : List Counted → ℕ → ℕ → ℕ → Type 0
 IsChildOf list parent item place = (parent < length list) × (set_at list place ≡ set_at list parent ++ item ∷ [])
 
--- a node has the count of the set at a place, and if it names a parent, the set is a child of that
-pub record IsNodeOf (list : List Counted) (place : ℕ) (node : Node) : Type 0 where
-  pub counted : node.count ≡ count_at list place
-  pub parent : node.parent ≢ NOWHERE → IsChildOf list node.parent node.last place
+-- if a node names a parent, the set at a place is a child of that
+abbrev pub IsNodeOf : List Counted → ℕ → Node → Type 0
+IsNodeOf list place node = node.parent ≢ NOWHERE → IsChildOf list node.parent node.last place
 
--- the nodes are those of the list
+-- the nodes are those of the first sets of the list
 pub record AreNodesOf (list : List Counted) (nodes : List Node) : Type 0 where
-  pub long : length nodes ≡ length list
-  pub each : (place : ℕ) (none : Node) → place < length list → IsNodeOf list place (slice_index_or nodes place none)
+  pub within : length nodes ≤ length list
+  pub each : (place : ℕ) (none : Node) → place < length nodes → IsNodeOf list place (slice_index_or nodes place none)
+
+-- the counts are those of the first sets of the list
+abbrev pub AreCountsOf : List Counted → List ℕ → Type 0
+AreCountsOf list counts = (place : ℕ) → place < length counts → slice_index_or counts place 0 ≡ count_at list place
+
+-- a tree has the nodes and the counts of the first sets of the list
+pub record IsTreeOf (list : List Counted) (tree : Tree) : Type 0 where
+  pub nodes : AreNodesOf list tree.nodes.items
+  pub long : length tree.counts.items ≡ length tree.nodes.items
+  pub counts : AreCountsOf list tree.counts.items
 
 -- a number is the place of a set, or says nothing
 abbrev pub IsPlaceOf : List Counted → List ℕ → ℕ → Type 0

@@ -1,14 +1,14 @@
 //! What the supersets with one item more say of the sets of a list.
-ghost use Rattle.std.specs.Prelude.{◌≡◌, ◌≤◌, ◌<◌, IfOk, IfSome, IfNone, List, OnOk, length};
+ghost use Rattle.std.specs.Prelude.{◌≡◌, ◌≤◌, ◌<◌, ◌+◌, IfOk, IfSome, IfNone, List, OnOk, length, max};
 ghost use Rattle.basket_sets.specs.declared.counted.Counted.{Counted};
 ghost use Rattle.basket_rules.specs.Above.{AreGreatestAbove, AreSized, IsBefore, WasSeen};
 ghost use Rattle.basket_rules.specs.Listed.{set_at};
 ghost use Rattle.basket_rules.specs.Search.{IsMissing};
 ghost use Rattle.basket_rules.specs.Subset.{without};
-ghost use Rattle.basket_rules.specs.Tree.{AreColumnsOf, AreNodesOf, IsColumnOf};
+ghost use Rattle.basket_rules.specs.Tree.{AreColumnsOf, AreNodesOf, ArePlacesOf, IsColumnOf, IsPlaceOf, IsTreeOf};
 
 use crate::search::find_near;
-use crate::tree::{Column, Cursor, NOWHERE, Tree, short};
+use crate::tree::{Column, NOWHERE, Tree, short};
 use basket_core::Counted;
 use std::alloc::{AllocError, Global};
 
@@ -26,54 +26,38 @@ struct Pass {
 pub fn greatest_above(alloc: Global, sets: &[Counted]) -> Result<Vec<u64>, AllocError>
     ensures { IfOk result (λ counts. AreGreatestAbove sets.now (IsBefore (length sets.now)) counts.items) }
 {
-    let tree = Tree::of(alloc, sets)?;
+    let mut tree = Tree::new(alloc, sets.len())?;
     let mut counts = vec![in alloc; 0; sets.len()]?;
     let mut columns = Vec::new(alloc);
     let mut start = 0;
     while start < sets.len() {
-        let end = end_of_size(sets, start);
-        columns = raise_below(alloc, sets, &tree, &columns, start, end, &mut counts)?;
-        start = end;
+        let size = tree.add_size(sets)?;
+        columns = raise_below(alloc, sets, &tree, &columns, start, size, &mut counts)?;
+        start = tree.nodes.len();
     }
     Ok(counts)
 }
 
-/// Where the sets end that have the size of the one at `start` and stand behind it.
-fn end_of_size(sets: &[Counted], start: usize) -> usize
-    requires { start < length sets.now }
-    ensures more { start < result }
-    ensures within { result ≤ length sets.now }
-    ensures sized { AreSized sets.now start result (length (set_at sets.now start)) }
-{
-    let size = sets[start].set.len();
-    let mut end = start + 1;
-    while end < sets.len() && sets[end].set.len() == size {
-        end += 1;
-    }
-    end
-}
-
-/// Raises the counts beside the subsets of the sets from `start` up to `end` that have one item
-/// less. Gives the columns of these sets, by those of the sets of one item less.
+/// Raises the counts beside the subsets of the sets from `start` on that have one item less. Gives
+/// the columns of these sets, by those of the sets of one item less.
 fn raise_below(
     alloc: Global,
     sets: &[Counted],
     tree: &Tree,
     columns: &[Column],
     start: usize,
-    end: usize,
+    size: usize,
     counts: &mut [u64],
 ) -> Result<Vec<Column>, AllocError>
-    requires some { start < end }
-    requires within { end ≤ length sets.now }
-    requires sized { AreSized sets.now start end (length (set_at sets.now start)) }
-    requires tree { AreNodesOf sets.now tree.now.nodes.items }
+    requires ordered { start ≤ length tree.now.nodes.items }
+    requires sized { AreSized sets.now start (length tree.now.nodes.items) size }
+    requires tree { IsTreeOf sets.now tree.now }
     requires columns { AreColumnsOf sets.now columns.now }
     requires before { AreGreatestAbove sets.now (IsBefore start) counts.old }
     ensures columns { IfOk result (λ raised. AreColumnsOf sets.now raised.items) }
-    ensures raised { OnOk result (AreGreatestAbove sets.now (IsBefore end) counts.new) }
+    ensures raised { OnOk result (AreGreatestAbove sets.now (IsBefore (length tree.now.nodes.items)) counts.new) }
 {
-    let size = sets[start].set.len();
+    let end = tree.nodes.len();
     let none = Column::none(alloc);
     let mut raised = Vec::with_capacity(alloc, size)?;
     for place in 0..size {
@@ -100,22 +84,21 @@ fn raise_column(
     counts: &mut [u64],
 ) -> Result<Column, AllocError>
     requires ordered { pass.start ≤ pass.end }
-    requires within { pass.end ≤ length sets.now }
+    requires within { pass.end ≤ length tree.now.nodes.items }
     requires sized { AreSized sets.now pass.start pass.end pass.size }
     requires place { pass.place < pass.size }
-    requires tree { AreNodesOf sets.now tree.now.nodes.items }
+    requires tree { IsTreeOf sets.now tree.now }
     requires column { IsColumnOf sets.now pass.place column.now }
     requires before { AreGreatestAbove sets.now (WasSeen pass.start pass.end pass.place pass.start) counts.old }
     ensures column { IfOk result (λ raised. IsColumnOf sets.now pass.place raised) }
     ensures raised { OnOk result (AreGreatestAbove sets.now (WasSeen pass.start pass.end pass.place pass.end) counts.new) }
 {
-    let mut places = Vec::with_capacity(alloc, pass.end - pass.start)?;
-    let mut cursor = Cursor::new();
+    let mut places = places_below(alloc, sets, tree, column, pass)?;
+    let mut hint = 0;
     for number in pass.start..pass.end {
-        let below = find_below(sets, tree, column, pass, number, &mut cursor);
-        places.push(short(below))?;
-        if let Some(at) = below {
-            counts[at] = counts[at].max(tree.nodes[number].count);
+        let known = &mut places[number - pass.start];
+        if let Some(at) = find_below(sets, pass, number, known, &mut hint) {
+            counts[at] = greater(counts[at], tree.counts[number]);
         }
     }
     Ok(Column {
@@ -124,60 +107,89 @@ fn raise_column(
     })
 }
 
-/// Where the set at `number` stands without the item at the place of the pass.
-fn find_below(
+/// Where the sets of a pass stand without the item at its place, as far as the tree says it.
+fn places_below(
+    alloc: Global,
     sets: &[Counted],
     tree: &Tree,
     column: &Column,
     pass: Pass,
+) -> Result<Vec<u32>, AllocError>
+    requires ordered { pass.start ≤ pass.end }
+    requires within { pass.end ≤ length tree.now.nodes.items }
+    requires sized { AreSized sets.now pass.start pass.end pass.size }
+    requires place { pass.place < pass.size }
+    requires tree { IsTreeOf sets.now tree.now }
+    requires column { IsColumnOf sets.now pass.place column.now }
+    ensures long { IfOk result (λ places. pass.start + length places.items ≡ pass.end) }
+    ensures places { IfOk result (λ places. ArePlacesOf sets.now pass.start pass.place places.items) }
+{
+    let mut places = vec![in alloc; NOWHERE; pass.end - pass.start]?;
+    for number in pass.start..pass.end {
+        places[number - pass.start] = place_below(tree, column, pass, number);
+    }
+    Ok(places)
+}
+
+/// The place of the set at `number` without the item at the place of the pass, as far as the tree
+/// says it. The set without its last item is the parent. The set without another is a child of the
+/// parent without that item.
+fn place_below(tree: &Tree, column: &Column, pass: Pass, number: usize) -> u32
+    requires listed { number < length tree.now.nodes.items }
+    requires place { pass.place < pass.size }
+    ensures { (list : List Counted) → AreNodesOf list tree.now.nodes.items → IsColumnOf list pass.place column.now → length (set_at list number) ≡ pass.size
+        → IsPlaceOf list (without pass.place (set_at list number)) result }
+{
+    let node = tree.nodes[number];
+    if node.parent == NOWHERE {
+        return NOWHERE;
+    }
+    if pass.place + 1 == pass.size {
+        return node.parent;
+    }
+    let shorter = column.place_of(node.parent);
+    if shorter == NOWHERE {
+        return NOWHERE;
+    }
+    tree.child(shorter, node.last)
+}
+
+/// The greater of two counts, without a branch.
+fn greater(count: u64, other: u64) -> u64
+    ensures { result ≡ max count other }
+{
+    count + other.saturating_sub(count)
+}
+
+/// Where the set at `number` stands without the item at the place of the pass. Where that isn't
+/// known, it is looked for, and then it is.
+fn find_below(
+    sets: &[Counted],
+    pass: Pass,
     number: usize,
-    cursor: &mut Cursor,
+    known: &mut u32,
+    hint: &mut usize,
 ) -> Option<usize>
     requires listed { number < length sets.now }
     requires sized { length (set_at sets.now number) ≡ pass.size }
     requires place { pass.place < pass.size }
-    requires tree { AreNodesOf sets.now tree.now.nodes.items }
-    requires column { IsColumnOf sets.now pass.place column.now }
+    requires known { IsPlaceOf sets.now (without pass.place (set_at sets.now number)) known.old }
     ensures bound { IfSome result (λ at. at < length sets.now) }
     ensures found { IfSome result (λ at. set_at sets.now at ≡ without pass.place (set_at sets.now number)) }
     ensures missing { IfNone result (IsMissing sets.now (without pass.place (set_at sets.now number))) }
+    ensures known { IsPlaceOf sets.now (without pass.place (set_at sets.now number)) known.new }
 {
-    match find_by_parent(tree, column, pass, number, cursor) {
-        Some(at) => Some(at),
-        None => find_without(sets, sets[number].set.items(), pass.place, &mut cursor.next),
+    if *known != NOWHERE {
+        return Some(*known as usize);
     }
-}
-
-/// The same by the parent in the tree. The set without its last item is the parent. The set without
-/// another is a child of the parent without that item.
-fn find_by_parent(
-    tree: &Tree,
-    column: &Column,
-    pass: Pass,
-    number: usize,
-    cursor: &mut Cursor,
-) -> Option<usize>
-    requires listed { number < length tree.now.nodes.items }
-    requires place { pass.place < pass.size }
-    ensures { (list : List Counted) → AreNodesOf list tree.now.nodes.items → IsColumnOf list pass.place column.now → length (set_at list number) ≡ pass.size
-        → IfSome result (λ at. (at < length list) × (set_at list at ≡ without pass.place (set_at list number))) }
-{
-    let node = tree.nodes[number];
-    if node.parent == NOWHERE {
-        return None;
-    }
-    if pass.place + 1 == pass.size {
-        return Some(node.parent as usize);
-    }
-    let shorter = column.place_of(node.parent);
-    if shorter == NOWHERE {
-        return None;
-    }
-    tree.child(shorter, node.last, cursor)
+    let below = find_without(sets, sets[number].set.items(), pass.place, hint);
+    *known = short(below);
+    below
 }
 
 /// Where the items without the one at the place are a set of the list. The search begins at the
 /// hint, which then becomes the place where it ended.
+#[inline(never)]
 fn find_without(sets: &[Counted], items: &[u32], place: usize, hint: &mut usize) -> Option<usize>
     requires { place < length items.now }
     ensures bound { IfSome result (λ at. at < length sets.now) }

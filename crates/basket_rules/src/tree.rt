@@ -1,10 +1,11 @@
 //! The list of sets as a prefix tree, in which the parent of a set is the set without its last item.
 //! In report order the children of a set stand side by side.
-ghost use Rattle.std.specs.Prelude.{◌≡◌, ◌≢◌, ◌<◌, IfOk, IfNone, IfSome, List, length, ℕ};
+ghost use Rattle.std.specs.Prelude.{◌≡◌, ◌≢◌, ◌<◌, ◌≤◌, ◌+◌, IfOk, IfNone, IfSome, IsTrue, List, [], OnOk, length, ℕ};
 ghost use Rattle.basket_sets.specs.declared.counted.Counted.{Counted};
+ghost use Rattle.basket_rules.specs.Above.{AreSized};
 ghost use Rattle.basket_rules.specs.Listed.{set_at};
 ghost use Rattle.basket_rules.specs.Subset.{without};
-ghost use Rattle.basket_rules.specs.Tree.{AreNodesOf, IsChildOf, IsColumnOf, IsNodeOf, IsPlaceOf};
+ghost use Rattle.basket_rules.specs.Tree.{AreNodesOf, IsChildOf, IsColumnOf, IsNodeOf, IsPlaceOf, IsTreeOf};
 
 use crate::search::find_near;
 use basket_core::Counted;
@@ -13,7 +14,7 @@ use std::alloc::{AllocError, Global};
 /// Stands for no place.
 pub const NOWHERE: u32 = u32::MAX;
 
-/// How many children are tried before a set is searched for in the list.
+/// How many places are tried before a set is searched for in the list.
 const MOST_STEPS: usize = 32;
 
 /// A place in fewer bits.
@@ -33,48 +34,36 @@ pub struct Node {
     pub parent: u32,
     /// The last item.
     pub last: u32,
-    pub count: u64,
-}
-
-/// The nodes of the sets of the list.
-pub fn nodes_of(alloc: Global, sets: &[Counted]) -> Result<Vec<Node>, AllocError>
-    ensures { IfOk result (λ nodes. AreNodesOf sets.now nodes.items) }
-{
-    let mut nodes = Vec::with_capacity(alloc, sets.len())?;
-    let mut hint = 0;
-    for number in 0..sets.len() {
-        nodes.push(node_of(sets, number, &mut hint))?;
-    }
-    Ok(nodes)
 }
 
 /// The node of the set at a place. The search for the parent begins at the hint, which then becomes
-/// the place where it ended.
-fn node_of(sets: &[Counted], number: usize, hint: &mut usize) -> Node
+/// the place where it ended. The nodes of the sets before spare most comparisons.
+fn node_of(sets: &[Counted], before: &[Node], number: usize, hint: &mut usize) -> Node
     requires { number < length sets.now }
     ensures { IsNodeOf sets.now number result }
 {
-    let counted = &sets[number];
-    let items = counted.set.items();
+    let items = sets[number].set.items();
     let size = items.len();
     if size == 0 {
         return Node {
             parent: NOWHERE,
             last: 0,
-            count: counted.count,
         };
     }
     Node {
-        parent: parent_of(sets, &items[..size - 1], hint),
+        parent: parent_of(sets, before, &items[..size - 1], hint),
         last: items[size - 1],
-        count: counted.count,
     }
 }
 
 /// The place of the set with these items.
-fn parent_of(sets: &[Counted], items: &[u32], hint: &mut usize) -> u32
+fn parent_of(sets: &[Counted], before: &[Node], items: &[u32], hint: &mut usize) -> u32
     ensures { IsPlaceOf sets.now items.now result }
 {
+    if let Some(at) = find_behind(sets, before, items, *hint) {
+        *hint = at;
+        return short(Some(at));
+    }
     match find_near(sets, items, &[], *hint) {
         Ok(at) => {
             *hint = at;
@@ -87,84 +76,190 @@ fn parent_of(sets: &[Counted], items: &[u32], hint: &mut usize) -> u32
     }
 }
 
-/// For each set, the place of its first child, or 0. Nothing is claimed of it.
-pub fn first_children(alloc: Global, nodes: &[Node]) -> Result<Vec<usize>, AllocError> {
-    let mut first = vec![in alloc; 0; nodes.len()]?;
-    for number in (0..nodes.len()).rev() {
-        if let Some(child) = first.get_mut(nodes[number].parent as usize) {
-            *child = number;
+/// The place of the set with these items, if it is the hint or stands a little behind it. A set
+/// with another last item is passed by.
+fn find_behind(sets: &[Counted], before: &[Node], items: &[u32], hint: usize) -> Option<usize>
+    ensures bound { IfSome result (λ at. at < length sets.now) }
+    ensures found { IfSome result (λ at. set_at sets.now at ≡ items.now) }
+{
+    let last = *items.last()?;
+    let end = hint
+        .saturating_add(MOST_STEPS)
+        .min(before.len())
+        .min(sets.len());
+    for at in hint..end {
+        if before[at].last == last && sets[at].set.items() == items {
+            return Some(at);
         }
     }
-    Ok(first)
+    None
 }
 
-/// The tree of the list.
+/// From what the place of a child is guessed. Nothing is claimed of it.
+#[derive(Clone, Copy, Debug)]
+struct Children {
+    /// Those of the next 64 items from that of the first child on that are the last of a child.
+    items: u64,
+    /// The place of the first child, and its last item.
+    first: u32,
+    first_item: u32,
+}
+
+impl Children {
+    fn none() -> Self {
+        Children {
+            items: 0,
+            first: 0,
+            first_item: 0,
+        }
+    }
+
+    /// Adds the one behind all others.
+    fn add(&mut self, number: usize, last: u32) {
+        if self.items == 0 {
+            self.first = short(Some(number));
+            self.first_item = last;
+        }
+        self.items |= bit(last.wrapping_sub(self.first_item));
+    }
+
+    /// The place of the child by its last item, or one before it where that is far from the first.
+    fn place_of(&self, last: u32) -> u32 {
+        let smaller = self.items & bit(last.wrapping_sub(self.first_item)).wrapping_sub(1);
+        self.first.wrapping_add(smaller.count_ones())
+    }
+}
+
+/// The bit of a number, or 0 where a word has none for it.
+fn bit(number: u32) -> u64 {
+    1u64.checked_shl(number).unwrap_or(0)
+}
+
+/// The tree of the first sets of the list.
 #[derive(Debug, Drop)]
 pub struct Tree {
     pub nodes: Vec<Node>,
-    first_children: Vec<usize>,
+    pub counts: Vec<u64>,
+    children: Vec<Children>,
+    /// Where the search for the next parent begins.
+    hint: usize,
 }
 
 impl Tree {
-    pub fn of(alloc: Global, sets: &[Counted]) -> Result<Self, AllocError>
-        ensures { IfOk result (λ tree. AreNodesOf sets.now tree.nodes.items) }
+    /// That of no set, with room for so many.
+    pub fn new(alloc: Global, room: usize) -> Result<Self, AllocError>
+        ensures none { IfOk result (λ tree. tree.nodes.items ≡ []) }
+        ensures is { IfOk result (λ tree. (list : List Counted) → IsTreeOf list tree) }
     {
-        let nodes = nodes_of(alloc, sets)?;
-        let first_children = first_children(alloc, &nodes)?;
         Ok(Tree {
-            nodes,
-            first_children,
+            nodes: Vec::with_capacity(alloc, room)?,
+            counts: Vec::with_capacity(alloc, room)?,
+            children: Vec::with_capacity(alloc, room)?,
+            hint: 0,
         })
     }
 
-    /// The child of a set by its last item. It is looked for from the cursor on, or else from the
-    /// first child on.
-    pub fn child(&self, parent: u32, last: u32, cursor: &mut Cursor) -> Option<usize>
-        ensures { (list : List Counted) → AreNodesOf list self.now.nodes.items → parent ≢ NOWHERE
-            → IfSome result (λ at. (at < length list) × IsChildOf list parent last at) }
+    /// Adds the next sets, up to one of another size. Answers how many items they have.
+    pub fn add_size(&mut self, sets: &[Counted]) -> Result<usize, AllocError>
+        requires some { length self.old.nodes.items < length sets.now }
+        requires tree { IsTreeOf sets.now self.old }
+        ensures some { OnOk result (length self.old.nodes.items < length self.new.nodes.items) }
+        ensures tree { OnOk result (IsTreeOf sets.now self.new) }
+        ensures sized { IfOk result (λ size. AreSized sets.now (length self.old.nodes.items) (length self.new.nodes.items) size) }
     {
-        if cursor.parent != parent {
-            cursor.parent = parent;
-            cursor.next = self
-                .first_children
-                .get(parent as usize)
-                .copied()
-                .unwrap_or(0);
+        let size = sets[self.nodes.len()].set.len();
+        self.add(sets)?;
+        while self.nodes.len() < sets.len() && sets[self.nodes.len()].set.len() == size {
+            self.add(sets)?;
         }
-        cursor.next = next_child(&self.nodes, cursor.next, last);
-        let node = self.nodes.get(cursor.next)?;
-        if node.parent == parent && node.last == last {
-            Some(cursor.next)
+        Ok(size)
+    }
+
+    /// Adds the next set.
+    fn add(&mut self, sets: &[Counted]) -> Result<(), AllocError>
+        requires some { length self.old.nodes.items < length sets.now }
+        requires tree { IsTreeOf sets.now self.old }
+        ensures tree { OnOk result (IsTreeOf sets.now self.new) }
+        ensures one { OnOk result (length self.new.nodes.items ≡ length self.old.nodes.items + 1) }
+    {
+        let number = self.nodes.len();
+        let node = node_of(sets, &self.nodes, number, &mut self.hint);
+        self.nodes.push(node)?;
+        self.counts.push(sets[number].count)?;
+        self.children.push(Children::none())?;
+        if let Some(siblings) = self.children.get_mut(node.parent as usize) {
+            siblings.add(number, node.last);
+        }
+        Ok(())
+    }
+
+    /// The place of the child of a set by its last item, if it stands where it is guessed or the tree
+    /// is that of a list in report order.
+    pub fn child(&self, parent: u32, last: u32) -> u32
+        ensures { (list : List Counted) → AreNodesOf list self.now.nodes.items → parent ≢ NOWHERE → result ≢ NOWHERE
+            → (result < length list) × IsChildOf list parent last result }
+    {
+        let Some(children) = self.children.get(parent as usize) else {
+            return NOWHERE;
+        };
+        let guess = children.place_of(last);
+        if self.is_child(guess as usize, parent, last) {
+            return guess;
+        }
+        self.far_child(guess as usize, parent, last)
+    }
+
+    /// The same from a place before it.
+    #[inline(never)]
+    fn far_child(&self, start: usize, parent: u32, last: u32) -> u32
+        ensures { (list : List Counted) → AreNodesOf list self.now.nodes.items → parent ≢ NOWHERE → result ≢ NOWHERE
+            → (result < length list) × IsChildOf list parent last result }
+    {
+        let at = next_child(&self.nodes, start, parent, last);
+        if self.is_child(at, parent, last) {
+            short(Some(at))
         } else {
-            None
+            NOWHERE
+        }
+    }
+
+    /// Whether the set at a place is the child of another by the item.
+    fn is_child(&self, at: usize, parent: u32, last: u32) -> bool
+        ensures { IsTrue result → (list : List Counted) → AreNodesOf list self.now.nodes.items → parent ≢ NOWHERE
+            → (at < length list) × IsChildOf list parent last at }
+    {
+        match self.nodes.get(at) {
+            Some(node) => node.parent == parent && node.last == last,
+            None => false,
         }
     }
 }
 
-/// The first place from `start` on whose last item isn't smaller, if it isn't far.
-fn next_child(nodes: &[Node], start: usize, last: u32) -> usize {
-    let end = start.saturating_add(MOST_STEPS).min(nodes.len());
-    let mut next = start;
-    while next < end && nodes[next].last < last {
-        next += 1;
-    }
-    next
+/// The first place from `start` on that isn't that of a child with a smaller last item.
+fn next_child(nodes: &[Node], start: usize, parent: u32, last: u32) -> usize {
+    let end = end_of_smaller(nodes, start, parent, last);
+    let start = start.min(end);
+    start + nodes[start..end].partition_point(|node| is_smaller(node, parent, last))
 }
 
-/// Where the search for the next set begins: among the children of a set.
-#[derive(Clone, Copy, Debug)]
-pub struct Cursor {
-    parent: u32,
-    pub next: usize,
-}
-
-impl Cursor {
-    pub fn new() -> Self {
-        Cursor {
-            parent: NOWHERE,
-            next: 0,
+/// A place behind the children from `start` on with a smaller last item, in steps that double.
+fn end_of_smaller(nodes: &[Node], start: usize, parent: u32, last: u32) -> usize
+    ensures { result ≤ length nodes.now }
+{
+    for exponent in 0..usize::BITS {
+        let place = start.saturating_add(1 << exponent);
+        match nodes.get(place) {
+            Some(node) if is_smaller(node, parent, last) => {}
+            Some(_) => return place,
+            None => return nodes.len(),
         }
     }
+    nodes.len()
+}
+
+/// Whether a node is a child with a smaller last item.
+fn is_smaller(node: &Node, parent: u32, last: u32) -> bool {
+    node.parent == parent && node.last < last
 }
 
 /// Where the sets from `start` on stand without the item at one place.

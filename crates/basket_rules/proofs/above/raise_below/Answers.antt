@@ -1,7 +1,6 @@
-use Rattle.std.proofs.Common.{rules, ◌≡◌, ◌<◌, length, get_or, sym, ap, ◌∙◌, subst, arith}
-use Rattle.basket_rules.specs.Listed.{set_at}
+use Rattle.std.proofs.Common.{rules, ◌≡◌, length, get_or, sym, subst, arith}
+use Rattle.basket_rules.specs.Above.{AreGreatestAbove, AreSized, IsBefore}
 use Rattle.basket_rules.specs.Tree.{IsColumnOf}
-use Rattle.basket_rules.proofs.SearchLemmas.{set_is}
 use Rattle.basket_rules.proofs.AboveLemmas.{all_passes}
 use Rattle.basket_rules.proofs.TreeLemmas.{column_at}
 use Rattle.basket_rules.proofs.above.raise_below.Goals as goal
@@ -19,6 +18,8 @@ pub returns-clause-raised : goal.returns-clause-raised
 returns-clause-raised c =
     let list = c.args.sets.now in
     let start = c.args.start in
-    let below : start < length list = omega (arith, c.requires.some, c.requires.within) in
-    let size : c.len-size.result ≡ length (set_at list start) = c.len-size.ensures ∙ ap length (sym (set_is list start c.index-sets-start.result below)) in
-    all_passes list start c.args.end (length (set_at list start)) c.loop-place.place c.loop-place.counts c.requires.sized (omega (arith, size, c.loop-place-test.false)) c.loop-place.invariant.raised
+    let size = c.args.size in
+    let same : c.len-end.result ≡ length c.args.tree.now.nodes.items = omega arith in
+    let sized = subst (λ end. AreSized list start end size) (sym same) c.requires.sized in
+    subst (λ end. AreGreatestAbove list (IsBefore end) c.loop-place.counts) same
+    (all_passes list start c.len-end.result size c.loop-place.place c.loop-place.counts sized c.loop-place-test.false c.loop-place.invariant.raised)
