@@ -1,15 +1,13 @@
 -- Sets whose items stand one behind another.
-use Rattle.std.proofs.Common.{◌≡◌, ℕ, ◌+◌, ◌<◌, ◌≤◌, List, [], ◌∷◌, ◌++◌, length, map, take, drop, get_or, refl, sym, ap, ◌∙◌, subst, arith}
+use Rattle.std.proofs.Common.{◌≡◌, ℕ, ◌+◌, ◌<◌, ◌≤◌, List, [], ◌∷◌, ◌++◌, length, drop, get_or, refl, sym, ap, ◌∙◌, subst, arith}
 use Rattle.std.specs.Prelude.{All}
 use Rattle.std.specs.List.{AllByRecursion, slice_range}
-use Rattle.std.specs.List.Sorted.{IsPermutation}
-use Rattle.std.proofs.lemmas.List.{take-append-le, drop_at, length-append, length-map, map-append, get_or-map}
-use Rattle.std.proofs.lemmas.List.Elements.{All-get_or, All-push, recursion_from_All}
-use Rattle.std.proofs.lemmas.List.Sorted.{All-permutation, IsPermutation-map}
+use Rattle.std.proofs.lemmas.List.{take-append-le, drop_at, length-append, map-append, get_or-map}
+use Rattle.std.proofs.lemmas.List.Elements.{All-push, recursion_from_All}
 use Rattle.std.proofs.lemmas.Slice.{between_is, between_to_end}
 use Rattle.basket_lists.specs.declared.place.Place.{Place}
-use Rattle.basket_lists.specs.CountedSets.{set_at, count_at}
-use Rattle.basket_lists.specs.Plain.{IsPlaceOfSet, IsWithin, placed, placed_sets}
+use Rattle.basket_lists.specs.CountedSets.{set_at}
+use Rattle.basket_lists.specs.Plain.{IsPlaceOfSet, placed, placed_sets}
 use Rattle.basket_sets.specs.declared.counted.Counted.{Counted}
 use Rattle.basket_sets.specs.Itemset.{IsRising}
 

@@ -1,7 +1,7 @@
 use Rattle.std.proofs.Common.{◌≡◌, ℕ, List, ◌+◌, ◌-◌, ◌*◌, ◌%◌, ◌^◌, ◌<◌, ◌≤◌, ◌++◌, ◌∷◌, [], length, get_or, set, take, refl, sym, ap, ◌∙◌, subst, arith}
 use Rattle.std.proofs.Math.Nat.{zero-mul}
 use Rattle.std.proofs.lemmas.Nat.{one_shl}
-use Rattle.std.proofs.lemmas.List.{append_assoc, append-nil, get_or_default, take_more_set}
+use Rattle.std.proofs.lemmas.List.{append_assoc, append-nil, take_more_set}
 use Rattle.basket_lists.specs.Packed.{items_in}
 use Rattle.basket_lists.proofs.PackedLemmas.{highest, items_in-zero, lower_power, moved_high, moved_low, moved_rest}
 use Rattle.basket_lists.proofs.known.put_bits.Goals as goal

@@ -4,7 +4,6 @@ use Rattle.std.specs.List.Sorted.{IsBinarySearchResult}
 use Rattle.std.specs.Ordering.{nat_cmp}
 use Rattle.std.proofs.lemmas.List.{drop_at, length-append, take_all}
 use Rattle.std.proofs.lemmas.List.Edits.{insert-append_right}
-use Rattle.basket_sets.specs.Itemset.{IsRising, with_item}
 use Rattle.basket_sets.proofs.theory.Rising.{with_found, with_put}
 use Rattle.basket_lists.proofs.plain.add_longer.Goals as goal
 

@@ -2,7 +2,6 @@ use Rattle.std.proofs.Common.{◌≡◌, ◌<◌, ◌≤◌, ◌+◌, ◌-◌, l
 use Rattle.std.proofs.lemmas.List.{length-set, get_or_default}
 use Rattle.basket_rules.specs.Above.{AreGreatestAbove, WasSeen}
 use Rattle.basket_rules.specs.Listed.{set_at, count_at}
-use Rattle.basket_rules.specs.Subset.{without}
 use Rattle.basket_rules.proofs.AboveLemmas.{greater, sees_one_more, subset_missing, subset_raised}
 use Rattle.basket_rules.proofs.TreeLemmas.{places_set}
 use Rattle.basket_rules.proofs.above.raise_column.Goals as goal
