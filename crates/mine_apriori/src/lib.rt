@@ -9,6 +9,7 @@
 #![tactic(auto)]
 
 mod endings;
+mod hints;
 mod join;
 pub mod laws;
 mod levels;

@@ -5,11 +5,12 @@ ghost use Rattle.basket_sets.specs.Itemset.{IsRising, has};
 ghost use Rattle.mine_apriori.specs.Run.{CountsBelow, IsDenseWithin, IsMissingAt, RisesWithin, AddsWithin};
 ghost use Rattle.mine_apriori.specs.Used.{Tells, is_marked};
 
+use crate::hints::{Hints, Table};
+
 /// The place of an item in a rising run, or the place before which it is missing. In a run with no
 /// gaps the item stands as far behind the first as it is greater, so that place is tried first. In
 /// any run it stands there or before.
-#[inline]
-pub fn find(run: &[u32], item: u32) -> Result<usize, usize>
+fn find(run: &[u32], item: u32) -> Result<usize, usize>
     requires { IsRising run.now }
     ensures { MatchResult result (λ i. (i < length run.now) × (slice_index run.now i ≡ item)) (IsMissingAt run.now item) }
 {
@@ -101,6 +102,8 @@ pub fn count_leaves(
     leaves: &[u32],
     start: usize,
     end: usize,
+    hints: &Hints,
+    depth: usize,
     items: &[u32],
     marks: &[bool],
     weight: u64,
@@ -120,7 +123,8 @@ pub fn count_leaves(
     } else if is_dense(leaves, start, end) {
         count_dense(leaves[start], start, end, items, weight, counts);
     } else {
-        count_sparse(leaves, start, end, items, weight, counts);
+        let table = hints.table(depth, leaves, start, end);
+        count_sparse(leaves, start, end, table, items, weight, counts);
     }
 }
 
@@ -186,6 +190,7 @@ fn count_sparse(
     leaves: &[u32],
     start: usize,
     end: usize,
+    table: Table<'_>,
     items: &[u32],
     weight: u64,
     counts: &mut [u64],
@@ -203,7 +208,10 @@ fn count_sparse(
         if from == end {
             return;
         }
-        match find(&leaves[from..end], *item) {
+        let hint = table
+            .before(*item, end - start)
+            .saturating_sub(from - start);
+        match find_by(&leaves[from..end], *item, hint) {
             Ok(found) => {
                 counts[from + found] += weight;
                 from += found + 1;

@@ -11,9 +11,10 @@ ghost use Rattle.mine_apriori.specs.Tree.{AreTold, IsRun, leaf_depth};
 ghost use Rattle.mine_apriori.specs.Sizes.{AreOfOneSize};
 ghost use Rattle.mine_apriori.specs.Used.{IsClear};
 
+use crate::hints::Hints;
 use crate::nodes::{Nodes, items_at, nodes_at};
-use crate::run::{are_known, count_leaves, find, find_by, marked_at_most};
-use crate::used::{keep_used, longest, mark, no_items, places_before, unmark, used_items};
+use crate::run::{are_known, count_leaves, find_by, marked_at_most};
+use crate::used::{keep_used, longest, mark, no_items, unmark, used_items};
 use basket_core::{Itemset, Weighted};
 use std::alloc::{AllocError, Global};
 use std::marker::Model;
@@ -28,9 +29,7 @@ pub struct CandidateTree<'a> {
     /// The last item of each set. A leaf's number is that of its set.
     leaves: Vec<u32>,
     used: Vec<bool>,
-    /// For each item up to the last of the first depth, how many nodes there stand before it. A
-    /// hint, so that no basket's item has to be searched for there.
-    places: Vec<usize>,
+    hints: Hints,
 }
 
 impl<'a> Model for CandidateTree<'a> {
@@ -60,16 +59,14 @@ impl<'a> CandidateTree<'a> {
         for depth in 0..last {
             inner.push(nodes_at(alloc, sets, depth)?)?;
         }
-        let places = match inner.first() {
-            Some(nodes) => places_before(alloc, &nodes.items)?,
-            None => Vec::new(alloc),
-        };
+        let leaves = items_at(alloc, sets, last)?;
+        let hints = Hints::of(alloc, &inner, &leaves)?;
         Ok(CandidateTree {
             sets,
             inner,
-            leaves: items_at(alloc, sets, last)?,
+            leaves,
             used: used_items(alloc, sets)?,
-            places,
+            hints,
         })
     }
 
@@ -124,23 +121,6 @@ impl<'a> CandidateTree<'a> {
         } else {
             self.walk(0, 0, roots, items, &[], place.weight, counts);
         }
-    }
-
-    /// The place of an item in the run of nodes of a depth that begins at a node, or the place
-    /// before which it is missing.
-    #[inline]
-    fn find(&self, depth: usize, start: usize, run: &[u32], item: u32) -> Result<usize, usize>
-        requires { IsRising run.now }
-        ensures { MatchResult result (λ i. (i < length run.now) × (slice_index run.now i ≡ item)) (IsMissingAt run.now item) }
-    {
-        if depth > 0 {
-            return find(run, item);
-        }
-        let hint = match self.places.get(item as usize) {
-            Some(place) => place.saturating_sub(start),
-            None => run.len(),
-        };
-        find_by(run, item, hint)
     }
 
     /// How many nodes the first depth has.
@@ -209,7 +189,17 @@ impl<'a> CandidateTree<'a> {
             (first_leaf self.now depth start) (first_leaf self.now depth end) counts.old counts.new }
     {
         let Some(nodes) = self.inner.get(depth) else {
-            count_leaves(&self.leaves, start, end, items, marks, weight, counts);
+            count_leaves(
+                &self.leaves,
+                start,
+                end,
+                &self.hints,
+                depth,
+                items,
+                marks,
+                weight,
+                counts,
+            );
             return;
         };
         // An item with fewer behind it than a set has below the depth can't begin the rest of one.
@@ -218,12 +208,16 @@ impl<'a> CandidateTree<'a> {
             self.walk_marked(depth, start, end, items, marks, weight, counts);
             return;
         }
+        let table = self.hints.table(depth, &nodes.items, start, end);
         let mut from = start;
         for (place, item) in items[..most].iter().enumerate() {
             if from == end {
                 return;
             }
-            match self.find(depth, from, &nodes.items[from..end], *item) {
+            let hint = table
+                .before(*item, end - start)
+                .saturating_sub(from - start);
+            match find_by(&nodes.items[from..end], *item, hint) {
                 Ok(found) => {
                     let node = from + found;
                     let (first, behind) = (nodes.firsts[node], nodes.firsts[node + 1]);

@@ -20,16 +20,6 @@ pub fn used_items(alloc: Global, sets: &[Itemset]) -> Result<Vec<bool>, AllocErr
     Ok(table)
 }
 
-/// For each item up to the last of some rising items, and no more than a table knows, how many of
-/// them stand before it.
-pub fn places_before(alloc: Global, items: &[u32]) -> Result<Vec<usize>, AllocError> {
-    let mut places = Vec::new(alloc);
-    for (place, item) in items.iter().enumerate() {
-        places.resize((*item as usize + 1).min(KNOWN_ITEMS), place)?;
-    }
-    Ok(places)
-}
-
 /// A table with no item marked.
 pub fn no_items(alloc: Global) -> Result<Vec<bool>, AllocError>
     ensures { IfOk result (λ table. IsClear table.items) }

@@ -12,8 +12,8 @@ returns-then-from-end c =
     leaf_walk_is_over c.args.leaves.now c.args.start c.args.end c.args.items.now c.args.weight c.args.counts.now c.requires.run c.requires.rising c.requires.within
     c.loop-item.item-index c.loop-item.from c.loop-item.counts c.loop-item.invariant c.if-from-end.true
 
-pub find-requires : goal.find-requires
-find-requires c =
+pub find_by-requires : goal.find_by-requires
+find_by-requires c =
     part_rises c.args.leaves.now c.args.start c.args.end c.loop-item.from c.requires.run c.loop-item.invariant.behind c.loop-item.invariant.inside c.requires.within
 
 pub overflow_add-counts-in-Ok : goal.overflow_add-counts-in-Ok
@@ -26,11 +26,11 @@ overflow_add-counts-in-Ok c =
 pub loop-item-preserved : goal.loop-item-preserved
 loop-item-preserved c =
     let After = LeafWalk c.args.leaves.now c.args.start c.args.end c.args.items.now c.args.weight c.args.counts.now (c.loop-item.item-index + 1) in
-    elim c.match-find.branch [
-      | in-Ok w ↦ subst (λ counts. After c.match-find.from counts) (sym w.counts-is) (subst (λ from. After from (set c.loop-item.counts (c.loop-item.from + w.in-Ok.found) (get_or c.loop-item.counts (c.loop-item.from + w.in-Ok.found) 0 + c.args.weight))) (sym w.from-is)
+    elim c.match-find_by.branch [
+      | in-Ok w ↦ subst (λ counts. After c.match-find_by.from counts) (sym w.counts-is) (subst (λ from. After from (set c.loop-item.counts (c.loop-item.from + w.in-Ok.found) (get_or c.loop-item.counts (c.loop-item.from + w.in-Ok.found) 0 + c.args.weight))) (sym w.from-is)
           (leaf_found c.args.leaves.now c.args.start c.args.end c.args.items.now c.args.weight c.args.counts.now c.requires.run c.requires.rising c.requires.within
           c.loop-item.item-index c.loop-item.from w.in-Ok.found c.loop-item.counts c.loop-item.invariant c.loop-item-test.true w.in-Ok.ensures (c.loop-item.auto.counts ∙ c.requires.long)))
-      | in-Err w ↦ subst (λ counts. After c.match-find.from counts) (sym w.counts-is) (subst (λ from. After from c.loop-item.counts) (sym w.from-is)
+      | in-Err w ↦ subst (λ counts. After c.match-find_by.from counts) (sym w.counts-is) (subst (λ from. After from c.loop-item.counts) (sym w.from-is)
           (leaf_missing c.args.leaves.now c.args.start c.args.end c.args.items.now c.args.weight c.args.counts.now c.requires.run c.requires.rising c.requires.within
           c.loop-item.item-index c.loop-item.from w.in-Err.passed c.loop-item.counts c.loop-item.invariant c.loop-item-test.true w.in-Err.ensures))
     ]

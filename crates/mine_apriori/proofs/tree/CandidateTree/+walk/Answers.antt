@@ -73,9 +73,9 @@ at_inner t c =
       enough = omega (arith, c.self.inside.inner.ok.0, c.len.ensures, c.saturating_sub-most.ensures);
     }
 
-pub walk-find-requires : goal.walk-find-requires
-walk-find-requires t c =
-    rest_of_run c.args.self.now c.args.depth c.args.start c.args.end c.args.items.now c.saturating_sub-most.result c.in-Some.nodes.now (at_inner t (goal.at.walk-find-requires t c).After-saturating_sub-most)
+pub walk-find_by-requires : goal.walk-find_by-requires
+walk-find_by-requires t c =
+    rest_of_run c.args.self.now c.args.depth c.args.start c.args.end c.args.items.now c.saturating_sub-most.result c.in-Some.nodes.now (at_inner t (goal.at.walk-find_by-requires t c).After-saturating_sub-most)
     c.loop-place.from c.deref-in-loop-place.result.now c.deref-in-loop-place.ensures.value c.loop-place.invariant.behind c.loop-place.invariant.inside
 
 -- the node that was found
@@ -129,15 +129,15 @@ pub walk-loop-place-preserved : goal.walk-loop-place-preserved
 walk-loop-place-preserved t c =
     let at = at_inner t (goal.at.walk-loop-place-preserved t c).After-saturating_sub-most in
     let After = TreeWalk c.args.self.now c.args.depth c.args.start c.args.end c.args.items.now (take c.saturating_sub-most.result c.args.items.now) c.args.weight c.args.counts.now (c.loop-place.place + 1) in
-    elim c.match-find.branch [
+    elim c.match-find_by.branch [
       | walk-in-Ok w ↦ (
           let found = node_found c.args.self.now c.args.depth c.args.start c.args.end c.args.items.now c.saturating_sub-most.result c.in-Some.nodes.now at c.args.weight c.args.counts.now
           c.loop-place.place c.loop-place.from w.in-Ok.found c.loop-place.counts c.deref-in-loop-place.result.now c.loop-place.invariant c.deref-in-loop-place.ensures.value w.in-Ok.ensures in
-          subst (λ counts. After c.match-find.from counts) (sym w.counts-is) (subst (λ from. After from w.walk.new.counts) (sym w.from-is)
+          subst (λ counts. After c.match-find_by.from counts) (sym w.counts-is) (subst (λ from. After from w.walk.new.counts) (sym w.from-is)
           (tree_finds c.args.self.now c.args.depth c.args.start c.args.end c.args.items.now c.saturating_sub-most.result c.in-Some.nodes.now at c.args.weight c.args.counts.now
           c.loop-place.place c.loop-place.from (c.loop-place.from + w.in-Ok.found) w.index.result.now w.index-in-Ok.result.now c.loop-place.counts w.walk.new.counts
           c.loop-place.invariant c.loop-place-test.true found w.index.ensures w.index-in-Ok.ensures w.walk.ensures)))
-      | walk-in-Err w ↦ subst (λ counts. After c.match-find.from counts) (sym w.counts-is) (subst (λ from. After from c.loop-place.counts) (sym w.from-is)
+      | walk-in-Err w ↦ subst (λ counts. After c.match-find_by.from counts) (sym w.counts-is) (subst (λ from. After from c.loop-place.counts) (sym w.from-is)
           (tree_misses c.args.self.now c.args.depth c.args.start c.args.end c.args.items.now c.saturating_sub-most.result c.in-Some.nodes.now at c.args.weight c.args.counts.now
           c.loop-place.place c.loop-place.from w.in-Err.passed c.loop-place.counts c.deref-in-loop-place.result.now c.loop-place.invariant c.loop-place-test.true c.deref-in-loop-place.ensures.value w.in-Err.ensures))
     ]

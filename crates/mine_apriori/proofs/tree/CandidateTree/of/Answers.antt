@@ -17,10 +17,10 @@ invariant_of-result c =
       record {
         sized = c.requires.sized;
         in_order = c.requires.in_order;
-        rising = c.in_ok-items_at.ensures.rising;
+        rising = c.in_ok-leaves.ensures.rising;
         deep = c.loop-depth.invariant.count ∙ all;
         each = c.loop-depth.invariant.each;
-        last = c.in_ok-items_at.ensures.items ∙ ap (λ n. map (λ (set : List ℕ). get_or set n 0) sets) last
+        last = c.in_ok-leaves.ensures.items ∙ ap (λ n. map (λ (set : List ℕ). get_or set n 0) sets) last
             ∙ leaf_items sets (suc (leaf_depth sets)) (are_full sets c.requires.sized) c.requires.in_order (leaf_depth sets) (omega arith);
       },
       c.in_ok-used_items.ensures,
