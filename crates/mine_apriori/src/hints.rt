@@ -6,7 +6,10 @@ use std::alloc::{AllocError, Global};
 /// How many places a table has at most for each item of its run.
 const MOST_PLACES: usize = 64;
 
-/// A table for each run of a tree, up to the first wide gap of the run. No contract tells what a
+/// A run of fewer nodes has no table: it is searched as fast, and most runs are short.
+const LONG_RUN: usize = 64;
+
+/// A table for each long run of a tree, up to the first wide gap of the run. No contract tells what a
 /// table says: whoever takes a hint compares what stands there.
 #[derive(Debug, Drop)]
 pub struct Hints {
@@ -66,8 +69,11 @@ impl Hints {
         Ok(())
     }
 
-    /// Adds the table of a run.
+    /// Adds the table of a run, if it is long.
     fn add_run(&mut self, run: &[u32]) -> Result<(), AllocError> {
+        if run.len() < LONG_RUN {
+            return Ok(());
+        }
         let base = self.places.len();
         let first = run.first().map_or(0, |first| *first);
         let mut before = 0u32;
@@ -84,6 +90,12 @@ impl Hints {
 
     /// The table of the run of a depth from a node up to another.
     pub fn table(&self, depth: usize, items: &[u32], start: usize, end: usize) -> Table<'_> {
+        if end.saturating_sub(start) < LONG_RUN {
+            return Table {
+                first: 0,
+                places: &[],
+            };
+        }
         let bounds: &[usize] = match self.bounds.get(depth) {
             Some(bounds) => bounds,
             None => &[],
