@@ -10,11 +10,11 @@ ghost use Rattle.mine_apriori.specs.Work.{candidate_count};
 use crate::cutting::Cutting;
 use crate::gate::Gate;
 use crate::level::count_level;
-use crate::pairs::count_pairs;
+use crate::pairs::{PHASE, count_pairs};
 use crate::triangle::small_pairs;
 use basket_core::{Coded, Frequent, MineFault};
 use mine_apriori::laws::pairs_by_supports;
-use mine_apriori::{FirstLevel, Levels};
+use mine_apriori::{FirstLevel, Levels, frequent_pairs};
 use mine_classes::{Ordered, Runs};
 use std::alloc::{AllocError, Global};
 use std::thread::Threads;
@@ -23,7 +23,8 @@ use std::thread::Threads;
 const FIRST_OF_LEVELS: u32 = 3;
 
 /// The frequent pairs of ranks. The workers count each pair of ranks where these are few, and
-/// otherwise only the pairs that occur, rank by rank.
+/// otherwise only the pairs that occur, rank by rank. One worker has all pieces, and needs no counts
+/// beside its own.
 fn pairs<R: Threads + Sync, G: Gate + Sync>(
     rt: &R,
     alloc: Global,
@@ -33,6 +34,12 @@ fn pairs<R: Threads + Sync, G: Gate + Sync>(
 ) -> Result<Vec<Vec<(u32, u64)>>, AllocError>
     ensures { IfOk result (λ lists. ArePairs coded.now (lists_of lists.items)) }
 {
+    if cutting.workers == 1 {
+        for piece in 0..cutting.pieces {
+            gate.pass(PHASE, 0, piece);
+        }
+        return frequent_pairs(alloc, coded);
+    }
     if let Some(pairs) = small_pairs(rt, alloc, coded, cutting, gate)? {
         return Ok(pairs);
     }

@@ -49,7 +49,7 @@ fn class<T: Tally>(
     }
     let forest = Forest::of(alloc, coded)?;
     let (mut found, _trees) = fp_class(alloc, &forest, rank, tally)?;
-    let mut sets = found.take(alloc)?;
+    let mut sets = found.unpacked(alloc)?;
     sets.sort_unstable();
     Ok(sets)
 }
