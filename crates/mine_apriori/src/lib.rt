@@ -3,9 +3,9 @@
 //!
 //! `levels` goes from size to size, `join` makes candidates, whose subsets `search` looks up where
 //! `endings` doesn't tell already that one is missing, and `shard` counts sets, by a prefix tree
-//! where it can: `tree`, whose inner nodes are in `nodes`. `run` looks items up in the tree. `pairs`
-//! finds the frequent pairs without a list of all pairs, by a count for each in `triangle` where
-//! these are few.
+//! where it can: `tree`, whose inner nodes are in `nodes`. `run` looks items up in the tree, by the
+//! `hints` of where they stand. `pairs` finds the frequent pairs without a list of all pairs, by a
+//! count for each in `triangle` where these are few.
 #![tactic(auto)]
 
 mod endings;

@@ -48,7 +48,7 @@ fn class<T: Tally>(
         return Ok(Vec::new(alloc));
     }
     let forest = Forest::of(alloc, coded)?;
-    let (mut found, _trees) = fp_class(alloc, &forest, rank, tally)?;
+    let (found, _trees) = fp_class(alloc, &forest, rank, tally)?;
     let mut sets = found.unpacked(alloc)?;
     sets.sort_unstable();
     Ok(sets)
