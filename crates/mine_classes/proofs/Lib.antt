@@ -9,6 +9,7 @@ mod PairLemmas
 mod SumLemmas
 mod PlaceLemmas
 mod BitLemmas
+mod BitRankLemmas
 mod WordLemmas
 mod CodedLemmas
 mod OrderLemmas

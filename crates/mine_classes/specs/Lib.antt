@@ -6,5 +6,6 @@ pub mod Runs
 pub mod Pairs
 pub mod Places
 pub mod Words
+pub mod Form
 pub mod Worked
 pub mod Mined

@@ -3,9 +3,11 @@ ghost use Rattle.std.specs.Prelude.{◌≡◌, ◌<◌, IfOk, length, map};
 ghost use Rattle.basket_core.specs.Codes.{IsCoding, baskets_of};
 ghost use Rattle.basket_sets.specs.declared.minimum.Minimum.TheVariants.{Count};
 ghost use Rattle.mine_classes.specs.Conditional.{conditional};
+ghost use Rattle.mine_classes.specs.Form.{form_baskets};
 ghost use Rattle.mine_classes.specs.Ordered.{HaveSameWeights};
 ghost use Rattle.mine_classes.specs.Pairs.{kept_ranks, pairs_of};
 
+use crate::form::Form;
 use crate::ordered::Ordered;
 use crate::places::Places;
 use crate::runs::Runs;
@@ -19,19 +21,20 @@ use std::marker::Model;
 pub struct Conditional {
     ranks: Vec<u32>,
     least: u64,
-    baskets: Ordered,
+    baskets: Form,
 }
 
 impl Model for Conditional {
     ghost use Rattle.std.specs.Prelude.{◌≡◌, length};
     ghost use Rattle.basket_core.specs.Codes.{Coding};
     ghost use Rattle.basket_sets.specs.declared.minimum.Minimum.TheVariants.{Count};
+    ghost use Rattle.mine_classes.specs.Form.{form_baskets};
 
     ghost Value = { Coding };
 
-    ghost view = { λ c. record { items = c.ranks.items; minimum = Count c.least; baskets = c.baskets.baskets } };
+    ghost view = { λ c. record { items = c.ranks.items; minimum = Count c.least; baskets = (form_baskets c.baskets).baskets } };
 
-    ghost invariant = { λ c. c.baskets.ranks ≡ length c.ranks.items };
+    ghost invariant = { λ c. (form_baskets c.baskets).ranks ≡ length c.ranks.items };
 }
 
 impl Conditional {
@@ -72,12 +75,20 @@ impl Conditional {
     }
 
     /// The baskets, by the new numbers of the ranks.
-    pub fn into_baskets(self) -> Ordered
-        ensures baskets { result.baskets ≡ self.baskets }
-        ensures ranks { result.ranks ≡ length self.items }
+    pub fn into_form(self) -> Form
+        ensures baskets { (form_baskets result).baskets ≡ self.baskets }
+        ensures ranks { (form_baskets result).ranks ≡ length self.items }
     {
         let Conditional { baskets, .. } = self;
         baskets
+    }
+
+    /// The same as lists of ranks.
+    pub fn into_baskets(self, alloc: Global) -> Result<Ordered, AllocError>
+        ensures baskets { IfOk result (λ ordered. ordered.baskets ≡ self.baskets) }
+        ensures ranks { IfOk result (λ ordered. ordered.ranks ≡ length self.items) }
+    {
+        self.into_form().ordered(alloc)
     }
 }
 

@@ -8,18 +8,22 @@
 #![tactic(auto)]
 
 mod conditional;
+mod form;
 pub mod laws;
 mod ordered;
 mod pairs;
 mod places;
 mod runs;
 mod span;
+mod word_baskets;
 pub mod words;
 pub mod worked;
 
 pub use conditional::Conditional;
+pub use form::Form;
 pub use ordered::Ordered;
 pub use pairs::{Sums, met_in_order};
 pub use places::Places;
 pub use runs::Runs;
 pub use span::Span;
+pub use word_baskets::WordBaskets;

@@ -3,12 +3,15 @@ ghost use Rattle.std.specs.Prelude.{◌≡◌, ◌≤◌, ◌<◌, ◌++◌, [],
 ghost use Rattle.basket_core.specs.Codes.{coded_place, rank_of};
 ghost use Rattle.basket_sets.specs.Counts.{AllBelow};
 ghost use Rattle.basket_sets.specs.Itemset.{IsRising};
+ghost use Rattle.mine_classes.specs.Form.{form_baskets};
 ghost use Rattle.mine_classes.specs.Ordered.{AreRankBaskets, HaveSameWeights, entry_places};
 ghost use Rattle.mine_classes.specs.Places.{ArePlaces, placed, places_in, slots_in};
 ghost use Rattle.mine_classes.specs.Span.{IsWithin, baskets_at};
 
+use crate::form::Form;
 use crate::ordered::{Entry, Ordered, key_bits};
 use crate::span::{Span, place, table_pays};
+use crate::word_baskets::WordBaskets;
 use crate::words::{WORD_RANKS, clear_bits, set_bits, words_of};
 use std::alloc::{AllocError, Global};
 use std::marker::Model;
@@ -60,6 +63,31 @@ impl Places {
         kept: &[u32],
         ranks: &[u32],
         baskets: &[Span],
+    ) -> Result<Form, AllocError>
+        requires rises { IsRising kept.now }
+        requires below { AllBelow self.old kept.now }
+        requires within { All (IsWithin (length ranks.now)) baskets.now }
+        requires ranked { AreRankBaskets (record { ranks = self.old; baskets = baskets_at ranks.now baskets.now }) }
+        ensures ranks { IfOk result (λ form. (form_baskets form).ranks ≡ length kept.now) }
+        ensures ranked { IfOk result (λ form. AreRankBaskets (form_baskets form)) }
+        ensures weights { IfOk result (λ form. HaveSameWeights (map (coded_place kept.now) (baskets_at ranks.now baskets.now)) (form_baskets form).baskets) }
+        ensures places { self.new ≡ self.old }
+    {
+        if kept.len() <= WORD_RANKS {
+            let words = self.coded_by_words(alloc, kept, ranks, baskets)?;
+            return Ok(Form::Words(words));
+        }
+        let lists = self.coded_by_lists(alloc, kept, ranks, baskets)?;
+        Ok(Form::Lists(lists))
+    }
+
+    /// The same of many ranks, where each basket is a list.
+    fn coded_by_lists(
+        &mut self,
+        alloc: Global,
+        kept: &[u32],
+        ranks: &[u32],
+        baskets: &[Span],
     ) -> Result<Ordered, AllocError>
         requires rises { IsRising kept.now }
         requires below { AllBelow self.old kept.now }
@@ -70,9 +98,6 @@ impl Places {
         ensures weights { IfOk result (λ ordered. HaveSameWeights (map (coded_place kept.now) (baskets_at ranks.now baskets.now)) ordered.baskets) }
         ensures places { self.new ≡ self.old }
     {
-        if kept.len() <= WORD_RANKS {
-            return self.coded_by_words(alloc, kept, ranks, baskets);
-        }
         if self.of.is_empty() && table_pays(self.count, &mut self.seen, baskets) {
             self.of = vec![in alloc; None; self.count as usize]?;
         }
@@ -92,15 +117,15 @@ impl Places {
         kept: &[u32],
         ranks: &[u32],
         baskets: &[Span],
-    ) -> Result<Ordered, AllocError>
+    ) -> Result<WordBaskets, AllocError>
         requires few { length kept.now ≤ WORD_RANKS }
         requires rises { IsRising kept.now }
         requires below { AllBelow self.old kept.now }
         requires within { All (IsWithin (length ranks.now)) baskets.now }
         requires ranked { AreRankBaskets (record { ranks = self.old; baskets = baskets_at ranks.now baskets.now }) }
-        ensures ranks { IfOk result (λ ordered. ordered.ranks ≡ length kept.now) }
+        ensures ranks { IfOk result (λ words. words.ranks ≡ length kept.now) }
         ensures ranked { IfOk result AreRankBaskets }
-        ensures weights { IfOk result (λ ordered. HaveSameWeights (map (coded_place kept.now) (baskets_at ranks.now baskets.now)) ordered.baskets) }
+        ensures weights { IfOk result (λ words. HaveSameWeights (map (coded_place kept.now) (baskets_at ranks.now baskets.now)) words.baskets) }
         ensures places { self.new ≡ self.old }
     {
         let looked_at = !kept.is_empty() && self.bits.is_empty();
@@ -110,7 +135,7 @@ impl Places {
         set_bits(&mut self.bits, kept);
         let words = words_of(alloc, &self.bits, kept, ranks, baskets);
         clear_bits(&mut self.bits, kept);
-        Ordered::of_words(alloc, kept.len() as u32, words?)
+        WordBaskets::of(alloc, kept.len() as u32, words?)
     }
 }
 

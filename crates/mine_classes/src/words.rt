@@ -46,10 +46,15 @@ impl Word {
         requires { count ≤ WORD_RANKS }
         ensures { OnOk result (ranks.new.items ≡ ranks.old.items ++ ranks_in count self.now.bits) }
     {
-        for rank in 0..count {
-            if self.has(rank) {
-                ranks.push(rank)?;
+        let mut rest = self.bits;
+        while rest != 0 {
+            let bit = rest.ilog2();
+            let rank = 63 - bit;
+            if rank >= count {
+                return Ok(());
             }
+            ranks.push(rank)?;
+            rest -= 1 << bit;
         }
         Ok(())
     }

@@ -73,7 +73,7 @@ fn conditional_databases_of_the_nine_baskets(rt: HostRuntime) -> Result<(), Fail
         let found = conditional(alloc, ordered(alloc, NINE_BASKETS)?, rank, 2)?;
         assert_eq!(rt; found.ranks(), ranks, "of {rank}");
         assert_eq!(rt;
-            baskets(alloc, found.into_baskets())?.as_str(),
+            baskets(alloc, found.into_baskets(alloc)?)?.as_str(),
             want,
             "of {rank}"
         );
@@ -93,7 +93,7 @@ fn short_paths_among_many_ranks(rt: HostRuntime) -> Result<(), Fail> {
     let coded = Coded::of(alloc, &database(alloc, &rows)?, Minimum::Count(2))?;
     let found = conditional(alloc, Ordered::of_coded(alloc, &coded)?, 79, 2)?;
     assert_eq!(rt; found.ranks(), [78].as_slice());
-    assert_eq!(rt; baskets(alloc, found.into_baskets())?.as_str(), "0 (2) ");
+    assert_eq!(rt; baskets(alloc, found.into_baskets(alloc)?)?.as_str(), "0 (2) ");
     Ok(())
 }
 
@@ -103,7 +103,7 @@ fn weights_near_the_bound(rt: HostRuntime) -> Result<(), Fail> {
     let rows: [Row; 3] = [(&[7, 9], 1_099_511_627_773), (&[9], 1), (&[9, 7], 1)];
     let found = conditional(alloc, ordered(alloc, &rows)?, 1, 1_099_511_627_774)?;
     assert_eq!(rt;
-        baskets(alloc, found.into_baskets())?.as_str(),
+        baskets(alloc, found.into_baskets(alloc)?)?.as_str(),
         "0 (1099511627774) "
     );
     Ok(())

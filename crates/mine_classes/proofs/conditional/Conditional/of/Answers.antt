@@ -7,6 +7,7 @@ use Rattle.basket_sets.specs.Itemset.{IsRising}
 use Rattle.basket_sets.specs.Support.{support_of}
 use Rattle.basket_core.specs.Codes.{coded_place}
 use Rattle.mine_classes.specs.Conditional.{conditional}
+use Rattle.mine_classes.specs.Form.{form_baskets}
 use Rattle.mine_classes.specs.Ordered.{HaveSameWeights}
 use Rattle.mine_classes.specs.Pairs.{kept_ranks, pairs_of}
 use Rattle.mine_classes.specs.Span.{baskets_at}
@@ -40,8 +41,8 @@ pub returns-clause-coding : goal.returns-clause-coding
 returns-clause-coding c =
     let kept = firsts c.args.runs.now.baskets c.args.least c.args.rank c.args.pairs.now c.in_ok-ranks.ranks.items c.requires.pairs c.in_ok-ranks.ensures in
     let long = c.in_ok-baskets.ensures.ranks ∙ ap length (c.deref.ensures.value ∙ kept) in
-    subst (λ l. IsCoding (record { items = l; minimum = Count c.args.least; baskets = c.in_ok-baskets.baskets.baskets })) (sym kept)
-    (conditional_coding c.args.runs.now.baskets c.args.least c.args.rank c.in_ok-baskets.baskets c.in_ok-baskets.ensures.ranked long (omega (arith, c.ranges.rank.fits)))
+    subst (λ l. IsCoding (record { items = l; minimum = Count c.args.least; baskets = (form_baskets c.in_ok-baskets.baskets).baskets })) (sym kept)
+    (conditional_coding c.args.runs.now.baskets c.args.least c.args.rank (form_baskets c.in_ok-baskets.baskets) c.in_ok-baskets.ensures.ranked long (omega (arith, c.ranges.rank.fits)))
 
 pub returns-clause-baskets : goal.returns-clause-baskets
 returns-clause-baskets c =
@@ -49,7 +50,7 @@ returns-clause-baskets c =
     let ranks = c.of_rank.result.0.now in
     let runs = c.of_rank.result.1.now in
     let kept = firsts baskets c.args.least c.args.rank c.args.pairs.now c.in_ok-ranks.ranks.items c.requires.pairs c.in_ok-ranks.ensures in
-    let others = c.in_ok-baskets.baskets.baskets in
+    let others = (form_baskets c.in_ok-baskets.baskets).baskets in
     let same = subst (λ l. HaveSameWeights (map (coded_place l) (baskets_at ranks runs)) others) (c.deref.ensures.value ∙ kept) c.in_ok-baskets.ensures.weights in
     subst (λ l. HaveSameWeights (conditional c.args.least baskets c.args.rank) (map (decoded_place l) others)) (sym kept)
     (conditional_weights baskets c.args.least c.args.rank ranks runs c.of_rank.ensures.runs others same)

@@ -13,5 +13,5 @@ returns-clause-weights c =
     let kept = c.args.kept.now in
     let baskets = baskets_at c.args.ranks.now c.args.baskets.now in
     let coded = all_coded kept c.requires.rises c.args.self.now baskets (recursion_from_All (IsRankBasket c.args.self.now) baskets c.requires.ranked.places) in
-    IfOk-weaker c.of_words.result (λ ordered. HaveSameWeights (word_places (length kept) c.in_ok-words.field-0.items) ordered.baskets) (λ ordered. HaveSameWeights (map (coded_place kept) baskets) ordered.baskets)
-    (λ ordered same test. ap (weight_where test) (sym coded) ∙ c.in_ok-words.ensures.weights test ∙ same test) c.of_words.ensures.weights
+    IfOk-weaker c.of.result (λ words. HaveSameWeights (word_places (length kept) c.in_ok-words.field-0.items) words.baskets) (λ words. HaveSameWeights (map (coded_place kept) baskets) words.baskets)
+    (λ words same test. ap (weight_where test) (sym coded) ∙ c.in_ok-words.ensures.weights test ∙ same test) c.of.ensures.weights

@@ -1,21 +1,29 @@
-use Rattle.std.proofs.Common.{◌++◌, ◌∷◌, [], cond, sym, ap, ◌∙◌, add-one, zero-add, append_assoc, append-nil}
-use Rattle.std.specs.List.{filter, range_with_len}
-use Rattle.std.proofs.lemmas.List.Elements.{filter-append}
-use Rattle.basket_core.proofs.theory.Shards.{range_more}
-use Rattle.mine_classes.specs.Words.{has_rank}
+use Rattle.std.proofs.Common.{◌≡◌, ◌-◌, ◌*◌, ◌%◌, ◌^◌, ◌++◌, ◌∷◌, [], sym, ap, ◌∙◌, arith, append_assoc, append-nil}
+use Rattle.std.proofs.lemmas.Nat.{one_shl}
+use Rattle.mine_classes.specs.Words.{ranks_in}
+use Rattle.mine_classes.proofs.BitRankLemmas.{first_rank, no_first_rank, no_ranks}
 use Rattle.mine_classes.proofs.words.Word.add_ranks.Goals as goal
-use Rattle.mine_classes.proofs.words.Word.add_ranks.Goals.{then-has+in_ok-push, else-has}
 
-pub loop-rank-preserved : goal.loop-rank-preserved
-loop-rank-preserved c =
-    let old = c.args.ranks.now.items in
-    let rank = c.loop-rank.rank in
-    let has = has_rank c.args.self.now.bits in
-    let so_far = filter has (range_with_len 0 rank) in
-    let more = ap (λ n. filter has (range_with_len 0 n)) (add-one rank) ∙ ap (filter has) (range_more 0 rank ∙ ap (λ n. range_with_len 0 rank ++ n ∷ []) (zero-add rank)) ∙ filter-append has (range_with_len 0 rank) (rank ∷ []) in
-    elim c.if-has.branch [
-      | then-has+in_ok-push w ↦ ap (λ v. v.items) w.ranks-is ∙ w.in_ok-push.ensures.items ∙ ap (λ l. l ++ rank ∷ []) c.loop-rank.invariant ∙ append_assoc old so_far (rank ∷ [])
-          ∙ ap (λ l. old ++ l) (sym (more ∙ ap (λ b. so_far ++ cond b (rank ∷ []) []) (sym c.has.ensures ∙ w.if-has.true)))
-      | else-has w ↦ ap (λ v. v.items) w.ranks-is ∙ c.loop-rank.invariant
-          ∙ ap (λ l. old ++ l) (sym (more ∙ ap (λ b. so_far ++ cond b (rank ∷ []) []) (sym c.has.ensures ∙ w.if-has.false) ∙ append-nil so_far))
-    ]
+pub loop-rest-preserved : goal.loop-rest-preserved
+loop-rest-preserved c =
+    let count = c.args.count in
+    let bit = c.ilog2-bit.result in
+    let rest = c.loop-rest.rest in
+    let ranks = c.loop-rest.ranks.items in
+    let shifted : 1 * 2 ^ bit % 2 ^ 64 ≡ 2 ^ bit = one_shl bit 64 c.ilog2-bit.ensures.bound in
+    let next = first_rank rest bit c.ilog2-bit.ensures.power_le c.ilog2-bit.ensures.next_power_gt count c.requires (omega (arith, c.ilog2-bit.ensures.bound)) c.if-rank-count.false in
+    ap (λ l. l ++ ranks_in count (rest - 1 * 2 ^ bit % 2 ^ 64)) c.in_ok-push.ensures.items
+    ∙ ap (λ b. (ranks ++ (63 - bit) ∷ []) ++ ranks_in count (rest - b)) shifted
+    ∙ append_assoc ranks ((63 - bit) ∷ []) (ranks_in count (rest - 2 ^ bit))
+    ∙ ap (λ l. ranks ++ l) (sym next) ∙ c.loop-rest.invariant
+
+pub returns : goal.returns
+returns c =
+    let ranks = c.loop-rest.ranks.items in
+    sym (append-nil ranks) ∙ ap (λ l. ranks ++ l) (sym (ap (ranks_in c.args.count) c.loop-rest-test.false ∙ no_ranks c.args.count)) ∙ c.loop-rest.invariant
+
+pub returns-then-rank-count : goal.returns-then-rank-count
+returns-then-rank-count c =
+    let ranks = c.loop-rest.ranks.items in
+    let none = no_first_rank c.loop-rest.rest c.ilog2-bit.result c.ilog2-bit.ensures.power_le c.ilog2-bit.ensures.next_power_gt c.args.count (omega (arith, c.ilog2-bit.ensures.bound)) c.if-rank-count.true in
+    sym (append-nil ranks) ∙ ap (λ l. ranks ++ l) (sym none) ∙ c.loop-rest.invariant

@@ -2,5 +2,9 @@ use Rattle.std.proofs.Common.{◌≡◌, ◌++◌}
 use Rattle.mine_classes.specs.Words.{ranks_in}
 use Rattle.mine_classes.proofs.words.Word.add_ranks.Given as goal
 
-abbrev pub invariant-loop-rank : goal.invariant-loop-rank
-invariant-loop-rank l = l.ranks.items ≡ l.initial.ranks.items ++ ranks_in l.rank l.self.bits
+-- the ranks of the rest are still to come
+abbrev pub invariant-loop-rest : goal.invariant-loop-rest
+invariant-loop-rest l = l.ranks.items ++ ranks_in l.count l.rest ≡ l.initial.ranks.items ++ ranks_in l.count l.self.bits
+
+abbrev pub decreases-loop-rest : goal.decreases-loop-rest
+decreases-loop-rest l = l.rest

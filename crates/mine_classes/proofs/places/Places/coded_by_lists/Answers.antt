@@ -5,7 +5,7 @@ use Rattle.basket_core.specs.Codes.{coded_place}
 use Rattle.mine_classes.specs.Ordered.{HaveSameWeights, IsRankBasket, entry_places, weight_where}
 use Rattle.mine_classes.specs.Span.{baskets_at}
 use Rattle.mine_classes.proofs.PlaceLemmas.{all_coded, coded_rank_baskets}
-use Rattle.mine_classes.proofs.places.Places.coded.Goals as goal
+use Rattle.mine_classes.proofs.places.Places.coded_by_lists.Goals as goal
 
 pub of_entries-requires : goal.of_entries-requires
 of_entries-requires c =

@@ -1,0 +1,80 @@
+//! Baskets of up to 64 ranks, kept as words.
+ghost use Rattle.std.specs.Prelude.{◌≡◌, ◌≤◌, All, IfOk, sum_by};
+ghost use Rattle.basket_sets.specs.Database.{MOST_WEIGHT};
+ghost use Rattle.mine_classes.specs.declared.words.Word.{Word as Bits};
+ghost use Rattle.mine_classes.specs.Ordered.{AreRankBaskets, HaveSameWeights};
+ghost use Rattle.mine_classes.specs.Words.{word_places};
+
+use crate::ordered::Ordered;
+use crate::words::{WORD_RANKS, Word, merged};
+use std::alloc::{AllocError, Global};
+use std::marker::Model;
+
+/// Baskets of up to 64 ranks, each as the bits of a word. The words stand in order, equal ones merged.
+#[derive(Debug, Drop)]
+pub struct WordBaskets {
+    count: u32,
+    words: Vec<Word>,
+}
+
+impl Model for WordBaskets {
+    ghost use Rattle.std.specs.Prelude.{All, ◌≤◌, sum_by};
+    ghost use Rattle.basket_sets.specs.Database.{MOST_WEIGHT};
+    ghost use Rattle.mine_classes.specs.declared.words.TheConstants.{WORD_RANKS};
+    ghost use Rattle.mine_classes.specs.declared.words.Word.{Word as Bits};
+    ghost use Rattle.mine_classes.specs.Ordered.{RankBaskets};
+    ghost use Rattle.mine_classes.specs.Words.{word_places};
+
+    ghost Value = { RankBaskets };
+
+    ghost view = { λ w. record { ranks = w.count; baskets = word_places w.count w.words.items } };
+
+    ghost invariant = { λ w. (w.count ≤ WORD_RANKS)
+        × All (λ (word : Bits). 1 ≤ word.weight) w.words.items
+        × (sum_by (λ (word : Bits). word.weight) w.words.items ≤ MOST_WEIGHT) };
+}
+
+impl WordBaskets {
+    /// The baskets of the words, of so many ranks.
+    pub fn of(alloc: Global, count: u32, mut words: Vec<Word>) -> Result<Self, AllocError>
+        requires few { count ≤ WORD_RANKS }
+        requires some { All (λ (word : Bits). 1 ≤ word.weight) words.items }
+        requires light { sum_by (λ (word : Bits). word.weight) words.items ≤ MOST_WEIGHT }
+        ensures ranks { IfOk result (λ baskets. baskets.ranks ≡ count) }
+        ensures ranked { IfOk result AreRankBaskets }
+        ensures weights { IfOk result (λ baskets. HaveSameWeights (word_places count words.items) baskets.baskets) }
+    {
+        words.sort_unstable_by_key(|word| word.bits);
+        let distinct = merged(alloc, &words)?;
+        Ok(WordBaskets {
+            count,
+            words: distinct,
+        })
+    }
+
+    /// How many ranks there are.
+    pub fn ranks(&self) -> u32
+        ensures { result ≡ self.now.ranks }
+    {
+        self.count
+    }
+
+    /// The same baskets as lists of ranks, in the order of the words.
+    pub fn ordered(&self, alloc: Global) -> Result<Ordered, AllocError>
+        ensures { IfOk result (λ ordered. ordered ≡ self.now) }
+    {
+        Ordered::of_words(alloc, self.count, &self.words)
+    }
+
+    /// The number of ranks, and the words.
+    pub fn into_parts(self) -> (u32, Vec<Word>)
+        ensures count { result.0 ≡ self.ranks }
+        ensures baskets { word_places result.0 result.1.items ≡ self.baskets }
+        ensures few { result.0 ≤ WORD_RANKS }
+        ensures some { All (λ (word : Bits). 1 ≤ word.weight) result.1.items }
+        ensures light { sum_by (λ (word : Bits). word.weight) result.1.items ≤ MOST_WEIGHT }
+    {
+        let WordBaskets { count, words } = self;
+        (count, words)
+    }
+}
