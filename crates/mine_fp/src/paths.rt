@@ -7,14 +7,14 @@ ghost use Rattle.basket_sets.specs.Database.{MOST_WEIGHT};
 ghost use Rattle.basket_sets.specs.Support.{support_of};
 ghost use Rattle.mine_classes.specs.declared.span.Span.{Span as Run};
 ghost use Rattle.mine_classes.specs.Conditional.{conditional};
+ghost use Rattle.mine_classes.specs.Form.{form_baskets as kept_baskets};
 ghost use Rattle.mine_classes.specs.Ordered.{AreRankBaskets, HaveSameWeights};
 ghost use Rattle.mine_classes.specs.Pairs.{kept_ranks, pairs_of};
 ghost use Rattle.mine_fp.specs.Level.{IsOrdered};
 ghost use Rattle.mine_fp.specs.Trees.{is_branch};
 
 use crate::words::Words;
-use mine_classes::words::WORD_RANKS;
-use mine_classes::{Conditional, Ordered, Places, Runs, Span, Sums};
+use mine_classes::{Conditional, Form as KeptForm, Places, Runs, Span, Sums};
 use std::alloc::{AllocError, Global};
 use std::marker::Model;
 
@@ -50,16 +50,16 @@ impl Paths {
         }
     }
 
-    /// Baskets in the form that suits their number of ranks.
-    pub fn of(alloc: Global, ordered: Ordered) -> Result<Self, AllocError>
-        ensures { IfOk result (λ paths. paths ≡ ordered) }
+    /// The baskets of a conditional database.
+    pub fn of(alloc: Global, kept: KeptForm) -> Result<Self, AllocError>
+        ensures { IfOk result (λ paths. paths ≡ kept_baskets kept) }
     {
-        if ordered.ranks() as usize > WORD_RANKS {
-            return Ok(Paths::of_runs(Runs::of(alloc, ordered)?));
+        match kept {
+            KeptForm::Lists(ordered) => Ok(Paths::of_runs(Runs::of(alloc, ordered)?)),
+            KeptForm::Words(baskets) => Ok(Paths {
+                form: Form::Words(Words::of(baskets)),
+            }),
         }
-        Ok(Paths {
-            form: Form::Words(Words::of(alloc, ordered)?),
-        })
     }
 
     /// How many ranks there are.
@@ -146,7 +146,7 @@ fn below_runs(
     ensures places { places.new ≡ places.old }
 {
     let conditional = Conditional::of(alloc, runs, places, rank, least, pairs)?;
-    Paths::of(alloc, conditional.into_baskets())
+    Paths::of(alloc, conditional.into_form())
 }
 
 /// The conditional database of a rank, by the words that have it.

@@ -10,14 +10,13 @@ ghost use Rattle.mine_classes.specs.declared.words.Word.{Word as Bits};
 ghost use Rattle.mine_classes.specs.Conditional.{kept_place};
 ghost use Rattle.mine_classes.specs.Ordered.{AreRankBaskets, HaveSameWeights};
 ghost use Rattle.mine_classes.specs.Pairs.{pairs_of};
-ghost use Rattle.mine_classes.specs.Span.{IsWithin, baskets_at};
 ghost use Rattle.mine_classes.specs.Words.{has_rank, ranks_in, word_places};
 ghost use Rattle.mine_fp.specs.Trees.{is_branch};
 ghost use Rattle.mine_fp.specs.Words.{pair_weight, rank_weight};
 
 use crate::shift::{shift_all, shifts_of};
-use mine_classes::words::{self, WORD_RANKS, Word, bit_of};
-use mine_classes::{Ordered, Span, met_in_order};
+use mine_classes::words::{self, WORD_RANKS, Word};
+use mine_classes::{WordBaskets, met_in_order};
 use std::alloc::{AllocError, Global};
 use std::marker::Model;
 
@@ -47,14 +46,12 @@ impl Model for Words {
 }
 
 impl Words {
-    /// The baskets as words.
-    pub fn of(alloc: Global, ordered: Ordered) -> Result<Self, AllocError>
-        requires { ordered.ranks ≤ WORD_RANKS }
-        ensures { IfOk result (λ words. words ≡ ordered) }
+    /// The words of a conditional database.
+    pub fn of(baskets: WordBaskets) -> Self
+        ensures { result ≡ baskets }
     {
-        let (count, ranks, baskets) = ordered.into_parts();
-        let words = words_of(alloc, &ranks, &baskets)?;
-        Ok(Words { count, words })
+        let (count, words) = baskets.into_parts();
+        Words { count, words }
     }
 
     /// How many ranks there are.
@@ -107,22 +104,6 @@ impl Words {
     }
 }
 
-/// The baskets, which are parts of a list of ranks, as words.
-fn words_of(alloc: Global, ranks: &[u32], baskets: &[Span]) -> Result<Vec<Word>, AllocError>
-    requires within { All (IsWithin (length ranks.now)) baskets.now }
-    requires ranked { AreRankBaskets (record { ranks = WORD_RANKS; baskets = baskets_at ranks.now baskets.now }) }
-    ensures { IfOk result (λ words. (count : ℕ) → count ≤ WORD_RANKS → AreRankBaskets (record { ranks = count; baskets = baskets_at ranks.now baskets.now })
-        → word_places count words.items ≡ baskets_at ranks.now baskets.now) }
-{
-    let mut words = Vec::with_capacity(alloc, baskets.len())?;
-    for basket in baskets {
-        let bits = bits_of(basket.of(ranks));
-        let weight = basket.weight;
-        words.push(Word { bits, weight })?;
-    }
-    Ok(words)
-}
-
 /// Whether the words are in order, no two of them equal.
 fn are_in_order(words: &[Word]) -> bool {
     words.is_sorted_by(|word, next| word.bits < next.bits)
@@ -138,18 +119,6 @@ fn in_order(alloc: Global, mut words: Vec<Word>) -> Result<Vec<Word>, AllocError
 {
     words.sort_unstable();
     words::merged(alloc, &words)
-}
-
-/// The bits of the ranks of a basket.
-fn bits_of(basket: &[u32]) -> u64
-    requires { AllBelow WORD_RANKS basket.now }
-    ensures { (rank : ℕ) → rank < WORD_RANKS → has_rank result rank ≡ has basket.now rank }
-{
-    let mut bits = 0;
-    for rank in basket {
-        bits |= bit_of(*rank as usize);
-    }
-    bits
 }
 
 /// Whether each word has all ranks below its own.

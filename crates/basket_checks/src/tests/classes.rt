@@ -115,7 +115,7 @@ fn one_basket_of_many_ranks(rt: HostRuntime) -> Result<(), Fail> {
     let ordered = Ordered::of_coded(alloc, &long_basket(alloc)?)?;
     let found = conditional(alloc, ordered, 69_999, 1)?;
     assert_eq!(rt; found.ranks().len(), 69_999);
-    let of_last = conditional(alloc, found.into_baskets(), 69_998, 1)?;
+    let of_last = conditional(alloc, found.into_baskets(alloc)?, 69_998, 1)?;
     assert_eq!(rt; of_last.ranks().len(), 69_998);
     Ok(())
 }
