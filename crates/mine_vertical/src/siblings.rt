@@ -134,7 +134,8 @@ pub fn class_siblings<R: Row>(
     conditional_supports();
     let conditional = conditional_of(alloc, runs, rank, least)?;
     let kept = conditional.ranks().to_vec(alloc)?;
-    let (_, ranks, spans) = conditional.into_baskets().into_parts();
+    let baskets = conditional.into_baskets(alloc)?;
+    let (_, ranks, spans) = baskets.into_parts();
     let weights = weights_at(alloc, &spans)?;
     let siblings = siblings_of(alloc, &kept, &ranks, &spans, &weights)?;
     Ok((weights, siblings))

@@ -15,13 +15,13 @@ use Rattle.mine_vertical.proofs.siblings.class_siblings.Goals as goal
 
 pub weights_at-requires-clause-some : goal.weights_at-requires-clause-some
 weights_at-requires-clause-some g c =
-    let baskets = c.into_parts-ranks.ensures.baskets ∙ c.into_baskets.ensures.baskets in
+    let baskets = c.into_parts-ranks.ensures.baskets ∙ c.in_ok-baskets.ensures.baskets in
     subst (All (λ (s : Span). 1 ≤ s.weight)) (sym c.deref.ensures.value)
     (spans_some c.into_parts-ranks.result.1.items c.into_parts-ranks.result.2.items (subst (All HasWeight) (sym baskets) c.in_ok-conditional.ensures.coding.weights))
 
 pub weights_at-requires-clause-light : goal.weights_at-requires-clause-light
 weights_at-requires-clause-light g c =
-    let baskets = c.into_parts-ranks.ensures.baskets ∙ c.into_baskets.ensures.baskets in
+    let baskets = c.into_parts-ranks.ensures.baskets ∙ c.in_ok-baskets.ensures.baskets in
     let weigh = spans_weigh c.into_parts-ranks.result.1.items c.into_parts-ranks.result.2.items in
     subst (λ n. n ≤ MOST_WEIGHT) (sym (ap total_of baskets) ∙ weigh ∙ ap (sum_by (λ (s : Span). s.weight)) (sym c.deref.ensures.value)) c.in_ok-conditional.ensures.coding.light
 
@@ -41,7 +41,7 @@ returns g c =
     let kept = c.deref-2.result.now in
     let baskets = baskets_at c.deref-3.result.now c.deref-4.result.now in
     let parts : baskets ≡ baskets_at ranks spans = ap (λ r. baskets_at r c.deref-4.result.now) c.deref-3.ensures.value ∙ ap (baskets_at ranks) c.deref-4.ensures.value in
-    let baskets_are : baskets ≡ coding.baskets = parts ∙ c.into_parts-ranks.ensures.baskets ∙ c.into_baskets.ensures.baskets in
+    let baskets_are : baskets ≡ coding.baskets = parts ∙ c.into_parts-ranks.ensures.baskets ∙ c.in_ok-baskets.ensures.baskets in
     let kept_are : kept ≡ coding.items = c.deref-2.ensures.value ∙ c.in_ok-kept.ensures.items_if_clones_equal (λ x y e. e) ∙ c.ranks.ensures in
     let decoded : List Weighted = map (decoded_place kept) baskets in
     let decoded_are : decoded ≡ baskets_of coding = ap (λ k. map (decoded_place k) baskets) kept_are ∙ ap (map (decoded_place coding.items)) baskets_are in
