@@ -14,6 +14,7 @@ mod ordered;
 mod pairs;
 mod places;
 mod runs;
+mod short_words;
 mod span;
 mod word_baskets;
 pub mod words;

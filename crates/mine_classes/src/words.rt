@@ -10,6 +10,7 @@ ghost use Rattle.mine_classes.specs.Span.{IsWithin, baskets_at};
 ghost use Rattle.mine_classes.specs.Words.{AreBits, bits_in, has_rank, ranks_in, word_places};
 
 use crate::places::place_of;
+use crate::short_words::ShortWords;
 use crate::span::Span;
 use std::alloc::{AllocError, Global};
 
@@ -34,7 +35,7 @@ impl Word {
     }
 
     /// Adds the weight of an equal word.
-    fn add_weight(&mut self, weight: u64)
+    pub(crate) fn add_weight(&mut self, weight: u64)
         requires { self.old.weight + weight ≤ MOST_WEIGHT }
         ensures { self.new ≡ record { bits = self.old.bits; weight = self.old.weight + weight } }
     {
@@ -167,8 +168,8 @@ pub fn add(words: &mut Vec<Word>, word: Word) -> Result<(), AllocError>
     Ok(())
 }
 
-/// The baskets, which are parts of a list of ranks, as the bits of the places of their ranks. Equal
-/// neighbours are merged.
+/// The baskets, which are parts of a list of ranks, as the bits of the places of their ranks. Those of
+/// at most one such rank are merged, and so are equal neighbours.
 pub fn words_of(
     alloc: Global,
     of: &[u64],
@@ -186,11 +187,16 @@ pub fn words_of(
     ensures weights { IfOk result (λ words. HaveSameWeights (map (placed kept.now) (baskets_at ranks.now baskets.now)) (word_places (length kept.now) words.items)) }
 {
     let mut words = Vec::with_capacity(alloc, baskets.len())?;
+    let mut short = ShortWords::new(alloc)?;
     for basket in baskets {
         let bits = bits_of(of, kept, basket.of(ranks));
         let weight = basket.weight;
-        add(&mut words, Word { bits, weight })?;
+        let word = Word { bits, weight };
+        if !short.take_in(word) {
+            add(&mut words, word)?;
+        }
     }
+    short.add_to(&mut words)?;
     Ok(words)
 }
 

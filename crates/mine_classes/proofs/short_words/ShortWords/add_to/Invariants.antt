@@ -1,0 +1,14 @@
+use Rattle.std.proofs.Common.{◌≡◌, ◌≤◌, ◌+◌, ◌++◌, ℕ, take}
+use Rattle.std.specs.Prelude.{All}
+use Rattle.std.specs.List.{sum_by}
+use Rattle.mine_classes.specs.declared.words.Word.{Word}
+use Rattle.mine_classes.specs.Ordered.{HaveSameWeights}
+use Rattle.mine_classes.specs.Words.{word_places}
+use Rattle.mine_classes.proofs.short_words.ShortWords.add_to.Given as goal
+
+abbrev pub invariant-loop-word : goal.invariant-loop-word
+invariant-loop-word l = record {
+  some : All (λ (word : Word). 1 ≤ word.weight) l.words.items;
+  light : sum_by (λ (word : Word). word.weight) l.words.items ≡ sum_by (λ (word : Word). word.weight) l.initial.words.items + sum_by (λ (word : Word). word.weight) (take l.word-index l.self.words.items);
+  weights : (count : ℕ) → HaveSameWeights (word_places count (l.initial.words.items ++ take l.word-index l.self.words.items)) (word_places count l.words.items);
+}
