@@ -8,17 +8,25 @@ ghost use Rattle.mine_classes.specs.Words.{word_places};
 use crate::words::{WORD_RANKS, Word, bit_of};
 use std::alloc::{AllocError, Global};
 
-/// The words of at most one rank, each with the weight of all that were equal to it.
+/// From how many baskets on it pays to look for words of at most one rank.
+const MANY_BASKETS: usize = 256;
+
+/// The words of at most one rank, each with the weight of all that were equal to it, or none of them.
 #[derive(Debug, Drop)]
 pub struct ShortWords {
     pub words: Vec<Word>,
 }
 
 impl ShortWords {
-    /// They weigh nothing yet.
-    pub fn new(alloc: Global) -> Result<Self, AllocError>
+    /// They weigh nothing yet. There are none where so many baskets are few.
+    pub fn new(alloc: Global, baskets: usize) -> Result<Self, AllocError>
         ensures { IfOk result (λ short. sum_by (λ (word : Bits). word.weight) short.words.items ≡ 0) }
     {
+        if baskets < MANY_BASKETS {
+            return Ok(ShortWords {
+                words: Vec::new(alloc),
+            });
+        }
         let mut words = Vec::with_capacity(alloc, WORD_RANKS + 1)?;
         for rank in 0..WORD_RANKS {
             words.push(Word {

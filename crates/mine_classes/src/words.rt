@@ -187,7 +187,7 @@ pub fn words_of(
     ensures weights { IfOk result (λ words. HaveSameWeights (map (placed kept.now) (baskets_at ranks.now baskets.now)) (word_places (length kept.now) words.items)) }
 {
     let mut words = Vec::with_capacity(alloc, baskets.len())?;
-    let mut short = ShortWords::new(alloc)?;
+    let mut short = ShortWords::new(alloc, baskets.len())?;
     for basket in baskets {
         let bits = bits_of(of, kept, basket.of(ranks));
         let weight = basket.weight;
