@@ -1,10 +1,11 @@
 -- Places of ranks in a rising list.
-use Rattle.std.proofs.Common.{◌≡◌, ◌≢◌, ℕ, ◌+◌, ◌<◌, ◌≤◌, Bool, true, false, ◌||◌, List, [], ◌∷◌, ◌++◌, Option, Some, None, length, take, get_or, set, map, cond, eqb, refl, sym, ap, ◌∙◌, subst, inl, inr, arith, add-zero, zero-add, zero, suc}
+use Rattle.std.proofs.Common.{◌≡◌, ◌≢◌, ℕ, unwrap_or, ◌+◌, ◌<◌, ◌≤◌, Bool, true, false, ◌||◌, List, [], ◌∷◌, ◌++◌, Option, Some, None, length, take, get_or, set, map, cond, eqb, refl, sym, ap, ◌∙◌, subst, inl, inr, arith, add-zero, zero-add, zero, suc}
 use Rattle.std.specs.Prelude.{All, replicate}
 use Rattle.std.specs.List.{AllByRecursion, cons_option, filter_map}
-use Rattle.std.specs.Option.{option_to_list}
+use Rattle.std.specs.Option.{is_some, option_to_list}
+use mir.Val.{bool_byte}
 use Rattle.std.proofs.lemmas.Bool.{cases_Bool, cases_eq, cases_lt, eq-eqb, ne_eqb, true≢false}
-use Rattle.std.proofs.lemmas.List.{ext_get_or, get_or_default, get_or-map, get_or-replicate, get_or-set_same, get_or-set_other, get_or-take, length-map, length-replicate, length-take, map-append, take_more}
+use Rattle.std.proofs.lemmas.List.{append-nil, ext_get_or, get_or_default, get_or-map, get_or-replicate, get_or-set_same, get_or-set_other, get_or-take, length-map, length-replicate, length-take, map-append, take-set, take_more, take_more_set}
 use Rattle.std.proofs.lemmas.List.Elements.{All-from_recursion, recursion_from_All}
 use Rattle.basket_sets.specs.declared.weighted.Weighted.{Weighted}
 use Rattle.basket_core.specs.Codes.{coded, coded_place, rank_from, rank_of}
@@ -128,6 +129,19 @@ filter_map-push h (first ∷ xs) x = ap (cons_option (h first)) (filter_map-push
 pub places_more : (h : ℕ → Option ℕ) (basket : List ℕ) (i : ℕ) → i < length basket
     → filter_map h (take (i + 1) basket) ≡ filter_map h (take i basket) ++ option_to_list (h (get_or basket i 0))
 places_more h basket i here = ap (filter_map h) (take_more basket i 0 here) ∙ filter_map-push h (take i basket) (get_or basket i 0)
+
+-- what is put down for one rank more, over which the next is put where there is nothing for it
+pub one_at_most : (b : Bool) → bool_byte b ≤ 1
+one_at_most true = omega arith
+one_at_most false = omega arith
+
+pub slot_put : (now front : List ℕ) (len : ℕ) (slot : Option ℕ) (more : ℕ) → len < length now → more ≡ bool_byte (is_some slot) → take len now ≡ front
+    → take (len + more) (set now len (unwrap_or slot 0)) ≡ front ++ option_to_list slot
+slot_put now front len None more room count before =
+    let none : len + more ≡ len = omega (arith, count) in ap (λ n. take n (set now len 0)) none ∙ take-set now len 0 ∙ before ∙ sym (append-nil front)
+slot_put now front len (Some y) more room count before =
+    let one : len + more ≡ len + 1 = omega (arith, count) in
+    ap (λ n. take n (set now len y)) one ∙ take_more_set now len y room ∙ ap (λ l. l ++ y ∷ []) before
 
 -- from a table that has a slot for each of its ranks
 pub slots_are : (kept : List ℕ) (places : List (Option ℕ)) (basket : List ℕ) → IsRising kept → ArePlaces kept places → AllBelow (length places) basket → slots_in places basket ≡ places_in kept basket

@@ -189,17 +189,20 @@ fn add_by_search(locals: &mut Vec<u32>, kept: &[u32], basket: &[u32]) -> Result<
     Ok(())
 }
 
-/// Adds what the table has for the ranks of a basket.
+/// Adds what the table has for the ranks of a basket. A place is put down for each rank, and the next
+/// one over it where the rank has none: which have one can't be predicted, so a branch would cost more.
 fn add_by_table(locals: &mut Vec<u32>, of: &[Option<u32>], basket: &[u32]) -> Result<(), AllocError>
     requires { AllBelow (length of.now) basket.now }
     ensures { OnOk result (locals.new.items ≡ locals.old.items ++ slots_in of.now basket.now) }
 {
+    let mut len = locals.len();
+    locals.extend_from_slice(basket)?;
     for rank in basket {
-        match of[*rank as usize] {
-            Some(at) => locals.push(at)?,
-            None => {}
-        }
+        let place = of[*rank as usize];
+        locals[len] = place.unwrap_or(0);
+        len += usize::from(place.is_some());
     }
+    locals.truncate(len);
     Ok(())
 }
 

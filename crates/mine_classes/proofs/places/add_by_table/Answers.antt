@@ -1,21 +1,32 @@
-use Rattle.std.proofs.Common.{◌++◌, ◌∷◌, [], None, get_or, length, take, sym, ap, ◌∙◌, append_assoc, append-nil}
+use Rattle.std.proofs.Common.{◌+◌, ◌++◌, None, get_or, length, set, take, sym, ap, ◌∙◌, append_assoc, arith}
 use Rattle.std.specs.Option.{option_to_list}
+use Rattle.std.proofs.lemmas.List.{length-set}
+use mir.Val.{bool_byte}
 use Rattle.mine_classes.specs.Places.{slots_in}
 use Rattle.mine_classes.proofs.RunLemmas.{all_below_at}
-use Rattle.mine_classes.proofs.PlaceLemmas.{places_more}
+use Rattle.mine_classes.proofs.PlaceLemmas.{one_at_most, places_more, slot_put}
 use Rattle.mine_classes.proofs.places.add_by_table.Goals as goal
-use Rattle.mine_classes.proofs.places.add_by_table.Goals.{in-Some+in_ok-push-in-Some, in-None}
 
-pub bounds : goal.bounds
-bounds c = all_below_at (length c.args.of.now) c.args.basket.now c.loop-rank.rank-index c.requires c.loop-rank-test.true
+pub bounds-of-rank : goal.bounds-of-rank
+bounds-of-rank c = all_below_at (length c.args.of.now) c.args.basket.now c.loop-rank.rank-index c.requires c.loop-rank-test.true
 
 pub loop-rank-preserved : goal.loop-rank-preserved
 loop-rank-preserved c =
+    let basket = c.args.basket.now in
     let old = c.args.locals.now.items in
-    let so_far = slots_in c.args.of.now (take c.loop-rank.rank-index c.args.basket.now) in
-    let more = places_more (λ rank. get_or c.args.of.now rank None) c.args.basket.now c.loop-rank.rank-index c.loop-rank-test.true in
-    elim c.match-of-rank.branch [
-      | in-Some+in_ok-push-in-Some w ↦ ap (λ v. v.items) w.locals-is ∙ w.in_ok-push-in-Some.ensures.items ∙ ap (λ l. l ++ w.in-Some.at ∷ []) c.loop-rank.invariant
-          ∙ append_assoc old so_far (w.in-Some.at ∷ []) ∙ ap (λ l. old ++ l) (sym (more ∙ ap (λ o. so_far ++ option_to_list o) w.in-Some.is))
-      | in-None w ↦ ap (λ v. v.items) w.locals-is ∙ c.loop-rank.invariant ∙ ap (λ l. old ++ l) (sym (more ∙ ap (λ o. so_far ++ option_to_list o) w.in-None.is ∙ append-nil so_far))
-    ]
+    let locals = c.loop-rank.locals.items in
+    let i = c.loop-rank.rank-index in
+    let len = c.loop-rank.len in
+    let was = c.loop-rank.invariant in
+    let slot = get_or c.args.of.now (get_or basket i 0) None in
+    let counted = c.from-len.ensures ∙ ap bool_byte c.is_some.ensures in
+    let most = one_at_most c.is_some.result in
+    let so_far = slots_in c.args.of.now (take i basket) in
+    record {
+      room = length-set locals len c.unwrap_or.result ∙ was.room;
+      few = omega (arith, was.few, most, c.from-len.ensures);
+      put = ap (λ n. take (len + c.from-len.result) (set locals len n)) c.unwrap_or.ensures
+          ∙ slot_put locals (old ++ so_far) len slot c.from-len.result (omega (arith, was.room, was.few, c.loop-rank-test.true)) counted was.put
+          ∙ append_assoc old so_far (option_to_list slot)
+          ∙ ap (λ l. old ++ l) (sym (places_more (λ rank. get_or c.args.of.now rank None) basket i c.loop-rank-test.true));
+    }
