@@ -1,9 +1,10 @@
 //! Where sets stand in a list of items.
-ghost use Rattle.std.specs.Prelude.{◌≡◌, IfOk, length};
+ghost use Rattle.std.specs.Prelude.{◌≡◌, ◌≤◌, ◌<◌, ◌+◌, All, IfOk, length, map};
 ghost use Rattle.std.specs.List.{slice_range};
-ghost use Rattle.basket_lists.specs.Plain.{IsWithin};
+ghost use Rattle.basket_lists.specs.declared.place.Place.{Place as Part};
+ghost use Rattle.basket_lists.specs.Plain.{IsWithin, behind};
 
-use std::alloc::AllocError;
+use std::alloc::{AllocError, Global};
 
 /// A part of a list of items, from `start` up to `end`, and the count of the set that it is.
 #[derive(Clone, Copy, Debug)]
@@ -23,6 +24,30 @@ impl Place {
             None => &[],
         }
     }
+
+    /// The same part where so many items stand before those of its list.
+    fn behind(&self, start: u32) -> Place
+        requires { (self.now.start ≤ self.now.end) × (start + self.now.end < 4294967296) }
+        ensures { result ≡ behind start self.now }
+    {
+        Place {
+            start: start + self.start,
+            end: start + self.end,
+            count: self.count,
+        }
+    }
+}
+
+/// The places where so many items stand before those of their list.
+pub fn places_behind(alloc: Global, places: &[Place], start: u32) -> Result<Vec<Place>, AllocError>
+    requires { All (λ (place : Part). (place.start ≤ place.end) × (start + place.end < 4294967296)) places.now }
+    ensures { IfOk result (λ moved. moved.items ≡ map (behind start) places.now) }
+{
+    let mut moved = Vec::with_capacity(alloc, places.len())?;
+    for place in places {
+        moved.push(place.behind(start))?;
+    }
+    Ok(moved)
 }
 
 /// The end of a list of items. More than 4,294,967,295 of them count as a refused growth.

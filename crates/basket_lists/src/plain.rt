@@ -8,7 +8,7 @@ ghost use Rattle.basket_sets.specs.Itemset.{IsRising, with_item};
 ghost use Rattle.basket_sets.specs.Order.{report_order};
 
 use crate::keys::sort_places;
-use crate::place::{Place, end_of};
+use crate::place::{Place, end_of, places_behind};
 use std::alloc::{AllocError, Global};
 use std::cmp::Ordering;
 use std::marker::Model;
@@ -81,12 +81,14 @@ impl PlainSets {
     }
 
     /// Adds the sets of another list.
-    pub fn append(&mut self, other: &PlainSets) -> Result<(), AllocError>
+    pub fn append(&mut self, alloc: Global, other: &PlainSets) -> Result<(), AllocError>
         ensures { OnOk result (self.new ≡ self.old ++ other.now) }
     {
-        for place in 0..other.len() {
-            self.push(other.items(place), other.count(place))?;
-        }
+        let start = end_of(&self.items)?;
+        self.items.extend_from_slice(&other.items)?;
+        let _end = end_of(&self.items)?;
+        let mut moved = places_behind(alloc, &other.places, start)?;
+        self.places.append(&mut moved)?;
         Ok(())
     }
 
