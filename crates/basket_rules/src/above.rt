@@ -7,9 +7,11 @@ ghost use Rattle.basket_rules.specs.Search.{IsMissing};
 ghost use Rattle.basket_rules.specs.Subset.{without};
 ghost use Rattle.basket_rules.specs.Tree.{AreColumnsOf, AreNodesOf, ArePlacesOf, IsColumnOf, IsPlaceOf, IsTreeOf};
 
+use crate::listed::items_at;
 use crate::search::find_near;
 use crate::tree::{Column, NOWHERE, Tree, short};
-use basket_core::Counted;
+use basket_core::CountedSets;
+use basket_lists::MOST_ITEMS;
 use std::alloc::{AllocError, Global};
 
 /// The sets from `start` up to `end`, which have so many items, and the place of one of these.
@@ -23,7 +25,7 @@ struct Pass {
 
 /// Beside each set of the list, the greatest count of a set of the list that has one item more, or
 /// 0 where there is none. The sets of one size are gone over together, once for each place of an item.
-pub fn greatest_above(alloc: Global, sets: &[Counted]) -> Result<Vec<u64>, AllocError>
+pub fn greatest_above(alloc: Global, sets: &CountedSets) -> Result<Vec<u64>, AllocError>
     ensures { IfOk result (λ counts. AreGreatestAbove sets.now (IsBefore (length sets.now)) counts.items) }
 {
     let mut tree = Tree::new(alloc, sets.len())?;
@@ -31,7 +33,7 @@ pub fn greatest_above(alloc: Global, sets: &[Counted]) -> Result<Vec<u64>, Alloc
     let mut columns = Vec::new(alloc);
     let mut start = 0;
     while start < sets.len() {
-        let size = tree.add_size(sets)?;
+        let size = tree.add_size(alloc, sets)?;
         columns = raise_below(alloc, sets, &tree, &columns, start, size, &mut counts)?;
         start = tree.nodes.len();
     }
@@ -42,7 +44,7 @@ pub fn greatest_above(alloc: Global, sets: &[Counted]) -> Result<Vec<u64>, Alloc
 /// the columns of these sets, by those of the sets of one item less.
 fn raise_below(
     alloc: Global,
-    sets: &[Counted],
+    sets: &CountedSets,
     tree: &Tree,
     columns: &[Column],
     start: usize,
@@ -77,7 +79,7 @@ fn raise_below(
 /// these sets, by that of the sets of one item less.
 fn raise_column(
     alloc: Global,
-    sets: &[Counted],
+    sets: &CountedSets,
     tree: &Tree,
     column: &Column,
     pass: Pass,
@@ -98,7 +100,7 @@ fn raise_column(
     for number in pass.start..pass.end {
         let known = &mut places[number - pass.start];
         if let Some(at) = find_below(sets, pass, number, known, &mut hint) {
-            counts[at] = greater(counts[at], tree.counts[number]);
+            counts[at] = greater(counts[at], sets.count(number));
         }
     }
     Ok(Column {
@@ -110,7 +112,7 @@ fn raise_column(
 /// Where the sets of a pass stand without the item at its place, as far as the tree says it.
 fn places_below(
     alloc: Global,
-    sets: &[Counted],
+    sets: &CountedSets,
     tree: &Tree,
     column: &Column,
     pass: Pass,
@@ -164,7 +166,7 @@ fn greater(count: u64, other: u64) -> u64
 /// Where the set at `number` stands without the item at the place of the pass. Where that isn't
 /// known, it is looked for, and then it is.
 fn find_below(
-    sets: &[Counted],
+    sets: &CountedSets,
     pass: Pass,
     number: usize,
     known: &mut u32,
@@ -182,28 +184,23 @@ fn find_below(
     if *known != NOWHERE {
         return Some(*known as usize);
     }
-    let below = find_without(sets, sets[number].set.items(), pass.place, hint);
+    let mut room = [0; MOST_ITEMS];
+    let items = items_at(sets, number, &mut room);
+    let below = find_without(sets, items, pass.place, hint);
     *known = short(below);
     below
 }
 
 /// Where the items without the one at the place are a set of the list. The search begins at the
-/// hint, which then becomes the place where it ended.
+/// hint, which then becomes the place.
 #[inline(never)]
-fn find_without(sets: &[Counted], items: &[u32], place: usize, hint: &mut usize) -> Option<usize>
+fn find_without(sets: &CountedSets, items: &[u32], place: usize, hint: &mut usize) -> Option<usize>
     requires { place < length items.now }
     ensures bound { IfSome result (λ at. at < length sets.now) }
     ensures found { IfSome result (λ at. set_at sets.now at ≡ without place items.now) }
     ensures missing { IfNone result (IsMissing sets.now (without place items.now)) }
 {
-    match find_near(sets, &items[..place], &items[place + 1..], *hint) {
-        Ok(at) => {
-            *hint = at;
-            Some(at)
-        }
-        Err(at) => {
-            *hint = at;
-            None
-        }
-    }
+    let found = find_near(sets, &items[..place], &items[place + 1..], *hint);
+    *hint = found.unwrap_or(*hint);
+    found
 }
