@@ -34,34 +34,33 @@ pub fn greatest_above(alloc: Global, sets: &CountedSets) -> Result<Vec<u64>, All
     let mut start = 0;
     while start < sets.len() {
         let size = tree.add_size(alloc, sets)?;
-        columns = raise_below(alloc, sets, &tree, &columns, start, size, &mut counts)?;
+        raise_below(alloc, sets, &tree, &mut columns, start, size, &mut counts)?;
         start = tree.nodes.len();
     }
     Ok(counts)
 }
 
-/// Raises the counts beside the subsets of the sets from `start` on that have one item less. Gives
-/// the columns of these sets, by those of the sets of one item less.
+/// Raises the counts beside the subsets of the sets from `start` on that have one item less. The
+/// columns become those of these sets, one after another.
 fn raise_below(
     alloc: Global,
     sets: &CountedSets,
     tree: &Tree,
-    columns: &[Column],
+    columns: &mut Vec<Column>,
     start: usize,
     size: usize,
     counts: &mut [u64],
-) -> Result<Vec<Column>, AllocError>
+) -> Result<(), AllocError>
     requires ordered { start ≤ length tree.now.nodes.items }
     requires sized { AreSized sets.now start (length tree.now.nodes.items) size }
     requires tree { IsTreeOf sets.now tree.now }
-    requires columns { AreColumnsOf sets.now columns.now }
+    requires columns { AreColumnsOf sets.now columns.old.items }
     requires before { AreGreatestAbove sets.now (IsBefore start) counts.old }
-    ensures columns { IfOk result (λ raised. AreColumnsOf sets.now raised.items) }
+    ensures columns { OnOk result (AreColumnsOf sets.now columns.new.items) }
     ensures raised { OnOk result (AreGreatestAbove sets.now (IsBefore (length tree.now.nodes.items)) counts.new) }
 {
     let end = tree.nodes.len();
     let none = Column::none(alloc);
-    let mut raised = Vec::with_capacity(alloc, size)?;
     for place in 0..size {
         let column = columns.get(place).unwrap_or(&none);
         let pass = Pass {
@@ -70,9 +69,23 @@ fn raise_below(
             size,
             place,
         };
-        raised.push(raise_column(alloc, sets, tree, column, pass, counts)?)?;
+        let raised = raise_column(alloc, sets, tree, column, pass, counts)?;
+        put_column(columns, place, raised)?;
     }
-    Ok(raised)
+    Ok(())
+}
+
+/// Puts a column at a place, or behind all others.
+fn put_column(columns: &mut Vec<Column>, place: usize, column: Column) -> Result<(), AllocError>
+    requires { place ≤ length columns.old.items }
+    ensures long { OnOk result (place < length columns.new.items) }
+    ensures columns { OnOk result ((list : List Counted) → AreColumnsOf list columns.old.items → IsColumnOf list place column → AreColumnsOf list columns.new.items) }
+{
+    match columns.get_mut(place) {
+        Some(last) => *last = column,
+        None => columns.push(column)?,
+    }
+    Ok(())
 }
 
 /// Raises the counts beside the sets of a pass without the item at its place. Gives the column of
