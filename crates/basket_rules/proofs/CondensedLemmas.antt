@@ -262,14 +262,10 @@ dropped_more at list number kept c so below is fails test agrees =
     ∙ sym (filter-append test (take number list) (c ∷ []))
     ∙ ap (filter test) (ap (λ x. take number list ++ x ∷ []) is ∙ sym (take_more list number c below))
 
--- the set at the place, read as it is kept
-pub kept_there : (at : ℕ → Counted → Bool) (list : List Counted) (number : ℕ) (kept : List Counted) (d : Counted) (set : List ℕ) (count : ℕ) → IsKept at list number kept → number < length list
-    → set ≡ (get_or list number d).set → count ≡ (get_or list number d).count → at number (get_or list number d) ≡ true
-    → IsKept at list (number + 1) (kept ++ record { set = set; count = count } ∷ [])
-kept_there at list number kept d set count so below items counts passes =
-    let c = get_or list number d in
-    let whole : record { set = set; count = count } ≡ c = λ i. record { set = items i; count = counts i } in
-    subst (λ x. IsKept at list (number + 1) (kept ++ x ∷ [])) (sym whole) (kept_more at list number kept c so below (get_or_default list number d c below) passes)
+-- the same with what is read at the place
+pub kept_there : (at : ℕ → Counted → Bool) (list : List Counted) (number : ℕ) (kept : List Counted) (d : Counted) → IsKept at list number kept → number < length list
+    → at number (get_or list number d) ≡ true → IsKept at list (number + 1) (kept ++ get_or list number d ∷ [])
+kept_there at list number kept d so below = kept_more at list number kept (get_or list number d) so below (get_or_default list number d (get_or list number d) below)
 
 pub dropped_there : (at : ℕ → Counted → Bool) (list : List Counted) (number : ℕ) (kept : List Counted) (d : Counted) → IsKept at list number kept → number < length list
     → at number (get_or list number d) ≡ false → IsKept at list (number + 1) kept

@@ -1,6 +1,7 @@
 //! Closed and maximal sets.
-ghost use Rattle.std.specs.Prelude.{IfOk};
+ghost use Rattle.std.specs.Prelude.{◌≡◌, ◌<◌, ◌++◌, ◌∷◌, [], IfOk, OnOk, length};
 ghost use Rattle.basket_rules.specs.Condensed.{AreClosed, AreMaximal};
+ghost use Rattle.basket_rules.specs.Listed.{counted_at};
 
 use crate::above::greatest_above;
 use basket_core::{CountedSets, Frequent};
@@ -15,7 +16,7 @@ pub fn closed(alloc: Global, frequent: &Frequent) -> Result<CountedSets, AllocEr
     let mut closed = CountedSets::empty(alloc);
     for number in 0..sets.len() {
         if above[number] < sets.count(number) {
-            closed.push(sets.set(alloc, number)?, sets.count(number))?;
+            keep(alloc, sets, number, &mut closed)?;
         }
     }
     Ok(closed)
@@ -30,8 +31,21 @@ pub fn maximal(alloc: Global, frequent: &Frequent) -> Result<CountedSets, AllocE
     let mut maximal = CountedSets::empty(alloc);
     for number in 0..sets.len() {
         if above[number] == 0 {
-            maximal.push(sets.set(alloc, number)?, sets.count(number))?;
+            keep(alloc, sets, number, &mut maximal)?;
         }
     }
     Ok(maximal)
+}
+
+/// Adds the set at a place of the list.
+fn keep(
+    alloc: Global,
+    sets: &CountedSets,
+    place: usize,
+    kept: &mut CountedSets,
+) -> Result<(), AllocError>
+    requires { place < length sets.now }
+    ensures { OnOk result (kept.new ≡ kept.old ++ counted_at sets.now place ∷ []) }
+{
+    kept.push(sets.set(alloc, place)?, sets.count(place))
 }

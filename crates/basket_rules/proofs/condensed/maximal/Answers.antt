@@ -5,7 +5,7 @@ use Rattle.basket_sets.specs.declared.counted.Counted.{Counted}
 use Rattle.basket_rules.proofs.CondensedLemmas.{IsKept, kept_there, dropped_there, are_maximal}
 use Rattle.basket_rules.proofs.SearchLemmas.{none}
 use Rattle.basket_rules.proofs.condensed.maximal.Goals as goal
-use Rattle.basket_rules.proofs.condensed.maximal.Goals.{then-index-eq0+in_ok-set+in_ok-push, else-index-eq0}
+use Rattle.basket_rules.proofs.condensed.maximal.Goals.{then-index-eq0+in_ok-keep, else-index-eq0}
 
 pub returns : goal.returns
 returns c =
@@ -22,10 +22,10 @@ loop-number-preserved c =
     let below : number < length counts = omega (arith, c.in_ok-above.ensures.long, listed) in
     let read : c.index.result.now ≡ get_or counts number 0 = c.index.ensures ∙ get_or_default counts number c.index.result.now 0 below in
     elim c.if-index-eq0.branch [
-      | then-index-eq0+in_ok-set+in_ok-push w ↦
+      | then-index-eq0+in_ok-keep w ↦
           let passes = eq-eqb (get_or counts number 0) 0 (sym read ∙ w.if-index-eq0.true) in
-          let more = kept_there at list number kept none w.in_ok-set.field-0 w.count.result c.loop-number.invariant listed w.in_ok-set.ensures w.count.ensures passes in
-          subst (IsKept at list (number + 1)) (sym (w.maximal-is ∙ w.in_ok-push.ensures)) more
+          let more = kept_there at list number kept none c.loop-number.invariant listed passes in
+          subst (IsKept at list (number + 1)) (sym (w.maximal-is ∙ w.in_ok-keep.ensures)) more
       | else-index-eq0 w ↦
           let fails = ne_eqb (get_or counts number 0) 0 (λ h. w.if-index-eq0.false (read ∙ h)) in
           subst (IsKept at list (number + 1)) (sym w.maximal-is) (dropped_there at list number kept none c.loop-number.invariant listed fails)
