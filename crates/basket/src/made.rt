@@ -45,8 +45,7 @@ impl Made {
         ensures { IfOk result (λ made. (baskets : List Basket) (minimum : Bound) → IsListingOf baskets minimum frequent
             → made_text made ≡ report_of (wording_of style.entry) (closed_of baskets minimum)) }
     {
-        let sets = closed(alloc, &frequent.unpacked(alloc)?)?;
-        Made::of_sets(alloc, CountedSets::of_sets(alloc, &sets)?, style)
+        Made::of_sets(alloc, closed(alloc, &frequent)?, style)
     }
 
     /// The report of those of the frequent sets that are maximal.
@@ -58,8 +57,7 @@ impl Made {
         ensures { IfOk result (λ made. (baskets : List Basket) (minimum : Bound) → IsListingOf baskets minimum frequent
             → made_text made ≡ report_of (wording_of style.entry) (maximal_of baskets minimum)) }
     {
-        let sets = maximal(alloc, &frequent.unpacked(alloc)?)?;
-        Made::of_sets(alloc, CountedSets::of_sets(alloc, &sets)?, style)
+        Made::of_sets(alloc, maximal(alloc, &frequent)?, style)
     }
 
     /// Writes the report to its end and flushes. Where the sink fails, it has taken a front of it.

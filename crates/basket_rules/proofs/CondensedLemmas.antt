@@ -2,7 +2,7 @@
 use Rattle.std.proofs.Common.{◌≡◌, ℕ, ◌+◌, ◌<◌, ◌≤◌, Bool, true, false, not, eqb, ltb, List, [], ◌∷◌, ◌++◌, length, take, get_or, cond, filter, refl, sym, ap, ◌∙◌, subst, inl, inr, arith}
 use Rattle.std.specs.List.{list_all}
 use Rattle.std.proofs.lemmas.Bool.{cases_lt, and_parts, and_from, ltb-true, lt-ltb, eqb-true, eq-eqb, true≢false, false_from_ne_true}
-use Rattle.std.proofs.lemmas.List.{get_or-map, take_all, take_more, append-nil}
+use Rattle.std.proofs.lemmas.List.{get_or-map, get_or_default, take_all, take_more, append-nil}
 use Rattle.std.proofs.lemmas.List.Elements.{filter-append}
 use Rattle.basket_core.specs.Listing.{Listing}
 use Rattle.basket_sets.specs.declared.weighted.Weighted.{Weighted}
@@ -23,7 +23,7 @@ use Rattle.basket_rules.specs.Subset.{without, IsWithout}
 use Rattle.basket_rules.specs.Above.{HasAbove, IsGreatestAbove, AreGreatestAbove, IsBefore}
 use Rattle.basket_rules.specs.Condensed.{is_proper_superset, supersets_of, none_supported_alike, none_frequent, is_closed, is_maximal, extensions_of, OneItemMoreDecides, AreClosed, AreMaximal}
 use Rattle.basket_rules.proofs.SubsetLemmas.{each_passes, all_pass, contains_without, without_lacks, placed, item_more, contains_less, contains_with_item, with_item_lacks}
-use Rattle.basket_rules.proofs.SearchLemmas.{set_is}
+use Rattle.basket_rules.proofs.SearchLemmas.{none, set_is}
 
 -- ---- tests
 
@@ -119,9 +119,6 @@ one_item_more_decides baskets minimum set nonempty often =
     (closed_by_extensions baskets minimum set nonempty.0 within, maximal_by_extensions baskets minimum set nonempty.0 within)
 
 -- ---- the counts above
-
-pub none : Counted
-none = record { set = []; count = 0 }
 
 module _ (baskets : List Weighted) (minimum : Minimum) (listing : Listing) (is : IsListingOf baskets minimum listing) where
   pub lists : ListsFrequent baskets minimum listing.sets
@@ -264,6 +261,15 @@ dropped_more at list number kept c so below is fails test agrees =
     ∙ ap (λ l. filter test (take number list) ++ l) (sym (ap (λ b. cond b (c ∷ []) []) e))
     ∙ sym (filter-append test (take number list) (c ∷ []))
     ∙ ap (filter test) (ap (λ x. take number list ++ x ∷ []) is ∙ sym (take_more list number c below))
+
+-- the same with what is read at the place
+pub kept_there : (at : ℕ → Counted → Bool) (list : List Counted) (number : ℕ) (kept : List Counted) (d : Counted) → IsKept at list number kept → number < length list
+    → at number (get_or list number d) ≡ true → IsKept at list (number + 1) (kept ++ get_or list number d ∷ [])
+kept_there at list number kept d so below = kept_more at list number kept (get_or list number d) so below (get_or_default list number d (get_or list number d) below)
+
+pub dropped_there : (at : ℕ → Counted → Bool) (list : List Counted) (number : ℕ) (kept : List Counted) (d : Counted) → IsKept at list number kept → number < length list
+    → at number (get_or list number d) ≡ false → IsKept at list (number + 1) kept
+dropped_there at list number kept d so below = dropped_more at list number kept (get_or list number d) so below (get_or_default list number d (get_or list number d) below)
 
 -- ---- all sets
 

@@ -25,8 +25,8 @@ use Rattle.basket_rules.specs.declared.rights.TheConstants.{MOST_PLACES}
 use Rattle.basket_rules.specs.Listed.{IsListingOf, set_at}
 use Rattle.basket_rules.specs.Rights.{chosen, has_parts, has_place, longer, next_sides, no_places, side_of, with_place, words_of}
 use Rattle.basket_rules.specs.Rules.{is_confident, rule_of, right_sides_of, IsRightSide, IsRuleFor, KeepsConfident, AreRulesWith, AreRules, rules_with}
-use Rattle.basket_rules.proofs.CondensedLemmas.{entry, none}
-use Rattle.basket_rules.proofs.SearchLemmas.{set_is}
+use Rattle.basket_rules.proofs.CondensedLemmas.{entry}
+use Rattle.basket_rules.proofs.SearchLemmas.{none, set_is}
 use Rattle.basket_rules.proofs.RuleLemmas.{confidence_falls}
 use Rattle.basket_rules.proofs.PartLemmas.{left_out, parts_pass}
 use Rattle.basket_rules.proofs.RightLemmas.{sides_of, sides_are_subsets, all_longer, first_longer, kept_longer, fewer_longer, side_grows}

@@ -12,7 +12,7 @@ use Rattle.std.proofs.lemmas.Map.Keys.{Less-from_sorted}
 use Rattle.std.proofs.lemmas.List.{get_or-take, get_or-map, get_or_default, length-drop, length-map, length-take-le}
 use Rattle.basket_sets.specs.declared.counted.Counted.{Counted}
 use Rattle.basket_sets.specs.Order.{report_order, report_order_total, report_order_ties}
-use Rattle.basket_rules.specs.Listed.{IsSorted, sets_in, set_at}
+use Rattle.basket_rules.specs.Listed.{IsSorted, sets_in, set_at, count_at}
 use Rattle.basket_rules.specs.Search.{IsBetween, IsMissing}
 
 -- ---- a set beside the two parts of another
@@ -35,6 +35,13 @@ by_parts (x ∷ set) (y ∷ front) rest =
 -- a set of the list is the set of the entry there
 pub set_is : (list : List Counted) (k : ℕ) (d : Counted) → k < length list → set_at list k ≡ (get_or list k d).set
 set_is list k d below = get_or-map (λ (c : Counted). c.set) list k d [] below
+
+pub count_is : (list : List Counted) (k : ℕ) (d : Counted) → k < length list → count_at list k ≡ (get_or list k d).count
+count_is list k d below = get_or-map (λ (c : Counted). c.count) list k d 0 below
+
+-- what is read where there is no set
+abbrev pub none : Counted
+none = record { set = []; count = 0 }
 
 equal_sets : (a b : List ℕ) → report_order a b ≡ Equal → a ≡ b
 equal_sets a b e = (bytes_decides a b).0 (report_order_ties a b ∙ ap is_eq e)
@@ -85,19 +92,14 @@ greater_from list set i up more k d low high =
     let rises = answers_rise list set up i k d low high in
     only_greater (report_order (get_or list k d).set set) (omega (arith, ap ordering_index (more d)))
 
--- a set that was read compares alike whatever stands for places past the list
-pub read_at : (list : List Counted) (set : List ℕ) (i : ℕ) (c : Counted) (o : Ordering) → i < length list
-    → report_order (get_or list i c).set set ≡ o → HoldsAt (λ x. report_order x.set set ≡ o) list i
-read_at list set i c o below e d = ap (λ (x : Counted). report_order x.set set) (get_or_default list i d c below) ∙ e
+-- a set that was compared
+pub compared_at : (list : List Counted) (set : List ℕ) (i : ℕ) (items : List ℕ) (result o : Ordering) → i < length list → items ≡ set_at list i
+    → result ≡ report_order items set → result ≡ o → HoldsAt (λ x. report_order x.set set ≡ o) list i
+compared_at list set i items result o below is compared same d = ap (λ s. report_order s set) (sym (is ∙ set_is list i d below)) ∙ sym compared ∙ same
 
--- the sets before a greater one are left
-pub before_greater : (list : List Counted) (set : List ℕ) (start end : ℕ) → IsSorted list
-    → AllWithin (λ c. report_order c.set set ≡ Less) list 0 start → HoldsAt (λ c. report_order c.set set ≡ Greater) list end → IsBetween start end list set
-before_greater list set start end up smaller more = record { smaller = smaller; greater = greater_from list set end up more }
-
--- where nothing is left, only smaller sets are before
-pub before_end : (list : List Counted) (set : List ℕ) (start : ℕ) → AllWithin (λ c. report_order c.set set ≡ Less) list 0 start → IsBetween start (length list) list set
-before_end list set start smaller = record { smaller = smaller; greater = λ k d low high. absurd (omega arith) }
+-- nothing was compared
+pub all_between : (list : List Counted) (set : List ℕ) (end : ℕ) → length list ≤ end → IsBetween 0 end list set
+all_between list set end whole = record { smaller = λ k d low high. absurd (omega arith); greater = λ k d low high. absurd (omega arith) }
 
 -- ---- the search is over
 
@@ -105,7 +107,7 @@ pub stands : (list : List Counted) (set : List ℕ) (i : ℕ) → i < length lis
 stands [] set i below same = absurd (omega (arith, below))
 stands (c ∷ list) set i below same = set_is (c ∷ list) i c below ∙ equal_sets (get_or (c ∷ list) i c).set set (same c)
 
-is_missing : (list : List Counted) (set : List ℕ) (i : ℕ) → IsBetween i i list set → (k : ℕ) → k < length list → set_at list k ≡ set → ⊥
+pub is_missing : (list : List Counted) (set : List ℕ) (i : ℕ) → IsBetween i i list set → (k : ℕ) → k < length list → set_at list k ≡ set → ⊥
 is_missing [] set i b k below e = absurd (omega (arith, below))
 is_missing (c ∷ list) set i b k below e =
     let tie : report_order (get_or (c ∷ list) k c).set set ≡ Equal =

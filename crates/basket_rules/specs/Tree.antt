@@ -5,7 +5,7 @@ use Rattle.basket_rules.specs.declared.tree.Node.{Node}
 use Rattle.basket_rules.specs.declared.tree.Column.{Column}
 use Rattle.basket_rules.specs.declared.tree.Tree.{Tree}
 use Rattle.basket_rules.specs.declared.tree.TheConstants.{NOWHERE}
-use Rattle.basket_rules.specs.Listed.{set_at, count_at}
+use Rattle.basket_rules.specs.Listed.{set_at}
 use Rattle.basket_rules.specs.Subset.{without}
 
 -- the set at a place is that at another with one more item
@@ -21,15 +21,9 @@ pub record AreNodesOf (list : List Counted) (nodes : List Node) : Type 0 where
   pub within : length nodes ≤ length list
   pub each : (place : ℕ) (none : Node) → place < length nodes → IsNodeOf list place (slice_index_or nodes place none)
 
--- the counts are those of the first sets of the list
-abbrev pub AreCountsOf : List Counted → List ℕ → Type 0
-AreCountsOf list counts = (place : ℕ) → place < length counts → slice_index_or counts place 0 ≡ count_at list place
-
--- a tree has the nodes and the counts of the first sets of the list
-pub record IsTreeOf (list : List Counted) (tree : Tree) : Type 0 where
-  pub nodes : AreNodesOf list tree.nodes.items
-  pub long : length tree.counts.items ≡ length tree.nodes.items
-  pub counts : AreCountsOf list tree.counts.items
+-- a tree has the nodes of the first sets of the list
+abbrev pub IsTreeOf : List Counted → Tree → Type 0
+IsTreeOf list tree = AreNodesOf list tree.nodes.items
 
 -- a number is the place of a set, or says nothing
 abbrev pub IsPlaceOf : List Counted → List ℕ → ℕ → Type 0

@@ -7,9 +7,11 @@ ghost use Rattle.basket_rules.specs.Search.{IsMissing};
 ghost use Rattle.basket_rules.specs.Subset.{without};
 ghost use Rattle.basket_rules.specs.Tree.{AreColumnsOf, AreNodesOf, ArePlacesOf, IsColumnOf, IsPlaceOf, IsTreeOf};
 
+use crate::listed::items_at;
 use crate::search::find_near;
 use crate::tree::{Column, NOWHERE, Tree, short};
-use basket_core::Counted;
+use basket_core::CountedSets;
+use basket_lists::MOST_ITEMS;
 use std::alloc::{AllocError, Global};
 
 /// The sets from `start` up to `end`, which have so many items, and the place of one of these.
@@ -23,7 +25,7 @@ struct Pass {
 
 /// Beside each set of the list, the greatest count of a set of the list that has one item more, or
 /// 0 where there is none. The sets of one size are gone over together, once for each place of an item.
-pub fn greatest_above(alloc: Global, sets: &[Counted]) -> Result<Vec<u64>, AllocError>
+pub fn greatest_above(alloc: Global, sets: &CountedSets) -> Result<Vec<u64>, AllocError>
     ensures { IfOk result (λ counts. AreGreatestAbove sets.now (IsBefore (length sets.now)) counts.items) }
 {
     let mut tree = Tree::new(alloc, sets.len())?;
@@ -31,35 +33,34 @@ pub fn greatest_above(alloc: Global, sets: &[Counted]) -> Result<Vec<u64>, Alloc
     let mut columns = Vec::new(alloc);
     let mut start = 0;
     while start < sets.len() {
-        let size = tree.add_size(sets)?;
-        columns = raise_below(alloc, sets, &tree, &columns, start, size, &mut counts)?;
+        let size = tree.add_size(alloc, sets)?;
+        raise_below(alloc, sets, &tree, &mut columns, start, size, &mut counts)?;
         start = tree.nodes.len();
     }
     Ok(counts)
 }
 
-/// Raises the counts beside the subsets of the sets from `start` on that have one item less. Gives
-/// the columns of these sets, by those of the sets of one item less.
+/// Raises the counts beside the subsets of the sets from `start` on that have one item less. The
+/// columns become those of these sets, one after another.
 fn raise_below(
     alloc: Global,
-    sets: &[Counted],
+    sets: &CountedSets,
     tree: &Tree,
-    columns: &[Column],
+    columns: &mut Vec<Column>,
     start: usize,
     size: usize,
     counts: &mut [u64],
-) -> Result<Vec<Column>, AllocError>
+) -> Result<(), AllocError>
     requires ordered { start ≤ length tree.now.nodes.items }
     requires sized { AreSized sets.now start (length tree.now.nodes.items) size }
     requires tree { IsTreeOf sets.now tree.now }
-    requires columns { AreColumnsOf sets.now columns.now }
+    requires columns { AreColumnsOf sets.now columns.old.items }
     requires before { AreGreatestAbove sets.now (IsBefore start) counts.old }
-    ensures columns { IfOk result (λ raised. AreColumnsOf sets.now raised.items) }
+    ensures columns { OnOk result (AreColumnsOf sets.now columns.new.items) }
     ensures raised { OnOk result (AreGreatestAbove sets.now (IsBefore (length tree.now.nodes.items)) counts.new) }
 {
     let end = tree.nodes.len();
     let none = Column::none(alloc);
-    let mut raised = Vec::with_capacity(alloc, size)?;
     for place in 0..size {
         let column = columns.get(place).unwrap_or(&none);
         let pass = Pass {
@@ -68,16 +69,30 @@ fn raise_below(
             size,
             place,
         };
-        raised.push(raise_column(alloc, sets, tree, column, pass, counts)?)?;
+        let raised = raise_column(alloc, sets, tree, column, pass, counts)?;
+        put_column(columns, place, raised)?;
     }
-    Ok(raised)
+    Ok(())
+}
+
+/// Puts a column at a place, or behind all others.
+fn put_column(columns: &mut Vec<Column>, place: usize, column: Column) -> Result<(), AllocError>
+    requires { place ≤ length columns.old.items }
+    ensures long { OnOk result (place < length columns.new.items) }
+    ensures columns { OnOk result ((list : List Counted) → AreColumnsOf list columns.old.items → IsColumnOf list place column → AreColumnsOf list columns.new.items) }
+{
+    match columns.get_mut(place) {
+        Some(last) => *last = column,
+        None => columns.push(column)?,
+    }
+    Ok(())
 }
 
 /// Raises the counts beside the sets of a pass without the item at its place. Gives the column of
 /// these sets, by that of the sets of one item less.
 fn raise_column(
     alloc: Global,
-    sets: &[Counted],
+    sets: &CountedSets,
     tree: &Tree,
     column: &Column,
     pass: Pass,
@@ -98,7 +113,7 @@ fn raise_column(
     for number in pass.start..pass.end {
         let known = &mut places[number - pass.start];
         if let Some(at) = find_below(sets, pass, number, known, &mut hint) {
-            counts[at] = greater(counts[at], tree.counts[number]);
+            counts[at] = greater(counts[at], sets.count(number));
         }
     }
     Ok(Column {
@@ -110,7 +125,7 @@ fn raise_column(
 /// Where the sets of a pass stand without the item at its place, as far as the tree says it.
 fn places_below(
     alloc: Global,
-    sets: &[Counted],
+    sets: &CountedSets,
     tree: &Tree,
     column: &Column,
     pass: Pass,
@@ -164,7 +179,7 @@ fn greater(count: u64, other: u64) -> u64
 /// Where the set at `number` stands without the item at the place of the pass. Where that isn't
 /// known, it is looked for, and then it is.
 fn find_below(
-    sets: &[Counted],
+    sets: &CountedSets,
     pass: Pass,
     number: usize,
     known: &mut u32,
@@ -182,28 +197,23 @@ fn find_below(
     if *known != NOWHERE {
         return Some(*known as usize);
     }
-    let below = find_without(sets, sets[number].set.items(), pass.place, hint);
+    let mut room = [0; MOST_ITEMS];
+    let items = items_at(sets, number, &mut room);
+    let below = find_without(sets, items, pass.place, hint);
     *known = short(below);
     below
 }
 
 /// Where the items without the one at the place are a set of the list. The search begins at the
-/// hint, which then becomes the place where it ended.
+/// hint, which then becomes the place.
 #[inline(never)]
-fn find_without(sets: &[Counted], items: &[u32], place: usize, hint: &mut usize) -> Option<usize>
+fn find_without(sets: &CountedSets, items: &[u32], place: usize, hint: &mut usize) -> Option<usize>
     requires { place < length items.now }
     ensures bound { IfSome result (λ at. at < length sets.now) }
     ensures found { IfSome result (λ at. set_at sets.now at ≡ without place items.now) }
     ensures missing { IfNone result (IsMissing sets.now (without place items.now)) }
 {
-    match find_near(sets, &items[..place], &items[place + 1..], *hint) {
-        Ok(at) => {
-            *hint = at;
-            Some(at)
-        }
-        Err(at) => {
-            *hint = at;
-            None
-        }
-    }
+    let found = find_near(sets, &items[..place], &items[place + 1..], *hint);
+    *hint = found.unwrap_or(*hint);
+    found
 }

@@ -6,6 +6,7 @@ mod association;
 mod condensed;
 mod fractions;
 pub mod laws;
+mod listed;
 mod lookups;
 mod met;
 mod parts;

@@ -3,7 +3,7 @@
 //!
 //! The set comes in two parts, the items of `front` and then those of `rest`, so that a set without
 //! one of its items need not be copied.
-ghost use Rattle.std.specs.Prelude.{◌≡◌, ◌≢◌, ◌≤◌, ◌<◌, ◌++◌, ℕ, IfOk, IfErr, length};
+ghost use Rattle.std.specs.Prelude.{◌≡◌, ◌≢◌, ◌≤◌, ◌<◌, ◌++◌, ℕ, IfOk, IfErr, IfSome, IfNone, length};
 ghost use Rattle.std.specs.Cmp.Lexicographic.{slice_cmp};
 ghost use Rattle.std.specs.List.{AllWithin};
 ghost use Rattle.std.specs.List.Sorted.{IsSearchInRange};
@@ -13,50 +13,49 @@ ghost use Rattle.basket_sets.specs.Order.{report_order};
 ghost use Rattle.basket_rules.specs.Listed.{IsSorted, set_at};
 ghost use Rattle.basket_rules.specs.Search.{IsBetween, IsMissing};
 
-use basket_core::{Counted, Itemset};
+use crate::listed::items_at;
+use basket_core::{Counted, CountedSets};
+use basket_lists::MOST_ITEMS;
 use std::cmp::Ordering;
 
-/// Where the set stands, or else a place to begin the search for a greater one. From the place
-/// `near` on the steps double, to greater or to smaller sets; whatever `near` is, the set is found.
-pub fn find_near(sets: &[Counted], front: &[u32], rest: &[u32], near: usize) -> Result<usize, usize>
-    ensures bound { IsSearchInRange result (length sets.now) }
-    ensures found { IfOk result (λ at. set_at sets.now at ≡ front.now ++ rest.now) }
-    ensures missing { IfErr result (λ _. IsMissing sets.now (front.now ++ rest.now)) }
+/// Where the set stands in a list as it is kept. The search begins at the place `near`, from which the
+/// steps to greater sets double; whatever `near` is, the set is found.
+pub fn find_near(sets: &CountedSets, front: &[u32], rest: &[u32], near: usize) -> Option<usize>
+    ensures bound { IfSome result (λ at. at < length sets.now) }
+    ensures found { IfSome result (λ at. set_at sets.now at ≡ front.now ++ rest.now) }
+    ensures missing { IfNone result (IsMissing sets.now (front.now ++ rest.now)) }
 {
+    let mut room = [0; MOST_ITEMS];
     let mut start = 0;
-    let mut next = near;
-    while next < sets.len() {
-        match compare(&sets[next].set, front, rest) {
+    let mut end = sets.len();
+    let mut guess = near;
+    while start < end {
+        let next = probe(start, end, guess);
+        match compare(items_at(sets, next, &mut room), front, rest) {
             Ordering::Less => {
+                guess = next
+                    .saturating_add(next.saturating_sub(near))
+                    .saturating_add(1);
                 start = next + 1;
-                next += start - near;
             }
-            Ordering::Equal => return Ok(next),
-            Ordering::Greater if start == 0 => return find_before(sets, front, rest, next),
-            Ordering::Greater => return find_between(sets, front, rest, start, next),
-        }
-    }
-    find_between(sets, front, rest, start, sets.len())
-}
-
-/// Searches the sets before the place `near`, where a greater one stands.
-fn find_before(sets: &[Counted], front: &[u32], rest: &[u32], near: usize) -> Result<usize, usize>
-    requires within { near < length sets.now }
-    requires greater { IsSorted sets.now → AllWithin (λ c. report_order c.set (front.now ++ rest.now) ≡ Greater) sets.now near (length sets.now) }
-    ensures bound { IsSearchInRange result (length sets.now) }
-    ensures found { IfOk result (λ at. set_at sets.now at ≡ front.now ++ rest.now) }
-    ensures missing { IfErr result (λ _. IsMissing sets.now (front.now ++ rest.now)) }
-{
-    let mut end = near;
-    while near - end < end {
-        let next = end - (near - end) - 1;
-        match compare(&sets[next].set, front, rest) {
-            Ordering::Less => return find_between(sets, front, rest, next + 1, end),
-            Ordering::Equal => return Ok(next),
+            Ordering::Equal => return Some(next),
             Ordering::Greater => end = next,
         }
     }
-    find_between(sets, front, rest, 0, end)
+    None
+}
+
+/// The guess, if it lies from `start` up to `end`, or else the place between them.
+fn probe(start: usize, end: usize, guess: usize) -> usize
+    requires { start < end }
+    ensures behind { start ≤ result }
+    ensures before { result < end }
+{
+    if start <= guess && guess < end {
+        guess
+    } else {
+        start + (end - start) / 2
+    }
 }
 
 /// Where the set with these items stands, or where it is missing.
@@ -84,19 +83,19 @@ fn find_between(
     ensures found { IfOk result (λ at. set_at sets.now at ≡ front.now ++ rest.now) }
     ensures missing { IfErr result (λ _. IsMissing sets.now (front.now ++ rest.now)) }
 {
-    match sets[start..end].binary_search_by(|set| compare(&set.set, front, rest)) {
+    match sets[start..end].binary_search_by(|set| compare(set.set.items(), front, rest)) {
         Ok(place) => Ok(start + place),
         Err(place) => Err(start + place),
     }
 }
 
 /// Compares a set with the one that has the items of `front` and then those of `rest`.
-fn compare(set: &Itemset, front: &[u32], rest: &[u32]) -> Ordering
+fn compare(set: &[u32], front: &[u32], rest: &[u32]) -> Ordering
     ensures { result ≡ report_order set.now (front.now ++ rest.now) }
 {
     set.len()
         .cmp(&(front.len() + rest.len()))
-        .then_with(|| compare_items(set.items(), front, rest))
+        .then_with(|| compare_items(set, front, rest))
 }
 
 /// Compares lists of items, of which one comes in two parts.

@@ -7,9 +7,12 @@ ghost use Rattle.basket_rules.specs.Listed.{set_at};
 ghost use Rattle.basket_rules.specs.Subset.{without};
 ghost use Rattle.basket_rules.specs.Tree.{AreNodesOf, IsChildOf, IsColumnOf, IsNodeOf, IsPlaceOf, IsTreeOf};
 
+use crate::listed::items_at;
 use crate::search::find_near;
-use basket_core::Counted;
+use basket_core::CountedSets;
+use basket_lists::MOST_ITEMS;
 use std::alloc::{AllocError, Global};
+use std::mem;
 
 /// Stands for no place.
 pub const NOWHERE: u32 = u32::MAX;
@@ -36,13 +39,11 @@ pub struct Node {
     pub last: u32,
 }
 
-/// The node of the set at a place. The search for the parent begins at the hint, which then becomes
-/// the place where it ended. The nodes of the sets before spare most comparisons.
-fn node_of(sets: &[Counted], before: &[Node], number: usize, hint: &mut usize) -> Node
-    requires { number < length sets.now }
-    ensures { IsNodeOf sets.now number result }
+/// The node of the set with these items. The search for the parent begins at the hint, which then
+/// becomes the place where it ended. The nodes of the sets before spare most comparisons.
+fn node_of(sets: &CountedSets, before: &[Node], items: &[u32], hint: &mut usize) -> Node
+    ensures { (number : ℕ) → items.now ≡ set_at sets.now number → IsNodeOf sets.now number result }
 {
-    let items = sets[number].set.items();
     let size = items.len();
     if size == 0 {
         return Node {
@@ -57,28 +58,20 @@ fn node_of(sets: &[Counted], before: &[Node], number: usize, hint: &mut usize) -
 }
 
 /// The place of the set with these items.
-fn parent_of(sets: &[Counted], before: &[Node], items: &[u32], hint: &mut usize) -> u32
+fn parent_of(sets: &CountedSets, before: &[Node], items: &[u32], hint: &mut usize) -> u32
     ensures { IsPlaceOf sets.now items.now result }
 {
-    if let Some(at) = find_behind(sets, before, items, *hint) {
-        *hint = at;
-        return short(Some(at));
-    }
-    match find_near(sets, items, &[], *hint) {
-        Ok(at) => {
-            *hint = at;
-            short(Some(at))
-        }
-        Err(at) => {
-            *hint = at;
-            NOWHERE
-        }
-    }
+    let found = match find_behind(sets, before, items, *hint) {
+        Some(at) => Some(at),
+        None => find_near(sets, items, &[], *hint),
+    };
+    *hint = found.unwrap_or(*hint);
+    short(found)
 }
 
 /// The place of the set with these items, if it is the hint or stands a little behind it. A set
 /// with another last item is passed by.
-fn find_behind(sets: &[Counted], before: &[Node], items: &[u32], hint: usize) -> Option<usize>
+fn find_behind(sets: &CountedSets, before: &[Node], items: &[u32], hint: usize) -> Option<usize>
     ensures bound { IfSome result (λ at. at < length sets.now) }
     ensures found { IfSome result (λ at. set_at sets.now at ≡ items.now) }
 {
@@ -87,8 +80,9 @@ fn find_behind(sets: &[Counted], before: &[Node], items: &[u32], hint: usize) ->
         .saturating_add(MOST_STEPS)
         .min(before.len())
         .min(sets.len());
+    let mut room = [0; MOST_ITEMS];
     for at in hint..end {
-        if before[at].last == last && sets[at].set.items() == items {
+        if before[at].last == last && items_at(sets, at, &mut room) == items {
             return Some(at);
         }
     }
@@ -130,6 +124,38 @@ impl Children {
     }
 }
 
+/// The children of the sets of one size.
+#[derive(Debug, Drop)]
+struct Families {
+    /// The place of the first of these sets.
+    start: usize,
+    children: Vec<Children>,
+}
+
+impl Families {
+    /// Those of the sets from `start` up to `end`, which have no children yet.
+    fn new(alloc: Global, start: usize, end: usize) -> Result<Self, AllocError> {
+        Ok(Families {
+            start,
+            children: vec![in alloc; Children::none(); end.saturating_sub(start)]?,
+        })
+    }
+
+    /// The children of the set at a place.
+    fn of(&self, place: u32) -> Option<&Children> {
+        self.children.get((place as usize).checked_sub(self.start)?)
+    }
+
+    /// Adds a child of the set at a place, behind its others.
+    fn add(&mut self, place: u32, number: usize, last: u32) {
+        if let Some(offset) = (place as usize).checked_sub(self.start) {
+            if let Some(children) = self.children.get_mut(offset) {
+                children.add(number, last);
+            }
+        }
+    }
+}
+
 /// The bit of a number, or 0 where a word has none for it.
 fn bit(number: u32) -> u64 {
     1u64.checked_shl(number).unwrap_or(0)
@@ -139,8 +165,9 @@ fn bit(number: u32) -> u64 {
 #[derive(Debug, Drop)]
 pub struct Tree {
     pub nodes: Vec<Node>,
-    pub counts: Vec<u64>,
-    children: Vec<Children>,
+    /// The children of the sets of one item less than those added last, and of two items less.
+    newer: Families,
+    older: Families,
     /// Where the search for the next parent begins.
     hint: usize,
 }
@@ -153,43 +180,57 @@ impl Tree {
     {
         Ok(Tree {
             nodes: Vec::with_capacity(alloc, room)?,
-            counts: Vec::with_capacity(alloc, room)?,
-            children: Vec::with_capacity(alloc, room)?,
+            newer: Families::new(alloc, 0, 0)?,
+            older: Families::new(alloc, 0, 0)?,
             hint: 0,
         })
     }
 
     /// Adds the next sets, up to one of another size. Answers how many items they have.
-    pub fn add_size(&mut self, sets: &[Counted]) -> Result<usize, AllocError>
+    pub fn add_size(&mut self, alloc: Global, sets: &CountedSets) -> Result<usize, AllocError>
         requires some { length self.old.nodes.items < length sets.now }
         requires tree { IsTreeOf sets.now self.old }
         ensures some { OnOk result (length self.old.nodes.items < length self.new.nodes.items) }
         ensures tree { OnOk result (IsTreeOf sets.now self.new) }
         ensures sized { IfOk result (λ size. AreSized sets.now (length self.old.nodes.items) (length self.new.nodes.items) size) }
     {
-        let size = sets[self.nodes.len()].set.len();
-        self.add(sets)?;
-        while self.nodes.len() < sets.len() && sets[self.nodes.len()].set.len() == size {
-            self.add(sets)?;
+        self.begin_size(alloc)?;
+        let mut room = [0; MOST_ITEMS];
+        let first = items_at(sets, self.nodes.len(), &mut room);
+        let size = first.len();
+        self.add(sets, first)?;
+        while self.nodes.len() < sets.len() {
+            let items = items_at(sets, self.nodes.len(), &mut room);
+            if items.len() != size {
+                return Ok(size);
+            }
+            self.add(sets, items)?;
         }
         Ok(size)
     }
 
-    /// Adds the next set.
-    fn add(&mut self, sets: &[Counted]) -> Result<(), AllocError>
+    /// Makes room for the children of the sets added last.
+    fn begin_size(&mut self, alloc: Global) -> Result<(), AllocError>
+        ensures { self.new.nodes ≡ self.old.nodes }
+    {
+        let start = self.newer.start.saturating_add(self.newer.children.len());
+        let next = Families::new(alloc, start, self.nodes.len())?;
+        self.older = mem::replace(&mut self.newer, next);
+        Ok(())
+    }
+
+    /// Adds the next set, which has these items.
+    fn add(&mut self, sets: &CountedSets, items: &[u32]) -> Result<(), AllocError>
         requires some { length self.old.nodes.items < length sets.now }
+        requires items { items.now ≡ set_at sets.now (length self.old.nodes.items) }
         requires tree { IsTreeOf sets.now self.old }
         ensures tree { OnOk result (IsTreeOf sets.now self.new) }
         ensures one { OnOk result (length self.new.nodes.items ≡ length self.old.nodes.items + 1) }
     {
         let number = self.nodes.len();
-        let node = node_of(sets, &self.nodes, number, &mut self.hint);
+        let node = node_of(sets, &self.nodes, items, &mut self.hint);
         self.nodes.push(node)?;
-        self.counts.push(sets[number].count)?;
-        self.children.push(Children::none())?;
-        if let Some(siblings) = self.children.get_mut(node.parent as usize) {
-            siblings.add(number, node.last);
-        }
+        self.newer.add(node.parent, number, node.last);
         Ok(())
     }
 
@@ -199,7 +240,7 @@ impl Tree {
         ensures { (list : List Counted) → AreNodesOf list self.now.nodes.items → parent ≢ NOWHERE → result ≢ NOWHERE
             → (result < length list) × IsChildOf list parent last result }
     {
-        let Some(children) = self.children.get(parent as usize) else {
+        let Some(children) = self.older.of(parent) else {
             return NOWHERE;
         };
         let guess = children.place_of(last);

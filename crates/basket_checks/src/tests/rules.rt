@@ -1,24 +1,24 @@
 //! Closed and maximal sets and rules, of lists that Apriori finds.
 use super::{Row, database};
-use basket_core::{Coded, Counted, Fraction, Minimum, Unpacked};
+use basket_core::{Coded, CountedSets, Fraction, Frequent, Minimum};
 use basket_rules::{closed, maximal};
 use mine_apriori::apriori;
 use std::alloc::Global;
 use std::test::Fail;
 
-fn frequent(alloc: Global, rows: &[Row], minimum: Minimum) -> Result<Unpacked, Fail> {
+fn frequent(alloc: Global, rows: &[Row], minimum: Minimum) -> Result<Frequent, Fail> {
     let database = database(alloc, rows)?;
     let coded = Coded::of(alloc, &database, minimum)?;
     let (frequent, _candidates) = apriori(alloc, &coded, u32::MAX)?;
-    Ok(frequent.unpacked(alloc)?)
+    Ok(frequent)
 }
 
 /// Compares sets with lines as `1 2 (4)`.
-fn compare_sets(alloc: Global, sets: &[Counted], lines: &[&str]) -> Result<(), Fail> {
+fn compare_sets(alloc: Global, sets: &CountedSets, lines: &[&str]) -> Result<(), Fail> {
     if sets.len() != lines.len() {
         return Err(Fail::new("there are as many sets as lines"));
     }
-    for (counted, line) in sets.iter().zip(lines) {
+    for (counted, line) in sets.unpacked(alloc)?.iter().zip(lines) {
         let text = format!(in alloc; "{} ({})", counted.set, counted.count)?;
         if text.as_str() != *line {
             return Err(Fail::new("the sets are those of the lines"));

@@ -1,9 +1,13 @@
-use Rattle.std.proofs.Common.{sym, ◌∙◌}
+use Rattle.std.proofs.Common.{◌≡◌, IfSome, IfNone, subst}
+use Rattle.basket_rules.specs.Listed.{set_at}
+use Rattle.basket_rules.specs.Search.{IsMissing}
 use Rattle.basket_rules.proofs.SubsetLemmas.{around_is}
 use Rattle.basket_rules.proofs.above.find_without.Goals as goal
 
-pub returns-in-Ok-clause-found : goal.returns-in-Ok-clause-found
-returns-in-Ok-clause-found c = c.in-Ok.ensures.found ∙ around_is c.args.place c.args.items.now
+pub returns-clause-found : goal.returns-clause-found
+returns-clause-found c =
+    subst (λ set. IfSome c.find_near-found.result (λ at. set_at c.args.sets.now at ≡ set)) (around_is c.args.place c.args.items.now) c.find_near-found.ensures.found
 
-pub returns-in-Err-clause-missing : goal.returns-in-Err-clause-missing
-returns-in-Err-clause-missing c = λ up k below e. c.in-Err.ensures.missing up k below (e ∙ sym (around_is c.args.place c.args.items.now))
+pub returns-clause-missing : goal.returns-clause-missing
+returns-clause-missing c =
+    subst (λ set. IfNone c.find_near-found.result (IsMissing c.args.sets.now set)) (around_is c.args.place c.args.items.now) c.find_near-found.ensures.missing

@@ -1,7 +1,7 @@
 use Rattle.std.proofs.Common.{rules, ◌≡◌, length, get_or, sym, subst, arith}
 use Rattle.basket_rules.specs.Above.{AreGreatestAbove, AreSized, IsBefore}
 use Rattle.basket_rules.specs.Tree.{IsColumnOf}
-use Rattle.basket_rules.proofs.AboveLemmas.{all_passes}
+use Rattle.basket_rules.proofs.AboveLemmas.{all_passes, next_pass}
 use Rattle.basket_rules.proofs.TreeLemmas.{column_at}
 use Rattle.basket_rules.proofs.above.raise_below.Goals as goal
 
@@ -9,10 +9,19 @@ pub raise_column-requires-clause-column : goal.raise_column-requires-clause-colu
 raise_column-requires-clause-column c =
     let list = c.args.sets.now in
     let place = c.loop-place.place in
-    let columns = c.args.columns.now in
+    let columns = c.loop-place.columns.items in
     let none = c.none-none.result in
     let is : c.unwrap_or-column.result.now ≡ get_or columns place none = search rules in
-    subst (IsColumnOf list place) (sym is) (column_at list columns place none c.requires.columns (c.none-none.ensures list place))
+    subst (IsColumnOf list place) (sym is) (column_at list columns place none c.loop-place.invariant.columns (c.none-none.ensures list place))
+
+pub loop-place-preserved : goal.loop-place-preserved
+loop-place-preserved c =
+    let list = c.args.sets.now in
+    record {
+      long = omega (arith, c.in_ok-put_column.ensures.long);
+      columns = c.in_ok-put_column.ensures.columns list c.loop-place.invariant.columns c.in_ok-raised.ensures.column;
+      raised = next_pass list c.args.start c.len-end.result c.loop-place.place c.raise_column.new.counts c.in_ok-raised.ensures.raised;
+    }
 
 pub returns-clause-raised : goal.returns-clause-raised
 returns-clause-raised c =

@@ -1,8 +1,9 @@
 use Rattle.std.proofs.Common.{◌≡◌, ◌<◌, ◌≤◌, ◌+◌, ◌-◌, length, max, get_or, set, sym, ap, ◌∙◌, subst, arith}
-use Rattle.std.proofs.lemmas.List.{length-set, get_or_default}
+use Rattle.std.proofs.lemmas.List.{length-set}
 use Rattle.basket_rules.specs.Above.{AreGreatestAbove, WasSeen}
 use Rattle.basket_rules.specs.Listed.{set_at, count_at}
 use Rattle.basket_rules.proofs.AboveLemmas.{greater, sees_one_more, subset_missing, subset_raised}
+use Rattle.basket_rules.proofs.SearchLemmas.{count_is, none}
 use Rattle.basket_rules.proofs.TreeLemmas.{places_set}
 use Rattle.basket_rules.proofs.above.raise_column.Goals as goal
 use Rattle.basket_rules.proofs.above.raise_column.Goals.{in-Some, in_default}
@@ -16,7 +17,7 @@ loop-number-preserved c =
     let places = c.loop-number.places.items in
     let again = c.find_below.new.known in
     let old = c.loop-number.counts in
-    let listed : number < length list = omega (arith, c.loop-number-test.true, c.requires.within, c.requires.tree.nodes.within) in
+    let listed : number < length list = omega (arith, c.loop-number-test.true, c.requires.within, c.requires.tree.within) in
     let seen = WasSeen pass.start pass.end pass.place number in
     let next = WasSeen pass.start pass.end pass.place (number + 1) in
     let step = sees_one_more pass.start pass.end pass.place number in
@@ -29,10 +30,8 @@ loop-number-preserved c =
     let long : pass.start + length (set places offset again) ≡ pass.end = omega (arith, length-set places offset again, c.loop-number.invariant.long) in
     elim c.match-find_below.branch [
       | in-Some w ↦ let at = w.in-Some.at in
-          let own = c.args.tree.now.counts.items in
-          let whole : number < length own = omega (arith, c.requires.within, c.loop-number-test.true, c.requires.tree.long) in
-          let counted = get_or_default own number w.index.result.now 0 whole ∙ c.requires.tree.counts number whole in
-          let raised = greater w.greater.result (get_or old at 0) (count_at list number) (w.greater.ensures ∙ ap (max (get_or old at 0)) (w.index.ensures ∙ counted)) in
+          let counted = w.count.ensures ∙ sym (count_is list number none listed) in
+          let raised = greater w.greater.result (get_or old at 0) (count_at list number) (w.greater.ensures ∙ ap (max (get_or old at 0)) counted) in
           record {
             long = long;
             places = kept;

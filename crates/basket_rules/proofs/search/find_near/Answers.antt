@@ -1,40 +1,56 @@
-use Rattle.std.proofs.Common.{◌++◌, sym, ◌∙◌, arith}
+use Rattle.std.proofs.Common.{◌≡◌, ◌<◌, ◌++◌, length, subst, arith}
 use Rattle.std.specs.declared.cmp.Ordering.TheVariants.{Less, Equal, Greater}
-use Rattle.basket_rules.proofs.SearchLemmas.{greater_from, before_greater, read_at, smaller_up_to, stands}
+use Rattle.basket_rules.specs.Search.{IsBetween}
+use Rattle.basket_rules.proofs.SearchLemmas.{all_between, compared_at, greater_from, is_missing, smaller_up_to, stands}
 use Rattle.basket_rules.proofs.search.find_near.Goals as goal
 
-pub loop-next-preserved : goal.loop-next-preserved
-loop-next-preserved c =
+pub loop-start-init : goal.loop-start-init
+loop-start-init c =
+    let list = c.args.sets.now in
+    record {
+      ordered = omega arith;
+      within = omega arith;
+      between = λ up. all_between list (c.args.front.now ++ c.args.rest.now) c.len-end.result (omega arith);
+    }
+
+pub loop-start-preserved-in-Less : goal.loop-start-preserved-in-Less
+loop-start-preserved-in-Less c =
     let list = c.args.sets.now in
     let key = c.args.front.now ++ c.args.rest.now in
-    let next = c.loop-next.next in
-    let less = read_at list key next c.index-sets-next.result Less c.loop-next-test.true (sym c.compare.ensures ∙ c.in-Less.is) in
+    let next = c.probe-next.result in
+    let below : next < length list = omega (arith, c.loop-start.invariant.within, c.probe-next.ensures.before) in
+    let less = compared_at list key next c.items_at.result.now c.compare.result Less below c.items_at.ensures c.compare.ensures c.in-Less.is in
     record {
-      near = omega (arith, c.loop-next.invariant.near);
-      ahead = omega (arith, c.loop-next.invariant.near);
-      within = omega (arith, c.loop-next-test.true);
-      smaller = λ up. smaller_up_to list key next up c.loop-next-test.true less;
+      ordered = omega (arith, c.probe-next.ensures.before);
+      within = c.loop-start.invariant.within;
+      between = λ up. record { smaller = smaller_up_to list key next up below less; greater = (c.loop-start.invariant.between up).greater };
+    }
+
+pub loop-start-preserved : goal.loop-start-preserved
+loop-start-preserved c =
+    let list = c.args.sets.now in
+    let key = c.args.front.now ++ c.args.rest.now in
+    let next = c.probe-next.result in
+    let below : next < length list = omega (arith, c.loop-start.invariant.within, c.probe-next.ensures.before) in
+    let more = compared_at list key next c.items_at.result.now c.compare.result Greater below c.items_at.ensures c.compare.ensures c.in-Greater.is in
+    record {
+      ordered = c.probe-next.ensures.behind;
+      within = omega (arith, below);
+      between = λ up. record { smaller = (c.loop-start.invariant.between up).smaller; greater = greater_from list key next up more };
     }
 
 pub returns-in-Equal-clause-found : goal.returns-in-Equal-clause-found
 returns-in-Equal-clause-found c =
     let list = c.args.sets.now in
     let key = c.args.front.now ++ c.args.rest.now in
-    stands list key c.loop-next.next c.loop-next-test.true
-    (read_at list key c.loop-next.next c.index-sets-next.result Equal c.loop-next-test.true (sym c.compare.ensures ∙ c.in-Equal.is))
+    let next = c.probe-next.result in
+    let below : next < length list = omega (arith, c.loop-start.invariant.within, c.probe-next.ensures.before) in
+    stands list key next below (compared_at list key next c.items_at.result.now c.compare.result Equal below c.items_at.ensures c.compare.ensures c.in-Equal.is)
 
-pub find_between-requires-clause-between : goal.find_between-requires-clause-between
-find_between-requires-clause-between c =
+pub returns-clause-missing : goal.returns-clause-missing
+returns-clause-missing c = λ up.
     let list = c.args.sets.now in
     let key = c.args.front.now ++ c.args.rest.now in
-    let next = c.loop-next.next in
-    let more = read_at list key next c.index-sets-next.result Greater c.loop-next-test.true (sym c.compare.ensures ∙ c.in-Greater.is) in
-    λ up. before_greater list key c.loop-next.start next up (c.loop-next.invariant.smaller up) more
-
-pub find_before-requires-clause-greater : goal.find_before-requires-clause-greater
-find_before-requires-clause-greater c =
-    let list = c.args.sets.now in
-    let key = c.args.front.now ++ c.args.rest.now in
-    let next = c.loop-next.next in
-    let more = read_at list key next c.index-sets-next.result Greater c.loop-next-test.true (sym c.compare.ensures ∙ c.in-Greater.is) in
-    λ up. greater_from list key next up more
+    let start = c.loop-start.start in
+    let same : c.loop-start.end ≡ start = omega (arith, c.loop-start.invariant.ordered, c.loop-start-test.false) in
+    is_missing list key start (subst (λ end. IsBetween start end list key) same (c.loop-start.invariant.between up))

@@ -1,17 +1,14 @@
-use Rattle.std.proofs.Common.{length, ◌-◌, ◌≡◌, ◌≤◌, ◌++◌}
-use Rattle.std.specs.List.{AllWithin}
-use Rattle.std.specs.declared.cmp.Ordering.TheVariants.{Less}
-use Rattle.basket_sets.specs.Order.{report_order}
+use Rattle.std.proofs.Common.{length, ◌-◌, ◌≤◌, ◌++◌}
 use Rattle.basket_rules.specs.Listed.{IsSorted}
+use Rattle.basket_rules.specs.Search.{IsBetween}
 use Rattle.basket_rules.proofs.search.find_near.Given as goal
 
-abbrev pub invariant-loop-next : goal.invariant-loop-next
-invariant-loop-next l = record {
-  near : l.near ≤ l.next;
-  ahead : l.start ≤ l.next;
-  within : l.start ≤ length l.sets;
-  smaller : IsSorted l.sets → AllWithin (λ c. report_order c.set (l.front ++ l.rest) ≡ Less) l.sets 0 l.start;
+abbrev pub invariant-loop-start : goal.invariant-loop-start
+invariant-loop-start l = record {
+  ordered : l.start ≤ l.end;
+  within : l.end ≤ length l.sets;
+  between : IsSorted l.sets → IsBetween l.start l.end l.sets (l.front ++ l.rest);
 }
 
-abbrev pub decreases-loop-next : goal.decreases-loop-next
-decreases-loop-next l = length l.sets - l.next
+abbrev pub decreases-loop-start : goal.decreases-loop-start
+decreases-loop-start l = l.end - l.start

@@ -1,0 +1,18 @@
+//! The sets of a list as it is kept.
+ghost use Rattle.std.specs.Prelude.{◌≡◌, ◌<◌, length};
+ghost use Rattle.basket_rules.specs.Listed.{set_at};
+
+use basket_core::CountedSets;
+use basket_lists::MOST_ITEMS;
+
+/// The items of the set at a place, in the room where the set is kept as a word.
+pub fn items_at<'a>(
+    sets: &'a CountedSets,
+    place: usize,
+    room: &'a mut [u32; MOST_ITEMS],
+) -> &'a [u32]
+    requires { place < length sets.now }
+    ensures { result.now ≡ set_at sets.now place }
+{
+    sets.items(place, room)
+}
