@@ -26,7 +26,7 @@ use Rattle.mine_classes.specs.Mined.{ListsHaveClassSize}
 use Rattle.mine_classes.specs.Ordered.{AreRankBaskets, IsRankBasket, RankBaskets}
 use Rattle.mine_classes.specs.Pairs.{kept_ranks}
 use Rattle.mine_fp.specs.declared.level.Level.{Level}
-use Rattle.mine_fp.specs.Level.{IsBelow, ListsAllAsItems, ListsClassAsItems, as_items, items_of}
+use Rattle.mine_fp.specs.Level.{IsBelow, ListsAllAsItems, ListsClassAsItems, as_items, items_of, suffix_of}
 use Rattle.mine_fp.proofs.LevelLemmas.{alone_as_items, inner_as_items, kept_rises, kept_short, length-decoded, named_ranks}
 
 -- ---- lists of classes
@@ -139,22 +139,25 @@ module _ (level : Level) (rank : ℕ) (inner : Level) (is : IsBelow level rank i
   inner_items : items_of inner ≡ map (λ other. get_or (items_of level) other 0) kept
   inner_items = ap (map (λ (name : ℕ × ℕ). name.0)) is.names ∙ named_ranks (items_of level) level.paths.baskets level.least rank
 
-  each_as_items : (list : List Counted) → AllByRecursion IsFrequentWithin list
-      → map (as_items (items_of level) level.suffix) (map (with_rank rank) (map (decoded_set kept) list)) ≡ map (as_items (items_of inner) inner.suffix) list
-  each_as_items [] all = refl
-  each_as_items (c ∷ list) all =
-      let one = inner_as_items (items_of level) kept level.suffix rank c (ranks_below coding is.coding c.set all.0.1)
-      ∙ (λ i. as_items (sym inner_items i) (sym is.suffix i) c) in
-      λ i. one i ∷ each_as_items list all.1 i
+  abbrev longer : List ℕ → List ℕ
+  longer suffix = with_item (get_or (items_of level) rank 0) suffix
+
+  each_as_items : (suffix : List ℕ) (list : List Counted) → AllByRecursion IsFrequentWithin list
+      → map (as_items (items_of level) suffix) (map (with_rank rank) (map (decoded_set kept) list)) ≡ map (as_items (items_of inner) (longer suffix)) list
+  each_as_items suffix [] all = refl
+  each_as_items suffix (c ∷ list) all =
+      let one = inner_as_items (items_of level) kept suffix rank c (ranks_below coding is.coding c.set all.0.1)
+      ∙ (λ i. as_items (sym inner_items i) (longer suffix) c) in
+      λ i. one i ∷ each_as_items suffix list all.1 i
 
   -- the class as items
-  pub class_as_items : IsRising level.suffix → (list : List Counted) → ListsOnce inner.paths.baskets (Count inner.least) list
-      → map (as_items (items_of level) level.suffix) (class_with list)
-      ≡ record { set = with_item (get_or (items_of level) rank 0) level.suffix; count = support_of level.paths.baskets (rank ∷ []) } ∷ map (as_items (items_of inner) inner.suffix) list
-  class_as_items up list once =
+  pub class_as_items : (suffix : List ℕ) → IsRising suffix → (list : List Counted) → ListsOnce inner.paths.baskets (Count inner.least) list
+      → map (as_items (items_of level) suffix) (class_with list)
+      ≡ record { set = longer suffix; count = support_of level.paths.baskets (rank ∷ []) } ∷ map (as_items (items_of inner) (longer suffix)) list
+  class_as_items suffix up list once =
       let support = support_of level.paths.baskets (rank ∷ []) in
-      let alone = alone_as_items (items_of level) level.suffix rank support up in
-      λ i. alone i ∷ each_as_items list (sound list once) i
+      let alone = alone_as_items (items_of level) suffix rank support up in
+      λ i. alone i ∷ each_as_items suffix list (sound list once) i
 
   pub class_long : ListsHaveClassSize → length (class_of level.paths.baskets (Count level.least) rank) ≡ length (frequent_of inner.paths.baskets (Count inner.least)) + 1
   class_long sized =
@@ -179,16 +182,20 @@ module _ (level : Level) (rank : ℕ) (inner : Level) (is : IsBelow level rank i
       subst (HasSetOfSize (class_of level.paths.baskets (Count level.least) rank)) long (class_of_size level.paths.baskets level.least rank listed (set ++ rank ∷ []) d.0 d.1 d.2)
 
   -- the sets that were found before, the rank alone, and those of the conditional database
-  pub class_grown : (old mid new : List Counted) (set : List ℕ) (support : ℕ) → IsRising level.suffix → set ≡ with_item (get_or (items_of level) rank 0) level.suffix → support ≡ support_of level.paths.baskets (rank ∷ [])
-      → mid ≡ old ++ record { set = set; count = support } ∷ [] → ListsAllAsItems inner mid new → ListsClassAsItems level rank old new
-  class_grown old mid new set support up named counts told within = record {
-    sets = class_with within.sets;
-    listed = lists_class within.sets within.listed;
-    added = within.added
-        ∙ ap (λ l. l ++ map (as_items (items_of inner) inner.suffix) within.sets) (told ∙ (λ i. old ++ record { set = named i; count = counts i } ∷ []))
-        ∙ append_assoc old (record { set = with_item (get_or (items_of level) rank 0) level.suffix; count = support_of level.paths.baskets (rank ∷ []) } ∷ []) (map (as_items (items_of inner) inner.suffix) within.sets)
-        ∙ ap (λ l. old ++ l) (sym (class_as_items up within.sets within.listed));
-  }
+  pub class_grown : (old mid new : List Counted) (support : ℕ) → IsRising (suffix_of level old) → support ≡ support_of level.paths.baskets (rank ∷ [])
+      → mid ≡ old ++ record { set = longer (suffix_of level old); count = support } ∷ [] → suffix_of inner mid ≡ longer (suffix_of level old)
+      → ListsAllAsItems inner mid new → ListsClassAsItems level rank old new
+  class_grown old mid new support up counts told suffix within =
+      let set = longer (suffix_of level old) in
+      record {
+        sets = class_with within.sets;
+        listed = lists_class within.sets within.listed;
+        added = within.added
+            ∙ (λ i. told i ++ map (as_items (items_of inner) (suffix i)) within.sets)
+            ∙ ap (λ n. (old ++ record { set = set; count = n } ∷ []) ++ map (as_items (items_of inner) set) within.sets) counts
+            ∙ append_assoc old (record { set = set; count = support_of level.paths.baskets (rank ∷ []) } ∷ []) (map (as_items (items_of inner) set) within.sets)
+            ∙ ap (λ l. old ++ l) (sym (class_as_items (suffix_of level old) up within.sets within.listed));
+      }
 
 -- ---- tests of supports
 

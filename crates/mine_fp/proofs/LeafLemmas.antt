@@ -14,7 +14,7 @@ use Rattle.mine_classes.specs.Classes.{ClassesAreConditional, ClassesAreListed, 
 use Rattle.mine_classes.specs.Conditional.{ConditionalSupports, conditional, is_kept}
 use Rattle.mine_classes.specs.Pairs.{pairs_of}
 use Rattle.mine_fp.specs.declared.level.Level.{Level}
-use Rattle.mine_fp.specs.Level.{ListsClassAsItems, items_of}
+use Rattle.mine_fp.specs.Level.{ListsClassAsItems, items_of, suffix_of}
 use Rattle.mine_fp.specs.Trees.{has_tree, rank_trees}
 use Rattle.mine_fp.proofs.LevelLemmas.{alone_as_items, pair_ranks}
 use Rattle.mine_fp.proofs.TreesLemmas.{passed_as_many}
@@ -60,11 +60,12 @@ module _ (baskets : List Weighted) (least rank : ℕ) (none : pairs_of baskets l
   leaf_trees listed = passed_as_many (λ set. has_tree baskets (Count least) set) baskets (Count least) rank (class_of baskets (Count least) rank) (alone ∷ []) (listed baskets (Count least) rank) leaf_class
 
 pub leaf_grown : (level : Level) (rank : ℕ) → pairs_of level.paths.baskets level.least rank ≡ [] → ClassesAreConditional → ConditionalSupports
-    → is_frequent level.paths.baskets (Count level.least) (rank ∷ []) ≡ true → (old new : List Counted) (set : List ℕ) (support : ℕ)
-    → IsRising level.suffix → set ≡ with_item (get_or (items_of level) rank 0) level.suffix → support ≡ support_of level.paths.baskets (rank ∷ [])
-    → new ≡ old ++ record { set = set; count = support } ∷ [] → ListsClassAsItems level rank old new
-leaf_grown level rank none conditionals supports met old new set support up named counts told = record {
+    → is_frequent level.paths.baskets (Count level.least) (rank ∷ []) ≡ true → (old new : List Counted) (support : ℕ)
+    → IsRising (suffix_of level old) → support ≡ support_of level.paths.baskets (rank ∷ [])
+    → new ≡ old ++ record { set = with_item (get_or (items_of level) rank 0) (suffix_of level old); count = support } ∷ [] → ListsClassAsItems level rank old new
+leaf_grown level rank none conditionals supports met old new support up counts told = record {
   sets = record { set = rank ∷ []; count = support_of level.paths.baskets (rank ∷ []) } ∷ [];
   listed = leaf_class level.paths.baskets level.least rank none conditionals supports met;
-  added = told ∙ (λ i. old ++ record { set = named i; count = counts i } ∷ []) ∙ ap (λ c. old ++ c ∷ []) (sym (alone_as_items (items_of level) level.suffix rank (support_of level.paths.baskets (rank ∷ [])) up));
+  added = told ∙ ap (λ n. old ++ record { set = with_item (get_or (items_of level) rank 0) (suffix_of level old); count = n } ∷ []) counts
+      ∙ ap (λ c. old ++ c ∷ []) (sym (alone_as_items (items_of level) (suffix_of level old) rank (support_of level.paths.baskets (rank ∷ [])) up));
 }

@@ -10,6 +10,7 @@ mod StraightLemmas
 mod InnerLemmas
 mod TreesLemmas
 mod NameLemmas
+mod PairLemmas
 mod PathLemmas
 mod ChoiceLemmas
 mod WordLemmas

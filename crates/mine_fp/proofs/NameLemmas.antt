@@ -4,10 +4,8 @@ use Rattle.std.proofs.lemmas.List.{length-map}
 use Rattle.std.proofs.lemmas.List.Elements.{recursion_from_All}
 use Rattle.basket_sets.specs.declared.weighted.Weighted.{Weighted}
 use Rattle.basket_sets.specs.Counts.{AllBelow}
-use Rattle.basket_sets.specs.Itemset.{IsRising}
 use Rattle.basket_sets.specs.Support.{support_of}
 use Rattle.basket_sets.proofs.theory.Members.{Member, at_Member}
-use Rattle.basket_sets.proofs.theory.Rising.{with_item-rises}
 use Rattle.mine_classes.specs.Conditional.{ConditionalSupports}
 use Rattle.mine_classes.specs.Ordered.{AreRankBaskets, IsRankBasket}
 use Rattle.mine_classes.specs.Pairs.{kept_ranks, named_pair, pairs_of}
@@ -55,6 +53,5 @@ module _ (level : Level) (rank : ℕ) (inner : Level) (is_level : IsLevel level)
     names = inner_names;
     ranked = ranked;
     some = subst (λ n. 1 ≤ n) (sym is.least) is_level.some;
-    rises = subst IsRising (sym is.suffix) (with_item-rises (get_or (items_of level) rank 0) level.suffix is_level.rises);
     short = omega (arith, is.depth);
   }

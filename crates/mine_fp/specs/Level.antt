@@ -1,5 +1,5 @@
 -- Sets that are found within a conditional database, as items.
-use Rattle.std.specs.Prelude.{◌≡◌, ◌≤◌, ◌<◌, ◌+◌, ◌-◌, ◌++◌, ℕ, List, [], ◌∷◌, Some, None, length, map, slice_index_or}
+use Rattle.std.specs.Prelude.{◌≡◌, ◌≤◌, ◌<◌, ◌+◌, ◌-◌, ◌++◌, ℕ, List, [], ◌∷◌, Option, Some, None, length, map, slice_index_or}
 use Rattle.std.specs.List.{flat_map}
 use Rattle.basket_core.specs.Codes.{IsCoding, decoded_place}
 use Rattle.basket_lists.specs.CountedSets.{set_at}
@@ -34,14 +34,21 @@ pub record IsLevel (level : Level) : Type 0 where
   pub names : AreNames level
   pub ranked : AreRankBaskets level.paths
   pub some : 1 ≤ level.least
-  pub rises : IsRising level.suffix
   pub short : level.depth ≤ DEPTH
 
--- the set that a level is of stands at its place among those found, unless it has no items
+-- the set at a place among those found, or the one without items
+abbrev pub set_from : List Counted → Option ℕ → List ℕ
+set_from found None = []
+set_from found (Some place) = set_at found place
+
+-- the set that a level is of, whose items each set found in it gets: it stands among those found
+abbrev pub suffix_of : Level → List Counted → List ℕ
+suffix_of level found = set_from found level.place
+
+-- a level is of a set that was found, or of the one without items
 pub record HasSuffix (level : Level) (found : List Counted) : Type 0 where
   pub inside : (place : ℕ) → level.place ≡ Some place → place < length found
-  pub stands : (place : ℕ) → level.place ≡ Some place → set_at found place ≡ level.suffix
-  pub none : level.place ≡ None → level.suffix ≡ []
+  pub rises : IsRising (suffix_of level found)
 
 -- how many ranks a set has whose last level would be one deeper than any is
 abbrev pub missing : Level → ℕ
@@ -51,13 +58,13 @@ missing level = DEPTH + 1 - level.depth
 pub record ListsClassAsItems (level : Level) (rank : ℕ) (old new : List Counted) : Type 0 where
   pub sets : List Counted
   pub listed : ListsClass level.paths.baskets (Count level.least) rank sets
-  pub added : new ≡ old ++ map (as_items (items_of level) level.suffix) sets
+  pub added : new ≡ old ++ map (as_items (items_of level) (suffix_of level old)) sets
 
 -- all frequent sets as items, behind those that were found before
 pub record ListsAllAsItems (level : Level) (old new : List Counted) : Type 0 where
   pub sets : List Counted
   pub listed : ListsOnce level.paths.baskets (Count level.least) sets
-  pub added : new ≡ old ++ map (as_items (items_of level) level.suffix) sets
+  pub added : new ≡ old ++ map (as_items (items_of level) (suffix_of level old)) sets
 
 -- the classes of the ranks below one stand, as items, from a place on
 pub record HasLower (level : Level) (rank start : ℕ) (found : List Counted) : Type 0 where
@@ -66,7 +73,7 @@ pub record HasLower (level : Level) (rank start : ℕ) (found : List Counted) : 
   pub long : length before ≡ start
   pub ranks : length classes ≡ rank
   pub listed : ListClasses level.paths.baskets (Count level.least) classes
-  pub are : found ≡ before ++ map (as_items (items_of level) level.suffix) (flat_map (λ class. class) classes)
+  pub are : found ≡ before ++ map (as_items (items_of level) (suffix_of level found)) (flat_map (λ class. class) classes)
 
 -- a set that stands at a place is added once more, with one more item and with its own count
 pub record IsChosen (at item count : ℕ) (old new : List Counted) : Type 0 where
@@ -82,7 +89,6 @@ IsOrdered run = run.start ≤ run.end
 pub record IsBelow (level : Level) (rank : ℕ) (inner : Level) : Type 0 where
   pub ranks : inner.paths.ranks ≡ length (kept_ranks level.paths.baskets level.least rank)
   pub names : inner.names.items ≡ map (named_pair (items_of level)) (pairs_of level.paths.baskets level.least rank)
-  pub suffix : inner.suffix ≡ with_item (slice_index_or (items_of level) rank 0) level.suffix
   pub depth : inner.depth ≡ level.depth + 1
   pub least : inner.least ≡ level.least
   pub coding : IsCoding (record { items = kept_ranks level.paths.baskets level.least rank; minimum = Count level.least; baskets = inner.paths.baskets })

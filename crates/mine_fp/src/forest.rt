@@ -10,7 +10,7 @@ ghost use Rattle.mine_fp.specs.Trees.{class_trees};
 use crate::found::Found;
 use crate::level::{Level, Tables};
 use crate::paths::{Paths, weight_of_rank};
-use basket_core::{Coded, CountedSets, Itemset, MineFault, Tally};
+use basket_core::{Coded, CountedSets, MineFault, Tally};
 use mine_apriori::runs_with_pairs;
 use mine_classes::Runs;
 use mine_classes::laws::{classes_are_listed, deep_classes_are_large, lists_have_class_size};
@@ -36,7 +36,7 @@ impl<'a> Model for Forest<'a> {
     ghost view = { λ f. f.coded.now };
 
     ghost invariant = { λ f. AreInForest f.coded.now f.level.least f.level.paths
-        × AreNames f.level × (items_of f.level ≡ f.coded.now.items) × (f.level.suffix ≡ []) × (f.level.place ≡ None) × (f.level.depth ≡ 0) };
+        × AreNames f.level × (items_of f.level ≡ f.coded.now.items) × (f.level.place ≡ None) × (f.level.depth ≡ 0) };
 }
 
 impl<'a> Forest<'a> {
@@ -63,7 +63,6 @@ impl<'a> Forest<'a> {
             level: Level {
                 paths: Paths::of_runs(runs),
                 names,
-                suffix: Itemset::from_items(alloc, &[])?,
                 place: None,
                 depth: 0,
                 least: coded.minimum().least(coded.total()),

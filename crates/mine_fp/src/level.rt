@@ -9,7 +9,7 @@ ghost use Rattle.basket_sets.specs.Itemset.{with_item};
 ghost use Rattle.basket_sets.specs.Support.{support_of};
 ghost use Rattle.mine_classes.specs.Classes.{class_of};
 ghost use Rattle.mine_classes.specs.Pairs.{named_pair, pairs_of};
-ghost use Rattle.mine_fp.specs.Level.{HasSuffix, IsBelow, IsLevel, ListsClassAsItems, ListsAllAsItems, items_of, missing};
+ghost use Rattle.mine_fp.specs.Level.{HasSuffix, IsBelow, IsLevel, ListsClassAsItems, ListsAllAsItems, items_of, missing, suffix_of};
 ghost use Rattle.mine_fp.specs.Trees.{inner_trees, rank_trees};
 
 use crate::found::{Found, choose, tell};
@@ -45,14 +45,13 @@ impl Tables {
     }
 }
 
-/// A conditional database: its baskets, the item and the support of each of its ranks, and the set
-/// that it is of, whose items each set found in it gets.
+/// A conditional database: its baskets, and the item and the support of each of its ranks.
 #[derive(Debug, Drop)]
 pub struct Level {
     pub paths: Paths,
     pub names: Vec<(u32, u64)>,
-    pub suffix: Itemset,
-    /// Where that set stands among those found, unless it has no items.
+    /// Where the set that it is of stands among those found, unless that has no items. Each set found in
+    /// it gets the items of that set.
     pub place: Option<usize>,
     /// How many databases it lies within.
     pub depth: usize,
@@ -110,6 +109,13 @@ impl Level {
         let pairs = self.paths.pairs(alloc, &mut tables.sums, rank, self.least)?;
         if pairs.is_empty() {
             // The class is the rank alone. Its tree is the root, which counts, and nothing is made of it.
+            found.trees += 1;
+            return Ok(());
+        }
+        if pairs.len() == 1 {
+            // The class is the rank alone and the pair. Its tree is a single branch, of which nothing is made.
+            let (other, together) = pairs[0];
+            choose(alloc, place, self.item(other), together, found, tally)?;
             found.trees += 1;
             return Ok(());
         }
@@ -181,7 +187,7 @@ impl Level {
         requires stands { HasSuffix self.now found.old.sets }
         requires rank { rank < vec_len self.now.names }
         requires going { T.is_over tally.old ≡ false }
-        ensures added { OnOk result (found.new.sets ≡ found.old.sets ++ record { set = with_item (slice_index (items_of self.now) rank) self.now.suffix; count = support } ∷ []) }
+        ensures added { OnOk result (found.new.sets ≡ found.old.sets ++ record { set = with_item (slice_index (items_of self.now) rank) (suffix_of self.now found.old.sets); count = support } ∷ []) }
         ensures few { OnOk result (length found.new.sets < 18446744073709551616) }
         ensures trees { found.new.trees ≡ found.old.trees }
         ensures told { OnOk result (T.told_of tally.new ≡ T.told_of tally.old + 1) }
@@ -190,21 +196,14 @@ impl Level {
         ensures at_most { T.told_of tally.new ≤ T.told_of tally.old + 1 }
         ensures limit { T.limit_of tally.new ≡ T.limit_of tally.old }
     {
+        let item = self.item(rank);
         match self.place {
-            Some(place) => choose(alloc, place, self.item(rank), support, found, tally)?,
-            None => tell(self.set_with(alloc, rank)?, support, found, tally)?,
+            Some(place) => choose(alloc, place, item, support, found, tally)?,
+            None => tell(Itemset::from_items(alloc, &[item])?, support, found, tally)?,
         }
         // Nothing is read here: the call brings its contract, which says that the length fits a word.
         let _length = found.sets.len();
         Ok(())
-    }
-
-    /// The set of a rank, as items.
-    fn set_with(&self, alloc: Global, rank: u32) -> Result<Itemset, AllocError>
-        requires { rank < vec_len self.now.names }
-        ensures { IfOk result (λ set. set ≡ with_item (slice_index (items_of self.now) rank) self.now.suffix) }
-    {
-        self.suffix.with(alloc, self.item(rank))
     }
 
     /// The conditional database of a rank with these pairs, whose set stands at a place: one more tree.
@@ -228,13 +227,11 @@ impl Level {
         ensures trees { OnOk result (trees.new ≡ trees.old + 1) }
     {
         let paths = self.paths.below(alloc, places, rank, self.least, &pairs)?;
-        let suffix = self.set_with(alloc, rank)?;
         rename(&mut pairs, &self.names);
         *trees += 1;
         Ok(Level {
             paths,
             names: pairs,
-            suffix,
             place: Some(place),
             depth: self.depth + 1,
             least: self.least,

@@ -4,11 +4,9 @@ use Rattle.basket_core.specs.Codes.{Coding, IsCoding}
 use Rattle.basket_core.specs.declared.fault.MineFault.TheVariants.{TooMany}
 use Rattle.basket_core.specs.Depth.{HasSetOfSize}
 use Rattle.basket_sets.specs.declared.minimum.Minimum.TheVariants.{Count}
-use Rattle.basket_sets.specs.Itemset.{IsRising}
-use Rattle.basket_sets.proofs.theory.Rising.{nil_rises}
 use Rattle.mine_classes.specs.Classes.{class_of}
 use Rattle.mine_fp.specs.Forest.{AreInForest}
-use Rattle.mine_fp.specs.Level.{as_items, items_of, missing}
+use Rattle.mine_fp.specs.Level.{as_items, items_of, missing, set_from, suffix_of}
 use Rattle.mine_fp.proofs.ForestLemmas.{class_deep, class_settled, class_sizes, decoded_items, trees_settled}
 use Rattle.mine_fp.proofs.SuffixLemmas.{suffix_of_none}
 use Rattle.mine_fp.proofs.forest.fp_class.Goals as goal
@@ -20,7 +18,7 @@ returns-in_err-class-clause-too_many g c = λ limit e.
     let p = err_from_is_err_and c.from_residual-in_err-class.result c.from_residual-in_err-class.ensures.1 in
     let same : c.in_err-class.field-0.0 ≡ TooMany limit = cc in
     let many = c.in_err-class.ensures.too_many limit (ap Err same) in
-    let depth : missing level ≡ 32 + 1 = omega (arith, c.forest.invariant.5) in (
+    let depth : missing level ≡ 32 + 1 = omega (arith, c.forest.invariant.4) in (
       many.0,
       elim many.1 [
         | inl over ↦ inl over
@@ -47,8 +45,8 @@ returns-clause-listed g c =
     record {
       sets = found.sets;
       listed = class_settled c.args.forest.now level.least level.paths are c.args.rank found.sets found.listed;
-      decoded = found.added ∙ ap (λ l. l ++ map (as_items (items_of level) level.suffix) found.sets) c.in_ok-sets.ensures
-          ∙ decoded_items c.args.forest.now.items (items_of level) level.suffix found.sets (c.forest.invariant.2 ∙ ap (λ v. v.items) c.forest.view_is) c.forest.invariant.3;
+      decoded = found.added ∙ ap (λ l. l ++ map (as_items (items_of level) (suffix_of level c.in_ok-sets.sets)) found.sets) c.in_ok-sets.ensures
+          ∙ decoded_items c.args.forest.now.items (items_of level) (suffix_of level c.in_ok-sets.sets) found.sets (c.forest.invariant.2 ∙ ap (λ v. v.items) c.forest.view_is) (ap (set_from c.in_ok-sets.sets) c.forest.invariant.3);
     }
 
 pub returns-clause-at_most : goal.returns-clause-at_most
@@ -74,9 +72,8 @@ class-requires-clause-level g c =
       names = c.forest.invariant.1;
       ranked = are.ranked;
       some = are.least_is.some;
-      rises = subst IsRising (sym c.forest.invariant.3) nil_rises;
-      short = omega (arith, c.forest.invariant.5);
+      short = omega (arith, c.forest.invariant.4);
     }
 
 pub class-requires-clause-stands : goal.class-requires-clause-stands
-class-requires-clause-stands g c = suffix_of_none c.forest.inside.level c.in_ok-sets.sets c.forest.invariant.4 c.forest.invariant.3
+class-requires-clause-stands g c = suffix_of_none c.forest.inside.level c.in_ok-sets.sets c.forest.invariant.3

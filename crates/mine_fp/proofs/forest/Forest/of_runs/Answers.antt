@@ -33,7 +33,6 @@ invariant_of-result c =
       },
       ap (map (λ (pair : ℕ × ℕ). pair.0)) names ∙ map-map (λ (pair : ℕ × ℕ). pair.0) name (range_with_len 0 (length coding.items))
           ∙ sym (fill_by_all (λ rank. get_or coding.items rank 0) coding.items (length coding.items) 0 refl (λ k below. refl)),
-      c.in_ok-from_items.ensures.ok,
       refl,
       refl,
     )

@@ -9,14 +9,16 @@ use Rattle.basket_sets.specs.declared.minimum.Minimum.TheVariants.{Count}
 use Rattle.basket_sets.specs.Frequent.{frequent_of}
 use Rattle.basket_sets.specs.Itemset.{with_item}
 use Rattle.basket_sets.proofs.theory.Frequent.{once_is_as_long}
+use Rattle.basket_sets.proofs.theory.Rising.{with_item-rises}
 use Rattle.mine_classes.specs.Classes.{ListsClass, class_of}
-use Rattle.mine_fp.specs.Level.{as_items, items_of, missing}
+use Rattle.mine_fp.specs.Level.{as_items, items_of, missing, suffix_of}
 use Rattle.mine_fp.specs.Trees.{has_tree, inner_trees, rank_trees}
 use Rattle.mine_fp.proofs.ClassLemmas.{alone_is_one, all_once, class_grown, class_long, class_some, classes_fit, deeper, frequent_of_size, inner_has_fewer, met_by, more_all, more_classes, rare_by}
 use Rattle.mine_fp.proofs.LeafLemmas.{leaf_grown, leaf_trees, nothing_in}
 use Rattle.mine_fp.proofs.NameLemmas.{inner_is_level}
-use Rattle.mine_fp.proofs.SuffixLemmas.{suffix_added, suffix_kept}
-use Rattle.mine_fp.proofs.TreesLemmas.{class_trees_are, more_trees, rare_trees, trees_of_ranks}
+use Rattle.mine_fp.proofs.PairLemmas.{one_in, other_below, pair_grown, pair_long, pair_trees}
+use Rattle.mine_fp.proofs.SuffixLemmas.{same_items, suffix_added, suffix_is, suffix_kept}
+use Rattle.mine_fp.proofs.TreesLemmas.{class_trees_are, more_trees, ranked_plain, rare_trees, trees_of_ranks}
 use Rattle.mine_fp.proofs.level.Level.+growth.Goals as goal
 
 pub class-returns-then-support-self-clause-listed :
@@ -79,8 +81,8 @@ class-returns-then-is_empty-clause-listed g t c =
     let old = c.args.found.now.sets in
     let met = met_by level.paths.baskets level.least c.args.rank c.support-support.result c.support-support.ensures c.requires.level.some c.if-support-self.false in
     let none = sym c.in_ok-pairs.ensures.pairs ∙ nothing_in c.in_ok-pairs.pairs.items (omega (arith, eqb-true (vec_len c.in_ok-pairs.pairs) 0 (sym c.if-is_empty.ensures), c.in_ok-pairs.pairs.ok.0)) in
-    leaf_grown level c.args.rank none c.classes_are_conditional.ensures c.conditional_supports.ensures met old c.tell_rank.new.found.sets (with_item (get_or (items_of level) c.args.rank 0) level.suffix) c.support-support.result
-    c.requires.level.rises refl c.support-support.ensures c.in_ok-tell_rank.ensures.added
+    leaf_grown level c.args.rank none c.classes_are_conditional.ensures c.conditional_supports.ensures met old c.tell_rank.new.found.sets c.support-support.result
+    c.requires.stands.rises c.support-support.ensures c.in_ok-tell_rank.ensures.added
 
 pub class-returns-then-is_empty-clause-trees : goal.class-returns-then-is_empty-clause-trees
 class-returns-then-is_empty-clause-trees g t c =
@@ -97,6 +99,52 @@ class-returns-then-is_empty-clause-at_most g t c =
     let most = c.in_ok-tell_rank.ensures.at_most in
     omega arith
 
+pub class-item-requires : goal.class-item-requires
+class-item-requires g t c =
+    let level = c.args.self.now in
+    let pair = c.index.result.now in
+    let met = met_by level.paths.baskets level.least c.args.rank c.support-support.result c.support-support.ensures c.requires.level.some c.if-support-self.false in
+    let one = sym c.in_ok-pairs.ensures.pairs ∙ one_in c.in_ok-pairs.pairs.items pair (omega (arith, c.if-len-eq1.true, c.in_ok-pairs.pairs.ok.0)) c.index.ensures in
+    let less = other_below level.paths.baskets level.least c.args.rank pair one c.classes_are_conditional.ensures c.conditional_supports.ensures met in
+    omega (arith, less, c.requires.rank, c.requires.level.names.long, level.names.ok.0)
+
+pub class-returns-in_err-choose-clause-at_most : goal.class-returns-in_err-choose-clause-at_most
+class-returns-in_err-choose-clause-at_most g t c =
+    let level = c.args.self.now in
+    let pair = c.index.result.now in
+    let met = met_by level.paths.baskets level.least c.args.rank c.support-support.result c.support-support.ensures c.requires.level.some c.if-support-self.false in
+    let one = sym c.in_ok-pairs.ensures.pairs ∙ one_in c.in_ok-pairs.pairs.items pair (omega (arith, c.if-len-eq1.true, c.in_ok-pairs.pairs.ok.0)) c.index.ensures in
+    let two = pair_long level.paths.baskets level.least c.args.rank pair one c.classes_are_conditional.ensures c.conditional_supports.ensures met c.lists_have_class_size.ensures in
+    omega (arith, two, c.in_err-choose.ensures.at_most, c.in_ok-tell_rank.ensures.told)
+
+pub class-returns-then-len-eq1-clause-listed : goal.class-returns-then-len-eq1-clause-listed
+class-returns-then-len-eq1-clause-listed g t c =
+    let level = c.args.self.now in
+    let pair = c.index.result.now in
+    let met = met_by level.paths.baskets level.least c.args.rank c.support-support.result c.support-support.ensures c.requires.level.some c.if-support-self.false in
+    let one = sym c.in_ok-pairs.ensures.pairs ∙ one_in c.in_ok-pairs.pairs.items pair (omega (arith, c.if-len-eq1.true, c.in_ok-pairs.pairs.ok.0)) c.index.ensures in
+    pair_grown level c.args.rank pair one c.classes_are_conditional.ensures c.conditional_supports.ensures met c.args.found.now.sets c.tell_rank.new.found.sets c.choose.new.found.sets
+    c.len-place.result c.support-support.result c.item.result c.requires.stands.rises c.support-support.ensures c.len-place.ensures c.in_ok-tell_rank.ensures.added
+    c.item.ensures c.in_ok-choose.ensures.added
+
+pub class-returns-then-len-eq1-clause-trees : goal.class-returns-then-len-eq1-clause-trees
+class-returns-then-len-eq1-clause-trees g t c =
+    let level = c.args.self.now in
+    let pair = c.index.result.now in
+    let met = met_by level.paths.baskets level.least c.args.rank c.support-support.result c.support-support.ensures c.requires.level.some c.if-support-self.false in
+    let one = sym c.in_ok-pairs.ensures.pairs ∙ one_in c.in_ok-pairs.pairs.items pair (omega (arith, c.if-len-eq1.true, c.in_ok-pairs.pairs.ok.0)) c.index.ensures in
+    let own = pair_trees level.paths.baskets level.least c.args.rank pair one c.classes_are_conditional.ensures c.conditional_supports.ensures met (ranked_plain level.paths c.requires.level.ranked) c.classes_are_listed.ensures in
+    omega (arith, own, c.in_ok-choose.ensures.trees, c.in_ok-tell_rank.ensures.trees)
+
+pub class-returns-then-len-eq1-clause-at_most : goal.class-returns-then-len-eq1-clause-at_most
+class-returns-then-len-eq1-clause-at_most g t c =
+    let level = c.args.self.now in
+    let pair = c.index.result.now in
+    let met = met_by level.paths.baskets level.least c.args.rank c.support-support.result c.support-support.ensures c.requires.level.some c.if-support-self.false in
+    let one = sym c.in_ok-pairs.ensures.pairs ∙ one_in c.in_ok-pairs.pairs.items pair (omega (arith, c.if-len-eq1.true, c.in_ok-pairs.pairs.ok.0)) c.index.ensures in
+    let two = pair_long level.paths.baskets level.least c.args.rank pair one c.classes_are_conditional.ensures c.conditional_supports.ensures met c.lists_have_class_size.ensures in
+    omega (arith, two, c.in_ok-choose.ensures.at_most, c.in_ok-tell_rank.ensures.told)
+
 pub class-returns-in_err-inner-clause-at_most : goal.class-returns-in_err-inner-clause-at_most
 class-returns-in_err-inner-clause-at_most g t c =
     let level = c.args.self.now in
@@ -110,7 +158,8 @@ class-classes-requires g t c κs within =
     let level = c.args.self.now in
     let below = c.in_ok-inner.ensures.below in
     let fewer = inner_has_fewer level c.args.rank c.in_ok-inner.inner below in
-    let told : Counted = record { set = (with_item (get_or (items_of level) c.args.rank 0) level.suffix); count = c.support-support.result } in (
+    let suffix = suffix_of level c.args.found.now.sets in
+    let told : Counted = record { set = with_item (get_or (items_of level) c.args.rank 0) suffix; count = c.support-support.result } in (
       omega (arith, c.decreases),
       (
         within,
@@ -118,7 +167,7 @@ class-classes-requires g t c κs within =
           inner_is_level level c.args.rank c.in_ok-inner.inner c.requires.level below c.conditional_supports.ensures (omega (arith, c.if-self-ge-DEPTH.false)),
           (
             suffix_added c.in_ok-inner.inner c.args.found.now.sets c.tell_rank.new.found.sets told c.len-place.result c.len-place.ensures c.in_ok-tell_rank.ensures.added
-                c.in_ok-inner.ensures.place below.suffix,
+                c.in_ok-inner.ensures.place (with_item-rises (get_or (items_of level) c.args.rank 0) suffix c.requires.stands.rises),
             (
               omega (arith, c.requires.few, c.in_ok-tell_rank.ensures.trees, c.in_ok-inner.ensures.trees, ap length c.in_ok-tell_rank.ensures.added, length-append c.args.found.now.sets (told ∷ [])),
               c.in_ok-tell_rank.ensures.going_on,
@@ -134,9 +183,13 @@ class-returns-clause-listed g t c =
     let inner = c.in_ok-inner.inner in
     let met = met_by level.paths.baskets level.least c.args.rank c.support-support.result c.support-support.ensures c.requires.level.some c.if-support-self.false in
     let below = c.in_ok-inner.ensures.below in
+    let old = c.args.found.now.sets in
+    let mid = c.tell_rank.new.found.sets in
+    let told : Counted = record { set = with_item (get_or (items_of level) c.args.rank 0) (suffix_of level old); count = c.support-support.result } in
     on_ok_weaker c.classes.result
-    (class_grown level c.args.rank inner below c.classes_by_codings.ensures met c.args.found.now.sets _ c.classes.new.found.sets (with_item (get_or (items_of level) c.args.rank 0) level.suffix) c.support-support.result
-    c.requires.level.rises refl c.support-support.ensures c.in_ok-tell_rank.ensures.added)
+    (class_grown level c.args.rank inner below c.classes_by_codings.ensures met old mid c.classes.new.found.sets c.support-support.result
+    c.requires.stands.rises c.support-support.ensures c.in_ok-tell_rank.ensures.added
+    (suffix_is inner old mid told c.len-place.result c.len-place.ensures c.in_ok-tell_rank.ensures.added c.in_ok-inner.ensures.place))
     c.classes.ensures.listed
 
 pub class-returns-clause-trees : goal.class-returns-clause-trees
@@ -187,7 +240,7 @@ pub classes-returns-then-is_branch-clause-few :
     goal.classes-returns-then-is_branch-clause-few
 classes-returns-then-is_branch-clause-few g t c =
     let level = c.args.self.now in
-    let named = as_items (items_of level) level.suffix in
+    let named = as_items (items_of level) (suffix_of level c.args.found.now.sets) in
     on_ok_weaker c.read_off.result
     (λ l. omega (
       arith,
@@ -230,7 +283,7 @@ classes-returns-in_err-class-clause-at_most g t c =
     let classes = so_far.listed.0 in
     let old = c.args.found.now.sets in
     let all = flat_map (λ (class : List Counted). class) classes in
-    let named = as_items (items_of level) level.suffix in
+    let named = as_items (items_of level) (suffix_of level c.args.found.now.sets) in
     let fit = classes_fit c.classes_are_all.ensures c.classes_are_listed.ensures level.paths c.requires.level.ranked level.least classes c.loop-rank.rank so_far.listed.1
     (omega (arith, c.loop-rank-test.true, c.ranks-rank-end.ensures)) so_far.listed.2 in
     let long = ap length so_far.listed.3 ∙ length-append old (map named all) in
@@ -242,7 +295,7 @@ classes-class-requires g t c κs within =
     let level = c.args.self.now in
     let so_far = c.loop-rank.invariant in
     let classes = so_far.listed.0 in
-    let more = map (as_items (items_of level) level.suffix) (flat_map (λ (class : List Counted). class) classes) in (
+    let more = map (as_items (items_of level) (suffix_of level c.args.found.now.sets)) (flat_map (λ (class : List Counted). class) classes) in (
       omega (arith, c.decreases, c.loop-rank-test.true, c.ranks-rank-end.ensures),
       (
         within,
@@ -263,12 +316,14 @@ classes-loop-rank-preserved g t c =
     let classes = so_far.listed.0 in
     let now = c.in_ok-class.ensures in
     let next = now.listed in
+    let more = map (as_items (items_of level) (suffix_of level c.args.found.now.sets)) (flat_map (λ (class : List Counted). class) classes) in
     record {
       listed = (
         classes ++ next.sets ∷ [],
         length-append classes (next.sets ∷ []) ∙ ap (λ n. n + 1) so_far.listed.1,
         more_classes level.paths.baskets level.least classes next.sets so_far.listed.2 (subst (λ rank. ListsClass level.paths.baskets (Count level.least) rank next.sets) (sym so_far.listed.1) next.listed),
-        more_all (items_of level) level.suffix c.args.found.now.sets c.loop-rank.found.sets c.class.new.found.sets classes next.sets so_far.listed.3 next.added,
+        more_all (items_of level) (suffix_of level c.args.found.now.sets) c.args.found.now.sets c.loop-rank.found.sets c.class.new.found.sets classes next.sets so_far.listed.3
+            (same_items level c.args.found.now.sets more c.loop-rank.found.sets c.class.new.found.sets next.sets c.requires.stands so_far.listed.3 next.added),
       );
       trees = omega (arith, now.trees, so_far.trees, more_trees level.paths.baskets level.least c.loop-rank.rank);
       few = now.few;
@@ -297,7 +352,7 @@ classes-returns-clause-at_most g t c =
     let so_far = c.loop-rank.invariant in
     let classes = so_far.listed.0 in
     let all = flat_map (λ (class : List Counted). class) classes in
-    let named = as_items (items_of level) level.suffix in
+    let named = as_items (items_of level) (suffix_of level c.args.found.now.sets) in
     let last : length classes ≡ level.paths.ranks = omega (arith, so_far.listed.1, c.loop-rank-test.false, c.ranks-rank-end.ensures, c.loop-rank.auto.rank-end) in
     let once = all_once c.classes_are_all.ensures c.classes_are_listed.ensures level.paths c.requires.level.ranked level.least classes last so_far.listed.2 in
     let size = once_is_as_long level.paths.baskets (Count level.least) all once in

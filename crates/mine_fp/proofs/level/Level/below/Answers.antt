@@ -31,7 +31,6 @@ returns-clause-below c =
     record {
       ranks = made.ranks;
       names = take-append-le c.args.pairs.len names (drop (length names) c.args.pairs.items) (omega arith) ∙ take_all c.args.pairs.len names (omega arith) ∙ is;
-      suffix = c.in_ok-suffix.ensures;
       depth = λ i. level.depth + 1;
       least = λ i. level.least;
       coding = made.coding;

@@ -6,7 +6,7 @@ use Rattle.basket_sets.specs.declared.counted.Counted.{Counted}
 use Rattle.basket_sets.specs.declared.minimum.Minimum.TheVariants.{Count}
 use Rattle.basket_sets.specs.Itemset.{with_item}
 use Rattle.mine_classes.specs.Classes.{ListsClass}
-use Rattle.mine_fp.specs.Level.{as_items, items_of}
+use Rattle.mine_fp.specs.Level.{as_items, items_of, suffix_of}
 use Rattle.mine_fp.proofs.ChoiceLemmas.{choices_are_class, choices_long, chosen, chosen_more}
 use Rattle.mine_fp.proofs.ClassLemmas.{met_by, rare_by}
 use Rattle.mine_fp.proofs.LevelLemmas.{alone_as_items}
@@ -39,7 +39,7 @@ returns-in_err-choose-clause-at_most g c =
     let lower = c.requires.lower in
     let sets = flat_map (λ (class : List Counted). class) lower.classes in
     let size = choices_long level.paths.baskets level.least c.args.rank c.requires.branch met c.conditional_supports.ensures c.classes_are_all.ensures c.classes_are_conditional.ensures lower.classes lower.ranks lower.listed c.lists_have_class_size.ensures in
-    let named = as_items (items_of level) level.suffix in
+    let named = as_items (items_of level) (suffix_of level c.args.found.now.sets) in
     let long = ap length lower.are ∙ length-append lower.before (map named sets) in
     let most = c.in_err-choose.ensures.at_most in
     omega (arith, most, c.loop-at.invariant.told, size, long, lower.long, length-map sets named, c.loop-at-test.true, c.len-end.ensures, c.loop-at.auto.at)
@@ -47,12 +47,12 @@ returns-in_err-choose-clause-at_most g c =
 pub loop-at-init : goal.loop-at-init
 loop-at-init g c =
     let level = c.args.self.now in
-    let alone = alone_as_items (items_of level) level.suffix c.args.rank c.support-support.result c.requires.level.rises in
+    let alone = alone_as_items (items_of level) (suffix_of level c.args.found.now.sets) c.args.rank c.support-support.result c.requires.stands.rises in
     record {
       sets = λ classes before long are.
           c.in_ok-tell_rank.ensures.added ∙ ap (λ s. c.args.found.now.sets ++ s ∷ []) (sym alone)
           ∙ (let none : 0 ≡ c.args.start - c.args.start = omega arith in
-          ap (λ n. c.args.found.now.sets ++ map (as_items (items_of level) level.suffix) (chosen c.args.rank c.support-support.result (take n (flat_map (λ (class : List Counted). class) classes)))) none);
+          ap (λ n. c.args.found.now.sets ++ map (as_items (items_of level) (suffix_of level c.args.found.now.sets)) (chosen c.args.rank c.support-support.result (take n (flat_map (λ (class : List Counted). class) classes)))) none);
       trees = c.in_ok-tell_rank.ensures.trees;
       told = omega (arith, c.in_ok-tell_rank.ensures.told);
       going_on = c.in_ok-tell_rank.ensures.going_on;
@@ -66,7 +66,7 @@ loop-at-preserved g c =
     let now = c.in_ok-choose.ensures in
     let at = c.loop-at.at in
     let item = c.item-item.result in
-    let named = as_items (items_of level) level.suffix in
+    let named = as_items (items_of level) (suffix_of level c.args.found.now.sets) in
     let name : item ≡ get_or (items_of level) c.args.rank 0 = c.item-item.ensures in
     record {
       sets = λ classes before long are.
@@ -74,7 +74,7 @@ loop-at-preserved g c =
           let whole = ap length are ∙ length-append before (map named sets) in
           let here : at - c.args.start < length sets =
           omega (arith, whole, long, length-map sets named, c.loop-at-test.true, c.len-end.ensures, c.loop-at.auto.at) in
-          chosen_more (items_of level) level.suffix c.args.rank c.support-support.result item at (at - c.args.start) now.added.chosen before c.args.found.now.sets
+          chosen_more (items_of level) (suffix_of level c.args.found.now.sets) c.args.rank c.support-support.result item at (at - c.args.start) now.added.chosen before c.args.found.now.sets
           c.loop-at.found.sets c.choose.new.found.sets sets here (omega (arith, long, c.loop-at.auto.at)) are name (so_far.sets classes before long are)
           (now.added.added ∙ (λ i. c.loop-at.found.sets ++ record { set = with_item item (sym now.added.stands i).set; count = c.support-support.result } ∷ []))
           ∙ (let next : at - c.args.start + 1 ≡ at + 1 - c.args.start = omega (arith, c.loop-at.auto.at) in
@@ -92,7 +92,7 @@ returns-clause-listed g c =
     let lower = c.requires.lower in
     let sets = flat_map (λ (class : List Counted). class) lower.classes in
     let class = choices_are_class level.paths.baskets level.least c.args.rank c.requires.branch met c.conditional_supports.ensures c.classes_are_all.ensures c.classes_are_conditional.ensures lower.classes lower.ranks lower.listed in
-    let named = as_items (items_of level) level.suffix in
+    let named = as_items (items_of level) (suffix_of level c.args.found.now.sets) in
     let long = ap length lower.are ∙ length-append lower.before (map named sets) in
     let whole : c.loop-at.at - c.args.start ≡ length sets =
     omega (arith, long, lower.long, length-map sets named, c.loop-at-test.false, c.len-end.ensures, c.loop-at.auto.at, c.loop-at.auto.at-end) in
@@ -110,6 +110,6 @@ returns-clause-at_most g c =
     let lower = c.requires.lower in
     let sets = flat_map (λ (class : List Counted). class) lower.classes in
     let size = choices_long level.paths.baskets level.least c.args.rank c.requires.branch met c.conditional_supports.ensures c.classes_are_all.ensures c.classes_are_conditional.ensures lower.classes lower.ranks lower.listed c.lists_have_class_size.ensures in
-    let named = as_items (items_of level) level.suffix in
+    let named = as_items (items_of level) (suffix_of level c.args.found.now.sets) in
     let long = ap length lower.are ∙ length-append lower.before (map named sets) in
     omega (arith, c.loop-at.invariant.told, size, long, lower.long, length-map sets named, c.loop-at-test.false, c.len-end.ensures, c.loop-at.auto.at, c.loop-at.auto.at-end)
