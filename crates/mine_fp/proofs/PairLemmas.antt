@@ -1,8 +1,8 @@
 -- A rank with which one lower rank alone is frequent.
-use Rattle.std.proofs.Common.{◌≡◌, ◌≢◌, ℕ, ◌+◌, ◌<◌, false, true, ◌&&◌, List, [], ◌∷◌, ◌++◌, cond, get_or, leb, length, ltb, map, append_assoc, refl, sym, ap, ◌∙◌, subst, inl, inr, arith}
+use Rattle.std.proofs.Common.{◌≡◌, ◌≢◌, ℕ, ◌<◌, false, true, ◌&&◌, List, [], ◌∷◌, ◌++◌, cond, get_or, leb, length, ltb, map, append_assoc, refl, sym, ap, ◌∙◌, inl, inr, arith}
 use Rattle.std.specs.Cmp.Lexicographic.{pointwise}
 use Rattle.std.specs.Prelude.{nat_eq, not}
-use Rattle.std.specs.List.{Contains, IsDistinct, list_all}
+use Rattle.std.specs.List.{IsDistinct, list_all}
 use Rattle.std.proofs.lemmas.Bool.{and_parts, cases_Bool}
 use Rattle.std.proofs.Math.Seq.{get_or-append_seam}
 use Rattle.std.proofs.lemmas.List.Elements.{All-from_recursion}
@@ -10,7 +10,7 @@ use Rattle.basket_sets.specs.declared.weighted.Weighted.{Weighted}
 use Rattle.basket_sets.specs.declared.counted.Counted.{Counted}
 use Rattle.basket_sets.specs.declared.minimum.Minimum.TheVariants.{Count}
 use Rattle.basket_sets.specs.Frequent.{IsNonemptySet, ListsOnce, counted, is_frequent}
-use Rattle.basket_sets.specs.Itemset.{IsRising, has, rising, with_item}
+use Rattle.basket_sets.specs.Itemset.{IsRising, has, with_item}
 use Rattle.basket_sets.specs.Support.{support_of, total_of}
 use Rattle.basket_sets.proofs.theory.Members.{All-from_Member, Contains-from_Member, Member}
 use Rattle.basket_sets.proofs.theory.Rising.{Member-from_has, cons_rises, first_below, has-from_Member, nil_rises, rising-rising}
@@ -24,7 +24,7 @@ use Rattle.mine_fp.specs.Level.{IsChosen, ListsClassAsItems, as_items, items_of,
 use Rattle.mine_fp.specs.Trees.{has_tree, is_straight, rank_trees}
 use Rattle.mine_fp.proofs.ClassLemmas.{listed_long}
 use Rattle.mine_fp.proofs.LevelLemmas.{alone_as_items, kept_below, pair_ranks}
-use Rattle.mine_fp.proofs.StraightLemmas.{ArePlain, all_of, each_of, straight_from_flat}
+use Rattle.mine_fp.proofs.StraightLemmas.{ArePlain, each_of, straight_from_flat}
 use Rattle.mine_fp.proofs.TreesLemmas.{passed_as_many}
 use Rattle.mine_fp.proofs.WordLemmas.{has_kept}
 

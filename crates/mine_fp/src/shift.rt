@@ -9,22 +9,29 @@ ghost use Rattle.mine_fp.specs.declared.shift.Shift.{Shift as By};
 ghost use Rattle.mine_fp.specs.Shift.{AreShifts, shifted};
 
 use mine_classes::words::bit_of;
+use smallvec::SmallVec;
 use std::alloc::{AllocError, Global};
 
+/// How many shifts stand without an allocation.
+const INLINE_SHIFTS: usize = 8;
+
+/// Shifts, one for each run of neighbours among the kept ranks.
+pub type Shifts = SmallVec<Shift, { INLINE_SHIFTS }>;
+
 /// How far the bits of some kept ranks are from their places, and the bits of those places.
-#[derive(Clone, Copy, Debug)]
+#[derive(Clone, Copy, Debug, Default)]
 pub struct Shift {
     by: u32,
     places: u64,
 }
 
-/// The shifts of the ranks of some pairs, which are kept: one for each run of neighbours.
-pub fn shifts_of(alloc: Global, pairs: &[(u32, u64)]) -> Result<Vec<Shift>, AllocError>
+/// The shifts of the ranks of some pairs, which are kept.
+pub fn shifts_of(alloc: Global, pairs: &[(u32, u64)]) -> Result<Shifts, AllocError>
     requires rises { IsRising (map (λ pair. pair.0) pairs.now) }
     requires below { AllBelow WORD_RANKS (map (λ pair. pair.0) pairs.now) }
     ensures { IfOk result (λ shifts. AreShifts (map (λ pair. pair.0) pairs.now) (length (map (λ pair. pair.0) pairs.now)) shifts.items) }
 {
-    let mut shifts = Vec::new(alloc);
+    let mut shifts = SmallVec::new(alloc);
     let mut last = Shift { by: 0, places: 0 };
     for (place, pair) in pairs.iter().enumerate() {
         let by = pair.0 - place as u32;

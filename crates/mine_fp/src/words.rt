@@ -205,7 +205,7 @@ fn words_below(
     let mut below = Vec::with_capacity(alloc, words.len())?;
     for word in words {
         if word.has(rank) {
-            let bits = shift_all(word.bits, &shifts);
+            let bits = shift_all(word.bits, shifts.as_slice());
             let weight = word.weight;
             words::add(&mut below, Word { bits, weight })?;
         }

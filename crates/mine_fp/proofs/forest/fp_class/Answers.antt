@@ -1,4 +1,4 @@
-use Rattle.std.proofs.Common.{◌≡◌, ◌+◌, ◌++◌, map, ap, sym, ◌∙◌, subst, inl, inr, arith, Err}
+use Rattle.std.proofs.Common.{◌≡◌, ◌+◌, ◌++◌, map, ap, ◌∙◌, subst, inl, inr, arith, Err}
 use Rattle.std.proofs.lemmas.Result.{err_from_is_err_and}
 use Rattle.basket_core.specs.Codes.{Coding, IsCoding}
 use Rattle.basket_core.specs.declared.fault.MineFault.TheVariants.{TooMany}

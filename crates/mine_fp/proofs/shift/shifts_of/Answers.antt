@@ -53,7 +53,7 @@ loop-place-preserved c =
       | then-by-last+in_ok-push w ↦
           (let by : at + (rank - at) ≡ rank = omega arith in (
             ap (λ (shift : Shift). at + shift.by) w.last-is ∙ by,
-            subst (AreShifts kept at) (λ i. sym (ap (λ v. v.items) w.shifts-is ∙ w.in_ok-push.ensures.items) i ++ sym w.last-is i ∷ [])
+            subst (AreShifts kept at) (λ i. sym (ap (λ v. v.items) w.shifts-is ∙ w.in_ok-push.ensures.ok) i ++ sym w.last-is i ∷ [])
                 (fresh_shift kept at (rank - at) (c.loop-place.shifts.items ++ c.loop-place.last ∷ []) (omega arith) so_far),
           ))
       | else-by-last w ↦ (

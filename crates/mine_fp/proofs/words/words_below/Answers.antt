@@ -35,7 +35,7 @@ loop-word-preserved c =
                 subst (λ l. HaveSameWeights (flat_map (kept_place (has kept) rank) (word_places count (take (i + 1) words))) (map (decoded_place kept) (word_places (length kept) l))) items
                 (below_with kept count rank words i here low (sym c.has.ensures ∙ w.if-has.true) (λ other h. let less = c.requires.below other h in omega (arith, less, low))
                 old w.add.new.words.items w.shift_all-bits.result
-                (bits_brought kept c.in_ok-shifts.shifts.items w.deref.result.now (get_or words i none).bits w.shift_all-bits.result c.in_ok-shifts.ensures w.deref.ensures.value (omega (arith, c.requires.few, length-map c.args.pairs.now (λ (pair : ℕ × ℕ). pair.0))) w.shift_all-bits.ensures)
+                (bits_brought kept c.in_ok-shifts.shifts.items w.as_slice.result.now (get_or words i none).bits w.shift_all-bits.result c.in_ok-shifts.ensures w.as_slice.ensures (omega (arith, c.requires.few, length-map c.args.pairs.now (λ (pair : ℕ × ℕ). pair.0))) w.shift_all-bits.ensures)
                 (so_far.weights count low) (now.weights (length kept)));
           })
       | else-has w ↦
