@@ -75,6 +75,7 @@ fn keep_shared(words: &mut [u64], others: &[u64]) -> u64
 }
 
 /// The words that two rows share, in the place of other words, and how many ones they have.
+#[inline]
 pub fn share_words(words: &mut Vec<u64>, x: &[u64], y: &[u64]) -> Result<u64, AllocError>
     requires same { length x.now ≡ length y.now }
     requires few { length x.now ≤ MOST_WORDS }
@@ -83,6 +84,9 @@ pub fn share_words(words: &mut Vec<u64>, x: &[u64], y: &[u64]) -> Result<u64, Al
     ensures most { IfOk result (λ ones. ones ≤ length x.now * 64) }
 {
     words.clear();
+    if x.is_empty() {
+        return Ok(0);
+    }
     words.extend_from_slice(x)?;
     Ok(keep_shared(words, y))
 }
