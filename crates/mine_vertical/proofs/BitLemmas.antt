@@ -104,6 +104,15 @@ both_more (a ∷ x) (b ∷ y) (suc i) same here =
     let e : suc i + 1 ≡ suc (i + 1) = omega arith in
     ap (λ n. zip2 bit_and (take n (a ∷ x)) (take n (b ∷ y))) e ∙ ap (λ l. bit_and a b ∷ l) (both_more x y i (omega arith) (omega arith))
 
+-- no words share nothing
+pub none_both : (xs ys : List ℕ) → length xs ≡ 0 → zip2 bit_and xs ys ≡ []
+none_both [] ys none = refl
+none_both (x ∷ xs) ys none = absurd (omega arith)
+
+pub none_shared : (xs ys : List ℕ) → length xs ≡ 0 → shared_bits xs ys ≡ 0
+none_shared [] ys none = refl
+none_shared (x ∷ xs) ys none = absurd (omega arith)
+
 -- ---- words that are changed one after another
 
 pub shared_most_of : (xs ys : List ℕ) → ((k : ℕ) → get_or ys k 0 < 2 ^ 64) → shared_bits xs ys ≤ length xs * 64

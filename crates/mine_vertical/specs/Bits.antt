@@ -1,5 +1,5 @@
 -- Words of bits, and how many bits two lists of words share.
-use Rattle.std.specs.Prelude.{ℕ, zero, suc, ◌+◌, Bool, List, [], ◌∷◌, bit_and, count_ones, map}
+use Rattle.std.specs.Prelude.{ℕ, zero, suc, ◌+◌, ◌-◌, Bool, List, [], ◌∷◌, bit_and, count_ones, map}
 use Rattle.std.specs.Int.{div_ceil}
 use Rattle.std.specs.List.{range_with_len}
 use Rattle.std.specs.Simd.Lanes.{mask_l}
@@ -30,9 +30,9 @@ abbrev pub words_from : (ℕ → Bool) → ℕ → ℕ → List ℕ
 words_from test start zero = []
 words_from test start (suc count) = word_at test start ∷ words_from test (start + 64) count
 
--- how many words have a bit for each of so many places
+-- how many words have a bit for each of so many places: one or more
 abbrev pub word_count : ℕ → ℕ
-word_count places = div_ceil places 64
+word_count places = suc (div_ceil places 64 - 1)
 
 -- the words of so many places with a one where a place is in a cover
 abbrev pub words_of : ℕ → List ℕ → List ℕ

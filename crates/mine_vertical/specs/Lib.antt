@@ -10,3 +10,4 @@ pub mod Bits
 pub mod Planes
 pub mod Marks
 pub mod Covers
+pub mod RowWords

@@ -1,31 +1,33 @@
 ghost use Rattle.std.specs.Prelude.{◌≡◌, [], IfOk};
 ghost use Rattle.basket_sets.specs.Itemset.{AllBelow};
 ghost use Rattle.mine_vertical.specs.Bits.{words_of};
+ghost use Rattle.mine_vertical.specs.RowWords.{words_in};
 ghost use Rattle.mine_vertical.specs.Rows.{IsBitRow};
 
-use crate::bits::{set_bit, share_words};
+use crate::bits::set_bit;
 use crate::marks::Marks;
 use crate::row::Row;
+use crate::row_words::{RowWords, words_for};
 use crate::weights::Weights;
 use std::alloc::{AllocError, Global};
 
 /// A row with a bit for each place, which is one where the place is in its cover.
 #[derive(Debug, Drop)]
 pub struct BitRow {
-    words: Vec<u64>,
+    words: RowWords,
     count: u64,
 }
 
 /// A bit for each place below a number, which is one where the place is in a cover.
-fn bits_of_cover(alloc: Global, cover: &[u32], places: u32) -> Result<Vec<u64>, AllocError>
+fn bits_of_cover(alloc: Global, cover: &[u32], places: u32) -> Result<RowWords, AllocError>
     requires { AllBelow places cover.now }
-    ensures { IfOk result (λ words. words.items ≡ words_of places cover.now) }
+    ensures { IfOk result (λ words. words_in words ≡ words_of places cover.now) }
 {
-    let mut words = vec![in alloc; 0u64; (places as usize).div_ceil(64)]?;
+    let mut words = vec![in alloc; 0u64; words_for(places as usize)]?;
     for place in cover {
         set_bit(&mut words, *place as usize);
     }
-    Ok(words)
+    RowWords::of(alloc, &words)
 }
 
 impl Row for BitRow {
@@ -41,15 +43,16 @@ impl Row for BitRow {
     }
 
     fn joined(alloc: Global, x: &Self, y: &Self, weights: &Weights) -> Result<Self, AllocError> {
-        let mut words = Vec::with_capacity(alloc, (weights.places() as usize).div_ceil(64))?;
-        let ones = share_words(&mut words, &x.words, &y.words)?;
+        weights.bounds();
+        let mut words = RowWords::new(alloc);
+        let ones = words.share(&x.words, &y.words)?;
         let count = weights.weight_of_bits(&words, ones);
         Ok(BitRow { words, count })
     }
 
     fn empty(alloc: Global) -> Self {
         BitRow {
-            words: Vec::new(alloc),
+            words: RowWords::new(alloc),
             count: 0,
         }
     }
@@ -66,7 +69,7 @@ impl Row for BitRow {
         weights: &Weights,
     ) -> Result<(), AllocError> {
         weights.bounds();
-        let ones = share_words(&mut self.words, &x.words, &y.words)?;
+        let ones = self.words.share(&x.words, &y.words)?;
         self.count = weights.weight_of_bits(&self.words, ones);
         Ok(())
     }

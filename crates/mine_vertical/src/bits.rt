@@ -25,7 +25,8 @@ fn shared_by_lanes(first: &[[u64; 4]], second: &[[u64; 4]]) -> u64
 pub fn shared_by_words(first: &[u64], second: &[u64]) -> u64
     requires same { length first.now ≡ length second.now }
     requires few { length first.now ≤ MOST_WORDS }
-    ensures { result ≡ shared_bits first.now second.now }
+    ensures ones { result ≡ shared_bits first.now second.now }
+    ensures most { result ≤ length first.now * 64 }
 {
     let mut count = 0;
     for (at, word) in first.iter().enumerate() {
@@ -62,6 +63,7 @@ fn keep_shared(words: &mut [u64], others: &[u64]) -> u64
     requires few { length words.old ≤ MOST_WORDS }
     ensures words { words.new ≡ zip2 bit_and words.old others.now }
     ensures ones { result ≡ shared_bits words.old others.now }
+    ensures most { result ≤ length words.old * 64 }
 {
     let mut ones = 0;
     for at in 0..words.len() {
@@ -73,13 +75,18 @@ fn keep_shared(words: &mut [u64], others: &[u64]) -> u64
 }
 
 /// The words that two rows share, in the place of other words, and how many ones they have.
+#[inline]
 pub fn share_words(words: &mut Vec<u64>, x: &[u64], y: &[u64]) -> Result<u64, AllocError>
     requires same { length x.now ≡ length y.now }
     requires few { length x.now ≤ MOST_WORDS }
     ensures words { OnOk result (words.new.items ≡ zip2 bit_and x.now y.now) }
     ensures ones { IfOk result (λ ones. ones ≡ shared_bits x.now y.now) }
+    ensures most { IfOk result (λ ones. ones ≤ length x.now * 64) }
 {
     words.clear();
+    if x.is_empty() {
+        return Ok(0);
+    }
     words.extend_from_slice(x)?;
     Ok(keep_shared(words, y))
 }

@@ -16,6 +16,7 @@ mod mined;
 mod planes;
 mod room;
 mod row;
+mod row_words;
 mod search;
 mod siblings;
 mod tids;

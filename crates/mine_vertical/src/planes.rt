@@ -3,10 +3,12 @@ ghost use Rattle.std.specs.Prelude.{◌≡◌, ◌≤◌, ◌<◌, ℕ, All, IfO
 ghost use Rattle.std.specs.List.{list_any, sum_by};
 ghost use Rattle.basket_sets.specs.Database.{MOST_WEIGHT};
 ghost use Rattle.mine_vertical.specs.Bits.{MOST_WORDS};
+ghost use Rattle.mine_vertical.specs.RowWords.{words_in};
 ghost use Rattle.mine_vertical.specs.Planes.{ArePlanes, IsPlane, has_bit, plane_weight};
 ghost use Rattle.mine_vertical.specs.Weights.{MOST_PLACES};
 
-use crate::bits::{set_bit, shared_by_words};
+use crate::bits::set_bit;
+use crate::row_words::{RowWords, words_for};
 use std::alloc::{AllocError, Global};
 
 /// The bits of the greatest weight that there may be.
@@ -16,7 +18,7 @@ const WEIGHT_BITS: u32 = 40;
 #[derive(Debug, Drop)]
 pub struct Plane {
     pub bit: u32,
-    pub words: Vec<u64>,
+    pub words: RowWords,
 }
 
 /// The plane of a bit.
@@ -26,13 +28,16 @@ fn plane_of(alloc: Global, weights: &[u64], bit: u32) -> Result<Plane, AllocErro
     ensures bit { IfOk result (λ plane. plane.bit ≡ bit) }
     ensures words { IfOk result (λ plane. IsPlane weights.now plane) }
 {
-    let mut words = vec![in alloc; 0u64; weights.len().div_ceil(64)]?;
+    let mut words = vec![in alloc; 0u64; words_for(weights.len())]?;
     for (place, weight) in weights.iter().enumerate() {
         if (*weight >> bit) % 2 == 1 {
             set_bit(&mut words, place);
         }
     }
-    Ok(Plane { bit, words })
+    Ok(Plane {
+        bit,
+        words: RowWords::of(alloc, &words)?,
+    })
 }
 
 /// The bits that some weight has.
@@ -65,16 +70,16 @@ pub fn planes_of(alloc: Global, weights: &[u64], are_ones: bool) -> Result<Vec<P
 }
 
 /// What the places of a row of bits weigh together, by the planes of the weights.
-pub fn weight_by_planes(words: &[u64], planes: &[Plane]) -> u64
-    requires few { length words.now ≤ MOST_WORDS }
-    requires wide { All (λ plane. length plane.words.items ≡ length words.now) planes.now }
+pub fn weight_by_planes(words: &RowWords, planes: &[Plane]) -> u64
+    requires few { length (words_in words.now) ≤ MOST_WORDS }
+    requires wide { All (λ plane. length (words_in plane.words) ≡ length (words_in words.now)) planes.now }
     requires narrow { All (λ plane. plane.bit < 40) planes.now }
-    requires light { sum_by (plane_weight words.now) planes.now ≤ MOST_WEIGHT }
-    ensures { result ≡ sum_by (plane_weight words.now) planes.now }
+    requires light { sum_by (plane_weight (words_in words.now)) planes.now ≤ MOST_WEIGHT }
+    ensures { result ≡ sum_by (plane_weight (words_in words.now)) planes.now }
 {
     let mut weight = 0;
     for plane in planes {
-        weight += shared_by_words(words, &plane.words) << plane.bit;
+        weight += words.shared(&plane.words) << plane.bit;
     }
     weight
 }

@@ -52,11 +52,11 @@ impl Search<'_> {
         ensures joins { OnOk result (joins.new ≡ joins.old + length others.now) }
         ensures clear { OnOk result (IsMarked self.now.weights.now [] room.new.marks) }
     {
+        let mut below = room.list(alloc);
         if others.is_empty() {
-            return Ok(Vec::new(alloc));
+            return Ok(below);
         }
         room.marks.mark(sibling.row.to_mark(), self.weights);
-        let mut below = Vec::new(alloc);
         for other in others {
             let mut row = room.row(alloc);
             row.join(&sibling.row, &other.row, &room.marks, self.weights)?;

@@ -5,9 +5,11 @@ ghost use Rattle.basket_sets.specs.Itemset.{AllBelow, IsRising};
 ghost use Rattle.mine_vertical.specs.Cover.{IsCover, cover_weight};
 ghost use Rattle.mine_vertical.specs.Bits.{words_of};
 ghost use Rattle.mine_vertical.specs.Planes.{are_ones};
+ghost use Rattle.mine_vertical.specs.RowWords.{words_in};
 ghost use Rattle.mine_vertical.specs.Weights.{MOST_PLACES};
 
 use crate::planes::{Plane, planes_of, weight_by_planes};
+use crate::row_words::RowWords;
 use std::alloc::{AllocError, Global};
 use std::marker::Model;
 
@@ -103,9 +105,9 @@ impl Weights {
     }
 
     /// What the places of a row of bits weigh together, where the row has so many ones.
-    pub(crate) fn weight_of_bits(&self, words: &[u64], ones: u64) -> u64
-        requires { (cover : List ℕ) × IsCover self.now cover × (words.now ≡ words_of (length self.now) cover) × (ones ≡ length cover) }
-        ensures { (cover : List ℕ) → IsCover self.now cover → words.now ≡ words_of (length self.now) cover → ones ≡ length cover → result ≡ cover_weight self.now cover }
+    pub(crate) fn weight_of_bits(&self, words: &RowWords, ones: u64) -> u64
+        requires { (cover : List ℕ) × IsCover self.now cover × (words_in words.now ≡ words_of (length self.now) cover) × (ones ≡ length cover) }
+        ensures { (cover : List ℕ) → IsCover self.now cover → words_in words.now ≡ words_of (length self.now) cover → ones ≡ length cover → result ≡ cover_weight self.now cover }
     {
         if self.are_ones {
             return ones;

@@ -33,3 +33,8 @@ loop-at-preserved c =
           ∙ sym (both_more before others i c.requires.same (omega (arith, c.loop-at-test.true, c.loop-at.invariant.long)));
       left = left_more words before i word c.loop-at.invariant.left;
     }
+
+pub returns-clause-most : goal.returns-clause-most
+returns-clause-most c =
+    let most = shared_most_of c.args.words.now c.args.others.now (λ k. (c.type_inv.others k).fits) in
+    omega (arith, most, c.loop-at.invariant.ones)

@@ -11,3 +11,8 @@ overflow_add-count c =
     let most = shared_most first second (λ k. (c.type_inv.first k).fits) in
     let step = shared_step first second i c.requires.same here in
     omega (arith, most, step, c.loop-at.invariant, c.from-count.ensures)
+
+pub returns-clause-most : goal.returns-clause-most
+returns-clause-most c =
+    let most = shared_most c.args.first.now c.args.second.now (λ k. (c.type_inv.first k).fits) in
+    omega (arith, most, c.loop-at.invariant)

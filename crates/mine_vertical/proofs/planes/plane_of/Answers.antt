@@ -15,7 +15,7 @@ loop-place-init c =
     let n = word_count (length c.args.weights.now) in
     let made = c.in_ok-words.ensures.items_if_clones_equal (λ x e. e) in
     let none = words_same (λ t. ltb t 0 && has_bit c.args.bit (get_or c.args.weights.now t 0)) (λ t. false) 0 n
-    (λ t low. ap (λ b. b && has_bit c.args.bit (get_or c.args.weights.now t 0)) (le-ltb t 0 (omega arith))) ∙ words_none 0 n in made ∙ ap (λ m. replicate m 0) c.div_ceil.ensures ∙ sym none
+    (λ t low. ap (λ b. b && has_bit c.args.bit (get_or c.args.weights.now t 0)) (le-ltb t 0 (omega arith))) ∙ words_none 0 n in made ∙ ap (λ m. replicate m 0) c.words_for.ensures ∙ sym none
 
 pub loop-place-preserved : goal.loop-place-preserved
 loop-place-preserved c =
@@ -47,6 +47,6 @@ returns-clause-words c =
     let weights = c.args.weights.now in
     let bit = c.args.bit in
     let i = c.loop-place.place in
-    c.loop-place.invariant
+    c.in_ok-of.ensures ∙ c.deref.ensures.value ∙ c.loop-place.invariant
     ∙ words_same (λ t. ltb t i && has_bit bit (get_or weights t 0)) (λ t. has_bit bit (get_or weights t 0)) 0 (word_count (length weights))
     (λ t low. plane_end weights bit i t (omega (arith, c.loop-place-test.false)))

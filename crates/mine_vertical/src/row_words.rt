@@ -1,0 +1,69 @@
+//! The words of a row of bits.
+ghost use Rattle.std.specs.Prelude.{◌≡◌, ◌≤◌, ◌<◌, IfOk, OnOk, bit_and, length};
+ghost use Rattle.std.specs.Simd.Lanes.{zip2};
+ghost use Rattle.mine_vertical.specs.Bits.{MOST_WORDS, shared_bits, word_count};
+ghost use Rattle.mine_vertical.specs.RowWords.{words_in};
+
+use crate::bits::{share_words, shared_by_words};
+use std::alloc::{AllocError, Global};
+
+/// One or more words. The first stands in its place, so that up to 64 places take no memory of their
+/// own.
+#[derive(Debug, Drop)]
+pub struct RowWords {
+    pub first: u64,
+    pub others: Vec<u64>,
+}
+
+/// How many words have a bit for each of so many places, of which there is always one.
+pub fn words_for(places: usize) -> usize
+    ensures { result ≡ word_count places }
+{
+    places.div_ceil(64).max(1)
+}
+
+impl RowWords {
+    /// One word without ones.
+    pub fn new(alloc: Global) -> Self {
+        RowWords {
+            first: 0,
+            others: Vec::new(alloc),
+        }
+    }
+
+    /// The words of a list.
+    pub fn of(alloc: Global, words: &[u64]) -> Result<Self, AllocError>
+        requires { 0 < length words.now }
+        ensures { IfOk result (λ row. words_in row ≡ words.now) }
+    {
+        Ok(RowWords {
+            first: words[0],
+            others: words[1..].to_vec(alloc)?,
+        })
+    }
+
+    /// Becomes the words that two rows share. The answer is how many ones they have.
+    #[inline]
+    pub fn share(&mut self, x: &RowWords, y: &RowWords) -> Result<u64, AllocError>
+        requires same { length (words_in x.now) ≡ length (words_in y.now) }
+        requires few { length (words_in x.now) ≤ MOST_WORDS }
+        ensures words { OnOk result (words_in self.new ≡ zip2 bit_and (words_in x.now) (words_in y.now)) }
+        ensures ones { IfOk result (λ ones. ones ≡ shared_bits (words_in x.now) (words_in y.now)) }
+    {
+        let both = x.first & y.first;
+        let others = share_words(&mut self.others, &x.others, &y.others)?;
+        self.first = both;
+        Ok(u64::from(both.count_ones()) + others)
+    }
+
+    /// At how many places two rows both have a one.
+    #[inline]
+    pub fn shared(&self, other: &RowWords) -> u64
+        requires same { length (words_in self.now) ≡ length (words_in other.now) }
+        requires few { length (words_in self.now) ≤ MOST_WORDS }
+        ensures { result ≡ shared_bits (words_in self.now) (words_in other.now) }
+    {
+        let ones = u64::from((self.first & other.first).count_ones());
+        ones + shared_by_words(&self.others, &other.others)
+    }
+}
