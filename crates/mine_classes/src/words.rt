@@ -17,6 +17,9 @@ use std::alloc::{AllocError, Global};
 /// How many ranks a word has bits for.
 pub const WORD_RANKS: usize = 64;
 
+/// How many baskets are read ahead at a time.
+const BLOCK: usize = 16;
+
 /// A basket of up to 64 ranks: the bits of its ranks, of which rank 0 has the highest, so that
 /// baskets that begin alike stand together where words are in order.
 #[derive(Clone, Copy, Debug, PartialEq, Eq, PartialOrd, Ord)]
@@ -141,6 +144,41 @@ fn bits_of(of: &[u64], kept: &[u32], basket: &[u32]) -> u64
     }
 }
 
+/// The same, where the bits at the ends of the basket were read before. What was read never decides: it
+/// was read to bring the basket near.
+fn bits_read_ahead(of: &[u64], kept: &[u32], basket: &[u32], ahead: u64) -> u64
+    requires bits { AreBits kept.now of.now }
+    requires rises { IsRising kept.now }
+    requires few { length kept.now ≤ WORD_RANKS }
+    requires below { 0 < length of.now → AllBelow (length of.now) basket.now }
+    ensures { result ≡ bits_in kept.now basket.now }
+{
+    let bits = bits_of(of, kept, basket);
+    if ahead & !bits == 0 {
+        bits
+    } else {
+        bits_by_search(kept, basket)
+    }
+}
+
+/// The bits at the ends of the next baskets. These lie far apart, and such reads don't wait for one
+/// another.
+fn read_ahead(of: &[u64], ranks: &[u32], baskets: &[Span]) -> [u64; BLOCK] {
+    let mut ahead = [0u64; BLOCK];
+    for (bits, basket) in ahead.iter_mut().zip(baskets) {
+        *bits = bits_at(of, ranks, basket.start) | bits_at(of, ranks, basket.end);
+    }
+    ahead
+}
+
+/// The bits of the rank at a place, or none where there is no place or no slot.
+fn bits_at(of: &[u64], ranks: &[u32], place: u32) -> u64 {
+    match ranks.get(place as usize) {
+        Some(rank) => of.get(*rank as usize).copied().unwrap_or(0),
+        None => 0,
+    }
+}
+
 /// Whether the last word has these bits.
 fn repeats(words: &[Word], bits: u64) -> bool
     ensures { IsTrue result → (0 < length words.now) × ((d : Bits) → (slice_index_or words.now (length words.now - 1) d).bits ≡ bits) }
@@ -188,8 +226,12 @@ pub fn words_of(
 {
     let mut words = Vec::with_capacity(alloc, baskets.len())?;
     let mut short = ShortWords::new(alloc, baskets.len())?;
-    for basket in baskets {
-        let bits = bits_of(of, kept, basket.of(ranks));
+    let mut ahead = [0u64; BLOCK];
+    for (place, basket) in baskets.iter().enumerate() {
+        if place % BLOCK == 0 {
+            ahead = read_ahead(of, ranks, &baskets[place..]);
+        }
+        let bits = bits_read_ahead(of, kept, basket.of(ranks), ahead[place % BLOCK]);
         let weight = basket.weight;
         let word = Word { bits, weight };
         if !short.take_in(word) {

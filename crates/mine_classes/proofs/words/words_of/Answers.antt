@@ -25,38 +25,38 @@ weigh word = word.weight
 abbrev none : Span
 none = record { start = 0; end = 0; weight = 0 }
 
-pub bits_of-bits-requires-clause-below : goal.bits_of-bits-requires-clause-below
-bits_of-bits-requires-clause-below c = λ some.
+pub bits_read_ahead-bits-requires-clause-below : goal.bits_read_ahead-bits-requires-clause-below
+bits_read_ahead-bits-requires-clause-below c = λ some.
     let count = c.requires.ranked.0 in
-    let is = rank_basket_at c.args.ranks.now count c.args.baskets.now c.loop-basket.basket-index none c.requires.ranked.1.places c.loop-basket-test.true in
+    let is = rank_basket_at c.args.ranks.now count c.args.baskets.now c.loop-place.place none c.requires.ranked.1.places c.loop-place-test.true in
     subst (λ n. AllBelow n c.of.result.now) (sym (c.requires.ranked.2 some)) (subst (AllBelow count) (sym c.of.ensures) is.below)
 
 pub add-requires-clause-some : goal.add-requires-clause-some
 add-requires-clause-some c =
-    let is = rank_basket_at c.args.ranks.now c.requires.ranked.0 c.args.baskets.now c.loop-basket.basket-index none c.requires.ranked.1.places c.loop-basket-test.true in
-    (c.loop-basket.invariant.some, is.weighs)
+    let is = rank_basket_at c.args.ranks.now c.requires.ranked.0 c.args.baskets.now c.loop-place.place none c.requires.ranked.1.places c.loop-place-test.true in
+    (c.loop-place.invariant.some, is.weighs)
 
 -- the weight of the basket at hand is no more than what the total allows
 pub add-requires-clause-light : goal.add-requires-clause-light
 add-requires-clause-light c =
     let all = baskets_at c.args.ranks.now c.args.baskets.now in
-    let i = c.loop-basket.basket-index in
+    let i = c.loop-place.place in
     let d = basket_at c.args.ranks.now none in
-    let more = sum_by_more_le (weight_at []) all i d (omega (arith, length-map c.args.baskets.now (basket_at c.args.ranks.now), c.loop-basket-test.true)) in
-    let weight = ap (λ (p : Weighted). p.weight) (get_or-map (basket_at c.args.ranks.now) c.args.baskets.now i none d c.loop-basket-test.true) in
-    omega (arith, more, weight, c.loop-basket.invariant.light, c.requires.ranked.1.light)
+    let more = sum_by_more_le (weight_at []) all i d (omega (arith, length-map c.args.baskets.now (basket_at c.args.ranks.now), c.loop-place-test.true)) in
+    let weight = ap (λ (p : Weighted). p.weight) (get_or-map (basket_at c.args.ranks.now) c.args.baskets.now i none d c.loop-place-test.true) in
+    omega (arith, more, weight, c.loop-place.invariant.light, c.requires.ranked.1.light)
 
 pub take_in-requires : goal.take_in-requires
 take_in-requires c =
     let all = baskets_at c.args.ranks.now c.args.baskets.now in
-    let i = c.loop-basket.basket-index in
+    let i = c.loop-place.place in
     let d = basket_at c.args.ranks.now none in
-    let more = sum_by_more_le (weight_at []) all i d (omega (arith, length-map c.args.baskets.now (basket_at c.args.ranks.now), c.loop-basket-test.true)) in
-    let weight = ap (λ (p : Weighted). p.weight) (get_or-map (basket_at c.args.ranks.now) c.args.baskets.now i none d c.loop-basket-test.true) in
-    omega (arith, more, weight, c.loop-basket.invariant.light, c.requires.ranked.1.light)
+    let more = sum_by_more_le (weight_at []) all i d (omega (arith, length-map c.args.baskets.now (basket_at c.args.ranks.now), c.loop-place-test.true)) in
+    let weight = ap (λ (p : Weighted). p.weight) (get_or-map (basket_at c.args.ranks.now) c.args.baskets.now i none d c.loop-place-test.true) in
+    omega (arith, more, weight, c.loop-place.invariant.light, c.requires.ranked.1.light)
 
-pub loop-basket-init : goal.loop-basket-init
-loop-basket-init c =
+pub loop-place-init : goal.loop-place-init
+loop-place-init c =
     let empty = c.in_ok-words.ensures.items in
     let count = length c.args.kept.now in
     let short = c.in_ok-short.short.words.items in
@@ -66,27 +66,27 @@ loop-basket-init c =
       weights = λ test. sym (ap (λ l. weight_where test (word_places count (l ++ short))) empty ∙ no_weights test count short c.in_ok-short.ensures);
     }
 
-pub loop-basket-preserved : goal.loop-basket-preserved
-loop-basket-preserved c =
+pub loop-place-preserved : goal.loop-place-preserved
+loop-place-preserved c =
     let ranks = c.args.ranks.now in
     let spans = c.args.baskets.now in
     let kept = c.args.kept.now in
-    let i = c.loop-basket.basket-index in
-    let here = c.loop-basket-test.true in
+    let i = c.loop-place.place in
+    let here = c.loop-place-test.true in
     let all = baskets_at ranks spans in
     let basket = basket_at ranks (get_or spans i none) in
     let is = rank_basket_at ranks c.requires.ranked.0 spans i none c.requires.ranked.1.places here in
-    let word : Word = record { bits = c.bits_of-bits.result; weight = basket.weight } in
+    let word : Word = record { bits = c.bits_read_ahead-bits.result; weight = basket.weight } in
     let next = basket_more ranks spans i none here in
-    let bits = c.bits_of-bits.ensures ∙ ap (bits_in kept) c.of.ensures in
+    let bits = c.bits_read_ahead-bits.ensures ∙ ap (bits_in kept) c.of.ensures in
     let same = sym (ap (λ l. weighted l basket.weight) (ap (ranks_in (length kept)) bits ∙ bits_are kept c.requires.rises c.requires.few basket.basket is.rises)) in
     let grown = sym (ap total_of next) ∙ sum_by-append (weight_at []) (take i all) (basket ∷ []) in
     let one = sum_by-cons (weight_at []) basket [] in
     let before = map (placed kept) (take i all) in
     let longer = sym (map-append (placed kept) (take i all) (basket ∷ [])) ∙ ap (map (placed kept)) next in
     let count = length kept in
-    let words = c.loop-basket.words.items in
-    let short = c.loop-basket.short.words.items in
+    let words = c.loop-place.words.items in
+    let short = c.loop-place.short.words.items in
     let words' = c.if-not-take_in.words.items in
     let short' = c.take_in.new.self.words.items in
     elim c.if-not-take_in.branch [
@@ -96,18 +96,18 @@ loop-basket-preserved c =
           let left : short' ≡ short = w.if-not-take_in.ensures.same refl in
           record {
             some = subst (All (λ (word : Word). 1 ≤ word.weight)) (sym moved) w.in_ok-add.ensures.some;
-            light = omega (arith, ap (sum_by weigh) moved, ap (sum_by weigh) left, w.in_ok-add.ensures.light, c.loop-basket.invariant.light, grown, one);
+            light = omega (arith, ap (sum_by weigh) moved, ap (sum_by weigh) left, w.in_ok-add.ensures.light, c.loop-place.invariant.light, grown, one);
             weights = subst (λ l. HaveSameWeights l (word_places count (words' ++ short'))) longer
-                (λ test. word_added count before (placed kept basket) word same words new short c.loop-basket.invariant.weights (w.in_ok-add.ensures.weights count) test
+                (λ test. word_added count before (placed kept basket) word same words new short c.loop-place.invariant.weights (w.in_ok-add.ensures.weights count) test
                 ∙ ap (λ l. weight_where test (word_places count l)) (sym (ap (λ l. l ++ short') moved ∙ ap (λ l. new ++ l) left)));
           })
       | else-not-take_in w ↦
           (let moved : words' ≡ words = ap (λ v. v.items) w.words-is in
           record {
-            some = subst (All (λ (word : Word). 1 ≤ word.weight)) (sym moved) c.loop-basket.invariant.some;
-            light = omega (arith, ap (sum_by weigh) moved, w.if-not-take_in.ensures.light refl, c.loop-basket.invariant.light, grown, one);
+            some = subst (All (λ (word : Word). 1 ≤ word.weight)) (sym moved) c.loop-place.invariant.some;
+            light = omega (arith, ap (sum_by weigh) moved, w.if-not-take_in.ensures.light refl, c.loop-place.invariant.light, grown, one);
             weights = subst (λ l. HaveSameWeights l (word_places count (words' ++ short'))) longer
-                (λ test. word_taken_in count before (placed kept basket) word same words short short' c.loop-basket.invariant.weights (w.if-not-take_in.ensures.weights refl count) test
+                (λ test. word_taken_in count before (placed kept basket) word same words short short' c.loop-place.invariant.weights (w.if-not-take_in.ensures.weights refl count) test
                 ∙ ap (λ l. weight_where test (word_places count (l ++ short'))) (sym moved));
           })
     ]

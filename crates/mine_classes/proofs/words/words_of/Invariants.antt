@@ -9,9 +9,9 @@ use Rattle.mine_classes.specs.Span.{baskets_at}
 use Rattle.mine_classes.specs.Words.{word_places}
 use Rattle.mine_classes.proofs.words.words_of.Given as goal
 
-abbrev pub invariant-loop-basket : goal.invariant-loop-basket
-invariant-loop-basket l = record {
+abbrev pub invariant-loop-place : goal.invariant-loop-place
+invariant-loop-place l = record {
   some : All (λ (word : Word). 1 ≤ word.weight) l.words.items;
-  light : sum_by (λ (word : Word). word.weight) l.words.items + sum_by (λ (word : Word). word.weight) l.short.words.items ≡ total_of (take l.basket-index (baskets_at l.ranks l.baskets));
-  weights : HaveSameWeights (map (placed l.kept) (take l.basket-index (baskets_at l.ranks l.baskets))) (word_places (length l.kept) (l.words.items ++ l.short.words.items));
+  light : sum_by (λ (word : Word). word.weight) l.words.items + sum_by (λ (word : Word). word.weight) l.short.words.items ≡ total_of (take l.place (baskets_at l.ranks l.baskets));
+  weights : HaveSameWeights (map (placed l.kept) (take l.place (baskets_at l.ranks l.baskets))) (word_places (length l.kept) (l.words.items ++ l.short.words.items));
 }
