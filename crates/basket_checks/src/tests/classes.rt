@@ -93,7 +93,10 @@ fn short_paths_among_many_ranks(rt: HostRuntime) -> Result<(), Fail> {
     let coded = Coded::of(alloc, &database(alloc, &rows)?, Minimum::Count(2))?;
     let found = conditional(alloc, Ordered::of_coded(alloc, &coded)?, 79, 2)?;
     assert_eq!(rt; found.ranks(), [78].as_slice());
-    assert_eq!(rt; baskets(alloc, found.into_baskets(alloc)?)?.as_str(), "0 (2) ");
+    assert_eq!(rt;
+        baskets(alloc, found.into_baskets(alloc)?)?.as_str(),
+        "0 (2) "
+    );
     Ok(())
 }
 
