@@ -38,6 +38,11 @@ changed_weight test f (place ∷ places) =
     ∙ ap (λ n. cond (test (f place.basket)) place.weight 0 + n) (changed_weight test f places)
     ∙ sym (sum_by-cons (λ (p : Weighted). cond (test (f p.basket)) p.weight 0) place places)
 
+-- what has the same weights has them as items too
+pub decoded_weights : (items : List ℕ) (baskets others : List Weighted) → HaveSameWeights baskets others → HaveSameWeights (map (decoded_place items) baskets) (map (decoded_place items) others)
+decoded_weights items baskets others same test =
+    changed_weight test (decoded items) baskets ∙ same (λ basket. test (decoded items basket)) ∙ sym (changed_weight test (decoded items) others)
+
 same_tests_weigh : (P : Weighted → Type 0) (p q : List ℕ → Bool) (places : List Weighted) → ((place : Weighted) → P place → p place.basket ≡ q place.basket) → AllByRecursion P places
     → weight_where p places ≡ weight_where q places
 same_tests_weigh P p q [] same all = refl

@@ -67,6 +67,28 @@ impl Conditional {
         })
     }
 
+    /// The same with its baskets in order, equal ones merged: fewer baskets, for who keeps a list of them
+    /// for each rank.
+    pub fn sorted(self, alloc: Global) -> Result<Self, AllocError>
+        requires { IsCoding self }
+        ensures ranks { IfOk result (λ c. c.items ≡ self.items) }
+        ensures minimum { IfOk result (λ c. c.minimum ≡ self.minimum) }
+        ensures coding { IfOk result IsCoding }
+        ensures baskets { IfOk result (λ c. HaveSameWeights (baskets_of self) (baskets_of c)) }
+    {
+        let Conditional {
+            ranks,
+            least,
+            baskets,
+        } = self;
+        let baskets = baskets.sorted(alloc)?;
+        Ok(Conditional {
+            ranks,
+            least,
+            baskets,
+        })
+    }
+
     /// The ranks that are kept, rising.
     pub fn ranks(&self) -> &[u32]
         ensures { result.now ≡ self.now.items }

@@ -1,6 +1,7 @@
 //! The form in which the baskets of a conditional database are kept.
 ghost use Rattle.std.specs.Prelude.{◌≡◌, IfOk};
 ghost use Rattle.mine_classes.specs.Form.{form_baskets};
+ghost use Rattle.mine_classes.specs.Ordered.{AreRankBaskets, HaveSameWeights};
 
 use crate::ordered::Ordered;
 use crate::word_baskets::WordBaskets;
@@ -21,6 +22,19 @@ impl Form {
         match self {
             Form::Lists(ordered) => Ok(ordered),
             Form::Words(words) => words.ordered(alloc),
+        }
+    }
+
+    /// The same baskets in order, equal ones merged. Words are.
+    pub fn sorted(self, alloc: Global) -> Result<Form, AllocError>
+        requires { AreRankBaskets (form_baskets self) }
+        ensures ranks { IfOk result (λ sorted. (form_baskets sorted).ranks ≡ (form_baskets self).ranks) }
+        ensures ranked { IfOk result (λ sorted. AreRankBaskets (form_baskets sorted)) }
+        ensures weights { IfOk result (λ sorted. HaveSameWeights (form_baskets self).baskets (form_baskets sorted).baskets) }
+    {
+        match self {
+            Form::Lists(lists) => Ok(Form::Lists(lists.sorted(alloc)?)),
+            Form::Words(words) => Ok(Form::Words(words)),
         }
     }
 }

@@ -4,12 +4,12 @@ ghost use Rattle.basket_core.specs.Codes.{coded_place, rank_of};
 ghost use Rattle.basket_sets.specs.Counts.{AllBelow};
 ghost use Rattle.basket_sets.specs.Itemset.{IsRising};
 ghost use Rattle.mine_classes.specs.Form.{form_baskets};
-ghost use Rattle.mine_classes.specs.Ordered.{AreRankBaskets, HaveSameWeights, entry_places};
+ghost use Rattle.mine_classes.specs.Ordered.{AreRankBaskets, HaveSameWeights};
 ghost use Rattle.mine_classes.specs.Places.{ArePlaces, placed, places_in, slots_in};
 ghost use Rattle.mine_classes.specs.Span.{IsWithin, baskets_at};
 
 use crate::form::Form;
-use crate::ordered::{Entry, Ordered, key_bits};
+use crate::ordered::Ordered;
 use crate::span::{Span, place, table_pays};
 use crate::word_baskets::WordBaskets;
 use crate::words::{WORD_RANKS, clear_bits, set_bits, words_of};
@@ -81,7 +81,8 @@ impl Places {
         Ok(Form::Lists(lists))
     }
 
-    /// The same of many ranks, where each basket is a list.
+    /// The same of many ranks, where each basket is a list. They stay in the order in which they come:
+    /// to sort them takes longer than neighbours that begin alike save.
     fn coded_by_lists(
         &mut self,
         alloc: Global,
@@ -106,8 +107,7 @@ impl Places {
         let coded = coded_spans(alloc, &mut locals, &self.of, kept, ranks, baskets);
         take_away(&mut self.of, kept);
         let count = place(kept.len())?;
-        let entries = entries_at(alloc, &locals, &coded?, key_bits(count))?;
-        Ordered::of_entries(alloc, count, entries)
+        Ok(Ordered::of_spans(count, locals, coded?))
     }
 
     /// The same of few ranks, where each basket is a word.
@@ -250,21 +250,4 @@ pub fn coded_spans(
         spans.push(basket.moved(start, end))?;
     }
     Ok(spans)
-}
-
-fn entries_at<'a>(
-    alloc: Global,
-    ranks: &'a [u32],
-    spans: &[Span],
-    bits: u32,
-) -> Result<Vec<Entry<'a>>, AllocError>
-    requires within { All (IsWithin (length ranks.now)) spans.now }
-    requires bits { 1 ≤ bits }
-    ensures { IfOk result (λ entries. entry_places entries.items ≡ baskets_at ranks.now spans.now) }
-{
-    let mut entries = Vec::with_capacity(alloc, spans.len())?;
-    for span in spans {
-        entries.push(Entry::new(span.of(ranks), span.weight, bits))?;
-    }
-    Ok(entries)
 }

@@ -8,7 +8,7 @@ ghost use Rattle.mine_apriori.specs.Pairs.{ArePairs, lists_of};
 ghost use Rattle.mine_apriori.specs.Work.{candidate_count};
 
 use crate::cutting::Cutting;
-use crate::gate::Gate;
+use crate::gate::{Gate, pass_alone};
 use crate::level::count_level;
 use crate::pairs::{PHASE, count_pairs};
 use crate::triangle::small_pairs;
@@ -35,9 +35,7 @@ fn pairs<R: Threads + Sync, G: Gate + Sync>(
     ensures { IfOk result (λ lists. ArePairs coded.now (lists_of lists.items)) }
 {
     if cutting.workers == 1 {
-        for piece in 0..cutting.pieces {
-            gate.pass(PHASE, 0, piece);
-        }
+        pass_alone(gate, PHASE, cutting.pieces);
         return frequent_pairs(alloc, coded);
     }
     if let Some(pairs) = small_pairs(rt, alloc, coded, cutting, gate)? {

@@ -8,14 +8,17 @@ ghost use Rattle.mine_phases.specs.Triangle.{rank_pairs};
 ghost use Rattle.mine_round.specs.Record.{unused};
 
 use crate::cutting::Cutting;
-use crate::gate::Gate;
+use crate::gate::{Gate, pass_alone};
 use crate::pairs::PHASE;
 use crate::share::{Share, add_counts, by_workers, claim_piece};
-use basket_core::{Coded, MineFault, shard};
-use mine_apriori::{Triangle, is_small_triangle, pair_count, pairs_of_supports};
+use basket_core::{Coded, MineFault, Weighted, shard};
+use mine_apriori::{Triangle, frequent_pairs, is_small_triangle, pair_count, pairs_of_supports};
 use mine_round::{Round, RoundSeat};
 use std::alloc::{AllocError, Global};
 use std::thread::Threads;
+
+/// So many counts take no memory to speak of.
+const FEW_COUNTS: usize = 65_536;
 
 /// The phase as its workers see it.
 #[derive(Drop)]
@@ -104,15 +107,26 @@ pub fn count_triangle<'a, R: Threads + Sync, G: Gate + Sync>(
     }
 }
 
-/// As many of the workers as may have a count for each pair of ranks of their own, since these take no
-/// more memory together than the baskets. None where not even one may.
-fn with_triangles(ranks: u32, baskets: usize, cutting: Cutting) -> Option<Cutting> {
-    for workers in (1..=cutting.workers).rev() {
-        if is_small_triangle(ranks, baskets / workers as usize) {
-            return Some(Cutting::new(workers, cutting.pieces));
+/// How many ranks the baskets have together, as far as so many.
+fn ranks_among(baskets: &[Weighted], most: usize) -> usize {
+    let mut seen = 0usize;
+    for place in baskets {
+        if seen >= most {
+            break;
         }
+        seen = seen.saturating_add(place.basket.len());
     }
-    None
+    seen
+}
+
+/// As many of the workers as may have a count for each pair of ranks of their own, and one at least:
+/// all these counts are no more than the ranks of the baskets, or few.
+fn with_triangles(coded: &Coded, cutting: Cutting) -> Cutting {
+    let pairs = pair_count(coded.ranks()).max(1);
+    let wanted = pairs.saturating_mul(cutting.workers as usize);
+    let counts = ranks_among(coded.baskets(), wanted).max(FEW_COUNTS);
+    let workers = (counts / pairs).clamp(1, cutting.workers as usize);
+    Cutting::new(workers as u32, cutting.pieces)
 }
 
 /// The frequent pairs of each rank, counted by so many workers over so many parts of the baskets, or
@@ -128,9 +142,14 @@ pub fn small_pairs<R: Threads + Sync, G: Gate + Sync>(
 {
     // Nothing is read here: the call brings its contract, which says that the baskets are a coding's.
     let baskets = coded.baskets();
-    let Some(fewer) = with_triangles(coded.ranks(), baskets.len(), cutting) else {
+    if !is_small_triangle(coded.ranks(), baskets.len()) {
         return Ok(None);
-    };
+    }
+    let fewer = with_triangles(coded, cutting);
+    if fewer.workers == 1 {
+        pass_alone(gate, PHASE, cutting.pieces);
+        return Ok(Some(frequent_pairs(alloc, coded)?));
+    }
     let supports = count_triangle(rt, alloc, coded, fewer, gate)?;
     let pairs = pairs_of_supports(alloc, coded, &supports)?;
     Ok(Some(pairs))

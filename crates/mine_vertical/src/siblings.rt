@@ -22,7 +22,7 @@ use mine_classes::laws::conditional_supports;
 use mine_classes::{Conditional, Places, Runs, Span, Sums};
 use std::alloc::{AllocError, Global};
 
-/// The conditional database of a rank.
+/// The conditional database of a rank, its baskets merged: each gets a place in the covers.
 fn conditional_of(
     alloc: Global,
     runs: &Runs,
@@ -37,7 +37,8 @@ fn conditional_of(
     let mut sums = Sums::new(alloc, runs.ranks())?;
     let pairs = runs.pairs(alloc, &mut sums, rank, least)?;
     let mut places = Places::new(alloc, runs.ranks())?;
-    Conditional::of(alloc, runs, &mut places, rank, least, &pairs)
+    let conditional = Conditional::of(alloc, runs, &mut places, rank, least, &pairs)?;
+    Ok(conditional.sorted(alloc)?)
 }
 
 /// The weights of baskets. More than 4,294,967,295 baskets count as a refused growth.
