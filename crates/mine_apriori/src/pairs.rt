@@ -57,11 +57,12 @@ pub fn runs_keeping(
     Ok(runs)
 }
 
-/// The pairs of each rank where a count for each pair of ranks is small, else of none.
+/// The pairs of each rank where a count for each pair of ranks is small, else of none. The runs are made
+/// in any case, and sum the pairs of a rank as fast as a triangle that is larger than the caches.
 fn small_pairs(alloc: Global, coded: &Coded) -> Result<Vec<Vec<(u32, u64)>>, AllocError>
     ensures { IfOk result (λ lists. 0 < length lists.items → ArePairs coded.now (lists_of lists.items)) }
 {
-    if is_small_triangle(coded.ranks(), coded.baskets().len()) {
+    if is_small_triangle(coded.ranks(), coded.baskets().len() / 2) {
         return pairs_by_triangle(alloc, coded);
     }
     Ok(Vec::new(alloc))

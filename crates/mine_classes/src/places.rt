@@ -1,5 +1,5 @@
 //! Baskets of the ranks that stand in a list, by their places there.
-ghost use Rattle.std.specs.Prelude.{◌≡◌, ◌≤◌, ◌<◌, ◌++◌, [], None, All, IfOk, OnOk, length, map, replicate};
+ghost use Rattle.std.specs.Prelude.{◌≡◌, ◌≤◌, ◌<◌, ◌+◌, ◌++◌, [], None, All, IfOk, OnOk, length, map, replicate, take};
 ghost use Rattle.basket_core.specs.Codes.{coded_place, rank_of};
 ghost use Rattle.basket_sets.specs.Counts.{AllBelow};
 ghost use Rattle.basket_sets.specs.Itemset.{IsRising};
@@ -175,54 +175,76 @@ pub fn place_of(kept: &[u32], rank: u32) -> Option<u32>
     }
 }
 
-/// Adds the places of the ranks of a basket that have one, each by a search.
-fn add_by_search(locals: &mut Vec<u32>, kept: &[u32], basket: &[u32]) -> Result<(), AllocError>
-    requires { IsRising kept.now }
-    ensures { OnOk result (locals.new.items ≡ locals.old.items ++ places_in kept.now basket.now) }
+/// Makes room for so many more places behind those that are filled.
+fn make_room(locals: &mut Vec<u32>, filled: usize, more: usize) -> Result<(), AllocError>
+    requires { filled ≤ length locals.old.items }
+    ensures room { OnOk result (filled + more ≤ length locals.new.items) }
+    ensures filled { OnOk result (take filled locals.new.items ≡ take filled locals.old.items) }
 {
-    for rank in basket {
-        match place_of(kept, *rank) {
-            Some(at) => locals.push(at)?,
-            None => {}
-        }
+    let end = filled.checked_add(more).ok_or(AllocError)?;
+    if locals.len() < end {
+        locals.resize(end.saturating_mul(2), 0)?;
     }
     Ok(())
 }
 
-/// Adds what the table has for the ranks of a basket. A place is put down for each rank, and the next
-/// one over it where the rank has none: which have one can't be predicted, so a branch would cost more.
-fn add_by_table(locals: &mut Vec<u32>, of: &[Option<u32>], basket: &[u32]) -> Result<(), AllocError>
-    requires { AllBelow (length of.now) basket.now }
-    ensures { OnOk result (locals.new.items ≡ locals.old.items ++ slots_in of.now basket.now) }
+/// Puts the places of those ranks of a basket that have one behind those that are filled, each by a
+/// search. The answer is how many are filled then.
+fn put_by_search(locals: &mut Vec<u32>, filled: usize, kept: &[u32], basket: &[u32]) -> usize
+    requires rises { IsRising kept.now }
+    requires room { filled + length basket.now ≤ length locals.old.items }
+    ensures sized { length locals.new.items ≡ length locals.old.items }
+    ensures most { result ≤ filled + length basket.now }
+    ensures put { take result locals.new.items ≡ take filled locals.old.items ++ places_in kept.now basket.now }
 {
-    let mut len = locals.len();
-    locals.extend_from_slice(basket)?;
+    let mut len = filled;
+    for rank in basket {
+        let place = place_of(kept, *rank);
+        locals[len] = place.unwrap_or(0);
+        len += usize::from(place.is_some());
+    }
+    len
+}
+
+/// The same by what a table has for the ranks. A place is put down for each rank, and the next one over
+/// it where the rank has none: which have one can't be predicted, so a branch would cost more.
+fn put_by_table(locals: &mut Vec<u32>, filled: usize, of: &[Option<u32>], basket: &[u32]) -> usize
+    requires below { AllBelow (length of.now) basket.now }
+    requires room { filled + length basket.now ≤ length locals.old.items }
+    ensures sized { length locals.new.items ≡ length locals.old.items }
+    ensures most { result ≤ filled + length basket.now }
+    ensures put { take result locals.new.items ≡ take filled locals.old.items ++ slots_in of.now basket.now }
+{
+    let mut len = filled;
     for rank in basket {
         let place = of[*rank as usize];
         locals[len] = place.unwrap_or(0);
         len += usize::from(place.is_some());
     }
-    locals.truncate(len);
-    Ok(())
+    len
 }
 
-/// Adds the places of the ranks of a basket that have one.
-fn add_places(
+/// Puts the places of those ranks of a basket that have one behind those that are filled. The answer is
+/// how many are filled then.
+fn put_places(
     locals: &mut Vec<u32>,
+    filled: usize,
     of: &[Option<u32>],
     kept: &[u32],
     basket: &[u32],
-) -> Result<(), AllocError>
+) -> Result<usize, AllocError>
     requires places { ArePlaces kept.now of.now }
     requires rises { IsRising kept.now }
     requires below { 0 < length of.now → AllBelow (length of.now) basket.now }
-    ensures { OnOk result (locals.new.items ≡ locals.old.items ++ places_in kept.now basket.now) }
+    requires filled { filled ≤ length locals.old.items }
+    ensures filled { IfOk result (λ len. len ≤ length locals.new.items) }
+    ensures put { IfOk result (λ len. take len locals.new.items ≡ take filled locals.old.items ++ places_in kept.now basket.now) }
 {
+    make_room(locals, filled, basket.len())?;
     if of.is_empty() {
-        add_by_search(locals, kept, basket)
-    } else {
-        add_by_table(locals, of, basket)
+        return Ok(put_by_search(locals, filled, kept, basket));
     }
+    Ok(put_by_table(locals, filled, of, basket))
 }
 
 /// The baskets as places in the list, one after another, and where each stands.
@@ -243,11 +265,13 @@ pub fn coded_spans(
     ensures placed { IfOk result (λ spans. baskets_at locals.new.items spans.items ≡ map (placed kept.now) (baskets_at ranks.now baskets.now)) }
 {
     let mut spans = Vec::with_capacity(alloc, baskets.len())?;
+    let mut filled = 0;
     for basket in baskets {
-        let start = place(locals.len())?;
-        add_places(locals, of, kept, basket.of(ranks))?;
-        let end = place(locals.len())?;
+        let start = place(filled)?;
+        filled = put_places(locals, filled, of, kept, basket.of(ranks))?;
+        let end = place(filled)?;
         spans.push(basket.moved(start, end))?;
     }
+    locals.truncate(filled);
     Ok(spans)
 }

@@ -17,7 +17,7 @@ use mine_round::{Round, RoundSeat};
 use std::alloc::{AllocError, Global};
 use std::thread::Threads;
 
-/// So many counts take no memory to speak of.
+/// So many counts, half a megabyte, are never too many.
 const FEW_COUNTS: usize = 65_536;
 
 /// The phase as its workers see it.

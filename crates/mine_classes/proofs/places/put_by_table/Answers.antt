@@ -5,15 +5,15 @@ use mir.Val.{bool_byte}
 use Rattle.mine_classes.specs.Places.{slots_in}
 use Rattle.mine_classes.proofs.RunLemmas.{all_below_at}
 use Rattle.mine_classes.proofs.PlaceLemmas.{one_at_most, places_more, slot_put}
-use Rattle.mine_classes.proofs.places.add_by_table.Goals as goal
+use Rattle.mine_classes.proofs.places.put_by_table.Goals as goal
 
 pub bounds-of-rank : goal.bounds-of-rank
-bounds-of-rank c = all_below_at (length c.args.of.now) c.args.basket.now c.loop-rank.rank-index c.requires c.loop-rank-test.true
+bounds-of-rank c = all_below_at (length c.args.of.now) c.args.basket.now c.loop-rank.rank-index c.requires.below c.loop-rank-test.true
 
 pub loop-rank-preserved : goal.loop-rank-preserved
 loop-rank-preserved c =
     let basket = c.args.basket.now in
-    let old = c.args.locals.now.items in
+    let front = take c.args.filled c.args.locals.now.items in
     let locals = c.loop-rank.locals.items in
     let i = c.loop-rank.rank-index in
     let len = c.loop-rank.len in
@@ -23,10 +23,10 @@ loop-rank-preserved c =
     let most = one_at_most c.is_some.result in
     let so_far = slots_in c.args.of.now (take i basket) in
     record {
-      room = length-set locals len c.unwrap_or.result ∙ was.room;
+      sized = length-set locals len c.unwrap_or.result ∙ was.sized;
       few = omega (arith, was.few, most, c.from-len.ensures);
       put = ap (λ n. take (len + c.from-len.result) (set locals len n)) c.unwrap_or.ensures
-          ∙ slot_put locals (old ++ so_far) len slot c.from-len.result (omega (arith, was.room, was.few, c.loop-rank-test.true)) counted was.put
-          ∙ append_assoc old so_far (option_to_list slot)
-          ∙ ap (λ l. old ++ l) (sym (places_more (λ rank. get_or c.args.of.now rank None) basket i c.loop-rank-test.true));
+          ∙ slot_put locals (front ++ so_far) len slot c.from-len.result (omega (arith, was.sized, was.few, c.requires.room, c.loop-rank-test.true)) counted was.put
+          ∙ append_assoc front so_far (option_to_list slot)
+          ∙ ap (λ l. front ++ l) (sym (places_more (λ rank. get_or c.args.of.now rank None) basket i c.loop-rank-test.true));
     }
