@@ -120,11 +120,11 @@ fn ranks_among(baskets: &[Weighted], most: usize) -> usize {
 }
 
 /// As many of the workers as may have a count for each pair of ranks of their own, and one at least:
-/// all these counts are no more than the ranks of the baskets, or few.
+/// all these counts are no more than half the ranks of the baskets, or few.
 fn with_triangles(coded: &Coded, cutting: Cutting) -> Cutting {
     let pairs = pair_count(coded.ranks()).max(1);
-    let wanted = pairs.saturating_mul(cutting.workers as usize);
-    let counts = ranks_among(coded.baskets(), wanted).max(FEW_COUNTS);
+    let wanted = pairs.saturating_mul(2 * cutting.workers as usize);
+    let counts = (ranks_among(coded.baskets(), wanted) / 2).max(FEW_COUNTS);
     let workers = (counts / pairs).clamp(1, cutting.workers as usize);
     Cutting::new(workers as u32, cutting.pieces)
 }
