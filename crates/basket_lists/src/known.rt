@@ -1,5 +1,6 @@
 //! The items that sets are known to have.
 ghost use Rattle.std.specs.Prelude.{◌≡◌, ◌<◌, ◌≤◌, ◌+◌, ◌*◌, ◌++◌, ◌^◌, [], IfSome, IsTrue, length, map, slice_index_or, take};
+ghost use Rattle.basket_lists.specs.CountedSets.{IsLongerBy};
 ghost use Rattle.basket_lists.specs.Known.{IsBitOf, IsLonger};
 ghost use Rattle.basket_lists.specs.Packed.{IsPacked, items_in, unpacked};
 ghost use Rattle.basket_sets.specs.Itemset.{AllBelow, rising};
@@ -115,6 +116,20 @@ impl KnownItems {
             return None;
         }
         Some(Packed::new(bits | (1 << bit), packed.size() + 1, count))
+    }
+
+    /// Whether a packed set is another with the item, which that lacks.
+    pub fn is_longer(&self, longer: &Packed, packed: &Packed, item: u32) -> bool
+        ensures { IsTrue result → IsLongerBy item (items_in self.now packed.now.bits) (items_in self.now longer.now.bits) }
+    {
+        let Some(bit) = self.bit_of(item) else {
+            return false;
+        };
+        let bits = packed.bits();
+        if (bits >> bit) % 2 == 1 {
+            return false;
+        }
+        longer.bits() == bits | (1 << bit)
     }
 
     /// A set as bits, if its items are known.

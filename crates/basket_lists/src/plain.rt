@@ -2,7 +2,7 @@
 ghost use Rattle.std.specs.Prelude.{◌≡◌, ◌<◌, ◌++◌, ◌^◌, [], ◌∷◌, IfOk, IsTrue, ◌↔◌, OnOk, length, map, take};
 ghost use Rattle.std.specs.List.{slice_range};
 ghost use Rattle.std.specs.List.Sorted.{IsPermutation, IsSorted};
-ghost use Rattle.basket_lists.specs.CountedSets.{count_at, set_at};
+ghost use Rattle.basket_lists.specs.CountedSets.{IsLongerBy, count_at, set_at};
 ghost use Rattle.basket_lists.specs.Plain.{IsPlaceOfSet};
 ghost use Rattle.basket_sets.specs.Itemset.{IsRising, with_item};
 ghost use Rattle.basket_sets.specs.Order.{report_order};
@@ -109,6 +109,15 @@ impl PlainSets {
         self.places[place].count
     }
 
+    /// Whether the set at `longer` is that at `place` with the item, which that lacks.
+    pub fn is_longer(&self, longer: usize, place: usize, item: u32) -> bool
+        requires longer { longer < length self.now }
+        requires place { place < length self.now }
+        ensures { IsTrue result → IsLongerBy item (set_at self.now place) (set_at self.now longer) }
+    {
+        is_longer(self.items(longer), self.items(place), item)
+    }
+
     /// How many items the sets have together.
     pub fn item_count(&self) -> usize {
         self.items.len()
@@ -155,6 +164,20 @@ fn add_longer(items: &mut Vec<u32>, place: Place, item: u32) -> Result<(), Alloc
         items.insert(start + at, item)?;
     }
     Ok(())
+}
+
+/// Whether a set is another with the item, which that lacks.
+fn is_longer(longer: &[u32], set: &[u32], item: u32) -> bool
+    requires { IsRising set.now }
+    ensures { IsTrue result → IsLongerBy item set.now longer.now }
+{
+    let Err(at) = set.binary_search(&item) else {
+        return false;
+    };
+    if longer.len() != set.len() + 1 || longer[at] != item {
+        return false;
+    }
+    &longer[..at] == &set[..at] && &longer[at + 1..] == &set[at..]
 }
 
 /// The order of two sets in a report.
