@@ -2,13 +2,16 @@
 ghost use Rattle.std.specs.Prelude.{◌≡◌, ◌<◌, ◌++◌, ◌^◌, [], ◌∷◌, IfOk, IsTrue, ◌↔◌, OnOk, length, map, take};
 ghost use Rattle.std.specs.List.{slice_range};
 ghost use Rattle.std.specs.List.Sorted.{IsPermutation, IsSorted};
-ghost use Rattle.basket_lists.specs.CountedSets.{IsLongerBy, count_at, set_at};
+ghost use Rattle.basket_lists.specs.CountedSets.{count_at, set_at};
 ghost use Rattle.basket_lists.specs.Plain.{IsPlaceOfSet};
+ghost use Rattle.basket_lists.specs.Without.{ArePlacesWithout, IsLongerBy, IsPlaceWithout};
 ghost use Rattle.basket_sets.specs.Itemset.{IsRising, with_item};
 ghost use Rattle.basket_sets.specs.Order.{report_order};
 
 use crate::keys::sort_places;
+use crate::known::MOST_ITEMS;
 use crate::place::{Place, end_of, places_behind};
+use crate::places::{MOST_STEPS, NOWHERE, Places, item_hash, items_hash};
 use std::alloc::{AllocError, Global};
 use std::cmp::Ordering;
 use std::marker::Model;
@@ -109,13 +112,42 @@ impl PlainSets {
         self.places[place].count
     }
 
-    /// Whether the set at `longer` is that at `place` with the item, which that lacks.
-    pub fn is_longer(&self, longer: usize, place: usize, item: u32) -> bool
-        requires longer { longer < length self.now }
-        requires place { place < length self.now }
-        ensures { IsTrue result → IsLongerBy item (set_at self.now place) (set_at self.now longer) }
+    /// Where the sets stand that are the set at a place without one of its items, as far as the places
+    /// say it.
+    pub fn places_without(&self, places: &Places, number: usize, found: &mut [u32; MOST_ITEMS])
+        requires { number < length self.now }
+        ensures { ArePlacesWithout self.now (set_at self.now number) MOST_ITEMS found.new }
     {
-        is_longer(self.items(longer), self.items(place), item)
+        let items = self.items(number);
+        let hash = items_hash(items);
+        for place in 0..items.len().min(MOST_ITEMS) {
+            let item = items[place];
+            let shorter = hash.wrapping_sub(item_hash(item));
+            found[place] = self.find_without(places, items, item, shorter);
+        }
+    }
+
+    /// Where the set with this hash stands that is another without the item, if the places say it.
+    fn find_without(&self, places: &Places, items: &[u32], item: u32, hash: u64) -> u32
+        ensures { IsPlaceWithout self.now items.now item result }
+    {
+        for step in 0..MOST_STEPS {
+            let place = places.at(hash, step);
+            if place as usize >= self.len() {
+                return NOWHERE;
+            }
+            if is_longer(items, self.items(place as usize), item) {
+                return place;
+            }
+        }
+        NOWHERE
+    }
+
+    /// The hash of the set at a place.
+    pub fn hash(&self, place: usize) -> u64
+        requires { place < length self.now }
+    {
+        items_hash(self.items(place))
     }
 
     /// How many items the sets have together.
