@@ -13,7 +13,7 @@ use Rattle.basket_lists.specs.CountedSets.{set_at}
 use Rattle.basket_lists.specs.Known.{IsRestOf}
 use Rattle.basket_lists.specs.Packed.{HasBits, items_in, unpacked}
 use Rattle.basket_lists.specs.Without.{ArePlacesWithout, IsLongerBy, IsPlaceWithout}
-use Rattle.basket_lists.proofs.PackedLemmas.{HasMore, bit_is_set, highest, items_in-few, items_in-same, items_in-zero, lower_bits, lower_power, moved_low, moved_rest, one_more, small}
+use Rattle.basket_lists.proofs.PackedLemmas.{HasMore, bit_is_set, highest, items_in-few, items_in-rises, items_in-same, items_in-zero, lower_bits, lower_power, moved_low, moved_rest, one_more, small}
 use Rattle.basket_sets.specs.declared.counted.Counted.{Counted}
 use Rattle.basket_sets.specs.Itemset.{IsRising}
 
@@ -42,7 +42,7 @@ dropped (suc n) (x ∷ xs) y ys e = let r = dropped n xs y ys e in (omega (arith
 -- a word without its bit at a place where it has a one
 module _ (known : List ℕ) (word bit : ℕ) (up : IsRising known) (few : length known ≤ 120) (inside : bit < length known) (is_set : bit_at word bit ≡ 1) where
   without_bit : IsLongerBy (get_or known (length known - 1 - bit) 0) (items_in known (bit_xor word (2 ^ bit))) (items_in known word)
-  without_bit = record { is = same ∙ more.items; size = ap length same ∙ more.size }
+  without_bit = record { rises = items_in-rises known word up; is = same ∙ more.items; size = ap length same ∙ more.size }
     where
       less : ℕ
       less = bit_xor word (2 ^ bit)

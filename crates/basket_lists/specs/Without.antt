@@ -3,10 +3,11 @@ use Rattle.std.specs.Prelude.{◌≡◌, ◌≢◌, ◌<◌, ℕ, suc, List, len
 use Rattle.basket_lists.specs.CountedSets.{set_at}
 use Rattle.basket_lists.specs.declared.places.TheConstants.{NOWHERE}
 use Rattle.basket_sets.specs.declared.counted.Counted.{Counted}
-use Rattle.basket_sets.specs.Itemset.{with_item}
+use Rattle.basket_sets.specs.Itemset.{IsRising, with_item}
 
--- a set is another with an item that the other lacks
+-- a rising set is another with an item that the other lacks
 pub record IsLongerBy (item : ℕ) (set longer : List ℕ) : Type 0 where
+  pub rises : IsRising longer
   pub is : longer ≡ with_item item set
   pub size : length longer ≡ suc (length set)
 
