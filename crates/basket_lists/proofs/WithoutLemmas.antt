@@ -1,5 +1,5 @@
 -- Sets without one of their items.
-use Rattle.std.proofs.Common.{◌≡◌, ◌≢◌, ℕ, zero, suc, ◌+◌, ◌-◌, ◌*◌, ◌%◌, ◌^◌, ◌<◌, ◌≤◌, List, [], ◌∷◌, length, map, drop, get_or, set, replicate, refl, sym, ap, ◌∙◌, subst, inl, inr, arith, get_or-set_other, get_or-set_same}
+use Rattle.std.proofs.Common.{◌≡◌, ◌≢◌, ℕ, zero, suc, ◌+◌, ◌-◌, ◌*◌, ◌%◌, ◌^◌, ◌<◌, ◌≤◌, List, [], ◌∷◌, ◌++◌, length, map, drop, take, get_or, set, replicate, refl, sym, ap, ◌∙◌, subst, inl, inr, arith, get_or-set_other, get_or-set_same}
 use Rattle.std.specs.Prelude.{bit_or, bit_xor}
 use Rattle.std.specs.Int.{bit_at, w128}
 use Rattle.std.proofs.Math.Nat.{add-mul, mod-lt, mul-le-mul_right}
@@ -13,9 +13,10 @@ use Rattle.basket_lists.specs.CountedSets.{set_at}
 use Rattle.basket_lists.specs.Known.{IsRestOf}
 use Rattle.basket_lists.specs.Packed.{HasBits, items_in, unpacked}
 use Rattle.basket_lists.specs.Without.{ArePlacesWithout, IsLongerBy, IsPlaceWithout}
-use Rattle.basket_lists.proofs.PackedLemmas.{HasMore, bit_is_set, highest, items_in-few, items_in-rises, items_in-same, items_in-zero, lower_bits, lower_power, moved_low, moved_rest, one_more, small}
+use Rattle.basket_lists.proofs.PackedLemmas.{HasMore, bit_is_set, highest, items_in-few, items_in-rises, items_in-same, items_in-zero, lower_bits, lower_power, moved_low, moved_rest, one_more, small, with_first, with_later}
 use Rattle.basket_sets.specs.declared.counted.Counted.{Counted}
-use Rattle.basket_sets.specs.Itemset.{IsRising}
+use Rattle.basket_sets.specs.Itemset.{IsRising, with_item}
+use Rattle.basket_sets.proofs.theory.Rising.{Member-from_has, first_below, has_place, rest_rises}
 
 -- ---- places beside items
 
@@ -30,6 +31,17 @@ places_more sets items places count place all within one k less inside = elim (c
 -- numbers that say nothing
 pub places_unsaid : (sets : List Counted) (items : List ℕ) (count : ℕ) → ArePlacesWithout sets items count (replicate count NOWHERE)
 places_unsaid sets items count k less inside said = absurd (said (get_or-replicate count k NOWHERE NOWHERE less))
+
+-- ---- one item less
+
+-- a rising list is what is left of it without an item, with that item
+pub put_back : (items : List ℕ) (place : ℕ) → IsRising items → place < length items → with_item (get_or items place 0) (take place items ++ drop (suc place) items) ≡ items
+put_back [] place up below = absurd (omega (arith, below))
+put_back (x ∷ items) zero up below = with_first x items (λ item m. first_below x items up item m)
+put_back (x ∷ items) (suc place) up below =
+    let inside : place < length items = omega (arith, below) in
+    let above = first_below x items up (get_or items place 0) (Member-from_has items (get_or items place 0) (has_place items place inside)) in
+    with_later (get_or items place 0) x (take place items ++ drop (suc place) items) above ∙ ap (λ l. x ∷ l) (put_back items place (rest_rises x items up) inside)
 
 -- ---- one bit less
 

@@ -1,5 +1,5 @@
 //! Sets whose items stand one behind another.
-ghost use Rattle.std.specs.Prelude.{◌≡◌, ◌<◌, ◌++◌, ◌^◌, [], ◌∷◌, IfOk, IsTrue, ◌↔◌, OnOk, length, map, take};
+ghost use Rattle.std.specs.Prelude.{◌≡◌, ◌<◌, ◌++◌, ◌^◌, [], ◌∷◌, IfOk, IsTrue, ◌↔◌, OnOk, length, map, slice_index_or, take};
 ghost use Rattle.std.specs.List.{slice_range};
 ghost use Rattle.std.specs.List.Sorted.{IsPermutation, IsSorted};
 ghost use Rattle.basket_lists.specs.CountedSets.{count_at, set_at};
@@ -121,23 +121,25 @@ impl PlainSets {
         let items = self.items(number);
         let hash = items_hash(items);
         for place in 0..items.len().min(MOST_ITEMS) {
-            let item = items[place];
-            let shorter = hash.wrapping_sub(item_hash(item));
-            found[place] = self.find_without(places, items, item, shorter);
+            let shorter = hash.wrapping_sub(item_hash(items[place]));
+            found[place] = self.find_without(places, items, place, shorter);
         }
     }
 
-    /// Where the set with this hash stands that is another without the item, if the places say it.
-    fn find_without(&self, places: &Places, items: &[u32], item: u32, hash: u64) -> u32
-        ensures { IsPlaceWithout self.now items.now item result }
+    /// Where the set with this hash stands that is another without the item at a place, if the places say
+    /// it.
+    fn find_without(&self, places: &Places, items: &[u32], place: usize, hash: u64) -> u32
+        requires place { place < length items.now }
+        requires rises { IsRising items.now }
+        ensures { IsPlaceWithout self.now items.now (slice_index_or items.now place 0) result }
     {
         for step in 0..MOST_STEPS {
-            let place = places.at(hash, step);
-            if place as usize >= self.len() {
+            let at = places.at(hash, step);
+            if at as usize >= self.len() {
                 return NOWHERE;
             }
-            if is_longer(items, self.items(place as usize), item) {
-                return place;
+            if is_without(self.items(at as usize), items, place) {
+                return at;
             }
         }
         NOWHERE
@@ -198,18 +200,16 @@ fn add_longer(items: &mut Vec<u32>, place: Place, item: u32) -> Result<(), Alloc
     Ok(())
 }
 
-/// Whether a set is another with the item, which that lacks.
-fn is_longer(longer: &[u32], set: &[u32], item: u32) -> bool
-    requires { IsRising set.now }
-    ensures { IsTrue result → IsLongerBy item set.now longer.now }
+/// Whether a set is another without the item at a place.
+fn is_without(set: &[u32], items: &[u32], place: usize) -> bool
+    requires place { place < length items.now }
+    requires rises { IsRising items.now }
+    ensures { IsTrue result → IsLongerBy (slice_index_or items.now place 0) set.now items.now }
 {
-    let Err(at) = set.binary_search(&item) else {
-        return false;
-    };
-    if longer.len() != set.len() + 1 || longer[at] != item {
+    if items.len() != set.len() + 1 {
         return false;
     }
-    &longer[..at] == &set[..at] && &longer[at + 1..] == &set[at..]
+    &items[..place] == &set[..place] && &items[place + 1..] == &set[place..]
 }
 
 /// The order of two sets in a report.
