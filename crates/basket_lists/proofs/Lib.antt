@@ -3,3 +3,4 @@ mod PackedLemmas
 mod OrderLemmas
 mod ListLemmas
 mod PlainLemmas
+mod WithoutLemmas

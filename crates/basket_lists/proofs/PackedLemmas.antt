@@ -57,11 +57,11 @@ items_in-zero (first ∷ known) = ap (λ b. cond (eqb b 1) (first ∷ items_in k
 
 -- ---- one item more
 
-with_first : (first : ℕ) (items : List ℕ) → ((item : ℕ) → Member item items → first < item) → with_item first items ≡ first ∷ items
+pub with_first : (first : ℕ) (items : List ℕ) → ((item : ℕ) → Member item items → first < item) → with_item first items ≡ first ∷ items
 with_first first [] below = refl
 with_first first (item ∷ items) below = ap (λ b. cond b (first ∷ item ∷ items) (cond (eqb first item) (item ∷ items) (item ∷ with_item first items))) (lt-ltb first item (below item (inl refl)))
 
-with_later : (item first : ℕ) (items : List ℕ) → first < item → with_item item (first ∷ items) ≡ first ∷ with_item item items
+pub with_later : (item first : ℕ) (items : List ℕ) → first < item → with_item item (first ∷ items) ≡ first ∷ with_item item items
 with_later item first items more =
     let not_less : ltb item first ≡ false = false_from_ne_true _ (λ h. let less = ltb-true item first h in omega arith) in
     let not_equal : eqb item first ≡ false = false_from_ne_true _ (λ h. let same = eqb-true item first h in omega arith) in

@@ -1,7 +1,8 @@
 -- The known items, and the bits that they have.
-use Rattle.std.specs.Prelude.{◌≡◌, ◌≤◌, ◌+◌, ℕ, List, length, slice_index}
+use Rattle.std.specs.Prelude.{◌≡◌, ◌≤◌, ◌<◌, ◌+◌, ◌^◌, ℕ, List, drop, length, slice_index}
+use Rattle.std.specs.Int.{bit_at}
 use Rattle.basket_lists.specs.declared.packed.Packed.{Packed}
-use Rattle.basket_lists.specs.Packed.{IsPacked, unpacked}
+use Rattle.basket_lists.specs.Packed.{IsPacked, items_in, unpacked}
 use Rattle.basket_lists.specs.declared.known.TheConstants.{MOST_ITEMS}
 use Rattle.basket_sets.specs.Itemset.{IsRising, with_item}
 
@@ -18,3 +19,10 @@ pub record IsLonger (known : List ℕ) (packed : Packed) (item count : ℕ) (lon
   pub is : IsPacked known longer
   pub set : (unpacked known longer).set ≡ with_item item (unpacked known packed).set
   pub counted : longer.count ≡ count
+
+-- the lower bits of a word, without those of so many items
+pub record IsRestOf (known : List ℕ) (word count rest : ℕ) : Type 0 where
+  pub end : ℕ
+  pub below : rest < 2 ^ end
+  pub alike : (i : ℕ) → i < end → bit_at word i ≡ bit_at rest i
+  pub items : drop count (items_in known word) ≡ items_in known rest

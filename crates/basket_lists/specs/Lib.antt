@@ -3,3 +3,4 @@ pub mod Packed
 pub mod Known
 pub mod Plain
 pub mod CountedSets
+pub mod Without

@@ -1,5 +1,5 @@
 -- Sets as the bits of a word.
-use Rattle.std.specs.Prelude.{◌≡◌, ◌<◌, ◌^◌, ◌==◌, ℕ, Bool, List, [], ◌∷◌, length, if◌then◌else◌, nat_lt, nat_le}
+use Rattle.std.specs.Prelude.{◌≡◌, ◌<◌, ◌^◌, ◌==◌, ℕ, Bool, List, [], ◌∷◌, length, slice_index_or, if◌then◌else◌, nat_lt, nat_le}
 use Rattle.std.specs.Int.{bit_at}
 use Rattle.basket_lists.specs.declared.packed.Packed.{Packed}
 use Rattle.basket_sets.specs.declared.counted.Counted.{Counted}
@@ -22,3 +22,7 @@ pub record IsPacked (known : List ℕ) (packed : Packed) : Type 0 where
 -- size with a higher word
 abbrev pub comes_before : Packed → Packed → Bool
 comes_before packed other = if packed.size == other.size then nat_le other.bits packed.bits else nat_lt packed.size other.size
+
+-- the set at a place has these bits
+abbrev pub HasBits : List Packed → ℕ → ℕ → Type 0
+HasBits sets place bits = (none : Packed) → (place < length sets) × ((slice_index_or sets place none).bits ≡ bits)

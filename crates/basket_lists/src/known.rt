@@ -1,10 +1,12 @@
 //! The items that sets are known to have.
-ghost use Rattle.std.specs.Prelude.{◌≡◌, ◌<◌, ◌≤◌, ◌+◌, ◌*◌, ◌++◌, ◌^◌, [], IfSome, IsTrue, length, map, slice_index_or, take};
-ghost use Rattle.basket_lists.specs.Known.{IsBitOf, IsLonger};
+ghost use Rattle.std.specs.Prelude.{◌≡◌, ◌<◌, ◌≤◌, ◌+◌, ◌*◌, ◌++◌, ◌^◌, ◌/◌, ◌%◌, [], IfSome, IsTrue, drop, length, map, slice_index_or, take};
+ghost use Rattle.basket_lists.specs.Known.{IsBitOf, IsLonger, IsRestOf};
+ghost use Rattle.basket_lists.specs.Without.{ArePlacesWithout};
 ghost use Rattle.basket_lists.specs.Packed.{IsPacked, items_in, unpacked};
 ghost use Rattle.basket_sets.specs.Itemset.{AllBelow, rising};
 
-use crate::packed::Packed;
+use crate::packed::{Packed, WORD, find_bits};
+use crate::places::Places;
 use basket_sets::{Itemset, is_rising};
 use std::alloc::{AllocError, Global};
 use std::marker::Model;
@@ -156,6 +158,54 @@ impl KnownItems {
     {
         let count = put_bits(&self.items, packed.high_bits(), 64, room, 0);
         put_bits(&self.items, packed.low_bits(), 0, room, count)
+    }
+
+    /// Where the packed sets stand that are a packed set without one of its items, as far as the places
+    /// say it.
+    pub fn places_without(
+        &self,
+        sets: &[Packed],
+        places: &Places,
+        packed: &Packed,
+        found: &mut [u32; MOST_ITEMS],
+    )
+        requires { packed.now.bits < 2 ^ length self.now }
+        ensures { ArePlacesWithout (map (unpacked self.now) sets.now) (items_in self.now packed.now.bits) (length (items_in self.now packed.now.bits)) found.new }
+    {
+        let bits = packed.bits();
+        let count = self.add_places(sets, places, bits, 64, found, 0);
+        let _count = self.add_places(sets, places, bits, 0, found, count);
+    }
+
+    /// Adds those without an item that has a one among 64 bits, of which the lowest is at a place. So
+    /// many items have higher bits.
+    #[inline(always)]
+    fn add_places(
+        &self,
+        sets: &[Packed],
+        places: &Places,
+        bits: u128,
+        place: u32,
+        found: &mut [u32; MOST_ITEMS],
+        first: usize,
+    ) -> usize
+        requires bits { bits < 2 ^ length self.now }
+        requires place { place ≤ 64 }
+        requires rest { IsRestOf self.now bits first (bits / 2 ^ place % 2 ^ 64 * 2 ^ place + bits % 2 ^ place) }
+        requires found { ArePlacesWithout (map (unpacked self.now) sets.now) (items_in self.now bits) first found.old }
+        ensures rest { IsRestOf self.now bits result (bits % 2 ^ place) }
+        ensures found { ArePlacesWithout (map (unpacked self.now) sets.now) (items_in self.now bits) result found.new }
+    {
+        let _ = &self.items;
+        let mut rest = ((bits >> place) % WORD) as u64;
+        let mut count = first;
+        while rest != 0 {
+            let one = 1u64 << rest.ilog2();
+            found[count] = find_bits(sets, places, bits ^ (u128::from(one) << place));
+            count += 1;
+            rest -= one;
+        }
+        count
     }
 }
 

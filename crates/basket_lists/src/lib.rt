@@ -8,7 +8,9 @@ mod known;
 mod packed;
 mod parts;
 mod place;
+mod places;
 mod plain;
 
 pub use counted_sets::CountedSets;
 pub use known::MOST_ITEMS;
+pub use places::{NOWHERE, Places};

@@ -1,14 +1,17 @@
 //! Sets whose items stand one behind another.
-ghost use Rattle.std.specs.Prelude.{◌≡◌, ◌<◌, ◌++◌, ◌^◌, [], ◌∷◌, IfOk, IsTrue, ◌↔◌, OnOk, length, map, take};
+ghost use Rattle.std.specs.Prelude.{◌≡◌, ◌<◌, ◌++◌, ◌^◌, [], ◌∷◌, IfOk, IsTrue, ◌↔◌, OnOk, length, map, slice_index_or, take};
 ghost use Rattle.std.specs.List.{slice_range};
 ghost use Rattle.std.specs.List.Sorted.{IsPermutation, IsSorted};
 ghost use Rattle.basket_lists.specs.CountedSets.{count_at, set_at};
 ghost use Rattle.basket_lists.specs.Plain.{IsPlaceOfSet};
+ghost use Rattle.basket_lists.specs.Without.{ArePlacesWithout, IsLongerBy, IsPlaceWithout};
 ghost use Rattle.basket_sets.specs.Itemset.{IsRising, with_item};
 ghost use Rattle.basket_sets.specs.Order.{report_order};
 
 use crate::keys::sort_places;
+use crate::known::MOST_ITEMS;
 use crate::place::{Place, end_of, places_behind};
+use crate::places::{MOST_STEPS, NOWHERE, Places, item_hash, items_hash};
 use std::alloc::{AllocError, Global};
 use std::cmp::Ordering;
 use std::marker::Model;
@@ -109,6 +112,46 @@ impl PlainSets {
         self.places[place].count
     }
 
+    /// Where the sets stand that are the set at a place without one of its items, as far as the places
+    /// say it.
+    pub fn places_without(&self, places: &Places, number: usize, found: &mut [u32; MOST_ITEMS])
+        requires { number < length self.now }
+        ensures { ArePlacesWithout self.now (set_at self.now number) MOST_ITEMS found.new }
+    {
+        let items = self.items(number);
+        let hash = items_hash(items);
+        for place in 0..items.len().min(MOST_ITEMS) {
+            let shorter = hash.wrapping_sub(item_hash(items[place]));
+            found[place] = self.find_without(places, items, place, shorter);
+        }
+    }
+
+    /// Where the set with this hash stands that is another without the item at a place, if the places say
+    /// it.
+    fn find_without(&self, places: &Places, items: &[u32], place: usize, hash: u64) -> u32
+        requires place { place < length items.now }
+        requires rises { IsRising items.now }
+        ensures { IsPlaceWithout self.now items.now (slice_index_or items.now place 0) result }
+    {
+        for step in 0..MOST_STEPS {
+            let at = places.at(hash, step);
+            if at as usize >= self.len() {
+                return NOWHERE;
+            }
+            if is_without(self.items(at as usize), items, place) {
+                return at;
+            }
+        }
+        NOWHERE
+    }
+
+    /// The hash of the set at a place.
+    pub fn hash(&self, place: usize) -> u64
+        requires { place < length self.now }
+    {
+        items_hash(self.items(place))
+    }
+
     /// How many items the sets have together.
     pub fn item_count(&self) -> usize {
         self.items.len()
@@ -155,6 +198,18 @@ fn add_longer(items: &mut Vec<u32>, place: Place, item: u32) -> Result<(), Alloc
         items.insert(start + at, item)?;
     }
     Ok(())
+}
+
+/// Whether a set is another without the item at a place.
+fn is_without(set: &[u32], items: &[u32], place: usize) -> bool
+    requires place { place < length items.now }
+    requires rises { IsRising items.now }
+    ensures { IsTrue result → IsLongerBy (slice_index_or items.now place 0) set.now items.now }
+{
+    if items.len() != set.len() + 1 {
+        return false;
+    }
+    &items[..place] == &set[..place] && &items[place + 1..] == &set[place..]
 }
 
 /// The order of two sets in a report.

@@ -1,8 +1,8 @@
 -- Supersets with one item more decide which frequent sets are closed and which are maximal.
-use Rattle.std.proofs.Common.{◌≡◌, ℕ, ◌+◌, ◌<◌, ◌≤◌, Bool, true, false, not, eqb, ltb, List, [], ◌∷◌, ◌++◌, length, take, get_or, cond, filter, refl, sym, ap, ◌∙◌, subst, inl, inr, arith}
+use Rattle.std.proofs.Common.{◌≡◌, ℕ, ◌+◌, ◌<◌, Bool, true, false, not, eqb, List, [], ◌∷◌, ◌++◌, length, take, get_or, cond, filter, refl, sym, ap, ◌∙◌, subst, inl, inr, arith}
 use Rattle.std.specs.List.{list_all}
-use Rattle.std.proofs.lemmas.Bool.{cases_lt, and_parts, and_from, ltb-true, lt-ltb, eqb-true, eq-eqb, true≢false, false_from_ne_true}
-use Rattle.std.proofs.lemmas.List.{get_or-map, get_or_default, take_all, take_more, append-nil}
+use Rattle.std.proofs.lemmas.Bool.{cases_Bool, and_parts, and_from, eqb-true, eq-eqb, true≢false, false_from_ne_true}
+use Rattle.std.proofs.lemmas.List.{get_or-map, take_more, append-nil}
 use Rattle.std.proofs.lemmas.List.Elements.{filter-append}
 use Rattle.basket_core.specs.Listing.{Listing}
 use Rattle.basket_sets.specs.declared.weighted.Weighted.{Weighted}
@@ -16,12 +16,14 @@ use Rattle.basket_sets.specs.Support.{support_of, total_of, items_of, all_items}
 use Rattle.basket_sets.proofs.theory.Members.{Member, Member-filter, Member-from_filter, Member-map, Member-from_map}
 use Rattle.basket_sets.proofs.theory.Rising.{rising-rises, same_test, with_item-rises, Member-with_item, Member-into_with_item}
 use Rattle.basket_sets.proofs.theory.Subsets.{subset_from_Member, Member-subsets}
-use Rattle.basket_sets.proofs.theory.Support.{support_falls, subsets_are_frequent, at_least_one, frequent_items}
+use Rattle.basket_sets.proofs.theory.Support.{support_falls, subsets_are_frequent, frequent_items}
 use Rattle.basket_sets.proofs.theory.Frequent.{frequent_is_unique}
 use Rattle.basket_rules.specs.Listed.{IsListingOf, IsSorted, set_at, count_at}
 use Rattle.basket_rules.specs.Subset.{without, IsWithout}
-use Rattle.basket_rules.specs.Above.{HasAbove, IsGreatestAbove, AreGreatestAbove, IsBefore}
-use Rattle.basket_rules.specs.Condensed.{is_proper_superset, supersets_of, none_supported_alike, none_frequent, is_closed, is_maximal, extensions_of, OneItemMoreDecides, AreClosed, AreMaximal}
+use Rattle.basket_rules.specs.declared.covered.Supersets.{Supersets}
+use Rattle.basket_rules.specs.declared.covered.Supersets.TheVariants.{All, SameCount}
+use Rattle.basket_rules.specs.Covered.{AreMarks, HasSuperset, IsBefore, IsMark, Matters}
+use Rattle.basket_rules.specs.Condensed.{is_proper_superset, supersets_of, none_supported_alike, none_frequent, is_closed, is_maximal, extensions_of, OneItemMoreDecides, AreClosed, AreMaximal, AreUnmarked, PassesUnmarked}
 use Rattle.basket_rules.proofs.SubsetLemmas.{each_passes, all_pass, contains_without, without_lacks, placed, item_more, contains_less, contains_with_item, with_item_lacks}
 use Rattle.basket_rules.proofs.SearchLemmas.{none, set_is}
 
@@ -118,7 +120,7 @@ one_item_more_decides baskets minimum set nonempty often =
     let within = frequent_items baskets minimum set often in
     (closed_by_extensions baskets minimum set nonempty.0 within, maximal_by_extensions baskets minimum set nonempty.0 within)
 
--- ---- the counts above
+-- ---- the marks
 
 module _ (baskets : List Weighted) (minimum : Minimum) (listing : Listing) (is : IsListingOf baskets minimum listing) where
   pub lists : ListsFrequent baskets minimum listing.sets
@@ -139,22 +141,20 @@ module _ (baskets : List Weighted) (minimum : Minimum) (listing : Listing) (is :
       )
 
   -- a set with one item more is a superset
-  above_is_superset : (k v : ℕ) → k < length listing.sets → (a : HasAbove listing.sets k v)
-      → Member (set_at listing.sets a.above) (supersets_of baskets (set_at listing.sets k)) × (contains (set_at listing.sets a.above) (set_at listing.sets k) ≡ true)
-  above_is_superset k v below a =
+  above_is_superset : (supersets : Supersets) (k : ℕ) → k < length listing.sets → (a : HasSuperset listing.sets supersets k)
+      → Member (set_at listing.sets a.above) (supersets_of baskets (set_at listing.sets k))
+  above_is_superset supersets k below a =
       let other = set_at listing.sets a.above in
       let s = entry a.above a.without.listed in
-      let has_it = subst (λ t. contains other t ≡ true) a.without.is (contains_without a.place other) in (
-        is_superset baskets minimum (set_at listing.sets k) other s.0 (frequent_items baskets minimum other s.1) has_it
-            (subst (λ t. contains t other ≡ false) a.without.is (without_lacks a.place other s.0.0 a.without.within)),
-        has_it,
-      )
+      is_superset baskets minimum (set_at listing.sets k) other s.0 (frequent_items baskets minimum other s.1)
+      (subst (λ t. contains other t ≡ true) a.without.is (contains_without a.place other))
+      (subst (λ t. contains t other ≡ false) a.without.is (without_lacks a.place other s.0.0 a.without.within))
 
-  -- a frequent set with one item more stands in the list, and its support is at most the greatest count
-  below_greatest : (k v item : ℕ) → k < length listing.sets → IsGreatestAbove listing.sets (IsBefore (length listing.sets)) k v
+  -- a frequent set with one item more stands in the list, so the set is marked where that matters
+  marked_below : (supersets : Supersets) (k item : ℕ) (mark : Bool) → k < length listing.sets → IsMark listing.sets supersets (IsBefore (length listing.sets)) k mark
       → has (set_at listing.sets k) item ≡ false → is_frequent baskets minimum (with_item item (set_at listing.sets k)) ≡ true
-      → support_of baskets (with_item item (set_at listing.sets k)) ≤ v
-  below_greatest k v item below g lack often =
+      → Matters supersets (count_at listing.sets k) (support_of baskets (with_item item (set_at listing.sets k))) → mark ≡ true
+  marked_below supersets k item mark below m lack often matters =
       let set = set_at listing.sets k in
       let more = with_item item set in
       let c = lists.complete more (with_item_nonempty baskets minimum item set (entry k below).0.0) often in
@@ -165,135 +165,102 @@ module _ (baskets : List Weighted) (minimum : Minimum) (listing : Listing) (is :
         within = subst (λ t. p.0 < length t) (sym stands) p.1;
         is = ap (without p.0) stands ∙ p.2;
       } in
-      let most = g.most is_sorted c.0 p.0 c.1 w in
-      let count = (entry c.0 c.1).2 ∙ ap (support_of baskets) stands in
-      omega arith
+      m.each is_sorted c.0 p.0 c.1 w (subst (Matters supersets (count_at listing.sets k)) (sym ((entry c.0 c.1).2 ∙ ap (support_of baskets) stands)) matters)
 
-  pub closed_at : (k v : ℕ) → k < length listing.sets → IsGreatestAbove listing.sets (IsBefore (length listing.sets)) k v
-      → is_closed baskets (set_at listing.sets k) ≡ ltb v (count_at listing.sets k)
-  closed_at k v below g = same_test _ _ into back
+  closed_at : (k : ℕ) (mark : Bool) → k < length listing.sets → IsMark listing.sets SameCount (IsBefore (length listing.sets)) k mark → is_closed baskets (set_at listing.sets k) ≡ not mark
+  closed_at k mark below m = same_test _ _ into back
     where
-      into : is_closed baskets (set_at listing.sets k) ≡ true → ltb v (count_at listing.sets k) ≡ true
-      into h = elim (cases_lt v (count_at listing.sets k)) [
-        | inl less ↦ lt-ltb v (count_at listing.sets k) less
-        | inr more ↦ elim g.some [
-          | inl zero ↦ absurd (let s = entry k below in let one = at_least_one minimum (support_of baskets (set_at listing.sets k)) (total_of baskets) s.1 in let c = s.2 in omega arith)
-          | inr a ↦ absurd (alike h more a)
-        ]
+      into : is_closed baskets (set_at listing.sets k) ≡ true → not mark ≡ true
+      into h = elim (cases_Bool mark) [
+        | inl told ↦ absurd (
+            let set = set_at listing.sets k in
+            let a = m.some told in
+            let other = set_at listing.sets a.above in
+            let same : support_of baskets other ≡ support_of baskets set = sym (entry a.above a.without.listed).2 ∙ a.matters ∙ (entry k below).2 in
+            let fails = true_not _ (each_passes (λ o. not (eqb (support_of baskets o) (support_of baskets set))) (supersets_of baskets set) h other (above_is_superset SameCount k below a)) in
+            true≢false (sym (eq-eqb (support_of baskets other) (support_of baskets set) same) ∙ fails))
+        | inr unmarked ↦ not_true mark unmarked
       ]
-        where
-          alike : is_closed baskets (set_at listing.sets k) ≡ true → count_at listing.sets k ≤ v → HasAbove listing.sets k v → ⊥
-          alike h more a =
-              let set = set_at listing.sets k in
-              let other = set_at listing.sets a.above in
-              let m = above_is_superset k v below a in
-              let low = support_falls baskets other set m.1 in
-              let first = (entry k below).2 in
-              let second = (entry a.above a.without.listed).2 in
-              let third = a.counted in
-              let same : support_of baskets other ≡ support_of baskets set = omega arith in
-              let fails = true_not _ (each_passes (λ o. not (eqb (support_of baskets o) (support_of baskets set))) (supersets_of baskets set) h other m.0) in
-              true≢false (sym (eq-eqb (support_of baskets other) (support_of baskets set) same) ∙ fails)
 
-      back : ltb v (count_at listing.sets k) ≡ true → is_closed baskets (set_at listing.sets k) ≡ true
+      back : not mark ≡ true → is_closed baskets (set_at listing.sets k) ≡ true
       back h =
           let set = set_at listing.sets k in
           let s = entry k below in
-          all_pass (λ o. not (eqb (support_of baskets o) (support_of baskets set))) (supersets_of baskets set) (λ o m. not_true _ (false_from_ne_true _ (λ e.
-          let more = has_more baskets minimum set o m in
+          all_pass (λ o. not (eqb (support_of baskets o) (support_of baskets set))) (supersets_of baskets set) (λ o n. not_true _ (false_from_ne_true _ (λ e.
+          let more = has_more baskets minimum set o n in
           let same = support_between baskets minimum set o more e in
           let often = ap (λ n. meets minimum n (total_of baskets)) same ∙ s.1 in
-          let most = below_greatest k v more.item below g more.lacks often in
-          let less = ltb-true v (count_at listing.sets k) h in
-          let count = s.2 in
-          absurd (omega arith))))
+          true≢false (sym (marked_below SameCount k more.item mark below m more.lacks often (same ∙ sym s.2)) ∙ true_not mark h))))
 
-  pub maximal_at : (k v : ℕ) → k < length listing.sets → IsGreatestAbove listing.sets (IsBefore (length listing.sets)) k v
-      → is_maximal baskets minimum (set_at listing.sets k) ≡ eqb v 0
-  maximal_at k v below g = same_test _ _ into back
+  maximal_at : (k : ℕ) (mark : Bool) → k < length listing.sets → IsMark listing.sets All (IsBefore (length listing.sets)) k mark → is_maximal baskets minimum (set_at listing.sets k) ≡ not mark
+  maximal_at k mark below m = same_test _ _ into back
     where
-      into : is_maximal baskets minimum (set_at listing.sets k) ≡ true → eqb v 0 ≡ true
-      into h = elim g.some [
-        | inl zero ↦ eq-eqb v 0 zero
-        | inr a ↦ absurd (
+      into : is_maximal baskets minimum (set_at listing.sets k) ≡ true → not mark ≡ true
+      into h = elim (cases_Bool mark) [
+        | inl told ↦ absurd (
             let set = set_at listing.sets k in
-            let other = set_at listing.sets a.above in
-            let m = above_is_superset k v below a in
-            let fails = true_not _ (each_passes (λ o. not (is_frequent baskets minimum o)) (supersets_of baskets set) h other m.0) in
+            let a = m.some told in
+            let fails = true_not _ (each_passes (λ o. not (is_frequent baskets minimum o)) (supersets_of baskets set) h (set_at listing.sets a.above) (above_is_superset All k below a)) in
             true≢false (sym (entry a.above a.without.listed).1 ∙ fails))
+        | inr unmarked ↦ not_true mark unmarked
       ]
 
-      back : eqb v 0 ≡ true → is_maximal baskets minimum (set_at listing.sets k) ≡ true
+      back : not mark ≡ true → is_maximal baskets minimum (set_at listing.sets k) ≡ true
       back h =
           let set = set_at listing.sets k in
-          all_pass (λ o. not (is_frequent baskets minimum o)) (supersets_of baskets set) (λ o m. not_true _ (false_from_ne_true _ (λ e.
-          let more = has_more baskets minimum set o m in
+          all_pass (λ o. not (is_frequent baskets minimum o)) (supersets_of baskets set) (λ o n. not_true _ (false_from_ne_true _ (λ e.
+          let more = has_more baskets minimum set o n in
           let often = subsets_are_frequent baskets minimum o (with_item more.item set) more.within e in
-          let most = below_greatest k v more.item below g more.lacks often in
-          let one = at_least_one minimum (support_of baskets (with_item more.item set)) (total_of baskets) often in
-          let zero = eqb-true v 0 h in
-          absurd (omega arith))))
+          true≢false (sym (marked_below All k more.item mark below m more.lacks often tt) ∙ true_not mark h))))
 
 -- ---- the loops
 
--- a test agrees with one place by place
-abbrev pub AgreesWith : (ℕ → Counted → Bool) → List Counted → (Counted → Bool) → Type 0
-AgreesWith at list test = (k : ℕ) (d : Counted) → k < length list → test (get_or list k d) ≡ at k (get_or list k d)
+-- so far those were kept that aren't marked
+abbrev pub IsKept : List Bool → List Counted → ℕ → List Counted → Type 0
+IsKept marks list number kept = (test : Counted → Bool) → PassesUnmarked list marks test → kept ≡ filter test (take number list)
 
--- so far those were kept that pass
-abbrev pub IsKept : (ℕ → Counted → Bool) → List Counted → ℕ → List Counted → Type 0
-IsKept at list number kept = (test : Counted → Bool) → AgreesWith at list test → kept ≡ filter test (take number list)
-
-pub kept_more : (at : ℕ → Counted → Bool) (list : List Counted) (number : ℕ) (kept : List Counted) (c : Counted) → IsKept at list number kept → number < length list → c ≡ get_or list number c
-    → at number c ≡ true → IsKept at list (number + 1) (kept ++ c ∷ [])
-kept_more at list number kept c so below is passes test agrees =
-    let e : test c ≡ true = ap test is ∙ agrees number c below ∙ ap (at number) (sym is) ∙ passes in
-    ap (λ l. l ++ c ∷ []) (so test agrees)
+pub kept_more : (marks : List Bool) (list : List Counted) (number : ℕ) (kept : List Counted) → IsKept marks list number kept → number < length list
+    → get_or marks number false ≡ false → IsKept marks list (number + 1) (kept ++ get_or list number none ∷ [])
+kept_more marks list number kept so below unmarked test passes =
+    let c = get_or list number none in
+    let e : test c ≡ true = passes number none below ∙ not_true (get_or marks number false) unmarked in
+    ap (λ l. l ++ c ∷ []) (so test passes)
     ∙ ap (λ l. filter test (take number list) ++ l) (sym (ap (λ b. cond b (c ∷ []) []) e))
     ∙ sym (filter-append test (take number list) (c ∷ []))
-    ∙ ap (filter test) (ap (λ x. take number list ++ x ∷ []) is ∙ sym (take_more list number c below))
+    ∙ ap (filter test) (sym (take_more list number none below))
 
-pub dropped_more : (at : ℕ → Counted → Bool) (list : List Counted) (number : ℕ) (kept : List Counted) (c : Counted) → IsKept at list number kept → number < length list → c ≡ get_or list number c
-    → at number c ≡ false → IsKept at list (number + 1) kept
-dropped_more at list number kept c so below is fails test agrees =
-    let e : test c ≡ false = ap test is ∙ agrees number c below ∙ ap (at number) (sym is) ∙ fails in
-    so test agrees ∙ sym (append-nil (filter test (take number list)))
+pub dropped_more : (marks : List Bool) (list : List Counted) (number : ℕ) (kept : List Counted) → IsKept marks list number kept → number < length list
+    → get_or marks number false ≡ true → IsKept marks list (number + 1) kept
+dropped_more marks list number kept so below marked test passes =
+    let c = get_or list number none in
+    let e : test c ≡ false = passes number none below ∙ ap not marked in
+    so test passes ∙ sym (append-nil (filter test (take number list)))
     ∙ ap (λ l. filter test (take number list) ++ l) (sym (ap (λ b. cond b (c ∷ []) []) e))
     ∙ sym (filter-append test (take number list) (c ∷ []))
-    ∙ ap (filter test) (ap (λ x. take number list ++ x ∷ []) is ∙ sym (take_more list number c below))
-
--- the same with what is read at the place
-pub kept_there : (at : ℕ → Counted → Bool) (list : List Counted) (number : ℕ) (kept : List Counted) (d : Counted) → IsKept at list number kept → number < length list
-    → at number (get_or list number d) ≡ true → IsKept at list (number + 1) (kept ++ get_or list number d ∷ [])
-kept_there at list number kept d so below = kept_more at list number kept (get_or list number d) so below (get_or_default list number d (get_or list number d) below)
-
-pub dropped_there : (at : ℕ → Counted → Bool) (list : List Counted) (number : ℕ) (kept : List Counted) (d : Counted) → IsKept at list number kept → number < length list
-    → at number (get_or list number d) ≡ false → IsKept at list (number + 1) kept
-dropped_there at list number kept d so below = dropped_more at list number kept (get_or list number d) so below (get_or_default list number d (get_or list number d) below)
+    ∙ ap (filter test) (sym (take_more list number none below))
 
 -- ---- all sets
 
-all_closed : (listing : Listing) (counts : List ℕ) (number : ℕ) (kept : List Counted) → length listing.sets ≤ number → AreGreatestAbove listing.sets (IsBefore (length listing.sets)) counts
-    → IsKept (λ k c. ltb (get_or counts k 0) c.count) listing.sets number kept → AreClosed listing kept
-all_closed listing counts number kept whole above so baskets minimum is =
+all_closed : (listing : Listing) (marks : List Bool) (kept : List Counted) → AreMarks listing.sets SameCount (IsBefore (length listing.sets)) marks
+    → AreUnmarked listing.sets marks kept → AreClosed listing kept
+all_closed listing marks kept marked so baskets minimum is =
     so (λ c. is_closed baskets c.set) (λ k d below.
-    ap (is_closed baskets) (sym (set_is listing.sets k d below)) ∙ closed_at baskets minimum listing is k (get_or counts k 0) below (above.each k below)
-    ∙ ap (ltb (get_or counts k 0)) (get_or-map (λ (c : Counted). c.count) listing.sets k d 0 below))
-    ∙ ap (filter (λ (c : Counted). is_closed baskets c.set)) (take_all number listing.sets whole ∙ is.sets)
+    ap (is_closed baskets) (sym (set_is listing.sets k d below)) ∙ closed_at baskets minimum listing is k (get_or marks k false) below (marked.each k below))
+    ∙ ap (filter (λ (c : Counted). is_closed baskets c.set)) is.sets
 
-all_maximal : (listing : Listing) (counts : List ℕ) (number : ℕ) (kept : List Counted) → length listing.sets ≤ number → AreGreatestAbove listing.sets (IsBefore (length listing.sets)) counts
-    → IsKept (λ k c. eqb (get_or counts k 0) 0) listing.sets number kept → AreMaximal listing kept
-all_maximal listing counts number kept whole above so baskets minimum is =
+all_maximal : (listing : Listing) (marks : List Bool) (kept : List Counted) → AreMarks listing.sets All (IsBefore (length listing.sets)) marks
+    → AreUnmarked listing.sets marks kept → AreMaximal listing kept
+all_maximal listing marks kept marked so baskets minimum is =
     so (λ c. is_maximal baskets minimum c.set) (λ k d below.
-    ap (is_maximal baskets minimum) (sym (set_is listing.sets k d below)) ∙ maximal_at baskets minimum listing is k (get_or counts k 0) below (above.each k below))
-    ∙ ap (filter (λ (c : Counted). is_maximal baskets minimum c.set)) (take_all number listing.sets whole ∙ is.sets)
+    ap (is_maximal baskets minimum) (sym (set_is listing.sets k d below)) ∙ maximal_at baskets minimum listing is k (get_or marks k false) below (marked.each k below))
+    ∙ ap (filter (λ (c : Counted). is_maximal baskets minimum c.set)) is.sets
 
-pub are_closed : (listing : Listing) (list : List Counted) (counts : List ℕ) (number : ℕ) (kept : List Counted) → list ≡ listing.sets → length list ≤ number
-    → AreGreatestAbove list (IsBefore (length list)) counts → IsKept (λ k c. ltb (get_or counts k 0) c.count) list number kept → AreClosed listing kept
-are_closed listing list counts number kept e =
-    subst (λ l. length l ≤ number → AreGreatestAbove l (IsBefore (length l)) counts → IsKept (λ k c. ltb (get_or counts k 0) c.count) l number kept → AreClosed listing kept) (sym e) (all_closed listing counts number kept)
+pub are_closed : (listing : Listing) (list : List Counted) (marks : List Bool) (kept : List Counted) → list ≡ listing.sets
+    → AreMarks list SameCount (IsBefore (length list)) marks → AreUnmarked list marks kept → AreClosed listing kept
+are_closed listing list marks kept e =
+    subst (λ l. AreMarks l SameCount (IsBefore (length l)) marks → AreUnmarked l marks kept → AreClosed listing kept) (sym e) (all_closed listing marks kept)
 
-pub are_maximal : (listing : Listing) (list : List Counted) (counts : List ℕ) (number : ℕ) (kept : List Counted) → list ≡ listing.sets → length list ≤ number
-    → AreGreatestAbove list (IsBefore (length list)) counts → IsKept (λ k c. eqb (get_or counts k 0) 0) list number kept → AreMaximal listing kept
-are_maximal listing list counts number kept e =
-    subst (λ l. length l ≤ number → AreGreatestAbove l (IsBefore (length l)) counts → IsKept (λ k c. eqb (get_or counts k 0) 0) l number kept → AreMaximal listing kept) (sym e) (all_maximal listing counts number kept)
+pub are_maximal : (listing : Listing) (list : List Counted) (marks : List Bool) (kept : List Counted) → list ≡ listing.sets
+    → AreMarks list All (IsBefore (length list)) marks → AreUnmarked list marks kept → AreMaximal listing kept
+are_maximal listing list marks kept e =
+    subst (λ l. AreMarks l All (IsBefore (length l)) marks → AreUnmarked l marks kept → AreMaximal listing kept) (sym e) (all_maximal listing marks kept)

@@ -1,7 +1,6 @@
 mod SearchLemmas
 mod SubsetLemmas
-mod AboveLemmas
-mod TreeLemmas
+mod CoveredLemmas
 mod CondensedLemmas
 mod RuleLemmas
 mod RightLemmas

@@ -9,7 +9,7 @@ use Rattle.std.specs.List.Sorted.{IsBinarySearchResult, IsNonDecreasingBy, IsPar
 use Rattle.std.proofs.lemmas.Bool.{cases_lt}
 use Rattle.std.proofs.lemmas.Cmp.{tied_itself}
 use Rattle.std.proofs.lemmas.Map.Keys.{Less-from_sorted}
-use Rattle.std.proofs.lemmas.List.{get_or-take, get_or-map, get_or_default, length-drop, length-map, length-take-le}
+use Rattle.std.proofs.lemmas.List.{get_or-take, get_or-map, length-drop, length-map, length-take-le}
 use Rattle.basket_sets.specs.declared.counted.Counted.{Counted}
 use Rattle.basket_sets.specs.Order.{report_order, report_order_total, report_order_ties}
 use Rattle.basket_rules.specs.Listed.{IsSorted, sets_in, set_at, count_at}
@@ -96,6 +96,27 @@ greater_from list set i up more k d low high =
 pub compared_at : (list : List Counted) (set : List ℕ) (i : ℕ) (items : List ℕ) (result o : Ordering) → i < length list → items ≡ set_at list i
     → result ≡ report_order items set → result ≡ o → HoldsAt (λ x. report_order x.set set ≡ o) list i
 compared_at list set i items result o below is compared same d = ap (λ s. report_order s set) (sym (is ∙ set_is list i d below)) ∙ sym compared ∙ same
+
+-- ---- one set at one place
+
+before_is_other : (list : List Counted) (i j : ℕ) → IsSorted list → i < j → j < length list → set_at list i ≡ set_at list j → ⊥
+before_is_other list i j up less below e =
+    let long = length-map list (λ (c : Counted). c.set) in
+    let before : report_order (set_at list i) (set_at list j) ≡ Less = Less-from_sorted report_order (sets_in list) i j [] up less (omega arith) in
+    let tie : report_order (set_at list i) (set_at list j) ≡ Equal = ap (report_order (set_at list i)) (sym e) ∙ tied_itself report_order_total (set_at list i) in
+    cc
+
+-- in a sorted list a set stands once
+pub stands_once : (list : List Counted) (i j : ℕ) → IsSorted list → i < length list → j < length list → set_at list i ≡ set_at list j → i ≡ j
+stands_once list i j up low high e = elim (cases_lt i j) [
+  | inl less ↦ absurd (before_is_other list i j up less high e)
+  | inr more ↦ elim (cases_lt j i) [
+    | inl less ↦ absurd (before_is_other list j i up less low (sym e))
+    | inr same ↦ omega arith
+  ]
+]
+
+-- ---- a search begins
 
 -- nothing was compared
 pub all_between : (list : List Counted) (set : List ℕ) (end : ℕ) → length list ≤ end → IsBetween 0 end list set

@@ -2,8 +2,7 @@ pub mod Listed
 pub mod Met
 pub mod Search
 pub mod Subset
-pub mod Tree
-pub mod Above
+pub mod Covered
 pub mod Condensed
 pub mod Rights
 pub mod Rules

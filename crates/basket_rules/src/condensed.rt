@@ -1,9 +1,9 @@
 //! Closed and maximal sets.
 ghost use Rattle.std.specs.Prelude.{◌≡◌, ◌<◌, ◌++◌, ◌∷◌, [], IfOk, OnOk, length};
-ghost use Rattle.basket_rules.specs.Condensed.{AreClosed, AreMaximal};
+ghost use Rattle.basket_rules.specs.Condensed.{AreClosed, AreMaximal, AreUnmarked};
 ghost use Rattle.basket_rules.specs.Listed.{counted_at};
 
-use crate::above::greatest_above;
+use crate::covered::{Supersets, covered};
 use basket_core::{CountedSets, Frequent};
 use std::alloc::{AllocError, Global};
 
@@ -12,14 +12,8 @@ pub fn closed(alloc: Global, frequent: &Frequent) -> Result<CountedSets, AllocEr
     ensures { IfOk result (λ closed. AreClosed frequent.now closed) }
 {
     let sets = frequent.sets();
-    let above = greatest_above(alloc, sets)?;
-    let mut closed = CountedSets::empty(alloc);
-    for number in 0..sets.len() {
-        if above[number] < sets.count(number) {
-            keep(alloc, sets, number, &mut closed)?;
-        }
-    }
-    Ok(closed)
+    let marks = covered(alloc, sets, Supersets::SameCount)?;
+    unmarked(alloc, sets, &marks)
 }
 
 /// The sets of which no proper superset is frequent, in report order.
@@ -27,14 +21,22 @@ pub fn maximal(alloc: Global, frequent: &Frequent) -> Result<CountedSets, AllocE
     ensures { IfOk result (λ maximal. AreMaximal frequent.now maximal) }
 {
     let sets = frequent.sets();
-    let above = greatest_above(alloc, sets)?;
-    let mut maximal = CountedSets::empty(alloc);
+    let marks = covered(alloc, sets, Supersets::All)?;
+    unmarked(alloc, sets, &marks)
+}
+
+/// The sets that aren't marked.
+fn unmarked(alloc: Global, sets: &CountedSets, marks: &[bool]) -> Result<CountedSets, AllocError>
+    requires { length marks.now ≡ length sets.now }
+    ensures { IfOk result (AreUnmarked sets.now marks.now) }
+{
+    let mut kept = CountedSets::empty(alloc);
     for number in 0..sets.len() {
-        if above[number] == 0 {
-            keep(alloc, sets, number, &mut maximal)?;
+        if !marks[number] {
+            keep(alloc, sets, number, &mut kept)?;
         }
     }
-    Ok(maximal)
+    Ok(kept)
 }
 
 /// Adds the set at a place of the list.

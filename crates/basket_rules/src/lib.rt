@@ -1,9 +1,9 @@
 //! Closed and maximal sets and association rules, from the list of the frequent sets.
 #![tactic(auto)]
 
-mod above;
 mod association;
 mod condensed;
+mod covered;
 mod fractions;
 pub mod laws;
 mod listed;
@@ -14,7 +14,6 @@ mod places;
 mod rights;
 mod search;
 mod supports;
-mod tree;
 pub mod worked;
 
 pub use association::{Rule, met_rules, rules, rules_with};

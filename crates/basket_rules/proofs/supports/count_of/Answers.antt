@@ -3,7 +3,7 @@ use Rattle.std.proofs.lemmas.List.{get_or-map}
 use Rattle.basket_sets.specs.declared.counted.Counted.{Counted}
 use Rattle.basket_rules.specs.Listed.{count_at, set_at}
 use Rattle.basket_rules.specs.Rights.{chosen, has_place}
-use Rattle.basket_rules.proofs.AboveLemmas.{stands_once}
+use Rattle.basket_rules.proofs.SearchLemmas.{stands_once}
 use Rattle.basket_rules.proofs.SearchLemmas.{set_is}
 use Rattle.basket_rules.proofs.supports.count_of.Goals as goal
 

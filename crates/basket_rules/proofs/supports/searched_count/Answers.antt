@@ -2,7 +2,7 @@ use Rattle.std.proofs.Common.{◌≡◌, sym, ap, ◌∙◌}
 use Rattle.std.proofs.lemmas.List.{get_or-map}
 use Rattle.basket_sets.specs.declared.counted.Counted.{Counted}
 use Rattle.basket_rules.specs.Listed.{count_at}
-use Rattle.basket_rules.proofs.AboveLemmas.{stands_once}
+use Rattle.basket_rules.proofs.SearchLemmas.{stands_once}
 use Rattle.basket_rules.proofs.supports.searched_count.Goals as goal
 
 pub returns-in-Ok : goal.returns-in-Ok

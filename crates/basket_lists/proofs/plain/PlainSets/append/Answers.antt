@@ -2,7 +2,6 @@ use Rattle.std.proofs.Common.{◌≡◌, ◌++◌, length, map, sym, ap, ◌∙�
 use Rattle.std.specs.Prelude.{All}
 use Rattle.std.proofs.lemmas.List.{map-append}
 use Rattle.std.proofs.lemmas.List.Elements.{All-append}
-use Rattle.basket_lists.specs.declared.place.Place.{Place}
 use Rattle.basket_lists.specs.Plain.{IsPlaceOfSet, behind, placed, placed_sets}
 use Rattle.basket_lists.proofs.PlainLemmas.{places_behind_are, places_kept, placed_sets-append, placed_sets_behind}
 use Rattle.basket_lists.proofs.plain.PlainSets.append.Goals as goal

@@ -1,0 +1,163 @@
+-- Marking sets, one subset after another.
+use Rattle.std.proofs.Common.{IsTrue, ◌≡◌, ◌≢◌, ℕ, zero, suc, ◌+◌, ◌<◌, ◌≤◌, ◌⊎◌, Bool, true, false, cond, eqb, eq-eqb, ltb, List, [], ◌∷◌, length, get_or, set, replicate, refl, sym, ap, ◌∙◌, subst, inl, inr, arith, get_or-set_other, get_or-set_same}
+use Rattle.std.proofs.lemmas.Bool.{cases_lt, cases_eq, true≢false}
+use Rattle.std.proofs.lemmas.List.{length-set, length-replicate, get_or-replicate}
+use Rattle.basket_lists.specs.Without.{ArePlacesWithout, IsLongerBy}
+use Rattle.basket_lists.specs.declared.places.TheConstants.{NOWHERE}
+use Rattle.basket_sets.specs.declared.counted.Counted.{Counted}
+use Rattle.basket_sets.specs.Itemset.{IsRising, with_item}
+use Rattle.basket_sets.proofs.theory.Rising.{Member-from_has, first_below, has_place, rest_rises}
+use Rattle.basket_rules.specs.declared.covered.Supersets.{Supersets}
+use Rattle.basket_rules.specs.Covered.{AreMarks, IsBefore, IsMark, Matters, WasSeen}
+use Rattle.basket_rules.specs.Listed.{set_at, count_at}
+use Rattle.basket_rules.specs.Search.{IsMissing}
+use Rattle.basket_rules.specs.Subset.{without, IsWithout}
+use Rattle.basket_rules.proofs.SearchLemmas.{none, set_is, stands_once}
+
+-- ---- a set without the item by which it is longer
+
+at_place : (item x : ℕ) (items rest : List ℕ) (place : ℕ) (p q : Bool) → ltb item x ≡ p → eqb item x ≡ q → IsRising (cond p (item ∷ x ∷ items) (cond q (x ∷ items) (x ∷ rest)))
+    → length (cond p (item ∷ x ∷ items) (cond q (x ∷ items) (x ∷ rest))) ≡ suc (suc (length items)) → place < length (cond p (item ∷ x ∷ items) (cond q (x ∷ items) (x ∷ rest)))
+    → get_or (cond p (item ∷ x ∷ items) (cond q (x ∷ items) (x ∷ rest))) place 0 ≡ item
+    → ((k : ℕ) → IsRising rest → length rest ≡ suc (length items) → k < length rest → get_or rest k 0 ≡ item → without k rest ≡ items)
+    → without place (cond p (item ∷ x ∷ items) (cond q (x ∷ items) (x ∷ rest))) ≡ x ∷ items
+at_place item x items rest zero true q less same up long within here again = refl
+at_place item x items rest (suc place) true q less same up long within here again =
+    let inside : place < length (x ∷ items) = omega (arith, within) in
+    let above = first_below item (x ∷ items) up (get_or (x ∷ items) place 0) (Member-from_has (x ∷ items) (get_or (x ∷ items) place 0) (has_place (x ∷ items) place inside)) in
+    absurd (omega (arith, above, here))
+at_place item x items rest place false true less same up long within here again = absurd (omega (arith, long))
+at_place item x items rest zero false false less same up long within here again = absurd (true≢false (sym (eq-eqb item x (sym here)) ∙ same))
+at_place item x items rest (suc place) false false less same up long within here again =
+    ap (λ l. x ∷ l) (again place (rest_rises x rest up) (omega (arith, long)) (omega (arith, within)) here)
+
+without_item : (item : ℕ) (items : List ℕ) (place : ℕ) → IsRising (with_item item items) → length (with_item item items) ≡ suc (length items) → place < length (with_item item items)
+    → get_or (with_item item items) place 0 ≡ item → without place (with_item item items) ≡ items
+without_item item [] zero up long within here = refl
+without_item item [] (suc place) up long within here = absurd (omega (arith, within))
+without_item item (x ∷ items) place up long within here =
+    at_place item x items (with_item item items) place (ltb item x) (eqb item x) refl refl up long within here (λ k. without_item item items k)
+
+-- where a set stands without one of its items
+pub found_below : (list : List Counted) (number place : ℕ) (found : List ℕ) → ArePlacesWithout list (set_at list number) 120 found → place < 120 → place < length (set_at list number)
+    → get_or found place NOWHERE ≢ NOWHERE → (get_or found place NOWHERE < length list) × (set_at list (get_or found place NOWHERE) ≡ without place (set_at list number))
+found_below list number place found all few within said =
+    let at = get_or found place NOWHERE in
+    let items = set_at list number in
+    let item = get_or items place 0 in
+    let there = all place few within said in
+    let longer : IsLongerBy item (get_or list at none).set items = there.1 in
+    let less : without place (with_item item (get_or list at none).set) ≡ (get_or list at none).set = without_item item (get_or list at none).set place (subst IsRising longer.is longer.rises)
+    (sym (ap length longer.is) ∙ longer.size) (subst (λ l. place < length l) longer.is within) (ap (λ l. get_or l place 0) (sym longer.is)) in (
+      there.0,
+      set_is list at none there.0 ∙ sym (ap (without place) longer.is ∙ less),
+    )
+
+-- ---- what was gone over
+
+-- after a step: what was before, and one item of one set
+abbrev pub SeesOneMore : (ℕ → ℕ → Type 0) → (ℕ → ℕ → Type 0) → ℕ → ℕ → Type 0
+SeesOneMore seen more number item = (above place : ℕ) → more above place → seen above place ⊎ ((above ≡ number) × (place ≡ item))
+
+pub sees_one_more : (number items : ℕ) → SeesOneMore (WasSeen number items) (WasSeen number (items + 1)) number items
+sees_one_more number items above place (inl before) = inl (inl before)
+sees_one_more number items above place (inr h) = elim (cases_lt place items) [
+  | inl less ↦ inl (inr (h.0, less))
+  | inr more ↦ inr (h.0, (let k = h.1 in omega arith))
+]
+
+module _ (list : List Counted) (supersets : Supersets) where
+  -- nothing
+  pub nothing_seen : AreMarks list supersets (IsBefore 0) (replicate (length list) false)
+  nothing_seen = record {
+    long = length-replicate (length list) false;
+    each = λ number below. record {
+      some = λ told. absurd (true≢false (sym told ∙ get_or-replicate (length list) number false false below));
+      each = λ up above place seen is matters. absurd (let k = seen in omega arith);
+    };
+  }
+
+  -- the same in other words
+  seen_alike : (seen other : ℕ → ℕ → Type 0) (marks : List Bool)
+      → ((above place : ℕ) → above < length list → place < length (set_at list above) → other above place → seen above place)
+      → AreMarks list supersets seen marks → AreMarks list supersets other marks
+  seen_alike seen other marks alike all = record {
+    long = all.long;
+    each = λ number below. let old = all.each number below in record {
+      some = old.some;
+      each = λ up above place h is. old.each up above place (alike above place is.listed is.within h) is;
+    };
+  }
+
+  pub first_item : (number : ℕ) (marks : List Bool) → AreMarks list supersets (IsBefore number) marks → AreMarks list supersets (WasSeen number 0) marks
+  first_item number marks = seen_alike (IsBefore number) (WasSeen number 0) marks alike
+    where
+      alike : (above place : ℕ) → above < length list → place < length (set_at list above) → WasSeen number 0 above place → above < number
+      alike above place listed within (inl before) = before
+      alike above place listed within (inr h) = absurd (let k = h.1 in omega arith)
+
+  pub all_items : (number items : ℕ) (marks : List Bool) → length (set_at list number) ≤ items → AreMarks list supersets (WasSeen number items) marks → AreMarks list supersets (IsBefore (number + 1)) marks
+  all_items number items marks whole = seen_alike (WasSeen number items) (IsBefore (number + 1)) marks (λ above place listed within before.
+      elim (cases_lt above number) [
+        | inl less ↦ inl less
+        | inr more ↦ (let here : above ≡ number = omega (arith, before, more) in
+            let long = ap (λ n. length (set_at list n)) here in inr (here, omega (arith, within, long, whole)))
+      ])
+
+  pub all_sets : (start : ℕ) (marks : List Bool) → length list ≤ start → AreMarks list supersets (IsBefore start) marks → AreMarks list supersets (IsBefore (length list)) marks
+  all_sets start marks whole = seen_alike (IsBefore start) (IsBefore (length list)) marks (λ above place listed within before. omega (arith, listed, whole))
+
+-- ---- one set without one of its items
+
+module _ (list : List Counted) (supersets : Supersets) (seen more : ℕ → ℕ → Type 0) (sets items : ℕ) (step : SeesOneMore seen more sets items) where
+  -- a subset that the list lacks
+  pub subset_missing : (marks : List Bool) → AreMarks list supersets seen marks → IsMissing list (without items (set_at list sets)) → AreMarks list supersets more marks
+  subset_missing marks all missing = record {
+    long = all.long;
+    each = λ number below. let old = all.each number below in record {
+      some = old.some;
+      each = λ up above place now is matters. elim (step above place now) [
+        | inl before ↦ old.each up above place before is matters
+        | inr here ↦ absurd (missing up number below (sym is.is ∙ (λ i. without (here.1 i) (set_at list (here.0 i)))))
+      ];
+    };
+  }
+
+  -- a subset that the list has
+  pub subset_marked : (found : ℕ) (marks : List Bool) (mark : Bool) → AreMarks list supersets seen marks → IsWithout list sets items found → found < length list
+      → (IsTrue mark → IsTrue (get_or marks found false) ⊎ Matters supersets (count_at list found) (count_at list sets))
+      → (IsTrue (get_or marks found false) ⊎ Matters supersets (count_at list found) (count_at list sets) → IsTrue mark)
+      → AreMarks list supersets more (set marks found mark)
+  subset_marked found marks mark all is' within why then = record {
+    long = length-set marks found mark ∙ all.long;
+    each = λ number below. elim (cases_eq number found) [
+      | inl same ↦ subst (λ n. IsMark list supersets more n (get_or (set marks found mark) n false)) (sym same)
+          (subst (IsMark list supersets more found) (sym (get_or-set_same marks found mark false (omega (arith, all.long, within)))) here)
+      | inr other ↦ subst (IsMark list supersets more number) (sym (get_or-set_other marks found number mark false other)) (there number below other)
+    ];
+  }
+    where
+      old : IsMark list supersets seen found (get_or marks found false)
+      old = all.each found within
+
+      here : IsMark list supersets more found mark
+      here = record {
+        some = λ told. elim (why told) [
+          | inl was ↦ old.some was
+          | inr matters ↦ record { above = sets; place = items; without = is'; matters = matters }
+        ];
+        each = λ up above place now is matters. elim (step above place now) [
+          | inl before ↦ then (inl (old.each up above place before is matters))
+          | inr last ↦ then (inr (subst (λ n. Matters supersets (count_at list found) (count_at list n)) last.0 matters))
+        ];
+      }
+
+      there : (number : ℕ) → number < length list → (number ≡ found → ⊥) → IsMark list supersets more number (get_or marks number false)
+      there number below other = let kept = all.each number below in record {
+        some = kept.some;
+        each = λ up above place now is matters. elim (step above place now) [
+          | inl before ↦ kept.each up above place before is matters
+          | inr last ↦ absurd (other (stands_once list number found up below within
+              (sym is.is ∙ (λ i. without (last.1 i) (set_at list (last.0 i))) ∙ is'.is)))
+        ];
+      }

@@ -1,0 +1,16 @@
+use Rattle.std.proofs.Common.{◌≡◌, ◌∙◌, IfSome, IfNone, ap, subst}
+use Rattle.basket_rules.specs.Listed.{set_at}
+use Rattle.basket_rules.specs.Search.{IsMissing}
+use Rattle.basket_rules.specs.Subset.{without}
+use Rattle.basket_rules.proofs.SubsetLemmas.{around_is}
+use Rattle.basket_rules.proofs.covered.search_below.Goals as goal
+
+pub returns-clause-found : goal.returns-clause-found
+returns-clause-found c =
+    subst (λ set. IfSome c.find_near-found.result (λ at. set_at c.args.sets.now at ≡ set))
+    (around_is c.args.place c.items_at-items.result.now ∙ ap (without c.args.place) c.items_at-items.ensures) c.find_near-found.ensures.found
+
+pub returns-clause-missing : goal.returns-clause-missing
+returns-clause-missing c =
+    subst (λ set. IfNone c.find_near-found.result (IsMissing c.args.sets.now set))
+    (around_is c.args.place c.items_at-items.result.now ∙ ap (without c.args.place) c.items_at-items.ensures) c.find_near-found.ensures.missing
