@@ -196,6 +196,7 @@ impl KnownItems {
         ensures rest { IsRestOf self.now bits result (bits % 2 ^ place) }
         ensures found { ArePlacesWithout (map (unpacked self.now) sets.now) (items_in self.now bits) result found.new }
     {
+        // Nothing is read here: it brings what holds of the items.
         let _ = &self.items;
         let mut rest = ((bits >> place) % WORD) as u64;
         let mut count = first;

@@ -1,4 +1,4 @@
-use Rattle.std.proofs.Common.{◌≡◌, ◌<◌, ◌++◌, length, rules, subst, sym, ap, take, ◌∙◌}
+use Rattle.std.proofs.Common.{◌<◌, ◌++◌, length, rules, ap, take, ◌∙◌}
 use Rattle.mine_classes.specs.Places.{slots_in}
 use Rattle.mine_classes.proofs.PlaceLemmas.{slots_are}
 use Rattle.mine_classes.proofs.places.put_places.Goals as goal
