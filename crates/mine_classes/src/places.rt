@@ -10,7 +10,7 @@ ghost use Rattle.mine_classes.specs.Span.{IsWithin, baskets_at};
 
 use crate::form::Form;
 use crate::ordered::Ordered;
-use crate::span::{Span, place, table_pays};
+use crate::span::{AHEAD, Span, place, table_pays};
 use crate::word_baskets::WordBaskets;
 use crate::words::{WORD_RANKS, clear_bits, set_bits, words_of};
 use std::alloc::{AllocError, Global};
@@ -225,13 +225,15 @@ fn put_by_table(locals: &mut Vec<u32>, filled: usize, of: &[Option<u32>], basket
 }
 
 /// Puts the places of those ranks of a basket that have one behind those that are filled. The answer is
-/// how many are filled then.
+/// how many are filled then. A rank near the basket was read before: that it is in the table decides
+/// between ways to the same places.
 fn put_places(
     locals: &mut Vec<u32>,
     filled: usize,
     of: &[Option<u32>],
     kept: &[u32],
     basket: &[u32],
+    near: u32,
 ) -> Result<usize, AllocError>
     requires places { ArePlaces kept.now of.now }
     requires rises { IsRising kept.now }
@@ -241,10 +243,25 @@ fn put_places(
     ensures put { IfOk result (λ len. take len locals.new.items ≡ take filled locals.old.items ++ places_in kept.now basket.now) }
 {
     make_room(locals, filled, basket.len())?;
-    if of.is_empty() {
+    if near as usize >= of.len() {
         return Ok(put_by_search(locals, filled, kept, basket));
     }
     Ok(put_by_table(locals, filled, of, basket))
+}
+
+/// The greater of the ranks at the ends of each of the next baskets. These lie far apart, and such reads
+/// don't wait for one another.
+fn read_ahead(ranks: &[u32], baskets: &[Span]) -> [u32; AHEAD] {
+    let mut ahead = [0u32; AHEAD];
+    for (rank, basket) in ahead.iter_mut().zip(baskets) {
+        *rank = rank_at(ranks, basket.start).max(rank_at(ranks, basket.end));
+    }
+    ahead
+}
+
+/// The rank at a place, or 0 where there is none.
+fn rank_at(ranks: &[u32], place: u32) -> u32 {
+    ranks.get(place as usize).copied().unwrap_or(0)
 }
 
 /// The baskets as places in the list, one after another, and where each stands.
@@ -266,9 +283,14 @@ pub fn coded_spans(
 {
     let mut spans = Vec::with_capacity(alloc, baskets.len())?;
     let mut filled = 0;
-    for basket in baskets {
+    let mut ahead = [0u32; AHEAD];
+    for (number, basket) in baskets.iter().enumerate() {
+        if number % AHEAD == 0 {
+            ahead = read_ahead(ranks, &baskets[number..]);
+        }
         let start = place(filled)?;
-        filled = put_places(locals, filled, of, kept, basket.of(ranks))?;
+        let near = ahead[number % AHEAD];
+        filled = put_places(locals, filled, of, kept, basket.of(ranks), near)?;
         let end = place(filled)?;
         spans.push(basket.moved(start, end))?;
     }

@@ -6,6 +6,9 @@ ghost use Rattle.mine_classes.specs.Span.{IsWithin};
 
 use std::alloc::AllocError;
 
+/// Of how many baskets the ends are read ahead.
+pub const AHEAD: usize = 16;
+
 /// How many slots a table may have for each rank that is looked up in it.
 const SLOTS_PER_RANK: usize = 16;
 

@@ -11,14 +11,11 @@ ghost use Rattle.mine_classes.specs.Words.{AreBits, bits_in, has_rank, ranks_in,
 
 use crate::places::place_of;
 use crate::short_words::ShortWords;
-use crate::span::Span;
+use crate::span::{AHEAD, Span};
 use std::alloc::{AllocError, Global};
 
 /// How many ranks a word has bits for.
 pub const WORD_RANKS: usize = 64;
-
-/// How many baskets are read ahead at a time.
-const BLOCK: usize = 16;
 
 /// A basket of up to 64 ranks: the bits of its ranks, of which rank 0 has the highest, so that
 /// baskets that begin alike stand together where words are in order.
@@ -163,8 +160,8 @@ fn bits_read_ahead(of: &[u64], kept: &[u32], basket: &[u32], ahead: u64) -> u64
 
 /// The bits at the ends of the next baskets. These lie far apart, and such reads don't wait for one
 /// another.
-fn read_ahead(of: &[u64], ranks: &[u32], baskets: &[Span]) -> [u64; BLOCK] {
-    let mut ahead = [0u64; BLOCK];
+fn read_ahead(of: &[u64], ranks: &[u32], baskets: &[Span]) -> [u64; AHEAD] {
+    let mut ahead = [0u64; AHEAD];
     for (bits, basket) in ahead.iter_mut().zip(baskets) {
         *bits = bits_at(of, ranks, basket.start) | bits_at(of, ranks, basket.end);
     }
@@ -226,12 +223,12 @@ pub fn words_of(
 {
     let mut words = Vec::with_capacity(alloc, baskets.len())?;
     let mut short = ShortWords::new(alloc, baskets.len())?;
-    let mut ahead = [0u64; BLOCK];
+    let mut ahead = [0u64; AHEAD];
     for (place, basket) in baskets.iter().enumerate() {
-        if place % BLOCK == 0 {
+        if place % AHEAD == 0 {
             ahead = read_ahead(of, ranks, &baskets[place..]);
         }
-        let bits = bits_read_ahead(of, kept, basket.of(ranks), ahead[place % BLOCK]);
+        let bits = bits_read_ahead(of, kept, basket.of(ranks), ahead[place % AHEAD]);
         let weight = basket.weight;
         let word = Word { bits, weight };
         if !short.take_in(word) {

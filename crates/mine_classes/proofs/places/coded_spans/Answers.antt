@@ -14,20 +14,20 @@ none = record { start = 0; end = 0; weight = 0 }
 
 pub put_places-requires-clause-below : goal.put_places-requires-clause-below
 put_places-requires-clause-below c = λ some.
-    let is = rank_basket_at c.args.ranks.now (length c.args.of.now) c.args.baskets.now c.loop-basket.basket-index none (c.requires.ranked some).places c.loop-basket-test.true in
+    let is = rank_basket_at c.args.ranks.now (length c.args.of.now) c.args.baskets.now c.loop-number.number none (c.requires.ranked some).places c.loop-number-test.true in
     subst (AllBelow (length c.args.of.now)) (sym c.of.ensures) is.below
 
-pub loop-basket-preserved : goal.loop-basket-preserved
-loop-basket-preserved c =
+pub loop-number-preserved : goal.loop-number-preserved
+loop-number-preserved c =
     let ranks = c.args.ranks.now in
-    let spans = c.loop-basket.spans.items in
-    let was = c.loop-basket.invariant in
-    let filled = c.loop-basket.filled in
-    let front = take filled c.loop-basket.locals.items in
-    let i = c.loop-basket.basket-index in
+    let spans = c.loop-number.spans.items in
+    let was = c.loop-number.invariant in
+    let filled = c.loop-number.filled in
+    let front = take filled c.loop-number.locals.items in
+    let i = c.loop-number.number in
     let more = places_in c.args.kept.now c.of.result.now in
     let grown = c.in_ok-filled.ensures.put in
-    let before : length front ≡ filled = length-take-le filled c.loop-basket.locals.items was.filled in
+    let before : length front ≡ filled = length-take-le filled c.loop-number.locals.items was.filled in
     let after : length (take c.in_ok-filled.filled c.put_places.new.locals.items) ≡ c.in_ok-filled.filled = length-take-le c.in_ok-filled.filled c.put_places.new.locals.items c.in_ok-filled.ensures.filled in
     let long : c.in_ok-filled.filled ≡ length front + length more = sym after ∙ ap length grown ∙ length-append front more in
     let span : Span = record { start = c.in_ok-start.start; end = c.in_ok-end.end; weight = (get_or c.args.baskets.now i none).weight } in
@@ -39,6 +39,6 @@ loop-basket-preserved c =
       filled = c.in_ok-filled.ensures.filled;
       within = subst (All (IsWithin c.in_ok-filled.filled)) (sym pushed) (within_push filled c.in_ok-filled.filled spans span (omega (arith, before, long)) was.within inside);
       placed = ap (λ l. baskets_at l c.push.new.self.items) grown ∙ ap (baskets_at (front ++ more)) pushed
-          ∙ placed_more ranks front c.args.kept.now c.args.baskets.now spans i none span c.loop-basket-test.true (subst (λ n. All (IsWithin n) spans) (sym before) was.within) more (ap (places_in c.args.kept.now) c.of.ensures) start end refl
+          ∙ placed_more ranks front c.args.kept.now c.args.baskets.now spans i none span c.loop-number-test.true (subst (λ n. All (IsWithin n) spans) (sym before) was.within) more (ap (places_in c.args.kept.now) c.of.ensures) start end refl
           was.placed;
     }

@@ -4,9 +4,9 @@ use Rattle.mine_classes.specs.Places.{placed}
 use Rattle.mine_classes.specs.Span.{IsWithin, baskets_at}
 use Rattle.mine_classes.proofs.places.coded_spans.Given as goal
 
-abbrev pub invariant-loop-basket : goal.invariant-loop-basket
-invariant-loop-basket l = record {
+abbrev pub invariant-loop-number : goal.invariant-loop-number
+invariant-loop-number l = record {
   filled : l.filled ≤ length l.locals.items;
   within : All (IsWithin l.filled) l.spans.items;
-  placed : baskets_at (take l.filled l.locals.items) l.spans.items ≡ map (placed l.kept) (take l.basket-index (baskets_at l.ranks l.baskets));
+  placed : baskets_at (take l.filled l.locals.items) l.spans.items ≡ map (placed l.kept) (take l.number (baskets_at l.ranks l.baskets));
 }
