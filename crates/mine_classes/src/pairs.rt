@@ -15,6 +15,9 @@ use basket_core::Itemset;
 use std::alloc::{AllocError, Global};
 use std::marker::Model;
 
+/// How many sums a pass may go over for each rank that is added up.
+const SUMS_PER_RANK: usize = 4;
+
 /// A sum for each rank, used again from rank to rank. The sums stand in a table once it is worth its
 /// cost. Before that, each call has sums for its own ranks alone.
 #[derive(Debug, Drop)]
@@ -71,7 +74,7 @@ impl Sums {
         if self.sums.is_empty() {
             return met_by_search(alloc, ranks, baskets, least);
         }
-        if have_ranks(baskets, self.count as usize) {
+        if have_ranks(baskets, self.count as usize / SUMS_PER_RANK) {
             return met_by_scan(alloc, &mut self.sums, ranks, baskets, least);
         }
         met_by_table(
@@ -99,7 +102,7 @@ fn have_ranks(baskets: &[Span], many: usize) -> bool
     seen >= many
 }
 
-/// The ranks that are met, by a pass over all sums, which are 0 before and after: where they are no
+/// The ranks that are met, by a pass over all sums, which are 0 before and after: where they are not far
 /// more than the ranks that are added up, that is faster than to list those that are not 0.
 fn met_by_scan(
     alloc: Global,
