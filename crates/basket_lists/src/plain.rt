@@ -120,14 +120,29 @@ impl PlainSets {
     {
         let items = self.items(number);
         let hash = items_hash(items);
+        first_places(places, items, hash, found);
         for place in 0..items.len().min(MOST_ITEMS) {
-            let shorter = hash.wrapping_sub(item_hash(items[place]));
-            found[place] = self.find_without(places, items, place, shorter);
+            let first = found[place];
+            if !self.is_without_at(first, items, place) {
+                let shorter = hash.wrapping_sub(item_hash(items[place]));
+                found[place] = self.find_without(places, items, place, shorter);
+            }
         }
+    }
+
+    /// Whether the set that stands at a number is another without the item at a place.
+    fn is_without_at(&self, number: u32, items: &[u32], place: usize) -> bool
+        requires place { place < length items.now }
+        requires rises { IsRising items.now }
+        ensures { IsTrue result → IsPlaceWithout self.now items.now (slice_index_or items.now place 0) number }
+    {
+        let number = number as usize;
+        number < self.len() && is_without(self.items(number), items, place)
     }
 
     /// Where the set with this hash stands that is another without the item at a place, if the places say
     /// it.
+    #[inline(never)]
     fn find_without(&self, places: &Places, items: &[u32], place: usize, hash: u64) -> u32
         requires place { place < length items.now }
         requires rises { IsRising items.now }
@@ -135,10 +150,10 @@ impl PlainSets {
     {
         for step in 0..MOST_STEPS {
             let at = places.at(hash, step);
-            if at as usize >= self.len() {
+            if at == NOWHERE {
                 return NOWHERE;
             }
-            if is_without(self.items(at as usize), items, place) {
+            if self.is_without_at(at, items, place) {
                 return at;
             }
         }
@@ -183,6 +198,14 @@ impl PlainSets {
             }
         }
         true
+    }
+}
+
+/// The first place that is kept for a set without each of its items. All are read before a set is looked
+/// at, so that none waits for another.
+fn first_places(places: &Places, items: &[u32], hash: u64, found: &mut [u32; MOST_ITEMS]) {
+    for place in 0..items.len().min(MOST_ITEMS) {
+        found[place] = places.at(hash.wrapping_sub(item_hash(items[place])), 0);
     }
 }
 
