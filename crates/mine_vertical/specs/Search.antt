@@ -19,16 +19,16 @@ is_met baskets least set = is_frequent baskets (Count least) set
 abbrev pub IsSibling : {R : Type 0} → (List ℕ → List ℕ → List ℕ → R → Type 0) → List Weighted → List ℕ → Sibling R → Type 0
 IsSibling stands baskets set sibling = stands (weights_of baskets) (cover_of baskets set) (cover_of baskets (sibling.rank ∷ set)) sibling.row
 
--- where a search stands: a class of a rank in baskets of ranks, a set of ranks below it, and the ranks that may extend it
+-- where a search stands: the baskets that have some ranks, a set of lower ranks, and the ranks that may extend it
 pub record Node : Type 0 where
   pub baskets : List Weighted
-  pub class_rank : ℕ
+  pub shared : List ℕ
   pub set : List ℕ
   pub below : ℕ
 
--- the ranks of a set with that of the class
+-- the ranks of a set with those that all baskets have
 abbrev pub ranks_at : Node → List ℕ → List ℕ
-ranks_at node set = set ++ node.class_rank ∷ []
+ranks_at node set = set ++ node.shared
 
 -- the siblings are the frequent extensions of a node's set, which is given as items, of the items by rank
 pub record IsNode {R : Type 0} (stands : List ℕ → List ℕ → List ℕ → R → Type 0) (weights : List ℕ) (least : ℕ) (siblings : List (Sibling R)) (set items : List ℕ) (node : Node) : Type 0 where
@@ -39,6 +39,7 @@ pub record IsNode {R : Type 0} (stands : List ℕ → List ℕ → List ℕ → 
   pub few : length items < MOST_RANKS
   pub known : AllBelow (length items) (ranks_at node node.set)
   pub low : (rank : ℕ) → IsTrue (has (ranks_at node node.set) rank) → node.below ≤ rank
+  pub within : node.below < length items
 
 -- how many joins may have been made where so many sets were found
 abbrev pub FewJoins : ℕ → ℕ → Type 0

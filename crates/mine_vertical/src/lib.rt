@@ -14,6 +14,7 @@ pub mod laws;
 mod marks;
 mod mined;
 mod planes;
+mod remade;
 mod room;
 mod row;
 mod row_words;

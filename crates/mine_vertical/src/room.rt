@@ -7,6 +7,7 @@ use crate::row::Row;
 use crate::search::Sibling;
 use crate::weights::Weights;
 use std::alloc::{AllocError, Global};
+use std::mem;
 
 /// A table to mark places in, and rows and lists that are not needed any more.
 #[derive(Drop)]
@@ -60,5 +61,29 @@ impl<R: Row> Room<R> {
             let _ = self.rows.push(sibling.row);
         }
         let _ = self.lists.push(siblings);
+    }
+
+    /// Room over other weights, with the rows and lists of this one, which has none of them then.
+    pub fn over(&mut self, alloc: Global, weights: &Weights) -> Result<Self, AllocError>
+        ensures room { IfOk result (λ room. IsMarked weights.now [] room.marks) }
+        ensures marks { self.new.marks ≡ self.old.marks }
+    {
+        let marks = Marks::new(alloc, weights.places())?;
+        let rows = mem::replace(&mut self.rows, Vec::new(alloc));
+        let lists = mem::replace(&mut self.lists, Vec::new(alloc));
+        Ok(Room { marks, rows, lists })
+    }
+
+    /// Takes the rows and lists of other room over.
+    pub fn take_over(&mut self, other: Room<R>)
+        ensures { self.new.marks ≡ self.old.marks }
+    {
+        let Room {
+            marks: _,
+            rows,
+            lists,
+        } = other;
+        self.rows = rows;
+        self.lists = lists;
     }
 }

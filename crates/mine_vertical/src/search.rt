@@ -9,6 +9,7 @@ ghost use Rattle.mine_vertical.specs.Search.{FewJoins, IsNode, IsSibling, Node, 
 ghost use Rattle.mine_vertical.specs.Walk.{joins_below, sets_below};
 
 use crate::mined::Mined;
+use crate::remade::remade;
 use crate::room::Room;
 use crate::row::Row;
 use crate::weights::Weights;
@@ -76,6 +77,7 @@ impl Search<'_> {
 
     /// Adds the frequent sets that extend the set at a place by siblings and by what extends those,
     /// depth first. Each set is told to the tally once it is known to be frequent.
+    #[cycle(search)]
     pub fn extend<R: Row, T: Tally>(
         &self,
         alloc: Global,
@@ -111,10 +113,60 @@ impl Search<'_> {
             let longer = mined.add_longer(alloc, place, item, sibling.row.count(), tally)?;
             let below = self.joined(alloc, sibling, &siblings[..at], room, &mut mined.joins)?;
             if !below.is_empty() {
-                self.extend(alloc, &below, longer, mined, tally, room)?;
+                let is_large = sibling.row.is_large(below.len(), at, self.weights);
+                self.extend_set(alloc, &below, is_large, longer, mined, tally, room)?;
             }
             room.take_back(below);
         }
         Ok(())
+    }
+
+    /// The same by siblings of one set, whose database is made anew where it is large.
+    #[cycle(search)]
+    fn extend_set<R: Row, T: Tally>(
+        &self,
+        alloc: Global,
+        siblings: &[Sibling<R>],
+        is_large: bool,
+        place: usize,
+        mined: &mut Mined,
+        tally: &mut T,
+        room: &mut Room<R>,
+    ) -> Result<(), MineFault>
+        requires node { (node : Node) × IsNode R.stands self.now.weights.now self.now.least siblings.now (set_at mined.old.sets place) self.now.coded.now.items node }
+        requires found { place < length mined.old.sets }
+        requires some { 1 ≤ self.now.least }
+        requires going { T.is_over tally.old ≡ false }
+        requires few { FewJoins mined.old.joins (length mined.old.sets) }
+        requires clear { IsMarked self.now.weights.now [] room.old.marks }
+        ensures sets { OnOk result ((node : Node) → IsNode R.stands self.now.weights.now self.now.least siblings.now (set_at mined.old.sets place) self.now.coded.now.items node
+            → mined.new.sets ≡ mined.old.sets ++ map (found_at self.now.coded.now.items node) (sets_below (is_met node.baskets self.now.least) node.below node.set)) }
+        ensures joins { OnOk result ((node : Node) → IsNode R.stands self.now.weights.now self.now.least siblings.now (set_at mined.old.sets place) self.now.coded.now.items node
+            → mined.new.joins ≡ mined.old.joins + joins_below (is_met node.baskets self.now.least) node.below node.set) }
+        ensures told { OnOk result (T.told_of tally.new + length mined.old.sets ≡ T.told_of tally.old + length mined.new.sets) }
+        ensures going_on { OnOk result (T.is_over tally.new ≡ false) }
+        ensures few { OnOk result (FewJoins mined.new.joins (length mined.new.sets)) }
+        ensures too_many { (limit : ℕ) → result ≡ Err (TooMany limit) → (limit ≡ T.limit_of tally.old)
+            × ((node : Node) → IsNode R.stands self.now.weights.now self.now.least siblings.now (set_at mined.old.sets place) self.now.coded.now.items node
+            → IsTrue (T.is_over tally.new) ⊎ (limit < length mined.old.sets + length (sets_below (is_met node.baskets self.now.least) node.below node.set))) }
+        ensures at_most { (node : Node) → IsNode R.stands self.now.weights.now self.now.least siblings.now (set_at mined.old.sets place) self.now.coded.now.items node
+            → T.told_of tally.new ≤ T.told_of tally.old + length (sets_below (is_met node.baskets self.now.least) node.below node.set) }
+        ensures limit { T.limit_of tally.new ≡ T.limit_of tally.old }
+        ensures clear { OnOk result (IsMarked self.now.weights.now [] room.new.marks) }
+    {
+        match remade(alloc, siblings, self.weights, is_large)? {
+            Some((weights, smaller)) => {
+                let search = Search {
+                    coded: self.coded,
+                    weights: &weights,
+                    least: self.least,
+                };
+                let mut inner = room.over(alloc, &weights)?;
+                search.extend(alloc, &smaller, place, mined, tally, &mut inner)?;
+                room.take_over(inner);
+                Ok(())
+            }
+            None => self.extend(alloc, siblings, place, mined, tally, room),
+        }
     }
 }

@@ -5,7 +5,7 @@ use Rattle.std.proofs.lemmas.List.Elements.{All-take}
 use Rattle.std.proofs.lemmas.Bool.{eqb-true}
 use Rattle.std.proofs.lemmas.Result.{err_from_is_err_and}
 use Rattle.basket_core.specs.declared.fault.MineFault.TheVariants.{TooMany}
-use Rattle.basket_sets.specs.Itemset.{with_item}
+use Rattle.basket_sets.specs.Itemset.{IsRising, with_item}
 use Rattle.basket_sets.proofs.theory.Rising.{has-from_Member}
 use Rattle.basket_sets.specs.declared.counted.Counted.{Counted}
 use Rattle.mine_vertical.specs.Cover.{cover_of}
@@ -17,12 +17,13 @@ use Rattle.mine_vertical.specs.Walk.{joins_below, kept_below, sets_below}
 use Rattle.basket_lists.proofs.theory.Places.{set_added}
 use Rattle.mine_vertical.proofs.SearchLemmas.{counted_row, sibling_at}
 use Rattle.mine_vertical.proofs.WalkLemmas.{branch_joins, joins_are_branches, sets_are_branches}
-use Rattle.mine_vertical.proofs.NodeLemmas.{child, child_is, child_known, child_set, fewer, found_by, joins_more, long, longer_set, no_joins, no_sets, part_more, part_within, place_few, rank_at, sets_long, sets_more, told_is}
-use Rattle.mine_vertical.proofs.search.Search.+extend.Goals as goal
-use Rattle.mine_vertical.proofs.search.Search.+extend.Goals.{then-not-is_empty+in_ok-extend, else-not-is_empty}
+use Rattle.mine_vertical.proofs.NodeLemmas.{as_many, child, child_is, child_known, child_set, fewer, found_by, joins_more, long, longer_set, no_joins, no_sets, part_more, part_within, place_few, rank_at, sets_long, sets_more, told_is}
+use Rattle.mine_vertical.proofs.RemadeLemmas.{kept_rises, over, over_is, over_joins, over_long, over_sets}
+use Rattle.mine_vertical.proofs.search.Search.+search.Goals as goal
+use Rattle.mine_vertical.proofs.search.Search.+search.Goals.{extend-then-not-is_empty+in_ok-extend_set, extend-else-not-is_empty}
 
-pub returns-clause-at_most : goal.returns-clause-at_most
-returns-clause-at_most g t c = λ node is.
+pub extend-returns-clause-at_most : goal.extend-returns-clause-at_most
+extend-returns-clause-at_most g t c = λ node is.
     let search = c.args.self.now in
     let stands = g.R.Row.stands in
     let weights = search.weights.now in
@@ -35,8 +36,8 @@ returns-clause-at_most g t c = λ node is.
     let most = part_within stands weights search.least siblings set items node is i in
     omega arith
 
-pub item-item-requires : goal.item-item-requires
-item-item-requires g t c =
+pub extend-item-item-requires : goal.extend-item-item-requires
+extend-item-item-requires g t c =
     let (node, is) = c.requires.node in
     let search = c.args.self.now in
     let stands = g.R.Row.stands in
@@ -50,8 +51,8 @@ item-item-requires g t c =
     let at = rank_at stands weights search.least siblings set items node is i sibling here c.index-siblings-at.is in
     child_known stands weights search.least siblings set items node is sibling.rank i here at sibling.rank (has-from_Member (sibling.rank ∷ ranks_at node node.set) sibling.rank (inl refl))
 
-pub returns-in_err-longer-clause-at_most : goal.returns-in_err-longer-clause-at_most
-returns-in_err-longer-clause-at_most g t c = λ node is.
+pub extend-returns-in_err-longer-clause-at_most : goal.extend-returns-in_err-longer-clause-at_most
+extend-returns-in_err-longer-clause-at_most g t c = λ node is.
     let search = c.args.self.now in
     let stands = g.R.Row.stands in
     let weights = search.weights.now in
@@ -67,8 +68,8 @@ returns-in_err-longer-clause-at_most g t c = λ node is.
     let more = part_more stands weights search.least siblings set items node is i sibling.rank here at in
     omega (arith, c.add_longer.ensures.at_most)
 
-pub returns-in_err-below-clause-at_most : goal.returns-in_err-below-clause-at_most
-returns-in_err-below-clause-at_most g t c = λ node is.
+pub extend-returns-in_err-below-clause-at_most : goal.extend-returns-in_err-below-clause-at_most
+extend-returns-in_err-below-clause-at_most g t c = λ node is.
     let search = c.args.self.now in
     let stands = g.R.Row.stands in
     let weights = search.weights.now in
@@ -84,8 +85,8 @@ returns-in_err-below-clause-at_most g t c = λ node is.
     let more = part_more stands weights search.least siblings set items node is i sibling.rank here at in
     omega (arith, c.in_ok-longer.ensures.told)
 
-pub returns-in_err-longer-clause-too_many : goal.returns-in_err-longer-clause-too_many
-returns-in_err-longer-clause-too_many g t c = λ limit e.
+pub extend-returns-in_err-longer-clause-too_many : goal.extend-returns-in_err-longer-clause-too_many
+extend-returns-in_err-longer-clause-too_many g t c = λ limit e.
     let p = err_from_is_err_and c.from_residual.result c.from_residual.ensures.1 in
     let both = sym p.1 ∙ e in
     let fault : p.0 ≡ TooMany limit = cc in
@@ -107,8 +108,8 @@ returns-in_err-longer-clause-too_many g t c = λ limit e.
           elim why [ inl over ↦ inl over | inr less ↦ inr (omega arith) ],
     )
 
-pub joined-requires-clause-rows : goal.joined-requires-clause-rows
-joined-requires-clause-rows g t c =
+pub extend-joined-requires-clause-rows : goal.extend-joined-requires-clause-rows
+extend-joined-requires-clause-rows g t c =
     let (node, is) = c.requires.node in
     let search = c.args.self.now in
     let stands = g.R.Row.stands in
@@ -123,8 +124,8 @@ joined-requires-clause-rows g t c =
     let one = sibling_at stands node.baskets node.set siblings i sibling here c.index-siblings-at.is is.rows in
     (node.baskets, node.set, is.weighs, one, all)
 
-pub joined-requires-clause-few : goal.joined-requires-clause-few
-joined-requires-clause-few g t c =
+pub extend-joined-requires-clause-few : goal.extend-joined-requires-clause-few
+extend-joined-requires-clause-few g t c =
     let (node, is) = c.requires.node in
     let search = c.args.self.now in
     let stands = g.R.Row.stands in
@@ -141,8 +142,8 @@ joined-requires-clause-few g t c =
     let one_more = ap length c.in_ok-longer.ensures.sets ∙ length-append c.loop-at.mined.sets (record { set = with_item c.item-item.result (set_at c.loop-at.mined.sets c.args.place); count = c.count.result } ∷ []) in
     omega (arith, c.add_longer.ensures.joins, c.in_ok-longer.ensures.few, c.loop-at.invariant.few)
 
-pub extend-requires : goal.extend-requires
-extend-requires g t c = λ κs lives.
+pub extend-extend_set-requires : goal.extend-extend_set-requires
+extend-extend_set-requires g t c = λ κs lives.
     let (node, is) = c.requires.node in
     let search = c.args.self.now in
     let stands = g.R.Row.stands in
@@ -186,8 +187,8 @@ extend-requires g t c = λ κs lives.
       ),
     )
 
-pub returns-in_err-extend-clause-at_most : goal.returns-in_err-extend-clause-at_most
-returns-in_err-extend-clause-at_most g t c = λ node is.
+pub extend-returns-in_err-extend_set-clause-at_most : goal.extend-returns-in_err-extend_set-clause-at_most
+extend-returns-in_err-extend_set-clause-at_most g t c = λ node is.
     let search = c.args.self.now in
     let stands = g.R.Row.stands in
     let weights = search.weights.now in
@@ -211,14 +212,14 @@ returns-in_err-extend-clause-at_most g t c = λ node is.
     let told = told_is stands weights search.least siblings set items node is (g.T.Tally.told_of c.loop-at.tally) (g.T.Tally.told_of c.args.tally.now) i
     c.loop-at.mined.sets c.args.mined.now.sets c.loop-at.invariant.told (c.loop-at.invariant.sets node is) in
     let more = part_more stands weights search.least siblings set items node is i sibling.rank here at in
-    omega (arith, c.in_ok-longer.ensures.told, c.extend.ensures.at_most (child node sibling.rank) inner)
+    omega (arith, c.in_ok-longer.ensures.told, c.extend_set.ensures.at_most (child node sibling.rank) inner)
 
-pub returns-in_err-extend-clause-too_many : goal.returns-in_err-extend-clause-too_many
-returns-in_err-extend-clause-too_many g t c = λ limit e.
-    let p = err_from_is_err_and c.from_residual-in_err-extend.result c.from_residual-in_err-extend.ensures.1 in
+pub extend-returns-in_err-extend_set-clause-too_many : goal.extend-returns-in_err-extend_set-clause-too_many
+extend-returns-in_err-extend_set-clause-too_many g t c = λ limit e.
+    let p = err_from_is_err_and c.from_residual-in_err-extend_set.result c.from_residual-in_err-extend_set.ensures.1 in
     let both = sym p.1 ∙ e in
     let fault : p.0 ≡ TooMany limit = cc in
-    let (same, why) = c.extend.ensures.too_many limit (c.in_err-extend.was ∙ ap Err (sym p.2 ∙ fault)) in (
+    let (same, why) = c.extend_set.ensures.too_many limit (c.in_err-extend_set.was ∙ ap Err (sym p.2 ∙ fault)) in (
       same ∙ c.add_longer.ensures.limit ∙ c.loop-at.invariant.limit,
       λ node is.
           let search = c.args.self.now in
@@ -247,8 +248,8 @@ returns-in_err-extend-clause-too_many g t c = λ limit e.
           elim (why (child node sibling.rank) inner) [ inl over ↦ inl over | inr less ↦ inr (omega arith) ],
     )
 
-pub loop-at-preserved : goal.loop-at-preserved
-loop-at-preserved g t c =
+pub extend-loop-at-preserved : goal.extend-loop-at-preserved
+extend-loop-at-preserved g t c =
     let search = c.args.self.now in
     let stands = g.R.Row.stands in
     let weights = search.weights.now in
@@ -264,24 +265,24 @@ loop-at-preserved g t c =
     let before = length-take-le i siblings most in
     record {
       clear = elim c.if-not-is_empty.branch [
-        | then-not-is_empty+in_ok-extend w ↦ subst (λ (marks : Marks). IsMarked weights [] marks) (sym (c.take_back.ensures ∙ ap (λ room. room.marks) w.room-is)) w.in_ok-extend.ensures.clear
-        | else-not-is_empty w ↦ subst (λ (marks : Marks). IsMarked weights [] marks) (sym (c.take_back.ensures ∙ ap (λ room. room.marks) w.room-is)) c.in_ok-below.ensures.clear
+        | extend-then-not-is_empty+in_ok-extend_set w ↦ subst (λ (marks : Marks). IsMarked weights [] marks) (sym (c.take_back.ensures ∙ ap (λ room. room.marks) w.room-is)) w.in_ok-extend_set.ensures.clear
+        | extend-else-not-is_empty w ↦ subst (λ (marks : Marks). IsMarked weights [] marks) (sym (c.take_back.ensures ∙ ap (λ room. room.marks) w.room-is)) c.in_ok-below.ensures.clear
       ];
       going = elim c.if-not-is_empty.branch [
-        | then-not-is_empty+in_ok-extend w ↦ ap (λ tally. g.T.Tally.is_over tally) w.tally-is ∙ w.in_ok-extend.ensures.going_on
-        | else-not-is_empty w ↦ ap (λ tally. g.T.Tally.is_over tally) w.tally-is ∙ c.in_ok-longer.ensures.going_on
+        | extend-then-not-is_empty+in_ok-extend_set w ↦ ap (λ tally. g.T.Tally.is_over tally) w.tally-is ∙ w.in_ok-extend_set.ensures.going_on
+        | extend-else-not-is_empty w ↦ ap (λ tally. g.T.Tally.is_over tally) w.tally-is ∙ c.in_ok-longer.ensures.going_on
       ];
       limit = elim c.if-not-is_empty.branch [
-        | then-not-is_empty+in_ok-extend w ↦ ap (λ tally. g.T.Tally.limit_of tally) w.tally-is ∙ w.extend.ensures.limit ∙ c.add_longer.ensures.limit ∙ c.loop-at.invariant.limit
-        | else-not-is_empty w ↦ ap (λ tally. g.T.Tally.limit_of tally) w.tally-is ∙ c.add_longer.ensures.limit ∙ c.loop-at.invariant.limit
+        | extend-then-not-is_empty+in_ok-extend_set w ↦ ap (λ tally. g.T.Tally.limit_of tally) w.tally-is ∙ w.extend_set.ensures.limit ∙ c.add_longer.ensures.limit ∙ c.loop-at.invariant.limit
+        | extend-else-not-is_empty w ↦ ap (λ tally. g.T.Tally.limit_of tally) w.tally-is ∙ c.add_longer.ensures.limit ∙ c.loop-at.invariant.limit
       ];
       told = elim c.if-not-is_empty.branch [
-        | then-not-is_empty+in_ok-extend w ↦ omega (arith, ap (λ tally. g.T.Tally.told_of tally) w.tally-is, ap (λ mined. length mined.sets) w.mined-is, w.in_ok-extend.ensures.told, c.in_ok-longer.ensures.told, c.loop-at.invariant.told, one_more)
-        | else-not-is_empty w ↦ omega (arith, ap (λ tally. g.T.Tally.told_of tally) w.tally-is, ap (λ mined. length mined.sets) w.mined-is, c.in_ok-longer.ensures.told, c.loop-at.invariant.told, one_more)
+        | extend-then-not-is_empty+in_ok-extend_set w ↦ omega (arith, ap (λ tally. g.T.Tally.told_of tally) w.tally-is, ap (λ mined. length mined.sets) w.mined-is, w.in_ok-extend_set.ensures.told, c.in_ok-longer.ensures.told, c.loop-at.invariant.told, one_more)
+        | extend-else-not-is_empty w ↦ omega (arith, ap (λ tally. g.T.Tally.told_of tally) w.tally-is, ap (λ mined. length mined.sets) w.mined-is, c.in_ok-longer.ensures.told, c.loop-at.invariant.told, one_more)
       ];
       few = elim c.if-not-is_empty.branch [
-        | then-not-is_empty+in_ok-extend w ↦ subst (λ mined. FewJoins mined.joins (length mined.sets)) (sym w.mined-is) w.in_ok-extend.ensures.few
-        | else-not-is_empty w ↦ (let (known, first) = c.requires.node in let few = place_few stands weights search.least siblings set items known first i here in subst (λ mined. FewJoins mined.joins (length mined.sets)) (sym w.mined-is) (omega (arith, c.in_ok-below.ensures.joins, c.add_longer.ensures.joins, c.loop-at.invariant.few, one_more, few, before)))
+        | extend-then-not-is_empty+in_ok-extend_set w ↦ subst (λ mined. FewJoins mined.joins (length mined.sets)) (sym w.mined-is) w.in_ok-extend_set.ensures.few
+        | extend-else-not-is_empty w ↦ (let (known, first) = c.requires.node in let few = place_few stands weights search.least siblings set items known first i here in subst (λ mined. FewJoins mined.joins (length mined.sets)) (sym w.mined-is) (omega (arith, c.in_ok-below.ensures.joins, c.add_longer.ensures.joins, c.loop-at.invariant.few, one_more, few, before)))
       ];
       sets = λ node is.
           let with_one = longer_set stands weights search.least siblings set items node is i sibling.rank c.item-item.result c.args.place c.args.mined.now.sets c.loop-at.mined.sets c.requires.found refl (c.loop-at.invariant.sets node is) c.item-item.ensures in
@@ -298,9 +299,9 @@ loop-at-preserved g t c =
           let found : one_set ≡ found_at items node (sibling.rank ∷ node.set) = λ k. record { set = is_set k; count = counts k } in
           let with_set = c.add_longer.new.self.sets in
           let deeper : c.if-not-is_empty.mined.sets ≡ with_set ++ map (found_at items node) (sets_below test sibling.rank (sibling.rank ∷ node.set)) = elim c.if-not-is_empty.branch [
-            | then-not-is_empty+in_ok-extend w ↦ ap (λ mined. mined.sets) w.mined-is ∙ w.in_ok-extend.ensures.sets (child node sibling.rank) (subst (λ s. IsNode stands weights search.least w.deref.result.now s items (child node sibling.rank)) (sym longer_is)
+            | extend-then-not-is_empty+in_ok-extend_set w ↦ ap (λ mined. mined.sets) w.mined-is ∙ w.in_ok-extend_set.ensures.sets (child node sibling.rank) (subst (λ s. IsNode stands weights search.least w.deref.result.now s items (child node sibling.rank)) (sym longer_is)
                 (subst (λ s. IsNode stands weights search.least s (with_item (get_or items sibling.rank 0) set) items (child node sibling.rank)) (sym w.deref.ensures.value) made))
-            | else-not-is_empty w ↦ ap (λ mined. mined.sets) w.mined-is ∙ sym (ap (λ l. with_set ++ map (found_at items node) l)
+            | extend-else-not-is_empty w ↦ ap (λ mined. mined.sets) w.mined-is ∙ sym (ap (λ l. with_set ++ map (found_at items node) l)
                 (no_sets stands weights search.least c.in_ok-below.below.items (with_item (get_or items sibling.rank 0) set) items (child node sibling.rank) made (let empty = eqb-true c.in_ok-below.below.len 0 (sym c.is_empty.ensures ∙ w.if-not-is_empty.false) in omega (arith, empty, c.in_ok-below.below.ok.0))) ∙ append-nil with_set)
           ] in
           sets_more stands weights search.least siblings set items node is i sibling.rank c.args.mined.now.sets c.loop-at.mined.sets with_set c.if-not-is_empty.mined.sets
@@ -317,15 +318,15 @@ loop-at-preserved g t c =
           let test = is_met node.baskets search.least in
           let more = joins_more stands weights search.least siblings set items node is i sibling.rank here at in
           let deeper : c.if-not-is_empty.mined.joins ≡ c.joined.new.joins + joins_below test sibling.rank (sibling.rank ∷ node.set) = elim c.if-not-is_empty.branch [
-            | then-not-is_empty+in_ok-extend w ↦ ap (λ mined. mined.joins) w.mined-is ∙ w.in_ok-extend.ensures.joins (child node sibling.rank) (subst (λ s. IsNode stands weights search.least w.deref.result.now s items (child node sibling.rank)) (sym longer_is)
+            | extend-then-not-is_empty+in_ok-extend_set w ↦ ap (λ mined. mined.joins) w.mined-is ∙ w.in_ok-extend_set.ensures.joins (child node sibling.rank) (subst (λ s. IsNode stands weights search.least w.deref.result.now s items (child node sibling.rank)) (sym longer_is)
                 (subst (λ s. IsNode stands weights search.least s (with_item (get_or items sibling.rank 0) set) items (child node sibling.rank)) (sym w.deref.ensures.value) made))
-            | else-not-is_empty w ↦ omega (arith, ap (λ mined. mined.joins) w.mined-is, no_joins stands weights search.least c.in_ok-below.below.items (with_item (get_or items sibling.rank 0) set) items (child node sibling.rank) made (let empty = eqb-true c.in_ok-below.below.len 0 (sym c.is_empty.ensures ∙ w.if-not-is_empty.false) in omega (arith, empty, c.in_ok-below.below.ok.0)))
+            | extend-else-not-is_empty w ↦ omega (arith, ap (λ mined. mined.joins) w.mined-is, no_joins stands weights search.least c.in_ok-below.below.items (with_item (get_or items sibling.rank 0) set) items (child node sibling.rank) made (let empty = eqb-true c.in_ok-below.below.len 0 (sym c.is_empty.ensures ∙ w.if-not-is_empty.false) in omega (arith, empty, c.in_ok-below.below.ok.0)))
           ] in
           omega (arith, deeper, c.in_ok-below.ensures.joins, c.add_longer.ensures.joins, c.loop-at.invariant.joins node is, more, before);
     }
 
-pub returns-clause-sets : goal.returns-clause-sets
-returns-clause-sets g t c = λ node is.
+pub extend-returns-clause-sets : goal.extend-returns-clause-sets
+extend-returns-clause-sets g t c = λ node is.
     let search = c.args.self.now in
     let stands = g.R.Row.stands in
     let weights = search.weights.now in
@@ -339,8 +340,8 @@ returns-clause-sets g t c = λ node is.
     ∙ ap (λ l. c.args.mined.now.sets ++ map (found_at items node) l)
     (ap (found_by stands weights search.least siblings set items node is) all ∙ sym (sets_are_branches (is_met node.baskets search.least) node.below node.set))
 
-pub returns-clause-joins : goal.returns-clause-joins
-returns-clause-joins g t c = λ node is.
+pub extend-returns-clause-joins : goal.extend-returns-clause-joins
+extend-returns-clause-joins g t c = λ node is.
     let search = c.args.self.now in
     let stands = g.R.Row.stands in
     let weights = search.weights.now in
@@ -353,3 +354,114 @@ returns-clause-joins g t c = λ node is.
     c.loop-at.invariant.joins node is
     ∙ ap (λ n. c.args.mined.now.joins + n)
     (ap (sum_by (branch_joins (is_met node.baskets search.least) node.set)) all ∙ sym (joins_are_branches (is_met node.baskets search.least) node.below node.set))
+
+pub extend_set-remade-requires-clause-rises : goal.extend_set-remade-requires-clause-rises
+extend_set-remade-requires-clause-rises g t c =
+    let (node, is) = c.requires.node in
+    subst IsRising (sym is.ranks) (kept_rises (is_met node.baskets c.args.self.now.least) node.below node.set)
+
+pub extend_set-extend-requires : goal.extend_set-extend-requires
+extend_set-extend-requires g t c = λ κs lives.
+    let (node, is) = c.requires.node in
+    let search = c.args.self.now in
+    let stands = g.R.Row.stands in
+    let weights = search.weights.now in
+    let siblings = c.args.siblings.now in
+    let set = set_at c.args.mined.now.sets c.args.place in
+    let items = search.coded.now.items in
+    let smaller = c.in-Some.smaller.items in
+    let (others, are, gives) = rw c.in-Some.is at c.in_ok-weights.ensures in
+    let supports = gives node.baskets node.set is.weighs is.rows in
+    let inner = subst (λ l. IsNode stands c.in-Some.weights search.least l set items (over others node)) (sym c.deref.ensures.value)
+    (over_is stands weights search.least siblings set items node is others supports c.in-Some.weights smaller are) in
+    let long = ap length c.deref.ensures.value ∙ sym (as_many smaller) ∙ ap length are.ranks_are ∙ as_many siblings in (
+      omega (arith, c.decreases, long),
+      (lives.0, (lives.1, ((over others node, inner), (c.requires.found, (c.requires.some, (c.requires.going, (c.requires.few, c.in_ok-inner-in-Some.ensures.room))))))),
+    )
+
+pub extend_set-returns-in_err-extend-in-Some-clause-too_many : goal.extend_set-returns-in_err-extend-in-Some-clause-too_many
+extend_set-returns-in_err-extend-in-Some-clause-too_many g t c = λ limit e.
+    let p = err_from_is_err_and c.from_residual-in_err-extend-in-Some.result c.from_residual-in_err-extend-in-Some.ensures.1 in
+    let both = sym p.1 ∙ e in
+    let fault : p.0 ≡ TooMany limit = cc in
+    let (same, why) = c.extend.ensures.too_many limit (c.in_err-extend-in-Some.was ∙ ap Err (sym p.2 ∙ fault)) in (
+      same,
+      λ node is.
+          let search = c.args.self.now in
+          let stands = g.R.Row.stands in
+          let weights = search.weights.now in
+          let siblings = c.args.siblings.now in
+          let set = set_at c.args.mined.now.sets c.args.place in
+          let items = search.coded.now.items in
+          let smaller = c.in-Some.smaller.items in
+          let (others, are, gives) = rw c.in-Some.is at c.in_ok-weights.ensures in
+          let supports = gives node.baskets node.set is.weighs is.rows in
+          let inner = subst (λ l. IsNode stands c.in-Some.weights search.least l set items (over others node)) (sym c.deref.ensures.value)
+          (over_is stands weights search.least siblings set items node is others supports c.in-Some.weights smaller are) in
+          let long = over_long stands weights search.least siblings set items node is others supports in
+          elim (why (over others node) inner) [ inl done ↦ inl done | inr less ↦ inr (omega arith) ],
+    )
+
+pub extend_set-returns-in_err-extend-in-Some-clause-at_most : goal.extend_set-returns-in_err-extend-in-Some-clause-at_most
+extend_set-returns-in_err-extend-in-Some-clause-at_most g t c = λ node is.
+    let search = c.args.self.now in
+    let stands = g.R.Row.stands in
+    let weights = search.weights.now in
+    let siblings = c.args.siblings.now in
+    let set = set_at c.args.mined.now.sets c.args.place in
+    let items = search.coded.now.items in
+    let smaller = c.in-Some.smaller.items in
+    let (others, are, gives) = rw c.in-Some.is at c.in_ok-weights.ensures in
+    let supports = gives node.baskets node.set is.weighs is.rows in
+    let inner = subst (λ l. IsNode stands c.in-Some.weights search.least l set items (over others node)) (sym c.deref.ensures.value)
+    (over_is stands weights search.least siblings set items node is others supports c.in-Some.weights smaller are) in
+    let long = over_long stands weights search.least siblings set items node is others supports in
+    omega (arith, c.extend.ensures.at_most (over others node) inner)
+
+pub extend_set-returns-in_ok-extend-in-Some-clause-sets : goal.extend_set-returns-in_ok-extend-in-Some-clause-sets
+extend_set-returns-in_ok-extend-in-Some-clause-sets g t c = λ node is.
+    let search = c.args.self.now in
+    let stands = g.R.Row.stands in
+    let weights = search.weights.now in
+    let siblings = c.args.siblings.now in
+    let set = set_at c.args.mined.now.sets c.args.place in
+    let items = search.coded.now.items in
+    let smaller = c.in-Some.smaller.items in
+    let (others, are, gives) = rw c.in-Some.is at c.in_ok-weights.ensures in
+    let supports = gives node.baskets node.set is.weighs is.rows in
+    let inner = subst (λ l. IsNode stands c.in-Some.weights search.least l set items (over others node)) (sym c.deref.ensures.value)
+    (over_is stands weights search.least siblings set items node is others supports c.in-Some.weights smaller are) in
+    c.in_ok-extend-in-Some.ensures.sets (over others node) inner
+    ∙ ap (λ l. c.args.mined.now.sets ++ l) (over_sets stands weights search.least siblings set items node is others supports)
+
+pub extend_set-returns-in_ok-extend-in-Some-clause-joins : goal.extend_set-returns-in_ok-extend-in-Some-clause-joins
+extend_set-returns-in_ok-extend-in-Some-clause-joins g t c = λ node is.
+    let search = c.args.self.now in
+    let stands = g.R.Row.stands in
+    let weights = search.weights.now in
+    let siblings = c.args.siblings.now in
+    let set = set_at c.args.mined.now.sets c.args.place in
+    let items = search.coded.now.items in
+    let smaller = c.in-Some.smaller.items in
+    let (others, are, gives) = rw c.in-Some.is at c.in_ok-weights.ensures in
+    let supports = gives node.baskets node.set is.weighs is.rows in
+    let inner = subst (λ l. IsNode stands c.in-Some.weights search.least l set items (over others node)) (sym c.deref.ensures.value)
+    (over_is stands weights search.least siblings set items node is others supports c.in-Some.weights smaller are) in
+    c.in_ok-extend-in-Some.ensures.joins (over others node) inner
+    ∙ ap (λ n. c.args.mined.now.joins + n) (over_joins stands weights search.least siblings set items node is others supports)
+
+pub extend_set-returns-in_ok-extend-in-Some-clause-at_most : goal.extend_set-returns-in_ok-extend-in-Some-clause-at_most
+extend_set-returns-in_ok-extend-in-Some-clause-at_most g t c = λ node is.
+    let search = c.args.self.now in
+    let stands = g.R.Row.stands in
+    let weights = search.weights.now in
+    let siblings = c.args.siblings.now in
+    let set = set_at c.args.mined.now.sets c.args.place in
+    let items = search.coded.now.items in
+    let smaller = c.in-Some.smaller.items in
+    let (others, are, gives) = rw c.in-Some.is at c.in_ok-weights.ensures in
+    let supports = gives node.baskets node.set is.weighs is.rows in
+    let inner = subst (λ l. IsNode stands c.in-Some.weights search.least l set items (over others node)) (sym c.deref.ensures.value)
+    (over_is stands weights search.least siblings set items node is others supports c.in-Some.weights smaller are) in
+    let long = over_long stands weights search.least siblings set items node is others supports in
+    omega (arith, c.extend.ensures.at_most (over others node) inner)
