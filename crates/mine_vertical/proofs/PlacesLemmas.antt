@@ -1,12 +1,11 @@
 -- Words of bits for places, and the baskets that they are.
-use Rattle.std.proofs.Common.{◌≡◌, ◌≢◌, ℕ, zero, suc, ◌+◌, ◌*◌, ◌-◌, ◌/◌, ◌%◌, ◌^◌, ◌<◌, ◌≤◌, Bool, true, false, ◌&&◌, ◌||◌, ◌⊎◌, List, [], ◌∷◌, ◌++◌, take, length, get_or, map, cond, eqb, sum, refl, sym, ap, ◌∙◌, subst, inl, inr, arith, zero-add}
+use Rattle.std.proofs.Common.{◌≡◌, ◌≢◌, ℕ, zero, suc, ◌+◌, ◌*◌, ◌-◌, ◌^◌, ◌<◌, ◌≤◌, Bool, true, false, ◌&&◌, ◌||◌, ◌⊎◌, List, [], ◌∷◌, ◌++◌, take, length, get_or, map, cond, eqb, refl, sym, ap, ◌∙◌, subst, inl, inr, arith, zero-add}
 use Rattle.std.specs.Prelude.{bit_or, nat_eq, replicate}
 use Rattle.std.specs.Int.{bit_at}
 use Rattle.std.specs.List.{IsDistinct, filter, list_all, range_with_len, sum_by}
-use Rattle.std.specs.Simd.Lanes.{mask_l}
 use Rattle.std.proofs.Math.ListN.{set}
-use Rattle.std.proofs.lemmas.Bool.{and_from, and_parts, cases_Bool, cases_eq, eqb-true, eq-eqb, ne_eqb, true≢false}
-use Rattle.std.proofs.lemmas.List.{get_or-map, map-append, take_more}
+use Rattle.std.proofs.lemmas.Bool.{cases_Bool, cases_eq, eqb-true, eq-eqb, ne_eqb, true≢false}
+use Rattle.std.proofs.lemmas.List.{map-append}
 use Rattle.std.proofs.lemmas.List.FromFn.{get_or-map-range_with_len}
 use Rattle.std.proofs.lemmas.List.Sums.{sum_by-append, sum_by-cons}
 use Rattle.std.proofs.lemmas.Nat.Bits.{bit_at-pow_other, bit_at-pow_same, bit_at-zero}
@@ -26,7 +25,7 @@ use Rattle.mine_classes.specs.Words.{has_rank, ranks_in, word_place, word_places
 use Rattle.mine_vertical.specs.Bits.{word_at, words_from}
 use Rattle.mine_vertical.specs.Cover.{IsAdded, basket_at, cover_of, weights_of}
 use Rattle.mine_vertical.specs.Planes.{has_bit}
-use Rattle.mine_vertical.specs.Remade.{AreBitsOf, GiveSupports, HaveSameNonempty, bit_places}
+use Rattle.mine_vertical.specs.Remade.{AreBitsOf, HaveSameNonempty, bit_places}
 use Rattle.mine_vertical.proofs.CoverLemmas.{Member-into_range, Member-range, from_cover, into_cover}
 use Rattle.mine_vertical.proofs.MarkLemmas.{set_at}
 use Rattle.mine_vertical.proofs.PlaneLemmas.{either_bit}

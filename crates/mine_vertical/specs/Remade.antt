@@ -5,7 +5,6 @@ use Rattle.basket_sets.specs.declared.weighted.Weighted.{Weighted}
 use Rattle.basket_sets.specs.Database.{weighted}
 use Rattle.basket_sets.specs.Itemset.{has}
 use Rattle.basket_sets.specs.Support.{support_of}
-use Rattle.basket_core.specs.Codes.{decoded_place}
 use Rattle.mine_classes.specs.Ordered.{weight_where}
 use Rattle.mine_classes.specs.Words.{has_rank, ranks_in}
 use Rattle.mine_vertical.specs.declared.search.Sibling.{Sibling}

@@ -43,11 +43,7 @@ fn bits_of_places<R: Row>(
 }
 
 /// The words of the places that have bits, with the weights of the places.
-fn words_of_places(
-    alloc: Global,
-    bits: &[u64],
-    weights: &Weights,
-) -> Result<Vec<Word>, AllocError>
+fn words_of_places(alloc: Global, bits: &[u64], weights: &Weights) -> Result<Vec<Word>, AllocError>
     requires { length bits.now ≡ length weights.now }
     ensures some { IfOk result (λ words. All (λ (word : Bits). 1 ≤ word.weight) words.items) }
     ensures light { IfOk result (λ words. sum_by (λ (word : Bits). word.weight) words.items ≤ MOST_WEIGHT) }

@@ -11,6 +11,7 @@ use std::alloc::{AllocError, Global};
 
 /// For how many rows, of how many places, a database is made anew.
 const LEAST_KEPT: usize = 5;
+
 const LEAST_PLACES: usize = 16;
 
 /// A row that lists the places of its cover (Zaki 2000).

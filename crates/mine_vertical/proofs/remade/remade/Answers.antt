@@ -1,14 +1,10 @@
-use Rattle.std.proofs.Common.{◌≡◌, ◌≢◌, ℕ, Bool, ◌++◌, List, [], cond, length, map, subst, sym, ap, ◌∙◌}
-use Rattle.std.specs.Prelude.{All}
+use Rattle.std.proofs.Common.{◌≡◌, ℕ, Bool, ◌++◌, List, cond, length, map, subst, sym, ap, ◌∙◌}
 use Rattle.std.specs.List.{list_all}
 use Rattle.basket_core.specs.Codes.{decoded}
-use Rattle.basket_sets.specs.declared.weighted.Weighted.{Weighted}
 use Rattle.basket_sets.specs.Itemset.{contains, has}
 use Rattle.basket_sets.specs.Support.{support_of}
 use Rattle.mine_classes.specs.Ordered.{weight_where}
-use Rattle.mine_vertical.specs.Cover.{weights_of}
 use Rattle.mine_vertical.specs.Remade.{AreBitsOf, AreOver, bit_places}
-use Rattle.mine_vertical.specs.Search.{IsSibling}
 use Rattle.mine_vertical.proofs.PlacesLemmas.{nothing_in, supports_are}
 use Rattle.mine_vertical.proofs.remade.remade.Goals as goal
 

@@ -1,9 +1,8 @@
-use Rattle.std.proofs.Common.{◌≡◌, ℕ, ◌+◌, ◌*◌, ◌/◌, ◌%◌, ◌<◌, List, Bool, true, false, cond, get_or, length, set, ap, sym, arith, ◌∙◌}
+use Rattle.std.proofs.Common.{◌≡◌, ◌+◌, ◌*◌, ◌/◌, ◌%◌, ◌<◌, cond, get_or, length, set, ap, sym, arith, ◌∙◌}
 use Rattle.std.specs.Prelude.{bit_or}
 use Rattle.basket_sets.specs.Itemset.{has}
 use Rattle.mine_vertical.specs.Bits.{word_count}
 use Rattle.mine_vertical.specs.Planes.{has_bit}
-use Rattle.mine_vertical.specs.Rows.{IsBitRow}
 use Rattle.mine_vertical.proofs.PlaneLemmas.{word_is_there}
 use Rattle.mine_vertical.proofs.PlacesLemmas.{tested_more, tested_same, words_bit}
 use Rattle.mine_vertical.proofs.WordLemmas.{length-words}
