@@ -57,6 +57,10 @@ impl<R: Row> Room<R> {
     pub fn take_back(&mut self, mut siblings: Vec<Sibling<R>>)
         ensures { self.new.marks ≡ self.old.marks }
     {
+        // A list that never had a sibling has no room.
+        if siblings.capacity() == 0 {
+            return;
+        }
         while let Some(sibling) = siblings.pop() {
             let _ = self.rows.push(sibling.row);
         }

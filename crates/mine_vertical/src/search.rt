@@ -53,10 +53,10 @@ impl Search<'_> {
         ensures joins { OnOk result (joins.new ≡ joins.old + length others.now) }
         ensures clear { OnOk result (IsMarked self.now.weights.now [] room.new.marks) }
     {
-        let mut below = room.list(alloc);
         if others.is_empty() {
-            return Ok(below);
+            return Ok(Vec::new(alloc));
         }
+        let mut below = room.list(alloc);
         room.marks.mark(sibling.row.to_mark(), self.weights);
         for other in others {
             let mut row = room.row(alloc);
