@@ -2,7 +2,6 @@ use Rattle.std.proofs.Common.{◌≡◌, ◌≤◌, ◌+◌, ◌++◌, ◌∷◌
 use Rattle.std.specs.List.{sum_by}
 use Rattle.std.proofs.lemmas.List.{append-nil, length-take-le, take_all}
 use Rattle.std.proofs.lemmas.List.Elements.{All-take}
-use Rattle.std.proofs.lemmas.Bool.{eqb-true}
 use Rattle.std.proofs.lemmas.Result.{err_from_is_err_and}
 use Rattle.basket_core.specs.declared.fault.MineFault.TheVariants.{TooMany}
 use Rattle.basket_sets.specs.Itemset.{IsRising, with_item}
@@ -20,7 +19,7 @@ use Rattle.mine_vertical.proofs.WalkLemmas.{branch_joins, joins_are_branches, se
 use Rattle.mine_vertical.proofs.NodeLemmas.{as_many, child, child_is, child_known, child_set, fewer, found_by, joins_more, long, longer_set, no_joins, no_sets, part_more, part_within, place_few, rank_at, sets_long, sets_more, told_is}
 use Rattle.mine_vertical.proofs.RemadeLemmas.{kept_rises, over, over_is, over_joins, over_long, over_sets}
 use Rattle.mine_vertical.proofs.search.Search.+search.Goals as goal
-use Rattle.mine_vertical.proofs.search.Search.+search.Goals.{extend-then-not-is_empty+in_ok-extend_set, extend-else-not-is_empty}
+use Rattle.mine_vertical.proofs.search.Search.+search.Goals.{extend-then-kept-gt0+in_ok-extend_set, extend-else-kept-gt0}
 
 pub extend-returns-clause-at_most : goal.extend-returns-clause-at_most
 extend-returns-clause-at_most g t c = λ node is.
@@ -68,8 +67,8 @@ extend-returns-in_err-longer-clause-at_most g t c = λ node is.
     let more = part_more stands weights search.least siblings set items node is i sibling.rank here at in
     omega (arith, c.add_longer.ensures.at_most)
 
-pub extend-returns-in_err-below-clause-at_most : goal.extend-returns-in_err-below-clause-at_most
-extend-returns-in_err-below-clause-at_most g t c = λ node is.
+pub extend-returns-in_err-kept-clause-at_most : goal.extend-returns-in_err-kept-clause-at_most
+extend-returns-in_err-kept-clause-at_most g t c = λ node is.
     let search = c.args.self.now in
     let stands = g.R.Row.stands in
     let weights = search.weights.now in
@@ -157,16 +156,16 @@ extend-extend_set-requires g t c = λ κs lives.
     let at = rank_at stands weights search.least siblings set items node is i sibling here c.index-siblings-at.is in
     let all = All-take (IsSibling stands node.baskets node.set) i siblings is.rows in
     let one = sibling_at stands node.baskets node.set siblings i sibling here c.index-siblings-at.is is.rows in
-    let kept_are = c.in_ok-below.ensures.ranks node.baskets node.set is.weighs one all in
+    let kept_are = c.in_ok-kept.ensures.ranks node.baskets node.set is.weighs one all in
     let with_one = longer_set stands weights search.least siblings set items node is i sibling.rank c.item-item.result c.args.place c.args.mined.now.sets c.loop-at.mined.sets c.requires.found refl (c.loop-at.invariant.sets node is) c.item-item.ensures in
     let longer_is = set_added c.loop-at.mined.sets c.add_longer.new.self.sets (record { set = with_item c.item-item.result (set_at c.loop-at.mined.sets c.args.place); count = c.count.result }) c.in_ok-longer.longer
     c.in_ok-longer.ensures.place c.in_ok-longer.ensures.sets ∙ with_one in
-    let rows = c.in_ok-below.ensures.rows node.baskets node.set is.weighs one all in
-    let made = child_is stands weights search.least siblings set items node is i sibling.rank (take i siblings) c.in_ok-below.below.items here at refl kept_are rows in
-    let inner = subst (λ s. IsNode stands weights search.least c.deref.result.now s items (child node sibling.rank)) (sym longer_is)
-    (subst (λ s. IsNode stands weights search.least s (with_item (get_or items sibling.rank 0) set) items (child node sibling.rank)) (sym c.deref.ensures.value) made) in
-    let less = fewer stands weights search.least siblings set items node is i sibling.rank (take i siblings) c.in_ok-below.below.items here refl kept_are in
-    let short = ap length c.deref.ensures.value in
+    let rows = c.in_ok-kept.ensures.rows node.baskets node.set is.weighs one all in
+    let made = child_is stands weights search.least siblings set items node is i sibling.rank (take i siblings) (take c.in_ok-kept.kept c.joined.new.list.items) here at refl kept_are rows in
+    let inner = subst (λ s. IsNode stands weights search.least (take c.in_ok-kept.kept c.deref.result.now) s items (child node sibling.rank)) (sym longer_is)
+    (subst (λ s. IsNode stands weights search.least s (with_item (get_or items sibling.rank 0) set) items (child node sibling.rank)) (sym (ap (take c.in_ok-kept.kept) c.deref.ensures.value)) made) in
+    let less = fewer stands weights search.least siblings set items node is i sibling.rank (take i siblings) (take c.in_ok-kept.kept c.joined.new.list.items) here refl kept_are in
+    let short = ap (λ l. length (take c.in_ok-kept.kept l)) c.deref.ensures.value in
     let few = place_few stands weights search.least siblings set items node is i here in
     let most : i ≤ length siblings = omega arith in
     let before = length-take-le i siblings most in
@@ -180,7 +179,7 @@ extend-extend_set-requires g t c = λ κs lives.
             (child node sibling.rank, inner),
             (
               omega (arith, c.in_ok-longer.ensures.place, one_more),
-              (c.requires.some, (c.in_ok-longer.ensures.going_on, (omega (arith, c.in_ok-below.ensures.joins, c.add_longer.ensures.joins, c.loop-at.invariant.few), c.in_ok-below.ensures.clear))),
+              (c.requires.some, (c.in_ok-longer.ensures.going_on, (omega (arith, c.in_ok-kept.ensures.joins, c.add_longer.ensures.joins, c.loop-at.invariant.few), c.in_ok-kept.ensures.clear))),
             ),
           ),
         ),
@@ -201,14 +200,14 @@ extend-returns-in_err-extend_set-clause-at_most g t c = λ node is.
     let at = rank_at stands weights search.least siblings set items node is i sibling here c.index-siblings-at.is in
     let all = All-take (IsSibling stands node.baskets node.set) i siblings is.rows in
     let one = sibling_at stands node.baskets node.set siblings i sibling here c.index-siblings-at.is is.rows in
-    let kept_are = c.in_ok-below.ensures.ranks node.baskets node.set is.weighs one all in
+    let kept_are = c.in_ok-kept.ensures.ranks node.baskets node.set is.weighs one all in
     let with_one = longer_set stands weights search.least siblings set items node is i sibling.rank c.item-item.result c.args.place c.args.mined.now.sets c.loop-at.mined.sets c.requires.found refl (c.loop-at.invariant.sets node is) c.item-item.ensures in
     let longer_is = set_added c.loop-at.mined.sets c.add_longer.new.self.sets (record { set = with_item c.item-item.result (set_at c.loop-at.mined.sets c.args.place); count = c.count.result }) c.in_ok-longer.longer
     c.in_ok-longer.ensures.place c.in_ok-longer.ensures.sets ∙ with_one in
-    let rows = c.in_ok-below.ensures.rows node.baskets node.set is.weighs one all in
-    let made = child_is stands weights search.least siblings set items node is i sibling.rank (take i siblings) c.in_ok-below.below.items here at refl kept_are rows in
-    let inner = subst (λ s. IsNode stands weights search.least c.deref.result.now s items (child node sibling.rank)) (sym longer_is)
-    (subst (λ s. IsNode stands weights search.least s (with_item (get_or items sibling.rank 0) set) items (child node sibling.rank)) (sym c.deref.ensures.value) made) in
+    let rows = c.in_ok-kept.ensures.rows node.baskets node.set is.weighs one all in
+    let made = child_is stands weights search.least siblings set items node is i sibling.rank (take i siblings) (take c.in_ok-kept.kept c.joined.new.list.items) here at refl kept_are rows in
+    let inner = subst (λ s. IsNode stands weights search.least (take c.in_ok-kept.kept c.deref.result.now) s items (child node sibling.rank)) (sym longer_is)
+    (subst (λ s. IsNode stands weights search.least s (with_item (get_or items sibling.rank 0) set) items (child node sibling.rank)) (sym (ap (take c.in_ok-kept.kept) c.deref.ensures.value)) made) in
     let told = told_is stands weights search.least siblings set items node is (g.T.Tally.told_of c.loop-at.tally) (g.T.Tally.told_of c.args.tally.now) i
     c.loop-at.mined.sets c.args.mined.now.sets c.loop-at.invariant.told (c.loop-at.invariant.sets node is) in
     let more = part_more stands weights search.least siblings set items node is i sibling.rank here at in
@@ -234,14 +233,14 @@ extend-returns-in_err-extend_set-clause-too_many g t c = λ limit e.
           let at = rank_at stands weights search.least siblings set items node is i sibling here c.index-siblings-at.is in
           let all = All-take (IsSibling stands node.baskets node.set) i siblings is.rows in
           let one = sibling_at stands node.baskets node.set siblings i sibling here c.index-siblings-at.is is.rows in
-          let kept_are = c.in_ok-below.ensures.ranks node.baskets node.set is.weighs one all in
+          let kept_are = c.in_ok-kept.ensures.ranks node.baskets node.set is.weighs one all in
           let with_one = longer_set stands weights search.least siblings set items node is i sibling.rank c.item-item.result c.args.place c.args.mined.now.sets c.loop-at.mined.sets c.requires.found refl (c.loop-at.invariant.sets node is) c.item-item.ensures in
           let longer_is = set_added c.loop-at.mined.sets c.add_longer.new.self.sets (record { set = with_item c.item-item.result (set_at c.loop-at.mined.sets c.args.place); count = c.count.result }) c.in_ok-longer.longer
           c.in_ok-longer.ensures.place c.in_ok-longer.ensures.sets ∙ with_one in
-          let rows = c.in_ok-below.ensures.rows node.baskets node.set is.weighs one all in
-          let made = child_is stands weights search.least siblings set items node is i sibling.rank (take i siblings) c.in_ok-below.below.items here at refl kept_are rows in
-          let inner = subst (λ s. IsNode stands weights search.least c.deref.result.now s items (child node sibling.rank)) (sym longer_is)
-          (subst (λ s. IsNode stands weights search.least s (with_item (get_or items sibling.rank 0) set) items (child node sibling.rank)) (sym c.deref.ensures.value) made) in
+          let rows = c.in_ok-kept.ensures.rows node.baskets node.set is.weighs one all in
+          let made = child_is stands weights search.least siblings set items node is i sibling.rank (take i siblings) (take c.in_ok-kept.kept c.joined.new.list.items) here at refl kept_are rows in
+          let inner = subst (λ s. IsNode stands weights search.least (take c.in_ok-kept.kept c.deref.result.now) s items (child node sibling.rank)) (sym longer_is)
+          (subst (λ s. IsNode stands weights search.least s (with_item (get_or items sibling.rank 0) set) items (child node sibling.rank)) (sym (ap (take c.in_ok-kept.kept) c.deref.ensures.value)) made) in
           let more = part_more stands weights search.least siblings set items node is i sibling.rank here at in
           let long = sets_long stands weights search.least siblings set items node is i c.loop-at.mined.sets c.args.mined.now.sets (c.loop-at.invariant.sets node is) in
           let one_more = ap length c.in_ok-longer.ensures.sets ∙ length-append c.loop-at.mined.sets (record { set = with_item c.item-item.result (set_at c.loop-at.mined.sets c.args.place); count = c.count.result } ∷ []) in
@@ -264,25 +263,25 @@ extend-loop-at-preserved g t c =
     let most : i ≤ length siblings = omega arith in
     let before = length-take-le i siblings most in
     record {
-      clear = elim c.if-not-is_empty.branch [
-        | extend-then-not-is_empty+in_ok-extend_set w ↦ subst (λ (marks : Marks). IsMarked weights [] marks) (sym (c.take_back.ensures ∙ ap (λ room. room.marks) w.room-is)) w.in_ok-extend_set.ensures.clear
-        | extend-else-not-is_empty w ↦ subst (λ (marks : Marks). IsMarked weights [] marks) (sym (c.take_back.ensures ∙ ap (λ room. room.marks) w.room-is)) c.in_ok-below.ensures.clear
+      clear = elim c.if-kept-gt0.branch [
+        | extend-then-kept-gt0+in_ok-extend_set w ↦ subst (λ (marks : Marks). IsMarked weights [] marks) (sym (ap (λ room. room.marks) w.room-is)) w.in_ok-extend_set.ensures.clear
+        | extend-else-kept-gt0 w ↦ subst (λ (marks : Marks). IsMarked weights [] marks) (sym (ap (λ room. room.marks) w.room-is)) c.in_ok-kept.ensures.clear
       ];
-      going = elim c.if-not-is_empty.branch [
-        | extend-then-not-is_empty+in_ok-extend_set w ↦ ap (λ tally. g.T.Tally.is_over tally) w.tally-is ∙ w.in_ok-extend_set.ensures.going_on
-        | extend-else-not-is_empty w ↦ ap (λ tally. g.T.Tally.is_over tally) w.tally-is ∙ c.in_ok-longer.ensures.going_on
+      going = elim c.if-kept-gt0.branch [
+        | extend-then-kept-gt0+in_ok-extend_set w ↦ ap (λ tally. g.T.Tally.is_over tally) w.tally-is ∙ w.in_ok-extend_set.ensures.going_on
+        | extend-else-kept-gt0 w ↦ ap (λ tally. g.T.Tally.is_over tally) w.tally-is ∙ c.in_ok-longer.ensures.going_on
       ];
-      limit = elim c.if-not-is_empty.branch [
-        | extend-then-not-is_empty+in_ok-extend_set w ↦ ap (λ tally. g.T.Tally.limit_of tally) w.tally-is ∙ w.extend_set.ensures.limit ∙ c.add_longer.ensures.limit ∙ c.loop-at.invariant.limit
-        | extend-else-not-is_empty w ↦ ap (λ tally. g.T.Tally.limit_of tally) w.tally-is ∙ c.add_longer.ensures.limit ∙ c.loop-at.invariant.limit
+      limit = elim c.if-kept-gt0.branch [
+        | extend-then-kept-gt0+in_ok-extend_set w ↦ ap (λ tally. g.T.Tally.limit_of tally) w.tally-is ∙ w.extend_set.ensures.limit ∙ c.add_longer.ensures.limit ∙ c.loop-at.invariant.limit
+        | extend-else-kept-gt0 w ↦ ap (λ tally. g.T.Tally.limit_of tally) w.tally-is ∙ c.add_longer.ensures.limit ∙ c.loop-at.invariant.limit
       ];
-      told = elim c.if-not-is_empty.branch [
-        | extend-then-not-is_empty+in_ok-extend_set w ↦ omega (arith, ap (λ tally. g.T.Tally.told_of tally) w.tally-is, ap (λ mined. length mined.sets) w.mined-is, w.in_ok-extend_set.ensures.told, c.in_ok-longer.ensures.told, c.loop-at.invariant.told, one_more)
-        | extend-else-not-is_empty w ↦ omega (arith, ap (λ tally. g.T.Tally.told_of tally) w.tally-is, ap (λ mined. length mined.sets) w.mined-is, c.in_ok-longer.ensures.told, c.loop-at.invariant.told, one_more)
+      told = elim c.if-kept-gt0.branch [
+        | extend-then-kept-gt0+in_ok-extend_set w ↦ omega (arith, ap (λ tally. g.T.Tally.told_of tally) w.tally-is, ap (λ mined. length mined.sets) w.mined-is, w.in_ok-extend_set.ensures.told, c.in_ok-longer.ensures.told, c.loop-at.invariant.told, one_more)
+        | extend-else-kept-gt0 w ↦ omega (arith, ap (λ tally. g.T.Tally.told_of tally) w.tally-is, ap (λ mined. length mined.sets) w.mined-is, c.in_ok-longer.ensures.told, c.loop-at.invariant.told, one_more)
       ];
-      few = elim c.if-not-is_empty.branch [
-        | extend-then-not-is_empty+in_ok-extend_set w ↦ subst (λ mined. FewJoins mined.joins (length mined.sets)) (sym w.mined-is) w.in_ok-extend_set.ensures.few
-        | extend-else-not-is_empty w ↦ (let (known, first) = c.requires.node in let few = place_few stands weights search.least siblings set items known first i here in subst (λ mined. FewJoins mined.joins (length mined.sets)) (sym w.mined-is) (omega (arith, c.in_ok-below.ensures.joins, c.add_longer.ensures.joins, c.loop-at.invariant.few, one_more, few, before)))
+      few = elim c.if-kept-gt0.branch [
+        | extend-then-kept-gt0+in_ok-extend_set w ↦ subst (λ mined. FewJoins mined.joins (length mined.sets)) (sym w.mined-is) w.in_ok-extend_set.ensures.few
+        | extend-else-kept-gt0 w ↦ (let (known, first) = c.requires.node in let few = place_few stands weights search.least siblings set items known first i here in subst (λ mined. FewJoins mined.joins (length mined.sets)) (sym w.mined-is) (omega (arith, c.in_ok-kept.ensures.joins, c.add_longer.ensures.joins, c.loop-at.invariant.few, one_more, few, before)))
       ];
       sets = λ node is.
           let with_one = longer_set stands weights search.least siblings set items node is i sibling.rank c.item-item.result c.args.place c.args.mined.now.sets c.loop-at.mined.sets c.requires.found refl (c.loop-at.invariant.sets node is) c.item-item.ensures in
@@ -290,21 +289,21 @@ extend-loop-at-preserved g t c =
           let at = rank_at stands weights search.least siblings set items node is i sibling here c.index-siblings-at.is in
           let all = All-take (IsSibling stands node.baskets node.set) i siblings is.rows in
           let one = sibling_at stands node.baskets node.set siblings i sibling here c.index-siblings-at.is is.rows in
-          let kept_are = c.in_ok-below.ensures.ranks node.baskets node.set is.weighs one all in
-          let rows = c.in_ok-below.ensures.rows node.baskets node.set is.weighs one all in
-          let made = child_is stands weights search.least siblings set items node is i sibling.rank (take i siblings) c.in_ok-below.below.items here at refl kept_are rows in
+          let kept_are = c.in_ok-kept.ensures.ranks node.baskets node.set is.weighs one all in
+          let rows = c.in_ok-kept.ensures.rows node.baskets node.set is.weighs one all in
+          let made = child_is stands weights search.least siblings set items node is i sibling.rank (take i siblings) (take c.in_ok-kept.kept c.joined.new.list.items) here at refl kept_are rows in
           let test = is_met node.baskets search.least in
           let counts = counted_row stands node.baskets (cover_of node.baskets node.set) (sibling.rank ∷ node.set) sibling.row c.count.result c.count.ensures one in
           let is_set = with_one ∙ child_set stands weights search.least siblings set items node is sibling.rank in
           let found : one_set ≡ found_at items node (sibling.rank ∷ node.set) = λ k. record { set = is_set k; count = counts k } in
           let with_set = c.add_longer.new.self.sets in
-          let deeper : c.if-not-is_empty.mined.sets ≡ with_set ++ map (found_at items node) (sets_below test sibling.rank (sibling.rank ∷ node.set)) = elim c.if-not-is_empty.branch [
-            | extend-then-not-is_empty+in_ok-extend_set w ↦ ap (λ mined. mined.sets) w.mined-is ∙ w.in_ok-extend_set.ensures.sets (child node sibling.rank) (subst (λ s. IsNode stands weights search.least w.deref.result.now s items (child node sibling.rank)) (sym longer_is)
-                (subst (λ s. IsNode stands weights search.least s (with_item (get_or items sibling.rank 0) set) items (child node sibling.rank)) (sym w.deref.ensures.value) made))
-            | extend-else-not-is_empty w ↦ ap (λ mined. mined.sets) w.mined-is ∙ sym (ap (λ l. with_set ++ map (found_at items node) l)
-                (no_sets stands weights search.least c.in_ok-below.below.items (with_item (get_or items sibling.rank 0) set) items (child node sibling.rank) made (let empty = eqb-true c.in_ok-below.below.len 0 (sym c.is_empty.ensures ∙ w.if-not-is_empty.false) in omega (arith, empty, c.in_ok-below.below.ok.0))) ∙ append-nil with_set)
+          let deeper : c.if-kept-gt0.mined.sets ≡ with_set ++ map (found_at items node) (sets_below test sibling.rank (sibling.rank ∷ node.set)) = elim c.if-kept-gt0.branch [
+            | extend-then-kept-gt0+in_ok-extend_set w ↦ ap (λ mined. mined.sets) w.mined-is ∙ w.in_ok-extend_set.ensures.sets (child node sibling.rank) (subst (λ s. IsNode stands weights search.least (take c.in_ok-kept.kept w.deref.result.now) s items (child node sibling.rank)) (sym longer_is)
+                (subst (λ s. IsNode stands weights search.least s (with_item (get_or items sibling.rank 0) set) items (child node sibling.rank)) (sym (ap (take c.in_ok-kept.kept) w.deref.ensures.value)) made))
+            | extend-else-kept-gt0 w ↦ ap (λ mined. mined.sets) w.mined-is ∙ sym (ap (λ l. with_set ++ map (found_at items node) l)
+                (no_sets stands weights search.least (take c.in_ok-kept.kept c.joined.new.list.items) (with_item (get_or items sibling.rank 0) set) items (child node sibling.rank) made (let none = length-take-le c.in_ok-kept.kept c.joined.new.list.items c.in_ok-kept.ensures.within in let low = w.if-kept-gt0.false in omega arith)) ∙ append-nil with_set)
           ] in
-          sets_more stands weights search.least siblings set items node is i sibling.rank c.args.mined.now.sets c.loop-at.mined.sets with_set c.if-not-is_empty.mined.sets
+          sets_more stands weights search.least siblings set items node is i sibling.rank c.args.mined.now.sets c.loop-at.mined.sets with_set c.if-kept-gt0.mined.sets
           one_set here at (c.loop-at.invariant.sets node is) c.in_ok-longer.ensures.sets found deeper;
       joins = λ node is.
           let with_one = longer_set stands weights search.least siblings set items node is i sibling.rank c.item-item.result c.args.place c.args.mined.now.sets c.loop-at.mined.sets c.requires.found refl (c.loop-at.invariant.sets node is) c.item-item.ensures in
@@ -312,17 +311,17 @@ extend-loop-at-preserved g t c =
           let at = rank_at stands weights search.least siblings set items node is i sibling here c.index-siblings-at.is in
           let all = All-take (IsSibling stands node.baskets node.set) i siblings is.rows in
           let one = sibling_at stands node.baskets node.set siblings i sibling here c.index-siblings-at.is is.rows in
-          let kept_are = c.in_ok-below.ensures.ranks node.baskets node.set is.weighs one all in
-          let rows = c.in_ok-below.ensures.rows node.baskets node.set is.weighs one all in
-          let made = child_is stands weights search.least siblings set items node is i sibling.rank (take i siblings) c.in_ok-below.below.items here at refl kept_are rows in
+          let kept_are = c.in_ok-kept.ensures.ranks node.baskets node.set is.weighs one all in
+          let rows = c.in_ok-kept.ensures.rows node.baskets node.set is.weighs one all in
+          let made = child_is stands weights search.least siblings set items node is i sibling.rank (take i siblings) (take c.in_ok-kept.kept c.joined.new.list.items) here at refl kept_are rows in
           let test = is_met node.baskets search.least in
           let more = joins_more stands weights search.least siblings set items node is i sibling.rank here at in
-          let deeper : c.if-not-is_empty.mined.joins ≡ c.joined.new.joins + joins_below test sibling.rank (sibling.rank ∷ node.set) = elim c.if-not-is_empty.branch [
-            | extend-then-not-is_empty+in_ok-extend_set w ↦ ap (λ mined. mined.joins) w.mined-is ∙ w.in_ok-extend_set.ensures.joins (child node sibling.rank) (subst (λ s. IsNode stands weights search.least w.deref.result.now s items (child node sibling.rank)) (sym longer_is)
-                (subst (λ s. IsNode stands weights search.least s (with_item (get_or items sibling.rank 0) set) items (child node sibling.rank)) (sym w.deref.ensures.value) made))
-            | extend-else-not-is_empty w ↦ omega (arith, ap (λ mined. mined.joins) w.mined-is, no_joins stands weights search.least c.in_ok-below.below.items (with_item (get_or items sibling.rank 0) set) items (child node sibling.rank) made (let empty = eqb-true c.in_ok-below.below.len 0 (sym c.is_empty.ensures ∙ w.if-not-is_empty.false) in omega (arith, empty, c.in_ok-below.below.ok.0)))
+          let deeper : c.if-kept-gt0.mined.joins ≡ c.joined.new.joins + joins_below test sibling.rank (sibling.rank ∷ node.set) = elim c.if-kept-gt0.branch [
+            | extend-then-kept-gt0+in_ok-extend_set w ↦ ap (λ mined. mined.joins) w.mined-is ∙ w.in_ok-extend_set.ensures.joins (child node sibling.rank) (subst (λ s. IsNode stands weights search.least (take c.in_ok-kept.kept w.deref.result.now) s items (child node sibling.rank)) (sym longer_is)
+                (subst (λ s. IsNode stands weights search.least s (with_item (get_or items sibling.rank 0) set) items (child node sibling.rank)) (sym (ap (take c.in_ok-kept.kept) w.deref.ensures.value)) made))
+            | extend-else-kept-gt0 w ↦ omega (arith, ap (λ mined. mined.joins) w.mined-is, no_joins stands weights search.least (take c.in_ok-kept.kept c.joined.new.list.items) (with_item (get_or items sibling.rank 0) set) items (child node sibling.rank) made (let none = length-take-le c.in_ok-kept.kept c.joined.new.list.items c.in_ok-kept.ensures.within in let low = w.if-kept-gt0.false in omega arith))
           ] in
-          omega (arith, deeper, c.in_ok-below.ensures.joins, c.add_longer.ensures.joins, c.loop-at.invariant.joins node is, more, before);
+          omega (arith, deeper, c.in_ok-kept.ensures.joins, c.add_longer.ensures.joins, c.loop-at.invariant.joins node is, more, before);
     }
 
 pub extend-returns-clause-sets : goal.extend-returns-clause-sets
