@@ -1,5 +1,5 @@
 //! Weights of places bit by bit.
-ghost use Rattle.std.specs.Prelude.{◌≡◌, ◌≤◌, ◌<◌, [], ◌∷◌, ℕ, All, IfOk, length};
+ghost use Rattle.std.specs.Prelude.{◌≡◌, ◌≤◌, ◌<◌, ℕ, All, IfOk, length};
 ghost use Rattle.std.specs.List.{list_any, sum_by};
 ghost use Rattle.basket_sets.specs.Database.{MOST_WEIGHT};
 ghost use Rattle.mine_vertical.specs.Bits.{MOST_WORDS};
@@ -69,19 +69,6 @@ pub fn planes_of(alloc: Global, weights: &[u64], are_ones: bool) -> Result<Vec<P
     Ok(planes)
 }
 
-/// What the places of a row of one word weigh together, by the planes of the weights.
-fn weight_of_word(word: u64, planes: &[Plane]) -> u64
-    requires narrow { All (λ plane. plane.bit < 40) planes.now }
-    requires light { sum_by (plane_weight (word ∷ [])) planes.now ≤ MOST_WEIGHT }
-    ensures { result ≡ sum_by (plane_weight (word ∷ [])) planes.now }
-{
-    let mut weight = 0;
-    for plane in planes {
-        weight += u64::from((word & plane.words.first).count_ones()) << plane.bit;
-    }
-    weight
-}
-
 /// What the places of a row of bits weigh together, by the planes of the weights.
 pub fn weight_by_planes(words: &RowWords, planes: &[Plane]) -> u64
     requires few { length (words_in words.now) ≤ MOST_WORDS }
@@ -90,9 +77,6 @@ pub fn weight_by_planes(words: &RowWords, planes: &[Plane]) -> u64
     requires light { sum_by (plane_weight (words_in words.now)) planes.now ≤ MOST_WEIGHT }
     ensures { result ≡ sum_by (plane_weight (words_in words.now)) planes.now }
 {
-    if words.others.is_empty() {
-        return weight_of_word(words.first, planes);
-    }
     let mut weight = 0;
     for plane in planes {
         weight += words.shared(&plane.words) << plane.bit;

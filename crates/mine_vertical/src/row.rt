@@ -52,8 +52,8 @@ pub trait Row: Drop {
     fn count(&self) -> u64
         ensures { (weights parent cover : List ℕ) → stands weights parent cover self.now → result ≡ cover_weight weights cover };
 
-    /// Whether a database of the places of its cover is smaller by enough to be made, where so many of
-    /// the rows that were joined with it are kept.
+    /// Whether it pays to make a database of its cover, where so many of the rows that were joined with
+    /// it are kept.
     fn is_large(&self, kept: usize, joined: usize, weights: &Weights) -> bool;
 
     /// Adds a bit to the words of the places of its cover, or says that it doesn't list them.

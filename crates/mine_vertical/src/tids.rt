@@ -78,6 +78,7 @@ impl Row for TidList {
     }
 
     fn is_large(&self, kept: usize, _joined: usize, weights: &Weights) -> bool {
+        // The words that a database is made from are as many as the places of all.
         let places = self.places.len();
         kept >= LEAST_KEPT && places >= LEAST_PLACES && places >= weights.places() as usize / 8
     }
