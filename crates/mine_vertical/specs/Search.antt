@@ -9,7 +9,7 @@ use Rattle.basket_sets.specs.Support.{support_of}
 use Rattle.basket_core.specs.Codes.{MOST_RANKS, decoded}
 use Rattle.mine_vertical.specs.declared.search.Sibling.{Sibling}
 use Rattle.mine_vertical.specs.Cover.{cover_of, weights_of}
-use Rattle.mine_vertical.specs.Walk.{kept_below}
+use Rattle.mine_vertical.specs.Walk.{joins_below, kept_below, sets_below}
 
 -- whether a set has a least support in some baskets
 abbrev pub is_met : List Weighted → ℕ → List ℕ → Bool
@@ -40,6 +40,17 @@ pub record IsNode {R : Type 0} (stands : List ℕ → List ℕ → List ℕ → 
   pub known : AllBelow (length items) (ranks_at node node.set)
   pub low : (rank : ℕ) → IsTrue (has (ranks_at node node.set) rank) → node.below ≤ rank
   pub within : node.below < length items
+
+-- what holds of each node that has the siblings
+abbrev pub EachNode : {R : Type 0} → (List ℕ → List ℕ → List ℕ → R → Type 0) → List ℕ → ℕ → List (Sibling R) → List ℕ → List ℕ → (Node → Type 0) → Type 0
+EachNode stands weights least siblings set items P = (node : Node) → IsNode stands weights least siblings set items node → P node
+
+-- the frequent sets that extend a node's set, and the joins that find them
+abbrev pub sets_at : ℕ → Node → List (List ℕ)
+sets_at least node = sets_below (is_met node.baskets least) node.below node.set
+
+abbrev pub joins_at : ℕ → Node → ℕ
+joins_at least node = joins_below (is_met node.baskets least) node.below node.set
 
 -- how many joins may have been made where so many sets were found
 abbrev pub FewJoins : ℕ → ℕ → Type 0

@@ -11,7 +11,7 @@ use crate::row_words::{RowWords, words_for};
 use crate::weights::Weights;
 use std::alloc::{AllocError, Global};
 
-/// For how many rows a database of more than one word is made anew.
+/// For how many rows a database of more than one word is made anew, at the least.
 const LEAST_KEPT: usize = 6;
 
 /// A row with a bit for each place, which is one where the place is in its cover.

@@ -5,8 +5,7 @@ ghost use Rattle.basket_sets.specs.declared.weighted.Weighted.{Weighted as Baske
 ghost use Rattle.mine_vertical.specs.Cover.{common, cover_weight, weights_of};
 ghost use Rattle.mine_vertical.specs.Marks.{IsMarked};
 ghost use Rattle.basket_lists.specs.CountedSets.{set_at};
-ghost use Rattle.mine_vertical.specs.Search.{FewJoins, IsNode, IsSibling, Node, found_at, is_met};
-ghost use Rattle.mine_vertical.specs.Walk.{joins_below, sets_below};
+ghost use Rattle.mine_vertical.specs.Search.{EachNode, FewJoins, IsNode, IsSibling, Node, found_at, is_met, joins_at, sets_at};
 
 use crate::marks::Marks;
 use crate::mined::Mined;
@@ -133,18 +132,14 @@ impl Search<'_> {
         requires going { T.is_over tally.old ≡ false }
         requires few { FewJoins mined.old.joins (length mined.old.sets) }
         requires clear { IsMarked self.now.weights.now [] room.old.marks }
-        ensures sets { OnOk result ((node : Node) → IsNode R.stands self.now.weights.now self.now.least siblings.now (set_at mined.old.sets place) self.now.coded.now.items node
-            → mined.new.sets ≡ mined.old.sets ++ map (found_at self.now.coded.now.items node) (sets_below (is_met node.baskets self.now.least) node.below node.set)) }
-        ensures joins { OnOk result ((node : Node) → IsNode R.stands self.now.weights.now self.now.least siblings.now (set_at mined.old.sets place) self.now.coded.now.items node
-            → mined.new.joins ≡ mined.old.joins + joins_below (is_met node.baskets self.now.least) node.below node.set) }
+        ensures sets { OnOk result (EachNode R.stands self.now.weights.now self.now.least siblings.now (set_at mined.old.sets place) self.now.coded.now.items (λ node. mined.new.sets ≡ mined.old.sets ++ map (found_at self.now.coded.now.items node) (sets_at self.now.least node))) }
+        ensures joins { OnOk result (EachNode R.stands self.now.weights.now self.now.least siblings.now (set_at mined.old.sets place) self.now.coded.now.items (λ node. mined.new.joins ≡ mined.old.joins + joins_at self.now.least node)) }
         ensures told { OnOk result (T.told_of tally.new + length mined.old.sets ≡ T.told_of tally.old + length mined.new.sets) }
         ensures going_on { OnOk result (T.is_over tally.new ≡ false) }
         ensures few { OnOk result (FewJoins mined.new.joins (length mined.new.sets)) }
         ensures too_many { (limit : ℕ) → result ≡ Err (TooMany limit) → (limit ≡ T.limit_of tally.old)
-            × ((node : Node) → IsNode R.stands self.now.weights.now self.now.least siblings.now (set_at mined.old.sets place) self.now.coded.now.items node
-            → IsTrue (T.is_over tally.new) ⊎ (limit < length mined.old.sets + length (sets_below (is_met node.baskets self.now.least) node.below node.set))) }
-        ensures at_most { (node : Node) → IsNode R.stands self.now.weights.now self.now.least siblings.now (set_at mined.old.sets place) self.now.coded.now.items node
-            → T.told_of tally.new ≤ T.told_of tally.old + length (sets_below (is_met node.baskets self.now.least) node.below node.set) }
+            × EachNode R.stands self.now.weights.now self.now.least siblings.now (set_at mined.old.sets place) self.now.coded.now.items (λ node. IsTrue (T.is_over tally.new) ⊎ (limit < length mined.old.sets + length (sets_at self.now.least node))) }
+        ensures at_most { EachNode R.stands self.now.weights.now self.now.least siblings.now (set_at mined.old.sets place) self.now.coded.now.items (λ node. T.told_of tally.new ≤ T.told_of tally.old + length (sets_at self.now.least node)) }
         ensures limit { T.limit_of tally.new ≡ T.limit_of tally.old }
         ensures clear { OnOk result (IsMarked self.now.weights.now [] room.new.marks) }
     {
@@ -182,18 +177,14 @@ impl Search<'_> {
         requires going { T.is_over tally.old ≡ false }
         requires few { FewJoins mined.old.joins (length mined.old.sets) }
         requires clear { IsMarked self.now.weights.now [] room.old.marks }
-        ensures sets { OnOk result ((node : Node) → IsNode R.stands self.now.weights.now self.now.least siblings.now (set_at mined.old.sets place) self.now.coded.now.items node
-            → mined.new.sets ≡ mined.old.sets ++ map (found_at self.now.coded.now.items node) (sets_below (is_met node.baskets self.now.least) node.below node.set)) }
-        ensures joins { OnOk result ((node : Node) → IsNode R.stands self.now.weights.now self.now.least siblings.now (set_at mined.old.sets place) self.now.coded.now.items node
-            → mined.new.joins ≡ mined.old.joins + joins_below (is_met node.baskets self.now.least) node.below node.set) }
+        ensures sets { OnOk result (EachNode R.stands self.now.weights.now self.now.least siblings.now (set_at mined.old.sets place) self.now.coded.now.items (λ node. mined.new.sets ≡ mined.old.sets ++ map (found_at self.now.coded.now.items node) (sets_at self.now.least node))) }
+        ensures joins { OnOk result (EachNode R.stands self.now.weights.now self.now.least siblings.now (set_at mined.old.sets place) self.now.coded.now.items (λ node. mined.new.joins ≡ mined.old.joins + joins_at self.now.least node)) }
         ensures told { OnOk result (T.told_of tally.new + length mined.old.sets ≡ T.told_of tally.old + length mined.new.sets) }
         ensures going_on { OnOk result (T.is_over tally.new ≡ false) }
         ensures few { OnOk result (FewJoins mined.new.joins (length mined.new.sets)) }
         ensures too_many { (limit : ℕ) → result ≡ Err (TooMany limit) → (limit ≡ T.limit_of tally.old)
-            × ((node : Node) → IsNode R.stands self.now.weights.now self.now.least siblings.now (set_at mined.old.sets place) self.now.coded.now.items node
-            → IsTrue (T.is_over tally.new) ⊎ (limit < length mined.old.sets + length (sets_below (is_met node.baskets self.now.least) node.below node.set))) }
-        ensures at_most { (node : Node) → IsNode R.stands self.now.weights.now self.now.least siblings.now (set_at mined.old.sets place) self.now.coded.now.items node
-            → T.told_of tally.new ≤ T.told_of tally.old + length (sets_below (is_met node.baskets self.now.least) node.below node.set) }
+            × EachNode R.stands self.now.weights.now self.now.least siblings.now (set_at mined.old.sets place) self.now.coded.now.items (λ node. IsTrue (T.is_over tally.new) ⊎ (limit < length mined.old.sets + length (sets_at self.now.least node))) }
+        ensures at_most { EachNode R.stands self.now.weights.now self.now.least siblings.now (set_at mined.old.sets place) self.now.coded.now.items (λ node. T.told_of tally.new ≤ T.told_of tally.old + length (sets_at self.now.least node)) }
         ensures limit { T.limit_of tally.new ≡ T.limit_of tally.old }
         ensures clear { OnOk result (IsMarked self.now.weights.now [] room.new.marks) }
     {

@@ -9,9 +9,10 @@ use crate::row::Row;
 use crate::weights::Weights;
 use std::alloc::{AllocError, Global};
 
-/// For how many rows, of how many places, a database is made anew.
+/// For how many rows a database is made anew, at the least.
 const LEAST_KEPT: usize = 5;
 
+/// For how many places of a cover it is.
 const LEAST_PLACES: usize = 16;
 
 /// A row that lists the places of its cover (Zaki 2000).
