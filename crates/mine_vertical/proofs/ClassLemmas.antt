@@ -30,7 +30,7 @@ use Rattle.mine_vertical.proofs.SiblingLemmas.{lower}
 
 -- the node of a class that has its rank alone
 abbrev pub top : List Weighted → ℕ → Node
-top baskets rank = record { baskets = baskets; class_rank = rank; set = []; below = rank }
+top baskets rank = record { baskets = baskets; shared = rank ∷ []; set = []; below = rank }
 
 -- the sets of a class as items: the rank alone, and what is found below it
 abbrev pub whole : List ℕ → List Weighted → ℕ → ℕ → ℕ → List Counted
@@ -132,6 +132,7 @@ top_is stands all least rank weights siblings baskets set items are set_is known
   few = few;
   known = λ item h. only item (Member-from_has (rank ∷ []) item h);
   low = λ item h. least_one item (Member-from_has (rank ∷ []) item h);
+  within = known;
 }
   where
     only : (item : ℕ) → Member item (rank ∷ []) → item < length items

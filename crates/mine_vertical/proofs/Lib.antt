@@ -13,3 +13,5 @@ mod PlaneLemmas
 mod MarkLemmas
 mod CoversLemmas
 mod WorkedLemmas
+mod RemadeLemmas
+mod PlacesLemmas

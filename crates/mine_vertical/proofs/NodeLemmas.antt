@@ -13,7 +13,7 @@ use Rattle.basket_sets.specs.declared.counted.Counted.{Counted}
 use Rattle.basket_sets.specs.declared.minimum.Minimum.TheVariants.{Count}
 use Rattle.basket_core.specs.Codes.{decoded}
 use Rattle.basket_sets.specs.Itemset.{AllBelow, with_item}
-use Rattle.basket_sets.proofs.theory.Members.{Member, Member-append_right}
+use Rattle.basket_sets.proofs.theory.Members.{Member}
 use Rattle.basket_sets.proofs.theory.Rising.{Member-from_has, has-from_Member, has_place, contains_each}
 use Rattle.basket_sets.proofs.theory.Support.{subsets_are_frequent}
 use Rattle.mine_vertical.specs.declared.search.Sibling.{Sibling}
@@ -24,13 +24,13 @@ use Rattle.basket_lists.proofs.theory.Places.{set_kept}
 use Rattle.mine_vertical.proofs.SearchLemmas.{ranks}
 use Rattle.mine_vertical.proofs.WalkLemmas.{branch, branch_joins, joins_are_branches, kept_before, kept_few, kept_lower, kept_with, sets_are_branches}
 
-as_many : {R : Type 0} (siblings : List (Sibling R)) → length (map (λ (s : Sibling R). s.rank) siblings) ≡ length siblings
+pub as_many : {R : Type 0} (siblings : List (Sibling R)) → length (map (λ (s : Sibling R). s.rank) siblings) ≡ length siblings
 as_many [] = refl
 as_many (s ∷ siblings) = ap suc (as_many siblings)
 
 -- the node of a set with one more rank
 abbrev pub child : Node → ℕ → Node
-child node rank = record { baskets = node.baskets; class_rank = node.class_rank; set = rank ∷ node.set; below = rank }
+child node rank = record { baskets = node.baskets; shared = node.shared; set = rank ∷ node.set; below = rank }
 
 -- what is frequent with two ranks is frequent with one
 falls : (baskets : List Weighted) (least rank : ℕ) (set : List ℕ) (other : ℕ) → is_met baskets least (other ∷ rank ∷ set) ≡ true → is_met baskets least (other ∷ set) ≡ true
@@ -64,12 +64,6 @@ module _ {R : Type 0} (stands : List ℕ → List ℕ → List ℕ → R → Typ
 
   -- ---- a node that extends this one
 
-  class_above : node.below ≤ node.class_rank
-  class_above = is.low node.class_rank (has-from_Member (ranks_at node node.set) node.class_rank (Member-append_right node.class_rank node.set (node.class_rank ∷ []) (inl refl)))
-
-  class_known : node.class_rank < length items
-  class_known = is.known node.class_rank (has-from_Member (ranks_at node node.set) node.class_rank (Member-append_right node.class_rank node.set (node.class_rank ∷ []) (inl refl)))
-
   pub child_set : (rank : ℕ) → with_item (get_or items rank 0) set ≡ decoded items (rank ∷ ranks_at node node.set)
   child_set rank = ap (with_item (get_or items rank 0)) is.of_set
 
@@ -77,7 +71,7 @@ module _ {R : Type 0} (stands : List ℕ → List ℕ → List ℕ → R → Typ
   child_known rank i here at item h = below (Member-from_has (rank ∷ ranks_at node node.set) item h)
     where
       below : Member item (rank ∷ ranks_at node node.set) → item < length items
-      below (inl e) = let lower = rank_below i rank here at in let above = class_above in let known = class_known in omega arith
+      below (inl e) = let lower = rank_below i rank here at in let within = is.within in omega arith
       below (inr m) = is.known item (has-from_Member (ranks_at node node.set) item m)
 
   -- the siblings that are kept with one of them
@@ -96,6 +90,7 @@ module _ {R : Type 0} (stands : List ℕ → List ℕ → List ℕ → R → Typ
     few = is.few;
     known = child_known rank i here at;
     low = λ item h. lowest item (Member-from_has (rank ∷ ranks_at node node.set) item h);
+    within = (let lower = rank_below i rank here at in let within = is.within in omega arith);
   }
     where
       lowest : (item : ℕ) → Member item (rank ∷ ranks_at node node.set) → rank ≤ item
@@ -120,8 +115,7 @@ module _ {R : Type 0} (stands : List ℕ → List ℕ → List ℕ → R → Typ
       let one = sym (length-take-le i kept most) ∙ ap length (kept_before test node.below node.set i inside) in
       let two = kept_few test (get_or kept i 0) node.set in
       let lower = rank_below i (get_or kept i 0) here refl in
-      let above = class_above in
-      let known = class_known in
+      let within = is.within in
       let few = is.few in omega arith
 
   -- ---- what is found so far

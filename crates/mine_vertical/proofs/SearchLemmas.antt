@@ -3,15 +3,12 @@ use Rattle.std.proofs.Common.{◌≡◌, ℕ, ◌+◌, ◌<◌, ◌≤◌, Bool,
 use Rattle.std.specs.Prelude.{All}
 use Rattle.std.specs.List.{filter}
 use Rattle.std.proofs.lemmas.Bool.{and_from, le-leb, lt-leb}
-use Rattle.std.proofs.lemmas.List.{append-nil, get_or_append_left, map-append, take_more}
-use Rattle.std.proofs.Math.Seq.{get_or-append_seam}
+use Rattle.std.proofs.lemmas.List.{append-nil, map-append, take_more}
 use Rattle.std.proofs.lemmas.List.Elements.{filter-append}
 use Rattle.basket_sets.specs.declared.weighted.Weighted.{Weighted}
-use Rattle.basket_sets.specs.declared.counted.Counted.{Counted}
 use Rattle.basket_sets.specs.Support.{support_of}
 use Rattle.mine_vertical.specs.declared.search.Sibling.{Sibling}
 use Rattle.mine_vertical.specs.Cover.{common, cover_of, cover_weight, weights_of}
-use Rattle.basket_lists.specs.CountedSets.{set_at}
 use Rattle.mine_vertical.specs.Search.{IsSibling, is_met}
 use Rattle.mine_vertical.proofs.CoverLemmas.{common_cover, cover_weighs}
 

@@ -11,3 +11,4 @@ pub mod Planes
 pub mod Marks
 pub mod Covers
 pub mod RowWords
+pub mod Remade

@@ -1,5 +1,5 @@
 -- A search below a set.
-use Rattle.std.specs.Prelude.{◌≡◌, ◌≤◌, ◌<◌, ◌+◌, ◌*◌, ◌++◌, ℕ, Bool, IsTrue, List, [], ◌∷◌, All, length, map}
+use Rattle.std.specs.Prelude.{◌≡◌, ◌≤◌, ◌<◌, ◌+◌, ◌*◌, ◌++◌, ℕ, Bool, IsTrue, List, ◌∷◌, All, length, map}
 use Rattle.basket_sets.specs.declared.weighted.Weighted.{Weighted}
 use Rattle.basket_sets.specs.declared.counted.Counted.{Counted}
 use Rattle.basket_sets.specs.declared.minimum.Minimum.TheVariants.{Count}
@@ -9,7 +9,7 @@ use Rattle.basket_sets.specs.Support.{support_of}
 use Rattle.basket_core.specs.Codes.{MOST_RANKS, decoded}
 use Rattle.mine_vertical.specs.declared.search.Sibling.{Sibling}
 use Rattle.mine_vertical.specs.Cover.{cover_of, weights_of}
-use Rattle.mine_vertical.specs.Walk.{kept_below}
+use Rattle.mine_vertical.specs.Walk.{joins_below, kept_below, sets_below}
 
 -- whether a set has a least support in some baskets
 abbrev pub is_met : List Weighted → ℕ → List ℕ → Bool
@@ -19,16 +19,16 @@ is_met baskets least set = is_frequent baskets (Count least) set
 abbrev pub IsSibling : {R : Type 0} → (List ℕ → List ℕ → List ℕ → R → Type 0) → List Weighted → List ℕ → Sibling R → Type 0
 IsSibling stands baskets set sibling = stands (weights_of baskets) (cover_of baskets set) (cover_of baskets (sibling.rank ∷ set)) sibling.row
 
--- where a search stands: a class of a rank in baskets of ranks, a set of ranks below it, and the ranks that may extend it
+-- where a search stands: the baskets that have some ranks, a set of lower ranks, and the ranks that may extend it
 pub record Node : Type 0 where
   pub baskets : List Weighted
-  pub class_rank : ℕ
+  pub shared : List ℕ
   pub set : List ℕ
   pub below : ℕ
 
--- the ranks of a set with that of the class
+-- the ranks of a set with those that all baskets have
 abbrev pub ranks_at : Node → List ℕ → List ℕ
-ranks_at node set = set ++ node.class_rank ∷ []
+ranks_at node set = set ++ node.shared
 
 -- the siblings are the frequent extensions of a node's set, which is given as items, of the items by rank
 pub record IsNode {R : Type 0} (stands : List ℕ → List ℕ → List ℕ → R → Type 0) (weights : List ℕ) (least : ℕ) (siblings : List (Sibling R)) (set items : List ℕ) (node : Node) : Type 0 where
@@ -39,6 +39,18 @@ pub record IsNode {R : Type 0} (stands : List ℕ → List ℕ → List ℕ → 
   pub few : length items < MOST_RANKS
   pub known : AllBelow (length items) (ranks_at node node.set)
   pub low : (rank : ℕ) → IsTrue (has (ranks_at node node.set) rank) → node.below ≤ rank
+  pub within : node.below < length items
+
+-- what holds of each node that has the siblings
+abbrev pub EachNode : {R : Type 0} → (List ℕ → List ℕ → List ℕ → R → Type 0) → List ℕ → ℕ → List (Sibling R) → List ℕ → List ℕ → (Node → Type 0) → Type 0
+EachNode stands weights least siblings set items P = (node : Node) → IsNode stands weights least siblings set items node → P node
+
+-- the frequent sets that extend a node's set, and the joins that find them
+abbrev pub sets_at : ℕ → Node → List (List ℕ)
+sets_at least node = sets_below (is_met node.baskets least) node.below node.set
+
+abbrev pub joins_at : ℕ → Node → ℕ
+joins_at least node = joins_below (is_met node.baskets least) node.below node.set
 
 -- how many joins may have been made where so many sets were found
 abbrev pub FewJoins : ℕ → ℕ → Type 0

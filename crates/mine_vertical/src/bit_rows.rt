@@ -11,6 +11,9 @@ use crate::row_words::{RowWords, words_for};
 use crate::weights::Weights;
 use std::alloc::{AllocError, Global};
 
+/// For how many rows a database of more than one word is made anew, at the least.
+const LEAST_KEPT: usize = 6;
+
 /// A row with a bit for each place, which is one where the place is in its cover.
 #[derive(Debug, Drop)]
 pub struct BitRow {
@@ -76,5 +79,18 @@ impl Row for BitRow {
 
     fn count(&self) -> u64 {
         self.count
+    }
+
+    fn is_large(&self, kept: usize, joined: usize, weights: &Weights) -> bool {
+        kept >= LEAST_KEPT && kept >= joined / 2 && weights.places() > 64
+    }
+
+    fn add_bit(&self, words: &mut [u64], bit: u64) -> bool {
+        for place in 0..words.len() {
+            if self.words.has(place) {
+                words[place] |= bit;
+            }
+        }
+        true
     }
 }

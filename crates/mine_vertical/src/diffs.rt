@@ -58,4 +58,13 @@ impl Row for DiffList {
     fn count(&self) -> u64 {
         self.count
     }
+
+    fn is_large(&self, _kept: usize, _joined: usize, _weights: &Weights) -> bool {
+        false
+    }
+
+    // Its places are those of its parent's cover, which it doesn't have.
+    fn add_bit(&self, _words: &mut [u64], _bit: u64) -> bool {
+        false
+    }
 }

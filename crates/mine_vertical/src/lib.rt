@@ -2,7 +2,8 @@
 //! database.
 //!
 //! A `row` stands for the places whose baskets contain a set: `tids` lists them, `diffs` lists what
-//! is lacking of them, and `bit_rows` has a bit for each place.
+//! is lacking of them, and `bit_rows` has a bit for each place. `remade` makes the database of a set
+//! anew where that is smaller.
 #![tactic(auto)]
 
 mod bit_rows;
@@ -14,6 +15,7 @@ pub mod laws;
 mod marks;
 mod mined;
 mod planes;
+mod remade;
 mod room;
 mod row;
 mod row_words;

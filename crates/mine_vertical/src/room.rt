@@ -7,58 +7,58 @@ use crate::row::Row;
 use crate::search::Sibling;
 use crate::weights::Weights;
 use std::alloc::{AllocError, Global};
+use std::mem;
 
-/// A table to mark places in, and rows and lists that are not needed any more.
+/// A table to mark places in, and lists of siblings that are not needed any more.
 #[derive(Drop)]
 pub struct Room<R> {
     pub marks: Marks,
-    pub rows: Vec<R>,
     pub lists: Vec<Vec<Sibling<R>>>,
 }
 
 impl<R: Row> Room<R> {
-    /// No place is marked, and there are no rows and no lists.
+    /// No place is marked, and there are no lists.
     pub fn new(alloc: Global, weights: &Weights) -> Result<Self, AllocError>
         ensures { IfOk result (λ room. IsMarked weights.now [] room.marks) }
     {
         Ok(Room {
             marks: Marks::new(alloc, weights.places())?,
-            rows: Vec::new(alloc),
             lists: Vec::new(alloc),
         })
     }
 
-    /// A row whose room may be used.
-    pub fn row(&mut self, alloc: Global) -> R
+    /// A list whose siblings may be written over.
+    pub fn list(&mut self, alloc: Global) -> Vec<Sibling<R>>
         ensures { self.new.marks ≡ self.old.marks }
     {
-        match self.rows.pop() {
-            Some(row) => row,
-            None => R::empty(alloc),
-        }
-    }
-
-    /// An empty list whose room may be used.
-    pub fn list(&mut self, alloc: Global) -> Vec<Sibling<R>>
-        ensures empty { result.items ≡ [] }
-        ensures marks { self.new.marks ≡ self.old.marks }
-    {
         match self.lists.pop() {
-            Some(mut list) => {
-                list.clear();
-                list
-            }
+            Some(list) => list,
             None => Vec::new(alloc),
         }
     }
 
-    /// Takes siblings back, their rows and then their list, as far as there is memory for that.
-    pub fn take_back(&mut self, mut siblings: Vec<Sibling<R>>)
+    /// Takes a list back, if there is memory for that.
+    pub fn take_back(&mut self, list: Vec<Sibling<R>>)
         ensures { self.new.marks ≡ self.old.marks }
     {
-        while let Some(sibling) = siblings.pop() {
-            let _ = self.rows.push(sibling.row);
-        }
-        let _ = self.lists.push(siblings);
+        let _ = self.lists.push(list);
+    }
+
+    /// Room over other weights, with the lists of this one, which has none of them then.
+    pub fn over(&mut self, alloc: Global, weights: &Weights) -> Result<Self, AllocError>
+        ensures room { IfOk result (λ room. IsMarked weights.now [] room.marks) }
+        ensures marks { self.new.marks ≡ self.old.marks }
+    {
+        let marks = Marks::new(alloc, weights.places())?;
+        let lists = mem::replace(&mut self.lists, Vec::new(alloc));
+        Ok(Room { marks, lists })
+    }
+
+    /// Takes the lists of other room over.
+    pub fn take_over(&mut self, other: Room<R>)
+        ensures { self.new.marks ≡ self.old.marks }
+    {
+        let Room { marks: _, lists } = other;
+        self.lists = lists;
     }
 }

@@ -1,6 +1,6 @@
-ghost use Rattle.std.specs.Prelude.{◌≡◌, ℕ, List, IfOk, OnOk, length};
+ghost use Rattle.std.specs.Prelude.{◌≡◌, ℕ, List, IfOk, IsTrue, OnOk, length};
 ghost use Rattle.basket_sets.specs.Itemset.{AllBelow, IsRising};
-ghost use Rattle.mine_vertical.specs.Cover.{IsCover, all_places, common, cover_weight};
+ghost use Rattle.mine_vertical.specs.Cover.{IsAdded, IsCover, all_places, common, cover_weight};
 ghost use Rattle.mine_vertical.specs.Marks.{IsMarked};
 
 use crate::marks::Marks;
@@ -51,4 +51,13 @@ pub trait Row: Drop {
     /// What the cover weighs.
     fn count(&self) -> u64
         ensures { (weights parent cover : List ℕ) → stands weights parent cover self.now → result ≡ cover_weight weights cover };
+
+    /// Whether it pays to make a database of its cover, where so many of the rows that were joined with
+    /// it are kept.
+    fn is_large(&self, kept: usize, joined: usize, weights: &Weights) -> bool;
+
+    /// Adds a bit to the words of the places of its cover, or says that it doesn't list them.
+    fn add_bit(&self, words: &mut [u64], bit: u64) -> bool
+        requires { (weights : List ℕ) × (parent : List ℕ) × (cover : List ℕ) × (length weights ≡ length words.old) × stands weights parent cover self.now }
+        ensures { IsTrue result → (weights parent cover : List ℕ) → length weights ≡ length words.old → stands weights parent cover self.now → IsAdded cover bit words.old words.new };
 }

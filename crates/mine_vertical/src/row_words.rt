@@ -1,7 +1,8 @@
 //! The words of a row of bits.
-ghost use Rattle.std.specs.Prelude.{◌≡◌, ◌≤◌, ◌<◌, IfOk, OnOk, bit_and, length};
+ghost use Rattle.std.specs.Prelude.{◌≡◌, ◌≤◌, ◌<◌, ◌/◌, ◌%◌, IfOk, OnOk, bit_and, length, slice_index};
 ghost use Rattle.std.specs.Simd.Lanes.{zip2};
 ghost use Rattle.mine_vertical.specs.Bits.{MOST_WORDS, shared_bits, word_count};
+ghost use Rattle.mine_vertical.specs.Planes.{has_bit};
 ghost use Rattle.mine_vertical.specs.RowWords.{words_in};
 
 use crate::bits::{share_words, shared_by_words};
@@ -65,5 +66,19 @@ impl RowWords {
     {
         let ones = u64::from((self.first & other.first).count_ones());
         ones + shared_by_words(&self.others, &other.others)
+    }
+
+    /// Whether it has the bit of a place.
+    pub fn has(&self, place: usize) -> bool
+        requires { place / 64 < length (words_in self.now) }
+        ensures { result ≡ has_bit (place % 64) (slice_index (words_in self.now) (place / 64)) }
+    {
+        let at = place / 64;
+        let word = if at == 0 {
+            self.first
+        } else {
+            self.others[at - 1]
+        };
+        (word >> (place % 64)) % 2 == 1
     }
 }

@@ -42,7 +42,7 @@ fn conditional_of(
 }
 
 /// The weights of baskets. More than 4,294,967,295 baskets count as a refused growth.
-fn weights_at(alloc: Global, spans: &[Span]) -> Result<Weights, AllocError>
+pub fn weights_at(alloc: Global, spans: &[Span]) -> Result<Weights, AllocError>
     requires some { All (λ span. 1 ≤ span.weight) spans.now }
     requires light { sum_by (λ span. span.weight) spans.now ≤ MOST_WEIGHT }
     ensures { IfOk result (λ weights. weights ≡ map (λ span. span.weight) spans.now) }
@@ -97,7 +97,7 @@ fn covers_of_ranks(
 }
 
 /// The siblings of the ranks that are kept, whose numbers in the baskets are their places.
-fn siblings_of<R: Row>(
+pub fn siblings_of<R: Row>(
     alloc: Global,
     kept: &[u32],
     ranks: &[u32],

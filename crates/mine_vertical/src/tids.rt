@@ -1,3 +1,6 @@
+ghost use Rattle.std.specs.Prelude.{length};
+ghost use Rattle.basket_sets.specs.Itemset.{AllBelow, IsRising};
+ghost use Rattle.mine_vertical.specs.Cover.{IsAdded};
 ghost use Rattle.mine_vertical.specs.Rows.{IsTidList};
 
 use crate::cover::common_places;
@@ -6,11 +9,28 @@ use crate::row::Row;
 use crate::weights::Weights;
 use std::alloc::{AllocError, Global};
 
+/// For how many rows a database is made anew, at the least.
+const LEAST_KEPT: usize = 5;
+
+/// For how many places of a cover it is.
+const LEAST_PLACES: usize = 16;
+
 /// A row that lists the places of its cover (Zaki 2000).
 #[derive(Debug, Drop)]
 pub struct TidList {
     places: Vec<u32>,
     count: u64,
+}
+
+/// Adds a bit to the words of places.
+fn add_at(words: &mut [u64], places: &[u32], bit: u64)
+    requires rises { IsRising places.now }
+    requires below { AllBelow (length words.old) places.now }
+    ensures { IsAdded places.now bit words.old words.new }
+{
+    for place in places {
+        words[*place as usize] |= bit;
+    }
 }
 
 impl Row for TidList {
@@ -56,5 +76,16 @@ impl Row for TidList {
 
     fn count(&self) -> u64 {
         self.count
+    }
+
+    fn is_large(&self, kept: usize, _joined: usize, weights: &Weights) -> bool {
+        // The words that a database is made from are as many as the places of all.
+        let places = self.places.len();
+        kept >= LEAST_KEPT && places >= LEAST_PLACES && places >= weights.places() as usize / 8
+    }
+
+    fn add_bit(&self, words: &mut [u64], bit: u64) -> bool {
+        add_at(words, &self.places, bit);
+        true
     }
 }

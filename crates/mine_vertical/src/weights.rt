@@ -85,6 +85,7 @@ impl Weights {
     pub(crate) fn bounds(&self)
         ensures few { length self.now ≤ MOST_PLACES }
         ensures some { All (λ weight. 1 ≤ weight) self.now }
+        ensures total { sum self.now ≤ MOST_WEIGHT }
         ensures light { (cover : List ℕ) → IsCover self.now cover → cover_weight self.now cover ≤ MOST_WEIGHT }
     {
         let _ = self.weights.len();

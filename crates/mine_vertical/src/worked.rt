@@ -1,7 +1,9 @@
 //! Worked examples of the definitions, proved by computing them, and of rows.
 ghost use Rattle.std.specs.Prelude.{◌≡◌, ◌*◌, [], ◌∷◌, ℕ, IfOk, replicate};
 ghost use Rattle.mine_vertical.specs.Bits.{shared_bits, words_of};
+ghost use Rattle.basket_sets.specs.Database.{weighted};
 ghost use Rattle.mine_vertical.specs.Planes.{bits_of};
+ghost use Rattle.mine_vertical.specs.Remade.{bit_places};
 
 use crate::row::Row;
 use crate::weights::Weights;
@@ -18,6 +20,11 @@ pub fn words_share_bits()
 pub fn rows_have_bits()
     ensures row { words_of 70 (0 ∷ 2 ∷ 63 ∷ 64 ∷ []) ≡ 9223372036854775813 ∷ 1 ∷ [] }
     ensures planes { bits_of (1 ∷ 2 ∷ 3 ∷ []) ≡ 0 ∷ 1 ∷ [] }
+{}
+
+/// Two words of ranks, which have the highest bits: the first has rank 0, and the second 0 and 1.
+pub fn words_are_baskets()
+    ensures { bit_places 2 (9223372036854775808 ∷ 13835058055282163712 ∷ []) (3 ∷ 4 ∷ []) ≡ weighted (0 ∷ []) 3 ∷ weighted (0 ∷ 1 ∷ []) 4 ∷ [] }
 {}
 
 /// Over the weights 1, 2 and 3 the cover of all places counts 6, and that of the first and the last

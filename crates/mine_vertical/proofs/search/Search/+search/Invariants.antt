@@ -1,17 +1,20 @@
-use Rattle.std.proofs.Common.{◌≡◌, [], ◌+◌, ◌++◌, false, length, map, take}
+use Rattle.std.proofs.Common.{◌≡◌, [], ◌+◌, ◌*◌, ◌++◌, false, length, map, take}
 use Rattle.std.specs.List.{flat_map, sum_by}
 use Rattle.mine_vertical.specs.Marks.{IsMarked}
 use Rattle.basket_lists.specs.CountedSets.{set_at}
 use Rattle.mine_vertical.specs.Search.{FewJoins, IsNode, Node, found_at, is_met}
 use Rattle.mine_vertical.specs.Walk.{kept_below}
 use Rattle.mine_vertical.proofs.WalkLemmas.{branch, branch_joins}
-use Rattle.mine_vertical.proofs.search.Search.+extend.Given as goal
+use Rattle.mine_vertical.proofs.search.Search.+search.Given as goal
 
 abbrev pub decreases-extend : goal.decreases-extend
-decreases-extend g l = length l.siblings.now
+decreases-extend g l = 2 * length l.siblings.now
 
-abbrev pub invariant-loop-at : goal.invariant-loop-at
-invariant-loop-at g l = record {
+abbrev pub decreases-extend_set : goal.decreases-extend_set
+decreases-extend_set g l = 2 * length l.siblings.now + 1
+
+abbrev pub invariant-extend-loop-at : goal.invariant-extend-loop-at
+invariant-extend-loop-at g l = record {
   clear : IsMarked l.self.weights.now [] l.room.marks;
   going : g.T.Tally.is_over l.tally ≡ false;
   limit : g.T.Tally.limit_of l.tally ≡ g.T.Tally.limit_of l.initial.tally;

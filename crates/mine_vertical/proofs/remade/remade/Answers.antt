@@ -1,0 +1,37 @@
+use Rattle.std.proofs.Common.{◌≡◌, ℕ, Bool, ◌++◌, List, cond, length, map, subst, sym, ap, ◌∙◌}
+use Rattle.std.specs.List.{list_all}
+use Rattle.basket_core.specs.Codes.{decoded}
+use Rattle.basket_sets.specs.Itemset.{contains, has}
+use Rattle.basket_sets.specs.Support.{support_of}
+use Rattle.mine_classes.specs.Ordered.{weight_where}
+use Rattle.mine_vertical.specs.Remade.{AreBitsOf, AreOver, bit_places}
+use Rattle.mine_vertical.proofs.PlacesLemmas.{nothing_in, supports_are}
+use Rattle.mine_vertical.proofs.remade.remade.Goals as goal
+
+pub words_of_places-requires : goal.words_of_places-requires
+words_of_places-requires g c =
+    let (baskets, set, weigh, all) = c.requires.rows in
+    let made = rw c.in-Some.is at c.in_ok-bits.ensures in
+    ap length c.deref.ensures.value ∙ (made baskets set (sym (ap length weigh) ∙ sym c.places.ensures) all).long ∙ sym (ap length weigh)
+
+pub returns : goal.returns
+returns g c =
+    let siblings = c.args.siblings.now in
+    let weights = c.args.weights.now in
+    let ranks = map (λ s. s.rank) siblings in
+    let kept = c.deref-2.result.now in
+    let bits = c.deref.result.now in
+    let made = rw c.in-Some.is at c.in_ok-bits.ensures in
+    let (others, are, same) = c.in_ok-siblings_of_words.ensures in
+    let kept_are : kept ≡ ranks = c.deref-2.ensures.value ∙ c.in_ok-kept.ensures in (
+      others,
+      subst (λ k. AreOver g.R.Row.stands k c.in_ok-siblings_of_words.field-0.0 c.in_ok-siblings_of_words.field-0.1.items others) kept_are are,
+      λ baskets set weigh all more some.
+          let test : List ℕ → Bool = λ basket. contains (decoded kept basket) more in
+          let is = subst (λ k. AreBitsOf baskets set k bits) (sym kept_are)
+          (subst (λ b. AreBitsOf baskets set ranks b) (sym c.deref.ensures.value) (made baskets set (sym (ap length weigh) ∙ sym c.places.ensures) all)) in
+          same (λ basket. contains basket more) ∙ sym (c.in_ok-words.ensures.weights (length kept) test (nothing_in kept more some))
+          ∙ ap (λ w. weight_where test (bit_places (length kept) bits w)) weigh
+          ∙ supports_are baskets set kept bits is more some
+          ∙ ap (λ k. cond (list_all (has k) more) (support_of baskets (more ++ set)) 0) kept_are,
+    )
