@@ -1,12 +1,12 @@
 //! The frequent pairs of ranks, without a list of all pairs.
 ghost use Rattle.std.specs.Prelude.{◌≡◌, ◌<◌, ◌≤◌, ◌↔◌, ◌*◌, ◌/◌, ◌++◌, ◌^◌, ℕ, List, [], All, IfOk, IsTrue, OnOk, length, replicate, slice_index_or};
 ghost use Rattle.basket_sets.specs.Support.{support_of};
-ghost use Rattle.mine_classes.specs.Ordered.{AreRankBaskets, HaveSameWeights};
+ghost use Rattle.mine_classes.specs.ListBaskets.{AreRankBaskets, HaveSameWeights};
 ghost use Rattle.mine_apriori.specs.Pairs.{AreBelow, ArePairs, all_lesser, lists_of, pairs_at, pairs_by_greater};
 
 use crate::triangle::{Triangle, pairs_of_supports};
 use basket_core::Coded;
-use mine_classes::{Ordered, Runs, Sums};
+use mine_classes::{ListBaskets, Runs, Sums};
 use std::alloc::{AllocError, Global};
 
 /// For each rank the ranks below it that are frequent together with it, rising, each with the
@@ -19,7 +19,7 @@ pub fn frequent_pairs(alloc: Global, coded: &Coded) -> Result<Vec<Vec<(u32, u64)
         return pairs_by_triangle(alloc, coded);
     }
     let least = coded.minimum().least(coded.total());
-    let runs = Runs::of(alloc, Ordered::of_coded(alloc, coded)?)?;
+    let runs = Runs::of(alloc, ListBaskets::of_coded(alloc, coded)?)?;
     pairs_by_runs(alloc, &runs, least)
 }
 
@@ -52,7 +52,7 @@ pub fn runs_keeping(
     // The baskets of a coding are light enough for a least support.
     let _ = coded.baskets();
     let least = coded.minimum().least(coded.total());
-    let mut runs = Runs::of(alloc, Ordered::of_coded(alloc, coded)?)?;
+    let mut runs = Runs::of(alloc, ListBaskets::of_coded(alloc, coded)?)?;
     runs.keep_pairs(pairs, least);
     Ok(runs)
 }

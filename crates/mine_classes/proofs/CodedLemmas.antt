@@ -20,7 +20,7 @@ use Rattle.basket_sets.proofs.theory.Members.{Member, All-from_Member, Member-fi
 use Rattle.basket_sets.proofs.theory.Rising.{Member-from_has, has-from_Member, first_below, rest_rises, rising-rises, same_rising}
 use Rattle.mine_classes.specs.declared.span.Span.{Span}
 use Rattle.mine_classes.specs.Conditional.{conditional, is_kept, kept_place}
-use Rattle.mine_classes.specs.Ordered.{AreRankBaskets, HaveSameWeights, IsRankBasket, RankBaskets, weight_where}
+use Rattle.mine_classes.specs.ListBaskets.{AreRankBaskets, HaveSameWeights, IsRankBasket, RankBaskets, weight_where}
 use Rattle.mine_classes.specs.Pairs.{kept_ranks}
 use Rattle.mine_classes.specs.Runs.{AreRunsOf, below}
 use Rattle.mine_classes.specs.Span.{baskets_at}

@@ -15,7 +15,7 @@ use Rattle.basket_sets.proofs.theory.Members.{Member-filter, Contains-from_Membe
 use Rattle.basket_sets.proofs.theory.Rising.{Member-from_has, has-from_Member}
 use Rattle.basket_sets.proofs.theory.Support.{support_falls}
 use Rattle.mine_classes.specs.declared.span.Span.{Span}
-use Rattle.mine_classes.specs.Ordered.{IsRankBasket, repeats_last}
+use Rattle.mine_classes.specs.ListBaskets.{IsRankBasket, repeats_last}
 use Rattle.mine_classes.specs.Runs.{AreRunsOf, HaveRuns, run_at, with_run}
 use Rattle.mine_classes.specs.Span.{IsWithin, basket_at, baskets_at}
 use Rattle.mine_classes.proofs.ConditionalLemmas.{kept_support}

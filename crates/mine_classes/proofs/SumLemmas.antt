@@ -23,7 +23,7 @@ use Rattle.basket_sets.proofs.theory.Rising.{Member-from_has, has-from_Member, M
 use Rattle.basket_sets.proofs.theory.Support.{in_items, support_falls}
 use Rattle.mine_classes.specs.declared.span.Span.{Span}
 use Rattle.mine_classes.specs.Conditional.{is_kept}
-use Rattle.mine_classes.specs.Ordered.{AreRankBaskets, IsRankBasket}
+use Rattle.mine_classes.specs.ListBaskets.{AreRankBaskets, IsRankBasket}
 use Rattle.mine_classes.specs.Pairs.{AreSums, is_met, items_met, kept_ranks, named_pair, pairs_of, ranks_met, weight_with}
 use Rattle.mine_classes.specs.Runs.{AreRunsOf, below}
 use Rattle.mine_classes.specs.Span.{baskets_at}

@@ -12,7 +12,7 @@ use Rattle.basket_sets.specs.Itemset.{contains}
 use Rattle.basket_sets.proofs.theory.Members.{Member-filter}
 use Rattle.basket_sets.proofs.theory.Rising.{Member-from_has}
 use Rattle.mine_classes.specs.declared.words.Word.{Word}
-use Rattle.mine_classes.specs.Ordered.{AreRankBaskets, HaveSameWeights, IsRankBasket, weight_where}
+use Rattle.mine_classes.specs.ListBaskets.{AreRankBaskets, HaveSameWeights, IsRankBasket, weight_where}
 use Rattle.mine_classes.specs.Words.{has_rank, ranks_in, word_place, word_places}
 use Rattle.mine_classes.proofs.ConditionalLemmas.{cond_sum}
 use Rattle.mine_classes.proofs.SumLemmas.{Member-range, filtered_range_rises}

@@ -1,7 +1,7 @@
 pub mod Conditional
 pub mod Classes
 pub mod Span
-pub mod Ordered
+pub mod ListBaskets
 pub mod Runs
 pub mod Pairs
 pub mod Places

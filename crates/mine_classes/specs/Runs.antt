@@ -6,7 +6,7 @@ use Rattle.std.specs.declared.alloc.Global.{Global}
 use Rattle.basket_sets.specs.declared.weighted.Weighted.{Weighted}
 use Rattle.mine_classes.specs.declared.span.Span.{Span}
 use Rattle.mine_classes.specs.Conditional.{kept_place}
-use Rattle.mine_classes.specs.Ordered.{HaveSameWeights, IsRankBasket}
+use Rattle.mine_classes.specs.ListBaskets.{HaveSameWeights, IsRankBasket}
 use Rattle.mine_classes.specs.Pairs.{pairs_of}
 use Rattle.mine_classes.specs.Span.{IsWithin, baskets_at}
 

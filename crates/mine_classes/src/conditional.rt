@@ -4,11 +4,11 @@ ghost use Rattle.basket_core.specs.Codes.{IsCoding, baskets_of};
 ghost use Rattle.basket_sets.specs.declared.minimum.Minimum.TheVariants.{Count};
 ghost use Rattle.mine_classes.specs.Conditional.{conditional};
 ghost use Rattle.mine_classes.specs.Form.{form_baskets};
-ghost use Rattle.mine_classes.specs.Ordered.{HaveSameWeights};
+ghost use Rattle.mine_classes.specs.ListBaskets.{HaveSameWeights};
 ghost use Rattle.mine_classes.specs.Pairs.{kept_ranks, pairs_of};
 
 use crate::form::Form;
-use crate::ordered::Ordered;
+use crate::list_baskets::ListBaskets;
 use crate::places::Places;
 use crate::runs::Runs;
 use std::alloc::{AllocError, Global};
@@ -106,11 +106,11 @@ impl Conditional {
     }
 
     /// The same as lists of ranks.
-    pub fn into_baskets(self, alloc: Global) -> Result<Ordered, AllocError>
-        ensures baskets { IfOk result (λ ordered. ordered.baskets ≡ self.baskets) }
-        ensures ranks { IfOk result (λ ordered. ordered.ranks ≡ length self.items) }
+    pub fn into_baskets(self, alloc: Global) -> Result<ListBaskets, AllocError>
+        ensures baskets { IfOk result (λ lists. lists.baskets ≡ self.baskets) }
+        ensures ranks { IfOk result (λ lists. lists.ranks ≡ length self.items) }
     {
-        self.into_form().ordered(alloc)
+        self.into_form().lists(alloc)
     }
 }
 

@@ -1,7 +1,7 @@
 //! Classes and conditional databases, the ground of the miners that go depth first.
 //!
 //! The class of a rank is the frequent sets whose greatest rank it is, and its conditional database
-//! is what a miner needs to find them. `ordered` puts baskets in order and merges equal ones, `runs`
+//! is what a miner needs to find them. `list_baskets` puts baskets in order and merges equal ones, `runs`
 //! finds where each rank stands among them, `pairs` sums the supports of pairs from there, and
 //! `places` numbers the ranks anew that `conditional` keeps. Where they are few, `words` has the
 //! baskets as bits, which are sorted and merged faster than lists.
@@ -10,7 +10,7 @@
 mod conditional;
 mod form;
 pub mod laws;
-mod ordered;
+mod list_baskets;
 mod pairs;
 mod places;
 mod runs;
@@ -22,7 +22,7 @@ pub mod worked;
 
 pub use conditional::Conditional;
 pub use form::Form;
-pub use ordered::Ordered;
+pub use list_baskets::ListBaskets;
 pub use pairs::{Sums, met_in_order};
 pub use places::Places;
 pub use runs::Runs;

@@ -5,7 +5,7 @@ ghost use Rattle.basket_sets.specs.Counts.{AllBelow};
 ghost use Rattle.basket_sets.specs.Database.{MOST_WEIGHT};
 ghost use Rattle.basket_sets.specs.Itemset.{IsRising, rising};
 ghost use Rattle.basket_sets.specs.Support.{items_of};
-ghost use Rattle.mine_classes.specs.Ordered.{AreRankBaskets};
+ghost use Rattle.mine_classes.specs.ListBaskets.{AreRankBaskets};
 ghost use Rattle.mine_classes.specs.Pairs.{AreSums, WithBasket, is_met, items_met, named_pair, ranks_met, weight_with};
 ghost use Rattle.mine_classes.specs.Span.{IsWithin, baskets_at};
 

@@ -4,12 +4,12 @@ ghost use Rattle.basket_core.specs.Codes.{coded_place, rank_of};
 ghost use Rattle.basket_sets.specs.Counts.{AllBelow};
 ghost use Rattle.basket_sets.specs.Itemset.{IsRising};
 ghost use Rattle.mine_classes.specs.Form.{form_baskets};
-ghost use Rattle.mine_classes.specs.Ordered.{AreRankBaskets, HaveSameWeights};
+ghost use Rattle.mine_classes.specs.ListBaskets.{AreRankBaskets, HaveSameWeights};
 ghost use Rattle.mine_classes.specs.Places.{ArePlaces, placed, places_in, slots_in};
 ghost use Rattle.mine_classes.specs.Span.{IsWithin, baskets_at};
 
 use crate::form::Form;
-use crate::ordered::Ordered;
+use crate::list_baskets::ListBaskets;
 use crate::span::{AHEAD, Span, place, table_pays};
 use crate::word_baskets::WordBaskets;
 use crate::words::{WORD_RANKS, clear_bits, set_bits, words_of};
@@ -89,14 +89,14 @@ impl Places {
         kept: &[u32],
         ranks: &[u32],
         baskets: &[Span],
-    ) -> Result<Ordered, AllocError>
+    ) -> Result<ListBaskets, AllocError>
         requires rises { IsRising kept.now }
         requires below { AllBelow self.old kept.now }
         requires within { All (IsWithin (length ranks.now)) baskets.now }
         requires ranked { AreRankBaskets (record { ranks = self.old; baskets = baskets_at ranks.now baskets.now }) }
-        ensures ranks { IfOk result (λ ordered. ordered.ranks ≡ length kept.now) }
+        ensures ranks { IfOk result (λ lists. lists.ranks ≡ length kept.now) }
         ensures ranked { IfOk result AreRankBaskets }
-        ensures weights { IfOk result (λ ordered. HaveSameWeights (map (coded_place kept.now) (baskets_at ranks.now baskets.now)) ordered.baskets) }
+        ensures weights { IfOk result (λ lists. HaveSameWeights (map (coded_place kept.now) (baskets_at ranks.now baskets.now)) lists.baskets) }
         ensures places { self.new ≡ self.old }
     {
         if self.of.is_empty() && table_pays(self.count, &mut self.seen, baskets) {
@@ -107,7 +107,7 @@ impl Places {
         let coded = coded_spans(alloc, &mut locals, &self.of, kept, ranks, baskets);
         take_away(&mut self.of, kept);
         let count = place(kept.len())?;
-        Ok(Ordered::of_spans(count, locals, coded?))
+        Ok(ListBaskets::of_spans(count, locals, coded?))
     }
 
     /// The same of few ranks, where each basket is a word.

@@ -5,12 +5,12 @@ ghost use Rattle.basket_sets.specs.Counts.{AllBelow};
 ghost use Rattle.basket_sets.specs.Database.{MOST_WEIGHT};
 ghost use Rattle.basket_sets.specs.Itemset.{IsRising};
 ghost use Rattle.mine_classes.specs.declared.span.Span.{Span as Run};
-ghost use Rattle.mine_classes.specs.Ordered.{AreRankBaskets};
+ghost use Rattle.mine_classes.specs.ListBaskets.{AreRankBaskets};
 ghost use Rattle.mine_classes.specs.Pairs.{pairs_of};
 ghost use Rattle.mine_classes.specs.Runs.{ArePairsOf, AreRunsOf, HaveAllRuns, HaveRuns, runs_of, with_run};
 ghost use Rattle.mine_classes.specs.Span.{IsWithin, baskets_at};
 
-use crate::ordered::Ordered;
+use crate::list_baskets::ListBaskets;
 use crate::pairs::Sums;
 use crate::span::Span;
 use std::alloc::{AllocError, Global};
@@ -32,7 +32,7 @@ pub struct Runs {
 }
 
 impl Model for Runs {
-    ghost use Rattle.mine_classes.specs.Ordered.{RankBaskets, AreRankBaskets};
+    ghost use Rattle.mine_classes.specs.ListBaskets.{RankBaskets, AreRankBaskets};
     ghost use Rattle.mine_classes.specs.Runs.{ArePairsOf, AreRunsOf, HaveAllRuns, runs_of};
     ghost use Rattle.mine_classes.specs.Span.{baskets_at};
 
@@ -47,10 +47,10 @@ impl Model for Runs {
 
 impl Runs {
     /// The runs of the baskets.
-    pub fn of(alloc: Global, ordered: Ordered) -> Result<Self, AllocError>
-        ensures { IfOk result (λ runs. runs ≡ ordered) }
+    pub fn of(alloc: Global, lists: ListBaskets) -> Result<Self, AllocError>
+        ensures { IfOk result (λ runs. runs ≡ lists) }
     {
-        let (count, ranks, baskets) = ordered.into_parts();
+        let (count, ranks, baskets) = lists.into_parts();
         let of = all_runs(alloc, count, &ranks, &baskets)?;
         Ok(Runs {
             count,

@@ -2,7 +2,7 @@
 ghost use Rattle.std.specs.Prelude.{◌≡◌, ◌≤◌, ◌<◌, ◌+◌, ◌++◌, [], ◌∷◌, false, ℕ, All, IfOk, IsTrue, OnOk, length, sum_by};
 ghost use Rattle.basket_sets.specs.Database.{MOST_WEIGHT};
 ghost use Rattle.mine_classes.specs.declared.words.Word.{Word as Bits};
-ghost use Rattle.mine_classes.specs.Ordered.{HaveSameWeights};
+ghost use Rattle.mine_classes.specs.ListBaskets.{HaveSameWeights};
 ghost use Rattle.mine_classes.specs.Words.{word_places};
 
 use crate::words::{WORD_RANKS, Word, bit_of};

@@ -2,10 +2,10 @@
 ghost use Rattle.std.specs.Prelude.{◌≡◌, ◌≤◌, All, IfOk, sum_by};
 ghost use Rattle.basket_sets.specs.Database.{MOST_WEIGHT};
 ghost use Rattle.mine_classes.specs.declared.words.Word.{Word as Bits};
-ghost use Rattle.mine_classes.specs.Ordered.{AreRankBaskets, HaveSameWeights};
+ghost use Rattle.mine_classes.specs.ListBaskets.{AreRankBaskets, HaveSameWeights};
 ghost use Rattle.mine_classes.specs.Words.{word_places};
 
-use crate::ordered::Ordered;
+use crate::list_baskets::ListBaskets;
 use crate::words::{WORD_RANKS, Word, merged};
 use std::alloc::{AllocError, Global};
 use std::marker::Model;
@@ -22,7 +22,7 @@ impl Model for WordBaskets {
     ghost use Rattle.basket_sets.specs.Database.{MOST_WEIGHT};
     ghost use Rattle.mine_classes.specs.declared.words.TheConstants.{WORD_RANKS};
     ghost use Rattle.mine_classes.specs.declared.words.Word.{Word as Bits};
-    ghost use Rattle.mine_classes.specs.Ordered.{RankBaskets};
+    ghost use Rattle.mine_classes.specs.ListBaskets.{RankBaskets};
     ghost use Rattle.mine_classes.specs.Words.{word_places};
 
     ghost Value = { RankBaskets };
@@ -60,10 +60,10 @@ impl WordBaskets {
     }
 
     /// The same baskets as lists of ranks, in the order of the words.
-    pub fn ordered(&self, alloc: Global) -> Result<Ordered, AllocError>
-        ensures { IfOk result (λ ordered. ordered ≡ self.now) }
+    pub fn lists(&self, alloc: Global) -> Result<ListBaskets, AllocError>
+        ensures { IfOk result (λ lists. lists ≡ self.now) }
     {
-        Ordered::of_words(alloc, self.count, &self.words)
+        ListBaskets::of_words(alloc, self.count, &self.words)
     }
 
     /// The number of ranks, and the words.

@@ -4,7 +4,7 @@ ghost use Rattle.basket_sets.specs.Counts.{AllBelow};
 ghost use Rattle.basket_sets.specs.Database.{MOST_WEIGHT};
 ghost use Rattle.basket_sets.specs.Itemset.{IsRising};
 ghost use Rattle.mine_classes.specs.declared.words.Word.{Word as Bits};
-ghost use Rattle.mine_classes.specs.Ordered.{AreRankBaskets, HaveSameWeights};
+ghost use Rattle.mine_classes.specs.ListBaskets.{AreRankBaskets, HaveSameWeights};
 ghost use Rattle.mine_classes.specs.Places.{placed};
 ghost use Rattle.mine_classes.specs.Span.{IsWithin, baskets_at};
 ghost use Rattle.mine_classes.specs.Words.{AreBits, bits_in, has_rank, ranks_in, word_places};

@@ -23,7 +23,7 @@ use Rattle.basket_sets.proofs.theory.Members.{Member, All-from_Member, Member-ap
 use Rattle.basket_sets.proofs.theory.Rising.{cons_rises, has-from_Member, nil_rises}
 use Rattle.mine_classes.specs.Classes.{ClassesAreAll, ClassesAreListed, ClassesByCodings, ListClasses, ListsClass, RanksAreBelow, class_of, ends_in, extended, with_rank}
 use Rattle.mine_classes.specs.Mined.{ListsHaveClassSize}
-use Rattle.mine_classes.specs.Ordered.{AreRankBaskets, IsRankBasket, RankBaskets}
+use Rattle.mine_classes.specs.ListBaskets.{AreRankBaskets, IsRankBasket, RankBaskets}
 use Rattle.mine_classes.specs.Pairs.{kept_ranks}
 use Rattle.mine_fp.specs.declared.level.Level.{Level}
 use Rattle.mine_fp.specs.Level.{IsBelow, ListsAllAsItems, ListsClassAsItems, as_items, items_of, suffix_of}

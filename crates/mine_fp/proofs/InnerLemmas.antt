@@ -17,7 +17,7 @@ use Rattle.basket_sets.proofs.theory.Members.{Contains-from_Member, Member, Memb
 use Rattle.basket_sets.proofs.theory.Rising.{contains_each, has-from_Member, has_each, same_test}
 use Rattle.basket_sets.proofs.theory.Support.{subsets_are_frequent, support-cons}
 use Rattle.mine_classes.specs.Conditional.{ConditionalSupports, conditional, is_kept}
-use Rattle.mine_classes.specs.Ordered.{HaveSameWeights}
+use Rattle.mine_classes.specs.ListBaskets.{HaveSameWeights}
 use Rattle.mine_classes.specs.Pairs.{kept_ranks}
 use Rattle.mine_fp.specs.Trees.{has_tree, is_branch, is_straight}
 use Rattle.mine_fp.proofs.LevelLemmas.{Member-into_range, at_place, kept_below, kept_rises, less_at, range_within}

@@ -28,7 +28,7 @@ use Rattle.basket_sets.proofs.theory.Rising.{Member-from_has, contains_each, fir
 use Rattle.mine_classes.specs.declared.words.TheConstants.{WORD_RANKS}
 use Rattle.mine_classes.specs.declared.words.Word.{Word}
 use Rattle.mine_classes.specs.Conditional.{is_kept, kept_place}
-use Rattle.mine_classes.specs.Ordered.{AreRankBaskets, HaveSameWeights, IsRankBasket, RankBaskets, weight_where}
+use Rattle.mine_classes.specs.ListBaskets.{AreRankBaskets, HaveSameWeights, IsRankBasket, RankBaskets, weight_where}
 use Rattle.mine_classes.specs.Pairs.{is_met, kept_ranks, pairs_of}
 use Rattle.mine_classes.specs.declared.span.Span.{Span}
 use Rattle.mine_classes.specs.Span.{basket_at, baskets_at}

@@ -11,7 +11,7 @@ use Rattle.basket_sets.specs.Support.{support_of}
 use Rattle.mine_classes.specs.declared.span.Span.{Span}
 use Rattle.mine_classes.specs.Classes.{ListClasses, ListsClass}
 use Rattle.mine_classes.specs.Conditional.{conditional}
-use Rattle.mine_classes.specs.Ordered.{AreRankBaskets, HaveSameWeights}
+use Rattle.mine_classes.specs.ListBaskets.{AreRankBaskets, HaveSameWeights}
 use Rattle.mine_classes.specs.Pairs.{kept_ranks, named_pair, pairs_of}
 use Rattle.mine_fp.specs.declared.level.Level.{Level}
 use Rattle.mine_fp.specs.declared.level.TheConstants.{DEPTH}

@@ -8,7 +8,7 @@ ghost use Rattle.basket_sets.specs.Support.{support_of};
 ghost use Rattle.mine_classes.specs.declared.span.Span.{Span as Run};
 ghost use Rattle.mine_classes.specs.Conditional.{conditional};
 ghost use Rattle.mine_classes.specs.Form.{form_baskets as kept_baskets};
-ghost use Rattle.mine_classes.specs.Ordered.{AreRankBaskets, HaveSameWeights};
+ghost use Rattle.mine_classes.specs.ListBaskets.{AreRankBaskets, HaveSameWeights};
 ghost use Rattle.mine_classes.specs.Pairs.{kept_ranks, pairs_of};
 ghost use Rattle.mine_fp.specs.Level.{IsOrdered};
 ghost use Rattle.mine_fp.specs.Trees.{is_branch};
@@ -32,7 +32,7 @@ pub enum Form {
 }
 
 impl Model for Paths {
-    ghost use Rattle.mine_classes.specs.Ordered.{RankBaskets};
+    ghost use Rattle.mine_classes.specs.ListBaskets.{RankBaskets};
     ghost use Rattle.mine_fp.specs.Paths.{form_baskets};
 
     ghost Value = { RankBaskets };

@@ -8,7 +8,7 @@ ghost use Rattle.basket_sets.specs.Itemset.{IsRising, contains, has};
 ghost use Rattle.mine_classes.specs.declared.words.TheConstants.{WORD_RANKS};
 ghost use Rattle.mine_classes.specs.declared.words.Word.{Word as Bits};
 ghost use Rattle.mine_classes.specs.Conditional.{kept_place};
-ghost use Rattle.mine_classes.specs.Ordered.{AreRankBaskets, HaveSameWeights};
+ghost use Rattle.mine_classes.specs.ListBaskets.{AreRankBaskets, HaveSameWeights};
 ghost use Rattle.mine_classes.specs.Pairs.{pairs_of};
 ghost use Rattle.mine_classes.specs.Words.{has_rank, ranks_in, word_places};
 ghost use Rattle.mine_fp.specs.Trees.{is_branch};
@@ -33,7 +33,7 @@ impl Model for Words {
     ghost use Rattle.basket_sets.specs.Database.{MOST_WEIGHT};
     ghost use Rattle.mine_classes.specs.declared.words.TheConstants.{WORD_RANKS};
     ghost use Rattle.mine_classes.specs.declared.words.Word.{Word as Bits};
-    ghost use Rattle.mine_classes.specs.Ordered.{RankBaskets};
+    ghost use Rattle.mine_classes.specs.ListBaskets.{RankBaskets};
     ghost use Rattle.mine_classes.specs.Words.{word_places};
 
     ghost Value = { RankBaskets };

@@ -9,7 +9,7 @@ use Rattle.std.specs.declared.vec.Vec.{Vec}
 use Rattle.std.specs.declared.alloc.Global.{Global}
 use Rattle.basket_core.proofs.theory.Shards.{shards_are_all}
 use Rattle.basket_core.specs.Shards.{shard_of}
-use Rattle.mine_classes.specs.Ordered.{RankBaskets}
+use Rattle.mine_classes.specs.ListBaskets.{RankBaskets}
 use Rattle.mine_classes.specs.Pairs.{pairs_of}
 use Rattle.mine_apriori.specs.Pairs.{lists_of}
 use Rattle.mine_phases.specs.Pairs.{pairs_in}

@@ -3,7 +3,7 @@ use Rattle.std.specs.Prelude.{◌≡◌, ◌<◌, ℕ, List, All, IfOk, Vec}
 use Rattle.std.specs.Global.{Global}
 use Rattle.basket_core.specs.Shards.{shard_of}
 use Rattle.mine_apriori.specs.Pairs.{lists_of, pairs_by_greater}
-use Rattle.mine_classes.specs.Ordered.{RankBaskets}
+use Rattle.mine_classes.specs.ListBaskets.{RankBaskets}
 use Rattle.mine_round.specs.RoundView.{RoundView}
 use Rattle.mine_round.specs.SeatView.{SeatView}
 use Rattle.mine_phases.specs.declared.share.Share.{Share}

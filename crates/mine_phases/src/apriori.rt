@@ -15,7 +15,7 @@ use crate::triangle::small_pairs;
 use basket_core::{Coded, Frequent, MineFault};
 use mine_apriori::laws::pairs_by_supports;
 use mine_apriori::{FirstLevel, Levels, frequent_pairs};
-use mine_classes::{Ordered, Runs};
+use mine_classes::{ListBaskets, Runs};
 use std::alloc::{AllocError, Global};
 use std::thread::Threads;
 
@@ -45,7 +45,7 @@ fn pairs<R: Threads + Sync, G: Gate + Sync>(
     // The baskets of a coding are light enough for a least support.
     let _baskets = coded.baskets();
     let least = coded.minimum().least(coded.total());
-    let runs = Runs::of(alloc, Ordered::of_coded(alloc, coded)?)?;
+    let runs = Runs::of(alloc, ListBaskets::of_coded(alloc, coded)?)?;
     count_pairs(rt, alloc, &runs, least, cutting, gate)
 }
 

@@ -1,7 +1,7 @@
 //! The runs of coded baskets, before their classes are mined.
 ghost use Rattle.std.specs.Prelude.{◌≡◌, ℕ, List, IfOk, length};
 ghost use Rattle.basket_sets.specs.Support.{support_of};
-ghost use Rattle.mine_classes.specs.Ordered.{AreRankBaskets, HaveSameWeights};
+ghost use Rattle.mine_classes.specs.ListBaskets.{AreRankBaskets, HaveSameWeights};
 
 use crate::cutting::Cutting;
 use crate::gate::Open;

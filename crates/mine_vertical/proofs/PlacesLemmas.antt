@@ -20,7 +20,7 @@ use Rattle.basket_sets.proofs.theory.Rising.{Member-from_has, has-from_Member, h
 use Rattle.basket_core.specs.Codes.{IsCoding, decoded, decoded_place}
 use Rattle.basket_core.proofs.theory.Coding.{from_decoded, into_decoded}
 use Rattle.mine_classes.specs.declared.words.Word.{Word}
-use Rattle.mine_classes.specs.Ordered.{AreRankBaskets, RankBaskets, weight_where}
+use Rattle.mine_classes.specs.ListBaskets.{AreRankBaskets, RankBaskets, weight_where}
 use Rattle.mine_classes.specs.Words.{has_rank, ranks_in, word_place, word_places}
 use Rattle.mine_vertical.specs.Bits.{word_at, words_from}
 use Rattle.mine_vertical.specs.Cover.{IsAdded, basket_at, cover_of, weights_of}

@@ -20,7 +20,7 @@ use Rattle.basket_sets.proofs.theory.Rising.{Member-from_has, has-from_Member, s
 use Rattle.basket_sets.proofs.theory.Support.{at_least_one, support-cons}
 use Rattle.mine_classes.specs.declared.span.Span.{Span}
 use Rattle.mine_classes.specs.Conditional.{ConditionalSupports, conditional, is_kept}
-use Rattle.mine_classes.specs.Ordered.{weight_where}
+use Rattle.mine_classes.specs.ListBaskets.{weight_where}
 use Rattle.mine_classes.specs.Pairs.{kept_ranks}
 use Rattle.mine_classes.specs.Runs.{AreRunsOf, below}
 use Rattle.mine_classes.specs.Span.{baskets_at}

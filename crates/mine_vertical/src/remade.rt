@@ -7,7 +7,7 @@ ghost use Rattle.basket_sets.specs.declared.weighted.Weighted.{Weighted as Baske
 ghost use Rattle.basket_sets.specs.Database.{MOST_WEIGHT};
 ghost use Rattle.basket_sets.specs.Itemset.{IsRising};
 ghost use Rattle.mine_classes.specs.declared.words.Word.{Word as Bits};
-ghost use Rattle.mine_classes.specs.Ordered.{weight_where};
+ghost use Rattle.mine_classes.specs.ListBaskets.{weight_where};
 ghost use Rattle.mine_classes.specs.Words.{word_places};
 ghost use Rattle.mine_vertical.specs.Cover.{weights_of};
 ghost use Rattle.mine_vertical.specs.Remade.{AreBitsOf, AreOver, GiveSupports, HaveSameNonempty, bit_places};
@@ -77,7 +77,7 @@ fn siblings_of_words<R: Row>(
         × ((test : List ℕ → Bool) → weight_where test others ≡ weight_where (λ basket. test (decoded kept.now basket)) (word_places (length kept.now) words.items))) }
 {
     let merged = WordBaskets::of(alloc, kept.len() as u32, words)?;
-    let (_, ranks, spans) = merged.ordered(alloc)?.into_parts();
+    let (_, ranks, spans) = merged.lists(alloc)?.into_parts();
     let weights = weights_at(alloc, &spans)?;
     let siblings = siblings_of(alloc, kept, &ranks, &spans, &weights)?;
     Ok((weights, siblings))

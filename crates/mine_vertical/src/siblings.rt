@@ -7,7 +7,7 @@ ghost use Rattle.basket_sets.specs.Database.{MOST_WEIGHT};
 ghost use Rattle.basket_sets.specs.Itemset.{AllBelow, IsRising};
 ghost use Rattle.basket_sets.specs.Support.{support_of};
 ghost use Rattle.mine_classes.specs.Conditional.{conditional};
-ghost use Rattle.mine_classes.specs.Ordered.{HaveSameWeights};
+ghost use Rattle.mine_classes.specs.ListBaskets.{HaveSameWeights};
 ghost use Rattle.mine_classes.specs.Pairs.{kept_ranks};
 ghost use Rattle.mine_classes.specs.Span.{IsWithin, baskets_at};
 ghost use Rattle.mine_vertical.specs.Cover.{weights_of};

@@ -3,7 +3,7 @@ ghost use Rattle.std.specs.Prelude.{◌≡◌, IfOk, length};
 ghost use Rattle.basket_core.specs.Codes.{IsCoding};
 ghost use Rattle.basket_sets.specs.Minimum.{IsLeastSupport};
 ghost use Rattle.basket_sets.specs.Support.{total_of};
-ghost use Rattle.mine_classes.specs.Ordered.{HaveSameWeights};
+ghost use Rattle.mine_classes.specs.ListBaskets.{HaveSameWeights};
 
 use basket_core::Coded;
 use mine_apriori::runs_with_pairs;

@@ -3,15 +3,15 @@ ghost use Rattle.mine_classes.specs.Span.{IsWithin};
 
 use super::{NINE_BASKETS, Row, database, long_basket};
 use basket_core::{Coded, Minimum};
-use mine_classes::{Conditional, Ordered, Places, Runs, Span, Sums};
+use mine_classes::{Conditional, ListBaskets, Places, Runs, Span, Sums};
 use std::alloc::Global;
 use std::fmt::Write;
 use std::test::Fail;
 
 /// The baskets at a minimum count of 2, in order.
-fn ordered(alloc: Global, rows: &[Row]) -> Result<Ordered, Fail> {
+fn ordered(alloc: Global, rows: &[Row]) -> Result<ListBaskets, Fail> {
     let coded = Coded::of(alloc, &database(alloc, rows)?, Minimum::Count(2))?;
-    Ok(Ordered::of_coded(alloc, &coded)?)
+    Ok(ListBaskets::of_coded(alloc, &coded)?)
 }
 
 /// The baskets as text.
@@ -29,7 +29,7 @@ fn text(alloc: Global, ranks: &[u32], spans: &[Span]) -> Result<String, Fail>
 }
 
 /// The baskets as text, sorted: no contract tells in which order a conditional database has them.
-fn baskets(alloc: Global, ordered: Ordered) -> Result<String, Fail> {
+fn baskets(alloc: Global, ordered: ListBaskets) -> Result<String, Fail> {
     let (_, ranks, spans) = ordered.into_parts();
     let text = text(alloc, &ranks, &spans)?;
     let mut parts: Vec<&str> = text.split_terminator(") ").collect(alloc)?;
@@ -44,7 +44,7 @@ fn baskets(alloc: Global, ordered: Ordered) -> Result<String, Fail> {
 /// The conditional database of a rank by a least support, where there is such a rank.
 fn conditional(
     alloc: Global,
-    ordered: Ordered,
+    ordered: ListBaskets,
     rank: u32,
     least: u64,
 ) -> Result<Conditional, Fail> {
@@ -91,7 +91,7 @@ fn short_paths_among_many_ranks(rt: HostRuntime) -> Result<(), Fail> {
         rows.push((pair, 2))?;
     }
     let coded = Coded::of(alloc, &database(alloc, &rows)?, Minimum::Count(2))?;
-    let found = conditional(alloc, Ordered::of_coded(alloc, &coded)?, 79, 2)?;
+    let found = conditional(alloc, ListBaskets::of_coded(alloc, &coded)?, 79, 2)?;
     assert_eq!(rt; found.ranks(), [78].as_slice());
     assert_eq!(rt;
         baskets(alloc, found.into_baskets(alloc)?)?.as_str(),
@@ -115,7 +115,7 @@ fn weights_near_the_bound(rt: HostRuntime) -> Result<(), Fail> {
 #[test]
 fn one_basket_of_many_ranks(rt: HostRuntime) -> Result<(), Fail> {
     let alloc = rt.alloc();
-    let ordered = Ordered::of_coded(alloc, &long_basket(alloc)?)?;
+    let ordered = ListBaskets::of_coded(alloc, &long_basket(alloc)?)?;
     let found = conditional(alloc, ordered, 69_999, 1)?;
     assert_eq!(rt; found.ranks().len(), 69_999);
     let of_last = conditional(alloc, found.into_baskets(alloc)?, 69_998, 1)?;

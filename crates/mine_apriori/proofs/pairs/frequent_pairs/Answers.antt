@@ -2,7 +2,7 @@ use Rattle.std.proofs.Common.{◌≡◌, ℕ, List, subst, ap, ◌∙◌}
 use Rattle.std.proofs.lemmas.Result.{IfOk-weaker}
 use Rattle.basket_sets.specs.Minimum.{IsLeastSupport}
 use Rattle.basket_sets.specs.Support.{support_of, total_of}
-use Rattle.mine_classes.specs.Ordered.{RankBaskets}
+use Rattle.mine_classes.specs.ListBaskets.{RankBaskets}
 use Rattle.mine_apriori.specs.Pairs.{ArePairs, lists_of, pairs_by_greater}
 use Rattle.mine_apriori.proofs.PairLemmas.{same_pairs}
 use Rattle.mine_apriori.proofs.pairs.frequent_pairs.Goals as goal

@@ -7,7 +7,7 @@ use Rattle.basket_sets.specs.declared.weighted.Weighted.{Weighted}
 use Rattle.basket_sets.specs.Counts.{AllBelow}
 use Rattle.basket_sets.specs.Support.{all_items, items_of}
 use Rattle.basket_sets.proofs.theory.Rising.{rising-rises}
-use Rattle.mine_classes.specs.Ordered.{IsRankBasket}
+use Rattle.mine_classes.specs.ListBaskets.{IsRankBasket}
 use Rattle.mine_classes.specs.Pairs.{items_met, named_pair, ranks_met}
 use Rattle.mine_classes.specs.Places.{placed}
 use Rattle.mine_classes.specs.Span.{baskets_at}

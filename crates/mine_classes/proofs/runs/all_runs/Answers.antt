@@ -5,7 +5,7 @@ use Rattle.std.proofs.lemmas.List.{take_at, length-map, get_or-map}
 use Rattle.basket_sets.specs.declared.weighted.Weighted.{Weighted}
 use Rattle.basket_sets.specs.Database.{MOST_WEIGHT}
 use Rattle.mine_classes.specs.declared.span.Span.{Span}
-use Rattle.mine_classes.specs.Ordered.{repeats_last}
+use Rattle.mine_classes.specs.ListBaskets.{repeats_last}
 use Rattle.mine_classes.specs.Runs.{HaveAllRuns, HaveRuns, runs_of}
 use Rattle.mine_classes.specs.Span.{basket_at, baskets_at}
 use Rattle.mine_classes.proofs.OrderedLemmas.{some_repeats}

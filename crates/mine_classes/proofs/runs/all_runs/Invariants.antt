@@ -1,5 +1,5 @@
 use Rattle.std.proofs.Common.{◌≡◌, ◌<◌, ℕ, [], true, length, take, get_or}
-use Rattle.mine_classes.specs.Ordered.{repeats_last}
+use Rattle.mine_classes.specs.ListBaskets.{repeats_last}
 use Rattle.mine_classes.specs.Runs.{HaveAllRuns, runs_of}
 use Rattle.mine_classes.specs.Span.{baskets_at}
 use Rattle.mine_classes.proofs.runs.all_runs.Given as goal

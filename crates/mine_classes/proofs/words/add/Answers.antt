@@ -1,7 +1,7 @@
 use Rattle.std.proofs.Common.{◌≡◌, ◌-◌, ◌+◌, ◌<◌, length, get_or, set, sym, ap, ◌∙◌, arith}
 use Rattle.std.proofs.lemmas.List.{get_or_default}
 use Rattle.mine_classes.specs.declared.words.Word.{Word}
-use Rattle.mine_classes.specs.Ordered.{weight_where}
+use Rattle.mine_classes.specs.ListBaskets.{weight_where}
 use Rattle.mine_classes.specs.Words.{word_places}
 use Rattle.mine_classes.proofs.WordLemmas.{heavier_word}
 use Rattle.mine_classes.proofs.words.add.Goals as goal

@@ -2,7 +2,7 @@ use Rattle.std.proofs.Common.{◌≡◌, ◌≤◌, ℕ, take}
 use Rattle.std.specs.Prelude.{All}
 use Rattle.std.specs.List.{sum_by}
 use Rattle.mine_classes.specs.declared.words.Word.{Word}
-use Rattle.mine_classes.specs.Ordered.{HaveSameWeights}
+use Rattle.mine_classes.specs.ListBaskets.{HaveSameWeights}
 use Rattle.mine_classes.specs.Words.{word_places}
 use Rattle.mine_classes.proofs.words.merged.Given as goal
 

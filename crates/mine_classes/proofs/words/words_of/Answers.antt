@@ -9,7 +9,7 @@ use Rattle.basket_sets.specs.Database.{weighted}
 use Rattle.basket_sets.specs.Support.{total_of, weight_at}
 use Rattle.mine_classes.specs.declared.span.Span.{Span}
 use Rattle.mine_classes.specs.declared.words.Word.{Word}
-use Rattle.mine_classes.specs.Ordered.{HaveSameWeights, weight_where}
+use Rattle.mine_classes.specs.ListBaskets.{HaveSameWeights, weight_where}
 use Rattle.mine_classes.specs.Places.{placed}
 use Rattle.mine_classes.specs.Span.{basket_at, baskets_at}
 use Rattle.mine_classes.specs.Words.{bits_in, ranks_in, word_places}

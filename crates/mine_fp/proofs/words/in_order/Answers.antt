@@ -5,7 +5,7 @@ use Rattle.std.proofs.lemmas.List.Sorted.{All-permutation, sum_by-IsPermutation}
 use Rattle.std.proofs.lemmas.Result.{IfOk-weaker}
 use Rattle.basket_sets.specs.Database.{MOST_WEIGHT}
 use Rattle.mine_classes.specs.declared.words.Word.{Word}
-use Rattle.mine_classes.specs.Ordered.{HaveSameWeights, weight_where}
+use Rattle.mine_classes.specs.ListBaskets.{HaveSameWeights, weight_where}
 use Rattle.mine_classes.specs.Words.{word_places}
 use Rattle.mine_fp.proofs.WordLemmas.{moved_words}
 use Rattle.mine_fp.proofs.words.in_order.Goals as goal

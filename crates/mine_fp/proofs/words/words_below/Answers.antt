@@ -7,7 +7,7 @@ use Rattle.basket_core.specs.Codes.{decoded_place}
 use Rattle.basket_sets.specs.Itemset.{has}
 use Rattle.mine_classes.specs.declared.words.Word.{Word}
 use Rattle.mine_classes.specs.Conditional.{kept_place}
-use Rattle.mine_classes.specs.Ordered.{HaveSameWeights}
+use Rattle.mine_classes.specs.ListBaskets.{HaveSameWeights}
 use Rattle.mine_classes.specs.Words.{word_places}
 use Rattle.mine_fp.proofs.ShiftLemmas.{bits_brought}
 use Rattle.mine_fp.proofs.WordLemmas.{below_with, below_without, none}

@@ -8,7 +8,7 @@ use Rattle.mine_round.specs.SeatView.{SeatView}
 use Rattle.mine_round.specs.Totals.{claimed_by}
 use Rattle.basket_core.specs.Shards.{shard_of}
 use Rattle.mine_apriori.specs.Pairs.{lists_of}
-use Rattle.mine_classes.specs.Ordered.{RankBaskets}
+use Rattle.mine_classes.specs.ListBaskets.{RankBaskets}
 use Rattle.mine_phases.specs.Pairs.{PairsParts, pairs_in}
 use Rattle.mine_phases.specs.Share.{pieces_of}
 use Rattle.mine_phases.proofs.PairParts.{lists_of_parts, parts_by_piece}

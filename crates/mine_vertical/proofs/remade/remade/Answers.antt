@@ -3,7 +3,7 @@ use Rattle.std.specs.List.{list_all}
 use Rattle.basket_core.specs.Codes.{decoded}
 use Rattle.basket_sets.specs.Itemset.{contains, has}
 use Rattle.basket_sets.specs.Support.{support_of}
-use Rattle.mine_classes.specs.Ordered.{weight_where}
+use Rattle.mine_classes.specs.ListBaskets.{weight_where}
 use Rattle.mine_vertical.specs.Remade.{AreBitsOf, AreOver, bit_places}
 use Rattle.mine_vertical.proofs.PlacesLemmas.{nothing_in, supports_are}
 use Rattle.mine_vertical.proofs.remade.remade.Goals as goal

@@ -8,7 +8,7 @@ use Rattle.basket_sets.specs.Support.{support_of}
 use Rattle.basket_core.specs.Codes.{coded_place}
 use Rattle.mine_classes.specs.Conditional.{conditional}
 use Rattle.mine_classes.specs.Form.{form_baskets}
-use Rattle.mine_classes.specs.Ordered.{HaveSameWeights}
+use Rattle.mine_classes.specs.ListBaskets.{HaveSameWeights}
 use Rattle.mine_classes.specs.Pairs.{kept_ranks, pairs_of}
 use Rattle.mine_classes.specs.Span.{baskets_at}
 use Rattle.mine_classes.proofs.CodedLemmas.{conditional_coding, conditional_weights, first_of_pairs, kept_below, kept_rises}

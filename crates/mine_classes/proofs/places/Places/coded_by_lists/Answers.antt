@@ -1,6 +1,6 @@
 use Rattle.std.proofs.Common.{sym, ap, ◌∙◌}
 use Rattle.std.proofs.lemmas.List.Elements.{recursion_from_All}
-use Rattle.mine_classes.specs.Ordered.{IsRankBasket, RankBaskets, weight_where}
+use Rattle.mine_classes.specs.ListBaskets.{IsRankBasket, RankBaskets, weight_where}
 use Rattle.mine_classes.specs.Span.{baskets_at}
 use Rattle.mine_classes.proofs.PlaceLemmas.{all_coded, coded_rank_baskets}
 use Rattle.mine_classes.proofs.places.Places.coded_by_lists.Goals as goal

@@ -2,7 +2,7 @@ use Rattle.std.proofs.Common.{length, map, sym, ap, ◌∙◌}
 use Rattle.std.proofs.lemmas.List.Elements.{recursion_from_All}
 use Rattle.std.proofs.lemmas.Result.{IfOk-weaker}
 use Rattle.basket_core.specs.Codes.{coded_place}
-use Rattle.mine_classes.specs.Ordered.{HaveSameWeights, IsRankBasket, weight_where}
+use Rattle.mine_classes.specs.ListBaskets.{HaveSameWeights, IsRankBasket, weight_where}
 use Rattle.mine_classes.specs.Span.{baskets_at}
 use Rattle.mine_classes.specs.Words.{word_places}
 use Rattle.mine_classes.proofs.PlaceLemmas.{all_coded}

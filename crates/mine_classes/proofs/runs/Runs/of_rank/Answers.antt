@@ -1,5 +1,5 @@
 use Rattle.std.proofs.Common.{◌<◌, [], get_or, ap, subst, sym, ◌∙◌, arith}
-use Rattle.mine_classes.specs.Ordered.{RankBaskets}
+use Rattle.mine_classes.specs.ListBaskets.{RankBaskets}
 use Rattle.mine_classes.specs.Runs.{AreRunsOf, runs_of}
 use Rattle.mine_classes.proofs.RunLemmas.{length-runs_of, runs_at}
 use Rattle.mine_classes.proofs.runs.Runs.of_rank.Goals as goal

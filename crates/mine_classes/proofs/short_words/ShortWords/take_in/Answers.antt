@@ -2,7 +2,7 @@ use Rattle.std.proofs.Common.{◌+◌, ◌<◌, length, set, sym, ap, ◌∙◌,
 use Rattle.std.specs.Int.{leading_zeros, w64}
 use Rattle.std.proofs.lemmas.List.{get_or_default}
 use Rattle.mine_classes.specs.declared.words.Word.{Word}
-use Rattle.mine_classes.specs.Ordered.{weight_where}
+use Rattle.mine_classes.specs.ListBaskets.{weight_where}
 use Rattle.mine_classes.specs.Words.{word_places}
 use Rattle.mine_classes.proofs.WordLemmas.{heavier_word}
 use Rattle.mine_classes.proofs.short_words.ShortWords.take_in.Goals as goal

@@ -3,7 +3,7 @@ use Rattle.std.specs.Prelude.{All}
 use Rattle.std.specs.List.{sum_by}
 use Rattle.std.proofs.lemmas.List.Sorted.{All-permutation, sum_by-IsPermutation}
 use Rattle.mine_classes.specs.declared.words.Word.{Word}
-use Rattle.mine_classes.specs.Ordered.{weight_where}
+use Rattle.mine_classes.specs.ListBaskets.{weight_where}
 use Rattle.mine_classes.specs.Words.{word_places}
 use Rattle.mine_classes.proofs.WordLemmas.{moved_words, words_ranked}
 use Rattle.mine_classes.proofs.word_baskets.WordBaskets.of.Goals as goal

@@ -6,7 +6,7 @@ use Rattle.basket_sets.specs.declared.weighted.Weighted.{Weighted}
 use Rattle.basket_sets.specs.Itemset.{has}
 use Rattle.mine_classes.specs.declared.words.Word.{Word}
 use Rattle.mine_classes.specs.Conditional.{kept_place}
-use Rattle.mine_classes.specs.Ordered.{HaveSameWeights}
+use Rattle.mine_classes.specs.ListBaskets.{HaveSameWeights}
 use Rattle.mine_classes.specs.Words.{word_places}
 use Rattle.mine_fp.proofs.WordLemmas.{decoded_weights, words_ranked}
 use Rattle.mine_fp.proofs.words.Words.below.Goals as goal

@@ -1,4 +1,4 @@
--- Baskets side by side with those that are equal, and each distinct one once.
+-- Baskets as lists of ranks: side by side with those that are equal, and each distinct one once.
 use Rattle.std.specs.Prelude.{◌≡◌, ◌≤◌, ◌+◌, ◌++◌, ℕ, Bool, false, List, [], ◌∷◌, fold, map, All, if◌then◌else◌, nat_eq}
 use Rattle.std.specs.declared.cmp.Ordering.{Ordering}
 use Rattle.std.specs.declared.cmp.Ordering.TheVariants.{Less}
@@ -11,7 +11,7 @@ use Rattle.basket_sets.specs.Counts.{AllBelow}
 use Rattle.basket_sets.specs.Database.{HasWeight, MOST_WEIGHT, weighted}
 use Rattle.basket_sets.specs.Itemset.{IsRising}
 use Rattle.basket_sets.specs.Support.{total_of}
-use Rattle.mine_classes.specs.declared.ordered.Entry.{Entry}
+use Rattle.mine_classes.specs.declared.list_baskets.Entry.{Entry}
 
 -- a basket of ranks: they rise, and each is below a number of ranks
 pub record IsRankBasket (ranks : ℕ) (place : Weighted) : Type 0 where

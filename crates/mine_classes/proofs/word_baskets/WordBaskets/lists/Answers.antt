@@ -1,8 +1,8 @@
 use Rattle.std.proofs.Common.{subst, sym}
-use Rattle.mine_classes.specs.Ordered.{AreRankBaskets}
+use Rattle.mine_classes.specs.ListBaskets.{AreRankBaskets}
 use Rattle.mine_classes.specs.Words.{word_places}
 use Rattle.mine_classes.proofs.WordLemmas.{words_ranked}
-use Rattle.mine_classes.proofs.word_baskets.WordBaskets.ordered.Goals as goal
+use Rattle.mine_classes.proofs.word_baskets.WordBaskets.lists.Goals as goal
 
 pub of_words-requires-clause-ranked : goal.of_words-requires-clause-ranked
 of_words-requires-clause-ranked c =
