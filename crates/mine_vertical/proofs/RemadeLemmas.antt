@@ -1,5 +1,6 @@
 -- A node over a database that is made anew: the search below it is that below the node.
 use Rattle.std.proofs.Common.{◌≡◌, ◌≢◌, ℕ, zero, suc, ◌+◌, ◌<◌, ◌≤◌, Bool, true, false, ◌&&◌, List, [], ◌∷◌, ◌++◌, length, map, cond, leb, refl, sym, ap, ◌∙◌, subst, inl, inr, arith, append_assoc, zero-add}
+use Rattle.std.specs.Prelude.{All}
 use Rattle.std.specs.List.{filter, list_all, range_with_len}
 use Rattle.std.proofs.lemmas.Bool.{and_from, cases_Bool, cases_eq, true≢false}
 use Rattle.std.proofs.lemmas.List.{map-append}
@@ -13,8 +14,9 @@ use Rattle.basket_sets.proofs.theory.Members.{Member, Member-append_left, Member
 use Rattle.basket_sets.proofs.theory.Rising.{has-from_Member, nil_rises, contains_each}
 use Rattle.basket_sets.proofs.theory.Support.{subsets_are_frequent}
 use Rattle.mine_vertical.specs.declared.search.Sibling.{Sibling}
+use Rattle.mine_vertical.specs.Cover.{weights_of}
 use Rattle.mine_vertical.specs.Remade.{AreOver, GiveSupports}
-use Rattle.mine_vertical.specs.Search.{IsNode, Node, found_at, is_met}
+use Rattle.mine_vertical.specs.Search.{IsNode, IsSibling, Node, found_at, is_met, joins_at, sets_at}
 use Rattle.mine_vertical.specs.Walk.{joins_below, kept_below, sets_below}
 use Rattle.mine_vertical.proofs.CoverLemmas.{filter_rises, range_more, range_rises}
 use Rattle.mine_vertical.proofs.FoundLemmas.{from_sets}
@@ -186,3 +188,23 @@ module _ {R : Type 0} (stands : List ℕ → List ℕ → List ℕ → R → Typ
       as_many : (found : List (List ℕ)) → length (map (λ more. more ++ node.set) found) ≡ length found
       as_many [] = refl
       as_many (more ∷ found) = ap suc (as_many found)
+
+-- a node over a database that was made anew, and that what is found there is what is found below the node that it stands for
+pub record GoesOn {R : Type 0} (stands : List ℕ → List ℕ → List ℕ → R → Type 0) (least : ℕ) (set items : List ℕ) (node : Node) (weights : List ℕ) (siblings : List (Sibling R)) (others : List Weighted) : Type 0 where
+  pub inner : IsNode stands weights least siblings set items (over others node)
+  pub sets : map (found_at items (over others node)) (sets_at least (over others node)) ≡ map (found_at items node) (sets_at least node)
+  pub joins : joins_at least (over others node) ≡ joins_at least node
+  pub long : length (sets_at least (over others node)) ≡ length (sets_at least node)
+
+pub goes_on : {R : Type 0} (stands : List ℕ → List ℕ → List ℕ → R → Type 0) (weights : List ℕ) (least : ℕ) (siblings : List (Sibling R)) (set items : List ℕ) (node : Node)
+    → IsNode stands weights least siblings set items node → (other_weights : List ℕ) (made now : List (Sibling R)) (others : List Weighted) → now ≡ made → AreOver stands (ranks stands siblings) other_weights made others
+    → ((baskets : List Weighted) (taken : List ℕ) → weights ≡ weights_of baskets → All (IsSibling stands baskets taken) siblings → GiveSupports baskets taken (ranks stands siblings) others)
+    → GoesOn stands least set items node other_weights now others
+goes_on stands weights least siblings set items node is other_weights made now others same are gives =
+    let supports = gives node.baskets node.set is.weighs is.rows in
+    record {
+      inner = subst (λ l. IsNode stands other_weights least l set items (over others node)) (sym same) (over_is stands weights least siblings set items node is others supports other_weights made are);
+      sets = over_sets stands weights least siblings set items node is others supports;
+      joins = over_joins stands weights least siblings set items node is others supports;
+      long = over_long stands weights least siblings set items node is others supports;
+    }

@@ -17,7 +17,7 @@ use Rattle.basket_lists.proofs.theory.Places.{set_added}
 use Rattle.mine_vertical.proofs.SearchLemmas.{counted_row, sibling_at}
 use Rattle.mine_vertical.proofs.WalkLemmas.{branch_joins, joins_are_branches, sets_are_branches}
 use Rattle.mine_vertical.proofs.NodeLemmas.{as_many, child, child_is, child_known, child_set, fewer, found_by, joins_more, long, longer_set, no_joins, no_sets, part_more, part_within, place_few, rank_at, sets_long, sets_more, told_is}
-use Rattle.mine_vertical.proofs.RemadeLemmas.{kept_rises, over, over_is, over_joins, over_long, over_sets}
+use Rattle.mine_vertical.proofs.RemadeLemmas.{goes_on, kept_rises, over}
 use Rattle.mine_vertical.proofs.search.Search.+search.Goals as goal
 use Rattle.mine_vertical.proofs.search.Search.+search.Goals.{extend-then-kept-gt0+in_ok-extend_set, extend-else-kept-gt0}
 
@@ -87,8 +87,7 @@ extend-returns-in_err-kept-clause-at_most g t c = λ node is.
 pub extend-returns-in_err-longer-clause-too_many : goal.extend-returns-in_err-longer-clause-too_many
 extend-returns-in_err-longer-clause-too_many g t c = λ limit e.
     let p = err_from_is_err_and c.from_residual.result c.from_residual.ensures.1 in
-    let both = sym p.1 ∙ e in
-    let fault : p.0 ≡ TooMany limit = cc in
+    let both = sym p.1 ∙ e in let fault : p.0 ≡ TooMany limit = cc in
     let (same, why) = c.add_longer.ensures.too_many limit (c.in_err-longer.was ∙ ap Err (sym p.2 ∙ fault)) in (
       same ∙ c.loop-at.invariant.limit,
       λ node is.
@@ -110,12 +109,8 @@ extend-returns-in_err-longer-clause-too_many g t c = λ limit e.
 pub extend-joined-requires-clause-rows : goal.extend-joined-requires-clause-rows
 extend-joined-requires-clause-rows g t c =
     let (node, is) = c.requires.node in
-    let search = c.args.self.now in
     let stands = g.R.Row.stands in
-    let weights = search.weights.now in
     let siblings = c.args.siblings.now in
-    let set = set_at c.args.mined.now.sets c.args.place in
-    let items = search.coded.now.items in
     let i = c.loop-at.at in
     let here = c.loop-at-test.true in
     let sibling = c.index-siblings-at.result in
@@ -216,8 +211,7 @@ extend-returns-in_err-extend_set-clause-at_most g t c = λ node is.
 pub extend-returns-in_err-extend_set-clause-too_many : goal.extend-returns-in_err-extend_set-clause-too_many
 extend-returns-in_err-extend_set-clause-too_many g t c = λ limit e.
     let p = err_from_is_err_and c.from_residual-in_err-extend_set.result c.from_residual-in_err-extend_set.ensures.1 in
-    let both = sym p.1 ∙ e in
-    let fault : p.0 ≡ TooMany limit = cc in
+    let both = sym p.1 ∙ e in let fault : p.0 ≡ TooMany limit = cc in
     let (same, why) = c.extend_set.ensures.too_many limit (c.in_err-extend_set.was ∙ ap Err (sym p.2 ∙ fault)) in (
       same ∙ c.add_longer.ensures.limit ∙ c.loop-at.invariant.limit,
       λ node is.
@@ -356,111 +350,50 @@ extend-returns-clause-joins g t c = λ node is.
 
 pub extend_set-remade-requires-clause-rises : goal.extend_set-remade-requires-clause-rises
 extend_set-remade-requires-clause-rises g t c =
-    let (node, is) = c.requires.node in
-    subst IsRising (sym is.ranks) (kept_rises (is_met node.baskets c.args.self.now.least) node.below node.set)
+    let (node, is) = c.requires.node in subst IsRising (sym is.ranks) (kept_rises (is_met node.baskets c.args.self.now.least) node.below node.set)
 
 pub extend_set-extend-requires : goal.extend_set-extend-requires
 extend_set-extend-requires g t c = λ κs lives.
     let (node, is) = c.requires.node in
-    let search = c.args.self.now in
-    let stands = g.R.Row.stands in
-    let weights = search.weights.now in
-    let siblings = c.args.siblings.now in
-    let set = set_at c.args.mined.now.sets c.args.place in
-    let items = search.coded.now.items in
-    let smaller = c.in-Some.smaller.items in
     let (others, are, gives) = rw c.in-Some.is at c.in_ok-weights.ensures in
-    let supports = gives node.baskets node.set is.weighs is.rows in
-    let inner = subst (λ l. IsNode stands c.in-Some.weights search.least l set items (over others node)) (sym c.deref.ensures.value)
-    (over_is stands weights search.least siblings set items node is others supports c.in-Some.weights smaller are) in
-    let long = ap length c.deref.ensures.value ∙ sym (as_many smaller) ∙ ap length are.ranks_are ∙ as_many siblings in (
+    let on = goes_on g.R.Row.stands c.args.self.now.weights.now c.args.self.now.least c.args.siblings.now (set_at c.args.mined.now.sets c.args.place) c.args.self.now.coded.now.items node is c.in-Some.weights c.in-Some.smaller.items c.deref.result.now others c.deref.ensures.value are gives in
+    let long = ap length c.deref.ensures.value ∙ sym (as_many c.in-Some.smaller.items) ∙ ap length are.ranks_are ∙ as_many c.args.siblings.now in (
       omega (arith, c.decreases, long),
-      (lives.0, (lives.1, ((over others node, inner), (c.requires.found, (c.requires.some, (c.requires.going, (c.requires.few, c.in_ok-inner-in-Some.ensures.room))))))),
+      (lives.0, (lives.1, ((over others node, on.inner), (c.requires.found, (c.requires.some, (c.requires.going, (c.requires.few, c.in_ok-inner-in-Some.ensures.room))))))),
     )
 
 pub extend_set-returns-in_err-extend-in-Some-clause-too_many : goal.extend_set-returns-in_err-extend-in-Some-clause-too_many
 extend_set-returns-in_err-extend-in-Some-clause-too_many g t c = λ limit e.
     let p = err_from_is_err_and c.from_residual-in_err-extend-in-Some.result c.from_residual-in_err-extend-in-Some.ensures.1 in
-    let both = sym p.1 ∙ e in
-    let fault : p.0 ≡ TooMany limit = cc in
+    let both = sym p.1 ∙ e in let fault : p.0 ≡ TooMany limit = cc in
     let (same, why) = c.extend.ensures.too_many limit (c.in_err-extend-in-Some.was ∙ ap Err (sym p.2 ∙ fault)) in (
       same,
       λ node is.
-          let search = c.args.self.now in
-          let stands = g.R.Row.stands in
-          let weights = search.weights.now in
-          let siblings = c.args.siblings.now in
-          let set = set_at c.args.mined.now.sets c.args.place in
-          let items = search.coded.now.items in
-          let smaller = c.in-Some.smaller.items in
           let (others, are, gives) = rw c.in-Some.is at c.in_ok-weights.ensures in
-          let supports = gives node.baskets node.set is.weighs is.rows in
-          let inner = subst (λ l. IsNode stands c.in-Some.weights search.least l set items (over others node)) (sym c.deref.ensures.value)
-          (over_is stands weights search.least siblings set items node is others supports c.in-Some.weights smaller are) in
-          let long = over_long stands weights search.least siblings set items node is others supports in
-          elim (why (over others node) inner) [ inl done ↦ inl done | inr less ↦ inr (omega arith) ],
+          let on = goes_on g.R.Row.stands c.args.self.now.weights.now c.args.self.now.least c.args.siblings.now (set_at c.args.mined.now.sets c.args.place) c.args.self.now.coded.now.items node is c.in-Some.weights c.in-Some.smaller.items c.deref.result.now others c.deref.ensures.value are gives in
+          elim (why (over others node) on.inner) [ inl done ↦ inl done | inr less ↦ inr (omega (arith, on.long)) ],
     )
 
 pub extend_set-returns-in_err-extend-in-Some-clause-at_most : goal.extend_set-returns-in_err-extend-in-Some-clause-at_most
 extend_set-returns-in_err-extend-in-Some-clause-at_most g t c = λ node is.
-    let search = c.args.self.now in
-    let stands = g.R.Row.stands in
-    let weights = search.weights.now in
-    let siblings = c.args.siblings.now in
-    let set = set_at c.args.mined.now.sets c.args.place in
-    let items = search.coded.now.items in
-    let smaller = c.in-Some.smaller.items in
     let (others, are, gives) = rw c.in-Some.is at c.in_ok-weights.ensures in
-    let supports = gives node.baskets node.set is.weighs is.rows in
-    let inner = subst (λ l. IsNode stands c.in-Some.weights search.least l set items (over others node)) (sym c.deref.ensures.value)
-    (over_is stands weights search.least siblings set items node is others supports c.in-Some.weights smaller are) in
-    let long = over_long stands weights search.least siblings set items node is others supports in
-    omega (arith, c.extend.ensures.at_most (over others node) inner)
+    let on = goes_on g.R.Row.stands c.args.self.now.weights.now c.args.self.now.least c.args.siblings.now (set_at c.args.mined.now.sets c.args.place) c.args.self.now.coded.now.items node is c.in-Some.weights c.in-Some.smaller.items c.deref.result.now others c.deref.ensures.value are gives in
+    omega (arith, c.extend.ensures.at_most (over others node) on.inner, on.long)
 
 pub extend_set-returns-in_ok-extend-in-Some-clause-sets : goal.extend_set-returns-in_ok-extend-in-Some-clause-sets
 extend_set-returns-in_ok-extend-in-Some-clause-sets g t c = λ node is.
-    let search = c.args.self.now in
-    let stands = g.R.Row.stands in
-    let weights = search.weights.now in
-    let siblings = c.args.siblings.now in
-    let set = set_at c.args.mined.now.sets c.args.place in
-    let items = search.coded.now.items in
-    let smaller = c.in-Some.smaller.items in
     let (others, are, gives) = rw c.in-Some.is at c.in_ok-weights.ensures in
-    let supports = gives node.baskets node.set is.weighs is.rows in
-    let inner = subst (λ l. IsNode stands c.in-Some.weights search.least l set items (over others node)) (sym c.deref.ensures.value)
-    (over_is stands weights search.least siblings set items node is others supports c.in-Some.weights smaller are) in
-    c.in_ok-extend-in-Some.ensures.sets (over others node) inner
-    ∙ ap (λ l. c.args.mined.now.sets ++ l) (over_sets stands weights search.least siblings set items node is others supports)
+    let on = goes_on g.R.Row.stands c.args.self.now.weights.now c.args.self.now.least c.args.siblings.now (set_at c.args.mined.now.sets c.args.place) c.args.self.now.coded.now.items node is c.in-Some.weights c.in-Some.smaller.items c.deref.result.now others c.deref.ensures.value are gives in
+    c.in_ok-extend-in-Some.ensures.sets (over others node) on.inner ∙ ap (λ l. c.args.mined.now.sets ++ l) on.sets
 
 pub extend_set-returns-in_ok-extend-in-Some-clause-joins : goal.extend_set-returns-in_ok-extend-in-Some-clause-joins
 extend_set-returns-in_ok-extend-in-Some-clause-joins g t c = λ node is.
-    let search = c.args.self.now in
-    let stands = g.R.Row.stands in
-    let weights = search.weights.now in
-    let siblings = c.args.siblings.now in
-    let set = set_at c.args.mined.now.sets c.args.place in
-    let items = search.coded.now.items in
-    let smaller = c.in-Some.smaller.items in
     let (others, are, gives) = rw c.in-Some.is at c.in_ok-weights.ensures in
-    let supports = gives node.baskets node.set is.weighs is.rows in
-    let inner = subst (λ l. IsNode stands c.in-Some.weights search.least l set items (over others node)) (sym c.deref.ensures.value)
-    (over_is stands weights search.least siblings set items node is others supports c.in-Some.weights smaller are) in
-    c.in_ok-extend-in-Some.ensures.joins (over others node) inner
-    ∙ ap (λ n. c.args.mined.now.joins + n) (over_joins stands weights search.least siblings set items node is others supports)
+    let on = goes_on g.R.Row.stands c.args.self.now.weights.now c.args.self.now.least c.args.siblings.now (set_at c.args.mined.now.sets c.args.place) c.args.self.now.coded.now.items node is c.in-Some.weights c.in-Some.smaller.items c.deref.result.now others c.deref.ensures.value are gives in
+    c.in_ok-extend-in-Some.ensures.joins (over others node) on.inner ∙ ap (λ n. c.args.mined.now.joins + n) on.joins
 
 pub extend_set-returns-in_ok-extend-in-Some-clause-at_most : goal.extend_set-returns-in_ok-extend-in-Some-clause-at_most
 extend_set-returns-in_ok-extend-in-Some-clause-at_most g t c = λ node is.
-    let search = c.args.self.now in
-    let stands = g.R.Row.stands in
-    let weights = search.weights.now in
-    let siblings = c.args.siblings.now in
-    let set = set_at c.args.mined.now.sets c.args.place in
-    let items = search.coded.now.items in
-    let smaller = c.in-Some.smaller.items in
     let (others, are, gives) = rw c.in-Some.is at c.in_ok-weights.ensures in
-    let supports = gives node.baskets node.set is.weighs is.rows in
-    let inner = subst (λ l. IsNode stands c.in-Some.weights search.least l set items (over others node)) (sym c.deref.ensures.value)
-    (over_is stands weights search.least siblings set items node is others supports c.in-Some.weights smaller are) in
-    let long = over_long stands weights search.least siblings set items node is others supports in
-    omega (arith, c.extend.ensures.at_most (over others node) inner)
+    let on = goes_on g.R.Row.stands c.args.self.now.weights.now c.args.self.now.least c.args.siblings.now (set_at c.args.mined.now.sets c.args.place) c.args.self.now.coded.now.items node is c.in-Some.weights c.in-Some.smaller.items c.deref.result.now others c.deref.ensures.value are gives in
+    omega (arith, c.extend.ensures.at_most (over others node) on.inner, on.long)
