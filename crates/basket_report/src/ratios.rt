@@ -8,7 +8,7 @@ use itoa::write_digits;
 use std::alloc::{AllocError, Global};
 
 /// How many texts are kept.
-const SLOTS: usize = 2_048;
+const SLOTS: usize = 4_096;
 
 /// How long the text of a fraction of two numbers in 64 bits is at most.
 const ROOM: usize = 41;

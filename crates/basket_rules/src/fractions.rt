@@ -7,7 +7,7 @@ use basket_core::Fraction;
 use std::alloc::{AllocError, Global};
 
 /// How many fractions are kept.
-const SLOTS: usize = 2_048;
+const SLOTS: usize = 4_096;
 
 /// A numerator and a denominator, and the fraction that they are.
 #[derive(Clone, Copy, Debug)]
