@@ -106,7 +106,6 @@ impl<M: ClassMiner, G: Gate> Classes<'_, M, G> {
         ensures same { still result.0 ≡ still seat }
         ensures mined { IfOk result.1 (λ classes. AreMined (M.coding_of self.now.miner.now) (M.is_work self.now.miner.now) (ranks_of (M.coding_of self.now.miner.now) self.now.pieces piece) classes.items) }
         ensures told { IfOk result.1 (λ _. slice_index result.0.held.added 0 ≡ slice_index seat.held.added 0 + piece_size (M.coding_of self.now.miner.now) self.now.pieces piece) }
-        ensures few { IfOk result.1 (λ _. slice_index result.0.held.seen 0 ≤ self.now.limit) }
         ensures at_most { slice_index result.0.held.added 0 ≤ slice_index seat.held.added 0 + piece_size (M.coding_of self.now.miner.now) self.now.pieces piece }
         ensures too_many { (most : ℕ) → result.1 ≡ Err (TooMany most)
             → (most ≡ self.now.limit) × ((self.now.limit < slice_index result.0.held.seen 0) ⊎ HasLargeClass (M.coding_of self.now.miner.now) self.now.limit) }

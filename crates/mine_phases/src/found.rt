@@ -1,11 +1,14 @@
 //! The sets that the workers of a round have found together.
-ghost use Rattle.std.specs.Prelude.{◌≡◌, ◌≤◌, slice_index};
+ghost use Rattle.std.specs.Prelude.{◌≡◌, ◌≤◌, ◌<◌, ◌+◌, ◌-◌, ◌^◌, IsTrue, min, slice_index};
 ghost use Rattle.mine_phases.specs.Found.{CountsSets, no_seat, still};
 ghost use Rattle.mine_round.specs.SeatView.{SeatView};
 
 use basket_core::Tally;
 use mine_round::{Round, RoundSeat};
 use std::marker::{Brand, Model, PhantomData};
+
+/// So many sets are added to the counter at once: each addition takes it from the other workers.
+const PORTION: u64 = 1_024;
 
 /// The seat of a worker as it was where a tally began with it. It is picked where a tally is made,
 /// and the proofs alone see it: what is asked of a miner says nothing of seats.
@@ -17,14 +20,16 @@ impl Start for Brand {
     ghost start = { no_seat };
 }
 
-/// A worker's tally. It counts the sets of all workers in the one counter of a round, and is over
-/// where the number that its worker last saw there is above the limit.
+/// A worker's tally. It counts the sets of all workers in the one counter of a round, to which it adds
+/// its own in portions, and is over where the number that its worker last saw there is above the limit.
 #[derive(Drop)]
 pub struct Found<'a, S: Start> {
     round: &'a Round,
     seat: RoundSeat,
     limit: u32,
     told: u64,
+    /// How many of the sets that were told are not added yet.
+    waiting: u64,
     over: bool,
     of: PhantomData<S>,
 }
@@ -34,9 +39,9 @@ impl<'a, S: Start> Model for Found<'a, S> {
 
     ghost Value = { FoundView };
 
-    ghost view = { λ f. record { round = f.round.now; seat = f.seat; limit = f.limit; told = f.told; over = f.over } };
+    ghost view = { λ f. record { round = f.round.now; seat = f.seat; limit = f.limit; told = f.told; waiting = f.waiting; over = f.over } };
 
-    ghost invariant = { λ f. IsFound S.start (record { round = f.round.now; seat = f.seat; limit = f.limit; told = f.told; over = f.over }) };
+    ghost invariant = { λ f. IsFound S.start (record { round = f.round.now; seat = f.seat; limit = f.limit; told = f.told; waiting = f.waiting; over = f.over }) };
 }
 
 impl<'a, S: Start> Found<'a, S> {
@@ -48,23 +53,31 @@ impl<'a, S: Start> Found<'a, S> {
         requires start { seat ≡ S.start }
         requires counts { CountsSets round.now seat }
         requires few { slice_index seat.held.seen 0 ≤ limit }
-        ensures { result ≡ record { round = round.now; seat = seat; limit = limit; told = 0; over = false } }
+        ensures { result ≡ record { round = round.now; seat = seat; limit = limit; told = 0; waiting = 0; over = false } }
     {
         Found {
             round,
             seat,
             limit,
             told: 0,
+            waiting: 0,
             over: false,
             of: PhantomData,
         }
     }
 
+    /// The seat, which has added all that was told.
     pub fn into_seat(self) -> RoundSeat
-        ensures seat { result ≡ self.entry.seat }
-        ensures found { IsFound S.start self.entry }
+        ensures counts { CountsSets self.entry.round result }
+        ensures same { still result ≡ still S.start }
+        ensures told { slice_index result.held.added 0 ≡ slice_index S.start.held.added 0 + self.entry.told }
+        ensures over { IsTrue self.entry.over → self.entry.limit < slice_index result.held.seen 0 }
     {
-        self.seat
+        let mut seat = self.seat;
+        if !self.over {
+            add_sets(self.round, &mut seat, self.waiting);
+        }
+        seat
     }
 }
 
@@ -88,9 +101,26 @@ impl<'a, S: Start> Tally for Found<'a, S> {
     }
 
     fn tell(&mut self) -> bool {
-        let found = self.round.add(&mut self.seat, 0, 1);
         self.told += 1;
-        self.over = found >= u64::from(self.limit);
+        self.waiting += 1;
+        if self.waiting == PORTION {
+            let seen = add_sets(self.round, &mut self.seat, self.waiting);
+            self.waiting = 0;
+            self.over = seen > u64::from(self.limit);
+        }
         !self.over
     }
+}
+
+/// Adds sets to the counter, and answers how many are there then, or `u64::MAX` where they are more.
+fn add_sets(round: &Round, seat: &mut RoundSeat, sets: u64) -> u64
+    requires counts { CountsSets round.now seat.old }
+    requires few { slice_index seat.old.held.added 0 + sets ≤ 2 ^ 40 }
+    ensures counts { CountsSets round.now seat.new }
+    ensures same { still seat.new ≡ still seat.old }
+    ensures added { slice_index seat.new.held.added 0 ≡ slice_index seat.old.held.added 0 + sets }
+    ensures seen { result ≡ min (slice_index seat.new.held.seen 0) (2 ^ 64 - 1) }
+{
+    let found = round.add(seat, 0, sets);
+    found.saturating_add(sets)
 }

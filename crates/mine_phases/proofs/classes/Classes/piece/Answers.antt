@@ -1,5 +1,4 @@
-use Rattle.std.proofs.Common.{◌≡◌, ap, sym, ◌∙◌, subst, arith, inl, inr, slice_index}
-use Rattle.std.proofs.lemmas.Bool.{ltb-true}
+use Rattle.std.proofs.Common.{◌≡◌, ap, ◌∙◌, subst, arith, inl, inr}
 use Rattle.mine_phases.specs.Classes.{HasLargeClass}
 use Rattle.mine_phases.specs.Found.{FoundView}
 use Rattle.mine_phases.proofs.classes.Classes.piece.Goals as goal
@@ -10,8 +9,7 @@ returns-clause-too_many g c most e =
     let told = c.classes-classes.ensures.too_many most e in
     let is : most ≡ limit = told.0 ∙ ap (λ (f : FoundView). f.limit) c.new-tally.ensures in
     let kept : c.classes-classes.new.tally.limit ≡ limit = c.classes-classes.ensures.limit ∙ ap (λ (f : FoundView). f.limit) c.new-tally.ensures in
-    let seat = ap (λ s. slice_index s.held.seen 0) c.into_seat.ensures.seat in
     elim told.1 [
-      | inl over ↦ (is, inl (let low = ltb-true c.classes-classes.new.tally.limit (slice_index c.classes-classes.new.tally.seat.held.seen 0) (sym c.into_seat.ensures.found.above ∙ over) in omega (arith, low, kept, seat)))
+      | inl over ↦ (is, inl (let low = c.into_seat.ensures.over over in omega (arith, low, kept)))
       | inr large ↦ (is, inr (subst (HasLargeClass (g.M.ClassMiner.coding_of c.args.self.now.miner.now)) is large))
     ]
