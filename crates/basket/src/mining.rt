@@ -133,7 +133,7 @@ pub fn cutting(plan: &Plan) -> Cutting {
     Cutting::new(plan.workers(), plan.pieces())
 }
 
-/// The baskets of a database, coded. Workers count the items.
+/// The baskets of a database, coded. Workers count the items and code the baskets.
 fn coded<R: Threads + Sync, G: Gate + Sync>(
     rt: &R,
     alloc: Global,
@@ -146,7 +146,7 @@ fn coded<R: Threads + Sync, G: Gate + Sync>(
 {
     let counts = count_shared(rt, alloc, database.baskets(), cutting, gate)?;
     let codes = Codes::of(alloc, &counts, database.total(), minimum)?;
-    codes.code_in_place(alloc, database)
+    Ok(codes.code_shared(rt, database, cutting.workers))
 }
 
 /// The list of the frequent sets by Eclat over rows of one type, and how many joins were made for it.

@@ -1,11 +1,8 @@
 -- The code finds the ranks of each basket, and what it makes is a coding.
-use Rattle.std.proofs.Common.{◌≡◌, ℕ, zero, suc, ◌+◌, ◌<◌, ◌≤◌, List, [], ◌∷◌, ◌++◌, length, take, drop, get_or, set, arith, map, Option, Some, None, unwrap_or, Bool, true, false, refl, sym, ap, ◌∙◌, subst, inl, inr}
+use Rattle.std.proofs.Common.{◌≡◌, ℕ, zero, suc, ◌+◌, ◌<◌, ◌≤◌, List, [], ◌∷◌, ◌++◌, length, take, drop, get_or, set, arith, map, Option, Some, None, refl, sym, ap, ◌∙◌, subst, inl, inr}
 use Rattle.std.specs.Prelude.{nat_eq}
-use Rattle.std.specs.Option.{is_some}
-use mir.Val.{bool_byte}
 use Rattle.std.specs.List.{All, cons_option, IsDistinct, filter_map}
-use Rattle.std.proofs.lemmas.List.{append-nil, take-set, take_more, take_more_set}
-use Rattle.std.proofs.lemmas.List.Elements.{All-map, filter_map-append, All-from_recursion, recursion_from_All}
+use Rattle.std.proofs.lemmas.List.Elements.{All-map, All-from_recursion, recursion_from_All}
 use Rattle.basket_sets.specs.declared.weighted.Weighted.{Weighted}
 use Rattle.basket_sets.specs.declared.minimum.Minimum.{Minimum}
 use Rattle.basket_core.specs.Codes.{MOST_RANKS, ranked, rank_of, coded, coded_place, IsCoding, IsCodedPlace, Coding, merged_coding}
@@ -50,25 +47,6 @@ coded_is ranked basket apart = rising_is (filter_map (rank_of ranked) basket) (c
     subst (λ n. Member n (coded ranked basket)) (sym k.2) (into_ranks 0 ranked basket k.0 k.1 (has-from_Member basket (get_or ranked k.0 0) (subst (λ x. Member x basket) (sym k.3) f.1))))
     (λ r m. let k = from_ranks 0 ranked basket r m in
     Member-into_filter_map (rank_of ranked) basket (get_or ranked k.0 0) r (Member-from_has basket (get_or ranked k.0 0) k.3) (rank_at 0 ranked k.0 0 apart k.1 ∙ ap Some (sym k.2)))
-
-pub filter_map_more : (h : ℕ → Option ℕ) (xs : List ℕ) (i : ℕ) → i < length xs → filter_map h (take (i + 1) xs) ≡ filter_map h (take i xs) ++ cons_option (h (get_or xs i 0)) []
-filter_map_more h xs i below = ap (filter_map h) (take_more xs i 0 below) ∙ filter_map-append h (take i xs) (get_or xs i 0 ∷ [])
-
-pub one_at_most : (b : Bool) → bool_byte b ≤ 1
-one_at_most true = omega arith
-one_at_most false = omega arith
-
--- what is put down for one item more, over which the next is put where there is nothing for it
-pub put_more : (h : ℕ → Option ℕ) (xs now : List ℕ) (i len : ℕ) (o : Option ℕ) (more : ℕ) → i < length xs → len < length now → o ≡ h (get_or xs i 0) → more ≡ bool_byte (is_some o)
-    → take len now ≡ filter_map h (take i xs) → take (len + more) (set now len (unwrap_or o 0)) ≡ filter_map h (take (i + 1) xs)
-put_more h xs now i len None more below room is count before =
-    let none : len + more ≡ len = omega (arith, count) in
-    ap (λ n. take n (set now len 0)) none ∙ take-set now len 0 ∙ before
-    ∙ sym (filter_map_more h xs i below ∙ ap (λ o. filter_map h (take i xs) ++ cons_option o []) (sym is) ∙ append-nil (filter_map h (take i xs)))
-put_more h xs now i len (Some y) more below room is count before =
-    let one : len + more ≡ len + 1 = omega (arith, count) in
-    ap (λ n. take n (set now len y)) one ∙ take_more_set now len y room ∙ ap (λ l. l ++ y ∷ []) before
-    ∙ sym (filter_map_more h xs i below ∙ ap (λ o. filter_map h (take i xs) ++ cons_option o []) (sym is))
 
 -- ---- a list is mapped place by place
 

@@ -1,15 +1,19 @@
 //! The frequent items by rank, and baskets as lists of ranks.
-ghost use Rattle.std.specs.Prelude.{◌≡◌, ◌<◌, List, ℕ, IfOk, OnOk, length, map, slice_index_or};
+ghost use Rattle.std.specs.Prelude.{◌≡◌, ◌<◌, ◌≤◌, List, ℕ, IfOk, OnOk, length, map, nat_eq, slice_index_or};
+ghost use Rattle.std.specs.List.{IsDistinct};
 ghost use Rattle.basket_sets.specs.Counts.{AllBelow};
-ghost use Rattle.basket_core.specs.Codes.{IsCoding, coded_place, coding_of, decoded, merged_coding, ranking_of, ranks_of_counts};
+ghost use Rattle.basket_core.specs.Codes.{IsCoding, coded_place, coding_of, decoded, merged_coding, rank_of, ranking_of, ranks_of_counts};
 ghost use Rattle.basket_sets.specs.Itemset.{IsRising};
-ghost use Rattle.basket_core.specs.Ranks.{IsRankTable};
+ghost use Rattle.basket_sets.specs.Database.{IsDatabase};
+ghost use Rattle.basket_sets.specs.declared.weighted.Weighted.{Weighted as Basket};
 ghost use Rattle.basket_sets.specs.Support.{total_of};
 
 use crate::ranks::{RankTable, ranked_items};
-use basket_sets::{Database, Itemset, Minimum, Weighted, count_items, merge_equal};
+use basket_sets::{Database, Itemset, Minimum, Names, Weighted, count_items, merge_equal};
 use std::alloc::{AllocError, Global};
 use std::marker::Model;
+use std::thread;
+use std::thread::Threads;
 
 /// The frequent items by rank: rank 0 is the item of the greatest support, and of items of one
 /// support the least number has the least rank.
@@ -60,24 +64,62 @@ impl Codes {
         requires { self ≡ ranking_of database.now self.minimum }
         ensures { IfOk result (λ coded. coded ≡ coding_of database.now self.minimum) }
     {
-        self.code_in_place(alloc, database.copied(alloc)?)
+        // Nothing is read here: the call brings its contract, which says what a database is.
+        let _places = database.baskets();
+        let mut baskets = database.copied(alloc)?.into_baskets();
+        put_codes(&self, &mut baskets);
+        Ok(self.with_baskets(baskets))
     }
 
-    /// The same, where the ranks take the room of the items.
-    pub fn code_in_place(self, alloc: Global, database: Database) -> Result<Coded, AllocError>
-        requires { self ≡ ranking_of database self.minimum }
-        ensures { IfOk result (λ coded. coded ≡ coding_of database self.minimum) }
+    /// The same by so many threads, where the ranks take the room of the items.
+    pub fn code_shared<R: Threads + Sync>(self, rt: &R, database: Database, threads: u32) -> Coded
+        requires threads { 1 ≤ threads }
+        requires database { self ≡ ranking_of database self.minimum }
+        ensures { result ≡ coding_of database self.minimum }
     {
         // Nothing is read here: the call brings its contract, which says what a database is.
         let _places = database.baskets();
         let mut baskets = database.into_baskets();
-        put_codes(alloc, &self.ranks, &mut baskets)?;
-        Ok(Coded {
+        share_codes(rt, &self, &mut baskets, threads);
+        self.with_baskets(baskets)
+    }
+
+    /// Puts a basket's ranks in the place of its items.
+    fn put_ranks(&self, place: &mut Weighted)
+        ensures { place.new ≡ coded_place self.now.items place.old }
+    {
+        // Nothing is read here: the call brings its contract, which says that no item has two ranks.
+        let _items = self.items();
+        place.basket.put_names(self);
+    }
+
+    /// The item of each rank.
+    fn items(&self) -> &[u32]
+        ensures items { result.now ≡ self.now.items }
+        ensures distinct { IsDistinct nat_eq self.now.items }
+    {
+        &self.items
+    }
+
+    /// The coding whose baskets are those of a database as ranks.
+    fn with_baskets(self, baskets: Vec<Weighted>) -> Coded
+        requires { (database : List Basket) × IsDatabase database × (self ≡ ranking_of database self.minimum) × (baskets.items ≡ map (coded_place self.items) database) }
+        ensures { result ≡ record { items = self.items; minimum = self.minimum; baskets = baskets.items } }
+    {
+        Coded {
             items: self.items,
             minimum: self.minimum,
             baskets,
             total: self.total,
-        })
+        }
+    }
+}
+
+impl Names for Codes {
+    ghost name_of = { λ codes. rank_of codes.items };
+
+    fn name(&self, number: u32) -> Option<u32> {
+        self.ranks.rank(number)
     }
 }
 
@@ -190,15 +232,25 @@ impl Coded {
 }
 
 /// Puts each basket's ranks in the place of its items.
-fn put_codes(alloc: Global, table: &RankTable, baskets: &mut [Weighted]) -> Result<(), AllocError>
-    ensures { OnOk result ((ranked : List ℕ) → IsRankTable ranked table.now → baskets.new ≡ map (coded_place ranked) baskets.old) }
+fn put_codes(codes: &Codes, baskets: &mut [Weighted])
+    ensures { baskets.new ≡ map (coded_place codes.now.items) baskets.old }
 {
-    let mut ranks = Vec::new(alloc);
     for place in 0..baskets.len() {
-        let basket = &mut baskets[place].basket;
-        ranks.resize(basket.len(), 0)?;
-        let len = table.put_ranks(basket.items(), &mut ranks);
-        basket.refill(&ranks[..len]);
+        codes.put_ranks(&mut baskets[place]);
     }
-    Ok(())
+}
+
+/// The same by so many threads.
+fn share_codes<R: Threads + Sync>(rt: &R, codes: &Codes, baskets: &mut [Weighted], threads: u32)
+    requires { 1 ≤ threads }
+    ensures { baskets.new ≡ map (coded_place codes.now.items) baskets.old }
+{
+    thread::for_each_mut(
+        rt,
+        baskets,
+        threads as usize,
+        &|_, place: &mut Weighted|
+            ensures { place.exit.now ≡ coded_place codes.entry.now.items place.entry.now }
+        { codes.put_ranks(place) },
+    );
 }

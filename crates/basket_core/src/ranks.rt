@@ -99,7 +99,7 @@ impl RankTable {
         })
     }
 
-    fn rank(&self, item: u32) -> Option<u32>
+    pub fn rank(&self, item: u32) -> Option<u32>
         ensures { (ranked : List ℕ) → IsRankTable ranked self.now → result ≡ rank_of ranked item }
     {
         if (item as usize) < self.slots.len() {
@@ -109,23 +109,6 @@ impl RankTable {
             Ok(place) => self.ranks.get(place).copied(),
             Err(_) => None,
         }
-    }
-
-    /// Puts the ranks of the basket's frequent items at the front of a list, and answers how many they
-    /// are. A rank is written for each item, and the next one over it where the item has none: which
-    /// have one can't be predicted, so a branch would cost more.
-    pub fn put_ranks(&self, basket: &[u32], ranks: &mut [u32]) -> usize
-        requires room { length basket.now ≤ length ranks.old }
-        ensures ranks { (ranked : List ℕ) → IsRankTable ranked self.now → take result ranks.new ≡ filter_map (rank_of ranked) basket.now }
-        ensures few { result ≤ length basket.now }
-    {
-        let mut len = 0;
-        for item in basket {
-            let rank = self.rank(*item);
-            ranks[len] = rank.unwrap_or(0);
-            len += usize::from(rank.is_some());
-        }
-        len
     }
 }
 

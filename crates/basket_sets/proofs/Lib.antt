@@ -4,4 +4,5 @@ mod LeastLemmas
 mod CountLemmas
 mod MergeLemmas
 mod PlaceLemmas
+mod NameLemmas
 mod RenameLemmas

@@ -2,12 +2,14 @@ ghost use Rattle.std.specs.Prelude.{◌≡◌, ◌≤◌, ◌<◌, [], ◌↔◌
 ghost use Rattle.std.specs.Cmp.{partial_equiv_from_equiv};
 ghost use Rattle.std.specs.Cmp.Lexicographic.{pointwise, nat_list_eq_equiv};
 ghost use Rattle.std.specs.Hash as fed;
+ghost use Rattle.std.specs.List.{filter_map};
 ghost use Rattle.std.specs.Ordering.{as_partial_cmp};
 ghost use Rattle.std.proofs.Common.{refl};
 ghost use Rattle.basket_sets.specs.Order.{report_order, report_order_total, report_order_ties, report_order_partial, items_fed_alike};
 ghost use Rattle.basket_sets.specs.Itemset.{AllBelow, IsRising, has, contains, rising, with_item};
 ghost use Rattle.basket_sets.specs.declared.itemset.TheConstants.{INLINE_ITEMS};
 
+use crate::names::{Names, put_names};
 use crate::short::put_in_order;
 use smallvec::SmallVec;
 use std::alloc::{AllocError, Global};
@@ -78,13 +80,13 @@ impl Itemset {
         Ok(Itemset { items })
     }
 
-    /// Puts the set of other numbers in the place of this one. It takes the room of the items.
-    pub fn refill(&mut self, numbers: &[u32])
-        requires { length numbers.now ≤ length self.old }
-        ensures { self.new ≡ rising numbers.now }
+    /// Puts the set of the names of its items in the place of this one. An item without a name is left
+    /// out.
+    pub fn put_names<N: Names>(&mut self, names: &N)
+        ensures { self.new ≡ rising (filter_map (N.name_of names.now) self.old) }
     {
-        self.items.truncate(numbers.len());
-        self.items.as_mut_slice().copy_from_slice(numbers);
+        let len = put_names(self.items.as_mut_slice(), names);
+        self.items.truncate(len);
         put_rising(&mut self.items);
     }
 

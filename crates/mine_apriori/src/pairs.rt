@@ -9,6 +9,9 @@ use basket_core::Coded;
 use mine_classes::{ListBaskets, Runs, Sums};
 use std::alloc::{AllocError, Global};
 
+/// Where of so many baskets no more than one stays once equal ones are merged, most are equal to others.
+const SHARED: usize = 4;
+
 /// For each rank the ranks below it that are frequent together with it, rising, each with the
 /// support of the pair. Time and memory follow the baskets and these pairs, however many ranks
 /// there are.
@@ -23,49 +26,50 @@ pub fn frequent_pairs(alloc: Global, coded: &Coded) -> Result<Vec<Vec<(u32, u64)
     pairs_by_runs(alloc, &runs, least)
 }
 
-/// The runs of the coded baskets. They keep the frequent pairs of each rank where a count for each
-/// pair of ranks is small: one pass over the baskets then spares the sums of each rank.
+/// The runs of the coded baskets. They keep the frequent pairs of each rank where it pays to count each
+/// pair of ranks: one pass over the baskets then spares the sums of each rank.
 pub fn runs_with_pairs(alloc: Global, coded: &Coded) -> Result<Runs, AllocError>
     ensures ranks { IfOk result (λ runs. runs.ranks ≡ length coded.now.items) }
     ensures ranked { IfOk result AreRankBaskets }
     ensures weights { IfOk result (λ runs. HaveSameWeights coded.now.baskets runs.baskets) }
     ensures supports { IfOk result (λ runs. (set : List ℕ) → support_of runs.baskets set ≡ support_of coded.now.baskets set) }
 {
+    let lists = ListBaskets::of_coded(alloc, coded)?;
     // Before the runs, which take the room that the counts leave.
-    let pairs = small_pairs(alloc, coded)?;
-    runs_keeping(alloc, coded, pairs)
+    let pairs = if pays_for_classes(coded, &lists) {
+        pairs_by_triangle(alloc, coded)?
+    } else {
+        Vec::new(alloc)
+    };
+    runs_keeping(alloc, coded, lists, pairs)
 }
 
-/// The runs of the coded baskets. They keep the frequent pairs of each rank, or none where none are
-/// given.
+/// The runs of the coded baskets, given in lexicographic order, equal ones merged. They keep the frequent
+/// pairs of each rank, or none where none are given.
 pub fn runs_keeping(
     alloc: Global,
     coded: &Coded,
+    lists: ListBaskets,
     pairs: Vec<Vec<(u32, u64)>>,
 ) -> Result<Runs, AllocError>
-    requires { 0 < length pairs.items → ArePairs coded.now (lists_of pairs.items) }
-    ensures ranks { IfOk result (λ runs. runs.ranks ≡ length coded.now.items) }
-    ensures ranked { IfOk result AreRankBaskets }
-    ensures weights { IfOk result (λ runs. HaveSameWeights coded.now.baskets runs.baskets) }
-    ensures supports { IfOk result (λ runs. (set : List ℕ) → support_of runs.baskets set ≡ support_of coded.now.baskets set) }
+    requires supports { (set : List ℕ) → support_of lists.baskets set ≡ support_of coded.now.baskets set }
+    requires pairs { 0 < length pairs.items → ArePairs coded.now (lists_of pairs.items) }
+    ensures { IfOk result (λ runs. runs ≡ lists) }
 {
     // The baskets of a coding are light enough for a least support.
     let _ = coded.baskets();
     let least = coded.minimum().least(coded.total());
-    let mut runs = Runs::of(alloc, ListBaskets::of_coded(alloc, coded)?)?;
+    let mut runs = Runs::of(alloc, lists)?;
     runs.keep_pairs(pairs, least);
     Ok(runs)
 }
 
-/// The pairs of each rank where a count for each pair of ranks is small, else of none. The runs are made
-/// in any case, and sum the pairs of a rank as fast as a triangle that is larger than the caches.
-fn small_pairs(alloc: Global, coded: &Coded) -> Result<Vec<Vec<(u32, u64)>>, AllocError>
-    ensures { IfOk result (λ lists. 0 < length lists.items → ArePairs coded.now (lists_of lists.items)) }
-{
-    if is_small_triangle(coded.ranks(), coded.baskets().len() / 2) {
-        return pairs_by_triangle(alloc, coded);
-    }
-    Ok(Vec::new(alloc))
+/// Whether a miner that goes class by class has a count for each pair of ranks. The runs are made in any
+/// case, and sum the pairs of a rank as fast as a triangle that is larger than the caches, and faster
+/// where most baskets are equal to others.
+pub fn pays_for_classes(coded: &Coded, lists: &ListBaskets) -> bool {
+    let baskets = coded.baskets().len();
+    lists.len() > baskets / SHARED && is_small_triangle(coded.ranks(), baskets / 2)
 }
 
 /// Whether a count for each pair of ranks takes no more memory than the baskets, of which there are
@@ -78,7 +82,7 @@ pub fn is_small_triangle(ranks: u32, baskets: usize) -> bool
 }
 
 /// The same from a count for each pair of ranks.
-fn pairs_by_triangle(alloc: Global, coded: &Coded) -> Result<Vec<Vec<(u32, u64)>>, AllocError>
+pub fn pairs_by_triangle(alloc: Global, coded: &Coded) -> Result<Vec<Vec<(u32, u64)>>, AllocError>
     ensures { IfOk result (λ lists. ArePairs coded.now (lists_of lists.items)) }
 {
     let mut triangle = Triangle::new(alloc, coded.ranks())?;

@@ -11,10 +11,10 @@ use crate::cutting::Cutting;
 use crate::gate::{Gate, pass_alone};
 use crate::level::count_level;
 use crate::pairs::{PHASE, count_pairs};
-use crate::triangle::small_pairs;
+use crate::triangle::triangle_pairs;
 use basket_core::{Coded, Frequent, MineFault};
 use mine_apriori::laws::pairs_by_supports;
-use mine_apriori::{FirstLevel, Levels, frequent_pairs};
+use mine_apriori::{FirstLevel, Levels, frequent_pairs, is_small_triangle};
 use mine_classes::{ListBaskets, Runs};
 use std::alloc::{AllocError, Global};
 use std::thread::Threads;
@@ -38,8 +38,8 @@ fn pairs<R: Threads + Sync, G: Gate + Sync>(
         pass_alone(gate, PHASE, cutting.pieces);
         return frequent_pairs(alloc, coded);
     }
-    if let Some(pairs) = small_pairs(rt, alloc, coded, cutting, gate)? {
-        return Ok(pairs);
+    if is_small_triangle(coded.ranks(), coded.baskets().len()) {
+        return triangle_pairs(rt, alloc, coded, cutting, gate);
     }
     pairs_by_supports();
     // The baskets of a coding are light enough for a least support.

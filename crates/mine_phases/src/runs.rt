@@ -5,15 +5,15 @@ ghost use Rattle.mine_classes.specs.ListBaskets.{AreRankBaskets, HaveSameWeights
 
 use crate::cutting::Cutting;
 use crate::gate::Open;
-use crate::triangle::small_pairs;
+use crate::triangle::triangle_pairs;
 use basket_core::Coded;
-use mine_apriori::{runs_keeping, runs_with_pairs};
-use mine_classes::Runs;
+use mine_apriori::{pays_for_classes, runs_keeping};
+use mine_classes::{ListBaskets, Runs};
 use std::alloc::{AllocError, Global};
 use std::thread::Threads;
 
-/// The runs of the coded baskets. They keep the frequent pairs of each rank where a count for each
-/// pair of ranks is small, which so many workers count over so many parts of the baskets.
+/// The runs of the coded baskets. They keep the frequent pairs of each rank where it pays to count each
+/// pair of ranks, which so many workers do over so many parts of the baskets.
 pub fn runs_shared<R: Threads + Sync>(
     rt: &R,
     alloc: Global,
@@ -25,11 +25,11 @@ pub fn runs_shared<R: Threads + Sync>(
     ensures weights { IfOk result (λ runs. HaveSameWeights coded.now.baskets runs.baskets) }
     ensures supports { IfOk result (λ runs. (set : List ℕ) → support_of runs.baskets set ≡ support_of coded.now.baskets set) }
 {
-    if cutting.workers == 1 {
-        return runs_with_pairs(alloc, coded);
-    }
-    match small_pairs(rt, alloc, coded, cutting, &Open)? {
-        Some(pairs) => runs_keeping(alloc, coded, pairs),
-        None => runs_keeping(alloc, coded, Vec::new(alloc)),
-    }
+    let lists = ListBaskets::of_coded(alloc, coded)?;
+    let pairs = if pays_for_classes(coded, &lists) {
+        triangle_pairs(rt, alloc, coded, cutting, &Open)?
+    } else {
+        Vec::new(alloc)
+    };
+    runs_keeping(alloc, coded, lists, pairs)
 }

@@ -12,7 +12,7 @@ use crate::gate::{Gate, pass_alone};
 use crate::pairs::PHASE;
 use crate::share::{Share, add_counts, by_workers, claim_piece};
 use basket_core::{Coded, MineFault, Weighted, shard};
-use mine_apriori::{Triangle, frequent_pairs, is_small_triangle, pair_count, pairs_of_supports};
+use mine_apriori::{Triangle, pair_count, pairs_by_triangle, pairs_of_supports};
 use mine_round::{Round, RoundSeat};
 use std::alloc::{AllocError, Global};
 use std::thread::Threads;
@@ -129,28 +129,24 @@ fn with_triangles(coded: &Coded, cutting: Cutting) -> Cutting {
     Cutting::new(workers as u32, cutting.pieces)
 }
 
-/// The frequent pairs of each rank, counted by so many workers over so many parts of the baskets, or
-/// none where a count for each pair of ranks is large.
-pub fn small_pairs<R: Threads + Sync, G: Gate + Sync>(
+/// The frequent pairs of each rank, by a count for each pair of ranks, by so many workers over so many
+/// parts of the baskets. One worker has all parts, and needs no counts beside its own.
+pub fn triangle_pairs<R: Threads + Sync, G: Gate + Sync>(
     rt: &R,
     alloc: Global,
     coded: &Coded,
     cutting: Cutting,
     gate: &G,
-) -> Result<Option<Vec<Vec<(u32, u64)>>>, AllocError>
-    ensures { IfOk result (λ found. IfSome found (λ lists. ArePairs coded.now (lists_of lists.items))) }
+) -> Result<Vec<Vec<(u32, u64)>>, AllocError>
+    ensures { IfOk result (λ lists. ArePairs coded.now (lists_of lists.items)) }
 {
     // Nothing is read here: the call brings its contract, which says that the baskets are a coding's.
-    let baskets = coded.baskets();
-    if !is_small_triangle(coded.ranks(), baskets.len()) {
-        return Ok(None);
-    }
+    let _baskets = coded.baskets();
     let fewer = with_triangles(coded, cutting);
     if fewer.workers == 1 {
         pass_alone(gate, PHASE, cutting.pieces);
-        return Ok(Some(frequent_pairs(alloc, coded)?));
+        return pairs_by_triangle(alloc, coded);
     }
     let supports = count_triangle(rt, alloc, coded, fewer, gate)?;
-    let pairs = pairs_of_supports(alloc, coded, &supports)?;
-    Ok(Some(pairs))
+    pairs_of_supports(alloc, coded, &supports)
 }

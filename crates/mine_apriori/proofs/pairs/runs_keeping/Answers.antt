@@ -12,6 +12,6 @@ keep_pairs-requires c =
     let settles : IsLeastSupport coding.minimum (total_of coding.baskets) least = subst (λ m. IsLeastSupport m (total_of coding.baskets) least) c.minimum.ensures
     (subst (λ n. IsLeastSupport c.minimum.result n least) c.total.ensures c.least-least.ensures) in
     let same : (set : List ℕ) → support_of c.in_ok-runs.runs.baskets set ≡ support_of coding.baskets set =
-    λ set. ap (λ (o : RankBaskets). support_of o.baskets set) c.in_ok-runs.ensures ∙ c.in_ok-of_coded.ensures.supports set in
+    λ set. ap (λ (o : RankBaskets). support_of o.baskets set) c.in_ok-runs.ensures ∙ c.requires.supports set in
     let lists = c.args.pairs.items in
-    λ rank none below. pairs_for coding least c.in_ok-runs.runs.baskets lists settles same (c.requires (omega (arith, below))) rank none below
+    λ rank none below. pairs_for coding least c.in_ok-runs.runs.baskets lists settles same (c.requires.pairs (omega (arith, below))) rank none below
