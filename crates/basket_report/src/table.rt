@@ -58,8 +58,8 @@ impl<'a> Table<'a> {
             field,
         } = self;
         put_number_field(writer, field, figures.count)?;
-        put_fraction_field(writer, field, &figures.confidence)?;
-        put_fraction_field(writer, field, &figures.lift)?;
+        put_fraction_field(writer, field, &figures.confidence())?;
+        put_fraction_field(writer, field, &figures.lift())?;
         put_number_field(writer, field, sides.left.len() as u64)?;
         put_names(writer, names, &sides.left)?;
         put_names(writer, names, &sides.right)?;
