@@ -137,17 +137,9 @@ fn put_ratios(
     ensures { OnOk result (report.new.items ≡ report.old.items ++ (32 ∷ ratios_text (confidence_of figures.now) (lift_of figures.now) ++ 10 ∷ [])) }
 {
     report.push(b' ')?;
-    ratios.put(
-        report,
-        u128::from(figures.count),
-        u128::from(figures.left_count),
-    )?;
+    ratios.put_confidence(report, figures)?;
     report.push(b' ')?;
-    ratios.put(
-        report,
-        u128::from(figures.count) * u128::from(figures.total),
-        u128::from(figures.left_count) * u128::from(figures.right_count),
-    )?;
+    ratios.put_lift(report, figures)?;
     report.push(b'\n')?;
     Ok(())
 }

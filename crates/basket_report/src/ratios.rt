@@ -2,9 +2,11 @@
 ghost use Rattle.std.specs.Prelude.{◌≡◌, ◌≤◌, ◌++◌, take, OnOk};
 ghost use Rattle.basket_core.specs.Fraction.{lowest};
 ghost use Rattle.basket_report.specs.Texts.{ratio_text};
+ghost use Rattle.basket_rules.specs.Met.{confidence_of, lift_of};
 
 use crate::texts::{put_fraction, put_front};
 use basket_core::Fraction;
+use basket_rules::Figures;
 use itoa::write_digits;
 use std::alloc::{AllocError, Global};
 
@@ -83,8 +85,29 @@ impl Ratios {
         })
     }
 
-    /// Adds the text of a fraction in lowest terms.
-    pub fn put(
+    /// Adds the confidence of a rule.
+    pub fn put_confidence(
+        &mut self,
+        report: &mut Vec<u8>,
+        figures: &Figures,
+    ) -> Result<(), AllocError>
+        ensures { OnOk result (report.new.items ≡ report.old.items ++ ratio_text (confidence_of figures.now)) }
+    {
+        self.put_short(report, figures.count, figures.left_count)
+    }
+
+    /// Adds the lift of a rule.
+    pub fn put_lift(&mut self, report: &mut Vec<u8>, figures: &Figures) -> Result<(), AllocError>
+        ensures { OnOk result (report.new.items ≡ report.old.items ++ ratio_text (lift_of figures.now)) }
+    {
+        self.put(
+            report,
+            u128::from(figures.count) * u128::from(figures.total),
+            u128::from(figures.left_count) * u128::from(figures.right_count),
+        )
+    }
+
+    fn put(
         &mut self,
         report: &mut Vec<u8>,
         numerator: u128,

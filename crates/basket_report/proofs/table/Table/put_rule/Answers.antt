@@ -10,11 +10,11 @@ pub returns : goal.returns
 returns c separator names text has =
     let rule = rule_from c.args.sides.now c.args.figures.now in
     let count = decimal rule.count in
-    let confidence = ratio_text c.confidence.result in
-    let lift = ratio_text c.lift.result in
+    let confidence = ratio_text rule.confidence in
+    let lift = ratio_text rule.lift in
     let first = c.in_ok-put_number_field.ensures separator text [] has.1 in
-    let second = c.in_ok-put_fraction_field.ensures separator text (count ∷ []) first (λ e. cc) in
-    let third = c.in_ok-put_fraction_field-2.ensures separator text (count ∷ confidence ∷ []) second (λ e. cc) in
+    let second = c.in_ok-put_confidence_field.ensures separator text (count ∷ []) first (λ e. cc) in
+    let third = c.in_ok-put_lift_field.ensures separator text (count ∷ confidence ∷ []) second (λ e. cc) in
     let fourth = c.in_ok-put_number_field-2.ensures separator text (count ∷ confidence ∷ lift ∷ []) third in
     let numbers = count ∷ confidence ∷ lift ∷ decimal c.len.result ∷ [] in
     let left = c.in_ok-put_names.ensures separator text numbers fourth (λ e. cc) in
@@ -22,5 +22,5 @@ returns c separator names text has =
     let ended = c.end_record.ensures separator text (numbers ++ names_of c.args.self.now.names.now c.deref.result.now ++ names_of c.args.self.now.names.now c.deref-2.result.now) right (λ e. cc) in
     let same : text ++ row_text (writer_of separator) (numbers ++ names_of c.args.self.now.names.now c.deref.result.now ++ names_of c.args.self.now.names.now c.deref-2.result.now)
     ≡ text ++ rule_record separator names rule =
-    (λ i. text ++ row_text (writer_of separator) (count ∷ ratio_text (c.confidence.ensures i) ∷ ratio_text (c.lift.ensures i) ∷ decimal ((c.len.ensures ∙ c.args.sides.now.left.ok.0) i) ∷ names_of (has.0 i) (c.deref.ensures.value i) ++ names_of (has.0 i) (c.deref-2.ensures.value i))) in
+    (λ i. text ++ row_text (writer_of separator) (count ∷ confidence ∷ lift ∷ decimal ((c.len.ensures ∙ c.args.sides.now.left.ok.0) i) ∷ names_of (has.0 i) (c.deref.ensures.value i) ++ names_of (has.0 i) (c.deref-2.ensures.value i))) in
     on_ok_weaker c.end_record.result (λ h. (has.0, subst (λ t. HasFields c.end_record.new.writer separator t []) same h)) ended
