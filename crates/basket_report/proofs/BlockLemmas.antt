@@ -1,24 +1,17 @@
 -- Bytes on their way to a writer.
-use Rattle.std.proofs.Common.{◌≡◌, ◌<◌, ℕ, suc, ◌+◌, Bool, true, false, List, [], ◌∷◌, ◌++◌, Option, Result, Ok, Err, decimal, get_or, length, take, refl, sym, ap, ◌∙◌, subst, arith}
+use Rattle.std.proofs.Common.{◌≡◌, ℕ, ◌+◌, Bool, true, false, List, [], ◌++◌, Option, Result, Ok, Err, length, take, refl, sym, ap, ◌∙◌, subst, arith}
 use Rattle.std.specs.Prelude.{◌↔◌, IsOk, OnErr, OnOk}
 use Rattle.std.proofs.lemmas.Bool.{false≢true}
-use Rattle.std.proofs.lemmas.List.{append_assoc, append-nil, length-append, take-append-le, take_more}
-use Rattle.std.proofs.lemmas.List.Concat.{flat_map-append}
+use Rattle.std.proofs.lemmas.List.{append_assoc, append-nil, length-append, take-append-le}
 use Rattle.std.proofs.KnownBytes.{Appends-nil, Appends-trans}
 use Rattle.std.specs.Io.KnownBytes.{Appends}
-use Rattle.std.specs.List.{flat_map}
 use Rattle.basket_stream.specs.declared.failed.Failed.{Failed}
 use Rattle.basket_report.specs.Block.{IsOnItsWay, TakesFront}
-use Rattle.basket_report.specs.Lines.{items_text}
+use Rattle.basket_report.proofs.TextLemmas.{take_past}
 
 -- the front of a text is one of a longer text
 pub front_longer : (before after : Option (List ℕ)) (text more : List ℕ) → TakesFront before after text → TakesFront before after (text ++ more)
 front_longer before after text more (count, few, front) = (count, omega (arith, few, length-append text more), subst (Appends before after) (sym (take-append-le count text more few)) front)
-
--- what is behind a front, as far as it goes
-take_past : (xs ys : List ℕ) (n : ℕ) → take (length xs + n) (xs ++ ys) ≡ xs ++ take n ys
-take_past [] ys n = let e : 0 + n ≡ n = omega arith in ap (λ m. take m ys) e
-take_past (x ∷ xs) ys n = let e : suc (length xs) + n ≡ suc (length xs + n) = omega arith in ap (λ m. take m (x ∷ (xs ++ ys))) e ∙ ap (λ l. x ∷ l) (take_past xs ys n)
 
 -- at the start all that waits is on its way
 pub nothing_sent : (taken : Option (List ℕ)) (failed : Bool) (waiting : List ℕ) → failed ≡ false → IsOnItsWay taken taken failed waiting waiting
@@ -58,23 +51,3 @@ is_sent start before after was_failed failed waiting text (Err fault) fresh way 
           omega (arith, err.1, ap length was.2, length-append was.0 waiting),
           subst (Appends start after) (sym (ap (take (length was.0 + n)) was.2 ∙ take_past was.0 waiting n)) (Appends-trans start before after was.0 (take n waiting) was.1 err.2),
         )
-
--- the text of one item more
-pub item_more : (items others : List ℕ) (first i item : ℕ) → items ≡ first ∷ others → i < length others → item ≡ get_or others i 0
-    → items_text (take (i + 1 + 1) items) ≡ items_text (take (i + 1) items) ++ 32 ∷ decimal item
-item_more items others first i item is less same =
-    let one : i + 1 ≡ suc i = omega arith in
-    let two : i + 1 + 1 ≡ suc (i + 1) = omega arith in
-    ap (λ l. items_text (take (i + 1 + 1) l)) is ∙ ap (λ n. items_text (take n (first ∷ others))) two ∙ more
-    ∙ ap (λ n. items_text (take n (first ∷ others)) ++ 32 ∷ decimal (get_or others i 0)) (sym one)
-    ∙ ap (λ l. items_text (take (i + 1) l) ++ 32 ∷ decimal (get_or others i 0)) (sym is)
-    ∙ ap (λ n. items_text (take (i + 1) items) ++ 32 ∷ decimal n) (sym same)
-  where
-    spaced : ℕ → List ℕ
-    spaced other = 32 ∷ decimal other
-
-    more : decimal first ++ flat_map spaced (take (i + 1) others) ≡ (decimal first ++ flat_map spaced (take i others)) ++ spaced (get_or others i 0)
-    more =
-        ap (λ l. decimal first ++ flat_map spaced l) (take_more others i 0 less)
-        ∙ ap (λ l. decimal first ++ l) (flat_map-append spaced (take i others) (get_or others i 0 ∷ []) ∙ ap (λ l. flat_map spaced (take i others) ++ l) (append-nil (spaced (get_or others i 0))))
-        ∙ sym (append_assoc (decimal first) (flat_map spaced (take i others)) (spaced (get_or others i 0)))

@@ -1,6 +1,6 @@
-mod BeginningLemmas
 mod BlockLemmas
 mod Fronts
 mod RuleLemmas
 mod SetLemmas
 mod TableLemmas
+mod TextLemmas

@@ -2,7 +2,6 @@ pub mod Style
 pub mod Texts
 pub mod Lines
 pub mod Block
-pub mod Beginning
 pub mod Table
 pub mod Report
 pub mod Items

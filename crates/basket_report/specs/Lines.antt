@@ -23,9 +23,9 @@ sides_text left right = items_text left ++ codes " => " ++ items_text right
 abbrev pub ratios_text : Ratio → Ratio → List ℕ
 ratios_text confidence lift = ratio_text confidence ++ 32 ∷ ratio_text lift
 
--- a space, the count of a rule in parentheses, a space
+-- a count in parentheses
 abbrev pub count_text : ℕ → List ℕ
-count_text count = codes " (" ++ decimal count ++ codes ") "
+count_text count = 40 ∷ decimal count ++ 41 ∷ []
 
 -- the line of a rule: its sides, a space, the count in parentheses, a space, the confidence, a space, the lift, a line feed
 abbrev pub rule_line : Rule → List ℕ

@@ -1,12 +1,14 @@
 //! Bytes on their way to a writer.
-ghost use Rattle.std.specs.Prelude.{◌≡◌, ◌↔◌, ◌++◌, ◌∷◌, [], ℕ, List, Option, decimal, false, IfOk, IsOk, OnErr, OnOk};
+ghost use Rattle.std.specs.Prelude.{◌≡◌, ◌↔◌, ◌≤◌, ◌++◌, ◌∷◌, [], ℕ, List, Option, decimal, false, length, take, IfOk, IsOk, OnErr, OnOk};
 ghost use Rattle.std.specs.Io.KnownBytes.{Appends};
 ghost use Rattle.basket_report.specs.Block.{IsOnItsWay, TakesFront};
 ghost use Rattle.basket_report.specs.Lines.{items_text, set_line};
 ghost use Rattle.basket_report.specs.Report.{set_of};
 
+use crate::count_text::CountText;
+use crate::item_text::ItemText;
+use crate::texts::{Texts, put_front};
 use basket_core::{Failed, Sink};
-use itoa::Buffer;
 use std::alloc::{AllocError, Global};
 use std::marker::Model;
 
@@ -37,17 +39,19 @@ impl Block {
         })
     }
 
-    /// Adds bytes. Where there is no room or no memory for them, what waits is written before. A
-    /// writer that has failed is asked no more.
-    pub fn put<W: Sink>(&mut self, writer: &mut W, bytes: &[u8])
+    /// Adds the first bytes of a room. Where there is no room or no memory for them, what waits is
+    /// written before. A writer that has failed is asked no more.
+    #[inline(always)]
+    fn put<W: Sink>(&mut self, writer: &mut W, room: &[u8], count: usize)
+        requires { count ≤ length room.now }
         ensures { (start : Option (List ℕ)) (text : List ℕ)
             → IsOnItsWay start (W.taken writer.old) (W.has_failed writer.old) self.old text
-            → IsOnItsWay start (W.taken writer.new) (W.has_failed writer.new) self.new (text ++ bytes.now) }
+            → IsOnItsWay start (W.taken writer.new) (W.has_failed writer.new) self.new (text ++ take count room.now) }
     {
-        self.make_room(writer, bytes.len());
-        if let Err(AllocError) = self.bytes.extend_from_slice(bytes) {
+        self.make_room(writer, room.len());
+        if let Err(AllocError) = put_front(&mut self.bytes, room, count) {
             self.send(writer);
-            send_bytes(writer, bytes);
+            send_bytes(writer, &room[..count]);
         }
     }
 
@@ -62,39 +66,45 @@ impl Block {
         }
     }
 
-    /// Adds a number.
-    pub fn put_number<W: Sink>(&mut self, writer: &mut W, number: u64)
-        ensures { (start : Option (List ℕ)) (text : List ℕ)
-            → IsOnItsWay start (W.taken writer.old) (W.has_failed writer.old) self.old text
-            → IsOnItsWay start (W.taken writer.new) (W.has_failed writer.new) self.new (text ++ decimal number) }
-    {
-        let mut buffer = Buffer::new();
-        self.put(writer, buffer.format(number).as_bytes());
-    }
-
-    /// Adds the line of a set, without memory of its own.
-    pub fn put_set<W: Sink>(&mut self, writer: &mut W, items: &[u32], count: u64)
+    /// Adds the line of a set.
+    pub fn put_set<W: Sink>(&mut self, writer: &mut W, texts: &Texts, items: &[u32], count: u64)
         ensures { (start : Option (List ℕ)) (text : List ℕ)
             → IsOnItsWay start (W.taken writer.old) (W.has_failed writer.old) self.old text
             → IsOnItsWay start (W.taken writer.new) (W.has_failed writer.new) self.new (text ++ set_line (set_of items.now count)) }
     {
-        self.put_items(writer, items);
-        self.put(writer, b" (");
-        self.put_number(writer, count);
-        self.put(writer, b")\n");
+        self.put_items(writer, texts, items);
+        let text = CountText::new(count);
+        self.put(writer, &text.bytes, text.length);
+        self.put(writer, b"\n", 1);
     }
 
-    /// Adds the items with one space between.
-    fn put_items<W: Sink>(&mut self, writer: &mut W, items: &[u32])
+    /// Adds the items with one space between, and a space.
+    fn put_items<W: Sink>(&mut self, writer: &mut W, texts: &Texts, items: &[u32])
         ensures { (start : Option (List ℕ)) (text : List ℕ)
             → IsOnItsWay start (W.taken writer.old) (W.has_failed writer.old) self.old text
-            → IsOnItsWay start (W.taken writer.new) (W.has_failed writer.new) self.new (text ++ items_text items.now) }
+            → IsOnItsWay start (W.taken writer.new) (W.has_failed writer.new) self.new (text ++ (items_text items.now ++ 32 ∷ [])) }
     {
-        if let Some((first, others)) = items.split_first() {
-            self.put_number(writer, u64::from(*first));
-            for item in others {
-                self.put(writer, b" ");
-                self.put_number(writer, u64::from(*item));
+        if items.is_empty() {
+            self.put(writer, b" ", 1);
+            return;
+        }
+        for item in items {
+            self.put_item(writer, texts, *item);
+        }
+    }
+
+    /// Adds an item and a space.
+    #[inline(always)]
+    fn put_item<W: Sink>(&mut self, writer: &mut W, texts: &Texts, item: u32)
+        ensures { (start : Option (List ℕ)) (text : List ℕ)
+            → IsOnItsWay start (W.taken writer.old) (W.has_failed writer.old) self.old text
+            → IsOnItsWay start (W.taken writer.new) (W.has_failed writer.new) self.new (text ++ (decimal item ++ 32 ∷ [])) }
+    {
+        match texts.get(item) {
+            Some(text) => self.put(writer, &text.bytes, text.length),
+            None => {
+                let text = ItemText::new(item);
+                self.put(writer, &text.bytes, text.length);
             }
         }
     }

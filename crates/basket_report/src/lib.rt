@@ -1,12 +1,12 @@
 //! The bytes of a report: a line of numbers for each set or rule, or a CSV record of names.
 #![tactic(auto)]
 
-mod beginning;
 mod block;
+mod count_text;
 mod extent;
+mod item_text;
 mod items;
 mod lines;
-mod middle;
 mod ratios;
 mod report;
 mod rules;

@@ -1,30 +1,24 @@
 //! Lines of numbers.
-ghost use Rattle.std.specs.Prelude.{◌≡◌, ◌++◌, [], IfOk, OnOk};
-ghost use Rattle.basket_report.specs.Lines.{items_text, ratios_text, rule_line, set_line, sides_text};
+ghost use Rattle.std.specs.Prelude.{◌≡◌, ◌++◌, [], ◌∷◌, IfOk, OnOk};
+ghost use Rattle.basket_report.specs.Lines.{count_text, items_text, ratios_text, rule_line, set_line, sides_text};
 ghost use Rattle.basket_report.specs.Report.{set_of};
-ghost use Rattle.basket_rules.specs.Met.{rule_from};
+ghost use Rattle.basket_rules.specs.Met.{confidence_of, lift_of, rule_from};
 
-use crate::beginning::Beginning;
+use crate::count_text::CountText;
 use crate::extent::Extent;
-use crate::middle::Middle;
 use crate::ratios::Ratios;
-use crate::texts::{Texts, put_number};
+use crate::texts::{Texts, put_front};
 use basket_core::{Counted, CountedSets};
 use basket_rules::{Figures, Sides};
 use std::alloc::{AllocError, Global};
 use std::marker::Model;
 
-/// So many items are worth a look at what they share with the items before.
-const MANY_ITEMS: usize = 3;
-
 /// Lines so far.
 #[derive(Debug, Drop)]
 pub struct Lines {
     texts: Texts,
-    /// The items of the last set of many.
-    beginning: Beginning,
     /// The count of the last rule.
-    middle: Middle,
+    count: CountText,
     ratios: Ratios,
     text: Vec<u8>,
 }
@@ -44,8 +38,7 @@ impl Lines {
     {
         Ok(Lines {
             texts: Texts::below(alloc, 0)?,
-            beginning: Beginning::new(alloc),
-            middle: Middle::new(alloc, 0)?,
+            count: CountText::new(0),
             ratios: Ratios::none(alloc),
             text: Vec::new(alloc),
         })
@@ -58,23 +51,9 @@ impl Lines {
         let extent = Extent::of(sets);
         Ok(Lines {
             texts: extent.texts(alloc)?,
-            beginning: Beginning::new(alloc),
-            middle: Middle::new(alloc, 0)?,
+            count: CountText::new(0),
             ratios: Ratios::none(alloc),
             text: Vec::with_capacity(alloc, extent.room())?,
-        })
-    }
-
-    /// No lines, for those of the sets one by one.
-    pub fn one_by_one(alloc: Global, sets: &CountedSets) -> Result<Self, AllocError>
-        ensures { IfOk result (λ lines. lines ≡ []) }
-    {
-        Ok(Lines {
-            texts: Extent::of(sets).texts(alloc)?,
-            beginning: Beginning::new(alloc),
-            middle: Middle::new(alloc, 0)?,
-            ratios: Ratios::none(alloc),
-            text: Vec::new(alloc),
         })
     }
 
@@ -84,8 +63,7 @@ impl Lines {
     {
         Ok(Lines {
             texts: Extent::of_unpacked(sets).texts(alloc)?,
-            beginning: Beginning::new(alloc),
-            middle: Middle::new(alloc, 0)?,
+            count: CountText::new(0),
             ratios: Ratios::new(alloc)?,
             text: Vec::new(alloc),
         })
@@ -95,46 +73,20 @@ impl Lines {
     pub fn put_set(&mut self, items: &[u32], count: u64) -> Result<(), AllocError>
         ensures { OnOk result (self.new ≡ self.old ++ set_line (set_of items.now count)) }
     {
-        self.put_set_items(items)?;
-        self.text.extend_from_slice(b" (")?;
-        put_number(&mut self.text, count)?;
-        self.text.extend_from_slice(b")\n")
-    }
-
-    /// Adds the items of a set. Of many items most are those of the set before.
-    fn put_set_items(&mut self, items: &[u32]) -> Result<(), AllocError>
-        ensures { OnOk result (self.new ≡ self.old ++ items_text items.now) }
-    {
-        if items.len() < MANY_ITEMS {
-            return put_items(&mut self.text, &self.texts, items);
-        }
-        self.beginning.put(&self.texts, items)?;
-        self.text.extend_from_slice(self.beginning.text())
-    }
-
-    /// Adds the line of a rule.
-    pub fn put_rule(&mut self, sides: &Sides, figures: &Figures) -> Result<(), AllocError>
-        ensures { OnOk result (self.new ≡ self.old ++ rule_line (rule_from sides.now figures.now)) }
-    {
-        put_sides(&mut self.text, &self.texts, sides)?;
-        self.middle.put(&mut self.text, figures.count)?;
-        put_ratios(&mut self.text, &mut self.ratios, figures)?;
+        put_items(&mut self.text, &self.texts, items)?;
+        put_count(&mut self.text, &CountText::new(count))?;
         self.text.push(b'\n')?;
         Ok(())
     }
 
-    /// No lines any more.
-    pub fn clear(&mut self)
-        ensures { self.new ≡ [] }
+    /// Adds the line of a rule. All rules of one union have the same count.
+    pub fn put_rule(&mut self, sides: &Sides, figures: &Figures) -> Result<(), AllocError>
+        ensures { OnOk result (self.new ≡ self.old ++ rule_line (rule_from sides.now figures.now)) }
     {
-        self.text.clear();
-    }
-
-    /// The lines.
-    pub fn text(&self) -> &[u8]
-        ensures { result.now ≡ self.now }
-    {
-        &self.text
+        self.count.set(figures.count);
+        put_sides(&mut self.text, &self.texts, sides)?;
+        put_count(&mut self.text, &self.count)?;
+        put_ratios(&mut self.text, &mut self.ratios, figures)
     }
 
     /// The text of all lines.
@@ -146,35 +98,48 @@ impl Lines {
     }
 }
 
-/// Adds the items with one space between.
+/// Adds the items with one space between, and a space.
 fn put_items(report: &mut Vec<u8>, texts: &Texts, items: &[u32]) -> Result<(), AllocError>
-    ensures { OnOk result (report.new.items ≡ report.old.items ++ items_text items.now) }
+    ensures { OnOk result (report.new.items ≡ report.old.items ++ (items_text items.now ++ 32 ∷ [])) }
 {
-    if let Some((first, others)) = items.split_first() {
-        texts.put_first(report, *first)?;
-        for item in others {
-            texts.put(report, *item)?;
-        }
+    if items.is_empty() {
+        report.push(b' ')?;
+        return Ok(());
+    }
+    for item in items {
+        texts.put(report, *item)?;
     }
     Ok(())
 }
 
+/// Adds both sides with an arrow between, and a space.
 fn put_sides(report: &mut Vec<u8>, texts: &Texts, sides: &Sides) -> Result<(), AllocError>
-    ensures { OnOk result (report.new.items ≡ report.old.items ++ sides_text sides.now.left.items sides.now.right.items) }
+    ensures { OnOk result (report.new.items ≡ report.old.items ++ (sides_text sides.now.left.items sides.now.right.items ++ 32 ∷ [])) }
 {
     put_items(report, texts, &sides.left)?;
-    report.extend_from_slice(b" => ")?;
+    report.extend_from_slice(b"=> ")?;
     put_items(report, texts, &sides.right)
 }
 
+/// Adds a count in parentheses.
+fn put_count(report: &mut Vec<u8>, text: &CountText) -> Result<(), AllocError>
+    ensures { OnOk result (report.new.items ≡ report.old.items ++ count_text text.now.count) }
+{
+    put_front(report, &text.bytes, text.length)
+}
+
+/// Adds a space, the confidence, a space, the lift and a line feed.
 fn put_ratios(
     report: &mut Vec<u8>,
     ratios: &mut Ratios,
     figures: &Figures,
 ) -> Result<(), AllocError>
-    ensures { OnOk result (report.new.items ≡ report.old.items ++ ratios_text figures.now.confidence figures.now.lift) }
+    ensures { OnOk result (report.new.items ≡ report.old.items ++ (32 ∷ ratios_text (confidence_of figures.now) (lift_of figures.now) ++ 10 ∷ [])) }
 {
-    ratios.put(report, &figures.confidence)?;
     report.push(b' ')?;
-    ratios.put(report, &figures.lift)
+    ratios.put_confidence(report, figures)?;
+    report.push(b' ')?;
+    ratios.put_lift(report, figures)?;
+    report.push(b'\n')?;
+    Ok(())
 }

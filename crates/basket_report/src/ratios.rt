@@ -1,47 +1,65 @@
 //! The texts of fractions that were written of late.
-ghost use Rattle.std.specs.Prelude.{◌≡◌, ◌≤◌, ◌++◌, ◌∷◌, decimal, drop, OnOk};
-ghost use Rattle.basket_report.specs.Texts.{ratio_text, short_text};
+ghost use Rattle.std.specs.Prelude.{◌≡◌, ◌≤◌, ◌++◌, take, OnOk};
+ghost use Rattle.basket_core.specs.Fraction.{lowest};
+ghost use Rattle.basket_report.specs.Texts.{ratio_text};
+ghost use Rattle.basket_rules.specs.Met.{confidence_of, lift_of};
 
-use crate::texts::put_fraction;
+use crate::texts::{put_fraction, put_front};
 use basket_core::Fraction;
+use basket_rules::Figures;
 use itoa::write_digits;
 use std::alloc::{AllocError, Global};
 
 /// How many texts are kept.
-const SLOTS: usize = 4_096;
+const SLOTS: usize = 2_048;
 
 /// How long the text of a fraction of two numbers in 64 bits is at most.
 const ROOM: usize = 41;
 
+/// Where a text is made: at the end of a room, and a room behind its start.
+const DESK: usize = 2 * ROOM;
+
 /// An odd number whose bits look random.
 const MULTIPLIER: u64 = 0x9E37_79B9_7F4A_7C15;
 
-/// A numerator and a denominator, and their text at the end of its room.
+/// A numerator and a denominator, and the text of their fraction in lowest terms, in front of a room.
 #[derive(Clone, Copy, Debug)]
 struct Written {
     numerator: u64,
     denominator: u64,
-    start: usize,
+    length: u8,
     bytes: [u8; ROOM],
-    ghost within: { start ≤ 41 },
-    ghost is: { drop start bytes ≡ short_text numerator denominator },
+    ghost within: { length ≤ 41 },
+    ghost is: { take length bytes ≡ ratio_text (lowest numerator denominator) },
 }
 
 impl Written {
     fn new(numerator: u64, denominator: u64) -> Self
+        requires { 1 ≤ denominator }
         ensures numerator { result.numerator ≡ numerator }
         ensures denominator { result.denominator ≡ denominator }
     {
+        let fraction = Fraction::reduced(u128::from(numerator), u128::from(denominator));
+        let mut desk = [0; DESK];
+        let slash = write_digits(fraction.denominator() as u64, &mut desk, ROOM) - 1;
+        desk[slash] = b'/';
+        let start = write_digits(fraction.numerator() as u64, &mut desk, slash);
         let mut bytes = [0; ROOM];
-        let slash = write_digits(denominator, &mut bytes, ROOM) - 1;
-        bytes[slash] = b'/';
-        let start = write_digits(numerator, &mut bytes, slash);
+        bytes.copy_from_slice(&desk[start..start + ROOM]);
         Written {
             numerator,
             denominator,
-            start,
+            length: (ROOM - start) as u8,
             bytes,
         }
+    }
+
+    /// Adds the text.
+    #[inline(always)]
+    fn put(&self, report: &mut Vec<u8>) -> Result<(), AllocError>
+        ensures { OnOk result (report.new.items ≡ report.old.items ++ ratio_text (lowest self.now.numerator self.now.denominator)) }
+    {
+        put_front(report, &self.bytes, usize::from(self.length))
     }
 }
 
@@ -67,16 +85,40 @@ impl Ratios {
         })
     }
 
-    /// Adds the text of a fraction.
-    pub fn put(&mut self, report: &mut Vec<u8>, fraction: &Fraction) -> Result<(), AllocError>
-        ensures { OnOk result (report.new.items ≡ report.old.items ++ ratio_text fraction.now) }
+    /// Adds the confidence of a rule.
+    pub fn put_confidence(
+        &mut self,
+        report: &mut Vec<u8>,
+        figures: &Figures,
+    ) -> Result<(), AllocError>
+        ensures { OnOk result (report.new.items ≡ report.old.items ++ ratio_text (confidence_of figures.now)) }
     {
-        match (
-            u64::try_from(fraction.numerator()),
-            u64::try_from(fraction.denominator()),
-        ) {
+        self.put_short(report, figures.count, figures.left_count)
+    }
+
+    /// Adds the lift of a rule.
+    pub fn put_lift(&mut self, report: &mut Vec<u8>, figures: &Figures) -> Result<(), AllocError>
+        ensures { OnOk result (report.new.items ≡ report.old.items ++ ratio_text (lift_of figures.now)) }
+    {
+        self.put(
+            report,
+            u128::from(figures.count) * u128::from(figures.total),
+            u128::from(figures.left_count) * u128::from(figures.right_count),
+        )
+    }
+
+    fn put(
+        &mut self,
+        report: &mut Vec<u8>,
+        numerator: u128,
+        denominator: u128,
+    ) -> Result<(), AllocError>
+        requires { 1 ≤ denominator }
+        ensures { OnOk result (report.new.items ≡ report.old.items ++ ratio_text (lowest numerator denominator)) }
+    {
+        match (u64::try_from(numerator), u64::try_from(denominator)) {
             (Ok(numerator), Ok(denominator)) => self.put_short(report, numerator, denominator),
-            _ => put_fraction(report, fraction),
+            _ => put_fraction(report, &Fraction::reduced(numerator, denominator)),
         }
     }
 
@@ -86,19 +128,17 @@ impl Ratios {
         numerator: u64,
         denominator: u64,
     ) -> Result<(), AllocError>
-        ensures { OnOk result (report.new.items ≡ report.old.items ++ short_text numerator denominator) }
+        requires { 1 ≤ denominator }
+        ensures { OnOk result (report.new.items ≡ report.old.items ++ ratio_text (lowest numerator denominator)) }
     {
         match self.slots.get_mut(slot_of(numerator, denominator)) {
             Some(slot) => {
                 if slot.numerator != numerator || slot.denominator != denominator {
                     *slot = Written::new(numerator, denominator);
                 }
-                report.extend_from_slice(&slot.bytes[slot.start..])
+                slot.put(report)
             }
-            None => {
-                let written = Written::new(numerator, denominator);
-                report.extend_from_slice(&written.bytes[written.start..])
-            }
+            None => Written::new(numerator, denominator).put(report),
         }
     }
 }

@@ -45,7 +45,9 @@ impl<'a> Report<'a> {
     {
         match style {
             Style::Numbers => Ok(Report::Lines(Lines::for_rules(alloc, sets)?)),
-            Style::Names { .. } => Report::new(alloc, style),
+            Style::Names { names, separator } => Ok(Report::Table(Table::for_rules(
+                alloc, names, separator,
+            )?)),
         }
     }
 

@@ -7,7 +7,8 @@ ghost use Rattle.basket_report.specs.Report.{report_of, set_of};
 ghost use Rattle.basket_report.specs.Style.{Numbered};
 
 use crate::block::Block;
-use crate::lines::Lines;
+use crate::extent::Extent;
+use crate::texts::Texts;
 use basket_core::{CountedSets, Failed, MOST_ITEMS, Sink};
 use std::alloc::{AllocError, Global};
 use std::marker::Model;
@@ -16,8 +17,7 @@ use std::marker::Model;
 /// so a report is written to its end unless the writer fails.
 #[derive(Debug, Drop)]
 pub struct SetLines {
-    /// One line.
-    line: Lines,
+    texts: Texts,
     block: Block,
 }
 
@@ -35,7 +35,7 @@ impl SetLines {
         ensures { IfOk result (λ lines. lines ≡ []) }
     {
         Ok(SetLines {
-            line: Lines::one_by_one(alloc, sets)?,
+            texts: Extent::of(sets).texts(alloc)?,
             block: Block::new(alloc)?,
         })
     }
@@ -61,10 +61,6 @@ impl SetLines {
             → IsOnItsWay start (W.taken writer.old) (W.has_failed writer.old) self.old text
             → IsOnItsWay start (W.taken writer.new) (W.has_failed writer.new) self.new (text ++ set_line (set_of items.now count)) }
     {
-        self.line.clear();
-        match self.line.put_set(items, count) {
-            Ok(()) => self.block.put(writer, self.line.text()),
-            Err(AllocError) => self.block.put_set(writer, items, count),
-        }
+        self.block.put_set(writer, &self.texts, items, count);
     }
 }

@@ -3,11 +3,11 @@ ghost use Rattle.std.specs.Prelude.{◌≡◌, ◌≢◌, ◌++◌, [], ◌∷�
 ghost use Rattle.csv.specs.Writing.{is_blank, row_text};
 ghost use Rattle.basket_report.specs.Report.{set_of};
 ghost use Rattle.basket_report.specs.Texts.{ratio_text};
-ghost use Rattle.basket_rules.specs.Met.{rule_from};
+ghost use Rattle.basket_rules.specs.Met.{confidence_of, lift_of, rule_from};
 ghost use Rattle.basket_report.specs.Table.{HasFields, HasText, names_of, rule_record, set_record, writer_of};
 
-use crate::texts::{put_fraction, put_number};
-use basket_core::Fraction;
+use crate::ratios::Ratios;
+use crate::texts::put_number;
 use basket_csv::Names;
 use basket_rules::{Figures, Sides};
 use csv::{Writer, WriterBuilder};
@@ -20,6 +20,7 @@ pub struct Table<'a> {
     writer: Writer<Vec<u8>>,
     /// The text of one number or fraction.
     field: Vec<u8>,
+    ratios: Ratios,
 }
 
 impl<'a> Table<'a> {
@@ -34,7 +35,17 @@ impl<'a> Table<'a> {
                 .flexible(true)
                 .from_writer(Vec::new(alloc)),
             field: Vec::new(alloc),
+            ratios: Ratios::none(alloc),
         }
+    }
+
+    /// No records, for those of rules.
+    pub fn for_rules(alloc: Global, names: &'a Names, separator: u8) -> Result<Self, AllocError>
+        ensures { IfOk result (λ table. HasText table separator names.now []) }
+    {
+        let mut table = Table::new(alloc, names, separator);
+        table.ratios = Ratios::new(alloc)?;
+        Ok(table)
     }
 
     /// Adds the record of a set with its count.
@@ -56,10 +67,11 @@ impl<'a> Table<'a> {
             names,
             writer,
             field,
+            ratios,
         } = self;
         put_number_field(writer, field, figures.count)?;
-        put_fraction_field(writer, field, &figures.confidence)?;
-        put_fraction_field(writer, field, &figures.lift)?;
+        put_confidence_field(writer, field, ratios, figures)?;
+        put_lift_field(writer, field, ratios, figures)?;
         put_number_field(writer, field, sides.left.len() as u64)?;
         put_names(writer, names, &sides.left)?;
         put_names(writer, names, &sides.right)?;
@@ -102,17 +114,33 @@ fn put_number_field(
     put_field(writer, field)
 }
 
-/// Adds a fraction, behind another field.
-fn put_fraction_field(
+/// Adds the confidence of a rule, behind another field.
+fn put_confidence_field(
     writer: &mut Writer<Vec<u8>>,
     field: &mut Vec<u8>,
-    fraction: &Fraction,
+    ratios: &mut Ratios,
+    figures: &Figures,
 ) -> Result<(), AllocError>
     ensures { (separator : ℕ) (text : List ℕ) (fields : List (List ℕ)) → HasFields writer.old separator text fields → fields ≢ []
-        → OnOk result (HasFields writer.new separator text (fields ++ ratio_text fraction.now ∷ [])) }
+        → OnOk result (HasFields writer.new separator text (fields ++ ratio_text (confidence_of figures.now) ∷ [])) }
 {
     field.clear();
-    put_fraction(field, fraction)?;
+    ratios.put_confidence(field, figures)?;
+    put_field(writer, field)
+}
+
+/// Adds the lift of a rule, behind another field.
+fn put_lift_field(
+    writer: &mut Writer<Vec<u8>>,
+    field: &mut Vec<u8>,
+    ratios: &mut Ratios,
+    figures: &Figures,
+) -> Result<(), AllocError>
+    ensures { (separator : ℕ) (text : List ℕ) (fields : List (List ℕ)) → HasFields writer.old separator text fields → fields ≢ []
+        → OnOk result (HasFields writer.new separator text (fields ++ ratio_text (lift_of figures.now) ∷ [])) }
+{
+    field.clear();
+    ratios.put_lift(field, figures)?;
     put_field(writer, field)
 }
 

@@ -1,16 +1,17 @@
 //! The texts of numbers.
-ghost use Rattle.std.specs.Prelude.{◌≡◌, ◌++◌, ◌∷◌, decimal, IfOk, OnOk};
+ghost use Rattle.std.specs.Prelude.{◌≡◌, ◌≤◌, ◌++◌, [], ◌∷◌, decimal, length, take, IfOk, IfSome, OnErr, OnOk};
 ghost use Rattle.basket_report.specs.Texts.{ratio_text};
 
+use crate::item_text::ItemText;
 use basket_core::Fraction;
 use itoa::Buffer;
 use std::alloc::{AllocError, Global};
 use std::marker::Model;
 
-/// The text of each number below a bound, with a space before it, made once for many lines.
+/// The text of each item below a bound, made once for many lines.
 #[derive(Debug, Drop)]
 pub struct Texts {
-    texts: Vec<Vec<u8>>,
+    texts: Vec<ItemText>,
 }
 
 impl Model for Texts {
@@ -25,48 +26,49 @@ impl Model for Texts {
 }
 
 impl Texts {
-    /// The texts of the numbers below the bound.
+    /// The texts of the items below the bound.
     pub fn below(alloc: Global, bound: u32) -> Result<Self, AllocError>
         ensures { IfOk result (λ texts. texts ≡ bound) }
     {
         let mut texts = Vec::with_capacity(alloc, bound as usize)?;
-        for number in 0..bound {
-            let mut text = Vec::new(alloc);
-            put_after_space(&mut text, number)?;
-            texts.push(text)?;
+        for item in 0..bound {
+            texts.push(ItemText::new(item))?;
         }
         Ok(Texts { texts })
     }
 
-    /// Adds the number.
-    pub fn put_first(&self, report: &mut Vec<u8>, number: u32) -> Result<(), AllocError>
-        ensures { OnOk result (report.new.items ≡ report.old.items ++ decimal number) }
+    /// The text of an item, where it is made already.
+    pub fn get(&self, item: u32) -> Option<&ItemText>
+        ensures { IfSome result (λ text. text.now.item ≡ item) }
     {
-        match self.texts.get(number as usize) {
-            Some(text) => match text.split_first() {
-                Some((_space, digits)) => report.extend_from_slice(digits),
-                None => Ok(()),
-            },
-            None => put_number(report, u64::from(number)),
-        }
+        self.texts.get(item as usize)
     }
 
-    /// Adds a space and the number.
-    pub fn put(&self, report: &mut Vec<u8>, number: u32) -> Result<(), AllocError>
-        ensures { OnOk result (report.new.items ≡ report.old.items ++ 32 ∷ decimal number) }
+    /// Adds an item and a space.
+    pub fn put(&self, report: &mut Vec<u8>, item: u32) -> Result<(), AllocError>
+        ensures { OnOk result (report.new.items ≡ report.old.items ++ (decimal item ++ 32 ∷ [])) }
     {
-        match self.texts.get(number as usize) {
-            Some(text) => report.extend_from_slice(text),
-            None => put_after_space(report, number),
+        match self.get(item) {
+            Some(text) => put_front(report, &text.bytes, text.length),
+            None => {
+                let text = ItemText::new(item);
+                put_front(report, &text.bytes, text.length)
+            }
         }
     }
 }
 
-fn put_after_space(report: &mut Vec<u8>, number: u32) -> Result<(), AllocError>
-    ensures { OnOk result (report.new.items ≡ report.old.items ++ 32 ∷ decimal number) }
+/// Adds the first bytes of a room. The whole room is copied, which is no call where its size is known,
+/// and what is too much is cut off.
+#[inline(always)]
+pub fn put_front(report: &mut Vec<u8>, room: &[u8], count: usize) -> Result<(), AllocError>
+    requires { count ≤ length room.now }
+    ensures ok { OnOk result (report.new.items ≡ report.old.items ++ take count room.now) }
+    ensures err { OnErr result (report.new.items ≡ report.old.items) }
 {
-    report.push(b' ')?;
-    put_number(report, u64::from(number))
+    report.extend_from_slice(room)?;
+    report.truncate(report.len() - (room.len() - count));
+    Ok(())
 }
 
 /// Adds the number.

@@ -6,7 +6,8 @@ ghost use Rattle.basket_rules.specs.Met.{found_rule, rule_from, rules_in};
 ghost use Rattle.basket_rules.specs.Rights.{side_of};
 ghost use Rattle.basket_rules.specs.Rules.{KeepsConfident, AreRules, AreRulesWith, IsRuleFor};
 
-use crate::lookups::{Figures, Lookups};
+use crate::figures::Figures;
+use crate::lookups::Lookups;
 use crate::met::MetRule;
 use crate::parts::next_rights;
 use crate::places::SetHash;
@@ -96,8 +97,8 @@ fn rule_of_sides(alloc: Global, sides: &Sides, figures: &Figures) -> Result<Rule
         left: Itemset::from_items(alloc, &sides.left)?,
         right: Itemset::from_items(alloc, &sides.right)?,
         count: figures.count,
-        confidence: figures.confidence,
-        lift: figures.lift,
+        confidence: figures.confidence(),
+        lift: figures.lift(),
     })
 }
 
@@ -120,6 +121,7 @@ pub fn met_rules(
     if count > MOST_PLACES {
         return Ok(rules);
     }
+    lookups.hashes.set(frequent.sets()[number].set.items())?;
     let mut rights = longer_rights(alloc, &[Right::none()], count)?;
     let mut all = true;
     for size in 0..most_right_items(count) {
@@ -162,7 +164,7 @@ fn keep_confident(
     ensures { IfOk result (λ met. KeepsConfident frequent.now confidence number tried.now met.items
         (rules_in frequent.now number rules.old.items) (rules_in frequent.now number rules.new.items)) }
 {
-    let whole = SetHash::of(frequent.sets()[number].set.items());
+    let whole = lookups.hashes.whole();
     let mut met = Vec::with_capacity(alloc, tried.len())?;
     for right in tried {
         if let Some(rule) = rule_for(frequent, number, confidence, *right, whole, lookups)? {
@@ -190,7 +192,7 @@ fn rule_for(
     let sets = frequent.sets();
     let union = &sets[number];
     let items = union.set.items();
-    let part = SetHash::of_side(items, right.places);
+    let part = lookups.hashes.side(right.places);
     let left_count = count_of(sets, items, !right.places, whole.without(part), lookups)?;
     if !meets(confidence, union.count, left_count) {
         return Ok(None);

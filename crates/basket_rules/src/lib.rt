@@ -4,7 +4,7 @@
 mod association;
 mod condensed;
 mod covered;
-mod fractions;
+mod figures;
 pub mod laws;
 mod listed;
 mod lookups;
@@ -18,6 +18,7 @@ pub mod worked;
 
 pub use association::{Rule, met_rules, rules, rules_with};
 pub use condensed::{closed, maximal};
-pub use lookups::{Figures, Lookups};
+pub use figures::Figures;
+pub use lookups::Lookups;
 pub use met::MetRule;
 pub use rights::Sides;

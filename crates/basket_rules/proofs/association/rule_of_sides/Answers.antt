@@ -9,4 +9,4 @@ returns c =
     let figures = c.args.figures.now in
     let left = c.in_ok-from_items.ensures.ok ∙ ap rising c.deref.ensures.value ∙ rising-rising sides.left.items c.requires.left in
     let right = c.in_ok-from_items-2.ensures.ok ∙ ap rising c.deref-2.ensures.value ∙ rising-rising sides.right.items c.requires.right in
-    λ i. record { left = left i; right = right i; count = figures.count; confidence = figures.confidence; lift = figures.lift }
+    λ i. record { left = left i; right = right i; count = figures.count; confidence = c.confidence.ensures i; lift = c.lift.ensures i }

@@ -28,9 +28,8 @@ returns-clause-rule c =
     ∙ others_are (has_place right.places) 0 c.items.result.now (subst IsRising (sym c.items.ensures.items) c.items.ensures.rising)
     ∙ ap (λ l. difference l (side_of l right)) items in
     let filled : c.fill.new.self.right.items ≡ side_of union right = c.in_ok-fill.ensures.right ∙ ap (λ l. side_of l right) items in
-    let confidence = c.reduced.ensures ∙ (λ i. lowest ((c.from.ensures ∙ sym counted) i) (c.from-2.ensures i)) in
-    let lift = c.lift.ensures ∙ (λ i. lowest (sym counted i * c.total.ensures i) (c.args.met.now.left_count * c.args.met.now.right_count)) in
-    λ i. record { left = left i; right = filled i; count = sym counted i; confidence = confidence i; lift = lift i }
+    let met = c.args.met.now in
+    λ i. record { left = left i; right = filled i; count = sym counted i; confidence = lowest (sym counted i) met.left_count; lift = lowest (sym counted i * c.total.ensures i) (met.left_count * met.right_count) }
 
 pub returns-clause-left : goal.returns-clause-left
 returns-clause-left c =

@@ -1,0 +1,57 @@
+-- Texts at the front of a room, and items with a space behind each.
+use Rattle.std.proofs.Common.{◌≡◌, ◌∙◌, ◌+◌, ◌-◌, ◌<◌, ◌≤◌, ◌++◌, ◌∷◌, [], ℕ, List, suc, codes, decimal, drop, get_or, length, take, refl, ap, sym, arith}
+use Rattle.std.specs.List.{flat_map}
+use Rattle.std.proofs.Math.Seq.{take-append_seam}
+use Rattle.std.proofs.lemmas.List.{append_assoc, append-nil, length-append, take-take, take_more}
+use Rattle.std.proofs.lemmas.List.Concat.{flat_map-append}
+use Rattle.basket_report.specs.Lines.{items_text}
+
+-- what is behind a front, as far as it goes
+pub take_past : (xs ys : List ℕ) (n : ℕ) → take (length xs + n) (xs ++ ys) ≡ xs ++ take n ys
+take_past [] ys n = let e : 0 + n ≡ n = omega arith in ap (λ m. take m ys) e
+take_past (x ∷ xs) ys n = let e : suc (length xs) + n ≡ suc (length xs + n) = omega arith in ap (λ m. take m (x ∷ (xs ++ ys))) e ∙ ap (λ l. x ∷ l) (take_past xs ys n)
+
+-- a room is added, and all but its front cut off
+pub front_kept : (report room : List ℕ) (count : ℕ) → count ≤ length room → take (length (report ++ room) - (length room - count)) (report ++ room) ≡ report ++ take count room
+front_kept report room count few =
+    let e : length (report ++ room) - (length room - count) ≡ length report + count = omega (arith, few, length-append report room) in
+    ap (λ n. take n (report ++ room)) e ∙ take_past report room count
+
+-- a text that was made somewhere stands at the front of the room that is copied from there
+pub front_is : (desk text rest : List ℕ) (start room count : ℕ) → drop start desk ≡ text ++ rest → length text ≡ count → count ≤ room
+    → take count (take room (drop start desk)) ≡ text
+front_is desk text rest start room count made long few =
+    take-take count room (drop start desk) few ∙ ap (take count) made ∙ ap (λ n. take n (text ++ rest)) (sym long) ∙ take-append_seam text rest
+
+-- the items with a space behind each
+abbrev pub spaced_text : List ℕ → List ℕ
+spaced_text items = flat_map (λ item. decimal item ++ 32 ∷ []) items
+
+-- spaces before items and one at the end are spaces behind them and one at the start
+moved_space : (items : List ℕ) → flat_map (λ other. 32 ∷ decimal other) items ++ 32 ∷ [] ≡ 32 ∷ spaced_text items
+moved_space [] = refl
+moved_space (item ∷ items) =
+    append_assoc (32 ∷ decimal item) (flat_map (λ other. 32 ∷ decimal other) items) (32 ∷ [])
+    ∙ ap (λ l. 32 ∷ decimal item ++ l) (moved_space items)
+    ∙ ap (λ l. 32 ∷ l) (sym (append_assoc (decimal item) (32 ∷ []) (spaced_text items)))
+
+-- so are those of some items with one space between, and a space
+pub spaced_is : (items : List ℕ) → 0 < length items → items_text items ++ 32 ∷ [] ≡ spaced_text items
+spaced_is [] some = absurd (omega arith)
+spaced_is (item ∷ items) some =
+    append_assoc (decimal item) (flat_map (λ other. 32 ∷ decimal other) items) (32 ∷ [])
+    ∙ ap (λ l. decimal item ++ l) (moved_space items)
+    ∙ sym (append_assoc (decimal item) (32 ∷ []) (spaced_text items))
+
+-- the text of one item more
+pub spaced_more : (items : List ℕ) (place item : ℕ) → place < length items → item ≡ get_or items place 0 → spaced_text (take (place + 1) items) ≡ spaced_text (take place items) ++ (decimal item ++ 32 ∷ [])
+spaced_more items place item below is =
+    ap spaced_text (take_more items place 0 below)
+    ∙ flat_map-append (λ other. decimal other ++ 32 ∷ []) (take place items) (get_or items place 0 ∷ [])
+    ∙ ap (λ l. spaced_text (take place items) ++ l) (append-nil (decimal (get_or items place 0) ++ 32 ∷ []))
+    ∙ ap (λ n. spaced_text (take place items) ++ (decimal n ++ 32 ∷ [])) (sym is)
+
+-- the parts of the line of a rule
+pub rule_parts : (report sides count ratios : List ℕ) → ((report ++ (sides ++ 32 ∷ [])) ++ (40 ∷ count ++ 41 ∷ [])) ++ (32 ∷ ratios ++ 10 ∷ [])
+    ≡ report ++ (sides ++ codes " (" ++ count ++ codes ") " ++ ratios ++ 10 ∷ [])
+rule_parts report sides count ratios = simp append_assoc

@@ -1,0 +1,39 @@
+//! The text of an item.
+ghost use Rattle.std.specs.Prelude.{◌≡◌, ◌≤◌, ◌++◌, [], ◌∷◌, decimal, take};
+
+use itoa::write_digits;
+
+/// How many digits an item has at most.
+const MOST_DIGITS: usize = 10;
+
+/// The room of a text and a space.
+const ROOM: usize = 16;
+
+/// Where a text is made: at the end of the digits, and a room behind its start.
+const DESK: usize = MOST_DIGITS + ROOM;
+
+/// An item, and its text with a space behind it, in front of a room.
+#[derive(Debug, Drop)]
+pub struct ItemText {
+    pub item: u32,
+    pub length: usize,
+    pub bytes: [u8; ROOM],
+    ghost within: { length ≤ 16 },
+    ghost is: { take length bytes ≡ decimal item ++ 32 ∷ [] },
+}
+
+impl ItemText {
+    pub fn new(item: u32) -> Self
+        ensures { result.item ≡ item }
+    {
+        let mut desk = [b' '; DESK];
+        let start = write_digits(u64::from(item), &mut desk, MOST_DIGITS);
+        let mut bytes = [0; ROOM];
+        bytes.copy_from_slice(&desk[start..start + ROOM]);
+        ItemText {
+            item,
+            length: MOST_DIGITS + 1 - start,
+            bytes,
+        }
+    }
+}
