@@ -3,6 +3,7 @@ mod ClassLemmas
 mod TogetherLemmas
 mod OrderedLemmas
 mod RunLemmas
+mod RunListLemmas
 mod RunStepLemmas
 mod RunLoopLemmas
 mod PairLemmas

@@ -1,5 +1,5 @@
 -- Runs of ranks.
-use Rattle.std.proofs.Common.{◌≡◌, ℕ, ◌+◌, ◌-◌, ◌<◌, Bool, true, List, [], ◌∷◌, ◌++◌, length, drop, get_or, set, cond, ltb, refl, sym, ap, ◌∙◌, subst, inl, inr, arith, zero, suc}
+use Rattle.std.proofs.Common.{◌≡◌, ℕ, ◌+◌, ◌-◌, ◌<◌, Bool, true, false, List, [], ◌∷◌, ◌++◌, length, drop, get_or, set, cond, ltb, refl, sym, ap, ◌∙◌, subst, inl, inr, arith, zero, suc}
 use Rattle.std.specs.declared.vec.Vec.{Vec}
 use Rattle.std.specs.declared.alloc.Global.{Global}
 use Rattle.std.proofs.lemmas.Bool.{cases_lt}
@@ -23,6 +23,9 @@ heavier_is (run ∷ next ∷ runs) (suc i) last weight at is = ap (λ rest. run 
 
 pub same_run : (run : Span) (runs : List Span) (same : Bool) → same ≡ true → with_last_heavier run.weight runs ≡ with_run same run runs
 same_run run runs same e = ap (λ b. cond b (with_last_heavier run.weight runs) (runs ++ run ∷ [])) (sym e)
+
+pub other_run : (run : Span) (runs : List Span) (same : Bool) → same ≡ false → runs ++ run ∷ [] ≡ with_run same run runs
+other_run run runs same e = ap (λ b. cond b (with_last_heavier run.weight runs) (runs ++ run ∷ [])) (sym e)
 
 -- ---- members of a rising list
 
