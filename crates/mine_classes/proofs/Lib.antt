@@ -6,6 +6,7 @@ mod RunLemmas
 mod RunListLemmas
 mod RunStepLemmas
 mod RunLoopLemmas
+mod NewPartLemmas
 mod PairLemmas
 mod SumLemmas
 mod PlaceLemmas

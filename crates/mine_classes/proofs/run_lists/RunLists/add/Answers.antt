@@ -28,7 +28,7 @@ index_mut-requires c =
       is,
       inside.runs.ok,
       end_within inside.runs.items inside.begins.items inside.ends.items c.args.self.now c.self.view_is c.self.invariant c.args.rank c.requires.there,
-      some_before inside.runs.items inside.begins.items inside.ends.items c.args.self.now c.self.view_is c.self.invariant c.args.rank c.requires.there (c.requires.some c.if-same.true)
+      some_before inside.runs.items inside.begins.items inside.ends.items c.args.self.now c.self.view_is c.self.invariant c.args.rank c.requires.there (c.requires.some c.if-same.true),
     )
 
 pub add_weight-requires : goal.add_weight-requires
@@ -49,7 +49,7 @@ index_mut-requires-else-same c =
       arith,
       is,
       inside.runs.ok,
-      next_within inside.runs.items inside.begins.items inside.ends.items c.args.self.now c.self.view_is c.self.invariant c.args.rank c.requires.there (c.requires.room c.if-same.false)
+      next_within inside.runs.items inside.begins.items inside.ends.items c.args.self.now c.self.view_is c.self.invariant c.args.rank c.requires.there (c.requires.room c.if-same.false),
     )
 
 pub overflow_add-end : goal.overflow_add-end
@@ -62,7 +62,7 @@ overflow_add-end c =
       is,
       inside.runs.ok,
       inside.runs.small,
-      next_within inside.runs.items inside.begins.items inside.ends.items c.args.self.now c.self.view_is c.self.invariant c.args.rank c.requires.there (c.requires.room c.if-same.false)
+      next_within inside.runs.items inside.begins.items inside.ends.items c.args.self.now c.self.view_is c.self.invariant c.args.rank c.requires.there (c.requires.room c.if-same.false),
     )
 
 pub index_mut-requires-else-same-2 : goal.index_mut-requires-else-same-2

@@ -25,7 +25,7 @@ offset_bounds-deref-begin c =
       at_zero inside.begins.items c.args.rank c.index-begin.result.now below c.index-begin.ensures,
       at_zero inside.ends.items c.args.rank c.index-end.result.now below-ends c.index-end.ensures,
       up inside.runs.items inside.begins.items inside.ends.items c.args.self.now c.self.view_is c.self.invariant c.args.rank c.requires,
-      end_within inside.runs.items inside.begins.items inside.ends.items c.args.self.now c.self.view_is c.self.invariant c.args.rank c.requires
+      end_within inside.runs.items inside.begins.items inside.ends.items c.args.self.now c.self.view_is c.self.invariant c.args.rank c.requires,
     )
 
 pub slice_bounds-result-count : goal.slice_bounds-result-count
@@ -37,7 +37,7 @@ slice_bounds-result-count c =
       arith,
       at_zero inside.begins.items c.args.rank c.index-begin.result.now below c.index-begin.ensures,
       at_zero inside.ends.items c.args.rank c.index-end.result.now below-ends c.index-end.ensures,
-      up inside.runs.items inside.begins.items inside.ends.items c.args.self.now c.self.view_is c.self.invariant c.args.rank c.requires
+      up inside.runs.items inside.begins.items inside.ends.items c.args.self.now c.self.view_is c.self.invariant c.args.rank c.requires,
     )
 
 pub slice_bounds-result-start : goal.slice_bounds-result-start
