@@ -3,8 +3,10 @@ mod ClassLemmas
 mod TogetherLemmas
 mod OrderedLemmas
 mod RunLemmas
+mod RunListLemmas
 mod RunStepLemmas
 mod RunLoopLemmas
+mod NewPartLemmas
 mod PairLemmas
 mod SumLemmas
 mod PlaceLemmas

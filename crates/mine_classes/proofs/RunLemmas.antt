@@ -1,5 +1,5 @@
 -- Runs of ranks.
-use Rattle.std.proofs.Common.{◌≡◌, ℕ, ◌+◌, ◌-◌, ◌<◌, Bool, true, List, [], ◌∷◌, ◌++◌, length, drop, get_or, set, cond, ltb, refl, sym, ap, ◌∙◌, subst, inl, inr, arith, zero, suc}
+use Rattle.std.proofs.Common.{◌≡◌, ℕ, ◌+◌, ◌-◌, ◌<◌, Bool, true, false, List, [], ◌∷◌, ◌++◌, length, drop, get_or, set, cond, ltb, refl, sym, ap, ◌∙◌, subst, inl, inr, arith, zero, suc}
 use Rattle.std.specs.declared.vec.Vec.{Vec}
 use Rattle.std.specs.declared.alloc.Global.{Global}
 use Rattle.std.proofs.lemmas.Bool.{cases_lt}
@@ -11,7 +11,7 @@ use Rattle.basket_sets.specs.Itemset.{IsRising}
 use Rattle.basket_sets.proofs.theory.Members.{Member}
 use Rattle.basket_sets.proofs.theory.Rising.{first_below, has-from_Member, rest_rises}
 use Rattle.mine_classes.specs.declared.span.Span.{Span}
-use Rattle.mine_classes.specs.Runs.{HaveRuns, run_at, runs_of, with_last_heavier, with_run}
+use Rattle.mine_classes.specs.Runs.{HaveRuns, run_at, with_last_heavier, with_run}
 
 pub heavier_is : (runs : List Span) (i : ℕ) (last : Span) (weight : ℕ) → i + 1 ≡ length runs → last ≡ get_or runs i last
     → set runs i (record { start = last.start; end = last.end; weight = last.weight + weight }) ≡ with_last_heavier weight runs
@@ -23,6 +23,9 @@ heavier_is (run ∷ next ∷ runs) (suc i) last weight at is = ap (λ rest. run 
 
 pub same_run : (run : Span) (runs : List Span) (same : Bool) → same ≡ true → with_last_heavier run.weight runs ≡ with_run same run runs
 same_run run runs same e = ap (λ b. cond b (with_last_heavier run.weight runs) (runs ++ run ∷ [])) (sym e)
+
+pub other_run : (run : Span) (runs : List Span) (same : Bool) → same ≡ false → runs ++ run ∷ [] ≡ with_run same run runs
+other_run run runs same e = ap (λ b. cond b (with_last_heavier run.weight runs) (runs ++ run ∷ [])) (sym e)
 
 -- ---- members of a rising list
 
@@ -41,15 +44,6 @@ pub all_below_at : (n : ℕ) (xs : List ℕ) (k : ℕ) → AllBelow n xs → k <
 all_below_at n xs k below here = below (get_or xs k 0) (has-from_Member xs (get_or xs k 0) (Member-at xs k here))
 
 -- ---- the runs of each rank
-
-pub runs_at : (of : List (Vec Span Global)) (rank : ℕ) (d : Vec Span Global) → rank < length of → get_or (runs_of of) rank [] ≡ (get_or of rank d).items
-runs_at of rank d below = get_or-map (λ (v : Vec Span Global). v.items) of rank d [] below
-
-pub runs_of-set : (of : List (Vec Span Global)) (rank : ℕ) (v : Vec Span Global) → runs_of (set of rank v) ≡ set (runs_of of) rank v.items
-runs_of-set of rank v = map-set (λ (w : Vec Span Global). w.items) of rank v
-
-pub length-runs_of : (of : List (Vec Span Global)) → length (runs_of of) ≡ length of
-length-runs_of of = length-map of (λ (v : Vec Span Global). v.items)
 
 module _ (path : List ℕ) (basket : Span) (shared : ℕ) (old : List (List Span)) (up : IsRising path) where
   -- the runs of the next rank are as they were

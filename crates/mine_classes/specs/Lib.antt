@@ -3,6 +3,7 @@ pub mod Classes
 pub mod Span
 pub mod ListBaskets
 pub mod Runs
+pub mod RunLists
 pub mod Pairs
 pub mod Places
 pub mod Words

@@ -13,6 +13,7 @@ pub mod laws;
 mod list_baskets;
 mod pairs;
 mod places;
+mod run_lists;
 mod runs;
 mod short_words;
 mod span;

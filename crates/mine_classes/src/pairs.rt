@@ -216,7 +216,7 @@ fn add_up(
 }
 
 /// Adds the weights of baskets to the sums of their ranks.
-fn add_all(sums: &mut [u64], ranks: &[u32], baskets: &[Span])
+pub fn add_all(sums: &mut [u64], ranks: &[u32], baskets: &[Span])
     requires zero { sums.old ≡ replicate (length sums.old) 0 }
     requires within { All (IsWithin (length ranks.now)) baskets.now }
     requires ranked { AreRankBaskets (record { ranks = length sums.old; baskets = baskets_at ranks.now baskets.now }) }

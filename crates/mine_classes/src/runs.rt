@@ -1,17 +1,18 @@
 //! The places where each rank stands in baskets that lie one after another.
-ghost use Rattle.std.specs.Prelude.{◌≡◌, ◌≤◌, ◌<◌, ◌+◌, ◌-◌, ℕ, [], All, IfOk, IsTrue, OnOk, length, replicate, take, slice_index, slice_index_or, sum_by};
+ghost use Rattle.std.specs.Prelude.{◌≡◌, ◌≤◌, ◌<◌, ◌+◌, ◌-◌, ℕ, [], All, IfOk, length, take, slice_index, slice_index_or, sum_by};
 ghost use Rattle.std.specs.List.{slice_range};
 ghost use Rattle.basket_sets.specs.Counts.{AllBelow};
 ghost use Rattle.basket_sets.specs.Database.{MOST_WEIGHT};
 ghost use Rattle.basket_sets.specs.Itemset.{IsRising};
 ghost use Rattle.mine_classes.specs.declared.span.Span.{Span as Run};
 ghost use Rattle.mine_classes.specs.ListBaskets.{AreRankBaskets};
-ghost use Rattle.mine_classes.specs.Pairs.{pairs_of};
-ghost use Rattle.mine_classes.specs.Runs.{ArePairsOf, AreRunsOf, HaveAllRuns, HaveRuns, runs_of, with_run};
+ghost use Rattle.mine_classes.specs.Pairs.{pairs_of, weight_with};
+ghost use Rattle.mine_classes.specs.Runs.{ArePairsOf, AreNewParts, AreRunsOf, HaveAllRuns, HaveRuns};
 ghost use Rattle.mine_classes.specs.Span.{IsWithin, baskets_at};
 
 use crate::list_baskets::ListBaskets;
-use crate::pairs::Sums;
+use crate::pairs::{Sums, add_all};
+use crate::run_lists::RunLists;
 use crate::span::Span;
 use std::alloc::{AllocError, Global};
 use std::marker::Model;
@@ -25,7 +26,7 @@ pub struct Runs {
     count: u32,
     ranks: Vec<u32>,
     baskets: Vec<Span>,
-    of: Vec<Vec<Span>>,
+    of: RunLists,
     /// The frequent pairs of each rank by a least support, or of none.
     pairs: Vec<Vec<(u32, u64)>>,
     least: u64,
@@ -33,7 +34,7 @@ pub struct Runs {
 
 impl Model for Runs {
     ghost use Rattle.mine_classes.specs.ListBaskets.{RankBaskets, AreRankBaskets};
-    ghost use Rattle.mine_classes.specs.Runs.{ArePairsOf, AreRunsOf, HaveAllRuns, runs_of};
+    ghost use Rattle.mine_classes.specs.Runs.{ArePairsOf, AreRunsOf, HaveAllRuns};
     ghost use Rattle.mine_classes.specs.Span.{baskets_at};
 
     ghost Value = { RankBaskets };
@@ -41,7 +42,7 @@ impl Model for Runs {
     ghost view = { λ r. record { ranks = r.count; baskets = baskets_at r.ranks.items r.baskets.items } };
 
     ghost invariant = { λ r. AreRankBaskets (record { ranks = r.count; baskets = baskets_at r.ranks.items r.baskets.items })
-        × HaveAllRuns r.count r.ranks.items (baskets_at r.ranks.items r.baskets.items) (runs_of r.of.items)
+        × HaveAllRuns r.count r.ranks.items (baskets_at r.ranks.items r.baskets.items) r.of.lists
         × ArePairsOf (baskets_at r.ranks.items r.baskets.items) r.least r.pairs.items };
 }
 
@@ -86,7 +87,7 @@ impl Runs {
         ensures runs { AreRunsOf result.0.now self.now.baskets rank result.1.now }
         ensures ranked { AreRankBaskets self.now }
     {
-        (&self.ranks, &self.of[rank as usize])
+        (&self.ranks, self.of.of_rank(rank))
     }
 
     /// The ranks below the rank that are frequent together with it, by a least support, each with
@@ -113,46 +114,38 @@ impl Runs {
     }
 }
 
+/// The part of each basket that the basket before doesn't begin with, of weight 1: each of its ranks
+/// begins a run there.
+fn new_parts(alloc: Global, ranks: &[u32], baskets: &[Span]) -> Result<Vec<Span>, AllocError>
+    requires { All (IsWithin (length ranks.now)) baskets.now }
+    ensures { IfOk result (λ parts. AreNewParts ranks.now baskets.now parts.items) }
+{
+    let mut parts = Vec::with_capacity(alloc, baskets.len())?;
+    let mut last = &ranks[..0];
+    for basket in baskets {
+        let path = basket.of(ranks);
+        let same = shared(last, path);
+        parts.push(basket.rest(same))?;
+        last = path;
+    }
+    Ok(parts)
+}
+
 /// How many runs each rank gets.
 fn run_counts(
     alloc: Global,
     count: u32,
     ranks: &[u32],
-    baskets: &[Span],
-) -> Result<Vec<usize>, AllocError>
-    requires { All (IsWithin (length ranks.now)) baskets.now }
-    ensures { IfOk result (λ counts. length counts.items ≡ count) }
+    parts: &[Span],
+) -> Result<Vec<u64>, AllocError>
+    requires within { All (IsWithin (length ranks.now)) parts.now }
+    requires ranked { AreRankBaskets (record { ranks = count; baskets = baskets_at ranks.now parts.now }) }
+    ensures length { IfOk result (λ counts. length counts.items ≡ count) }
+    ensures counts { IfOk result (λ counts. (rank : ℕ) → rank < count → slice_index counts.items rank ≡ weight_with rank (baskets_at ranks.now parts.now)) }
 {
     let mut counts = vec![in alloc; 0; count as usize]?;
-    let mut last = &ranks[..0];
-    for basket in baskets {
-        let path = basket.of(ranks);
-        let same = shared(last, path);
-        count_each(&mut counts, &path[same..]);
-        last = path;
-    }
+    add_all(&mut counts, ranks, parts);
     Ok(counts)
-}
-
-/// Counts one more for each of some ranks.
-fn count_each(counts: &mut [usize], ranks: &[u32]) {
-    for rank in ranks {
-        if (*rank as usize) < counts.len() {
-            counts[*rank as usize] = counts[*rank as usize].wrapping_add(1);
-        }
-    }
-}
-
-/// An empty list for each rank, with room for so many runs.
-fn no_runs(alloc: Global, counts: &[usize]) -> Result<Vec<Vec<Span>>, AllocError>
-    ensures { IfOk result (λ of. runs_of of.items ≡ replicate (length counts.now) []) }
-{
-    let mut of = Vec::with_capacity(alloc, counts.len())?;
-    for count in counts {
-        let runs = Vec::with_capacity(alloc, *count)?;
-        of.push(runs)?;
-    }
-    Ok(of)
 }
 
 /// The runs of each rank.
@@ -161,18 +154,17 @@ fn all_runs(
     count: u32,
     ranks: &[u32],
     baskets: &[Span],
-) -> Result<Vec<Vec<Span>>, AllocError>
+) -> Result<RunLists, AllocError>
     requires within { All (IsWithin (length ranks.now)) baskets.now }
     requires ranked { AreRankBaskets (record { ranks = count; baskets = baskets_at ranks.now baskets.now }) }
-    ensures { IfOk result (λ of. HaveAllRuns count ranks.now (baskets_at ranks.now baskets.now) (runs_of of.items)) }
+    ensures { IfOk result (λ of. HaveAllRuns count ranks.now (baskets_at ranks.now baskets.now) of.lists) }
 {
-    let mut of = no_runs(alloc, &run_counts(alloc, count, ranks, baskets)?)?;
-    let mut last = &ranks[..0];
-    for basket in baskets {
-        let path = basket.of(ranks);
-        let same = shared(last, path);
-        add_runs(&mut of, ranks, *basket, same)?;
-        last = path;
+    let parts = new_parts(alloc, ranks, baskets)?;
+    let counts = run_counts(alloc, count, ranks, &parts)?;
+    let mut of = RunLists::with_room(alloc, &counts)?;
+    for (number, basket) in baskets.iter().enumerate() {
+        let shared = parts[number].start - basket.start;
+        add_runs(&mut of, ranks, *basket, shared);
     }
     Ok(of)
 }
@@ -192,40 +184,22 @@ fn shared(a: &[u32], b: &[u32]) -> usize
     most
 }
 
-/// Adds a run at the end, or its weight to the last one where that is the same.
-fn add_run(runs: &mut Vec<Span>, run: Span, same: bool) -> Result<(), AllocError>
-    requires some { IsTrue same → 0 < length runs.old.items }
-    requires light { sum_by (λ (other : Run). other.weight) runs.old.items + run.weight ≤ MOST_WEIGHT }
-    ensures { OnOk result (runs.new.items ≡ with_run same run runs.old.items) }
-{
-    if same {
-        let last = runs.len() - 1;
-        runs[last].add_weight(run.weight);
-    } else {
-        runs.push(run)?;
-    }
-    Ok(())
-}
-
 /// Adds the runs of a basket that shares its first ranks with the basket before.
-fn add_runs(
-    of: &mut [Vec<Span>],
-    ranks: &[u32],
-    basket: Span,
-    shared: usize,
-) -> Result<(), AllocError>
+fn add_runs(of: &mut RunLists, ranks: &[u32], basket: Span, shared: u32)
     requires within { IsWithin (length ranks.now) basket }
     requires rises { IsRising (slice_range ranks.now basket.start basket.end) }
-    requires below { AllBelow (length of.old) (slice_range ranks.now basket.start basket.end) }
+    requires below { AllBelow (length of.old.lists) (slice_range ranks.now basket.start basket.end) }
     requires there { (k : ℕ) → k < shared → k < basket.end - basket.start
-        → 0 < length (slice_index_or (runs_of of.old) (slice_index (slice_range ranks.now basket.start basket.end) k) []) }
-    requires light { (rank : ℕ) → rank < length of.old → sum_by (λ (other : Run). other.weight) (slice_index_or (runs_of of.old) rank []) + basket.weight ≤ MOST_WEIGHT }
-    ensures { OnOk result (HaveRuns (slice_range ranks.now basket.start basket.end) basket shared (basket.end - basket.start) (runs_of of.old) (runs_of of.new)) }
+        → 0 < length (slice_index_or of.old.lists (slice_index (slice_range ranks.now basket.start basket.end) k) []) }
+    requires room { (k : ℕ) → shared ≤ k → k < basket.end - basket.start
+        → length (slice_index_or of.old.lists (slice_index (slice_range ranks.now basket.start basket.end) k) []) < slice_index of.old.rooms (slice_index (slice_range ranks.now basket.start basket.end) k) }
+    requires light { (rank : ℕ) → rank < length of.old.lists → sum_by (λ (other : Run). other.weight) (slice_index_or of.old.lists rank []) + basket.weight ≤ MOST_WEIGHT }
+    ensures runs { HaveRuns (slice_range ranks.now basket.start basket.end) basket shared (basket.end - basket.start) of.old.lists of.new.lists }
+    ensures rooms { of.new.rooms ≡ of.old.rooms }
 {
     let path = basket.of(ranks);
     for (depth, rank) in path.iter().enumerate() {
         let run = basket.first(depth as u32);
-        add_run(&mut of[*rank as usize], run, depth < shared)?;
+        of.add(*rank, run, (depth as u32) < shared);
     }
-    Ok(())
 }
