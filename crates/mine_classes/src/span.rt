@@ -95,3 +95,18 @@ pub fn table_pays(slots: u32, seen: &mut usize, baskets: &[Span]) -> bool
     }
     *seen >= enough
 }
+
+/// The greater of the ranks at the ends of each of the next baskets. These lie far apart, and such reads
+/// don't wait for one another.
+pub fn read_ahead(ranks: &[u32], baskets: &[Span]) -> [u32; AHEAD] {
+    let mut ahead = [0u32; AHEAD];
+    for (rank, basket) in ahead.iter_mut().zip(baskets) {
+        *rank = rank_at(ranks, basket.start).max(rank_at(ranks, basket.end));
+    }
+    ahead
+}
+
+/// The rank at a place, or 0 where there is none.
+fn rank_at(ranks: &[u32], place: u32) -> u32 {
+    ranks.get(place as usize).copied().unwrap_or(0)
+}

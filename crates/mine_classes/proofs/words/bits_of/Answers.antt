@@ -7,11 +7,8 @@ use Rattle.mine_classes.proofs.words.bits_of.Goals as goal
 pub returns-then-is_empty : goal.returns-then-is_empty
 returns-then-is_empty c = sym (no_bits c.args.kept.now c.args.basket.now (eqb-true (length c.args.kept.now) 0 (sym c.if-is_empty.ensures)))
 
-pub returns-else-is_empty-2 : goal.returns-else-is_empty-2
-returns-else-is_empty-2 c =
+pub returns-else-near-of : goal.returns-else-near-of
+returns-else-near-of c =
     let of = c.args.of.now in
-    let some : 0 < length of = elim (cases_lt 0 (length of)) [
-      | inl some ↦ some
-      | inr none ↦ absurd (true≢false (sym (eq-eqb (length of) 0 (omega arith)) ∙ sym c.if-is_empty-2.ensures))
-    ] in
+    let some : 0 < length of = omega arith in
     c.bits_by_table.ensures ∙ table_bits c.args.kept.now of c.args.basket.now c.requires.bits (λ rank m. c.requires.below some rank (has-from_Member c.args.basket.now rank m))
