@@ -112,27 +112,6 @@ met_is count least sums found baskets are added =
         Member-into_rising (filter summed found) rank
         (Member-from_filter summed rank found (Member-from_has found rank (are.listed rank (let one = one_of_met least (get_or sums rank 0) test in omega arith))) test)
 
--- the same, where the sums of all ranks are gone over
-pub all_met : (count least : ℕ) (sums : List ℕ) (baskets : List Weighted) → length sums ≡ count → ((rank : ℕ) → rank < count → get_or sums rank 0 ≡ weight_with rank baskets)
-    → map (λ rank. (rank, get_or sums rank 0)) (filter (λ rank. is_met least (get_or sums rank 0)) (range_with_len 0 count)) ≡ ranks_met count least baskets
-all_met count least sums baskets long added =
-    ap (map (λ rank. (rank, get_or sums rank 0))) (same_rising (filter summed range) (rising (filter summed range)) (filtered_range_rises summed 0 count) (rising-rises (filter summed range))
-    (λ rank m. Member-into_rising (filter summed range) rank m) (λ rank m. Member-rising (filter summed range) rank m))
-    ∙ met_is count least sums range baskets (record {
-      long = long;
-      below = λ rank h. (let r = Member-range 0 count rank (Member-from_has range rank h) in let high = r.1 in omega arith);
-      listed = λ rank some. has-from_Member range rank (Member-into_range 0 count rank (omega arith) (elim (cases_lt rank count) [
-        | inl inside ↦ omega arith
-        | inr outside ↦ (let past = get_or_past sums rank 0 (omega arith) in absurd (omega arith))
-      ]));
-    }) added
-  where
-    range : List ℕ
-    range = range_with_len 0 count
-
-    summed : ℕ → Bool
-    summed rank = is_met least (get_or sums rank 0)
-
 -- ---- the ranks that are met among those that stand in the baskets
 
 same_sums : (f g : Weighted → ℕ) (places : List Weighted) → ((place : Weighted) → f place ≡ g place) → sum_by f places ≡ sum_by g places

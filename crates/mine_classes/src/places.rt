@@ -10,7 +10,7 @@ ghost use Rattle.mine_classes.specs.Span.{IsWithin, baskets_at};
 
 use crate::form::Form;
 use crate::list_baskets::ListBaskets;
-use crate::span::{AHEAD, Span, place, read_ahead, table_pays};
+use crate::span::{BASKETS_AHEAD, Span, place, read_ahead, table_pays};
 use crate::word_baskets::WordBaskets;
 use crate::words::{WORD_RANKS, clear_bits, set_bits, words_of};
 use std::alloc::{AllocError, Global};
@@ -228,14 +228,14 @@ pub fn coded_spans(
     ensures placed { IfOk result (λ spans. baskets_at locals.new.items spans.items ≡ map (placed kept.now) (baskets_at ranks.now baskets.now)) }
 {
     let mut spans = Vec::with_capacity(alloc, baskets.len())?;
-    let mut ahead = [0u32; AHEAD];
+    let mut end_ranks = [0u32; BASKETS_AHEAD];
     for (number, basket) in baskets.iter().enumerate() {
-        if number % AHEAD == 0 {
-            ahead = read_ahead(ranks, &baskets[number..]);
+        if number % BASKETS_AHEAD == 0 {
+            end_ranks = read_ahead(ranks, &baskets[number..]);
         }
         // What was read has a slot: it never decides.
-        let near = ahead[number % AHEAD] as usize;
-        let slots = if near < of.len() { of } else { &of[..0] };
+        let end_rank = end_ranks[number % BASKETS_AHEAD] as usize;
+        let slots = if end_rank < of.len() { of } else { &of[..0] };
         let start = place(locals.len())?;
         add_places(locals, slots, kept, basket.of(ranks))?;
         let end = place(locals.len())?;

@@ -11,7 +11,7 @@ ghost use Rattle.mine_classes.specs.Words.{AreBits, bits_in, has_rank, ranks_in,
 
 use crate::places::place_of;
 use crate::short_words::ShortWords;
-use crate::span::{AHEAD, Span, read_ahead};
+use crate::span::{BASKETS_AHEAD, Span, read_ahead};
 use std::alloc::{AllocError, Global};
 
 /// How many ranks a word has bits for.
@@ -125,7 +125,7 @@ fn bits_by_table(of: &[u64], basket: &[u32]) -> u64
 
 /// The bits of the places of a basket's ranks. A basket is not looked at where no rank is kept. A rank
 /// near the basket was read before, which has a slot where there is a table: it never decides.
-fn bits_of(of: &[u64], kept: &[u32], basket: &[u32], near: u32) -> u64
+fn bits_of(of: &[u64], kept: &[u32], basket: &[u32], end_rank: u32) -> u64
     requires bits { AreBits kept.now of.now }
     requires rises { IsRising kept.now }
     requires few { length kept.now ≤ WORD_RANKS }
@@ -135,7 +135,7 @@ fn bits_of(of: &[u64], kept: &[u32], basket: &[u32], near: u32) -> u64
     if kept.is_empty() {
         return 0;
     }
-    if near as usize >= of.len() {
+    if end_rank as usize >= of.len() {
         bits_by_search(kept, basket)
     } else {
         bits_by_table(of, basket)
@@ -189,12 +189,12 @@ pub fn words_of(
 {
     let mut words = Vec::with_capacity(alloc, baskets.len())?;
     let mut short = ShortWords::new(alloc, baskets.len())?;
-    let mut ahead = [0u32; AHEAD];
+    let mut end_ranks = [0u32; BASKETS_AHEAD];
     for (place, basket) in baskets.iter().enumerate() {
-        if place % AHEAD == 0 {
-            ahead = read_ahead(ranks, &baskets[place..]);
+        if place % BASKETS_AHEAD == 0 {
+            end_ranks = read_ahead(ranks, &baskets[place..]);
         }
-        let bits = bits_of(of, kept, basket.of(ranks), ahead[place % AHEAD]);
+        let bits = bits_of(of, kept, basket.of(ranks), end_ranks[place % BASKETS_AHEAD]);
         let weight = basket.weight;
         let word = Word { bits, weight };
         if !short.take_in(word) {
