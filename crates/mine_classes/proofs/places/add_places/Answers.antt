@@ -1,4 +1,4 @@
-use Rattle.std.proofs.Common.{unwrap_or, ◌+◌, ◌++◌, get_or, length, set, take, sym, ap, ◌∙◌, append_assoc, arith}
+use Rattle.std.proofs.Common.{unwrap_or, ◌+◌, ◌++◌, get_or, set, take, sym, ap, ◌∙◌, append_assoc, arith}
 use Rattle.std.specs.Option.{is_some, option_to_list}
 use Rattle.std.proofs.lemmas.List.{length-set}
 use mir.Val.{bool_byte}

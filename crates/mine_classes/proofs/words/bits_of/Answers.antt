@@ -1,5 +1,5 @@
-use Rattle.std.proofs.Common.{◌<◌, length, sym, inl, inr, ◌∙◌, arith}
-use Rattle.std.proofs.lemmas.Bool.{cases_lt, eq-eqb, eqb-true, true≢false}
+use Rattle.std.proofs.Common.{◌<◌, length, sym, ◌∙◌, arith}
+use Rattle.std.proofs.lemmas.Bool.{eqb-true}
 use Rattle.basket_sets.proofs.theory.Rising.{has-from_Member}
 use Rattle.mine_classes.proofs.BitLemmas.{no_bits, table_bits}
 use Rattle.mine_classes.proofs.words.bits_of.Goals as goal
