@@ -1,21 +1,20 @@
 -- The parts of baskets in which runs begin.
-use Rattle.std.proofs.Common.{◌≡◌, ℕ, ◌+◌, ◌-◌, ◌<◌, ◌≤◌, true, false, List, [], ◌∷◌, ◌++◌, length, take, drop, get_or, map, cond, ltb, refl, sym, ap, ◌∙◌, subst, inl, inr, arith, zero, suc, add-zero}
+use Rattle.std.proofs.Common.{◌≡◌, ℕ, ◌+◌, ◌-◌, ◌<◌, ◌≤◌, true, false, List, [], ◌∷◌, length, take, drop, get_or, cond, ltb, refl, sym, ap, ◌∙◌, subst, inl, inr, arith, zero, suc, add-zero}
 use Rattle.std.specs.Prelude.{All}
 use Rattle.std.specs.List.{slice_range, sum_by}
 use Rattle.std.proofs.lemmas.Bool.{cases_Bool, cases_lt, lt-ltb, ltb-true, true≢false}
-use Rattle.std.proofs.lemmas.List.{drop-drop, drop-take, get_or-drop, get_or-map, get_or_default, length-append, length-drop, length-map, length-take}
+use Rattle.std.proofs.lemmas.List.{drop-drop, drop-take, get_or-drop, get_or-map, get_or_default, length-append, length-drop, length-map}
 use Rattle.std.proofs.lemmas.List.Sums.{sum_by-cons, sum_by_more_le}
 use Rattle.basket_sets.specs.declared.weighted.Weighted.{Weighted}
 use Rattle.basket_sets.specs.Counts.{AllBelow}
-use Rattle.basket_sets.specs.Database.{MOST_WEIGHT}
 use Rattle.basket_sets.specs.Itemset.{IsRising, has}
-use Rattle.basket_sets.specs.Support.{total_of, weight_at}
+use Rattle.basket_sets.specs.Support.{weight_at}
 use Rattle.basket_sets.proofs.theory.Members.{Member, Contains-from_Member}
 use Rattle.basket_sets.proofs.theory.Rising.{Member-from_has, has-from_Member, nil_rises, rest_rises}
 use Rattle.mine_classes.specs.declared.span.Span.{Span}
 use Rattle.mine_classes.specs.ListBaskets.{AreRankBaskets, IsRankBasket}
 use Rattle.mine_classes.specs.Pairs.{weight_with}
-use Rattle.mine_classes.specs.Runs.{AreNewParts, HaveRuns, IsNewPart, no_span, path_before, run_at, with_last_heavier, with_run}
+use Rattle.mine_classes.specs.Runs.{AreNewParts, HaveRuns, no_span, run_at, with_last_heavier, with_run}
 use Rattle.mine_classes.specs.Span.{IsWithin, basket_at, baskets_at}
 use Rattle.mine_classes.proofs.RunLemmas.{Member-at, all_below_at, rising_at}
 use Rattle.mine_classes.proofs.RunLoopLemmas.{rank_basket_at}

@@ -231,11 +231,14 @@ module _ (kept : List ℕ) (up : IsRising kept) where
       let same : place ≡ r.0 = r.2 ∙ zero-add r.0 in
       into_places basket (get_or kept r.0 0) place (Member-from_has basket (get_or kept r.0 0) r.3) (rank_at kept r.0 up r.1 ∙ ap Some (sym same)))
 
-  pub all_coded : (count : ℕ) (baskets : List Weighted) → AllByRecursion (IsRankBasket count) baskets → map (placed kept) baskets ≡ map (coded_place kept) baskets
-  all_coded count [] all = refl
-  all_coded count (place ∷ baskets) all =
+  coded_each : (count : ℕ) (baskets : List Weighted) → AllByRecursion (IsRankBasket count) baskets → map (placed kept) baskets ≡ map (coded_place kept) baskets
+  coded_each count [] all = refl
+  coded_each count (place ∷ baskets) all =
       ap (λ l. weighted l place.weight ∷ map (placed kept) baskets) (places_are_coded place.basket all.0.rises)
-      ∙ ap (λ rest. coded_place kept place ∷ rest) (all_coded count baskets all.1)
+      ∙ ap (λ rest. coded_place kept place ∷ rest) (coded_each count baskets all.1)
+
+  pub all_coded : (count : ℕ) (baskets : List Weighted) → All (IsRankBasket count) baskets → map (placed kept) baskets ≡ map (coded_place kept) baskets
+  all_coded count baskets all = coded_each count baskets (recursion_from_All (IsRankBasket count) baskets all)
 
 -- coded baskets of ranks are baskets of ranks
 pub coded_rank_baskets : (kept : List ℕ) (count : ℕ) (baskets : List Weighted) → AreRankBaskets (record { ranks = count; baskets = baskets })

@@ -1,5 +1,5 @@
 -- Lists of runs that lie one after another.
-use Rattle.std.proofs.Common.{◌≡◌, ◌≢◌, ◌⊎◌, ℕ, ◌+◌, ◌-◌, ◌<◌, ◌≤◌, List, [], ◌∷◌, ◌++◌, length, take, drop, get_or, map, set, refl, sym, ap, ◌∙◌, subst, inl, inr, arith, zero, suc}
+use Rattle.std.proofs.Common.{◌≡◌, ◌≢◌, ℕ, ◌+◌, ◌-◌, ◌<◌, ◌≤◌, List, [], ◌∷◌, ◌++◌, length, take, drop, get_or, map, set, refl, sym, ap, ◌∙◌, subst, inl, inr, arith, zero, suc}
 use Rattle.std.specs.Prelude.{replicate}
 use Rattle.std.specs.List.{range_with_len, slice_range, sum_by}
 use Rattle.std.proofs.lemmas.Bool.{cases_eq, cases_lt}

@@ -2,8 +2,8 @@
 use Rattle.std.proofs.Common.{◌≡◌, ℕ, ◌+◌, ◌<◌, ◌≤◌, Bool, true, false, ◌&&◌, List, [], ◌∷◌, length, take, drop, get_or, map, cond, leb, ltb, refl, sym, ap, ◌∙◌, inl, inr, arith, add-one, add-zero, drop-cons, zero, suc}
 use Rattle.std.specs.List.{All, AllByRecursion, filter, range_with_len, sum_by}
 use Rattle.std.specs.Ordering.{nat_cmp}
-use Rattle.std.proofs.lemmas.Bool.{and_parts, cases_eq, cases_lt, leb-true, ltb-true}
-use Rattle.std.proofs.lemmas.List.{get_or_past, take_more}
+use Rattle.std.proofs.lemmas.Bool.{and_parts, cases_eq, leb-true, ltb-true}
+use Rattle.std.proofs.lemmas.List.{take_more}
 use Rattle.std.proofs.lemmas.List.Elements.{All-weaker, recursion_from_All}
 use Rattle.std.proofs.lemmas.List.Kept.{IsStrictlySortedBy-filter}
 use Rattle.std.proofs.lemmas.List.Sums.{sum_by-cons, sum_by-append, sum_by-le-sum_by, sum_by_more_le}
@@ -111,27 +111,6 @@ met_is count least sums found baskets are added =
         let test = ap (is_met least) (added rank here) ∙ p.1 in
         Member-into_rising (filter summed found) rank
         (Member-from_filter summed rank found (Member-from_has found rank (are.listed rank (let one = one_of_met least (get_or sums rank 0) test in omega arith))) test)
-
--- the same, where the sums of all ranks are gone over
-pub all_met : (count least : ℕ) (sums : List ℕ) (baskets : List Weighted) → length sums ≡ count → ((rank : ℕ) → rank < count → get_or sums rank 0 ≡ weight_with rank baskets)
-    → map (λ rank. (rank, get_or sums rank 0)) (filter (λ rank. is_met least (get_or sums rank 0)) (range_with_len 0 count)) ≡ ranks_met count least baskets
-all_met count least sums baskets long added =
-    ap (map (λ rank. (rank, get_or sums rank 0))) (same_rising (filter summed range) (rising (filter summed range)) (filtered_range_rises summed 0 count) (rising-rises (filter summed range))
-    (λ rank m. Member-into_rising (filter summed range) rank m) (λ rank m. Member-rising (filter summed range) rank m))
-    ∙ met_is count least sums range baskets (record {
-      long = long;
-      below = λ rank h. (let r = Member-range 0 count rank (Member-from_has range rank h) in let high = r.1 in omega arith);
-      listed = λ rank some. has-from_Member range rank (Member-into_range 0 count rank (omega arith) (elim (cases_lt rank count) [
-        | inl inside ↦ omega arith
-        | inr outside ↦ (let past = get_or_past sums rank 0 (omega arith) in absurd (omega arith))
-      ]));
-    }) added
-  where
-    range : List ℕ
-    range = range_with_len 0 count
-
-    summed : ℕ → Bool
-    summed rank = is_met least (get_or sums rank 0)
 
 -- ---- the ranks that are met among those that stand in the baskets
 

@@ -15,9 +15,6 @@ use basket_core::Itemset;
 use std::alloc::{AllocError, Global};
 use std::marker::Model;
 
-/// How many sums a pass may go over for each rank that is added up.
-const SUMS_PER_RANK: usize = 4;
-
 /// A sum for each rank, used again from rank to rank. The sums stand in a table once it is worth its
 /// cost. Before that, each call has sums for its own ranks alone.
 #[derive(Debug, Drop)]
@@ -74,9 +71,6 @@ impl Sums {
         if self.sums.is_empty() {
             return met_by_search(alloc, ranks, baskets, least);
         }
-        if have_ranks(baskets, self.count as usize / SUMS_PER_RANK) {
-            return met_by_scan(alloc, &mut self.sums, ranks, baskets, least);
-        }
         met_by_table(
             alloc,
             &mut self.sums,
@@ -86,42 +80,6 @@ impl Sums {
             least,
         )
     }
-}
-
-/// Whether baskets have so many ranks together.
-fn have_ranks(baskets: &[Span], many: usize) -> bool
-    requires { (count : ℕ) × All (IsWithin count) baskets.now }
-{
-    let mut seen = 0usize;
-    for basket in baskets {
-        if seen >= many {
-            break;
-        }
-        seen = seen.saturating_add((basket.end - basket.start) as usize);
-    }
-    seen >= many
-}
-
-/// The ranks that are met, by a pass over all sums, which are 0 before and after: where they are not far
-/// more than the ranks that are added up, that is faster than to list those that are not 0.
-fn met_by_scan(
-    alloc: Global,
-    sums: &mut [u64],
-    ranks: &[u32],
-    baskets: &[Span],
-    least: u64,
-) -> Result<Vec<(u32, u64)>, AllocError>
-    requires zero { sums.old ≡ replicate (length sums.old) 0 }
-    requires few { length sums.old ≤ 4294967295 }
-    requires within { All (IsWithin (length ranks.now)) baskets.now }
-    requires ranked { AreRankBaskets (record { ranks = length sums.old; baskets = baskets_at ranks.now baskets.now }) }
-    ensures met { IfOk result (λ met. met.items ≡ ranks_met (length sums.old) least (baskets_at ranks.now baskets.now)) }
-    ensures sums { sums.new ≡ replicate (length sums.old) 0 }
-{
-    add_all(sums, ranks, baskets);
-    let met = met_in_order(alloc, sums, least);
-    sums.fill(0);
-    met
 }
 
 /// The ranks that are met, by a table of sums, which are 0 before and after.
@@ -215,7 +173,7 @@ fn add_up(
     Ok(())
 }
 
-/// Adds the weights of baskets to the sums of their ranks.
+/// The same with no list of the ranks.
 pub fn add_all(sums: &mut [u64], ranks: &[u32], baskets: &[Span])
     requires zero { sums.old ≡ replicate (length sums.old) 0 }
     requires within { All (IsWithin (length ranks.now)) baskets.now }

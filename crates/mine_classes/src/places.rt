@@ -1,16 +1,16 @@
 //! Baskets of the ranks that stand in a list, by their places there.
-ghost use Rattle.std.specs.Prelude.{◌≡◌, ◌≤◌, ◌<◌, ◌+◌, ◌++◌, [], None, All, IfOk, OnOk, length, map, replicate, take};
+ghost use Rattle.std.specs.Prelude.{◌≡◌, ◌≤◌, ◌++◌, [], None, All, IfOk, OnOk, length, map, replicate};
 ghost use Rattle.basket_core.specs.Codes.{coded_place, rank_of};
 ghost use Rattle.basket_sets.specs.Counts.{AllBelow};
 ghost use Rattle.basket_sets.specs.Itemset.{IsRising};
 ghost use Rattle.mine_classes.specs.Form.{form_baskets};
 ghost use Rattle.mine_classes.specs.ListBaskets.{AreRankBaskets, HaveSameWeights};
-ghost use Rattle.mine_classes.specs.Places.{ArePlaces, placed, places_in, slots_in};
+ghost use Rattle.mine_classes.specs.Places.{ArePlaces, placed, places_in};
 ghost use Rattle.mine_classes.specs.Span.{IsWithin, baskets_at};
 
 use crate::form::Form;
 use crate::list_baskets::ListBaskets;
-use crate::span::{AHEAD, Span, place, table_pays};
+use crate::span::{BASKETS_AHEAD, Span, place, read_ahead, table_pays};
 use crate::word_baskets::WordBaskets;
 use crate::words::{WORD_RANKS, clear_bits, set_bits, words_of};
 use std::alloc::{AllocError, Global};
@@ -175,93 +175,40 @@ pub fn place_of(kept: &[u32], rank: u32) -> Option<u32>
     }
 }
 
-/// Makes room for so many more places behind those that are filled.
-fn make_room(locals: &mut Vec<u32>, filled: usize, more: usize) -> Result<(), AllocError>
-    requires { filled ≤ length locals.old.items }
-    ensures room { OnOk result (filled + more ≤ length locals.new.items) }
-    ensures filled { OnOk result (take filled locals.new.items ≡ take filled locals.old.items) }
-{
-    let end = filled.checked_add(more).ok_or(AllocError)?;
-    if locals.len() < end {
-        locals.resize(end.saturating_mul(2), 0)?;
-    }
-    Ok(())
-}
-
-/// Puts the places of those ranks of a basket that have one behind those that are filled, each by a
-/// search. The answer is how many are filled then.
-fn put_by_search(locals: &mut Vec<u32>, filled: usize, kept: &[u32], basket: &[u32]) -> usize
+/// The place of a rank in the list, read from the table where that has a slot for the rank.
+fn place_in(of: &[Option<u32>], kept: &[u32], rank: u32) -> Option<u32>
+    requires places { ArePlaces kept.now of.now }
     requires rises { IsRising kept.now }
-    requires room { filled + length basket.now ≤ length locals.old.items }
-    ensures sized { length locals.new.items ≡ length locals.old.items }
-    ensures most { result ≤ filled + length basket.now }
-    ensures put { take result locals.new.items ≡ take filled locals.old.items ++ places_in kept.now basket.now }
+    ensures { result ≡ rank_of kept.now rank }
 {
-    let mut len = filled;
-    for rank in basket {
-        let place = place_of(kept, *rank);
-        locals[len] = place.unwrap_or(0);
-        len += usize::from(place.is_some());
+    match of.get(rank as usize) {
+        Some(slot) => *slot,
+        None => place_of(kept, rank),
     }
-    len
 }
 
-/// The same by what a table has for the ranks. A place is put down for each rank, and the next one over
-/// it where the rank has none: which have one can't be predicted, so a branch would cost more.
-fn put_by_table(locals: &mut Vec<u32>, filled: usize, of: &[Option<u32>], basket: &[u32]) -> usize
-    requires below { AllBelow (length of.now) basket.now }
-    requires room { filled + length basket.now ≤ length locals.old.items }
-    ensures sized { length locals.new.items ≡ length locals.old.items }
-    ensures most { result ≤ filled + length basket.now }
-    ensures put { take result locals.new.items ≡ take filled locals.old.items ++ slots_in of.now basket.now }
-{
-    let mut len = filled;
-    for rank in basket {
-        let place = of[*rank as usize];
-        locals[len] = place.unwrap_or(0);
-        len += usize::from(place.is_some());
-    }
-    len
-}
-
-/// Puts the places of those ranks of a basket that have one behind those that are filled. The answer is
-/// how many are filled then. A rank near the basket was read before: that it is in the table decides
-/// between ways to the same places.
-fn put_places(
+/// Adds the places of those ranks of a basket that have one. A place is put down for each rank, and the
+/// next one over it where the rank has none: which have one can't be predicted, so a branch would cost
+/// more.
+fn add_places(
     locals: &mut Vec<u32>,
-    filled: usize,
     of: &[Option<u32>],
     kept: &[u32],
     basket: &[u32],
-    near: u32,
-) -> Result<usize, AllocError>
+) -> Result<(), AllocError>
     requires places { ArePlaces kept.now of.now }
     requires rises { IsRising kept.now }
-    requires below { 0 < length of.now → AllBelow (length of.now) basket.now }
-    requires filled { filled ≤ length locals.old.items }
-    ensures filled { IfOk result (λ len. len ≤ length locals.new.items) }
-    ensures put { IfOk result (λ len. take len locals.new.items ≡ take filled locals.old.items ++ places_in kept.now basket.now) }
+    ensures { OnOk result (locals.new.items ≡ locals.old.items ++ places_in kept.now basket.now) }
 {
-    make_room(locals, filled, basket.len())?;
-    if near as usize >= of.len() {
-        return Ok(put_by_search(locals, filled, kept, basket));
+    let mut len = locals.len();
+    locals.extend_from_slice(basket)?;
+    for rank in basket {
+        let place = place_in(of, kept, *rank);
+        locals[len] = place.unwrap_or(0);
+        len += usize::from(place.is_some());
     }
-    Ok(put_by_table(locals, filled, of, basket))
-}
-
-/// The greater of the ranks at the ends of each of the next baskets. These lie far apart, and such reads
-/// don't wait for one another.
-fn read_ahead(ranks: &[u32], baskets: &[Span]) -> [u32; AHEAD] {
-    let mut ahead = [0u32; AHEAD];
-    for (rank, basket) in ahead.iter_mut().zip(baskets) {
-        *rank = rank_at(ranks, basket.start).max(rank_at(ranks, basket.end));
-    }
-    ahead
-}
-
-/// The rank at a place, or 0 where there is none.
-fn rank_at(ranks: &[u32], place: u32) -> u32 {
-    ranks.get(place as usize).copied().unwrap_or(0)
+    locals.truncate(len);
+    Ok(())
 }
 
 /// The baskets as places in the list, one after another, and where each stands.
@@ -277,23 +224,22 @@ pub fn coded_spans(
     requires places { ArePlaces kept.now of.now }
     requires rises { IsRising kept.now }
     requires within { All (IsWithin (length ranks.now)) baskets.now }
-    requires ranked { 0 < length of.now → AreRankBaskets (record { ranks = length of.now; baskets = baskets_at ranks.now baskets.now }) }
     ensures within { IfOk result (λ spans. All (IsWithin (length locals.new.items)) spans.items) }
     ensures placed { IfOk result (λ spans. baskets_at locals.new.items spans.items ≡ map (placed kept.now) (baskets_at ranks.now baskets.now)) }
 {
     let mut spans = Vec::with_capacity(alloc, baskets.len())?;
-    let mut filled = 0;
-    let mut ahead = [0u32; AHEAD];
+    let mut end_ranks = [0u32; BASKETS_AHEAD];
     for (number, basket) in baskets.iter().enumerate() {
-        if number % AHEAD == 0 {
-            ahead = read_ahead(ranks, &baskets[number..]);
+        if number % BASKETS_AHEAD == 0 {
+            end_ranks = read_ahead(ranks, &baskets[number..]);
         }
-        let start = place(filled)?;
-        let near = ahead[number % AHEAD];
-        filled = put_places(locals, filled, of, kept, basket.of(ranks), near)?;
-        let end = place(filled)?;
+        // What was read has a slot: it never decides.
+        let end_rank = end_ranks[number % BASKETS_AHEAD] as usize;
+        let slots = if end_rank < of.len() { of } else { &of[..0] };
+        let start = place(locals.len())?;
+        add_places(locals, slots, kept, basket.of(ranks))?;
+        let end = place(locals.len())?;
         spans.push(basket.moved(start, end))?;
     }
-    locals.truncate(filled);
     Ok(spans)
 }

@@ -7,7 +7,7 @@ ghost use Rattle.mine_classes.specs.Span.{IsWithin};
 use std::alloc::AllocError;
 
 /// Of how many baskets the ends are read ahead.
-pub const AHEAD: usize = 16;
+pub const BASKETS_AHEAD: usize = 16;
 
 /// How many slots a table may have for each rank that is looked up in it.
 const SLOTS_PER_RANK: usize = 16;
@@ -94,4 +94,19 @@ pub fn table_pays(slots: u32, seen: &mut usize, baskets: &[Span]) -> bool
         *seen = seen.saturating_add((basket.end - basket.start) as usize);
     }
     *seen >= enough
+}
+
+/// The greater of the ranks at the ends of each of the next baskets. These lie far apart, and such reads
+/// don't wait for one another.
+pub fn read_ahead(ranks: &[u32], baskets: &[Span]) -> [u32; BASKETS_AHEAD] {
+    let mut end_ranks = [0u32; BASKETS_AHEAD];
+    for (rank, basket) in end_ranks.iter_mut().zip(baskets) {
+        *rank = rank_at(ranks, basket.start).max(rank_at(ranks, basket.end));
+    }
+    end_ranks
+}
+
+/// The rank at a place, or 0 where there is none.
+fn rank_at(ranks: &[u32], place: u32) -> u32 {
+    ranks.get(place as usize).copied().unwrap_or(0)
 }

@@ -11,7 +11,7 @@ ghost use Rattle.mine_classes.specs.Words.{AreBits, bits_in, has_rank, ranks_in,
 
 use crate::places::place_of;
 use crate::short_words::ShortWords;
-use crate::span::{AHEAD, Span};
+use crate::span::{BASKETS_AHEAD, Span, read_ahead};
 use std::alloc::{AllocError, Global};
 
 /// How many ranks a word has bits for.
@@ -123,8 +123,9 @@ fn bits_by_table(of: &[u64], basket: &[u32]) -> u64
     bits
 }
 
-/// The bits of the places of a basket's ranks. A basket is not looked at where no rank is kept.
-fn bits_of(of: &[u64], kept: &[u32], basket: &[u32]) -> u64
+/// The bits of the places of a basket's ranks. A basket is not looked at where no rank is kept. A rank
+/// near the basket was read before, which has a slot where there is a table: it never decides.
+fn bits_of(of: &[u64], kept: &[u32], basket: &[u32], end_rank: u32) -> u64
     requires bits { AreBits kept.now of.now }
     requires rises { IsRising kept.now }
     requires few { length kept.now ≤ WORD_RANKS }
@@ -134,45 +135,10 @@ fn bits_of(of: &[u64], kept: &[u32], basket: &[u32]) -> u64
     if kept.is_empty() {
         return 0;
     }
-    if of.is_empty() {
+    if end_rank as usize >= of.len() {
         bits_by_search(kept, basket)
     } else {
         bits_by_table(of, basket)
-    }
-}
-
-/// The same, where the bits at the ends of the basket were read before. What was read never decides: it
-/// was read to bring the basket near.
-fn bits_read_ahead(of: &[u64], kept: &[u32], basket: &[u32], ahead: u64) -> u64
-    requires bits { AreBits kept.now of.now }
-    requires rises { IsRising kept.now }
-    requires few { length kept.now ≤ WORD_RANKS }
-    requires below { 0 < length of.now → AllBelow (length of.now) basket.now }
-    ensures { result ≡ bits_in kept.now basket.now }
-{
-    let bits = bits_of(of, kept, basket);
-    if ahead & !bits == 0 {
-        bits
-    } else {
-        bits_by_search(kept, basket)
-    }
-}
-
-/// The bits at the ends of the next baskets. These lie far apart, and such reads don't wait for one
-/// another.
-fn read_ahead(of: &[u64], ranks: &[u32], baskets: &[Span]) -> [u64; AHEAD] {
-    let mut ahead = [0u64; AHEAD];
-    for (bits, basket) in ahead.iter_mut().zip(baskets) {
-        *bits = bits_at(of, ranks, basket.start) | bits_at(of, ranks, basket.end);
-    }
-    ahead
-}
-
-/// The bits of the rank at a place, or none where there is no place or no slot.
-fn bits_at(of: &[u64], ranks: &[u32], place: u32) -> u64 {
-    match ranks.get(place as usize) {
-        Some(rank) => of.get(*rank as usize).copied().unwrap_or(0),
-        None => 0,
     }
 }
 
@@ -223,12 +189,12 @@ pub fn words_of(
 {
     let mut words = Vec::with_capacity(alloc, baskets.len())?;
     let mut short = ShortWords::new(alloc, baskets.len())?;
-    let mut ahead = [0u64; AHEAD];
+    let mut end_ranks = [0u32; BASKETS_AHEAD];
     for (place, basket) in baskets.iter().enumerate() {
-        if place % AHEAD == 0 {
-            ahead = read_ahead(of, ranks, &baskets[place..]);
+        if place % BASKETS_AHEAD == 0 {
+            end_ranks = read_ahead(ranks, &baskets[place..]);
         }
-        let bits = bits_read_ahead(of, kept, basket.of(ranks), ahead[place % AHEAD]);
+        let bits = bits_of(of, kept, basket.of(ranks), end_ranks[place % BASKETS_AHEAD]);
         let weight = basket.weight;
         let word = Word { bits, weight };
         if !short.take_in(word) {

@@ -1,6 +1,5 @@
 use Rattle.std.proofs.Common.{◌≡◌, ℕ, List, length, map, sym, subst, ap, ◌∙◌, arith}
 use Rattle.std.specs.Prelude.{All}
-use Rattle.std.proofs.lemmas.List.Elements.{recursion_from_All}
 use Rattle.std.proofs.lemmas.Result.{IfOk-weaker}
 use Rattle.basket_core.specs.Codes.{coded_place}
 use Rattle.basket_sets.specs.declared.weighted.Weighted.{Weighted}
@@ -18,7 +17,7 @@ use Rattle.mine_classes.proofs.pairs.met_by_search.Goals as goal
 -- baskets as places in the list of their ranks are coded by it
 coded_are : (list : List ℕ) (baskets others : List Weighted) (count : ℕ) → list ≡ items_of baskets → All (IsRankBasket count) baskets → others ≡ map (placed list) baskets → others ≡ map (coded_place (items_of baskets)) baskets
 coded_are list baskets others count is are coded = coded ∙ ap (λ l. map (placed l) baskets) is
-    ∙ all_coded (items_of baskets) (rising-rises (all_items baskets)) count baskets (recursion_from_All (IsRankBasket count) baskets are)
+    ∙ all_coded (items_of baskets) (rising-rises (all_items baskets)) count baskets are
 
 pub met_by_table-requires-clause-ranked : goal.met_by_table-requires-clause-ranked
 met_by_table-requires-clause-ranked c =

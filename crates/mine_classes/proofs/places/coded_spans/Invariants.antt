@@ -1,4 +1,4 @@
-use Rattle.std.proofs.Common.{◌≡◌, ◌≤◌, length, map, take}
+use Rattle.std.proofs.Common.{◌≡◌, length, map, take}
 use Rattle.std.specs.Prelude.{All}
 use Rattle.mine_classes.specs.Places.{placed}
 use Rattle.mine_classes.specs.Span.{IsWithin, baskets_at}
@@ -6,7 +6,6 @@ use Rattle.mine_classes.proofs.places.coded_spans.Given as goal
 
 abbrev pub invariant-loop-number : goal.invariant-loop-number
 invariant-loop-number l = record {
-  filled : l.filled ≤ length l.locals.items;
-  within : All (IsWithin l.filled) l.spans.items;
-  placed : baskets_at (take l.filled l.locals.items) l.spans.items ≡ map (placed l.kept) (take l.number (baskets_at l.ranks l.baskets));
+  within : All (IsWithin (length l.locals.items)) l.spans.items;
+  placed : baskets_at l.locals.items l.spans.items ≡ map (placed l.kept) (take l.number (baskets_at l.ranks l.baskets));
 }

@@ -5,7 +5,7 @@ use Rattle.basket_sets.specs.Counts.{AllBelow}
 use Rattle.basket_sets.specs.Database.{MOST_WEIGHT}
 use Rattle.basket_sets.specs.Itemset.{IsRising}
 use Rattle.mine_classes.specs.declared.span.Span.{Span}
-use Rattle.mine_classes.specs.Runs.{HaveRuns, run_at, with_run}
+use Rattle.mine_classes.specs.Runs.{HaveRuns, with_run}
 use Rattle.mine_classes.proofs.NewPartLemmas.{not_less}
 use Rattle.mine_classes.proofs.RunLemmas.{all_below_at, have_more, length-range, untouched}
 use Rattle.mine_classes.proofs.runs.add_runs.Goals as goal

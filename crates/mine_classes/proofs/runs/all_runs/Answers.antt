@@ -1,5 +1,5 @@
-use Rattle.std.proofs.Common.{◌≡◌, ◌+◌, ◌-◌, ◌<◌, ◌≤◌, [], ◌∷◌, ◌++◌, true, ℕ, List, length, get_or, take, subst, sym, ap, ◌∙◌, arith, add-one, refl}
-use Rattle.std.specs.Prelude.{All, replicate, sum_by}
+use Rattle.std.proofs.Common.{◌≡◌, ◌+◌, ◌-◌, ◌<◌, ◌≤◌, [], true, ℕ, length, get_or, take, subst, sym, ap, ◌∙◌, arith, add-one}
+use Rattle.std.specs.Prelude.{All, sum_by}
 use Rattle.std.specs.List.{slice_range}
 use Rattle.std.proofs.lemmas.List.{length-map, get_or-map, get_or_default}
 use Rattle.basket_sets.specs.declared.weighted.Weighted.{Weighted}
@@ -7,7 +7,7 @@ use Rattle.basket_sets.specs.Database.{MOST_WEIGHT}
 use Rattle.mine_classes.specs.declared.span.Span.{Span}
 use Rattle.mine_classes.specs.ListBaskets.{AreRankBaskets, repeats_last}
 use Rattle.mine_classes.specs.Pairs.{weight_with}
-use Rattle.mine_classes.specs.Runs.{AreNewParts, HaveAllRuns, HaveRuns, no_span, path_before}
+use Rattle.mine_classes.specs.Runs.{HaveAllRuns, HaveRuns, no_span, path_before}
 use Rattle.mine_classes.specs.Span.{IsWithin, basket_at, baskets_at}
 use Rattle.mine_classes.proofs.NewPartLemmas.{parts_ranked, parts_within, room_is, sized_more}
 use Rattle.mine_classes.proofs.OrderedLemmas.{some_repeats}

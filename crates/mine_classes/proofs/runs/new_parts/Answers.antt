@@ -1,8 +1,7 @@
-use Rattle.std.proofs.Common.{◌≡◌, ◌+◌, ◌-◌, ◌<◌, ◌≤◌, ◌++◌, ◌∷◌, [], ℕ, length, get_or, take, subst, sym, ap, ◌∙◌, inl, inr, arith, add-one, refl}
+use Rattle.std.proofs.Common.{◌≡◌, ◌+◌, ◌-◌, ◌≤◌, ◌++◌, ◌∷◌, [], length, get_or, take, subst, sym, ap, ◌∙◌, inl, inr, arith, add-one, refl}
 use Rattle.std.proofs.lemmas.Bool.{cases_lt}
 use Rattle.std.proofs.lemmas.List.{length-append, get_or_push}
 use Rattle.std.proofs.Math.ListN.{get_or-append}
-use Rattle.mine_classes.specs.declared.span.Span.{Span}
 use Rattle.mine_classes.specs.Runs.{IsNewPart, no_span, path_before}
 use Rattle.mine_classes.specs.Span.{basket_at}
 use Rattle.mine_classes.proofs.RunLemmas.{length-range}

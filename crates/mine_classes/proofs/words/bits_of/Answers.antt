@@ -1,5 +1,5 @@
-use Rattle.std.proofs.Common.{◌<◌, length, sym, inl, inr, ◌∙◌, arith}
-use Rattle.std.proofs.lemmas.Bool.{cases_lt, eq-eqb, eqb-true, true≢false}
+use Rattle.std.proofs.Common.{◌<◌, length, sym, ◌∙◌, arith}
+use Rattle.std.proofs.lemmas.Bool.{eqb-true}
 use Rattle.basket_sets.proofs.theory.Rising.{has-from_Member}
 use Rattle.mine_classes.proofs.BitLemmas.{no_bits, table_bits}
 use Rattle.mine_classes.proofs.words.bits_of.Goals as goal
@@ -7,11 +7,8 @@ use Rattle.mine_classes.proofs.words.bits_of.Goals as goal
 pub returns-then-is_empty : goal.returns-then-is_empty
 returns-then-is_empty c = sym (no_bits c.args.kept.now c.args.basket.now (eqb-true (length c.args.kept.now) 0 (sym c.if-is_empty.ensures)))
 
-pub returns-else-is_empty-2 : goal.returns-else-is_empty-2
-returns-else-is_empty-2 c =
+pub returns-else-end_rank-of : goal.returns-else-end_rank-of
+returns-else-end_rank-of c =
     let of = c.args.of.now in
-    let some : 0 < length of = elim (cases_lt 0 (length of)) [
-      | inl some ↦ some
-      | inr none ↦ absurd (true≢false (sym (eq-eqb (length of) 0 (omega arith)) ∙ sym c.if-is_empty-2.ensures))
-    ] in
+    let some : 0 < length of = omega arith in
     c.bits_by_table.ensures ∙ table_bits c.args.kept.now of c.args.basket.now c.requires.bits (λ rank m. c.requires.below some rank (has-from_Member c.args.basket.now rank m))

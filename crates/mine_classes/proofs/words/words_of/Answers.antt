@@ -25,8 +25,8 @@ weigh word = word.weight
 abbrev none : Span
 none = record { start = 0; end = 0; weight = 0 }
 
-pub bits_read_ahead-bits-requires-clause-below : goal.bits_read_ahead-bits-requires-clause-below
-bits_read_ahead-bits-requires-clause-below c = λ some.
+pub bits_of-bits-requires-clause-below : goal.bits_of-bits-requires-clause-below
+bits_of-bits-requires-clause-below c = λ some.
     let count = c.requires.ranked.0 in
     let is = rank_basket_at c.args.ranks.now count c.args.baskets.now c.loop-place.place none c.requires.ranked.1.places c.loop-place-test.true in
     subst (λ n. AllBelow n c.of.result.now) (sym (c.requires.ranked.2 some)) (subst (AllBelow count) (sym c.of.ensures) is.below)
@@ -76,9 +76,9 @@ loop-place-preserved c =
     let all = baskets_at ranks spans in
     let basket = basket_at ranks (get_or spans i none) in
     let is = rank_basket_at ranks c.requires.ranked.0 spans i none c.requires.ranked.1.places here in
-    let word : Word = record { bits = c.bits_read_ahead-bits.result; weight = basket.weight } in
+    let word : Word = record { bits = c.bits_of-bits.result; weight = basket.weight } in
     let next = basket_more ranks spans i none here in
-    let bits = c.bits_read_ahead-bits.ensures ∙ ap (bits_in kept) c.of.ensures in
+    let bits = c.bits_of-bits.ensures ∙ ap (bits_in kept) c.of.ensures in
     let same = sym (ap (λ l. weighted l basket.weight) (ap (ranks_in (length kept)) bits ∙ bits_are kept c.requires.rises c.requires.few basket.basket is.rises)) in
     let grown = sym (ap total_of next) ∙ sum_by-append (weight_at []) (take i all) (basket ∷ []) in
     let one = sum_by-cons (weight_at []) basket [] in

@@ -1,7 +1,6 @@
-use Rattle.std.proofs.Common.{◌-◌, ◌+◌, [], get_or, set, sym, ap, ◌∙◌, arith}
+use Rattle.std.proofs.Common.{◌-◌, ◌+◌, [], get_or, set, ap, ◌∙◌, arith}
 use Rattle.basket_sets.specs.Database.{MOST_WEIGHT}
-use Rattle.mine_classes.specs.RunLists.{AreInRooms, lists_in}
-use Rattle.mine_classes.specs.Runs.{with_run}
+use Rattle.mine_classes.specs.RunLists.{lists_in}
 use Rattle.mine_classes.proofs.RunLemmas.{other_run, same_run}
 use Rattle.mine_classes.proofs.RunListLemmas.{at_zero, end_within, heavier_lists, here-ends, last_light, next_within, pushed_are, pushed_lists, some_before}
 use Rattle.mine_classes.proofs.run_lists.RunLists.add.Goals as goal

@@ -1,4 +1,4 @@
-use Rattle.std.proofs.Common.{◌-◌, ◌*◌, drop, get_or, length, take, ap, ◌∙◌, arith}
+use Rattle.std.proofs.Common.{get_or, length, ap, ◌∙◌, arith}
 use Rattle.std.specs.List.{slice_range}
 use Rattle.mine_classes.proofs.RunListLemmas.{at_zero, end_within, here, here-ends, list_is, up}
 use Rattle.mine_classes.proofs.run_lists.RunLists.of_rank.Goals as goal
