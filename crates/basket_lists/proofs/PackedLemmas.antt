@@ -1,11 +1,11 @@
 -- Sets as the bits of a word.
 use Rattle.std.proofs.Common.{◌≡◌, ℕ, zero, suc, ◌+◌, ◌-◌, ◌*◌, ◌%◌, ◌^◌, ◌<◌, ◌≤◌, Bool, true, false, List, [], ◌∷◌, ◌++◌, length, cond, eqb, ltb, refl, sym, ap, ◌∙◌, subst, inl, inr, arith, get_or, take}
-use Rattle.std.specs.Prelude.{bit_and, bit_or}
+use Rattle.std.specs.Prelude.{bit_or}
 use Rattle.std.specs.Int.{bit_at, w128}
 use Rattle.std.proofs.lemmas.Bool.{eqb-true, ltb-true, lt-ltb, cases_Bool, cases_lt, cases_eq, false_from_ne_true}
 use Rattle.std.proofs.Math.Nat.{add-mul, mul-lt-mul_of_pos_right, pow-le-pow_right, pow-suc}
-use Rattle.std.proofs.lemmas.Nat.{and-not, and_comm, pow-add, pow_pos}
-use Rattle.std.proofs.lemmas.Nat.Bits.{and_pow, bit_at-zero, bit_at_above, bit_at_cat_low, bit_at_cat_high, bit_at_set_same, bit_at_set_other}
+use Rattle.std.proofs.lemmas.Nat.{pow-add, pow_pos}
+use Rattle.std.proofs.lemmas.Nat.Bits.{bit_at-zero, bit_at_above, bit_at_cat_low, bit_at_cat_high, bit_at_set_same, bit_at_set_other}
 use Rattle.std.proofs.lemmas.List.{take_more}
 use Rattle.basket_lists.specs.Packed.{items_in}
 use Rattle.basket_sets.specs.Itemset.{IsRising, with_item}
@@ -218,15 +218,6 @@ module _ (bits bit : ℕ) (low : 2 ^ bit ≤ bits) (high : bits < 2 * 2 ^ bit) w
   -- it is below each higher power
   power_above : (n : ℕ) → bit < n → bits < 2 ^ n
   power_above n above = let powers : 2 ^ suc bit ≤ 2 ^ n = pow-le-pow_right (omega arith) (omega (arith, above)) in omega (arith, high, powers, pow-suc 2 bit)
-
--- a word of 64 bits without its highest
-pub without_highest : (bits bit : ℕ) → 2 ^ bit ≤ bits → bits < 2 * 2 ^ bit → bit < 64 → bit_and bits (18446744073709551615 - 2 ^ bit) ≡ bits - 2 ^ bit
-without_highest bits bit low high few =
-    let powers : 2 ^ suc bit ≤ 2 ^ 64 = pow-le-pow_right (omega arith) few in
-    let fits : 2 ^ bit < 2 ^ 64 = omega (arith, powers, pow-suc 2 bit, low, high) in
-    let within : bits < 2 ^ 64 = omega (arith, powers, pow-suc 2 bit, high) in
-    let set : bit_and (2 ^ bit) bits ≡ 1 * 2 ^ bit = and_comm (2 ^ bit) bits ∙ and_pow bits bit ∙ ap (λ b. b * 2 ^ bit) (bit_is_set bits bit low high) in
-    and_comm bits (18446744073709551615 - 2 ^ bit) ∙ omega (arith, and-not 64 (2 ^ bit) bits fits within, set)
 
 -- the item of the highest bit is the least
 pub highest : (known : List ℕ) (bits bit : ℕ) → 2 ^ bit ≤ bits → bits < 2 * 2 ^ bit → bit < length known

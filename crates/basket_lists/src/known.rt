@@ -231,7 +231,7 @@ fn put_bits(
         let bit = rest.ilog2();
         room[count] = items[items.len() - 1 - (bit + place) as usize];
         count += 1;
-        rest &= !(1 << bit);
+        rest -= 1 << bit;
     }
     count
 }

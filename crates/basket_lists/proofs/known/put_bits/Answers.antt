@@ -1,10 +1,9 @@
 use Rattle.std.proofs.Common.{◌≡◌, ℕ, List, ◌+◌, ◌-◌, ◌*◌, ◌%◌, ◌^◌, ◌<◌, ◌≤◌, ◌++◌, ◌∷◌, [], length, get_or, set, take, refl, sym, ap, ◌∙◌, subst, arith}
-use Rattle.std.specs.Prelude.{bit_and}
 use Rattle.std.proofs.Math.Nat.{zero-mul}
-use Rattle.std.proofs.lemmas.Nat.{one_shl, pow_pos}
+use Rattle.std.proofs.lemmas.Nat.{one_shl}
 use Rattle.std.proofs.lemmas.List.{append_assoc, append-nil, take_more_set}
 use Rattle.basket_lists.specs.Packed.{items_in}
-use Rattle.basket_lists.proofs.PackedLemmas.{highest, items_in-zero, lower_power, moved_high, moved_low, moved_rest, without_highest}
+use Rattle.basket_lists.proofs.PackedLemmas.{highest, items_in-zero, lower_power, moved_high, moved_low, moved_rest}
 use Rattle.basket_lists.proofs.known.put_bits.Goals as goal
 
 pub loop-rest-init : goal.loop-rest-init
@@ -17,15 +16,6 @@ module _ (items : List ℕ) (rest bit place : ℕ) (low : 2 ^ bit ≤ rest) (hig
 
   first : items_in items (rest * 2 ^ place) ≡ get_or items (length items - 1 - (bit + place)) 0 ∷ items_in items (rest * 2 ^ place - 2 ^ (bit + place))
   first = highest items (rest * 2 ^ place) (bit + place) (moved_low rest bit place low high) (moved_high rest bit place low high) known
-
--- the rest is without the bit
-rest_is : (rest bit : ℕ) → 2 ^ bit ≤ rest → rest < 2 * 2 ^ bit → bit < 64 → bit_and rest (18446744073709551615 - 1 * 2 ^ bit % 2 ^ 64) ≡ rest - 2 ^ bit
-rest_is rest bit low high few = ap (λ b. bit_and rest (18446744073709551615 - b)) (one_shl bit 64 few) ∙ without_highest rest bit low high few
-
-pub loop-rest-smaller : goal.loop-rest-smaller
-loop-rest-smaller c =
-    let bit = c.ilog2-bit.result in
-    omega (arith, rest_is c.loop-rest.rest bit c.ilog2-bit.ensures.power_le c.ilog2-bit.ensures.next_power_gt c.ilog2-bit.ensures.bound, c.ilog2-bit.ensures.power_le, pow_pos bit)
 
 pub overflow_sub-room-in-loop-rest : goal.overflow_sub-room-in-loop-rest
 overflow_sub-room-in-loop-rest c = omega (arith, known c.args.items.now _ _ c.args.place c.ilog2-bit.ensures.power_le c.ilog2-bit.ensures.next_power_gt c.loop-rest.invariant.below)
@@ -50,7 +40,8 @@ loop-rest-preserved c =
     let was = c.loop-rest.invariant in
     let low = c.ilog2-bit.ensures.power_le in
     let high = c.ilog2-bit.ensures.next_power_gt in
-    let less : bit_and rest (18446744073709551615 - 1 * 2 ^ bit % 2 ^ 64) * 2 ^ place ≡ word - 2 ^ (bit + place) = ap (λ r. r * 2 ^ place) (rest_is rest bit low high c.ilog2-bit.ensures.bound) ∙ sym (moved_rest rest bit place low high) in
+    let shifted : 1 * 2 ^ bit % 2 ^ 64 ≡ 2 ^ bit = one_shl bit 64 c.ilog2-bit.ensures.bound in
+    let less : (rest - 1 * 2 ^ bit % 2 ^ 64) * 2 ^ place ≡ word - 2 ^ (bit + place) = ap (λ b. (rest - b) * 2 ^ place) shifted ∙ sym (moved_rest rest bit place low high) in
     let next = first items rest bit place low high was.below in
     let item = get_or items (length items - 1 - (bit + place)) 0 in
     record {
