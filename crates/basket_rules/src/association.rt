@@ -7,10 +7,10 @@ ghost use Rattle.basket_rules.specs.Rights.{side_of};
 ghost use Rattle.basket_rules.specs.Rules.{KeepsConfident, AreRules, AreRulesWith, IsRuleFor};
 
 use crate::figures::Figures;
+use crate::hashes::SetHash;
 use crate::lookups::Lookups;
 use crate::met::MetRule;
 use crate::parts::next_rights;
-use crate::places::SetHash;
 use crate::rights::{MOST_PLACES, Right, Sides, longer_rights};
 use crate::supports::count_of;
 use basket_core::{Fraction, Itemset, Unpacked};

@@ -4,10 +4,11 @@ ghost use Rattle.basket_sets.specs.Itemset.{IsRising};
 ghost use Rattle.basket_rules.specs.Met.{rule_from, rule_in};
 
 use crate::figures::Figures;
+use crate::hashes::{ItemHashes, SetHash};
 use crate::met::MetRule;
-use crate::places::{ItemHashes, Places};
 use crate::rights::Sides;
 use basket_core::{Counted, Unpacked};
+use basket_lists::Places;
 use std::alloc::{AllocError, Global};
 
 /// What is kept from union to union while the rules of a list are made: where its sets may stand,
@@ -34,7 +35,7 @@ impl Lookups {
     /// For the sets of a list, each of which is kept.
     pub fn of(alloc: Global, sets: &[Counted]) -> Result<Self, AllocError> {
         Ok(Lookups {
-            places: Places::of(alloc, sets)?,
+            places: places_of(alloc, sets)?,
             hashes: ItemHashes::none(alloc),
             sides: Sides::new(alloc),
         })
@@ -62,4 +63,13 @@ impl Lookups {
             right_count: met.right_count,
         })
     }
+}
+
+/// The places of the sets by their hashes.
+fn places_of(alloc: Global, sets: &[Counted]) -> Result<Places, AllocError> {
+    let mut places = Places::with_room(alloc, sets.len())?;
+    for place in 0..sets.len() {
+        places.keep(SetHash::of(sets[place].set.items()).word(), place);
+    }
+    Ok(places)
 }

@@ -1,14 +1,19 @@
 //! The supports of the sides of rules.
-ghost use Rattle.std.specs.Prelude.{◌≡◌, ◌≤◌, IfOk, IsTrue, length};
+ghost use Rattle.std.specs.Prelude.{◌≡◌, ◌<◌, ◌≤◌, IfOk, IfSome, IsTrue, length};
+ghost use Rattle.basket_rules.specs.Listed.{set_at};
 ghost use Rattle.basket_rules.specs.Rights.{chosen, has_place};
 ghost use Rattle.basket_rules.specs.Rules.{IsCountIn};
 
+use crate::hashes::SetHash;
 use crate::lookups::Lookups;
-use crate::places::SetHash;
 use crate::rights::MOST_PLACES;
 use crate::search::find;
 use basket_core::Counted;
+use basket_lists::Places;
 use std::alloc::AllocError;
+
+/// How many places are looked at for one hash.
+const MOST_STEPS: usize = 4;
 
 /// The count of the set with the items of a union at the places of a word, or 0 where the list
 /// doesn't have it. The items are put together only where it isn't found by its hash.
@@ -22,13 +27,35 @@ pub fn count_of(
     requires { length union.now ≤ MOST_PLACES }
     ensures { IfOk result (λ count. IsCountIn sets.now (chosen (has_place places) union.now) count) }
 {
-    if let Some(near) = lookups.places.near(hash) {
-        if near < sets.len() && is_side(sets[near].set.items(), union, places) {
-            return Ok(sets[near].count);
-        }
+    if let Some(place) = place_of(sets, union, places, hash, &lookups.places) {
+        return Ok(sets[place].count);
     }
     lookups.sides.fill(union, places)?;
     Ok(searched_count(sets, &lookups.sides.right))
+}
+
+/// Where that set stands, if it is found by its hash.
+fn place_of(
+    sets: &[Counted],
+    union: &[u32],
+    places: u64,
+    hash: SetHash,
+    kept: &Places,
+) -> Option<usize>
+    requires { length union.now ≤ MOST_PLACES }
+    ensures bound { IfSome result (λ place. place < length sets.now) }
+    ensures found { IfSome result (λ place. set_at sets.now place ≡ chosen (has_place places) union.now) }
+{
+    for step in 0..MOST_STEPS {
+        let place = kept.at(hash.word(), step) as usize;
+        if place >= sets.len() {
+            return None;
+        }
+        if is_side(sets[place].set.items(), union, places) {
+            return Some(place);
+        }
+    }
+    None
 }
 
 /// Whether a set has just the items of a union at the places of a word.
