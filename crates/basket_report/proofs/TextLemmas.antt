@@ -18,10 +18,10 @@ front_kept report room count few =
     ap (λ n. take n (report ++ room)) e ∙ take_past report room count
 
 -- a text that was made somewhere stands at the front of the room that is copied from there
-pub front_is : (desk text rest : List ℕ) (start room count : ℕ) → drop start desk ≡ text ++ rest → length text ≡ count → count ≤ room
-    → take count (take room (drop start desk)) ≡ text
-front_is desk text rest start room count made long few =
-    take-take count room (drop start desk) few ∙ ap (take count) made ∙ ap (λ n. take n (text ++ rest)) (sym long) ∙ take-append_seam text rest
+pub front_is : (scratch text rest : List ℕ) (start room count : ℕ) → drop start scratch ≡ text ++ rest → length text ≡ count → count ≤ room
+    → take count (take room (drop start scratch)) ≡ text
+front_is scratch text rest start room count made long few =
+    take-take count room (drop start scratch) few ∙ ap (take count) made ∙ ap (λ n. take n (text ++ rest)) (sym long) ∙ take-append_seam text rest
 
 -- the items with a space behind each
 abbrev pub spaced_text : List ℕ → List ℕ

@@ -11,7 +11,7 @@ const ROOM: usize = 24;
 
 /// Where a text is made: from the first parenthesis to the end of the digits, and a room behind its
 /// start.
-const DESK: usize = 1 + MOST_DIGITS + ROOM;
+const SCRATCH: usize = 1 + MOST_DIGITS + ROOM;
 
 /// A count, and its text in parentheses, in front of a room.
 #[derive(Debug, Drop)]
@@ -27,11 +27,11 @@ impl CountText {
     pub fn new(count: u64) -> Self
         ensures { result.count ≡ count }
     {
-        let mut desk = [b')'; DESK];
-        let start = write_digits(count, &mut desk, 1 + MOST_DIGITS) - 1;
-        desk[start] = b'(';
+        let mut scratch = [b')'; SCRATCH];
+        let start = write_digits(count, &mut scratch, 1 + MOST_DIGITS) - 1;
+        scratch[start] = b'(';
         let mut bytes = [0; ROOM];
-        bytes.copy_from_slice(&desk[start..start + ROOM]);
+        bytes.copy_from_slice(&scratch[start..start + ROOM]);
         CountText {
             count,
             length: MOST_DIGITS + 2 - start,

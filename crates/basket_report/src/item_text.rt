@@ -10,7 +10,7 @@ const MOST_DIGITS: usize = 10;
 const ROOM: usize = 16;
 
 /// Where a text is made: at the end of the digits, and a room behind its start.
-const DESK: usize = MOST_DIGITS + ROOM;
+const SCRATCH: usize = MOST_DIGITS + ROOM;
 
 /// An item, and its text with a space behind it, in front of a room.
 #[derive(Debug, Drop)]
@@ -26,10 +26,10 @@ impl ItemText {
     pub fn new(item: u32) -> Self
         ensures { result.item ≡ item }
     {
-        let mut desk = [b' '; DESK];
-        let start = write_digits(u64::from(item), &mut desk, MOST_DIGITS);
+        let mut scratch = [b' '; SCRATCH];
+        let start = write_digits(u64::from(item), &mut scratch, MOST_DIGITS);
         let mut bytes = [0; ROOM];
-        bytes.copy_from_slice(&desk[start..start + ROOM]);
+        bytes.copy_from_slice(&scratch[start..start + ROOM]);
         ItemText {
             item,
             length: MOST_DIGITS + 1 - start,

@@ -17,7 +17,7 @@ const SLOTS: usize = 2_048;
 const ROOM: usize = 41;
 
 /// Where a text is made: at the end of a room, and a room behind its start.
-const DESK: usize = 2 * ROOM;
+const SCRATCH: usize = 2 * ROOM;
 
 /// An odd number whose bits look random.
 const MULTIPLIER: u64 = 0x9E37_79B9_7F4A_7C15;
@@ -40,12 +40,12 @@ impl Written {
         ensures denominator { result.denominator ≡ denominator }
     {
         let fraction = Fraction::reduced(u128::from(numerator), u128::from(denominator));
-        let mut desk = [0; DESK];
-        let slash = write_digits(fraction.denominator() as u64, &mut desk, ROOM) - 1;
-        desk[slash] = b'/';
-        let start = write_digits(fraction.numerator() as u64, &mut desk, slash);
+        let mut scratch = [0; SCRATCH];
+        let slash = write_digits(fraction.denominator() as u64, &mut scratch, ROOM) - 1;
+        scratch[slash] = b'/';
+        let start = write_digits(fraction.numerator() as u64, &mut scratch, slash);
         let mut bytes = [0; ROOM];
-        bytes.copy_from_slice(&desk[start..start + ROOM]);
+        bytes.copy_from_slice(&scratch[start..start + ROOM]);
         Written {
             numerator,
             denominator,

@@ -25,13 +25,13 @@ invariant_of-result c =
     let ended = c.write_digits-start.ensures.start in
     let below : start < length buf = omega (arith, s, ended) in
     let next : start + 1 ≡ end = omega (arith, s, ended) in
-    let desk = set buf start 40 in
+    let scratch = set buf start 40 in
     let text = 40 ∷ (decimal number ++ 41 ∷ []) in
     let rest : List ℕ = replicate 23 41 in
-    let made : drop start desk ≡ text ++ rest = drop-set buf start 40 below
+    let made : drop start scratch ≡ text ++ rest = drop-set buf start 40 below
     ∙ ap (λ l. 40 ∷ l) (ap (λ n. drop n buf) next ∙ c.write_digits-start.ensures.written ∙ sym (append_assoc (decimal number) (41 ∷ []) rest)) in
     record {
       within = omega (arith, s, ended);
       is = ap (take (22 - start)) c.copy_from_slice.ensures.after
-          ∙ front_is desk text rest start (start + 24 - start) (22 - start) made (omega (arith, s, ended, length-append (decimal number) (41 ∷ []))) (omega (arith, s, ended));
+          ∙ front_is scratch text rest start (start + 24 - start) (22 - start) made (omega (arith, s, ended, length-append (decimal number) (41 ∷ []))) (omega (arith, s, ended));
     }

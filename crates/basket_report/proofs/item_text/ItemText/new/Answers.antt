@@ -18,13 +18,13 @@ invariant_of-result c =
     let s = short number (omega (arith, c.from.ensures)) in
     let start = c.write_digits-start.result in
     let ended = c.write_digits-start.ensures.start in
-    let desk = c.write_digits-start.new.buf in
+    let scratch = c.write_digits-start.new.buf in
     let text = decimal number ++ 32 ∷ [] in
     let rest : List ℕ = replicate 15 32 in
-    let made : drop start desk ≡ text ++ rest = c.write_digits-start.ensures.written ∙ sym (append_assoc (decimal number) (32 ∷ []) rest) in
+    let made : drop start scratch ≡ text ++ rest = c.write_digits-start.ensures.written ∙ sym (append_assoc (decimal number) (32 ∷ []) rest) in
     record {
       within = omega (arith, s, ended);
       is = ap (take (11 - start)) c.copy_from_slice.ensures.after
-          ∙ front_is desk text rest start (start + 16 - start) (11 - start) made (omega (arith, s, ended, length-append (decimal number) (32 ∷ []))) (omega (arith, s, ended))
+          ∙ front_is scratch text rest start (start + 16 - start) (11 - start) made (omega (arith, s, ended, length-append (decimal number) (32 ∷ []))) (omega (arith, s, ended))
           ∙ ap (λ n. decimal n ++ 32 ∷ []) c.from.ensures;
     }

@@ -47,17 +47,17 @@ invariant_of-result c =
     let below : slash < length buf = omega (arith, s, ended) in
     let next : slash + 1 ≡ end = omega (arith, s, ended) in
     let start = c.write_digits-start.result in
-    let desk = c.write_digits-start.new.buf in
+    let scratch = c.write_digits-start.new.buf in
     let text = decimal numerator ++ 47 ∷ decimal denominator in
     let rest : List ℕ = replicate 41 0 in
-    let made : drop start desk ≡ text ++ rest = c.write_digits-start.ensures.written
+    let made : drop start scratch ≡ text ++ rest = c.write_digits-start.ensures.written
     ∙ ap (λ l. decimal numerator ++ l) (drop-set buf slash 47 below ∙ ap (λ l. 47 ∷ l) (ap (λ n. drop n buf) next ∙ c.write_digits-slash.ensures.written))
     ∙ sym (append_assoc (decimal numerator) (47 ∷ decimal denominator) rest) in
     let long : length text ≡ 41 - start = omega (arith, s, ended, started, length-append (decimal numerator) (47 ∷ decimal denominator)) in
     record {
       within = omega (arith, s, ended, started);
       is = ap (take (41 - start)) c.copy_from_slice.ensures.after
-          ∙ front_is desk text rest start (start + 41 - start) (41 - start) made long (omega (arith, s, ended, started))
+          ∙ front_is scratch text rest start (start + 41 - start) (41 - start) made long (omega (arith, s, ended, started))
           ∙ (λ i. decimal (c.numerator.ensures i) ++ 47 ∷ decimal (c.denominator.ensures.value i))
           ∙ ap ratio_text (c.reduced-fraction.ensures.value ∙ (λ i. lowest (c.from.ensures i) (c.from-2.ensures i)));
     }
