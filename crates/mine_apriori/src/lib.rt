@@ -25,7 +25,10 @@ pub mod worked;
 
 pub use join::candidates;
 pub use levels::{FirstLevel, Levels, apriori};
-pub use pairs::{frequent_pairs, is_small_triangle, pairs_by_triangle, pays_for_classes, runs_keeping, runs_with_pairs};
+pub use pairs::{
+    frequent_pairs, is_small_triangle, pairs_by_triangle, pays_for_classes, runs_keeping,
+    runs_with_pairs,
+};
 pub use shard::count_shard;
 pub use tree::CandidateTree;
 pub use triangle::{Triangle, pair_count, pairs_of_supports};
