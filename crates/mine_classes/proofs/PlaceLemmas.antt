@@ -10,7 +10,6 @@ use Rattle.std.proofs.lemmas.List.Elements.{All-from_recursion, recursion_from_A
 use Rattle.basket_sets.specs.declared.weighted.Weighted.{Weighted}
 use Rattle.basket_core.specs.Codes.{coded, coded_place, rank_from, rank_of}
 use Rattle.basket_core.proofs.theory.Coding.{coded_place_is, coded_total, from_ranks, into_ranks, ranks_rise}
-use Rattle.basket_sets.specs.Counts.{AllBelow}
 use Rattle.basket_sets.specs.Database.{MOST_WEIGHT, weighted}
 use Rattle.basket_sets.specs.Itemset.{IsRising, has}
 use Rattle.basket_sets.proofs.theory.Members.{Member, Contains-from_Member}
@@ -18,7 +17,7 @@ use Rattle.basket_sets.proofs.theory.Rising.{Member-from_has, has-from_Member, c
 use Rattle.mine_classes.specs.declared.span.Span.{Span}
 use Rattle.mine_classes.specs.declared.list_baskets.Entry.{Entry}
 use Rattle.mine_classes.specs.ListBaskets.{AreRankBaskets, IsRankBasket, entry_place, entry_places}
-use Rattle.mine_classes.specs.Places.{ArePlaces, placed, places_in, slots_in}
+use Rattle.mine_classes.specs.Places.{ArePlaces, placed, places_in}
 use Rattle.mine_classes.specs.Span.{IsWithin, basket_at, baskets_at}
 use Rattle.mine_classes.proofs.OrderedLemmas.{pushed_basket}
 use Rattle.mine_classes.proofs.PairLemmas.{has_more}
@@ -67,13 +66,6 @@ slot_is kept places rank up are inside = elim (cases_Bool (has kept rank)) [
       ap (λ r. get_or places r None) (sym at) ∙ are.at c.0 c.1 (subst (λ r. r < length places) (sym at) inside) ∙ sym (ap (rank_of kept) (sym at) ∙ rank_at kept c.0 up c.1))
   | inr e ↦ are.none rank e ∙ sym (rank_from_none 0 kept rank e)
 ]
-
--- with no table there is no slot
-pub no_slots : (kept : List ℕ) → ArePlaces kept []
-no_slots kept = record {
-  at = λ k here inside. absurd (omega arith);
-  none = λ rank missing. refl;
-}
 
 -- ---- putting places, and taking them away
 
@@ -142,16 +134,6 @@ slot_put now front len None more room count before =
 slot_put now front len (Some y) more room count before =
     let one : len + more ≡ len + 1 = omega (arith, count) in
     ap (λ n. take n (set now len y)) one ∙ take_more_set now len y room ∙ ap (λ l. l ++ y ∷ []) before
-
--- from a table that has a slot for each of its ranks
-pub slots_are : (kept : List ℕ) (places : List (Option ℕ)) (basket : List ℕ) → IsRising kept → ArePlaces kept places → AllBelow (length places) basket → slots_in places basket ≡ places_in kept basket
-slots_are kept places basket up are below = go basket (λ rank m. below rank (has-from_Member basket rank m))
-  where
-    go : (ranks : List ℕ) → ((rank : ℕ) → Member rank ranks → rank < length places) → slots_in places ranks ≡ places_in kept ranks
-    go [] inside = refl
-    go (first ∷ ranks) inside =
-        ap (λ o. cons_option o (slots_in places ranks)) (slot_is kept places first up are (inside first (inl refl)))
-        ∙ ap (cons_option (rank_of kept first)) (go ranks (λ rank m. inside rank (inr m)))
 
 -- ---- places as a coding
 

@@ -11,10 +11,6 @@ pub record ArePlaces (ranks : List ℕ) (places : List (Option ℕ)) : Type 0 wh
   pub at : (k : ℕ) → k < length ranks → slice_index ranks k < length places → slice_index_or places (slice_index ranks k) None ≡ Some k
   pub none : (rank : ℕ) → has ranks rank ≡ false → slice_index_or places rank None ≡ None
 
--- what a table has at the ranks of a basket
-abbrev pub slots_in : List (Option ℕ) → List ℕ → List ℕ
-slots_in places basket = filter_map (λ rank. slice_index_or places rank None) basket
-
 -- the places of those ranks of a basket that have one
 abbrev pub places_in : List ℕ → List ℕ → List ℕ
 places_in ranks basket = filter_map (rank_of ranks) basket
