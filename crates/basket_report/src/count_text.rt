@@ -24,6 +24,7 @@ pub struct CountText {
 }
 
 impl CountText {
+    #[inline(always)]
     pub fn new(count: u64) -> Self
         ensures { result.count ≡ count }
     {
