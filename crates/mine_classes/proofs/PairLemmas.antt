@@ -3,8 +3,7 @@ use Rattle.std.proofs.Common.{◌≡◌, ℕ, ◌+◌, ◌<◌, Bool, true, fals
 use Rattle.std.specs.Prelude.{replicate}
 use Rattle.std.specs.List.{filter}
 use Rattle.std.proofs.lemmas.Bool.{cases_Bool, cases_eq, cases_lt, eqb-true, eq-eqb, ltb-true, true≢false}
-use mir.Val.{bool_byte}
-use Rattle.std.proofs.lemmas.List.{take-set, take_more_set, ext_get_or, get_or-replicate, get_or-set_same, get_or-set_other, length-replicate, length-set}
+use Rattle.std.proofs.lemmas.List.{ext_get_or, get_or-replicate, get_or-set_same, get_or-set_other, length-replicate, length-set}
 use Rattle.std.proofs.lemmas.List.Folds.{list_any_more}
 use Rattle.basket_sets.specs.Counts.{AllBelow}
 use Rattle.basket_sets.specs.Itemset.{IsRising, has, rising}
@@ -77,26 +76,6 @@ below_push count found rank below here other h = elim (Member-append other found
   | inl m ↦ below other (has-from_Member found other m)
   | inr (inl e) ↦ subst (λ r. r < count) e here
   | inr (inr n) ↦ absurd n
-]
-
--- a rank put down behind those that are listed, and kept where its sum was 0
-pub listed_more : (count : ℕ) (sums found : List ℕ) (len rank weight more : ℕ) → AreSums count sums (take len found) → rank < count → len < length found
-    → more ≡ bool_byte (eqb (get_or sums rank 0) 0) → AreSums count (set sums rank (get_or sums rank 0 + weight)) (take (len + more) (set found len rank))
-listed_more count sums found len rank weight more are here room counted = elim (cases_Bool (eqb (get_or sums rank 0) 0)) [
-  | inl e ↦
-      (let one : len + more ≡ len + 1 = ap (λ n. len + n) (counted ∙ ap bool_byte e) in
-      let listed = take len found in
-      subst (AreSums count (set sums rank (get_or sums rank 0 + weight))) (sym (ap (λ n. take n (set found len rank)) one ∙ take_more_set found len rank room))
-      (sums_more count sums listed (listed ++ rank ∷ []) rank weight are (below_push count listed rank are.below here) (has-append_left listed rank) (has-append_last listed rank)))
-  | inr e ↦
-      (let none : len + more ≡ len = ap (λ n. len + n) (counted ∙ ap bool_byte e) ∙ add-zero len in
-      let listed = take len found in
-      let some : 0 < get_or sums rank 0 = elim (cases_lt 0 (get_or sums rank 0)) [
-        | inl h ↦ h
-        | inr h ↦ absurd (true≢false (sym (eq-eqb (get_or sums rank 0) 0 (omega (arith, h))) ∙ e))
-      ] in
-      subst (AreSums count (set sums rank (get_or sums rank 0 + weight))) (sym (ap (λ n. take n (set found len rank)) none ∙ take-set found len rank))
-      (sums_more count sums listed listed rank weight are are.below (λ other h. h) (are.listed rank some)))
 ]
 
 pub all_zero : (count : ℕ) (sums : List ℕ) → length sums ≡ count → ((rank : ℕ) → get_or sums rank 0 ≡ 0) → sums ≡ replicate count 0

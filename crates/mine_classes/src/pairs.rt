@@ -213,9 +213,7 @@ pub fn met_in_order(alloc: Global, sums: &[u64], least: u64) -> Result<Vec<(u32,
     Ok(pairs)
 }
 
-/// Adds the weight of a basket to the sum of each of its ranks, and lists the ranks whose sums were 0. Each
-/// rank is put down, and the next one over it where its sum was not 0: which were can't be predicted, so a
-/// branch would cost more.
+/// Adds the weight of a basket to the sum of each of its ranks, and lists the ranks whose sums were 0.
 fn add_basket(
     sums: &mut [u64],
     found: &mut Vec<u32>,
@@ -229,14 +227,12 @@ fn add_basket(
     ensures sums { AreSums (length sums.old) sums.new found.new.items }
     ensures added { OnOk result (WithBasket basket.now weight sums.old sums.new) }
 {
-    let mut len = found.len();
-    found.extend_from_slice(basket)?;
     for rank in basket {
-        found[len] = *rank;
-        len += usize::from(sums[*rank as usize] == 0);
+        if sums[*rank as usize] == 0 {
+            found.push(*rank)?;
+        }
         sums[*rank as usize] += weight;
     }
-    found.truncate(len);
     Ok(())
 }
 

@@ -1,10 +1,9 @@
-use Rattle.std.proofs.Common.{◌≡◌, ◌<◌, ◌+◌, ◌++◌, eqb, length, get_or, take, subst, sym, ap, ◌∙◌, arith, refl}
-use Rattle.std.proofs.lemmas.List.{length-append, length-set, take-append-le, take_all}
+use Rattle.std.proofs.Common.{◌+◌, ◌++◌, ◌∷◌, [], length, get_or, set, subst, sym, ap, ◌∙◌, arith}
 use Rattle.mine_classes.specs.Pairs.{AreSums}
 use Rattle.mine_classes.proofs.RunLemmas.{all_below_at}
-use Rattle.mine_classes.proofs.PairLemmas.{listed_more, with_more}
-use Rattle.mine_classes.proofs.PlaceLemmas.{one_at_most}
+use Rattle.mine_classes.proofs.PairLemmas.{below_push, has-append_last, has-append_left, sums_more, with_more}
 use Rattle.mine_classes.proofs.pairs.add_basket.Goals as goal
+use Rattle.mine_classes.proofs.pairs.add_basket.Goals.{then-sums-rank-eq0+in_ok-push, else-sums-rank-eq0}
 
 pub bounds-sums-rank : goal.bounds-sums-rank
 bounds-sums-rank c =
@@ -21,35 +20,22 @@ bounds-sums-rank-in-loop-rank-2 c =
     let here = all_below_at (length c.args.sums.now) c.args.basket.now c.loop-rank.rank-index c.requires.below c.loop-rank-test.true in
     omega (arith, here, c.loop-rank.auto.sums)
 
-pub loop-rank-init : goal.loop-rank-init
-loop-rank-init c =
-    let found = c.args.found.now.items in
-    let basket = c.args.basket.now in
-    let is = c.in_ok-extend_from_slice.ensures.items in
-    let long = ap length is ∙ length-append found basket in
-    let front : take c.len-len.result c.extend_from_slice.new.self.items ≡ found =
-    ap (take c.len-len.result) is ∙ take-append-le c.len-len.result found basket (omega (arith, c.len-len.ensures)) ∙ take_all c.len-len.result found (omega (arith, c.len-len.ensures)) in
-    record {
-      room = refl;
-      few = omega (arith, long, c.len-len.ensures);
-      sums = subst (AreSums (length c.args.sums.now) c.args.sums.now) (sym front) c.requires.sums;
-      added = λ rank here. omega arith;
-    }
-
 pub loop-rank-preserved : goal.loop-rank-preserved
 loop-rank-preserved c =
     let count = length c.args.sums.now in
     let basket = c.args.basket.now in
     let i = c.loop-rank.rank-index in
     let rank = get_or basket i 0 in
+    let sums = c.loop-rank.sums in
     let found = c.loop-rank.found.items in
-    let len = c.loop-rank.len in
-    let was = c.loop-rank.invariant in
+    let are = c.loop-rank.invariant.sums in
     let here = all_below_at count basket i c.requires.below c.loop-rank-test.true in
-    let room : len < length found = omega (arith, was.room, was.few, c.loop-rank-test.true) in
     record {
-      room = length-set found len rank ∙ was.room;
-      few = omega (arith, was.few, one_at_most (eqb (get_or c.loop-rank.sums rank 0) 0), c.from-len.ensures);
-      sums = listed_more count c.loop-rank.sums found len rank c.args.weight c.from-len.result was.sums here room c.from-len.ensures;
-      added = with_more basket i c.args.weight c.args.sums.now c.loop-rank.sums c.requires.rises c.loop-rank-test.true (omega (arith, here, c.loop-rank.auto.sums)) c.loop-rank.auto.sums was.added;
+      sums = elim c.if-sums-rank-eq0.branch [
+        | then-sums-rank-eq0+in_ok-push w ↦ subst (AreSums count (set sums rank (get_or sums rank 0 + c.args.weight))) (sym (ap (λ v. v.items) w.found-is ∙ w.in_ok-push.ensures.items))
+            (sums_more count sums found (found ++ rank ∷ []) rank c.args.weight are (below_push count found rank are.below here) (has-append_left found rank) (has-append_last found rank))
+        | else-sums-rank-eq0 w ↦ subst (AreSums count (set sums rank (get_or sums rank 0 + c.args.weight))) (sym (ap (λ v. v.items) w.found-is))
+            (sums_more count sums found found rank c.args.weight are are.below (λ other h. h) (are.listed rank (let not = w.if-sums-rank-eq0.false in omega arith)))
+      ];
+      added = with_more basket i c.args.weight c.args.sums.now sums c.requires.rises c.loop-rank-test.true (omega (arith, here, c.loop-rank.auto.sums)) c.loop-rank.auto.sums c.loop-rank.invariant.added;
     }
