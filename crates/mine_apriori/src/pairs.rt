@@ -44,8 +44,8 @@ pub fn runs_with_pairs(alloc: Global, coded: &Coded) -> Result<Runs, AllocError>
     runs_keeping(alloc, coded, lists, pairs)
 }
 
-/// The runs of the coded baskets, given in lexicographic order, equal ones merged. They keep the frequent
-/// pairs of each rank, or none where none are given.
+/// The runs of the coded baskets, given so that those that begin alike stand together, equal ones merged.
+/// They keep the frequent pairs of each rank, or none where none are given.
 pub fn runs_keeping(
     alloc: Global,
     coded: &Coded,

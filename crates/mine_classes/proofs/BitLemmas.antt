@@ -8,12 +8,13 @@ use Rattle.std.proofs.lemmas.Bool.{cases_Bool, cases_eq, cases_lt, eq-eqb, or_ca
 use Rattle.std.proofs.lemmas.List.{get_or_past, get_or-set_same, get_or-set_other, length-set, take_all}
 use Rattle.std.proofs.lemmas.Nat.Bits.{bit_at-lt, bit_at-pow_other, bit_at-pow_same, bit_at-zero, bit_at_or}
 use Rattle.basket_core.specs.Codes.{rank_of}
+use Rattle.basket_sets.specs.Counts.{AllBelow}
 use Rattle.basket_sets.specs.Itemset.{IsRising, has}
 use Rattle.basket_sets.proofs.theory.Members.{Member, Member-filter, Member-from_filter}
-use Rattle.basket_sets.proofs.theory.Rising.{same_rising}
+use Rattle.basket_sets.proofs.theory.Rising.{Member-from_has, has-from_Member, same_rising}
 use Rattle.mine_classes.specs.Places.{places_in}
 use Rattle.mine_classes.specs.declared.words.TheConstants.{WORD_RANKS}
-use Rattle.mine_classes.specs.Words.{AreBits, bits_in, has_rank, option_bit, place_bit, ranks_in}
+use Rattle.mine_classes.specs.Words.{AreBits, bits_in, has_rank, option_bit, place_bit, rank_bits, ranks_in}
 use Rattle.mine_classes.proofs.PairLemmas.{apart_eqb, has_more, or_false, or_true}
 use Rattle.mine_classes.proofs.PlaceLemmas.{from_places, into_places, places_rise, rank_at, rank_from_none, stands}
 use Rattle.mine_classes.proofs.SumLemmas.{Member-into_range, Member-range, filtered_range_rises}
@@ -31,6 +32,52 @@ one_of_two (suc (suc x)) y low high = absurd (omega arith)
 
 has_either : (a b rank : ℕ) → has_rank (bit_or a b) rank ≡ (has_rank a rank || has_rank b rank)
 has_either a b rank = ap (λ n. eqb n 1) (bit_at_or a b (63 - rank)) ∙ one_of_two (bit_at a (63 - rank)) (bit_at b (63 - rank)) (bit_at-lt a (63 - rank)) (bit_at-lt b (63 - rank))
+
+-- ---- the bits of ranks
+
+one_rank : (first rank : ℕ) → first < WORD_RANKS → rank < WORD_RANKS → has_rank (2 ^ (63 - first)) rank ≡ eqb first rank
+one_rank first rank low within = elim (cases_eq first rank) [
+  | inl e ↦ ap (λ r. has_rank (2 ^ (63 - first)) r) (sym e) ∙ ap (λ n. eqb n 1) (bit_at-pow_same (63 - first)) ∙ sym (eq-eqb first rank e)
+  | inr differ ↦ ap (λ n. eqb n 1) (bit_at-pow_other (63 - first) (63 - rank) (λ e. differ (omega arith))) ∙ sym (apart_eqb first rank differ)
+]
+
+or_assoc : (a b c : Bool) → ((a || b) || c) ≡ (a || (b || c))
+or_assoc true b c = refl
+or_assoc false b c = refl
+
+bits_have : (basket : List ℕ) (bits rank : ℕ) → AllBelow WORD_RANKS basket → rank < WORD_RANKS → has_rank (fold (λ bits rank. bit_or bits (2 ^ (63 - rank))) bits basket) rank ≡ (has_rank bits rank || has basket rank)
+bits_have [] bits rank below within = sym (or_false (has_rank bits rank))
+bits_have (first ∷ basket) bits rank below within =
+    let low = below first (has-from_Member (first ∷ basket) first (inl refl)) in
+    let rest : AllBelow WORD_RANKS basket = λ other h. below other (has-from_Member (first ∷ basket) other (inr (Member-from_has basket other h))) in
+    bits_have basket (bit_or bits (2 ^ (63 - first))) rank rest within
+    ∙ ap (λ b. b || has basket rank) (has_either bits (2 ^ (63 - first)) rank ∙ ap (λ b. has_rank bits rank || b) (one_rank first rank low within))
+    ∙ or_assoc (has_rank bits rank) (eqb first rank) (has basket rank)
+
+-- they are the bits of these ranks
+pub rank_bits_are : (count : ℕ) (basket : List ℕ) → count ≤ WORD_RANKS → IsRising basket → AllBelow count basket → ranks_in count (rank_bits basket) ≡ basket
+rank_bits_are count basket few rises below = same_rising (ranks_in count bits) basket (filtered_range_rises (has_rank bits) 0 count) rises into back
+  where
+    bits : ℕ
+    bits = rank_bits basket
+
+    have : (rank : ℕ) → rank < count → has_rank bits rank ≡ has basket rank
+    have rank here =
+        bits_have basket 0 rank (λ other h. let b = below other h in omega arith) (omega arith)
+        ∙ ap (λ b. b || has basket rank) (ap (λ n. eqb n 1) (bit_at-zero (63 - rank)))
+
+    into : (rank : ℕ) → Member rank (ranks_in count bits) → Member rank basket
+    into rank m =
+        let p = Member-filter (has_rank bits) rank (range_with_len 0 count) m in
+        let r = Member-range 0 count rank p.0 in
+        let high = r.1 in
+        Member-from_has basket rank (sym (have rank (omega arith)) ∙ p.1)
+
+    back : (rank : ℕ) → Member rank basket → Member rank (ranks_in count bits)
+    back rank m =
+        let h = has-from_Member basket rank m in
+        let here = below rank h in
+        Member-from_filter (has_rank bits) rank (range_with_len 0 count) (Member-into_range 0 count rank (omega arith) (omega arith)) (have rank here ∙ h)
 
 -- ---- the bit of a place
 

@@ -1,4 +1,5 @@
 mod ConditionalLemmas
+mod ChunkLemmas
 mod ClassLemmas
 mod TogetherLemmas
 mod OrderedLemmas

@@ -22,6 +22,10 @@ word_place count word = weighted (ranks_in count word.bits) word.weight
 abbrev pub word_places : ℕ → List Word → List Weighted
 word_places count words = map (word_place count) words
 
+-- the bits of ranks
+abbrev pub rank_bits : List ℕ → ℕ
+rank_bits ranks = fold (λ bits rank. bit_or bits (2 ^ (63 - rank))) 0 ranks
+
 -- the bit of a rank, if there is one
 abbrev pub option_bit : Option ℕ → ℕ
 option_bit None = 0

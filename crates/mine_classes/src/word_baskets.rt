@@ -1,12 +1,14 @@
 //! Baskets of up to 64 ranks, kept as words.
-ghost use Rattle.std.specs.Prelude.{◌≡◌, ◌≤◌, All, IfOk, sum_by};
+ghost use Rattle.std.specs.Prelude.{◌≡◌, ◌≤◌, All, IfOk, length, sum_by};
+ghost use Rattle.basket_sets.specs.Counts.{AllBelow};
 ghost use Rattle.basket_sets.specs.Database.{MOST_WEIGHT};
 ghost use Rattle.mine_classes.specs.declared.words.Word.{Word as Bits};
 ghost use Rattle.mine_classes.specs.ListBaskets.{AreRankBaskets, HaveSameWeights};
-ghost use Rattle.mine_classes.specs.Words.{word_places};
+ghost use Rattle.mine_classes.specs.Words.{rank_bits, word_places};
 
 use crate::list_baskets::ListBaskets;
-use crate::words::{WORD_RANKS, Word, merged};
+use crate::words::{WORD_RANKS, Word, add, bit_of, merged};
+use basket_core::{Coded, Weighted};
 use std::alloc::{AllocError, Global};
 use std::marker::Model;
 
@@ -52,6 +54,17 @@ impl WordBaskets {
         })
     }
 
+    /// The coded baskets, which have no more ranks than a word has bits for.
+    pub fn of_coded(alloc: Global, coded: &Coded) -> Result<Self, AllocError>
+        requires few { length coded.now.items ≤ WORD_RANKS }
+        ensures ranks { IfOk result (λ baskets. baskets.ranks ≡ length coded.now.items) }
+        ensures ranked { IfOk result AreRankBaskets }
+        ensures weights { IfOk result (λ baskets. HaveSameWeights coded.now.baskets baskets.baskets) }
+    {
+        let words = words_of_ranks(alloc, coded.ranks(), coded.baskets())?;
+        WordBaskets::of(alloc, coded.ranks(), words)
+    }
+
     /// How many ranks there are.
     pub fn ranks(&self) -> u32
         ensures { result ≡ self.now.ranks }
@@ -77,4 +90,33 @@ impl WordBaskets {
         let WordBaskets { count, words } = self;
         (count, words)
     }
+}
+
+/// Baskets of so many ranks as words, equal neighbours merged.
+fn words_of_ranks(alloc: Global, count: u32, baskets: &[Weighted]) -> Result<Vec<Word>, AllocError>
+    requires few { count ≤ WORD_RANKS }
+    requires ranked { AreRankBaskets (record { ranks = count; baskets = baskets.now }) }
+    ensures some { IfOk result (λ words. All (λ (word : Bits). 1 ≤ word.weight) words.items) }
+    ensures light { IfOk result (λ words. sum_by (λ (word : Bits). word.weight) words.items ≤ MOST_WEIGHT) }
+    ensures weights { IfOk result (λ words. HaveSameWeights baskets.now (word_places count words.items)) }
+{
+    let mut words = Vec::with_capacity(alloc, baskets.len())?;
+    for place in baskets {
+        let bits = bits_of_ranks(place.basket.items());
+        let weight = place.weight;
+        add(&mut words, Word { bits, weight })?;
+    }
+    Ok(words)
+}
+
+/// The bits of ranks.
+fn bits_of_ranks(ranks: &[u32]) -> u64
+    requires { AllBelow WORD_RANKS ranks.now }
+    ensures { result ≡ rank_bits ranks.now }
+{
+    let mut bits = 0;
+    for rank in ranks {
+        bits |= bit_of(*rank as usize);
+    }
+    bits
 }

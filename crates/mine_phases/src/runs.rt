@@ -12,8 +12,8 @@ use mine_classes::{ListBaskets, Runs};
 use std::alloc::{AllocError, Global};
 use std::thread::Threads;
 
-/// The runs of the coded baskets. They keep the frequent pairs of each rank where it pays to count each
-/// pair of ranks, which so many workers do over so many parts of the baskets.
+/// The runs of the coded baskets, which so many workers put in order. They keep the frequent pairs of each
+/// rank where it pays to count each pair of ranks, which the workers do over so many parts of the baskets.
 pub fn runs_shared<R: Threads + Sync>(
     rt: &R,
     alloc: Global,
@@ -25,7 +25,7 @@ pub fn runs_shared<R: Threads + Sync>(
     ensures weights { IfOk result (λ runs. HaveSameWeights coded.now.baskets runs.baskets) }
     ensures supports { IfOk result (λ runs. (set : List ℕ) → support_of runs.baskets set ≡ support_of coded.now.baskets set) }
 {
-    let lists = ListBaskets::of_coded(alloc, coded)?;
+    let lists = ListBaskets::grouped(rt, alloc, coded, cutting.workers)?;
     let pairs = if pays_for_classes(coded, &lists) {
         triangle_pairs(rt, alloc, coded, cutting, &Open)?
     } else {
