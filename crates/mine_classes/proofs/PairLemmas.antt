@@ -2,8 +2,9 @@
 use Rattle.std.proofs.Common.{◌≡◌, ℕ, ◌+◌, ◌<◌, Bool, true, false, ◌||◌, List, [], ◌∷◌, ◌++◌, length, take, get_or, set, cond, eqb, ltb, refl, sym, ap, ◌∙◌, subst, inl, inr, arith, add-zero}
 use Rattle.std.specs.Prelude.{replicate}
 use Rattle.std.specs.List.{filter}
+use mir.Val.{bool_byte}
 use Rattle.std.proofs.lemmas.Bool.{cases_Bool, cases_eq, cases_lt, eqb-true, eq-eqb, ltb-true, true≢false}
-use Rattle.std.proofs.lemmas.List.{ext_get_or, get_or-replicate, get_or-set_same, get_or-set_other, length-replicate, length-set}
+use Rattle.std.proofs.lemmas.List.{ext_get_or, get_or-replicate, get_or-set_same, get_or-set_other, length-replicate, length-set, take-set, take_more_set}
 use Rattle.std.proofs.lemmas.List.Folds.{list_any_more}
 use Rattle.basket_sets.specs.Counts.{AllBelow}
 use Rattle.basket_sets.specs.Itemset.{IsRising, has, rising}
@@ -54,7 +55,7 @@ with_more basket i weight old now up here inside long added rank below = elim (c
 
 -- ---- the list of the sums that are not 0
 
-pub sums_more : (count : ℕ) (sums found grown : List ℕ) (rank weight : ℕ) → AreSums count sums found → AllBelow count grown
+sums_more : (count : ℕ) (sums found grown : List ℕ) (rank weight : ℕ) → AreSums count sums found → AllBelow count grown
     → ((other : ℕ) → has found other ≡ true → has grown other ≡ true) → has grown rank ≡ true → AreSums count (set sums rank (get_or sums rank 0 + weight)) grown
 sums_more count sums found grown rank weight are below more there = record {
   long = length-set sums rank (get_or sums rank 0 + weight) ∙ are.long;
@@ -65,17 +66,37 @@ sums_more count sums found grown rank weight are below more there = record {
   ];
 }
 
-pub has-append_left : (found : List ℕ) (rank other : ℕ) → has found other ≡ true → has (found ++ rank ∷ []) other ≡ true
+has-append_left : (found : List ℕ) (rank other : ℕ) → has found other ≡ true → has (found ++ rank ∷ []) other ≡ true
 has-append_left found rank other h = has-from_Member (found ++ rank ∷ []) other (Member-append_left other found (rank ∷ []) (Member-from_has found other h))
 
-pub has-append_last : (found : List ℕ) (rank : ℕ) → has (found ++ rank ∷ []) rank ≡ true
+has-append_last : (found : List ℕ) (rank : ℕ) → has (found ++ rank ∷ []) rank ≡ true
 has-append_last found rank = has-from_Member (found ++ rank ∷ []) rank (Member-append_right rank found (rank ∷ []) (inl refl))
 
-pub below_push : (count : ℕ) (found : List ℕ) (rank : ℕ) → AllBelow count found → rank < count → AllBelow count (found ++ rank ∷ [])
+below_push : (count : ℕ) (found : List ℕ) (rank : ℕ) → AllBelow count found → rank < count → AllBelow count (found ++ rank ∷ [])
 below_push count found rank below here other h = elim (Member-append other found (rank ∷ []) (Member-from_has (found ++ rank ∷ []) other h)) [
   | inl m ↦ below other (has-from_Member found other m)
   | inr (inl e) ↦ subst (λ r. r < count) e here
   | inr (inr n) ↦ absurd n
+]
+
+-- a rank put down behind those that are listed, and kept where its sum was 0
+pub listed_more : (count : ℕ) (sums found : List ℕ) (end rank weight more : ℕ) → AreSums count sums (take end found) → rank < count → end < length found
+    → more ≡ bool_byte (eqb (get_or sums rank 0) 0) → AreSums count (set sums rank (get_or sums rank 0 + weight)) (take (end + more) (set found end rank))
+listed_more count sums found end rank weight more are here room counted = elim (cases_Bool (eqb (get_or sums rank 0) 0)) [
+  | inl e ↦
+      (let listed = take end found in
+      let one : end + more ≡ end + 1 = ap (λ n. end + n) (counted ∙ ap bool_byte e) in
+      subst (AreSums count (set sums rank (get_or sums rank 0 + weight))) (sym (ap (λ n. take n (set found end rank)) one ∙ take_more_set found end rank room))
+      (sums_more count sums listed (listed ++ rank ∷ []) rank weight are (below_push count listed rank are.below here) (has-append_left listed rank) (has-append_last listed rank)))
+  | inr e ↦
+      (let listed = take end found in
+      let none : end + more ≡ end = ap (λ n. end + n) (counted ∙ ap bool_byte e) ∙ add-zero end in
+      let some : 0 < get_or sums rank 0 = elim (cases_lt 0 (get_or sums rank 0)) [
+        | inl h ↦ h
+        | inr h ↦ absurd (true≢false (sym (eq-eqb (get_or sums rank 0) 0 (omega (arith, h))) ∙ e))
+      ] in
+      subst (AreSums count (set sums rank (get_or sums rank 0 + weight))) (sym (ap (λ n. take n (set found end rank)) none ∙ take-set found end rank))
+      (sums_more count sums listed listed rank weight are are.below (λ other h. h) (are.listed rank some)))
 ]
 
 pub all_zero : (count : ℕ) (sums : List ℕ) → length sums ≡ count → ((rank : ℕ) → get_or sums rank 0 ≡ 0) → sums ≡ replicate count 0

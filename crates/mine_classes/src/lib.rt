@@ -9,6 +9,7 @@
 
 mod conditional;
 mod form;
+mod found;
 pub mod laws;
 mod list_baskets;
 mod pairs;

@@ -9,6 +9,7 @@ ghost use Rattle.mine_classes.specs.ListBaskets.{AreRankBaskets};
 ghost use Rattle.mine_classes.specs.Pairs.{AreSums, WithBasket, is_met, items_met, named_pair, ranks_met, weight_with};
 ghost use Rattle.mine_classes.specs.Span.{IsWithin, baskets_at};
 
+use crate::found::Found;
 use crate::places::coded_spans;
 use crate::span::{Span, table_pays};
 use basket_core::Itemset;
@@ -24,7 +25,7 @@ pub struct Sums {
     seen: usize,
     /// A sum of 0 for each rank, or nothing where there is no table yet.
     sums: Vec<u64>,
-    found: Vec<u32>,
+    found: Found,
 }
 
 impl Model for Sums {
@@ -35,7 +36,7 @@ impl Model for Sums {
     ghost view = { λ s. s.count };
 
     ghost invariant = { λ s. (0 < length s.sums.items → length s.sums.items ≡ s.count)
-        × (s.sums.items ≡ replicate (length s.sums.items) 0) × (s.found.items ≡ []) };
+        × (s.sums.items ≡ replicate (length s.sums.items) 0) × (s.found ≡ []) };
 }
 
 impl Sums {
@@ -47,7 +48,7 @@ impl Sums {
             count,
             seen: 0,
             sums: Vec::new(alloc),
-            found: Vec::new(alloc),
+            found: Found::new(alloc),
         })
     }
 
@@ -86,22 +87,22 @@ impl Sums {
 fn met_by_table(
     alloc: Global,
     sums: &mut [u64],
-    found: &mut Vec<u32>,
+    found: &mut Found,
     ranks: &[u32],
     baskets: &[Span],
     least: u64,
 ) -> Result<Vec<(u32, u64)>, AllocError>
     requires zero { sums.old ≡ replicate (length sums.old) 0 }
-    requires none { found.old.items ≡ [] }
+    requires none { found.old ≡ [] }
     requires within { All (IsWithin (length ranks.now)) baskets.now }
     requires ranked { AreRankBaskets (record { ranks = length sums.old; baskets = baskets_at ranks.now baskets.now }) }
     ensures met { IfOk result (λ met. met.items ≡ ranks_met (length sums.old) least (baskets_at ranks.now baskets.now)) }
     ensures sums { sums.new ≡ replicate (length sums.old) 0 }
-    ensures found { found.new.items ≡ [] }
+    ensures found { found.new ≡ [] }
 {
     let summed = add_up(sums, found, ranks, baskets);
     let met = match summed {
-        Ok(()) => met(alloc, sums, found, least),
+        Ok(()) => met(alloc, sums, found.items(), least),
         Err(error) => Err(error),
     };
     clear(sums, found);
@@ -124,7 +125,7 @@ fn met_by_search(
     let mut locals = Vec::new(alloc);
     let spans = coded_spans(alloc, &mut locals, &[], list.items(), ranks, baskets)?;
     let mut sums = vec![in alloc; 0; list.len()]?;
-    let mut found = Vec::new(alloc);
+    let mut found = Found::new(alloc);
     let met = met_by_table(alloc, &mut sums, &mut found, &locals, &spans, least)?;
     named(alloc, list.items(), &met)
 }
@@ -156,19 +157,19 @@ fn named(alloc: Global, list: &[u32], met: &[(u32, u64)]) -> Result<Vec<(u32, u6
 /// Adds the weights of baskets to the sums of their ranks.
 fn add_up(
     sums: &mut [u64],
-    found: &mut Vec<u32>,
+    found: &mut Found,
     ranks: &[u32],
     baskets: &[Span],
 ) -> Result<(), AllocError>
     requires zero { sums.old ≡ replicate (length sums.old) 0 }
-    requires none { found.old.items ≡ [] }
+    requires none { found.old ≡ [] }
     requires within { All (IsWithin (length ranks.now)) baskets.now }
     requires ranked { AreRankBaskets (record { ranks = length sums.old; baskets = baskets_at ranks.now baskets.now }) }
-    ensures sums { AreSums (length sums.old) sums.new found.new.items }
+    ensures sums { AreSums (length sums.old) sums.new found.new }
     ensures added { OnOk result ((rank : ℕ) → rank < length sums.old → slice_index sums.new rank ≡ weight_with rank (baskets_at ranks.now baskets.now)) }
 {
     for basket in baskets {
-        add_basket(sums, found, basket.of(ranks), basket.weight)?;
+        found.add_basket(sums, basket.of(ranks), basket.weight)?;
     }
     Ok(())
 }
@@ -213,36 +214,13 @@ pub fn met_in_order(alloc: Global, sums: &[u64], least: u64) -> Result<Vec<(u32,
     Ok(pairs)
 }
 
-/// Adds the weight of a basket to the sum of each of its ranks, and lists the ranks whose sums were 0.
-fn add_basket(
-    sums: &mut [u64],
-    found: &mut Vec<u32>,
-    basket: &[u32],
-    weight: u64,
-) -> Result<(), AllocError>
-    requires sums { AreSums (length sums.old) sums.old found.old.items }
-    requires rises { IsRising basket.now }
-    requires below { AllBelow (length sums.old) basket.now }
-    requires light { (rank : ℕ) → rank < length sums.old → slice_index sums.old rank + weight ≤ MOST_WEIGHT }
-    ensures sums { AreSums (length sums.old) sums.new found.new.items }
-    ensures added { OnOk result (WithBasket basket.now weight sums.old sums.new) }
-{
-    for rank in basket {
-        if sums[*rank as usize] == 0 {
-            found.push(*rank)?;
-        }
-        sums[*rank as usize] += weight;
-    }
-    Ok(())
-}
-
 /// Sets the sums of the ranks that are listed to 0, which are all that are not.
-fn clear(sums: &mut [u64], found: &mut Vec<u32>)
-    requires { AreSums (length sums.old) sums.old found.old.items }
+fn clear(sums: &mut [u64], found: &mut Found)
+    requires { AreSums (length sums.old) sums.old found.old }
     ensures sums { sums.new ≡ replicate (length sums.old) 0 }
-    ensures found { found.new.items ≡ [] }
+    ensures found { found.new ≡ [] }
 {
-    for rank in found.iter() {
+    for rank in found.items() {
         sums[*rank as usize] = 0;
     }
     found.clear();

@@ -41,7 +41,7 @@ loop-basket-preserved c =
     let i = c.loop-basket.basket-index in
     let is = get_or-map (basket_at ranks) spans i none (basket_at ranks none) c.loop-basket-test.true in
     record {
-      sums = subst (λ n. AreSums n c.add_basket.new.sums c.add_basket.new.found.items) c.loop-basket.auto.sums c.in_ok-add_basket.ensures.sums;
+      sums = subst (λ n. AreSums n c.add_basket.new.sums c.add_basket.new.self) c.loop-basket.auto.sums c.in_ok-add_basket.ensures.sums;
       added = λ rank here.
           let weight = (get_or spans i none).weight in
           c.in_ok-add_basket.ensures.added rank (omega (arith, here, c.loop-basket.auto.sums))

@@ -5,6 +5,6 @@ use Rattle.mine_classes.proofs.pairs.add_up.Given as goal
 
 abbrev pub invariant-loop-basket : goal.invariant-loop-basket
 invariant-loop-basket l = record {
-  sums : AreSums (length l.initial.sums) l.sums l.found.items;
+  sums : AreSums (length l.initial.sums) l.sums l.found;
   added : (rank : ℕ) → rank < length l.initial.sums → get_or l.sums rank 0 ≡ weight_with rank (take l.basket-index (baskets_at l.ranks l.baskets));
 }

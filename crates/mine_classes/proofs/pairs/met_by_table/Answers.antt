@@ -20,9 +20,9 @@ returns-clause-met c =
     elim c.match-summed.branch [
       | in-Ok w ↦
           (let sums = c.add_up-summed.new.sums in
-          let found = c.add_up-summed.new.found.items in
+          let found = c.add_up-summed.new.found in
           subst (λ r. IfOk r (λ met. met.items ≡ ranks_met count least baskets)) (sym w.met-is)
-          (IfOk-weaker w.met-met.result (λ met. met.items ≡ listed least sums w.deref.result.now) (λ met. met.items ≡ ranks_met count least baskets)
-          (λ met is. is ∙ ap (listed least sums) w.deref.ensures.value ∙ met_is count least sums found baskets w.in-Ok.ensures.sums w.in-Ok.ensures.added) w.met-met.ensures))
+          (IfOk-weaker w.met-met.result (λ met. met.items ≡ listed least sums w.items.result.now) (λ met. met.items ≡ ranks_met count least baskets)
+          (λ met is. is ∙ ap (listed least sums) w.items.ensures ∙ met_is count least sums found baskets w.in-Ok.ensures.sums w.in-Ok.ensures.added) w.met-met.ensures))
       | in-Err w ↦ subst (λ r. IfOk r (λ met. met.items ≡ ranks_met count least baskets)) (sym w.met-is) tt
     ]
