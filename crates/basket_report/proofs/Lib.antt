@@ -1,5 +1,6 @@
 mod BlockLemmas
 mod Fronts
+mod RoomLemmas
 mod RuleLemmas
 mod SetLemmas
 mod TableLemmas

@@ -1,6 +1,7 @@
 pub mod Style
 pub mod Texts
 pub mod Lines
+pub mod Room
 pub mod Block
 pub mod Table
 pub mod Report

@@ -11,6 +11,10 @@ abbrev pub items_text : List ℕ → List ℕ
 items_text [] = []
 items_text (item ∷ items) = decimal item ++ flat_map (λ other. 32 ∷ decimal other) items
 
+-- the items with a space behind each
+abbrev pub spaced_text : List ℕ → List ℕ
+spaced_text items = flat_map (λ item. decimal item ++ 32 ∷ []) items
+
 -- the line of a set: its items, a space, the count in parentheses, a line feed
 abbrev pub set_line : Counted → List ℕ
 set_line counted = items_text counted.set ++ codes " (" ++ decimal counted.count ++ codes ")\n"

@@ -1,13 +1,14 @@
 //! Bytes on their way to a writer.
-ghost use Rattle.std.specs.Prelude.{◌≡◌, ◌↔◌, ◌≤◌, ◌++◌, ◌∷◌, [], ℕ, List, Option, decimal, false, length, take, IfOk, IsOk, OnErr, OnOk};
+ghost use Rattle.std.specs.Prelude.{◌≡◌, ◌↔◌, ◌≤◌, ◌+◌, ◌++◌, [], ℕ, List, Option, false, length, IfOk, IsOk, OnErr, OnOk};
 ghost use Rattle.std.specs.Io.KnownBytes.{Appends};
 ghost use Rattle.basket_report.specs.Block.{IsOnItsWay, TakesFront};
-ghost use Rattle.basket_report.specs.Lines.{items_text, set_line};
+ghost use Rattle.basket_report.specs.Lines.{set_line, spaced_text};
 ghost use Rattle.basket_report.specs.Report.{set_of};
 
-use crate::count_text::CountText;
-use crate::item_text::ItemText;
-use crate::texts::{Texts, put_front};
+use crate::count_texts::CountTexts;
+use crate::item_text::ITEM_TEXT_ROOM;
+use crate::room::{LINE_ROOM, put_items, put_line};
+use crate::texts::Texts;
 use basket_core::{Failed, Sink};
 use std::alloc::{AllocError, Global};
 use std::marker::Model;
@@ -15,97 +16,100 @@ use std::marker::Model;
 /// So many bytes are written at once.
 const ROOM: usize = 65_536;
 
-/// Bytes that are not written yet.
+/// So many items are put at once.
+const PIECE: usize = 1_024;
+
+/// Bytes that are not written yet, at the front of a room.
 #[derive(Debug, Drop)]
 pub struct Block {
-    bytes: Vec<u8>,
+    room: Vec<u8>,
+    /// How many bytes wait.
+    waiting: usize,
 }
 
 impl Model for Block {
-    ghost use Rattle.std.specs.Prelude.{ℕ, List};
+    ghost use Rattle.std.specs.Prelude.{◌≡◌, ◌≤◌, ℕ, List, length, take};
+    ghost use Rattle.basket_report.specs.declared.block.TheConstants.{ROOM};
 
     ghost Value = { List ℕ };
 
-    ghost view = { λ block. block.bytes.items };
+    ghost view = { λ block. take block.waiting block.room.items };
+
+    ghost invariant = { λ block. (length block.room.items ≡ ROOM) × (block.waiting ≤ ROOM) };
 }
 
 impl Block {
-    /// No bytes, with room for many.
+    /// No bytes.
     pub fn new(alloc: Global) -> Result<Self, AllocError>
         ensures { IfOk result (λ block. block ≡ []) }
     {
         Ok(Block {
-            bytes: Vec::with_capacity(alloc, ROOM)?,
+            room: vec![in alloc; 0u8; ROOM]?,
+            waiting: 0,
         })
     }
 
-    /// Adds the first bytes of a room. Where there is no room or no memory for them, what waits is
-    /// written before. A writer that has failed is asked no more.
-    #[inline(always)]
-    fn put<W: Sink>(&mut self, writer: &mut W, room: &[u8], count: usize)
-        requires { count ≤ length room.now }
-        ensures { (start : Option (List ℕ)) (text : List ℕ)
-            → IsOnItsWay start (W.taken writer.old) (W.has_failed writer.old) self.old text
-            → IsOnItsWay start (W.taken writer.new) (W.has_failed writer.new) self.new (text ++ take count room.now) }
-    {
-        self.make_room(writer, room.len());
-        if let Err(AllocError) = put_front(&mut self.bytes, room, count) {
-            self.send(writer);
-            send_bytes(writer, &room[..count]);
-        }
-    }
-
-    /// Writes what waits, where there is no room for so many bytes more.
-    fn make_room<W: Sink>(&mut self, writer: &mut W, count: usize)
-        ensures { (start : Option (List ℕ)) (text : List ℕ)
-            → IsOnItsWay start (W.taken writer.old) (W.has_failed writer.old) self.old text
-            → IsOnItsWay start (W.taken writer.new) (W.has_failed writer.new) self.new text }
-    {
-        if self.bytes.len().saturating_add(count) > ROOM {
-            self.send(writer);
-        }
-    }
-
     /// Adds the line of a set.
-    pub fn put_set<W: Sink>(&mut self, writer: &mut W, texts: &Texts, items: &[u32], count: u64)
+    pub fn put_set<W: Sink>(
+        &mut self,
+        writer: &mut W,
+        texts: &Texts,
+        counts: &mut CountTexts,
+        items: &[u32],
+        count: u64,
+    )
         ensures { (start : Option (List ℕ)) (text : List ℕ)
             → IsOnItsWay start (W.taken writer.old) (W.has_failed writer.old) self.old text
             → IsOnItsWay start (W.taken writer.new) (W.has_failed writer.new) self.new (text ++ set_line (set_of items.now count)) }
     {
-        self.put_items(writer, texts, items);
-        let text = CountText::new(count);
-        self.put(writer, &text.bytes, text.length);
-        self.put(writer, b"\n", 1);
+        let mut start = 0;
+        while items.len() - start > PIECE {
+            self.put_piece(writer, texts, &items[start..start + PIECE]);
+            start += PIECE;
+        }
+        self.put_line(writer, texts, counts, &items[start..], count);
     }
 
-    /// Adds the items with one space between, and a space.
-    fn put_items<W: Sink>(&mut self, writer: &mut W, texts: &Texts, items: &[u32])
+    /// Adds some items with a space behind each.
+    fn put_piece<W: Sink>(&mut self, writer: &mut W, texts: &Texts, items: &[u32])
+        requires { length items.now ≤ PIECE }
         ensures { (start : Option (List ℕ)) (text : List ℕ)
             → IsOnItsWay start (W.taken writer.old) (W.has_failed writer.old) self.old text
-            → IsOnItsWay start (W.taken writer.new) (W.has_failed writer.new) self.new (text ++ (items_text items.now ++ 32 ∷ [])) }
+            → IsOnItsWay start (W.taken writer.new) (W.has_failed writer.new) self.new (text ++ spaced_text items.now) }
     {
-        if items.is_empty() {
-            self.put(writer, b" ", 1);
-            return;
-        }
-        for item in items {
-            self.put_item(writer, texts, *item);
-        }
+        self.make_room(writer, ITEM_TEXT_ROOM * items.len());
+        self.waiting = put_items(&mut self.room, self.waiting, texts, items);
     }
 
-    /// Adds an item and a space.
-    #[inline(always)]
-    fn put_item<W: Sink>(&mut self, writer: &mut W, texts: &Texts, item: u32)
+    /// Adds the line of a set of so few items.
+    fn put_line<W: Sink>(
+        &mut self,
+        writer: &mut W,
+        texts: &Texts,
+        counts: &mut CountTexts,
+        items: &[u32],
+        count: u64,
+    )
+        requires { length items.now ≤ PIECE }
         ensures { (start : Option (List ℕ)) (text : List ℕ)
             → IsOnItsWay start (W.taken writer.old) (W.has_failed writer.old) self.old text
-            → IsOnItsWay start (W.taken writer.new) (W.has_failed writer.new) self.new (text ++ (decimal item ++ 32 ∷ [])) }
+            → IsOnItsWay start (W.taken writer.new) (W.has_failed writer.new) self.new (text ++ set_line (set_of items.now count)) }
     {
-        match texts.get(item) {
-            Some(text) => self.put(writer, &text.bytes, text.length),
-            None => {
-                let text = ItemText::new(item);
-                self.put(writer, &text.bytes, text.length);
-            }
+        self.make_room(writer, ITEM_TEXT_ROOM * items.len() + LINE_ROOM);
+        self.waiting = put_line(&mut self.room, self.waiting, texts, counts, items, count);
+    }
+
+    /// Writes what waits, where there is no room for so many bytes more. A writer that has failed is
+    /// asked no more.
+    fn make_room<W: Sink>(&mut self, writer: &mut W, count: usize)
+        requires { count ≤ ROOM }
+        ensures way { (start : Option (List ℕ)) (text : List ℕ)
+            → IsOnItsWay start (W.taken writer.old) (W.has_failed writer.old) self.old text
+            → IsOnItsWay start (W.taken writer.new) (W.has_failed writer.new) self.new text }
+        ensures room { length self.new + count ≤ ROOM }
+    {
+        if count > ROOM - self.waiting {
+            self.send(writer);
         }
     }
 
@@ -133,8 +137,8 @@ impl Block {
             → IsOnItsWay start (W.taken writer.new) (W.has_failed writer.new) [] text }
         ensures none { self.new ≡ [] }
     {
-        send_bytes(writer, &self.bytes);
-        self.bytes.clear();
+        send_bytes(writer, &self.room[..self.waiting]);
+        self.waiting = 0;
     }
 }
 

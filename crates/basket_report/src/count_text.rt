@@ -1,26 +1,28 @@
 //! The text of a count.
-ghost use Rattle.std.specs.Prelude.{◌≡◌, ◌≤◌, ◌++◌, [], ◌∷◌, decimal, take};
+ghost use Rattle.std.specs.Prelude.{◌≡◌, ◌<◌, ◌+◌, ◌++◌, [], ◌∷◌, decimal, take};
 
 use itoa::write_digits;
 
 /// How many digits a count has at most.
 const MOST_DIGITS: usize = 20;
 
-/// The room of a text and two parentheses.
-const ROOM: usize = 24;
+/// The room of a text, two parentheses and a line feed.
+pub const COUNT_TEXT_ROOM: usize = 24;
 
 /// Where a text is made: from the first parenthesis to the end of the digits, and a room behind its
 /// start.
-const SCRATCH: usize = 1 + MOST_DIGITS + ROOM;
+const SCRATCH: usize = 1 + MOST_DIGITS + COUNT_TEXT_ROOM;
 
-/// A count, and its text in parentheses, in front of a room.
-#[derive(Debug, Drop)]
+/// A count, and its text in parentheses with a line feed behind it, in front of a room. The length is
+/// that of the text without the line feed.
+#[derive(Clone, Copy, Debug)]
 pub struct CountText {
     pub count: u64,
     pub length: usize,
-    pub bytes: [u8; ROOM],
-    ghost within: { length ≤ 24 },
+    pub bytes: [u8; COUNT_TEXT_ROOM],
+    ghost within: { length < 24 },
     ghost is: { take length bytes ≡ 40 ∷ decimal count ++ 41 ∷ [] },
+    ghost ended: { take (length + 1) bytes ≡ 40 ∷ decimal count ++ 41 ∷ 10 ∷ [] },
 }
 
 impl CountText {
@@ -28,11 +30,12 @@ impl CountText {
     pub fn new(count: u64) -> Self
         ensures { result.count ≡ count }
     {
-        let mut scratch = [b')'; SCRATCH];
+        let mut scratch = [b'\n'; SCRATCH];
+        scratch[1 + MOST_DIGITS] = b')';
         let start = write_digits(count, &mut scratch, 1 + MOST_DIGITS) - 1;
         scratch[start] = b'(';
-        let mut bytes = [0; ROOM];
-        bytes.copy_from_slice(&scratch[start..start + ROOM]);
+        let mut bytes = [0; COUNT_TEXT_ROOM];
+        bytes.copy_from_slice(&scratch[start..start + COUNT_TEXT_ROOM]);
         CountText {
             count,
             length: MOST_DIGITS + 2 - start,

@@ -7,17 +7,17 @@ use itoa::write_digits;
 const MOST_DIGITS: usize = 10;
 
 /// The room of a text and a space.
-const ROOM: usize = 16;
+pub const ITEM_TEXT_ROOM: usize = 16;
 
 /// Where a text is made: at the end of the digits, and a room behind its start.
-const SCRATCH: usize = MOST_DIGITS + ROOM;
+const SCRATCH: usize = MOST_DIGITS + ITEM_TEXT_ROOM;
 
 /// An item, and its text with a space behind it, in front of a room.
 #[derive(Debug, Drop)]
 pub struct ItemText {
     pub item: u32,
     pub length: usize,
-    pub bytes: [u8; ROOM],
+    pub bytes: [u8; ITEM_TEXT_ROOM],
     ghost within: { length ≤ 16 },
     ghost is: { take length bytes ≡ decimal item ++ 32 ∷ [] },
 }
@@ -28,8 +28,8 @@ impl ItemText {
     {
         let mut scratch = [b' '; SCRATCH];
         let start = write_digits(u64::from(item), &mut scratch, MOST_DIGITS);
-        let mut bytes = [0; ROOM];
-        bytes.copy_from_slice(&scratch[start..start + ROOM]);
+        let mut bytes = [0; ITEM_TEXT_ROOM];
+        bytes.copy_from_slice(&scratch[start..start + ITEM_TEXT_ROOM]);
         ItemText {
             item,
             length: MOST_DIGITS + 1 - start,

@@ -3,12 +3,14 @@
 
 mod block;
 mod count_text;
+mod count_texts;
 mod extent;
 mod item_text;
 mod items;
 mod lines;
 mod ratios;
 mod report;
+mod room;
 mod rules;
 mod set_lines;
 mod sets;

@@ -7,6 +7,7 @@ ghost use Rattle.basket_report.specs.Report.{report_of, set_of};
 ghost use Rattle.basket_report.specs.Style.{Numbered};
 
 use crate::block::Block;
+use crate::count_texts::CountTexts;
 use crate::extent::Extent;
 use crate::texts::Texts;
 use basket_core::{CountedSets, Failed, MOST_ITEMS, Sink};
@@ -18,6 +19,7 @@ use std::marker::Model;
 #[derive(Debug, Drop)]
 pub struct SetLines {
     texts: Texts,
+    counts: CountTexts,
     block: Block,
 }
 
@@ -36,6 +38,7 @@ impl SetLines {
     {
         Ok(SetLines {
             texts: Extent::of(sets).texts(alloc)?,
+            counts: CountTexts::new(alloc)?,
             block: Block::new(alloc)?,
         })
     }
@@ -61,6 +64,7 @@ impl SetLines {
             → IsOnItsWay start (W.taken writer.old) (W.has_failed writer.old) self.old text
             → IsOnItsWay start (W.taken writer.new) (W.has_failed writer.new) self.new (text ++ set_line (set_of items.now count)) }
     {
-        self.block.put_set(writer, &self.texts, items, count);
+        self.block
+            .put_set(writer, &self.texts, &mut self.counts, items, count);
     }
 }

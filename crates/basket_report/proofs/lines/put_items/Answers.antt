@@ -1,7 +1,8 @@
 use Rattle.std.proofs.Common.{◌<◌, ◌++◌, length, ap, sym, ◌∙◌, arith}
 use Rattle.std.proofs.lemmas.Bool.Decides.{nat_tests}
 use Rattle.std.proofs.lemmas.List.{take_all}
-use Rattle.basket_report.proofs.TextLemmas.{spaced_is, spaced_text}
+use Rattle.basket_report.specs.Lines.{spaced_text}
+use Rattle.basket_report.proofs.TextLemmas.{spaced_is}
 use Rattle.basket_report.proofs.lines.put_items.Goals as goal
 
 pub returns : goal.returns

@@ -1,5 +1,5 @@
 use Rattle.std.proofs.Common.{◌≡◌, ◌++◌, take}
-use Rattle.basket_report.proofs.TextLemmas.{spaced_text}
+use Rattle.basket_report.specs.Lines.{spaced_text}
 use Rattle.basket_report.proofs.lines.put_items.Given as goal
 
 abbrev pub invariant-loop-item : goal.invariant-loop-item

@@ -1,0 +1,83 @@
+//! Texts that are put into a room, one behind another.
+ghost use Rattle.std.specs.Prelude.{◌≡◌, ◌<◌, ◌≤◌, ◌+◌, ◌*◌, ◌++◌, [], ◌∷◌, decimal, length, take};
+ghost use Rattle.basket_report.specs.Lines.{items_text, set_line, spaced_text};
+ghost use Rattle.basket_report.specs.Report.{set_of};
+ghost use Rattle.basket_report.specs.Room.{IsPut};
+
+use crate::count_texts::CountTexts;
+use crate::item_text::{ITEM_TEXT_ROOM, ItemText};
+use crate::texts::Texts;
+
+/// What a line takes beside its items: a space where it has none, and the room of the text of a count.
+pub const LINE_ROOM: usize = 25;
+
+/// Puts the first bytes of a small room behind the first of a room, and answers where they end. The
+/// whole small room is copied, which is no call where its size is known.
+#[inline(always)]
+pub fn put_text(room: &mut [u8], start: usize, text: &[u8], count: usize) -> usize
+    requires room { start + length text.now ≤ length room.old }
+    requires count { count ≤ length text.now }
+    ensures put { IsPut room.old room.new start (take count text.now) result }
+    ensures end { result ≡ start + count }
+{
+    room[start..start + text.len()].copy_from_slice(text);
+    start + count
+}
+
+/// Puts an item and a space.
+#[inline(always)]
+fn put_item(room: &mut [u8], start: usize, texts: &Texts, item: u32) -> usize
+    requires { start + ITEM_TEXT_ROOM ≤ length room.old }
+    ensures put { IsPut room.old room.new start (decimal item ++ 32 ∷ []) result }
+    ensures within { result ≤ start + ITEM_TEXT_ROOM }
+{
+    match texts.get(item) {
+        Some(text) => put_text(room, start, &text.bytes, text.length),
+        None => {
+            let text = ItemText::new(item);
+            put_text(room, start, &text.bytes, text.length)
+        }
+    }
+}
+
+/// Puts items with a space behind each.
+pub fn put_items(room: &mut [u8], start: usize, texts: &Texts, items: &[u32]) -> usize
+    requires { start + ITEM_TEXT_ROOM * length items.now ≤ length room.old }
+    ensures put { IsPut room.old room.new start (spaced_text items.now) result }
+    ensures within { result ≤ start + ITEM_TEXT_ROOM * length items.now }
+{
+    let mut end = start;
+    for item in items {
+        end = put_item(room, end, texts, *item);
+    }
+    end
+}
+
+/// Puts items with one space between, and a space.
+fn put_set(room: &mut [u8], start: usize, texts: &Texts, items: &[u32]) -> usize
+    requires { start + ITEM_TEXT_ROOM * length items.now < length room.old }
+    ensures put { IsPut room.old room.new start (items_text items.now ++ 32 ∷ []) result }
+    ensures within { result ≤ start + ITEM_TEXT_ROOM * length items.now + 1 }
+{
+    if items.is_empty() {
+        return put_text(room, start, b" ", 1);
+    }
+    put_items(room, start, texts, items)
+}
+
+/// Puts the line of a set.
+pub fn put_line(
+    room: &mut [u8],
+    start: usize,
+    texts: &Texts,
+    counts: &mut CountTexts,
+    items: &[u32],
+    count: u64,
+) -> usize
+    requires { start + ITEM_TEXT_ROOM * length items.now + LINE_ROOM ≤ length room.old }
+    ensures put { IsPut room.old room.new start (set_line (set_of items.now count)) result }
+    ensures within { result ≤ start + ITEM_TEXT_ROOM * length items.now + LINE_ROOM }
+{
+    let end = put_set(room, start, texts, items);
+    counts.put(room, end, count)
+}
