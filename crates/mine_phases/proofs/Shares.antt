@@ -6,7 +6,6 @@ use Rattle.std.specs.List.{flat_map}
 use Rattle.std.proofs.lemmas.List.Elements.{All-append, All-cons, All-head, All-nil, All-tail}
 use Rattle.basket_core.specs.declared.fault.MineFault.{MineFault}
 use Rattle.mine_round.specs.SeatView.{SeatView}
-use Rattle.mine_round.specs.Totals.{claimed_by}
 use Rattle.mine_phases.specs.declared.share.Share.{Share}
 use Rattle.mine_phases.specs.Share.{pieces_of}
 
@@ -20,19 +19,19 @@ module _ {X : Type 0} where
   says_at P seat list (Ok other) e h = let same : list ≡ other = cc in subst (λ (v : Vec (ℕ × X) Global). P seat v.items) (sym same) h
   says_at P seat list (Err fault) e h = absurd cc
 
-  -- the pieces of all values are those that the seats claimed
-  pub pieces_are_claimed : (P : SeatView → List (ℕ × X) → Type 0) → ((seat : SeatView) (values : List (ℕ × X)) → P seat values → pieces_of values ≡ seat.held.claimed)
+  -- the pieces of all values are those of all seats, as each share says them
+  pub pieces_are_claimed : (P : SeatView → List (ℕ × X) → Type 0) (pieces : SeatView → List ℕ) → ((seat : SeatView) (values : List (ℕ × X)) → P seat values → pieces_of values ≡ pieces seat)
       → (shares : List (Share (Vec (ℕ × X) Global))) (lists : List (Vec (ℕ × X) Global)) → map Ok lists ≡ map (λ share. share.values) shares → All (Says P) shares
-      → flat_map (λ list. pieces_of list.items) lists ≡ claimed_by (map (λ share. share.seat) shares)
-  pieces_are_claimed P claimed [] [] e says = refl
-  pieces_are_claimed P claimed [] (list ∷ lists) e says = absurd cc
-  pieces_are_claimed P claimed (share ∷ shares) [] e says = absurd cc
-  pieces_are_claimed P claimed (share ∷ shares) (list ∷ lists) e says =
+      → flat_map (λ list. pieces_of list.items) lists ≡ flat_map pieces (map (λ share. share.seat) shares)
+  pieces_are_claimed P pieces claimed [] [] e says = refl
+  pieces_are_claimed P pieces claimed [] (list ∷ lists) e says = absurd cc
+  pieces_are_claimed P pieces claimed (share ∷ shares) [] e says = absurd cc
+  pieces_are_claimed P pieces claimed (share ∷ shares) (list ∷ lists) e says =
       let head : Ok list ≡ share.values = cc in
       let tail : map Ok lists ≡ map (λ share. share.values) shares = cc in
       let first = claimed share.seat list.items (says_at P share.seat list share.values head (All-head (Says P) share shares says)) in
       ap (λ l. l ++ flat_map (λ list. pieces_of list.items) lists) first
-      ∙ ap (λ l. share.seat.held.claimed ++ l) (pieces_are_claimed P claimed shares lists tail (All-tail (Says P) share shares says))
+      ∙ ap (λ l. pieces share.seat ++ l) (pieces_are_claimed P pieces claimed shares lists tail (All-tail (Says P) share shares says))
 
   -- what holds of each value of a share holds of all values
   pub all_values : (P : SeatView → List (ℕ × X) → Type 0) (Q : ℕ × X → Type 0) → ((seat : SeatView) (values : List (ℕ × X)) → P seat values → All Q values)

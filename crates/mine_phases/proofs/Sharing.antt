@@ -1,14 +1,14 @@
 -- What all workers of a phase of classes have told and mined together.
-use Rattle.std.proofs.Common.{◌≡◌, ◌≤◌, ◌<◌, ◌+◌, ◌⊎◌, ℕ, suc, zero, List, [], ◌∷◌, map, fold, get_or, length, min, Option, Some, None, Ok, Err, Result, refl, ap, sym, ◌∙◌, subst, inl, inr, arith}
+use Rattle.std.proofs.Common.{◌≡◌, ◌≤◌, ◌<◌, ◌+◌, ◌++◌, ◌⊎◌, ℕ, suc, zero, List, [], ◌∷◌, map, fold, get_or, length, min, Option, Some, None, Ok, Err, Result, refl, reverse, ap, sym, ◌∙◌, subst, inl, inr, arith, zero-add}
 use Rattle.std.specs.Prelude.{All, IsPermutation, Vec, slice_index}
 use Rattle.std.specs.Global.{Global}
 use Rattle.std.specs.List.{flat_map, range_with_len, sum, sum_by}
-use Rattle.std.proofs.lemmas.List.{length-map}
+use Rattle.std.proofs.lemmas.List.{length-map, map-append, reverse-append}
 use Rattle.std.proofs.lemmas.List.Elements.{All-head, All-tail}
 use Rattle.std.proofs.lemmas.List.Folds.{flat_map-map}
-use Rattle.std.proofs.lemmas.List.Sorted.{sum_by-IsPermutation}
+use Rattle.std.proofs.lemmas.List.Sorted.{IsPermutation-map, IsPermutation-refl, IsPermutation-reverse, IsPermutation-sym, IsPermutation-trans, sum_by-IsPermutation}
 use Rattle.std.proofs.lemmas.List.Sums.{sum_by-append, sum_by-cons}
-use Rattle.basket_core.proofs.theory.Shards.{shards_are_all}
+use Rattle.basket_core.proofs.theory.Shards.{range_more, shards_are_all}
 use Rattle.basket_core.specs.Codes.{Coding, IsCoding, baskets_of, frequent_of_coding}
 use Rattle.basket_core.specs.declared.fault.MineFault.{MineFault}
 use Rattle.basket_core.specs.declared.fault.MineFault.TheVariants.{Memory, TooMany}
@@ -19,7 +19,7 @@ use Rattle.mine_round.specs.RoundView.{RoundView}
 use Rattle.mine_round.specs.SeatView.{SeatView}
 use Rattle.mine_round.specs.Totals.{added_by, claimed_by, seen_by}
 use Rattle.mine_phases.specs.declared.share.Share.{Share}
-use Rattle.mine_phases.specs.Classes.{AreMined, HasLargeClass, IsClassShare, IsWorkOfAll, MOST_WORK, piece_size, ranks_of}
+use Rattle.mine_phases.specs.Classes.{AreMined, HasLargeClass, IsClassShare, IsWorkOfAll, MOST_WORK, claimed_size, piece_from_end, piece_size, ranks_of}
 use Rattle.mine_phases.specs.Share.{fault_after, fault_of}
 use Rattle.mine_phases.proofs.Mining.{mined_append, sum_fits, sum_more}
 
@@ -77,29 +77,61 @@ module _ (size : ℕ → ℕ) (limit : ℕ) where
       let first = (All-head (ToldAll size limit) seat seats all).within in
       let rest = seen_within seats (All-tail (ToldAll size limit) seat seats all) in omega (arith, first, rest)
 
+-- ---- pieces from the last to the first
+
+-- the first pieces, counted from the last, are the last ones reversed
+from_end_reversed : (pieces first count : ℕ) → first + count ≡ pieces → map (piece_from_end pieces) (range_with_len 0 count) ≡ reverse (range_with_len first count)
+from_end_reversed pieces first zero all = refl
+from_end_reversed pieces first (suc count) all =
+    let least : piece_from_end pieces (0 + count) ≡ first = omega (arith, all) in
+    ap (map (piece_from_end pieces)) (range_more 0 count)
+    ∙ map-append (piece_from_end pieces) (range_with_len 0 count) ((0 + count) ∷ [])
+    ∙ ap (λ n. map (piece_from_end pieces) (range_with_len 0 count) ++ n ∷ []) least
+    ∙ ap (λ l. l ++ first ∷ []) (from_end_reversed pieces (first + 1) count (omega (arith, all)))
+    ∙ sym (reverse-append (first ∷ []) (range_with_len (first + 1) count))
+
+-- where all numbers are claimed, each piece is mined once
+pub all_from_end : (pieces : ℕ) (claimed : List ℕ) → IsPermutation claimed (range_with_len 0 pieces) → IsPermutation (map (piece_from_end pieces) claimed) (range_with_len 0 pieces)
+all_from_end pieces claimed same =
+    let range = range_with_len 0 pieces in
+    IsPermutation-trans (map (piece_from_end pieces) claimed) (map (piece_from_end pieces) range) range
+    (IsPermutation-map (piece_from_end pieces) claimed range same)
+    (subst (λ l. IsPermutation l range) (sym (from_end_reversed pieces 0 pieces (zero-add pieces))) (IsPermutation-sym range (reverse range) (IsPermutation-reverse range)))
+
+pub map-flat_map : {X Y Z : Type 0} (f : Y → Z) (g : X → List Y) (xs : List X) → map f (flat_map g xs) ≡ flat_map (λ x. map f (g x)) xs
+map-flat_map f g [] = refl
+map-flat_map f g (x ∷ xs) = map-append f (g x) (flat_map g xs) ∙ ap (λ l. map f (g x) ++ l) (map-flat_map f g xs)
+
 -- ---- the sizes of pieces
+
+sum_by-map : {X Y : Type 0} (f : Y → ℕ) (g : X → Y) (xs : List X) → sum_by f (map g xs) ≡ sum_by (λ x. f (g x)) xs
+sum_by-map f g [] = refl
+sum_by-map f g (x ∷ xs) = sum_by-cons f (g x) (map g xs) ∙ ap (λ n. f (g x) + n) (sum_by-map f g xs) ∙ sym (sum_by-cons (λ y. f (g y)) x xs)
 
 sum_by-flat_map : {X Y : Type 0} (f : Y → ℕ) (g : X → List Y) (xs : List X) → sum_by f (flat_map g xs) ≡ sum_by (λ x. sum_by f (g x)) xs
 sum_by-flat_map f g [] = refl
 sum_by-flat_map f g (x ∷ xs) = sum_by-append f (g x) (flat_map g xs) ∙ ap (λ n. sum_by f (g x) + n) (sum_by-flat_map f g xs) ∙ sym (sum_by-cons (λ y. sum_by f (g y)) x xs)
 
 module _ (coding : Coding) (pieces : ℕ) (some : 1 ≤ pieces) (is : IsCoding coding) (sizes : ClassSizesAddUp) where
-  pub pieces_are_all : sum_by (piece_size coding pieces) (range_with_len 0 pieces) ≡ length (frequent_of_coding coding)
+  pub pieces_are_all : sum_by (claimed_size coding pieces) (range_with_len 0 pieces) ≡ length (frequent_of_coding coding)
   pieces_are_all =
-      sym (sum_by-flat_map (class_size coding) (ranks_of coding pieces) (range_with_len 0 pieces))
+      let range = range_with_len 0 pieces in
+      sym (sum_by-map (piece_size coding pieces) (piece_from_end pieces) range)
+      ∙ sym (sum_by-IsPermutation (piece_size coding pieces) (map (piece_from_end pieces) range) range (all_from_end pieces range (IsPermutation-refl range)))
+      ∙ sym (sum_by-flat_map (class_size coding) (ranks_of coding pieces) range)
       ∙ ap (sum_by (class_size coding)) (shards_are_all pieces (range_with_len 0 (length coding.items)) some)
       ∙ sizes coding is
 
   -- the pieces that are claimed have no more sets than there are
   pub claimed_have_at_most : (claimed : List ℕ) (count : ℕ) → IsPermutation claimed (range_with_len 0 count) → count ≤ pieces
-      → sum_by (piece_size coding pieces) claimed ≤ length (frequent_of_coding coding)
+      → sum_by (claimed_size coding pieces) claimed ≤ length (frequent_of_coding coding)
   claimed_have_at_most claimed count same within =
-      let p = sum_by-IsPermutation (piece_size coding pieces) claimed (range_with_len 0 count) same in
-      let m = sum_more (piece_size coding pieces) 0 count pieces within in
+      let p = sum_by-IsPermutation (claimed_size coding pieces) claimed (range_with_len 0 count) same in
+      let m = sum_more (claimed_size coding pieces) 0 count pieces within in
       let a = pieces_are_all in omega (arith, p, m, a)
 
-  pub all_claimed_have : (claimed : List ℕ) → IsPermutation claimed (range_with_len 0 pieces) → sum_by (piece_size coding pieces) claimed ≡ length (frequent_of_coding coding)
-  all_claimed_have claimed same = sym (sum_by-IsPermutation (piece_size coding pieces) claimed (range_with_len 0 pieces) same) ∙ pieces_are_all
+  pub all_claimed_have : (claimed : List ℕ) → IsPermutation claimed (range_with_len 0 pieces) → sum_by (claimed_size coding pieces) claimed ≡ length (frequent_of_coding coding)
+  all_claimed_have claimed same = sym (sum_by-IsPermutation (claimed_size coding pieces) claimed (range_with_len 0 pieces) same) ∙ pieces_are_all
 
   pub large_class_is_too_many : (limit : ℕ) → HasLargeClass coding limit → limit < length (frequent_of_coding coding)
   large_class_is_too_many limit large =
@@ -193,9 +225,9 @@ module _ (round : RoundView) (coding : Coding) (is_work : ℕ → ℕ → Type 0
   too_many_are shares seats most total count some is sizes are all same within sum greatest fault =
       let seen = greatest ∙ ap (λ l. seen_by l 0) are in
       let added = sum ∙ ap (λ l. added_by l 0) are in
-      let told = told_at_most (piece_size coding pieces) shares (λ k d below. (all k d below).at_most) in
+      let told = told_at_most (claimed_size coding pieces) shares (λ k d below. (all k d below).at_most) in
       let claimed = claimed_have_at_most coding pieces some is sizes (claimed_by seats) count same within in
-      let moved = ap (λ l. sum_by (piece_size coding pieces) (claimed_by l)) are in
+      let moved = ap (λ l. sum_by (claimed_size coding pieces) (claimed_by l)) are in
       let low : total ≤ length (frequent_of_coding coding) = omega (arith, added, told, claimed, moved) in
       let Told : Share (Vec (ℕ × Vec (List Counted × ℕ) Global) Global) → Type 0 = λ share. IsClassShare round coding is_work limit pieces share × (slice_index share.seat.held.seen 0 ≤ total) in
       let Too : Type 0 = (most ≡ limit) × (limit < length (frequent_of_coding coding)) in
@@ -215,9 +247,9 @@ module _ (round : RoundView) (coding : Coding) (is_work : ℕ → ℕ → Type 0
 
 -- where all workers ended well, there are no more sets than the limit
 pub no_more_than_limit : (coding : Coding) (limit pieces : ℕ) (seats : List SeatView) (total : ℕ) → 1 ≤ pieces → IsCoding coding → ClassSizesAddUp
-    → All (ToldAll (piece_size coding pieces) limit) seats → IsPermutation (claimed_by seats) (range_with_len 0 pieces) → total ≡ added_by seats 0 → total ≡ seen_by seats 0
+    → All (ToldAll (claimed_size coding pieces) limit) seats → IsPermutation (claimed_by seats) (range_with_len 0 pieces) → total ≡ added_by seats 0 → total ≡ seen_by seats 0
     → length (frequent_of_coding coding) ≤ limit
 no_more_than_limit coding limit pieces seats total some is sizes all same sum greatest =
-    let told = told_by_all (piece_size coding pieces) limit seats all in
-    let seen = seen_within (piece_size coding pieces) limit seats all in
+    let told = told_by_all (claimed_size coding pieces) limit seats all in
+    let seen = seen_within (claimed_size coding pieces) limit seats all in
     let have = all_claimed_have coding pieces some is sizes (claimed_by seats) same in omega (arith, told, seen, have, sum, greatest)

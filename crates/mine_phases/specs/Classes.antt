@@ -1,5 +1,5 @@
 -- Mining class by class, shared by workers.
-use Rattle.std.specs.Prelude.{◌≡◌, ◌≤◌, ◌<◌, ◌-◌, ◌^◌, ◌⊎◌, ℕ, List, [], ◌∷◌, All, Err, IfOk, Vec, length, min, slice_index, sum}
+use Rattle.std.specs.Prelude.{◌≡◌, ◌≤◌, ◌<◌, ◌-◌, ◌^◌, ◌⊎◌, ℕ, List, [], ◌∷◌, All, Err, IfOk, Vec, length, map, min, slice_index, sum}
 use Rattle.std.specs.Global.{Global}
 use Rattle.std.specs.List.{range_with_len, sum_by}
 use Rattle.basket_core.specs.Codes.{Coding}
@@ -31,6 +31,14 @@ ranks_of coding pieces piece = shard_of piece pieces (range_with_len 0 (length c
 abbrev pub piece_size : Coding → ℕ → ℕ → ℕ
 piece_size coding pieces piece = sum_by (class_size coding) (ranks_of coding pieces piece)
 
+-- the piece that is mined for a claimed number: pieces are mined from the last to the first
+abbrev pub piece_from_end : ℕ → ℕ → ℕ
+piece_from_end pieces claimed = pieces - 1 - claimed
+
+-- how many sets the classes of the piece have that is mined for a claimed number
+abbrev pub claimed_size : Coding → ℕ → ℕ → ℕ
+claimed_size coding pieces claimed = piece_size coding pieces (piece_from_end pieces claimed)
+
 -- for each rank its class, and the work that it took
 abbrev pub AreMined : Coding → (ℕ → ℕ → Type 0) → List ℕ → List (List Counted × ℕ) → Type 0
 AreMined coding is_work [] [] = Unit {0}
@@ -45,17 +53,17 @@ pub record HasLargeClass (coding : Coding) (limit : ℕ) : Type 0 where
   pub within : rank < length coding.items
   pub large : limit < class_size coding rank
 
--- the values are the classes of the pieces that a seat claimed, of which it told each set; it was answered that no piece is left, and it last saw no more sets than the limit
+-- the values are the classes of the pieces that a seat claimed, counted from the last, of which it told each set; it was answered that no piece is left, and it last saw no more sets than the limit
 pub record MinesPieces (coding : Coding) (is_work : ℕ → ℕ → Type 0) (limit pieces : ℕ) (seat : SeatView) (values : List (ℕ × Vec (List Counted × ℕ) Global)) : Type 0 where
   pub ended : 0 < seat.held.past
-  pub claimed : pieces_of values ≡ seat.held.claimed
+  pub claimed : pieces_of values ≡ map (piece_from_end pieces) seat.held.claimed
   pub mined : All (λ value. AreMined coding is_work (ranks_of coding pieces value.0) value.1.items) values
-  pub told : slice_index seat.held.added 0 ≡ sum_by (piece_size coding pieces) seat.held.claimed
+  pub told : slice_index seat.held.added 0 ≡ sum_by (claimed_size coding pieces) seat.held.claimed
   pub within : slice_index seat.held.seen 0 ≤ limit
 
--- what a worker hands back: its seat, which told no more sets than the pieces that it claimed have, and the classes of these pieces, or why it stopped
+-- what a worker hands back: its seat, which told no more sets than the pieces that it claimed, counted from the last, have, and the classes of these pieces, or why it stopped
 pub record IsClassShare (round : RoundView) (coding : Coding) (is_work : ℕ → ℕ → Type 0) (limit pieces : ℕ) (share : Share (Vec (ℕ × Vec (List Counted × ℕ) Global) Global)) : Type 0 where
   pub own : share.seat.round ≡ round.id
-  pub at_most : slice_index share.seat.held.added 0 ≤ sum_by (piece_size coding pieces) share.seat.held.claimed
+  pub at_most : slice_index share.seat.held.added 0 ≤ sum_by (claimed_size coding pieces) share.seat.held.claimed
   pub values : IfOk share.values (λ values. MinesPieces coding is_work limit pieces share.seat values.items)
   pub too_many : (most : ℕ) → share.values ≡ Err (TooMany most) → (most ≡ limit) × ((limit < slice_index share.seat.held.seen 0) ⊎ HasLargeClass coding limit)

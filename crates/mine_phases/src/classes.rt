@@ -51,12 +51,14 @@ impl<M: ClassMiner, G: Gate> Classes<'_, M, G> {
         let mut seat = seat;
         let mut values = Vec::new(alloc);
         while !self.is_over(&mut seat) {
-            let Some(piece) = claim_piece(self.round, &mut seat, self.gate, PHASE, worker) else {
+            let Some(claimed) = claim_piece(self.round, &mut seat, self.gate, PHASE, worker) else {
                 return Share {
                     seat,
                     values: Ok(values),
                 };
             };
+            // The classes of the greatest ranks are the largest, so they are mined first.
+            let piece = self.pieces - 1 - claimed;
             let (back, mined) = self.piece::<Brand>(alloc, piece, seat);
             seat = back;
             let classes = match mined {

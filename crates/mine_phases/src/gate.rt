@@ -1,7 +1,7 @@
 //! What workers pass with each piece.
 
-/// A gate that the workers of all phases share. A worker passes it once for each piece, after it
-/// has claimed it and before it works on it.
+/// A gate that the workers of all phases share. A worker passes it once for each piece, with the
+/// number that it claimed, after it has claimed it and before it works on it.
 pub trait Gate {
     fn pass(&self, phase: u32, worker: u32, piece: u32);
 }

@@ -12,12 +12,12 @@ use Rattle.basket_sets.specs.Frequent.{ListsOnce}
 use Rattle.mine_round.specs.SeatView.{SeatView}
 use Rattle.mine_round.specs.Totals.{claimed_by}
 use Rattle.mine_phases.specs.declared.share.Share.{Share}
-use Rattle.mine_phases.specs.Classes.{AreMined, IsClassShare, IsWorkOfAll, MinesPieces, piece_size, ranks_of}
+use Rattle.mine_phases.specs.Classes.{AreMined, IsClassShare, IsWorkOfAll, MinesPieces, claimed_size, piece_from_end, ranks_of}
 use Rattle.mine_phases.specs.Placed.{placed}
 use Rattle.mine_phases.specs.Share.{fault_of, pieces_of}
 use Rattle.mine_phases.proofs.Placing.{each_value}
 use Rattle.mine_phases.proofs.Shares.{Says, all_values, each_seat, pieces_are_claimed, some_ended, some_seat}
-use Rattle.mine_phases.proofs.Sharing.{ToldAll, mined_pieces, no_more_than_limit, once_of_all, too_many_are, work_of_all}
+use Rattle.mine_phases.proofs.Sharing.{ToldAll, all_from_end, map-flat_map, mined_pieces, no_more_than_limit, once_of_all, too_many_are, work_of_all}
 use Rattle.mine_phases.proofs.classes.mined_classes.Goals as goal
 
 -- what a worker hands back: the classes of its pieces
@@ -64,17 +64,21 @@ pub collected-requires : goal.collected-requires
 collected-requires g c =
     let shares = c.in_ok-seats.ensures.shares in
     let lists = c.in_ok-values.values.items in
-    let P = MinesPieces (g.M.ClassMiner.coding_of c.args.miner.now) (g.M.ClassMiner.is_work c.args.miner.now) c.args.limit c.args.cutting.pieces in
+    let pieces = c.args.cutting.pieces in
+    let P = MinesPieces (g.M.ClassMiner.coding_of c.args.miner.now) (g.M.ClassMiner.is_work c.args.miner.now) c.args.limit pieces in
     let says : All (Says P) shares = λ k d below. (c.in_ok-seats.ensures.each k d below).call.met.1.values in
     let all : map Ok lists ≡ map (λ (s : Pieces). s.values) shares = rw c.in_ok-values.was at c.in_ok-seats.ensures.lists in
     let seats = c.in_ok-seats.ensures.seats in
     let some : 1 ≤ length shares = omega (arith, c.in_ok-seats.ensures.count, c.in_ok-round.ensures.seats, c.args.cutting.some_workers.0) in
     let ended = c.in-Ok.ensures.ended (subst (λ l. Any (λ (s : SeatView). 0 < s.held.past) l) (sym seats) (some_ended P (λ seat values says. says.ended) shares lists some all says)) in
-    let claimed : claimed_by c.in_ok-seats.seats.items ≡ flat_map (λ list. pieces_of list.items) lists =
-    ap claimed_by seats ∙ sym (pieces_are_claimed P (λ seat values says. says.claimed) shares lists all says) in
-    let whole : c.in-Ok.field-0.claimed ≡ c.args.cutting.pieces = ended ∙ c.in_ok-round.ensures.round.0 in
-    subst (λ n. IsPermutation (flat_map (λ list. pieces_of list.items) lists) (range_with_len 0 n)) whole
-    (subst (λ l. IsPermutation l (range_with_len 0 c.in-Ok.field-0.claimed)) claimed c.in-Ok.ensures.claimed)
+    let claimed : List ℕ = claimed_by c.in_ok-seats.seats.items in
+    let mined : map (piece_from_end pieces) claimed ≡ flat_map (λ list. pieces_of list.items) lists =
+    ap (λ l. map (piece_from_end pieces) (claimed_by l)) seats
+    ∙ map-flat_map (piece_from_end pieces) (λ (s : SeatView). s.held.claimed) (map (λ (s : Pieces). s.seat) shares)
+    ∙ sym (pieces_are_claimed P (λ seat. map (piece_from_end pieces) seat.held.claimed) (λ seat values says. says.claimed) shares lists all says) in
+    let whole : c.in-Ok.field-0.claimed ≡ pieces = ended ∙ c.in_ok-round.ensures.round.0 in
+    subst (λ l. IsPermutation l (range_with_len 0 pieces)) mined
+    (all_from_end pieces claimed (subst (λ n. IsPermutation claimed (range_with_len 0 n)) whole c.in-Ok.ensures.claimed))
 
 -- the classes by piece are the classes of all ranks
 mined_all : (coding : Coding) (is_work : ℕ → ℕ → Type 0) (limit pieces : ℕ) (shares : List Pieces)
@@ -105,7 +109,7 @@ returns-clause-within g c =
     let shares = c.in_ok-seats.ensures.shares in
     let lists = c.in_ok-values.values.items in
     let seats = c.in_ok-seats.seats.items in
-    let Told : SeatView → Type 0 = ToldAll (piece_size coding pieces) c.args.limit in
+    let Told : SeatView → Type 0 = ToldAll (claimed_size coding pieces) c.args.limit in
     let all : map Ok lists ≡ map (λ (s : Pieces). s.values) shares = rw c.in_ok-values.was at c.in_ok-seats.ensures.lists in
     let told : All Told (map (λ (s : Pieces). s.seat) shares) = each_seat Told shares lists all
     (λ k d below. IfOk-weaker (get_or shares k d).values _ (λ values. Told (get_or shares k d).seat) (λ values says. record { ended = says.ended; told = says.told; within = says.within })

@@ -47,7 +47,7 @@ collected-requires g c =
     let some : 1 ≤ length shares = omega (arith, c.in_ok-seats.ensures.count, c.in_ok-round.ensures.seats, c.args.cutting.some_workers.0) in
     let ended = c.in-Ok.ensures.ended (subst (λ l. Any (λ (s : SeatView). 0 < s.held.past) l) (sym seats) (some_ended P (λ seat values says. says.ended) shares lists some all says)) in
     let claimed : claimed_by c.in_ok-seats.seats.items ≡ flat_map (λ list. pieces_of list.items) lists =
-    ap claimed_by seats ∙ sym (pieces_are_claimed P (λ seat values says. says.claimed) shares lists all says) in
+    ap claimed_by seats ∙ sym (pieces_are_claimed P (λ seat. seat.held.claimed) (λ seat values says. says.claimed) shares lists all says) in
     let whole : c.in-Ok.field-0.claimed ≡ c.args.cutting.pieces = ended ∙ c.in_ok-round.ensures.round.0 in
     subst (λ n. IsPermutation (flat_map (λ list. pieces_of list.items) lists) (range_with_len 0 n)) whole
     (subst (λ l. IsPermutation l (range_with_len 0 c.in-Ok.field-0.claimed)) claimed c.in-Ok.ensures.claimed)
