@@ -53,11 +53,13 @@ impl Found {
     }
 
     /// Adds the weight of a basket to the sum of each of its ranks, and lists the ranks whose sums were 0.
+    /// A rank near the basket was read before, which has a sum: it never asks for room.
     pub fn add_basket(
         &mut self,
         sums: &mut [u64],
         basket: &[u32],
         weight: u64,
+        end_rank: u32,
     ) -> Result<(), AllocError>
         requires sums { AreSums (length sums.old) sums.old self.old }
         requires rises { IsRising basket.now }
@@ -66,7 +68,8 @@ impl Found {
         ensures sums { AreSums (length sums.old) sums.new self.new }
         ensures added { OnOk result (WithBasket basket.now weight sums.old sums.new) }
     {
-        make_room(&mut self.ranks, self.count, basket.len())?;
+        let no_sum = usize::from(end_rank as usize >= sums.len());
+        make_room(&mut self.ranks, self.count, basket.len().max(no_sum))?;
         self.count = add_and_list(sums, &mut self.ranks, self.count, basket, weight);
         Ok(())
     }
