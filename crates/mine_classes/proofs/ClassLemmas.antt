@@ -131,7 +131,7 @@ pub Member-sets : (set : List ℕ) (list : List Counted) → Member set (sets li
 Member-sets set list m = Member-from_map (λ (c : Counted). c.set) set list m
 
 -- sets with one rank added differ where the sets do
-pub pushed_distinct : (rank : ℕ) (list : List Counted) → IsDistinct (pointwise nat_eq) (sets list) → IsDistinct (pointwise nat_eq) (sets (map (with_rank rank) list))
+pushed_distinct : (rank : ℕ) (list : List Counted) → IsDistinct (pointwise nat_eq) (sets list) → IsDistinct (pointwise nat_eq) (sets (map (with_rank rank) list))
 unfolding IsDistinct
 pushed_distinct rank [] distinct = tt
 pushed_distinct rank (c ∷ list) distinct = (

@@ -56,7 +56,7 @@ and_every false = refl
 -- ---- supports
 
 -- a basket that is kept to some ranks contains a set exactly where it does and the set has only such ranks
-pub contains-filter : (keeps : ℕ → Bool) (basket set : List ℕ) → contains (filter keeps basket) set ≡ (list_all keeps set && contains basket set)
+contains-filter : (keeps : ℕ → Bool) (basket set : List ℕ) → contains (filter keeps basket) set ≡ (list_all keeps set && contains basket set)
 contains-filter keeps basket set = same_tests _ _
     (λ h. and_from (list_all keeps set) (contains basket set)
     (each_all keeps set (λ item m. (Member-filter keeps item basket (has_each (filter keeps basket) set h item m)).1))
@@ -64,7 +64,7 @@ contains-filter keeps basket set = same_tests _ _
     (λ h. let p = and_parts (list_all keeps set) (contains basket set) h in
     contains_each (filter keeps basket) set (λ item m. Member-from_filter keeps item basket (has_each basket set p.1 item m) (all_each keeps set p.0 item m)))
 
-pub contains-push : (basket set : List ℕ) (rank : ℕ) → contains basket (set ++ rank ∷ []) ≡ (contains basket set && has basket rank)
+contains-push : (basket set : List ℕ) (rank : ℕ) → contains basket (set ++ rank ∷ []) ≡ (contains basket set && has basket rank)
 contains-push basket set rank = list_all-append (has basket) set (rank ∷ []) ∙ and_last (contains basket set) (has basket rank)
 
 module _ (keeps : ℕ → Bool) (rank : ℕ) (set : List ℕ) where

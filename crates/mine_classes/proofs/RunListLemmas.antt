@@ -39,7 +39,7 @@ module _ {X : Type 0} (xs : List X) (place start end : ℕ) (x : X) where
       ap (λ n. take n (drop start (set xs place x))) long ∙ ap (take ((place - start) + 1)) (from_start after)
       ∙ take_more_set (drop start xs) (place - start) x inside
 
-pub length-slice_range : {X : Type 0} (xs : List X) (start end : ℕ) → start ≤ end → end ≤ length xs → length (slice_range xs start end) ≡ end - start
+length-slice_range : {X : Type 0} (xs : List X) (start end : ℕ) → start ≤ end → end ≤ length xs → length (slice_range xs start end) ≡ end - start
 length-slice_range xs start end up within = omega (arith, length-take (end - start) (drop start xs), length-drop start xs)
 
 -- ---- a list of what a function gives for each number

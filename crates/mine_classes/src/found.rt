@@ -1,10 +1,11 @@
 //! Ranks that are listed while their sums are added up.
-ghost use Rattle.std.specs.Prelude.{◌≡◌, ◌≤◌, ◌<◌, ◌+◌, ℕ, [], OnOk, length, slice_index, take, vec_len};
+ghost use Rattle.std.specs.Prelude.{◌≡◌, ◌≤◌, ◌<◌, ◌+◌, ℕ, [], OnOk, length, slice_index, take};
 ghost use Rattle.basket_sets.specs.Counts.{AllBelow};
 ghost use Rattle.basket_sets.specs.Database.{MOST_WEIGHT};
 ghost use Rattle.basket_sets.specs.Itemset.{IsRising};
 ghost use Rattle.mine_classes.specs.Pairs.{AreSums, WithBasket};
 
+use crate::room::make_room;
 use std::alloc::{AllocError, Global};
 use std::marker::Model;
 
@@ -53,11 +54,13 @@ impl Found {
     }
 
     /// Adds the weight of a basket to the sum of each of its ranks, and lists the ranks whose sums were 0.
+    /// A rank near the basket was read before, which has a sum: it never asks for room.
     pub fn add_basket(
         &mut self,
         sums: &mut [u64],
         basket: &[u32],
         weight: u64,
+        end_rank: u32,
     ) -> Result<(), AllocError>
         requires sums { AreSums (length sums.old) sums.old self.old }
         requires rises { IsRising basket.now }
@@ -66,25 +69,11 @@ impl Found {
         ensures sums { AreSums (length sums.old) sums.new self.new }
         ensures added { OnOk result (WithBasket basket.now weight sums.old sums.new) }
     {
-        make_room(&mut self.ranks, self.count, basket.len())?;
+        let no_sum = usize::from(end_rank as usize >= sums.len());
+        make_room(&mut self.ranks, self.count, basket.len().max(no_sum))?;
         self.count = add_and_list(sums, &mut self.ranks, self.count, basket, weight);
         Ok(())
     }
-}
-
-/// Makes room for so many ranks behind the first ones, and for more, so that it is seldom made.
-fn make_room(ranks: &mut Vec<u32>, count: usize, more: usize) -> Result<(), AllocError>
-    requires { count ≤ vec_len ranks.old }
-    ensures front { take count ranks.new.items ≡ take count ranks.old.items }
-    ensures within { count ≤ vec_len ranks.new }
-    ensures room { OnOk result (count + more ≤ vec_len ranks.new) }
-{
-    let room = ranks.len();
-    if room - count < more {
-        let more = room.max(more);
-        ranks.resize(room.checked_add(more).ok_or(AllocError)?, 0)?;
-    }
-    Ok(())
 }
 
 /// Adds a weight to the sum of each rank of a basket, and puts the ranks whose sums were 0 behind the first

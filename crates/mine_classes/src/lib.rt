@@ -14,6 +14,7 @@ pub mod laws;
 mod list_baskets;
 mod pairs;
 mod places;
+mod room;
 mod run_lists;
 mod runs;
 mod short_words;

@@ -11,7 +11,7 @@ ghost use Rattle.mine_classes.specs.Span.{IsWithin, baskets_at};
 
 use crate::found::Found;
 use crate::places::coded_spans;
-use crate::span::{Span, table_pays};
+use crate::span::{BASKETS_AHEAD, Span, read_ahead, table_pays};
 use basket_core::Itemset;
 use std::alloc::{AllocError, Global};
 use std::marker::Model;
@@ -168,8 +168,13 @@ fn add_up(
     ensures sums { AreSums (length sums.old) sums.new found.new }
     ensures added { OnOk result ((rank : ℕ) → rank < length sums.old → slice_index sums.new rank ≡ weight_with rank (baskets_at ranks.now baskets.now)) }
 {
-    for basket in baskets {
-        found.add_basket(sums, basket.of(ranks), basket.weight)?;
+    let mut end_ranks = [0u32; BASKETS_AHEAD];
+    for (number, basket) in baskets.iter().enumerate() {
+        if number % BASKETS_AHEAD == 0 {
+            end_ranks = read_ahead(ranks, &baskets[number..]);
+        }
+        let end_rank = end_ranks[number % BASKETS_AHEAD];
+        found.add_basket(sums, basket.of(ranks), basket.weight, end_rank)?;
     }
     Ok(())
 }

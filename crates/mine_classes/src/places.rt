@@ -1,5 +1,5 @@
 //! Baskets of the ranks that stand in a list, by their places there.
-ghost use Rattle.std.specs.Prelude.{◌≡◌, ◌≤◌, ◌++◌, [], None, All, IfOk, OnOk, length, map, replicate};
+ghost use Rattle.std.specs.Prelude.{◌≡◌, ◌≤◌, ◌+◌, ◌++◌, [], None, All, IfOk, length, map, replicate, take};
 ghost use Rattle.basket_core.specs.Codes.{coded_place, rank_of};
 ghost use Rattle.basket_sets.specs.Counts.{AllBelow};
 ghost use Rattle.basket_sets.specs.Itemset.{IsRising};
@@ -10,6 +10,7 @@ ghost use Rattle.mine_classes.specs.Span.{IsWithin, baskets_at};
 
 use crate::form::Form;
 use crate::list_baskets::ListBaskets;
+use crate::room::make_room;
 use crate::span::{BASKETS_AHEAD, Span, place, read_ahead, table_pays};
 use crate::word_baskets::WordBaskets;
 use crate::words::{WORD_RANKS, clear_bits, set_bits, words_of};
@@ -187,28 +188,29 @@ fn place_in(of: &[Option<u32>], kept: &[u32], rank: u32) -> Option<u32>
     }
 }
 
-/// Adds the places of those ranks of a basket that have one. A place is put down for each rank, and the
-/// next one over it where the rank has none: which have one can't be predicted, so a branch would cost
-/// more.
-fn add_places(
-    locals: &mut Vec<u32>,
+/// Puts the places of those ranks of a basket that have one behind the first places of a list. Answers how
+/// many these are then. A place is put down for each rank, and the next one over it where the rank has
+/// none: which have one can't be predicted, so a branch would cost more.
+fn put_places(
+    locals: &mut [u32],
+    count: usize,
     of: &[Option<u32>],
     kept: &[u32],
     basket: &[u32],
-) -> Result<(), AllocError>
+) -> usize
+    requires room { count + length basket.now ≤ length locals.old }
     requires places { ArePlaces kept.now of.now }
     requires rises { IsRising kept.now }
-    ensures { OnOk result (locals.new.items ≡ locals.old.items ++ places_in kept.now basket.now) }
+    ensures within { result ≤ length locals.old }
+    ensures places { take result locals.new ≡ take count locals.old ++ places_in kept.now basket.now }
 {
-    let mut len = locals.len();
-    locals.extend_from_slice(basket)?;
+    let mut end = count;
     for rank in basket {
         let place = place_in(of, kept, *rank);
-        locals[len] = place.unwrap_or(0);
-        len += usize::from(place.is_some());
+        locals[end] = place.unwrap_or(0);
+        end += usize::from(place.is_some());
     }
-    locals.truncate(len);
-    Ok(())
+    end
 }
 
 /// The baskets as places in the list, one after another, and where each stands.
@@ -229,6 +231,7 @@ pub fn coded_spans(
 {
     let mut spans = Vec::with_capacity(alloc, baskets.len())?;
     let mut end_ranks = [0u32; BASKETS_AHEAD];
+    let mut end = 0;
     for (number, basket) in baskets.iter().enumerate() {
         if number % BASKETS_AHEAD == 0 {
             end_ranks = read_ahead(ranks, &baskets[number..]);
@@ -236,10 +239,12 @@ pub fn coded_spans(
         // What was read has a slot: it never decides.
         let end_rank = end_ranks[number % BASKETS_AHEAD] as usize;
         let slots = if end_rank < of.len() { of } else { &of[..0] };
-        let start = place(locals.len())?;
-        add_places(locals, slots, kept, basket.of(ranks))?;
-        let end = place(locals.len())?;
-        spans.push(basket.moved(start, end))?;
+        let basket_ranks = basket.of(ranks);
+        make_room(locals, end, basket_ranks.len())?;
+        let start = place(end)?;
+        end = put_places(locals, end, slots, kept, basket_ranks);
+        spans.push(basket.moved(start, place(end)?))?;
     }
+    locals.truncate(end);
     Ok(spans)
 }

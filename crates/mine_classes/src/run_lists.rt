@@ -1,5 +1,5 @@
 //! Lists of runs, one for each rank, that lie one after another.
-ghost use Rattle.std.specs.Prelude.{◌≡◌, ◌≤◌, ◌<◌, ◌+◌, [], ℕ, false, IfOk, IsTrue, length, replicate, slice_index, slice_index_or, slice_set, sum_by};
+ghost use Rattle.std.specs.Prelude.{◌≡◌, ◌≤◌, ◌<◌, ◌+◌, [], false, IfOk, IsTrue, length, replicate, slice_index, slice_index_or, slice_set, sum_by};
 ghost use Rattle.basket_sets.specs.Database.{MOST_WEIGHT};
 ghost use Rattle.mine_classes.specs.declared.span.Span.{Span as Run};
 ghost use Rattle.mine_classes.specs.Runs.{with_run};

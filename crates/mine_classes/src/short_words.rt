@@ -1,5 +1,5 @@
 //! Words of at most one rank, which most baskets of a large class are.
-ghost use Rattle.std.specs.Prelude.{◌≡◌, ◌≤◌, ◌<◌, ◌+◌, ◌++◌, [], ◌∷◌, false, ℕ, All, IfOk, IsTrue, OnOk, length, sum_by};
+ghost use Rattle.std.specs.Prelude.{◌≡◌, ◌≤◌, ◌<◌, ◌+◌, ◌++◌, [], ◌∷◌, false, ℕ, All, IfOk, IsTrue, OnOk, sum_by};
 ghost use Rattle.basket_sets.specs.Database.{MOST_WEIGHT};
 ghost use Rattle.mine_classes.specs.declared.words.Word.{Word as Bits};
 ghost use Rattle.mine_classes.specs.ListBaskets.{HaveSameWeights};

@@ -3,8 +3,8 @@ use Rattle.mine_classes.specs.Pairs.{AreSums, weight_with}
 use Rattle.mine_classes.specs.Span.{baskets_at}
 use Rattle.mine_classes.proofs.pairs.add_up.Given as goal
 
-abbrev pub invariant-loop-basket : goal.invariant-loop-basket
-invariant-loop-basket l = record {
+abbrev pub invariant-loop-number : goal.invariant-loop-number
+invariant-loop-number l = record {
   sums : AreSums (length l.initial.sums) l.sums l.found;
-  added : (rank : ℕ) → rank < length l.initial.sums → get_or l.sums rank 0 ≡ weight_with rank (take l.basket-index (baskets_at l.ranks l.baskets));
+  added : (rank : ℕ) → rank < length l.initial.sums → get_or l.sums rank 0 ≡ weight_with rank (take l.number (baskets_at l.ranks l.baskets));
 }

@@ -1,6 +1,6 @@
-use Rattle.std.proofs.Common.{◌≡◌, ◌+◌, ◌++◌, [], ◌∷◌, length, get_or, refl, subst, sym, ap, ◌∙◌, arith}
+use Rattle.std.proofs.Common.{◌≡◌, ◌≤◌, ℕ, ◌+◌, List, ◌++◌, [], ◌∷◌, length, take, drop, get_or, refl, subst, sym, ap, ◌∙◌, arith}
 use Rattle.std.specs.Prelude.{All}
-use Rattle.std.proofs.lemmas.List.{length-append}
+use Rattle.std.proofs.lemmas.List.{append-nil, drop_all, length-append, length-take-le, take_all}
 use Rattle.mine_classes.specs.declared.span.Span.{Span}
 use Rattle.mine_classes.specs.Places.{places_in}
 use Rattle.mine_classes.specs.Span.{IsWithin, baskets_at}
@@ -10,24 +10,37 @@ use Rattle.mine_classes.proofs.places.coded_spans.Goals as goal
 abbrev none : Span
 none = record { start = 0; end = 0; weight = 0 }
 
+-- a list as a slice of the whole of it was left
+written : (len : ℕ) (was now : List ℕ) → length was ≡ len → length now ≡ len → take len (now ++ drop (length now) was) ≡ now
+written len was now long as_long =
+    ap (take len) (ap (λ l. now ++ l) (drop_all (length now) was (omega arith)) ∙ append-nil now) ∙ take_all len now (omega arith)
+
 pub loop-number-preserved : goal.loop-number-preserved
 loop-number-preserved c =
     let ranks = c.args.ranks.now in
     let spans = c.loop-number.spans.items in
-    let locals = c.loop-number.locals.items in
+    let first = c.loop-number.end in
+    let locals = take first c.loop-number.locals.items in
+    let now = c.put_places-end.new.locals in
     let i = c.loop-number.number in
-    let more = places_in c.args.kept.now c.of.result.now in
-    let grown = c.in_ok-add_places.ensures in
-    let span : Span = record { start = c.in_ok-start.start; end = c.in_ok-end.end; weight = (get_or c.args.baskets.now i none).weight } in
+    let was = c.loop-number.invariant in
+    let more = places_in c.args.kept.now c.of-basket_ranks.result.now in
+    let made = c.make_room.new.list in
+    let same : take made.len (now ++ drop (length now) made.items) ≡ now = written made.len made.items now (omega (arith, made.ok)) (omega (arith, made.ok, c.put_places-end.auto.locals, c.deref_mut.ensures.len)) in
+    let grown : take c.put_places-end.result now ≡ locals ++ more = c.put_places-end.ensures.places
+    ∙ ap (λ l. l ++ more) (ap (take first) c.deref_mut.ensures.value ∙ c.in_ok-make_room.ensures.front) in
+    let span : Span = record { start = c.in_ok-start.start; end = c.in_ok-place.field-0; weight = (get_or c.args.baskets.now i none).weight } in
     let pushed = c.in_ok-push.ensures.items ∙ ap (λ moved. spans ++ moved ∷ []) c.moved.ensures in
-    let start : span.start ≡ length locals = omega (arith, c.in_ok-start.ensures, c.len.ensures, c.loop-number.locals.ok) in
-    let long : length c.add_places.new.locals.items ≡ length locals + length more = ap length grown ∙ length-append locals more in
-    let end : span.end ≡ length locals + length more = omega (arith, c.in_ok-end.ensures, c.len-in-loop-number.ensures, c.add_places.new.locals.ok, long) in
-    let inside : IsWithin (length c.add_places.new.locals.items) span = record { ordered = omega (arith, start, end); within = omega (arith, end, long) } in
+    let front : length locals ≡ first = length-take-le first c.loop-number.locals.items (omega (arith, was.room)) in
+    let long : c.put_places-end.result ≡ first + length more =
+    sym (length-take-le c.put_places-end.result now (omega (arith, c.put_places-end.ensures.within, c.put_places-end.auto.locals))) ∙ ap length grown ∙ length-append locals more ∙ ap (λ n. n + length more) front in
+    let inside : IsWithin c.put_places-end.result span = record { ordered = omega (arith, c.in_ok-start.ensures, c.in_ok-place.ensures, long); within = omega (arith, c.in_ok-place.ensures) } in
     record {
-      within = subst (All (IsWithin (length c.add_places.new.locals.items))) (sym pushed)
-          (within_push (length locals) (length c.add_places.new.locals.items) spans span (omega (arith, long)) c.loop-number.invariant.within inside);
-      placed = ap (λ l. baskets_at l c.push.new.self.items) grown ∙ ap (baskets_at (locals ++ more)) pushed
-          ∙ placed_more ranks locals c.args.kept.now c.args.baskets.now spans i none span c.loop-number-test.true c.loop-number.invariant.within more (ap (places_in c.args.kept.now) c.of.ensures) start end refl
-          c.loop-number.invariant.placed;
+      room = subst (λ l. c.put_places-end.result ≤ length l) (sym same) (omega (arith, c.put_places-end.ensures.within, c.put_places-end.auto.locals));
+      within = subst (All (IsWithin c.put_places-end.result)) (sym pushed)
+          (within_push first c.put_places-end.result spans span (omega (arith, long)) was.within inside);
+      placed = ap (λ l. baskets_at (take c.put_places-end.result l) c.push.new.self.items) same
+          ∙ ap (λ l. baskets_at l c.push.new.self.items) grown ∙ ap (baskets_at (locals ++ more)) pushed
+          ∙ placed_more ranks locals c.args.kept.now c.args.baskets.now spans i none span c.loop-number-test.true (subst (λ n. All (IsWithin n) spans) (sym front) was.within)
+          more (ap (places_in c.args.kept.now) c.of-basket_ranks.ensures) (c.in_ok-start.ensures ∙ sym front) (c.in_ok-place.ensures ∙ long ∙ ap (λ n. n + length more) (sym front)) refl was.placed;
     }

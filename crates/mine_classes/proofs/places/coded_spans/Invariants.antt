@@ -1,4 +1,4 @@
-use Rattle.std.proofs.Common.{◌≡◌, length, map, take}
+use Rattle.std.proofs.Common.{◌≡◌, ◌≤◌, length, map, take}
 use Rattle.std.specs.Prelude.{All}
 use Rattle.mine_classes.specs.Places.{placed}
 use Rattle.mine_classes.specs.Span.{IsWithin, baskets_at}
@@ -6,6 +6,7 @@ use Rattle.mine_classes.proofs.places.coded_spans.Given as goal
 
 abbrev pub invariant-loop-number : goal.invariant-loop-number
 invariant-loop-number l = record {
-  within : All (IsWithin (length l.locals.items)) l.spans.items;
-  placed : baskets_at l.locals.items l.spans.items ≡ map (placed l.kept) (take l.number (baskets_at l.ranks l.baskets));
+  room : l.end ≤ length l.locals.items;
+  within : All (IsWithin l.end) l.spans.items;
+  placed : baskets_at (take l.end l.locals.items) l.spans.items ≡ map (placed l.kept) (take l.number (baskets_at l.ranks l.baskets));
 }
