@@ -26,7 +26,7 @@ pub struct CountText {
 }
 
 impl CountText {
-    /// It is a call, so that a count whose text is made already has no part in its locals.
+    /// It is a call, since its locals would cost a count whose text is made already time.
     #[inline(never)]
     pub fn new(count: u64) -> Self
         ensures { result.count ≡ count }

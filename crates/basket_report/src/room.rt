@@ -5,16 +5,17 @@ ghost use Rattle.basket_report.specs.Report.{set_of};
 ghost use Rattle.basket_report.specs.Room.{IsPut};
 ghost use Rattle.basket_report.specs.Texts.{AreTexts};
 
+use crate::count_text::COUNT_TEXT_ROOM;
 use crate::count_texts::CountTexts;
 use crate::item_text::{ITEM_TEXT_ROOM, ItemText};
 use crate::texts::Texts;
 use std::simd::Simd;
 
 /// What a line takes beside its items: a space where it has none, and the room of the text of a count.
-pub const LINE_ROOM: usize = 33;
+pub const LINE_ROOM: usize = 1 + COUNT_TEXT_ROOM;
 
 /// Puts the first bytes of a small room behind the first of a room, and answers where they end. The
-/// whole small room is copied, so that it is loaded and stored at once.
+/// whole small room is loaded and stored at once, and the next text lies over what is too much.
 #[inline(always)]
 pub fn put_text<const N: usize>(room: &mut [u8], start: usize, text: &[u8], count: usize) -> usize
     requires text { N ≤ length text.now }
@@ -41,8 +42,8 @@ fn put_item(room: &mut [u8], start: usize, texts: &[ItemText], item: u32) -> usi
     }
 }
 
-/// Puts an item whose text isn't made already, and a space. It is a call, so that those whose text is
-/// made have no part in its locals.
+/// Puts an item whose text isn't made already, and a space. It is a call, since its locals would cost
+/// the other items time.
 #[inline(never)]
 fn put_new_item(room: &mut [u8], start: usize, item: u32) -> usize
     requires { start + ITEM_TEXT_ROOM ≤ length room.old }
