@@ -7,7 +7,7 @@ use itoa::write_digits;
 const MOST_DIGITS: usize = 20;
 
 /// The room of a text, two parentheses and a line feed.
-pub const COUNT_TEXT_ROOM: usize = 24;
+pub const COUNT_TEXT_ROOM: usize = 32;
 
 /// Where a text is made: from the first parenthesis to the end of the digits, and a room behind its
 /// start.
@@ -20,13 +20,14 @@ pub struct CountText {
     pub count: u64,
     pub length: usize,
     pub bytes: [u8; COUNT_TEXT_ROOM],
-    ghost within: { length < 24 },
+    ghost within: { length < 32 },
     ghost is: { take length bytes ≡ 40 ∷ decimal count ++ 41 ∷ [] },
     ghost ended: { take (length + 1) bytes ≡ 40 ∷ decimal count ++ 41 ∷ 10 ∷ [] },
 }
 
 impl CountText {
-    #[inline(always)]
+    /// It is a call, since its locals would cost a count whose text is made already time.
+    #[inline(never)]
     pub fn new(count: u64) -> Self
         ensures { result.count ≡ count }
     {

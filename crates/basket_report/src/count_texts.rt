@@ -6,22 +6,21 @@ use crate::count_text::{COUNT_TEXT_ROOM, CountText};
 use crate::room::put_text;
 use std::alloc::{AllocError, Global};
 
-/// How many texts are kept.
-const SLOTS: usize = 1_024;
+/// How many texts are kept at most.
+const MOST_SLOTS: usize = 4_096;
 
 /// Texts of counts. The low bits of a count are a slot, which has the text of the count that was
 /// written there last.
 #[derive(Debug, Drop)]
 pub struct CountTexts {
     slots: Vec<CountText>,
-    ghost long: { length slots.items ≡ 1024 },
 }
 
 impl CountTexts {
-    /// Nothing is written yet.
-    pub fn new(alloc: Global) -> Result<Self, AllocError> {
+    /// Nothing is written yet. There are no more slots than that.
+    pub fn new(alloc: Global, bound: usize) -> Result<Self, AllocError> {
         Ok(CountTexts {
-            slots: vec![in alloc; CountText::new(0); SLOTS]?,
+            slots: vec![in alloc; CountText::new(0); bound.min(MOST_SLOTS)]?,
         })
     }
 
@@ -32,8 +31,21 @@ impl CountTexts {
         ensures put { IsPut room.old room.new start (40 ∷ decimal count ++ 41 ∷ 10 ∷ []) result }
         ensures within { result ≤ start + COUNT_TEXT_ROOM }
     {
-        let text = &mut self.slots[(count % SLOTS as u64) as usize];
-        text.set(count);
-        put_text(room, start, &text.bytes, text.length + 1)
+        match self.slots.get_mut((count % MOST_SLOTS as u64) as usize) {
+            Some(text) => {
+                text.set(count);
+                put_line_end(room, start, text)
+            }
+            None => put_line_end(room, start, &CountText::new(count)),
+        }
     }
+}
+
+#[inline(always)]
+fn put_line_end(room: &mut [u8], start: usize, text: &CountText) -> usize
+    requires { start + COUNT_TEXT_ROOM ≤ length room.old }
+    ensures put { IsPut room.old room.new start (40 ∷ decimal text.now.count ++ 41 ∷ 10 ∷ []) result }
+    ensures within { result ≤ start + COUNT_TEXT_ROOM }
+{
+    put_text::<COUNT_TEXT_ROOM>(room, start, &text.bytes, text.length + 1)
 }

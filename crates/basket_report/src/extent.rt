@@ -1,5 +1,6 @@
 //! What is known of sets before their lines are written.
 
+use crate::count_texts::CountTexts;
 use crate::texts::Texts;
 use basket_core::{Counted, CountedSets};
 use std::alloc::{AllocError, Global};
@@ -48,6 +49,11 @@ impl Extent {
     pub fn texts(self, alloc: Global) -> Result<Texts, AllocError> {
         let bound = (self.greatest as usize + 1).min(self.lines).min(MOST_TEXTS);
         Texts::below(alloc, bound as u32)
+    }
+
+    /// Slots for the texts of counts, but not more than there are lines.
+    pub fn counts(self, alloc: Global) -> Result<CountTexts, AllocError> {
+        CountTexts::new(alloc, self.lines)
     }
 
     /// How long the report is, unless counts are very large.

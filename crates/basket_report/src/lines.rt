@@ -17,7 +17,7 @@ use std::marker::Model;
 #[derive(Debug, Drop)]
 pub struct Lines {
     texts: Texts,
-    /// The count of the last rule.
+    /// The count of the last set or rule.
     count: CountText,
     ratios: Ratios,
     text: Vec<u8>,
@@ -73,8 +73,9 @@ impl Lines {
     pub fn put_set(&mut self, items: &[u32], count: u64) -> Result<(), AllocError>
         ensures { OnOk result (self.new ≡ self.old ++ set_line (set_of items.now count)) }
     {
+        self.count.set(count);
         put_items(&mut self.text, &self.texts, items)?;
-        put_count(&mut self.text, &CountText::new(count))?;
+        put_count(&mut self.text, &self.count)?;
         self.text.push(b'\n')?;
         Ok(())
     }

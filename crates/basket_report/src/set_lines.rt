@@ -36,9 +36,10 @@ impl SetLines {
     pub fn new(alloc: Global, sets: &CountedSets) -> Result<Self, AllocError>
         ensures { IfOk result (λ lines. lines ≡ []) }
     {
+        let extent = Extent::of(sets);
         Ok(SetLines {
-            texts: Extent::of(sets).texts(alloc)?,
-            counts: CountTexts::new(alloc)?,
+            texts: extent.texts(alloc)?,
+            counts: extent.counts(alloc)?,
             block: Block::new(alloc)?,
         })
     }

@@ -1,6 +1,6 @@
 //! The texts of numbers.
 ghost use Rattle.std.specs.Prelude.{◌≡◌, ◌≤◌, ◌++◌, [], ◌∷◌, decimal, length, take, IfOk, IfSome, OnErr, OnOk};
-ghost use Rattle.basket_report.specs.Texts.{ratio_text};
+ghost use Rattle.basket_report.specs.Texts.{AreTexts, ratio_text};
 
 use crate::item_text::ItemText;
 use basket_core::Fraction;
@@ -35,6 +35,13 @@ impl Texts {
             texts.push(ItemText::new(item))?;
         }
         Ok(Texts { texts })
+    }
+
+    /// The texts, each at the place of its item.
+    pub fn all(&self) -> &[ItemText]
+        ensures { AreTexts result.now }
+    {
+        &self.texts
     }
 
     /// The text of an item, where it is made already.

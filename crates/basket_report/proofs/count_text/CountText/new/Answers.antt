@@ -28,14 +28,14 @@ invariant_of-result c =
     let scratch = set buf start 40 in
     let front = 40 ∷ (decimal number ++ 41 ∷ []) in
     let text = 40 ∷ (decimal number ++ 41 ∷ 10 ∷ []) in
-    let rest : List ℕ = replicate 22 10 in
+    let rest : List ℕ = replicate 30 10 in
     let made : drop start scratch ≡ text ++ rest = drop-set buf start 40 below
     ∙ ap (λ l. 40 ∷ l) (ap (λ n. drop n buf) next ∙ c.write_digits-start.ensures.written ∙ sym (append_assoc (decimal number) (41 ∷ 10 ∷ []) rest)) in
     let again : text ++ rest ≡ front ++ 10 ∷ rest = ap (λ l. 40 ∷ l) (append_assoc (decimal number) (41 ∷ 10 ∷ []) rest ∙ sym (append_assoc (decimal number) (41 ∷ []) (10 ∷ rest))) in
     record {
       within = omega (arith, s, ended);
       is = ap (take (22 - start)) c.copy_from_slice.ensures.after
-          ∙ front_is scratch front (10 ∷ rest) start (start + 24 - start) (22 - start) (made ∙ again) (omega (arith, s, ended, length-append (decimal number) (41 ∷ []))) (omega (arith, s, ended));
+          ∙ front_is scratch front (10 ∷ rest) start (start + 32 - start) (22 - start) (made ∙ again) (omega (arith, s, ended, length-append (decimal number) (41 ∷ []))) (omega (arith, s, ended));
       ended = ap (take (22 - start + 1)) c.copy_from_slice.ensures.after
-          ∙ front_is scratch text rest start (start + 24 - start) (22 - start + 1) made (omega (arith, s, ended, length-append (decimal number) (41 ∷ 10 ∷ []))) (omega (arith, s, ended));
+          ∙ front_is scratch text rest start (start + 32 - start) (22 - start + 1) made (omega (arith, s, ended, length-append (decimal number) (41 ∷ 10 ∷ []))) (omega (arith, s, ended));
     }
