@@ -4,10 +4,9 @@ ghost use Rattle.mine_vertical.specs.Bits.{words_of};
 ghost use Rattle.mine_vertical.specs.RowWords.{words_in};
 ghost use Rattle.mine_vertical.specs.Rows.{IsBitRow};
 
-use crate::bits::set_bit;
 use crate::marks::Marks;
 use crate::row::Row;
-use crate::row_words::{RowWords, words_for};
+use crate::row_words::RowWords;
 use crate::weights::Weights;
 use std::alloc::{AllocError, Global};
 
@@ -26,11 +25,11 @@ fn bits_of_cover(alloc: Global, cover: &[u32], places: u32) -> Result<RowWords, 
     requires { AllBelow places cover.now }
     ensures { IfOk result (λ words. words_in words ≡ words_of places cover.now) }
 {
-    let mut words = vec![in alloc; 0u64; words_for(places as usize)]?;
+    let mut words = RowWords::zeros(alloc, places as usize)?;
     for place in cover {
-        set_bit(&mut words, *place as usize);
+        words.set(*place as usize);
     }
-    RowWords::of(alloc, &words)
+    Ok(words)
 }
 
 impl Row for BitRow {

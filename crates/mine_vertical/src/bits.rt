@@ -1,7 +1,7 @@
 //! Bits that two lists of words share.
-ghost use Rattle.std.specs.Prelude.{◌≡◌, ◌≢◌, ◌≤◌, ◌<◌, ◌*◌, ◌/◌, ℕ, Bool, true, All, IfOk, OnOk, bit_and, length};
+ghost use Rattle.std.specs.Prelude.{◌≡◌, ◌≤◌, ◌*◌, All, IfOk, OnOk, bit_and, length};
 ghost use Rattle.std.specs.Simd.Lanes.{zip2};
-ghost use Rattle.mine_vertical.specs.Bits.{MOST_WORDS, shared_bits, shared_in_chunks, words_from};
+ghost use Rattle.mine_vertical.specs.Bits.{MOST_WORDS, shared_bits, shared_in_chunks};
 
 use std::alloc::AllocError;
 use std::simd::prelude::*;
@@ -44,17 +44,6 @@ pub fn and_count(a: &[u64], b: &[u64]) -> u64
     let (chunks, rest) = a.as_chunks::<4>();
     let (other_chunks, other_rest) = b.as_chunks::<4>();
     shared_by_lanes(chunks, other_chunks) + shared_by_words(rest, other_rest)
-}
-
-/// Sets the bit of a place.
-pub fn set_bit(words: &mut [u64], place: usize)
-    requires { place / 64 < length words.old }
-    ensures long { length words.new ≡ length words.old }
-    ensures set { (test with_place : ℕ → Bool) → words.old ≡ words_from test 0 (length words.old)
-        → with_place place ≡ true → ((other : ℕ) → other ≢ place → with_place other ≡ test other)
-        → words.new ≡ words_from with_place 0 (length words.old) }
-{
-    words[place / 64] |= 1 << (place % 64);
 }
 
 /// Keeps the bits that other words have too, and answers how many they are.

@@ -7,8 +7,7 @@ ghost use Rattle.mine_vertical.specs.RowWords.{words_in};
 ghost use Rattle.mine_vertical.specs.Planes.{ArePlanes, IsPlane, has_bit, plane_weight};
 ghost use Rattle.mine_vertical.specs.Weights.{MOST_PLACES};
 
-use crate::bits::set_bit;
-use crate::row_words::{RowWords, words_for};
+use crate::row_words::RowWords;
 use std::alloc::{AllocError, Global};
 
 /// The bits of the greatest weight that there may be.
@@ -28,16 +27,13 @@ fn plane_of(alloc: Global, weights: &[u64], bit: u32) -> Result<Plane, AllocErro
     ensures bit { IfOk result (λ plane. plane.bit ≡ bit) }
     ensures words { IfOk result (λ plane. IsPlane weights.now plane) }
 {
-    let mut words = vec![in alloc; 0u64; words_for(weights.len())]?;
+    let mut words = RowWords::zeros(alloc, weights.len())?;
     for (place, weight) in weights.iter().enumerate() {
         if (*weight >> bit) % 2 == 1 {
-            set_bit(&mut words, place);
+            words.set(place);
         }
     }
-    Ok(Plane {
-        bit,
-        words: RowWords::of(alloc, &words)?,
-    })
+    Ok(Plane { bit, words })
 }
 
 /// The bits that some weight has.

@@ -1,7 +1,7 @@
 //! The words of a row of bits.
-ghost use Rattle.std.specs.Prelude.{◌≡◌, ◌≤◌, ◌<◌, ◌/◌, ◌%◌, IfOk, OnOk, bit_and, length, slice_index};
+ghost use Rattle.std.specs.Prelude.{◌≡◌, ◌≢◌, ◌≤◌, ◌<◌, ◌/◌, ◌%◌, ℕ, Bool, true, IfOk, OnOk, bit_and, length, replicate, slice_index};
 ghost use Rattle.std.specs.Simd.Lanes.{zip2};
-ghost use Rattle.mine_vertical.specs.Bits.{MOST_WORDS, shared_bits, word_count};
+ghost use Rattle.mine_vertical.specs.Bits.{MOST_WORDS, shared_bits, word_count, words_from};
 ghost use Rattle.mine_vertical.specs.Planes.{has_bit};
 ghost use Rattle.mine_vertical.specs.RowWords.{words_in};
 
@@ -17,7 +17,7 @@ pub struct RowWords {
 }
 
 /// How many words have a bit for each of so many places, of which there is always one.
-pub fn words_for(places: usize) -> usize
+fn words_for(places: usize) -> usize
     ensures { result ≡ word_count places }
 {
     places.div_ceil(64).max(1)
@@ -32,15 +32,32 @@ impl RowWords {
         }
     }
 
-    /// The words of a list.
-    pub fn of(alloc: Global, words: &[u64]) -> Result<Self, AllocError>
-        requires { 0 < length words.now }
-        ensures { IfOk result (λ row. words_in row ≡ words.now) }
+    /// Words without ones, with a bit for each of so many places.
+    pub fn zeros(alloc: Global, places: usize) -> Result<Self, AllocError>
+        ensures { IfOk result (λ row. words_in row ≡ replicate (word_count places) 0) }
     {
         Ok(RowWords {
-            first: words[0],
-            others: words[1..].to_vec(alloc)?,
+            first: 0,
+            others: vec![in alloc; 0u64; words_for(places) - 1]?,
         })
+    }
+
+    /// Sets the bit of a place.
+    #[inline]
+    pub fn set(&mut self, place: usize)
+        requires { place / 64 < length (words_in self.old) }
+        ensures long { length (words_in self.new) ≡ length (words_in self.old) }
+        ensures set { (test with_place : ℕ → Bool) → words_in self.old ≡ words_from test 0 (length (words_in self.old))
+            → with_place place ≡ true → ((other : ℕ) → other ≢ place → with_place other ≡ test other)
+            → words_in self.new ≡ words_from with_place 0 (length (words_in self.old)) }
+    {
+        let at = place / 64;
+        let bit = 1 << (place % 64);
+        if at == 0 {
+            self.first |= bit;
+        } else {
+            self.others[at - 1] |= bit;
+        }
     }
 
     /// Becomes the words that two rows share. The answer is how many ones they have.

@@ -54,13 +54,27 @@ pub fn weights_at(alloc: Global, spans: &[Span]) -> Result<Weights, AllocError>
     Weights::of_vec(alloc, weights)
 }
 
-/// An empty cover for each rank below a number.
-fn no_covers(alloc: Global, count: usize) -> Result<Vec<Vec<u32>>, AllocError>
-    ensures { IfOk result (λ covers. covers_in covers.items ≡ replicate count []) }
+/// How often each rank below a number stands in a list: how much room its cover needs.
+fn rank_counts(alloc: Global, count: usize, ranks: &[u32]) -> Result<Vec<u32>, AllocError>
+    ensures { IfOk result (λ counts. length counts.items ≡ count) }
 {
-    let mut covers = Vec::with_capacity(alloc, count)?;
-    for _rank in 0..count {
-        covers.push(Vec::new(alloc))?;
+    let mut counts = vec![in alloc; 0u32; count]?;
+    for rank in ranks {
+        if let Some(times) = counts.get_mut(*rank as usize) {
+            *times = times.saturating_add(1);
+        }
+    }
+    Ok(counts)
+}
+
+/// An empty cover for each number, with room for so many places.
+fn no_covers(alloc: Global, counts: &[u32]) -> Result<Vec<Vec<u32>>, AllocError>
+    ensures { IfOk result (λ covers. covers_in covers.items ≡ replicate (length counts.now) []) }
+{
+    let mut covers = Vec::with_capacity(alloc, counts.len())?;
+    for times in counts {
+        let cover = Vec::with_capacity(alloc, *times as usize)?;
+        covers.push(cover)?;
     }
     Ok(covers)
 }
@@ -89,7 +103,8 @@ fn covers_of_ranks(
     requires few { length spans.now ≤ 4294967295 }
     ensures { IfOk result (λ covers. AreCovers (baskets_at ranks.now spans.now) count (covers_in covers.items)) }
 {
-    let mut covers = no_covers(alloc, count)?;
+    let counts = rank_counts(alloc, count, ranks)?;
+    let mut covers = no_covers(alloc, &counts)?;
     for (place, span) in spans.iter().enumerate() {
         add_place(&mut covers, place as u32, span.of(ranks))?;
     }

@@ -1,7 +1,5 @@
-use Rattle.std.proofs.Common.{◌≡◌, ◌≢◌, ℕ, ◌+◌, ◌<◌, ◌++◌, ◌∷◌, List, length, get_or, take, drop, subst, sym, ap, [], refl, ◌∙◌, inl, inr, arith, true, false}
-use Rattle.std.specs.Prelude.{replicate}
+use Rattle.std.proofs.Common.{◌≡◌, ◌≢◌, ℕ, ◌+◌, ◌<◌, ◌++◌, ◌∷◌, List, length, get_or, take, subst, sym, ap, [], refl, ◌∙◌, inl, inr, arith, true, false}
 use Rattle.std.proofs.lemmas.List.{take_more}
-use Rattle.std.proofs.Math.Seq.{take-append_seam}
 use Rattle.basket_sets.specs.Itemset.{has}
 use Rattle.basket_sets.proofs.theory.Members.{Member, Member-append, Member-append_left, Member-append_right}
 use Rattle.basket_sets.proofs.theory.Rising.{Member-from_has, has-from_Member, has_place, same_test}
@@ -33,17 +31,15 @@ has_others cover i here t differ =
 pub loop-place-init : goal.loop-place-init
 loop-place-init c =
     let n = word_count c.args.places in
-    let made = c.in_ok-words.ensures.items_if_clones_equal (λ x e. e) in
-    let none = words_same (has []) (λ t. false) 0 n (λ t low. refl) ∙ words_none 0 n in made ∙ ap (λ m. replicate m 0) c.words_for.ensures ∙ sym none
+    let none = words_same (has []) (λ t. false) 0 n (λ t low. refl) ∙ words_none 0 n in c.in_ok-words.ensures ∙ sym none
 
-pub set_bit-requires : goal.set_bit-requires
-set_bit-requires c =
+pub set-requires : goal.set-requires
+set-requires c =
     let cover = c.args.cover.now in
     let i = c.loop-place.place-index in
-    let long = c.deref_mut.ensures.len in
     let words = ap length c.loop-place.invariant ∙ length-words (has (take i cover)) 0 (word_count c.args.places) in
     let there = word_is_there (get_or cover i 0) c.args.places (c.requires (get_or cover i 0) (has_place cover i c.loop-place-test.true)) in
-    omega (arith, long, words, there)
+    omega (arith, words, there)
 
 pub loop-place-preserved : goal.loop-place-preserved
 loop-place-preserved c =
@@ -52,10 +48,7 @@ loop-place-preserved c =
     let here = c.loop-place-test.true in
     let before = has (take i cover) in
     let after = has (take (i + 1) cover) in
-    let old = c.deref_mut.ensures.value ∙ c.loop-place.invariant in
+    let old = c.loop-place.invariant in
     let long = ap length old ∙ length-words before 0 (word_count c.args.places) in
-    let new = c.set_bit.new.words in
-    let same : c.loop-place.words.len ≡ length new = sym (c.set_bit.ensures.long ∙ c.deref_mut.ensures.len) in
-    ap (λ m. take m (new ++ drop (length new) c.loop-place.words.items)) same ∙ take-append_seam new (drop (length new) c.loop-place.words.items)
-    ∙ c.set_bit.ensures.set before after (old ∙ ap (words_from before 0) (sym long)) (has_this cover i here) (has_others cover i here)
+    c.set.ensures.set before after (old ∙ ap (words_from before 0) (sym long)) (has_this cover i here) (has_others cover i here)
     ∙ ap (words_from after 0) long
