@@ -13,6 +13,7 @@ mod names;
 mod order;
 mod short;
 mod slot;
+mod small;
 mod weighted;
 pub mod worked;
 
