@@ -7,3 +7,4 @@ pub mod Support
 pub mod Merging
 pub mod Frequent
 pub mod Items
+pub mod Chunks

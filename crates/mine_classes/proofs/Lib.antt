@@ -1,5 +1,4 @@
 mod ConditionalLemmas
-mod ChunkLemmas
 mod ClassLemmas
 mod TogetherLemmas
 mod OrderedLemmas
