@@ -1,5 +1,5 @@
 -- Sets with their counts as words.
-use Rattle.std.specs.Prelude.{◌≡◌, ◌≤◌, ◌<◌, ◌-◌, ◌/◌, ◌%◌, ◌^◌, ◌==◌, ℕ, Bool, List, [], ◌∷◌, bit_and, count_ones, length, slice_index_or, if◌then◌else◌, nat_lt, nat_le}
+use Rattle.std.specs.Prelude.{◌≡◌, ◌≤◌, ◌<◌, ◌+◌, ◌-◌, ◌/◌, ◌%◌, ◌^◌, ◌==◌, ℕ, Bool, true, List, [], ◌∷◌, bit_and, count_ones, length, slice_index_or, if◌then◌else◌, nat_lt, nat_le}
 use Rattle.std.specs.Int.{bit_at}
 use Rattle.basket_lists.specs.declared.packed.Packed.{Packed}
 use Rattle.basket_lists.specs.declared.known.TheConstants.{MOST_ITEMS}
@@ -43,6 +43,10 @@ comes_before mask packed other =
     if count_ones (bit_and packed.word mask) == count_ones (bit_and other.word mask)
     then nat_le (bit_and other.word mask) (bit_and packed.word mask)
     else nat_lt (count_ones (bit_and packed.word mask)) (count_ones (bit_and other.word mask))
+
+-- each set comes before the next
+abbrev pub AreInOrder : ℕ → List Packed → Type 0
+AreInOrder mask sets = (k : ℕ) (none : Packed) → k + 1 < length sets → comes_before mask (slice_index_or sets k none) (slice_index_or sets (k + 1) none) ≡ true
 
 -- the set at a place has these bits, below which so many are those of the count
 abbrev pub HasBits : ℕ → List Packed → ℕ → ℕ → Type 0

@@ -127,7 +127,8 @@ impl KnownItems {
     /// The bits of the items of a packed set.
     fn bits(&self, packed: &Packed) -> u128
         requires { IsPacked self.now packed.now }
-        ensures { result ≡ bits_of self.now packed.now }
+        ensures value { result ≡ bits_of self.now packed.now }
+        ensures below { result < 2 ^ length self.now }
     {
         packed.bits(self.count_bits())
     }
