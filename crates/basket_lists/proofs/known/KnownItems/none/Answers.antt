@@ -1,4 +1,4 @@
-use Rattle.std.proofs.Common.{◌≡◌, ◌≤◌, ◌×◌, length, refl, sym, subst, arith}
+use Rattle.std.proofs.Common.{◌≡◌, ◌≤◌, length, refl, sym, subst, arith}
 use Rattle.basket_lists.specs.declared.known.TheConstants.{MOST_ITEMS}
 use Rattle.basket_lists.specs.Packed.{items_mask}
 use Rattle.basket_sets.specs.Itemset.{IsRising}
