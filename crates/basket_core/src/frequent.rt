@@ -74,17 +74,29 @@ impl Frequent {
     }
 }
 
-/// The sets of the classes, one class after another. The first class isn't copied.
+/// The sets of the classes, one class after another. The first class isn't copied, and the room for
+/// the others is made when it is taken.
 fn gathered(alloc: Global, classes: Vec<CountedSets>) -> Result<CountedSets, AllocError>
     ensures { IfOk result (λ sets. sets ≡ flat_map (λ class. class) classes.items) }
 {
+    let count = count_sets(&classes);
     let mut sets = CountedSets::empty(alloc);
     for class in classes {
         if sets.is_empty() {
             sets = class;
+            sets.reserve(count.saturating_sub(sets.len()))?;
         } else {
             sets.append(alloc, class)?;
         }
     }
     Ok(sets)
+}
+
+/// How many sets the classes have together, or `usize::MAX` where they have more.
+fn count_sets(classes: &[CountedSets]) -> usize {
+    let mut count: usize = 0;
+    for class in classes {
+        count = count.saturating_add(class.len());
+    }
+    count
 }

@@ -1,5 +1,6 @@
 pub mod theory
 mod PackedLemmas
+mod WordLemmas
 mod OrderLemmas
 mod ListLemmas
 mod PlainLemmas

@@ -1,10 +1,11 @@
 -- Sets as the bits of a word.
 use Rattle.std.proofs.Common.{◌≡◌, ℕ, zero, suc, ◌+◌, ◌-◌, ◌*◌, ◌%◌, ◌^◌, ◌<◌, ◌≤◌, Bool, true, false, List, [], ◌∷◌, ◌++◌, length, cond, eqb, ltb, refl, sym, ap, ◌∙◌, subst, inl, inr, arith, get_or, take}
-use Rattle.std.specs.Prelude.{bit_or}
+use Rattle.std.specs.Prelude.{bit_or, count_ones}
+use Rattle.std.specs.Int.Count.{ones-ones}
 use Rattle.std.specs.Int.{bit_at, w128}
 use Rattle.std.proofs.lemmas.Bool.{eqb-true, ltb-true, lt-ltb, cases_Bool, cases_lt, cases_eq, false_from_ne_true}
 use Rattle.std.proofs.Math.Nat.{add-mul, mul-lt-mul_of_pos_right, pow-le-pow_right, pow-suc}
-use Rattle.std.proofs.lemmas.Nat.{pow-add, pow_pos}
+use Rattle.std.proofs.lemmas.Nat.{ones_cat, ones_le_self, pow-add, pow_pos}
 use Rattle.std.proofs.lemmas.Nat.Bits.{bit_at-zero, bit_at_above, bit_at_cat_low, bit_at_cat_high, bit_at_set_same, bit_at_set_other}
 use Rattle.std.proofs.lemmas.List.{take_more}
 use Rattle.basket_lists.specs.Packed.{items_in}
@@ -246,4 +247,33 @@ highest (first ∷ known) bits bit low high less = elim (cases_eq bit (length kn
       none ∙ highest known bits bit low high inner
       ∙ ap (λ items. get_or known (length known - 1 - bit) 0 ∷ items) (sym after)
       ∙ ap (λ p. get_or (first ∷ known) p 0 ∷ items_in (first ∷ known) (bits - 2 ^ bit)) (sym place))
+]
+
+-- a word has the first item if its highest bit is a one
+pub left_out : (first : ℕ) (known : List ℕ) (bits : ℕ) → bits < 2 ^ length known → items_in (first ∷ known) bits ≡ items_in known bits
+left_out first known bits below = ap (λ b. cond (eqb b 1) (first ∷ items_in known bits) (items_in known bits)) (bit_at_above bits (length known) (length known) below (omega arith))
+
+pub put_in : (first : ℕ) (known : List ℕ) (bits : ℕ) → 2 ^ length known ≤ bits → bits < 2 * 2 ^ length known
+    → items_in (first ∷ known) bits ≡ first ∷ items_in known (bits - 2 ^ length known)
+put_in first known bits low high =
+    ap (λ b. cond (eqb b 1) (first ∷ items_in known bits) (items_in known bits)) (bit_is_set bits (length known) low high)
+    ∙ ap (λ l. first ∷ l) (items_in-same known bits (bits - 2 ^ length known) (λ i less. lower_bits bits (length known) low high i less))
+
+-- a word of zeros has no ones
+pub no_ones : count_ones 0 ≡ 0
+no_ones = omega (arith, ones_le_self 0)
+
+-- as many bits are ones as there are items
+pub ones_are_items : (known : List ℕ) (bits : ℕ) → bits < 2 ^ length known → count_ones bits ≡ length (items_in known bits)
+ones_are_items [] bits below = ap count_ones (let e : bits ≡ 0 = omega (arith, below) in e) ∙ no_ones
+ones_are_items (first ∷ known) bits below = elim (cases_lt bits (2 ^ length known)) [
+  | inl less ↦ ones_are_items known bits less ∙ sym (ap length (left_out first known bits less))
+  | inr more ↦
+      (let n = length known in
+      let high : bits < 2 * 2 ^ n = omega (arith, below, pow-suc 2 n) in
+      let rest : bits - 2 ^ n < 2 ^ n = omega (arith, high, more) in
+      let whole : bits ≡ 1 * 2 ^ n + (bits - 2 ^ n) = omega (arith, more) in
+      let first_one : count_ones 1 ≡ 1 = ones-ones 1 in
+      ap count_ones whole ∙ ones_cat n 1 (bits - 2 ^ n) rest ∙ omega (arith, first_one, ones_are_items known (bits - 2 ^ n) rest)
+      ∙ sym (ap length (put_in first known bits more high)))
 ]

@@ -11,7 +11,7 @@ use Rattle.basket_lists.specs.declared.packed.Packed.{Packed}
 use Rattle.basket_lists.specs.declared.places.TheConstants.{NOWHERE}
 use Rattle.basket_lists.specs.CountedSets.{set_at}
 use Rattle.basket_lists.specs.Known.{IsRestOf}
-use Rattle.basket_lists.specs.Packed.{HasBits, items_in, unpacked}
+use Rattle.basket_lists.specs.Packed.{HasBits, count_bits, items_in, unpacked}
 use Rattle.basket_lists.specs.Without.{ArePlacesWithout, IsLongerBy, IsPlaceWithout}
 use Rattle.basket_lists.proofs.PackedLemmas.{HasMore, bit_is_set, highest, items_in-few, items_in-rises, items_in-same, items_in-zero, lower_bits, lower_power, moved_low, moved_rest, one_more, small, with_first, with_later}
 use Rattle.basket_sets.specs.declared.counted.Counted.{Counted}
@@ -110,10 +110,10 @@ module _ (known : List ℕ) (word count rest bit : ℕ) (up : IsRising known) (f
   }
 
   -- where the word without that bit stands, the set stands without its next item
-  stands_without : (words : List Packed) (place : ℕ) → (place ≢ NOWHERE → HasBits words place (bit_xor word (2 ^ bit)))
+  stands_without : (words : List Packed) (place : ℕ) → (place ≢ NOWHERE → HasBits (count_bits known) words place (bit_xor word (2 ^ bit)))
       → IsPlaceWithout (map (unpacked known) words) (items_in known word) (get_or (items_in known word) count 0) place
   stands_without words place has said =
-      let none : Packed = record { bits = 0; size = 0; count = 0 } in
+      let none : Packed = record { word = 0 } in
       let nothing : Counted = record { set = []; count = 0 } in
       let at = has said none in
       let there : get_or (map (unpacked known) words) place nothing ≡ unpacked known (get_or words place none) = get_or-map (unpacked known) words place none nothing at.0 in
@@ -167,7 +167,7 @@ module _ (known : List ℕ) (word count half bit place : ℕ) (up : IsRising kno
   rest_after = subst (IsRestOf known word (count + 1)) (both_rest half bit place (word % 2 ^ place) low high less)
       (next known word count (half * 2 ^ place + word % 2 ^ place) (bit + place) up few below is from_low from_high)
 
-  pub found_without : (words : List Packed) (found : ℕ) → (found ≢ NOWHERE → HasBits words found (bit_xor word (2 ^ (bit + place))))
+  pub found_without : (words : List Packed) (found : ℕ) → (found ≢ NOWHERE → HasBits (count_bits known) words found (bit_xor word (2 ^ (bit + place))))
       → IsPlaceWithout (map (unpacked known) words) (items_in known word) (get_or (items_in known word) count 0) found
   found_without = stands_without known word count (half * 2 ^ place + word % 2 ^ place) (bit + place) up few below is from_low from_high
 

@@ -1,16 +1,17 @@
 -- The known items, and the bits that they have.
-use Rattle.std.specs.Prelude.{◌≡◌, ◌≤◌, ◌<◌, ◌+◌, ◌^◌, ℕ, List, drop, length, slice_index}
+use Rattle.std.specs.Prelude.{◌≡◌, ◌≤◌, ◌<◌, ◌-◌, ◌^◌, ℕ, List, drop, length, slice_index}
 use Rattle.std.specs.Int.{bit_at}
 use Rattle.basket_lists.specs.declared.packed.Packed.{Packed}
-use Rattle.basket_lists.specs.Packed.{IsPacked, items_in, unpacked}
+use Rattle.basket_lists.specs.Packed.{IsPacked, count_of, items_in, unpacked}
 use Rattle.basket_lists.specs.declared.known.TheConstants.{MOST_ITEMS}
 use Rattle.basket_sets.specs.Itemset.{IsRising, with_item}
 
--- the bit of an item: as many known items as its number stand behind the item
+-- the bit of an item in a word: the first item has the highest
 pub record IsBitOf (known : List ℕ) (item bit : ℕ) : Type 0 where
   pub place : ℕ
   pub is : slice_index known place ≡ item
-  pub behind : bit + (place + 1) ≡ length known
+  pub within : place < length known
+  pub power : bit ≡ 2 ^ (127 - place)
   pub few : length known ≤ MOST_ITEMS
   pub rises : IsRising known
 
@@ -18,7 +19,7 @@ pub record IsBitOf (known : List ℕ) (item bit : ℕ) : Type 0 where
 pub record IsLonger (known : List ℕ) (packed : Packed) (item count : ℕ) (longer : Packed) : Type 0 where
   pub is : IsPacked known longer
   pub set : (unpacked known longer).set ≡ with_item item (unpacked known packed).set
-  pub counted : longer.count ≡ count
+  pub counted : count_of known longer ≡ count
 
 -- the lower bits of a word, without those of so many items
 pub record IsRestOf (known : List ℕ) (word count rest : ℕ) : Type 0 where

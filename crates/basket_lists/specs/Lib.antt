@@ -1,4 +1,3 @@
-pub mod Word
 pub mod Packed
 pub mod Known
 pub mod Plain

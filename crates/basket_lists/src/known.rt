@@ -1,11 +1,11 @@
 //! The items that sets are known to have.
-ghost use Rattle.std.specs.Prelude.{◌≡◌, ◌<◌, ◌≤◌, ◌+◌, ◌*◌, ◌++◌, ◌^◌, ◌/◌, ◌%◌, [], IfSome, IsTrue, drop, length, map, slice_index_or, take};
+ghost use Rattle.std.specs.Prelude.{◌≡◌, ◌<◌, ◌≤◌, ◌+◌, ◌-◌, ◌*◌, ◌++◌, ◌^◌, ◌/◌, ◌%◌, [], IfSome, IsTrue, drop, length, map, slice_index_or, take};
 ghost use Rattle.basket_lists.specs.Known.{IsBitOf, IsLonger, IsRestOf};
 ghost use Rattle.basket_lists.specs.Without.{ArePlacesWithout};
-ghost use Rattle.basket_lists.specs.Packed.{IsPacked, items_in, unpacked};
+ghost use Rattle.basket_lists.specs.Packed.{IsPacked, bits_of, count_bits, count_of, items_in, items_mask, unpacked};
 ghost use Rattle.basket_sets.specs.Itemset.{AllBelow, rising};
 
-use crate::packed::{Packed, WORD, find_bits};
+use crate::packed::{Packed, WORD, bits_hash, find_bits};
 use crate::places::Places;
 use basket_sets::{Itemset, is_rising};
 use std::alloc::{AllocError, Global};
@@ -21,20 +21,31 @@ const PLACES: usize = 256;
 #[derive(Debug, Drop)]
 pub struct KnownItems {
     items: Vec<u32>,
+    /// The highest bits of a word, one for each item. Those below are the count.
+    mask: u128,
     /// Where an item may stand, by its low bits. Nothing is claimed of it: whoever asks looks there.
     places: [u8; PLACES],
 }
 
 impl Model for KnownItems {
-    ghost use Rattle.std.specs.Prelude.{ℕ, List, ◌≤◌, length};
+    ghost use Rattle.std.specs.Prelude.{ℕ, List, ◌≡◌, ◌≤◌, length};
     ghost use Rattle.basket_lists.specs.declared.known.TheConstants.{MOST_ITEMS};
+    ghost use Rattle.basket_lists.specs.Packed.{items_mask};
     ghost use Rattle.basket_sets.specs.Itemset.{IsRising};
 
     ghost Value = { List ℕ };
 
     ghost view = { λ known. known.items.items };
 
-    ghost invariant = { λ known. IsRising known.items.items × (length known.items.items ≤ MOST_ITEMS) };
+    ghost invariant = { λ known. IsRising known.items.items × (length known.items.items ≤ MOST_ITEMS) × (known.mask ≡ items_mask known.items.items) };
+}
+
+/// The highest bits of a word, so many as there are items.
+fn mask_of(items: &[u32]) -> u128
+    requires { length items.now ≤ MOST_ITEMS }
+    ensures { result ≡ items_mask items.now }
+{
+    !(u128::MAX >> items.len() as u32)
 }
 
 /// The place of each item by its low bits, or that of the last with these bits.
@@ -48,6 +59,13 @@ fn places_of(items: &[u32]) -> [u8; PLACES]
     places
 }
 
+/// Whether a count fits below the bits of the items.
+fn has_room(mask: u128, count: u64) -> bool
+    ensures { IsTrue result → count + mask < 2 ^ 128 }
+{
+    u128::from(count) <= !mask
+}
+
 impl KnownItems {
     /// No items.
     pub fn none(alloc: Global) -> Self
@@ -55,22 +73,29 @@ impl KnownItems {
     {
         KnownItems {
             items: Vec::new(alloc),
+            mask: 0,
             places: [0u8; PLACES],
         }
     }
 
-    /// The items, which come in any order, or none where they are too many or one comes twice.
-    pub fn of(alloc: Global, items: &[u32]) -> Result<Self, AllocError> {
+    /// The items, which come in any order, or none where they are too many, one comes twice, or the
+    /// greatest count doesn't fit beside them.
+    pub fn of(alloc: Global, items: &[u32], most: u64) -> Result<Self, AllocError> {
         if items.len() > MOST_ITEMS {
             return Ok(KnownItems::none(alloc));
         }
         let mut items = items.to_vec(alloc)?;
         items.sort_unstable();
-        if !is_rising(&items) {
+        let mask = mask_of(&items);
+        if !is_rising(&items) || !has_room(mask, most) {
             return Ok(KnownItems::none(alloc));
         }
         let places = places_of(&items);
-        Ok(KnownItems { items, places })
+        Ok(KnownItems {
+            items,
+            mask,
+            places,
+        })
     }
 
     /// The greatest item, or 0.
@@ -85,12 +110,60 @@ impl KnownItems {
         self.items == other.items
     }
 
-    /// The bit of an item, if it is known.
-    fn bit_of(&self, item: u32) -> Option<u32>
+    /// The highest bits of a word, one for each item.
+    pub fn mask(&self) -> u128
+        ensures { result ≡ items_mask self.now }
+    {
+        self.mask
+    }
+
+    /// How many bits of a word are those of the count.
+    fn count_bits(&self) -> u32
+        ensures { result ≡ count_bits self.now }
+    {
+        u128::BITS - self.items.len() as u32
+    }
+
+    /// The bits of the items of a packed set.
+    fn bits(&self, packed: &Packed) -> u128
+        requires { IsPacked self.now packed.now }
+        ensures value { result ≡ bits_of self.now packed.now }
+        ensures below { result < 2 ^ length self.now }
+    {
+        packed.bits(self.count_bits())
+    }
+
+    /// The count of a packed set.
+    pub fn count(&self, packed: &Packed) -> u64
+        requires { IsPacked self.now packed.now }
+        ensures { result ≡ count_of self.now packed.now }
+    {
+        (packed.word & !self.mask()) as u64
+    }
+
+    /// How many items a packed set has.
+    pub fn size(&self, packed: &Packed) -> usize
+        requires { IsPacked self.now packed.now }
+        ensures { result ≡ length (items_in self.now (bits_of self.now packed.now)) }
+    {
+        (packed.word & self.mask()).count_ones() as usize
+    }
+
+    /// The hash of a packed set, whatever its count is.
+    pub fn hash(&self, packed: &Packed) -> u64
+        requires { IsPacked self.now packed.now }
+    {
+        bits_hash(self.bits(packed))
+    }
+
+    /// The bit of an item in a word, if it is known.
+    fn bit_of(&self, item: u32) -> Option<u128>
         ensures { IfSome result (IsBitOf self.now item) }
     {
+        // Nothing is read here: it brings what holds of the items.
+        let _ = &self.items;
         let place = self.place_of(item)?;
-        Some((self.items.len() - 1 - place) as u32)
+        Some(1 << (127 - place as u32))
     }
 
     /// Where an item stands, if it is known.
@@ -106,17 +179,32 @@ impl KnownItems {
     }
 
     /// A packed set with one more item and a count of its own, or none where the item isn't known, or
-    /// is in the set.
+    /// is in the set, or the count doesn't fit.
     pub fn longer(&self, packed: &Packed, item: u32, count: u64) -> Option<Packed>
         requires { IsPacked self.now packed.now }
         ensures { IfSome result (IsLonger self.now packed.now item count) }
     {
         let bit = self.bit_of(item)?;
-        let bits = packed.bits();
-        if (bits >> bit) % 2 == 1 {
+        let mask = self.mask();
+        if packed.word & bit != 0 || !has_room(mask, count) {
             return None;
         }
-        Some(Packed::new(bits | (1 << bit), packed.size() + 1, count))
+        Some(Packed {
+            word: (packed.word & mask) + bit + u128::from(count),
+        })
+    }
+
+    /// The set without items, or none where no item is known, or the count doesn't fit.
+    fn no_items(&self, count: u64) -> Option<Packed>
+        ensures packed { IfSome result (IsPacked self.now) }
+        ensures same { IfSome result (λ packed. unpacked self.now packed ≡ record { set = []; count = count }) }
+    {
+        if self.items.is_empty() || !has_room(self.mask(), count) {
+            return None;
+        }
+        Some(Packed {
+            word: u128::from(count),
+        })
     }
 
     /// A set as bits, if its items are known.
@@ -124,7 +212,7 @@ impl KnownItems {
         ensures packed { IfSome result (IsPacked self.now) }
         ensures same { IfSome result (λ packed. unpacked self.now packed ≡ record { set = set.now; count = count }) }
     {
-        let mut packed = Packed::new(0, 0, count);
+        let mut packed = self.no_items(count)?;
         for item in set.items() {
             packed = self.longer(&packed, *item, count)?;
         }
@@ -139,7 +227,7 @@ impl KnownItems {
         ensures same { IfSome result (λ packed. unpacked self.now packed
             ≡ record { set = rising (map (λ number. slice_index_or names.now number 0) numbers.now); count = count }) }
     {
-        let mut packed = Packed::new(0, 0, count);
+        let mut packed = self.no_items(count)?;
         let items = numbers.items();
         let mut left = items.len();
         while left > 0 {
@@ -152,12 +240,13 @@ impl KnownItems {
     /// Puts the items of a packed set, which rise, to the front of the room, and answers how many they
     /// are.
     pub fn put(&self, packed: &Packed, room: &mut [u32; MOST_ITEMS]) -> usize
-        requires { packed.now.bits < 2 ^ length self.now }
-        ensures items { take result room.new ≡ items_in self.now packed.now.bits }
+        requires { IsPacked self.now packed.now }
+        ensures items { take result room.new ≡ items_in self.now (bits_of self.now packed.now) }
         ensures within { result ≤ MOST_ITEMS }
     {
-        let count = put_bits(&self.items, packed.high_bits(), 64, room, 0);
-        put_bits(&self.items, packed.low_bits(), 0, room, count)
+        let bits = self.bits(packed);
+        let count = put_bits(&self.items, (bits / WORD) as u64, 64, room, 0);
+        put_bits(&self.items, (bits % WORD) as u64, 0, room, count)
     }
 
     /// Where the packed sets stand that are a packed set without one of its items, as far as the places
@@ -169,10 +258,10 @@ impl KnownItems {
         packed: &Packed,
         found: &mut [u32; MOST_ITEMS],
     )
-        requires { packed.now.bits < 2 ^ length self.now }
-        ensures { ArePlacesWithout (map (unpacked self.now) sets.now) (items_in self.now packed.now.bits) (length (items_in self.now packed.now.bits)) found.new }
+        requires { IsPacked self.now packed.now }
+        ensures { ArePlacesWithout (map (unpacked self.now) sets.now) (unpacked self.now packed.now).set (length (unpacked self.now packed.now).set) found.new }
     {
-        let bits = packed.bits();
+        let bits = self.bits(packed);
         let count = self.add_places(sets, places, bits, 64, found, 0);
         let _count = self.add_places(sets, places, bits, 0, found, count);
     }
@@ -189,6 +278,7 @@ impl KnownItems {
         found: &mut [u32; MOST_ITEMS],
         first: usize,
     ) -> usize
+        requires some { 0 < length self.now }
         requires bits { bits < 2 ^ length self.now }
         requires place { place ≤ 64 }
         requires rest { IsRestOf self.now bits first (bits / 2 ^ place % 2 ^ 64 * 2 ^ place + bits % 2 ^ place) }
@@ -198,11 +288,13 @@ impl KnownItems {
     {
         // Nothing is read here: it brings what holds of the items.
         let _ = &self.items;
+        let count_bits = self.count_bits();
         let mut rest = ((bits >> place) % WORD) as u64;
         let mut count = first;
         while rest != 0 {
             let one = 1u64 << rest.ilog2();
-            found[count] = find_bits(sets, places, bits ^ (u128::from(one) << place));
+            let shorter = bits ^ (u128::from(one) << place);
+            found[count] = find_bits(sets, places, shorter, count_bits);
             count += 1;
             rest -= one;
         }

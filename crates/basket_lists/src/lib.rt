@@ -1,5 +1,5 @@
-//! Lists of sets with their counts, each set kept as the bits of a word where its items are known
-//! beforehand, and their report order.
+//! Lists of sets with their counts, each kept in one word where its items are known beforehand, and
+//! their report order.
 #![tactic(auto)]
 
 mod counted_sets;

@@ -82,7 +82,7 @@ impl Found {
         requires counts { self.counts.items ≡ map (support_of coded.now.baskets) self.sets.items }
         ensures { IfOk result (λ decoded. decoded ≡ map (λ set. decoded_set coded.now.items (counted coded.now.baskets set)) self.sets.items) }
     {
-        let mut decoded = CountedSets::new(alloc, coded.items())?;
+        let mut decoded = CountedSets::new(alloc, coded.items(), coded.total())?;
         for (place, set) in self.sets.iter().enumerate() {
             decoded.push_renamed(alloc, set, coded.items(), self.counts[place])?;
         }

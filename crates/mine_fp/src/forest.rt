@@ -111,7 +111,7 @@ pub fn fp_class<T: Tally>(
     let _limit = tally.limit();
     let _baskets = forest.coded.baskets();
     let mut tables = Tables::new(alloc, forest.level.paths.ranks())?;
-    let sets = CountedSets::new(alloc, forest.coded.items())?;
+    let sets = CountedSets::new(alloc, forest.coded.items(), forest.coded.total())?;
     let mut found = Found { sets, trees: 0 };
     forest
         .level

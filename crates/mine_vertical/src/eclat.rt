@@ -43,7 +43,7 @@ pub fn eclat_class<R: Row, T: Tally>(
     classes_are_conditional();
     rare_ranks_have_no_class();
     let coded = vertical.coded();
-    let mut mined = Mined::new(alloc, coded.items())?;
+    let mut mined = Mined::new(alloc, coded.items(), coded.total())?;
     let least = vertical.least();
     let runs = vertical.runs();
     let support = support_of_rank(runs, rank);

@@ -15,13 +15,13 @@ pub struct Mined {
 }
 
 impl Mined {
-    /// Nothing yet, where sets of the items are to come.
-    pub fn new(alloc: Global, items: &[u32]) -> Result<Self, AllocError>
+    /// Nothing yet, where sets of the items are to come, with counts up to the greatest.
+    pub fn new(alloc: Global, items: &[u32], most: u64) -> Result<Self, AllocError>
         ensures sets { IfOk result (λ mined. mined.sets ≡ []) }
         ensures joins { IfOk result (λ mined. mined.joins ≡ 0) }
     {
         Ok(Mined {
-            sets: CountedSets::new(alloc, items)?,
+            sets: CountedSets::new(alloc, items, most)?,
             joins: 0,
         })
     }

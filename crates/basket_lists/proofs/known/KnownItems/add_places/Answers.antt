@@ -3,7 +3,7 @@ use Rattle.std.specs.Prelude.{bit_xor}
 use Rattle.std.proofs.lemmas.Nat.{one_shl}
 use Rattle.basket_lists.specs.declared.places.TheConstants.{NOWHERE}
 use Rattle.basket_lists.specs.Known.{IsRestOf}
-use Rattle.basket_lists.specs.Packed.{HasBits}
+use Rattle.basket_lists.specs.Packed.{HasBits, count_bits}
 use Rattle.basket_lists.proofs.WithoutLemmas.{found_without, item_inside, moved_one, places_more, rest_after}
 use Rattle.basket_sets.specs.Itemset.{IsRising}
 use Rattle.basket_lists.proofs.known.KnownItems.add_places.Goals as goal
@@ -54,7 +54,8 @@ loop-rest-preserved c =
     let shifted : 1 * 2 ^ bit % 2 ^ 64 ≡ 2 ^ bit = one_shl bit 64 c.ilog2.ensures.bound in
     let moved : c.from.result * 2 ^ place % 2 ^ 128 ≡ 2 ^ (bit + place) = ap (λ b. b * 2 ^ place % 2 ^ 128) c.from.ensures ∙ moved_one bit place c.ilog2.ensures.bound c.requires.place in
     let full : length c.loop-rest.found ≡ 120 = search rules in
-    let found = subst (λ b. c.find_bits.result ≢ NOWHERE → HasBits c.args.sets.now c.find_bits.result (bit_xor bits b)) moved c.find_bits.ensures in
+    let all = subst (λ n. c.find_bits.result ≢ NOWHERE → HasBits n c.args.sets.now c.find_bits.result (bit_xor bits (c.from.result * 2 ^ place % 2 ^ 128))) c.count_bits-count_bits.ensures c.find_bits.ensures in
+    let found = subst (λ b. c.find_bits.result ≢ NOWHERE → HasBits (count_bits known) c.args.sets.now c.find_bits.result (bit_xor bits b)) moved all in
     record {
       rest = subst (λ b. IsRestOf known bits (count + 1) ((rest - b) * 2 ^ place + bits % 2 ^ place)) (sym shifted) (rest_after known bits count rest bit place up most c.requires.bits was.rest low high);
       found = places_more _ _ c.loop-rest.found count c.find_bits.result was.found (omega (arith, full, item_inside known bits count rest bit place up most c.requires.bits was.rest low high))

@@ -1,30 +1,26 @@
 use Rattle.std.proofs.Common.{◌≡◌, ◌<◌, [], length, get_or, refl, sym, ap, ◌∙◌, subst, arith}
-use Rattle.std.proofs.lemmas.Nat.{pow_pos}
 use Rattle.std.proofs.lemmas.List.{take_all}
-use Rattle.basket_lists.specs.declared.packed.Packed.{Packed}
-use Rattle.basket_lists.specs.Packed.{IsPacked, items_in}
+use Rattle.basket_lists.specs.Packed.{bits_of, items_in}
+use Rattle.basket_sets.specs.declared.counted.Counted.{Counted}
 use Rattle.basket_sets.specs.Itemset.{with_item}
-use Rattle.basket_lists.proofs.PackedLemmas.{items_in-zero, with_next}
+use Rattle.basket_lists.proofs.PackedLemmas.{with_next}
 use Rattle.basket_lists.proofs.known.KnownItems.pack.Goals as goal
 
 pub loop-item-init : goal.loop-item-init
-loop-item-init c =
-    let known = c.args.self.now in
-    subst (λ (word : Packed). IsPacked known word × (items_in known word.bits ≡ []) × (word.count ≡ c.args.count)) (sym c.new-packed.ensures)
-    (record { below = pow_pos (length known); size = sym (ap length (items_in-zero known)) }, items_in-zero known, refl)
+loop-item-init c = (c.in_ok-packed.ensures.packed, ap (λ (one : Counted). one.set) c.in_ok-packed.ensures.same, ap (λ (one : Counted). one.count) c.in_ok-packed.ensures.same)
 
 pub longer-requires : goal.longer-requires
 longer-requires c = c.loop-item.invariant.0
 
 pub loop-item-preserved : goal.loop-item-preserved
 loop-item-preserved c =
-    let longer = c.in_ok-packed.ensures in
+    let longer = c.in_ok-packed-2.ensures in
     let set = c.args.set.now in
     let i = c.loop-item.item-index in
     let same = c.items-item-items.ensures.items in
     let inside = subst (λ items. i < length items) same c.loop-item-test.true in (
       longer.is,
-      longer.set ∙ ap (λ items. with_item (get_or items i 0) (items_in c.args.self.now c.loop-item.packed.bits)) same ∙ ap (with_item (get_or set i 0)) c.loop-item.invariant.1
+      longer.set ∙ ap (λ items. with_item (get_or items i 0) (items_in c.args.self.now (bits_of c.args.self.now c.loop-item.packed))) same ∙ ap (with_item (get_or set i 0)) c.loop-item.invariant.1
           ∙ with_next set i c.items-item-items.ensures.rising inside,
       longer.counted,
     )

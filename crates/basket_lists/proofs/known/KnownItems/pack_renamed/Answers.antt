@@ -1,12 +1,10 @@
 use Rattle.std.proofs.Common.{◌≡◌, ◌<◌, ◌≤◌, ◌+◌, ◌-◌, [], ℕ, List, drop, length, map, slice_index_or, get_or, refl, sym, ap, ◌∙◌, subst, arith}
-use Rattle.std.proofs.lemmas.Nat.{pow_pos}
 use Rattle.std.proofs.lemmas.List.{drop_more}
 use Rattle.std.proofs.Math.Seq.{drop-length}
-use Rattle.basket_lists.specs.declared.packed.Packed.{Packed}
-use Rattle.basket_lists.specs.Packed.{IsPacked, items_in}
+use Rattle.basket_lists.specs.Packed.{bits_of, items_in}
+use Rattle.basket_sets.specs.declared.counted.Counted.{Counted}
 use Rattle.basket_sets.specs.Itemset.{rising, with_item}
 use Rattle.basket_sets.proofs.theory.Rising.{has_place}
-use Rattle.basket_lists.proofs.PackedLemmas.{items_in-zero}
 use Rattle.basket_lists.proofs.known.KnownItems.pack_renamed.Goals as goal
 
 -- the set of the names of some numbers
@@ -20,8 +18,7 @@ loop-left-init c =
     let same = c.items-items.ensures.items in
     let none : named c.args.names.now (drop (length c.items-items.result.now) numbers) ≡ [] =
     ap (λ l. named c.args.names.now (drop (length l) numbers)) same ∙ ap (named c.args.names.now) (drop-length numbers) in
-    subst (λ (word : Packed). IsPacked known word × (items_in known word.bits ≡ named c.args.names.now (drop (length c.items-items.result.now) numbers)) × (word.count ≡ c.args.count) × (length c.items-items.result.now ≤ length numbers)) (sym c.new-packed.ensures)
-    (record { below = pow_pos (length known); size = sym (ap length (items_in-zero known)) }, items_in-zero known ∙ sym none, refl, omega (arith, ap length same))
+    (c.in_ok-packed.ensures.packed, ap (λ (one : Counted). one.set) c.in_ok-packed.ensures.same ∙ sym none, ap (λ (one : Counted). one.count) c.in_ok-packed.ensures.same, omega (arith, ap length same))
 
 pub bounds-names-items : goal.bounds-names-items
 bounds-names-items c =
@@ -40,14 +37,14 @@ loop-left-preserved c =
     let numbers = c.args.numbers.now in
     let names = c.args.names.now in
     let left = c.loop-left.left in
-    let longer = c.in_ok-packed.ensures in
+    let longer = c.in_ok-packed-2.ensures in
     let same = c.items-items.ensures.items in
     let inside : left - 1 < length numbers = omega (arith, c.loop-left.invariant.3, c.loop-left-test.true) in
     let next : left - 1 + 1 ≡ left = omega (arith, c.loop-left-test.true) in
     let more : named names (drop (left - 1) numbers) ≡ with_item (get_or names (get_or numbers (left - 1) 0) 0) (named names (drop left numbers)) =
     ap (named names) (drop_more numbers (left - 1) 0 inside) ∙ ap (λ n. with_item (get_or names (get_or numbers (left - 1) 0) 0) (named names (drop n numbers))) next in (
       longer.is,
-      longer.set ∙ ap (λ items. with_item (get_or names (get_or items (left - 1) 0) 0) (items_in known c.loop-left.packed.bits)) same
+      longer.set ∙ ap (λ items. with_item (get_or names (get_or items (left - 1) 0) 0) (items_in known (bits_of known c.loop-left.packed))) same
           ∙ ap (with_item (get_or names (get_or numbers (left - 1) 0) 0)) c.loop-left.invariant.1 ∙ sym more,
       longer.counted,
       omega (arith, c.loop-left.invariant.3),

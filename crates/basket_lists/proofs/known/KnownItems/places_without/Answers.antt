@@ -11,5 +11,5 @@ returns c =
     let sets = map (unpacked known) c.args.sets.now in
     let found = c.add_places-count-2.new.found in
     let all : length (items_in known bits) ≤ c.add_places-count-2.result = all_found known bits c.add_places-count-2.result c.add_places-count-2.ensures.rest in
-    subst (λ b. ArePlacesWithout sets (items_in known b) (length (items_in known b)) found) c.bits-bits.ensures
+    subst (λ b. ArePlacesWithout sets (items_in known b) (length (items_in known b)) found) c.bits-bits.ensures.value
     (λ k less inside. c.add_places-count-2.ensures.found k (omega (arith, inside, all)) inside)
