@@ -9,6 +9,7 @@ use crate::unpacked::Unpacked;
 use basket_lists::CountedSets;
 use std::alloc::{AllocError, Global};
 use std::marker::Model;
+use std::thread::Threads;
 
 /// The frequent sets of a database and a minimum, in report order.
 #[derive(Debug, Drop)]
@@ -37,6 +38,25 @@ impl Frequent {
     {
         let mut sets = gathered(alloc, classes)?;
         sets.sort(alloc, coded.greatest_item())?;
+        Ok(Frequent {
+            sets,
+            total: coded.total(),
+        })
+    }
+
+    /// The same, put in order by so many threads at most.
+    pub fn of_classes_shared<R: Threads + Sync>(
+        rt: &R,
+        alloc: Global,
+        coded: &Coded,
+        classes: Vec<CountedSets>,
+        threads: u32,
+    ) -> Result<Self, AllocError>
+        requires { ListsOnce (baskets_of coded.now) coded.now.minimum (flat_map (λ class. class) classes.items) }
+        ensures { IfOk result (λ frequent. frequent ≡ listing_of coded.now) }
+    {
+        let mut sets = gathered(alloc, classes)?;
+        sets.sort_shared(rt, alloc, coded.greatest_item(), threads)?;
         Ok(Frequent {
             sets,
             total: coded.total(),
