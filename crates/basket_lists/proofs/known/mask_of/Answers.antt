@@ -1,4 +1,4 @@
-use Rattle.std.proofs.Common.{◌≡◌, ◌-◌, ◌/◌, ◌^◌, length, arith}
+use Rattle.std.proofs.Common.{◌-◌, length, arith}
 use Rattle.std.proofs.lemmas.Nat.{pow_pos}
 use Rattle.std.proofs.lemmas.Nat.Bits.{ones_shr}
 use Rattle.basket_lists.proofs.known.mask_of.Goals as goal

@@ -1,4 +1,4 @@
-use Rattle.std.proofs.Common.{◌≡◌, ◌≤◌, ◌-◌, ◌*◌, ◌%◌, ◌^◌, length, ap, subst, arith}
+use Rattle.std.proofs.Common.{◌-◌, length, ap, subst, arith}
 use Rattle.std.proofs.lemmas.Nat.{one_shl}
 use Rattle.basket_sets.specs.Itemset.{IsRising}
 use Rattle.basket_lists.proofs.known.KnownItems.bit_of.Goals as goal

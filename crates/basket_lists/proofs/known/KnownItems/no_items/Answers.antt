@@ -1,4 +1,4 @@
-use Rattle.std.proofs.Common.{◌≡◌, ◌<◌, ◌+◌, ◌^◌, [], refl, ap, ◌∙◌, arith}
+use Rattle.std.proofs.Common.{◌<◌, ◌+◌, ◌^◌, refl, ap, ◌∙◌, arith}
 use Rattle.basket_lists.specs.Packed.{items_mask, unpacked}
 use Rattle.basket_lists.proofs.WordLemmas.{counted_none}
 use Rattle.basket_lists.proofs.known.KnownItems.no_items.Goals as goal
