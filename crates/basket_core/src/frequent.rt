@@ -94,19 +94,19 @@ impl Frequent {
     }
 }
 
-/// The sets of the classes, one class after another. The first class isn't copied, and the room for
-/// the others is made when it is taken.
+/// The sets of the classes, one class after another. The first that has sets isn't copied, and the room
+/// for the others is made when it is taken.
 fn gathered(alloc: Global, classes: Vec<CountedSets>) -> Result<CountedSets, AllocError>
     ensures { IfOk result (λ sets. sets ≡ flat_map (λ class. class) classes.items) }
 {
     let count = count_sets(&classes);
     let mut sets = CountedSets::empty(alloc);
     for class in classes {
-        if sets.is_empty() {
+        if !sets.is_empty() {
+            sets.append(alloc, class)?;
+        } else if !class.is_empty() {
             sets = class;
             sets.reserve(count.saturating_sub(sets.len()))?;
-        } else {
-            sets.append(alloc, class)?;
         }
     }
     Ok(sets)

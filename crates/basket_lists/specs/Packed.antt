@@ -29,7 +29,7 @@ count_of known packed = packed.word % 2 ^ count_bits known
 abbrev pub unpacked : List ℕ → Packed → Counted
 unpacked known packed = record { set = items_in known (bits_of known packed); count = count_of known packed }
 
--- some items are known, and a word is kept, with a count of 64 bits
+-- a word of known items, of which there are some, whose count has up to 64 bits
 pub record IsPacked (known : List ℕ) (packed : Packed) : Type 0 where
   pub some : 0 < length known
   pub few : length known ≤ MOST_ITEMS

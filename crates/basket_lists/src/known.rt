@@ -2,7 +2,7 @@
 ghost use Rattle.std.specs.Prelude.{◌≡◌, ◌<◌, ◌≤◌, ◌+◌, ◌-◌, ◌*◌, ◌++◌, ◌^◌, ◌/◌, ◌%◌, [], IfSome, IsTrue, drop, length, map, slice_index_or, take};
 ghost use Rattle.basket_lists.specs.Known.{IsBitOf, IsLonger, IsRestOf};
 ghost use Rattle.basket_lists.specs.Without.{ArePlacesWithout};
-ghost use Rattle.basket_lists.specs.Packed.{IsPacked, bits_of, count_bits, count_of, items_in, items_mask, unpacked};
+ghost use Rattle.basket_lists.specs.Packed.{IsPacked, bits_of, count_bits, items_in, items_mask, unpacked};
 ghost use Rattle.basket_sets.specs.Itemset.{AllBelow, rising};
 
 use crate::packed::{Packed, WORD, bits_hash, find_bits};
@@ -17,7 +17,8 @@ pub const MOST_ITEMS: usize = 120;
 /// How many places are kept, each by the low bits of its item.
 const PLACES: usize = 256;
 
-/// Up to 120 items in rising order. None are known where there are more.
+/// Up to 120 items in rising order. None are known where there are more, or where a word has too few
+/// bits beside theirs for the counts.
 #[derive(Debug, Drop)]
 pub struct KnownItems {
     items: Vec<u32>,
@@ -136,7 +137,7 @@ impl KnownItems {
     /// The count of a packed set.
     pub fn count(&self, packed: &Packed) -> u64
         requires { IsPacked self.now packed.now }
-        ensures { result ≡ count_of self.now packed.now }
+        ensures { result ≡ (unpacked self.now packed.now).count }
     {
         (packed.word & !self.mask()) as u64
     }
@@ -144,7 +145,7 @@ impl KnownItems {
     /// How many items a packed set has.
     pub fn size(&self, packed: &Packed) -> usize
         requires { IsPacked self.now packed.now }
-        ensures { result ≡ length (items_in self.now (bits_of self.now packed.now)) }
+        ensures { result ≡ length (unpacked self.now packed.now).set }
     {
         (packed.word & self.mask()).count_ones() as usize
     }
@@ -207,7 +208,7 @@ impl KnownItems {
         })
     }
 
-    /// A set as bits, if its items are known.
+    /// A set as a word, or none where an item isn't known, or the count doesn't fit.
     pub fn pack(&self, set: &Itemset, count: u64) -> Option<Packed>
         ensures packed { IfSome result (IsPacked self.now) }
         ensures same { IfSome result (λ packed. unpacked self.now packed ≡ record { set = set.now; count = count }) }
@@ -219,8 +220,8 @@ impl KnownItems {
         Some(packed)
     }
 
-    /// The set of the names of some numbers as bits, if they are known and no two are one. The name of
-    /// a number stands at its place in the list.
+    /// The set of the names of some numbers as a word, or none where one isn't known, two are one, or the
+    /// count doesn't fit. The name of a number stands at its place in the list.
     pub fn pack_renamed(&self, numbers: &Itemset, names: &[u32], count: u64) -> Option<Packed>
         requires { AllBelow (length names.now) numbers.now }
         ensures packed { IfSome result (IsPacked self.now) }
@@ -241,7 +242,7 @@ impl KnownItems {
     /// are.
     pub fn put(&self, packed: &Packed, room: &mut [u32; MOST_ITEMS]) -> usize
         requires { IsPacked self.now packed.now }
-        ensures items { take result room.new ≡ items_in self.now (bits_of self.now packed.now) }
+        ensures items { take result room.new ≡ (unpacked self.now packed.now).set }
         ensures within { result ≤ MOST_ITEMS }
     {
         let bits = self.bits(packed);
