@@ -2,9 +2,10 @@
 ghost use Rattle.basket.specs.Classes.{IsJoins, IsTrees};
 
 use basket_core::{CountedSets, MineFault, Tally};
-use mine_fp::{Forest, fp_class};
+use mine_classes::Tables;
+use mine_fp::{Forest, fp_class_with};
 use mine_phases::ClassMiner;
-use mine_vertical::{Row, Vertical, eclat_class};
+use mine_vertical::{Row, Vertical, eclat_class_with};
 use std::alloc::Global;
 use std::marker::PhantomData;
 
@@ -23,10 +24,11 @@ impl<R: Row> ClassMiner for Joining<'_, R> {
     fn class<T: Tally>(
         &self,
         alloc: Global,
+        tables: &mut Tables,
         rank: u32,
         tally: &mut T,
     ) -> Result<(CountedSets, u64), MineFault> {
-        eclat_class::<R, T>(alloc, &self.vertical, rank, tally)
+        eclat_class_with::<R, T>(alloc, &self.vertical, tables, rank, tally)
     }
 }
 
@@ -42,9 +44,10 @@ impl ClassMiner for Growth<'_> {
     fn class<T: Tally>(
         &self,
         alloc: Global,
+        tables: &mut Tables,
         rank: u32,
         tally: &mut T,
     ) -> Result<(CountedSets, u64), MineFault> {
-        fp_class(alloc, &self.0, rank, tally)
+        fp_class_with(alloc, &self.0, tables, rank, tally)
     }
 }

@@ -3,8 +3,9 @@
 //! The class of a rank is the frequent sets whose greatest rank it is, and its conditional database
 //! is what a miner needs to find them. `list_baskets` puts baskets in order and merges equal ones, `runs`
 //! finds where each rank stands among them, `pairs` sums the supports of pairs from there, and
-//! `places` numbers the ranks anew that `conditional` keeps. Where they are few, `words` has the
-//! baskets as bits, which are sorted and merged faster than lists.
+//! `places` numbers the ranks anew that `conditional` keeps; both use `tables` again from rank to rank.
+//! Where the ranks are few, `words` has the baskets as bits, which are sorted and merged faster than
+//! lists.
 #![tactic(auto)]
 
 mod conditional;
@@ -19,6 +20,7 @@ mod run_lists;
 mod runs;
 mod short_words;
 mod span;
+mod tables;
 mod word_baskets;
 pub mod words;
 pub mod worked;
@@ -30,4 +32,5 @@ pub use pairs::{Sums, met_in_order};
 pub use places::Places;
 pub use runs::Runs;
 pub use span::Span;
+pub use tables::Tables;
 pub use word_baskets::WordBaskets;

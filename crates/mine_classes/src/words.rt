@@ -61,6 +61,15 @@ impl Word {
     }
 }
 
+/// How many bits the words have together, which is how much room a list of their ranks needs.
+pub fn ones_of(words: &[Word]) -> usize {
+    let mut ones = 0usize;
+    for word in words {
+        ones = ones.saturating_add(word.bits.count_ones() as usize);
+    }
+    ones
+}
+
 /// The bit of a rank.
 pub fn bit_of(rank: usize) -> u64
     requires { rank < WORD_RANKS }

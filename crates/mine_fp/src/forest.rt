@@ -1,5 +1,5 @@
 //! All coded baskets, for FP-growth.
-ghost use Rattle.std.specs.Prelude.{◌≡◌, ◌≤◌, ◌<◌, ◌+◌, ◌⊎◌, [], ◌∷◌, ℕ, List, Err, IfOk, IsTrue, false, length, map, slice_index};
+ghost use Rattle.std.specs.Prelude.{◌≡◌, ◌≤◌, ◌<◌, ◌+◌, ◌⊎◌, [], ◌∷◌, ℕ, List, Err, IfOk, IsTrue, OnOk, false, length, map, slice_index};
 ghost use Rattle.std.specs.List.{range_with_len};
 ghost use Rattle.basket_core.specs.declared.fault.MineFault.TheVariants.{TooMany};
 ghost use Rattle.basket_sets.specs.Support.{support_of};
@@ -8,12 +8,12 @@ ghost use Rattle.mine_classes.specs.Mined.{ListsClassItems, class_size};
 ghost use Rattle.mine_fp.specs.Trees.{class_trees};
 
 use crate::found::Found;
-use crate::level::{Level, Tables};
+use crate::level::Level;
 use crate::paths::{Paths, weight_of_rank};
 use basket_core::{Coded, CountedSets, MineFault, Tally};
 use mine_apriori::runs_with_pairs;
-use mine_classes::Runs;
 use mine_classes::laws::{classes_are_listed, deep_classes_are_large, lists_have_class_size};
+use mine_classes::{Runs, Tables};
 use std::alloc::{AllocError, Global};
 use std::marker::Model;
 
@@ -103,6 +103,33 @@ pub fn fp_class<T: Tally>(
     ensures at_most { T.told_of tally.new ≤ T.told_of tally.old + class_size forest.now rank }
     ensures limit { T.limit_of tally.new ≡ T.limit_of tally.old }
 {
+    let mut tables = Tables::new(alloc, forest.coded.ranks())?;
+    fp_class_with(alloc, forest, &mut tables, rank, tally)
+}
+
+/// The same with tables that are used again from class to class.
+pub fn fp_class_with<T: Tally>(
+    alloc: Global,
+    forest: &Forest<'_>,
+    tables: &mut Tables,
+    rank: u32,
+    tally: &mut T,
+) -> Result<(CountedSets, u64), MineFault>
+    requires rank { rank < length forest.now.items }
+    requires sums { tables.old.sums ≡ length forest.now.items }
+    requires places { tables.old.places ≡ length forest.now.items }
+    requires going { T.is_over tally.old ≡ false }
+    ensures listed { IfOk result (λ mined. ListsClassItems forest.now rank mined.0) }
+    ensures trees { IfOk result (λ mined. mined.1 ≡ class_trees forest.now rank) }
+    ensures told { IfOk result (λ mined. T.told_of tally.new ≡ T.told_of tally.old + length mined.0) }
+    ensures going_on { IfOk result (λ mined. T.is_over tally.new ≡ false) }
+    ensures too_many { (limit : ℕ) → result ≡ Err (TooMany limit) → (limit ≡ T.limit_of tally.old)
+        × (IsTrue (T.is_over tally.new) ⊎ (limit < class_size forest.now rank)) }
+    ensures at_most { T.told_of tally.new ≤ T.told_of tally.old + class_size forest.now rank }
+    ensures limit { T.limit_of tally.new ≡ T.limit_of tally.old }
+    ensures sums { OnOk result (tables.new.sums ≡ tables.old.sums) }
+    ensures places { OnOk result (tables.new.places ≡ tables.old.places) }
+{
     classes_are_listed();
     deep_classes_are_large();
     lists_have_class_size();
@@ -110,11 +137,8 @@ pub fn fp_class<T: Tally>(
     // that the baskets are a coding's.
     let _limit = tally.limit();
     let _baskets = forest.coded.baskets();
-    let mut tables = Tables::new(alloc, forest.level.paths.ranks())?;
     let sets = CountedSets::new(alloc, forest.coded.items(), forest.coded.total())?;
     let mut found = Found { sets, trees: 0 };
-    forest
-        .level
-        .class(alloc, rank, &mut tables, &mut found, tally)?;
+    forest.level.class(alloc, rank, tables, &mut found, tally)?;
     Ok((found.sets, found.trees))
 }

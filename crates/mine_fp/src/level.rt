@@ -19,31 +19,12 @@ use mine_classes::laws::{
     classes_are_all, classes_are_conditional, classes_are_listed, classes_by_codings,
     conditional_supports, lists_have_class_size, rare_ranks_have_no_class,
 };
-use mine_classes::{Places, Sums};
+use mine_classes::{Places, Tables};
 use std::alloc::{AllocError, Global};
 
 /// How many items a set has at most. A class with a set of one more has more sets than any limit, so
 /// that nothing goes deeper.
 const DEPTH: usize = 32;
-
-/// A place and a sum for each rank of a level, used again from rank to rank.
-#[derive(Debug, Drop)]
-pub struct Tables {
-    sums: Sums,
-    places: Places,
-}
-
-impl Tables {
-    pub fn new(alloc: Global, count: u32) -> Result<Self, AllocError>
-        ensures sums { IfOk result (λ tables. tables.sums ≡ count) }
-        ensures places { IfOk result (λ tables. tables.places ≡ count) }
-    {
-        Ok(Tables {
-            sums: Sums::new(alloc, count)?,
-            places: Places::new(alloc, count)?,
-        })
-    }
-}
 
 /// A conditional database: its baskets, and the item and the support of each of its ranks.
 #[derive(Debug, Drop)]

@@ -13,5 +13,5 @@ mod tree;
 mod words;
 pub mod worked;
 
-pub use forest::{Forest, fp_class};
+pub use forest::{Forest, fp_class, fp_class_with};
 pub use tree::FpTree;

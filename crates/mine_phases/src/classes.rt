@@ -17,6 +17,7 @@ use crate::joined::{Class, joined};
 use crate::placed::collected;
 use crate::share::{Share, by_workers, claim_piece};
 use basket_core::{Coded, CountedSets, Frequent, MineFault, Tally, shard};
+use mine_classes::Tables;
 use mine_classes::laws::{class_items_are_all, class_sizes_add_up, lists_have_class_size};
 use mine_round::{Round, RoundSeat};
 use std::alloc::Global;
@@ -138,8 +139,9 @@ impl<M: ClassMiner, G: Gate> Classes<'_, M, G> {
         lists_have_class_size();
         let (start, end) = shard(piece, self.pieces, self.ranks as usize);
         let mut classes = Vec::with_capacity(alloc, end - start)?;
+        let mut tables = Tables::new(alloc, self.ranks)?;
         for rank in start..end {
-            let class = self.miner.class(alloc, rank as u32, tally)?;
+            let class = self.miner.class(alloc, &mut tables, rank as u32, tally)?;
             classes.push_reserved(class);
         }
         Ok(classes)
@@ -218,5 +220,6 @@ pub fn mine_shared<R: Threads + Sync, G: Gate + Sync, M: ClassMiner + Sync + Dro
 {
     let (classes, work) = mined_classes(rt, alloc, coded, &miner, limit, cutting, gate)?;
     drop(miner);
-    Ok((Frequent::of_classes(alloc, coded, classes)?, work))
+    let list = Frequent::of_classes_shared(rt, alloc, coded, classes, cutting.workers)?;
+    Ok((list, work))
 }

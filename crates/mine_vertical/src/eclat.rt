@@ -11,6 +11,7 @@ use crate::search::Search;
 use crate::siblings::{class_siblings, support_of_rank};
 use crate::vertical::Vertical;
 use basket_core::{CountedSets, Itemset, MineFault, Tally};
+use mine_classes::Tables;
 use mine_classes::laws::{
     classes_are_conditional, conditional_supports, lists_have_class_size, rare_ranks_have_no_class,
     supports_settle_frequent,
@@ -37,6 +38,33 @@ pub fn eclat_class<R: Row, T: Tally>(
     ensures at_most { T.told_of tally.new ≤ T.told_of tally.old + class_size vertical.now rank }
     ensures limit { T.limit_of tally.new ≡ T.limit_of tally.old }
 {
+    let mut tables = Tables::new(alloc, vertical.coded().ranks())?;
+    eclat_class_with::<R, T>(alloc, vertical, &mut tables, rank, tally)
+}
+
+/// The same with tables that are used again from class to class.
+pub fn eclat_class_with<R: Row, T: Tally>(
+    alloc: Global,
+    vertical: &Vertical<'_>,
+    tables: &mut Tables,
+    rank: u32,
+    tally: &mut T,
+) -> Result<(CountedSets, u64), MineFault>
+    requires rank { rank < length vertical.now.items }
+    requires sums { tables.old.sums ≡ length vertical.now.items }
+    requires places { tables.old.places ≡ length vertical.now.items }
+    requires going { T.is_over tally.old ≡ false }
+    ensures listed { IfOk result (λ mined. ListsClassItems vertical.now rank mined.0) }
+    ensures joins { IfOk result (λ mined. RanksAreFrequent vertical.now → mined.1 ≡ class_joins vertical.now rank) }
+    ensures told { IfOk result (λ mined. T.told_of tally.new ≡ T.told_of tally.old + length mined.0) }
+    ensures going_on { IfOk result (λ mined. T.is_over tally.new ≡ false) }
+    ensures too_many { (limit : ℕ) → result ≡ Err (TooMany limit)
+        → (limit ≡ T.limit_of tally.old) × (IsTrue (T.is_over tally.new) ⊎ (limit < class_size vertical.now rank)) }
+    ensures at_most { T.told_of tally.new ≤ T.told_of tally.old + class_size vertical.now rank }
+    ensures limit { T.limit_of tally.new ≡ T.limit_of tally.old }
+    ensures sums { tables.new.sums ≡ tables.old.sums }
+    ensures places { tables.new.places ≡ tables.old.places }
+{
     lists_have_class_size();
     conditional_supports();
     supports_settle_frequent();
@@ -52,7 +80,7 @@ pub fn eclat_class<R: Row, T: Tally>(
     }
     let set = Itemset::from_items(alloc, &[coded.item(rank)])?;
     mined.add(set, support, tally)?;
-    let (weights, siblings) = class_siblings::<R>(alloc, runs, rank, least)?;
+    let (weights, siblings) = class_siblings::<R>(alloc, runs, tables, rank, least)?;
     // Each rank below is joined with the class's.
     mined.joins = u64::from(rank);
     let search = Search {

@@ -29,7 +29,7 @@ pub mod worked;
 pub use bit_rows::BitRow;
 pub use bits::and_count;
 pub use diffs::DiffList;
-pub use eclat::eclat_class;
+pub use eclat::{eclat_class, eclat_class_with};
 pub use marks::Marks;
 pub use row::Row;
 pub use tids::TidList;

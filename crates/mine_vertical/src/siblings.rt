@@ -19,25 +19,29 @@ use crate::row::Row;
 use crate::search::Sibling;
 use crate::weights::Weights;
 use mine_classes::laws::conditional_supports;
-use mine_classes::{Conditional, Places, Runs, Span, Sums};
+use mine_classes::{Conditional, Runs, Span, Tables};
 use std::alloc::{AllocError, Global};
 
 /// The conditional database of a rank, its baskets merged: each gets a place in the covers.
 fn conditional_of(
     alloc: Global,
     runs: &Runs,
+    tables: &mut Tables,
     rank: u32,
     least: u64,
 ) -> Result<Conditional, AllocError>
-    requires { rank < runs.now.ranks }
+    requires rank { rank < runs.now.ranks }
+    requires sums { tables.old.sums ≡ runs.now.ranks }
+    requires places { tables.old.places ≡ runs.now.ranks }
     ensures ranks { IfOk result (λ c. c.items ≡ kept_ranks runs.now.baskets least rank) }
     ensures coding { IfOk result IsCoding }
     ensures baskets { IfOk result (λ c. HaveSameWeights (conditional least runs.now.baskets rank) (baskets_of c)) }
+    ensures sums { tables.new.sums ≡ tables.old.sums }
+    ensures places { tables.new.places ≡ tables.old.places }
 {
-    let mut sums = Sums::new(alloc, runs.ranks())?;
-    let pairs = runs.pairs(alloc, &mut sums, rank, least)?;
-    let mut places = Places::new(alloc, runs.ranks())?;
-    let conditional = Conditional::of(alloc, runs, &mut places, rank, least, &pairs)?;
+    let pairs = runs.pairs(alloc, &mut tables.sums, rank, least)?;
+    let places = &mut tables.places;
+    let conditional = Conditional::of(alloc, runs, places, rank, least, &pairs)?;
     Ok(conditional.sorted(alloc)?)
 }
 
@@ -141,14 +145,19 @@ pub fn siblings_of<R: Row>(
 pub fn class_siblings<R: Row>(
     alloc: Global,
     runs: &Runs,
+    tables: &mut Tables,
     rank: u32,
     least: u64,
 ) -> Result<(Weights, Vec<Sibling<R>>), AllocError>
-    requires { rank < runs.now.ranks }
-    ensures { IfOk result (λ made. (baskets : List Basket) × AreClassSiblings R.stands runs.now.baskets least rank made.0 made.1.items baskets) }
+    requires rank { rank < runs.now.ranks }
+    requires sums { tables.old.sums ≡ runs.now.ranks }
+    requires places { tables.old.places ≡ runs.now.ranks }
+    ensures siblings { IfOk result (λ made. (baskets : List Basket) × AreClassSiblings R.stands runs.now.baskets least rank made.0 made.1.items baskets) }
+    ensures sums { tables.new.sums ≡ tables.old.sums }
+    ensures places { tables.new.places ≡ tables.old.places }
 {
     conditional_supports();
-    let conditional = conditional_of(alloc, runs, rank, least)?;
+    let conditional = conditional_of(alloc, runs, tables, rank, least)?;
     let kept = conditional.ranks().to_vec(alloc)?;
     let baskets = conditional.into_baskets(alloc)?;
     let (_, ranks, spans) = baskets.into_parts();

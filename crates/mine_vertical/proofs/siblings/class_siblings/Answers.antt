@@ -32,8 +32,8 @@ siblings_of-requires-clause-weights g c =
     c.in_ok-weights.ensures ∙ ap (map (λ (s : Span). s.weight)) c.deref.ensures.value ∙ sym (spans_weights ranks spans)
     ∙ sym (ap (λ r. weights_of (baskets_at r c.deref-4.result.now)) c.deref-3.ensures.value ∙ ap (λ s. weights_of (baskets_at ranks s)) c.deref-4.ensures.value)
 
-pub returns : goal.returns
-returns g c =
+pub returns-clause-siblings : goal.returns-clause-siblings
+returns-clause-siblings g c =
     let all = c.args.runs.now.baskets in
     let ranks = c.into_parts-ranks.result.1.items in
     let spans = c.into_parts-ranks.result.2.items in

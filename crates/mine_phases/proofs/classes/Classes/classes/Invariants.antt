@@ -6,6 +6,8 @@ use Rattle.mine_phases.proofs.classes.Classes.classes.Given as goal
 
 abbrev pub invariant-loop-rank : goal.invariant-loop-rank
 invariant-loop-rank g l = record {
+  sums : l.tables.sums ≡ l.self.ranks;
+  places : l.tables.places ≡ l.self.ranks;
   going : g.T.Tally.is_over l.tally ≡ false;
   limit : g.T.Tally.limit_of l.tally ≡ g.T.Tally.limit_of l.initial.tally;
   at : l.start + length l.classes.items ≡ l.rank;

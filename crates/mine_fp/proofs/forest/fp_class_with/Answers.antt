@@ -9,7 +9,7 @@ use Rattle.mine_fp.specs.Forest.{AreInForest}
 use Rattle.mine_fp.specs.Level.{as_items, items_of, missing, set_from, suffix_of}
 use Rattle.mine_fp.proofs.ForestLemmas.{class_deep, class_settled, class_sizes, decoded_items, trees_settled}
 use Rattle.mine_fp.proofs.SuffixLemmas.{suffix_of_none}
-use Rattle.mine_fp.proofs.forest.fp_class.Goals as goal
+use Rattle.mine_fp.proofs.forest.fp_class_with.Goals as goal
 
 pub returns-in_err-class-clause-too_many : goal.returns-in_err-class-clause-too_many
 returns-in_err-class-clause-too_many g c = λ limit e.

@@ -13,7 +13,7 @@ use Rattle.mine_vertical.specs.Siblings.{AreClassSiblings}
 use Rattle.mine_vertical.specs.Walk.{sets_below}
 use Rattle.mine_vertical.proofs.ClassLemmas.{rare_class, rare_rank, top, top_is, whole, whole_joins, whole_lists, whole_size}
 use Rattle.basket_lists.proofs.theory.Places.{set_added}
-use Rattle.mine_vertical.proofs.eclat.eclat_class.Goals as goal
+use Rattle.mine_vertical.proofs.eclat.eclat_class_with.Goals as goal
 
 pub returns-then-support-least-clause-listed : goal.returns-then-support-least-clause-listed
 returns-then-support-least-clause-listed g c =
@@ -76,7 +76,7 @@ extend-requires-clause-node g c =
     let least = c.least-least.result in
     let all = c.runs-runs.result.now.baskets in
     let enough : least ≤ support_of all (rank ∷ []) = omega (arith, c.if-support-least.false, c.support_of_rank-support.ensures) in
-    let (baskets, are) = c.in_ok-weights.ensures in
+    let (baskets, are) = c.in_ok-weights.ensures.siblings in
     let items = c.coded-coded.result.now.items in
     let set : c.in_ok-set.set ≡ decoded items (rank ∷ []) = c.in_ok-set.ensures.ok ∙ ap (λ item. rising (item ∷ [])) c.item.ensures in
     let known : rank < length items = omega (arith, c.requires.rank, ap (λ (k : Coding). length k.items) c.coded-coded.ensures.coded) in
@@ -93,7 +93,7 @@ returns-in_err-extend-clause-too_many g c = λ limit e.
     let least = c.least-least.result in
     let all = c.runs-runs.result.now.baskets in
     let enough : least ≤ support_of all (rank ∷ []) = omega (arith, c.if-support-least.false, c.support_of_rank-support.ensures) in
-    let (baskets, are) = c.in_ok-weights.ensures in
+    let (baskets, are) = c.in_ok-weights.ensures.siblings in
     let size = whole_size coding least all c.least-least.ensures c.runs-runs.ensures.weights c.conditional_supports.ensures c.supports_settle_frequent.ensures c.classes_are_conditional.ensures c.lists_have_class_size.ensures
     rank baskets are.same enough in
     let items = c.coded-coded.result.now.items in
@@ -118,7 +118,7 @@ returns-in_err-extend-clause-at_most g c =
     let least = c.least-least.result in
     let all = c.runs-runs.result.now.baskets in
     let enough : least ≤ support_of all (rank ∷ []) = omega (arith, c.if-support-least.false, c.support_of_rank-support.ensures) in
-    let (baskets, are) = c.in_ok-weights.ensures in
+    let (baskets, are) = c.in_ok-weights.ensures.siblings in
     let size = whole_size coding least all c.least-least.ensures c.runs-runs.ensures.weights c.conditional_supports.ensures c.supports_settle_frequent.ensures c.classes_are_conditional.ensures c.lists_have_class_size.ensures
     rank baskets are.same enough in
     let items = c.coded-coded.result.now.items in
@@ -137,7 +137,7 @@ returns-clause-at_most g c =
     let least = c.least-least.result in
     let all = c.runs-runs.result.now.baskets in
     let enough : least ≤ support_of all (rank ∷ []) = omega (arith, c.if-support-least.false, c.support_of_rank-support.ensures) in
-    let (baskets, are) = c.in_ok-weights.ensures in
+    let (baskets, are) = c.in_ok-weights.ensures.siblings in
     let size = whole_size coding least all c.least-least.ensures c.runs-runs.ensures.weights c.conditional_supports.ensures c.supports_settle_frequent.ensures c.classes_are_conditional.ensures c.lists_have_class_size.ensures
     rank baskets are.same enough in
     let items = c.coded-coded.result.now.items in
@@ -156,7 +156,7 @@ returns-clause-listed g c =
     let least = c.least-least.result in
     let all = c.runs-runs.result.now.baskets in
     let enough : least ≤ support_of all (rank ∷ []) = omega (arith, c.if-support-least.false, c.support_of_rank-support.ensures) in
-    let (baskets, are) = c.in_ok-weights.ensures in
+    let (baskets, are) = c.in_ok-weights.ensures.siblings in
     let items = c.coded-coded.result.now.items in
     let set : c.in_ok-set.set ≡ decoded items (rank ∷ []) = c.in_ok-set.ensures.ok ∙ ap (λ item. rising (item ∷ [])) c.item.ensures in
     let known : rank < length items = omega (arith, c.requires.rank, ap (λ (k : Coding). length k.items) c.coded-coded.ensures.coded) in
@@ -187,7 +187,7 @@ returns-clause-joins g c = λ each.
     let least = c.least-least.result in
     let all = c.runs-runs.result.now.baskets in
     let enough : least ≤ support_of all (rank ∷ []) = omega (arith, c.if-support-least.false, c.support_of_rank-support.ensures) in
-    let (baskets, are) = c.in_ok-weights.ensures in
+    let (baskets, are) = c.in_ok-weights.ensures.siblings in
     let items = c.coded-coded.result.now.items in
     let set : c.in_ok-set.set ≡ decoded items (rank ∷ []) = c.in_ok-set.ensures.ok ∙ ap (λ item. rising (item ∷ [])) c.item.ensures in
     let known : rank < length items = omega (arith, c.requires.rank, ap (λ (k : Coding). length k.items) c.coded-coded.ensures.coded) in

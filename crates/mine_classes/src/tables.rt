@@ -1,0 +1,26 @@
+//! What is used again from rank to rank.
+ghost use Rattle.std.specs.Prelude.{◌≡◌, IfOk};
+
+use crate::pairs::Sums;
+use crate::places::Places;
+use std::alloc::{AllocError, Global};
+
+/// A place and a sum for each rank of a level, used again from rank to rank.
+#[derive(Debug, Drop)]
+pub struct Tables {
+    pub sums: Sums,
+    pub places: Places,
+}
+
+impl Tables {
+    /// The tables for so many ranks.
+    pub fn new(alloc: Global, count: u32) -> Result<Self, AllocError>
+        ensures sums { IfOk result (λ tables. tables.sums ≡ count) }
+        ensures places { IfOk result (λ tables. tables.places ≡ count) }
+    {
+        Ok(Tables {
+            sums: Sums::new(alloc, count)?,
+            places: Places::new(alloc, count)?,
+        })
+    }
+}
