@@ -41,27 +41,20 @@ pub fn runs_with_pairs(alloc: Global, coded: &Coded) -> Result<Runs, AllocError>
     } else {
         Vec::new(alloc)
     };
-    runs_keeping(alloc, coded, lists, pairs)
+    Ok(runs_keeping(coded, Runs::of(alloc, lists)?, pairs))
 }
 
-/// The runs of the coded baskets, given so that those that begin alike stand together, equal ones merged.
-/// They keep the frequent pairs of each rank, or none where none are given.
-pub fn runs_keeping(
-    alloc: Global,
-    coded: &Coded,
-    lists: ListBaskets,
-    pairs: Vec<Vec<(u32, u64)>>,
-) -> Result<Runs, AllocError>
-    requires supports { (set : List ℕ) → support_of lists.baskets set ≡ support_of coded.now.baskets set }
+/// The runs of the coded baskets, which keep the frequent pairs of each rank, or none where none are
+/// given.
+pub fn runs_keeping(coded: &Coded, mut runs: Runs, pairs: Vec<Vec<(u32, u64)>>) -> Runs
+    requires supports { (set : List ℕ) → support_of runs.baskets set ≡ support_of coded.now.baskets set }
     requires pairs { 0 < length pairs.items → ArePairs coded.now (lists_of pairs.items) }
-    ensures { IfOk result (λ runs. runs ≡ lists) }
+    ensures { result ≡ runs }
 {
     // The baskets of a coding are light enough for a least support.
     let _ = coded.baskets();
-    let least = coded.minimum().least(coded.total());
-    let mut runs = Runs::of(alloc, lists)?;
-    runs.keep_pairs(pairs, least);
-    Ok(runs)
+    runs.keep_pairs(pairs, coded.minimum().least(coded.total()));
+    runs
 }
 
 /// Whether a miner that goes class by class has a count for each pair of ranks. The runs are made in any
