@@ -8,13 +8,14 @@ ghost use Rattle.basket_lists.specs.Without.{ArePlacesWithout, IsLongerBy, IsPla
 ghost use Rattle.basket_sets.specs.Itemset.{IsRising, with_item};
 ghost use Rattle.basket_sets.specs.Order.{report_order};
 
-use crate::keys::sort_places;
+use crate::keys::{sort_places, sort_places_shared};
 use crate::known::MOST_ITEMS;
 use crate::place::{Place, end_of, places_behind};
 use crate::places::{MOST_STEPS, NOWHERE, Places, item_hash, items_hash};
 use std::alloc::{AllocError, Global};
 use std::cmp::Ordering;
 use std::marker::Model;
+use std::thread::Threads;
 
 /// Sets with their counts. The items of all sets are one list.
 #[derive(Debug, Drop)]
@@ -186,6 +187,21 @@ impl PlainSets {
         sort_places(alloc, &mut self.places, &self.items, greatest)?;
         // The contract leaves the order of the sort open, since to see that it is found is cheap.
         Ok(self.is_in_order())
+    }
+
+    /// The same by so many threads at most.
+    pub fn sort_shared<R: Threads + Sync>(
+        &mut self,
+        rt: &R,
+        alloc: Global,
+        greatest: u32,
+        threads: u32,
+    ) -> bool
+        ensures permutation { IsPermutation self.old self.new }
+        ensures sorted { IsTrue result → IsSorted report_order (map (λ c. c.set) self.new) }
+    {
+        sort_places_shared(rt, alloc, &mut self.places, &self.items, greatest, threads);
+        self.is_in_order()
     }
 
     /// Whether the sets are in report order.
