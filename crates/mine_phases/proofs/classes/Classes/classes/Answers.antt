@@ -1,11 +1,22 @@
-use Rattle.std.proofs.Common.{◌≡◌, ◌<◌, ◌+◌, ◌-◌, ◌∷◌, [], ap, sym, ◌∙◌, subst, arith, length}
+use Rattle.std.proofs.Common.{◌≡◌, ◌<◌, ◌+◌, ◌-◌, ◌∷◌, [], Err, ap, sym, ◌∙◌, inl, inr, subst, arith, length}
 use Rattle.std.specs.List.{range_with_len, sum_by}
 use Rattle.std.proofs.lemmas.List.{length-append}
+use Rattle.std.proofs.lemmas.Result.{err_from_is_err_and}
 use Rattle.basket_core.specs.Codes.{Coding}
+use Rattle.basket_core.specs.declared.fault.MineFault.TheVariants.{TooMany}
 use Rattle.mine_classes.specs.Mined.{class_size}
 use Rattle.mine_phases.specs.Classes.{AreMined}
 use Rattle.mine_phases.proofs.Mining.{mined_next, ranks_are, sum_fits, sum_next}
 use Rattle.mine_phases.proofs.classes.Classes.classes.Goals as goal
+
+pub returns-in_err-class-clause-too_many : goal.returns-in_err-class-clause-too_many
+returns-in_err-class-clause-too_many g c = λ most e.
+    let coding : Coding = g.M.ClassMiner.coding_of c.args.self.now.miner.now in
+    let p = err_from_is_err_and c.from_residual-in_err-class.result c.from_residual-in_err-class.ensures.1 in
+    let fault : c.in_err-class.field-0.0 ≡ TooMany most = cc in
+    let (same, why) = c.in_err-class.ensures.too_many most (ap Err fault) in
+    let below : c.loop-rank.rank < length coding.items = omega (arith, c.loop-rank-test.true, c.shard-start.ensures.within.1, c.requires.ranks) in
+    (same ∙ c.loop-rank.invariant.limit, elim why [ inl over ↦ inl over | inr less ↦ inr (record { rank = c.loop-rank.rank; within = below; large = less }) ])
 
 pub returns-in_err-class-clause-at_most : goal.returns-in_err-class-clause-at_most
 returns-in_err-class-clause-at_most g c =
@@ -34,6 +45,8 @@ loop-rank-preserved g c =
     let same = ap (class_size coding) before.at in
     let next = ap (λ n. sum_by (class_size coding) (range_with_len low n)) long ∙ sum_next (class_size coding) low (length classes) in
     record {
+      sums = c.in_ok-class.ensures.sums ∙ before.sums;
+      places = c.in_ok-class.ensures.places ∙ before.places;
       going = c.in_ok-class.ensures.going_on;
       limit = c.in_ok-class.ensures.limit ∙ before.limit;
       at = omega (arith, long, before.at);
