@@ -7,7 +7,7 @@ ghost use Rattle.basket_sets.specs.Support.{total_of};
 ghost use Rattle.mine_phases.specs.Counting.{CountsParts, CountParts, IsCountShare};
 
 use crate::cutting::Cutting;
-use crate::gate::Gate;
+use crate::gate::{Gate, pass_alone};
 use crate::placed::collected;
 use crate::share::{Share, by_workers, claim_piece};
 use basket_core::{MineFault, Weighted, add_counts, count_items, shard};
@@ -89,7 +89,8 @@ fn add_up(alloc: Global, lists: &[Counts]) -> Result<Counts, AllocError>
 }
 
 /// The items of the baskets in rising order, each with its support, counted by so many workers over
-/// so many parts of the baskets. Only memory may be wanting.
+/// so many parts of the baskets. One worker has all parts, and needs no lists to be added up. Only memory
+/// may be wanting.
 pub fn count_shared<'a, R: Threads + Sync, G: Gate + Sync>(
     rt: &R,
     alloc: Global,
@@ -100,6 +101,10 @@ pub fn count_shared<'a, R: Threads + Sync, G: Gate + Sync>(
     requires light { total_of baskets.now ≤ MOST_WEIGHT }
     ensures counts { IfOk result (λ counts. counts.items ≡ item_supports baskets.now) }
 {
+    if cutting.workers == 1 {
+        pass_alone(gate, PHASE, cutting.pieces);
+        return count_items(alloc, baskets);
+    }
     let (round, seats) = Round::new(alloc, cutting.pieces, 0, cutting.workers)?;
     let counting = Counting {
         round: &round,

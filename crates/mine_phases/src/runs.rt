@@ -44,7 +44,10 @@ fn runs_beside_pairs<R: Threads + Sync>(
     coded: &Coded,
     lists: ListBaskets,
     cutting: Cutting,
-) -> (Result<Runs, AllocError>, Result<Vec<Vec<(u32, u64)>>, AllocError>)
+) -> (
+    Result<Runs, AllocError>,
+    Result<Vec<Vec<(u32, u64)>>, AllocError>,
+)
     ensures runs { IfOk result.0 (λ runs. runs ≡ lists) }
     ensures pairs { IfOk result.1 (λ pairs. ArePairs coded.now (lists_of pairs.items)) }
 {
