@@ -1,4 +1,5 @@
 pub mod Packed
+pub mod HalfWords
 pub mod Known
 pub mod Plain
 pub mod CountedSets

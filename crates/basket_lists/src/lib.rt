@@ -3,6 +3,7 @@
 #![tactic(auto)]
 
 mod counted_sets;
+mod half_words;
 mod halves;
 mod keys;
 mod known;

@@ -1,6 +1,7 @@
 mod ConditionalLemmas
 mod ClassLemmas
 mod TogetherLemmas
+mod EntryLemmas
 mod OrderedLemmas
 mod RunLemmas
 mod RunListLemmas

@@ -15,8 +15,9 @@ use Rattle.basket_sets.specs.Itemset.{IsRising, has}
 use Rattle.basket_sets.proofs.theory.Members.{Member, Contains-from_Member}
 use Rattle.basket_sets.proofs.theory.Rising.{Member-from_has, has-from_Member, cons_rises, first_below, nil_rises, rest_rises, same_rising}
 use Rattle.mine_classes.specs.declared.span.Span.{Span}
-use Rattle.mine_classes.specs.declared.list_baskets.Entry.{Entry}
-use Rattle.mine_classes.specs.ListBaskets.{AreRankBaskets, IsRankBasket, entry_place, entry_places}
+use Rattle.mine_classes.specs.declared.entries.Entry.{Entry}
+use Rattle.mine_classes.specs.Entries.{entry_place, entry_places}
+use Rattle.mine_classes.specs.ListBaskets.{AreRankBaskets, IsRankBasket}
 use Rattle.mine_classes.specs.Places.{ArePlaces, placed, places_in}
 use Rattle.mine_classes.specs.Span.{IsWithin, basket_at, baskets_at}
 use Rattle.mine_classes.proofs.OrderedLemmas.{pushed_basket}

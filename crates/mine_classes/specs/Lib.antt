@@ -2,6 +2,7 @@ pub mod Conditional
 pub mod Classes
 pub mod Span
 pub mod ListBaskets
+pub mod Entries
 pub mod Runs
 pub mod RunLists
 pub mod Pairs

@@ -11,7 +11,6 @@ use Rattle.basket_sets.specs.Counts.{AllBelow}
 use Rattle.basket_sets.specs.Database.{HasWeight, MOST_WEIGHT, weighted}
 use Rattle.basket_sets.specs.Itemset.{IsRising}
 use Rattle.basket_sets.specs.Support.{total_of}
-use Rattle.mine_classes.specs.declared.list_baskets.Entry.{Entry}
 
 -- a basket of ranks: they rise, and each is below a number of ranks
 pub record IsRankBasket (ranks : ℕ) (place : Weighted) : Type 0 where
@@ -68,17 +67,6 @@ with_basket places place = if repeats_last places place.basket then with_last_ra
 -- equal neighbours made one, with their weights added
 abbrev pub neighbours_merged : List Weighted → List Weighted
 neighbours_merged baskets = fold with_basket [] baskets
-
--- the baskets of some entries
-abbrev pub entry_place : Entry → Weighted
-entry_place entry = weighted entry.ranks.now entry.weight
-
-abbrev pub entry_places : List Entry → List Weighted
-entry_places entries = map entry_place entries
-
--- the order of entries: by their ranks, which is lexicographic, then by weight and key
-abbrev pub entry_order : Entry → Entry → Ordering
-entry_order a b = ordering_then (slice_cmp nat_cmp a.ranks.now b.ranks.now) (ordering_then (nat_cmp a.weight b.weight) (nat_cmp a.key b.key))
 
 -- each basket is lexicographically before the next, so no two are equal
 abbrev pub IsLexicographic : List Weighted → Type 0

@@ -9,6 +9,7 @@
 #![tactic(auto)]
 
 mod conditional;
+mod entries;
 mod form;
 mod found;
 pub mod laws;
