@@ -1,14 +1,15 @@
 -- Words of bits for places, and the baskets that they are.
-use Rattle.std.proofs.Common.{◌≡◌, ◌≢◌, ℕ, zero, suc, ◌+◌, ◌*◌, ◌-◌, ◌^◌, ◌<◌, ◌≤◌, Bool, true, false, ◌&&◌, ◌||◌, ◌⊎◌, List, [], ◌∷◌, ◌++◌, take, length, get_or, map, cond, eqb, refl, sym, ap, ◌∙◌, subst, inl, inr, arith, zero-add}
+use Rattle.std.proofs.Common.{◌≡◌, ◌≢◌, ℕ, zero, suc, ◌+◌, ◌*◌, ◌-◌, ◌^◌, ◌/◌, ◌%◌, ◌<◌, ◌≤◌, Bool, true, false, ◌&&◌, ◌||◌, ◌⊎◌, List, [], ◌∷◌, ◌++◌, take, length, get_or, map, cond, eqb, refl, sym, ap, ◌∙◌, subst, inl, inr, arith, zero-add}
 use Rattle.std.specs.Prelude.{bit_or, nat_eq, replicate}
-use Rattle.std.specs.Int.{bit_at}
+use Rattle.std.specs.Int.{bit_at, trailing_zeros, w64}
 use Rattle.std.specs.List.{IsDistinct, filter, list_all, range_with_len, sum_by}
 use Rattle.std.proofs.Math.ListN.{set}
-use Rattle.std.proofs.lemmas.Bool.{cases_Bool, cases_eq, eqb-true, eq-eqb, ne_eqb, true≢false}
+use Rattle.std.proofs.lemmas.Bool.{cases_Bool, cases_eq, cases_lt, eqb-true, eq-eqb, ne_eqb, true≢false}
 use Rattle.std.proofs.lemmas.List.{map-append}
 use Rattle.std.proofs.lemmas.List.FromFn.{get_or-map-range_with_len}
 use Rattle.std.proofs.lemmas.List.Sums.{sum_by-append, sum_by-cons}
-use Rattle.std.proofs.lemmas.Nat.Bits.{bit_at-pow_other, bit_at-pow_same, bit_at-zero}
+use Rattle.std.proofs.lemmas.Nat.{shr-shr, shr_le}
+use Rattle.std.proofs.lemmas.Nat.Bits.{bit_at-pow_other, bit_at-pow_same, bit_at-trailing_zeros, bit_at-zero, bit_at_above}
 use Rattle.std.proofs.lemmas.Simd.{bit_mask_l}
 use Rattle.basket_sets.specs.declared.weighted.Weighted.{Weighted}
 use Rattle.basket_sets.specs.declared.minimum.Minimum.TheVariants.{Count}
@@ -342,3 +343,34 @@ coded kept value up few as_many are = record {
   weights = λ k d here. (are.places k d here).weighs;
   light = are.light;
 }
+
+-- ---- the next bit
+
+-- a bit of a number without its lowest ones
+bit_of_rest : (number low bit : ℕ) → bit_at (number / 2 ^ low) bit ≡ bit_at number (low + bit)
+bit_of_rest number low bit = ap (λ n. n % 2) (shr-shr number low bit)
+
+-- a place of a word has no bit where what is left of the word from another place on has none for it
+pub no_bit : (words : List ℕ) (place other : ℕ) → place ≤ other → place % 64 + (other - place) < 64 → bit_at (get_or words (place / 64) 0 / 2 ^ (place % 64)) (other - place) ≡ 0
+    → has_bit (other % 64) (get_or words (other / 64) 0) ≡ false
+no_bit words place other behind within none =
+    let same : other / 64 ≡ place / 64 = omega arith in
+    let bit : other % 64 ≡ place % 64 + (other - place) = omega arith in
+    let word = get_or words (place / 64) 0 in
+    ap (λ k. has_bit (other % 64) (get_or words k 0)) same ∙ ap (λ b. has_bit b word) bit ∙ ap (λ n. eqb n 1) (sym (bit_of_rest word (place % 64) (other - place)) ∙ none)
+
+-- the lowest bit of what is left of a word is one of the word's
+pub lowest_within : (word low : ℕ) → word < 2 ^ 64 → 0 < word / 2 ^ low → low + trailing_zeros w64 (word / 2 ^ low) < 64
+lowest_within word low below some = elim (cases_lt (low + first) 64) [
+  | inl less ↦ less
+  | inr more ↦ absurd (let zero_is_one : 0 ≡ 1 = sym (bit_at_above word 64 (low + first) below more) ∙ sym (bit_of_rest word low first) ∙ lowest.1 in omega (arith, zero_is_one))
+]
+  where
+    rest : ℕ
+    rest = word / 2 ^ low
+
+    first : ℕ
+    first = trailing_zeros w64 rest
+
+    lowest : (first < 64) × (bit_at rest first ≡ 1) × ((i : ℕ) → i < first → bit_at rest i ≡ 0)
+    lowest = bit_at-trailing_zeros w64 rest some (let less = shr_le word low in omega (arith, less, below))

@@ -85,10 +85,12 @@ impl Row for BitRow {
     }
 
     fn add_bit(&self, words: &mut [u64], bit: u64) -> bool {
-        for place in 0..words.len() {
+        let mut place = 0;
+        while place < words.len() {
             if self.words.has(place) {
                 words[place] |= bit;
             }
+            place = self.words.next(place + 1);
         }
         true
     }
