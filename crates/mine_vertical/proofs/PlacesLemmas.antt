@@ -59,33 +59,6 @@ more_added cover i bit old now up here long below added = λ r low.
         or_false true = refl
         or_false false = refl
 
--- or not, where the place is not in the cover
-pub tested_more : (cover : List ℕ) (i bit : ℕ) (old now : List ℕ) (b : Bool) → has cover i ≡ b → i < length now
-    → ((place : ℕ) → place < i → get_or now place 0 ≡ cond (has cover place) (bit_or (get_or old place 0) bit) (get_or old place 0)) → get_or now i 0 ≡ get_or old i 0
-    → (place : ℕ) → place < i + 1 → get_or (cond b (set now i (bit_or (get_or now i 0) bit)) now) place 0 ≡ cond (has cover place) (bit_or (get_or old place 0) bit) (get_or old place 0)
-tested_more cover i bit old now true h here before same place below =
-    set_at 0 now i (bit_or (get_or now i 0) bit) place here ∙ at (cases_eq i place)
-  where
-    at : (i ≡ place) ⊎ (i ≢ place) → cond (eqb i place) (bit_or (get_or now i 0) bit) (get_or now place 0) ≡ cond (has cover place) (bit_or (get_or old place 0) bit) (get_or old place 0)
-    at (inl e) =
-        ap (λ b. cond b (bit_or (get_or now i 0) bit) (get_or now place 0)) (eq-eqb i place e) ∙ ap (λ n. bit_or n bit) same ∙ ap (λ k. bit_or (get_or old k 0) bit) e
-        ∙ sym (ap (λ b. cond b (bit_or (get_or old place 0) bit) (get_or old place 0)) (ap (has cover) (sym e) ∙ h))
-    at (inr differ) = ap (λ b. cond b (bit_or (get_or now i 0) bit) (get_or now place 0)) (ne_eqb i place differ) ∙ before place (omega arith)
-tested_more cover i bit old now false h here before same place below = at (cases_eq i place)
-  where
-    at : (i ≡ place) ⊎ (i ≢ place) → get_or now place 0 ≡ cond (has cover place) (bit_or (get_or old place 0) bit) (get_or old place 0)
-    at (inl e) =
-        ap (λ k. get_or now k 0) (sym e) ∙ same ∙ ap (λ k. get_or old k 0) e
-        ∙ sym (ap (λ b. cond b (bit_or (get_or old place 0) bit) (get_or old place 0)) (ap (has cover) (sym e) ∙ h))
-    at (inr differ) = before place (omega arith)
-
--- the places after one more are as they were
-pub tested_same : (i word : ℕ) (old now : List ℕ) (b : Bool) → i < length now → ((place : ℕ) → i ≤ place → get_or now place 0 ≡ get_or old place 0)
-    → (place : ℕ) → i + 1 ≤ place → get_or (cond b (set now i word) now) place 0 ≡ get_or old place 0
-tested_same i word old now true here after place above =
-    set_at 0 now i word place here ∙ ap (λ b. cond b word (get_or now place 0)) (ne_eqb i place (λ e. absurd (omega arith))) ∙ after place (omega arith)
-tested_same i word old now false here after place above = after place (omega arith)
-
 one_is : (b : Bool) → eqb (cond b 1 0) 1 ≡ b
 one_is true = refl
 one_is false = refl
@@ -344,20 +317,11 @@ coded kept value up few as_many are = record {
   light = are.light;
 }
 
--- ---- the next bit
+-- ---- the ones of a word
 
 -- a bit of a number without its lowest ones
-bit_of_rest : (number low bit : ℕ) → bit_at (number / 2 ^ low) bit ≡ bit_at number (low + bit)
+pub bit_of_rest : (number low bit : ℕ) → bit_at (number / 2 ^ low) bit ≡ bit_at number (low + bit)
 bit_of_rest number low bit = ap (λ n. n % 2) (shr-shr number low bit)
-
--- a place of a word has no bit where what is left of the word from another place on has none for it
-pub no_bit : (words : List ℕ) (place other : ℕ) → place ≤ other → place % 64 + (other - place) < 64 → bit_at (get_or words (place / 64) 0 / 2 ^ (place % 64)) (other - place) ≡ 0
-    → has_bit (other % 64) (get_or words (other / 64) 0) ≡ false
-no_bit words place other behind within none =
-    let same : other / 64 ≡ place / 64 = omega arith in
-    let bit : other % 64 ≡ place % 64 + (other - place) = omega arith in
-    let word = get_or words (place / 64) 0 in
-    ap (λ k. has_bit (other % 64) (get_or words k 0)) same ∙ ap (λ b. has_bit b word) bit ∙ ap (λ n. eqb n 1) (sym (bit_of_rest word (place % 64) (other - place)) ∙ none)
 
 -- the lowest bit of what is left of a word is one of the word's
 pub lowest_within : (word low : ℕ) → word < 2 ^ 64 → 0 < word / 2 ^ low → low + trailing_zeros w64 (word / 2 ^ low) < 64

@@ -11,4 +11,5 @@ pub mod Planes
 pub mod Marks
 pub mod Covers
 pub mod RowWords
+pub mod BitRows
 pub mod Remade

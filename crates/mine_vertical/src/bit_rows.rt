@@ -1,6 +1,7 @@
-ghost use Rattle.std.specs.Prelude.{◌≡◌, [], IfOk};
+ghost use Rattle.std.specs.Prelude.{◌≡◌, ◌<◌, ◌^◌, [], IfOk};
 ghost use Rattle.basket_sets.specs.Itemset.{AllBelow};
 ghost use Rattle.mine_vertical.specs.Bits.{words_of};
+ghost use Rattle.mine_vertical.specs.BitRows.{IsAddedAt};
 ghost use Rattle.mine_vertical.specs.RowWords.{words_in};
 ghost use Rattle.mine_vertical.specs.Rows.{IsBitRow};
 
@@ -30,6 +31,24 @@ fn bits_of_cover(alloc: Global, cover: &[u32], places: u32) -> Result<RowWords, 
         words.set(*place as usize);
     }
     Ok(words)
+}
+
+/// Adds a bit to the words of those of 64 places from one on that have a one.
+fn add_ones(words: &mut [u64], start: usize, ones: u64, bit: u64)
+    requires { start < 2 ^ 63 }
+    ensures { IsAddedAt start ones bit words.old words.new }
+{
+    let mut place = start;
+    let mut rest = ones;
+    while rest != 0 {
+        let zeros = rest.trailing_zeros();
+        place += zeros as usize;
+        if place < words.len() {
+            words[place] |= bit;
+        }
+        rest = rest >> zeros >> 1;
+        place += 1;
+    }
 }
 
 impl Row for BitRow {
@@ -85,12 +104,8 @@ impl Row for BitRow {
     }
 
     fn add_bit(&self, words: &mut [u64], bit: u64) -> bool {
-        let mut place = 0;
-        while place < words.len() {
-            if self.words.has(place) {
-                words[place] |= bit;
-            }
-            place = self.words.next(place + 1);
+        for at in 0..words.len().div_ceil(64) {
+            add_ones(words, at * 64, self.words.word(at), bit);
         }
         true
     }

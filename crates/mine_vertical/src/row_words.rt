@@ -1,8 +1,7 @@
 //! The words of a row of bits.
-ghost use Rattle.std.specs.Prelude.{◌≡◌, ◌≢◌, ◌≤◌, ◌<◌, ◌/◌, ◌%◌, ◌^◌, ℕ, Bool, false, true, IfOk, OnOk, bit_and, length, replicate, slice_index};
+ghost use Rattle.std.specs.Prelude.{◌≡◌, ◌≢◌, ◌≤◌, ◌<◌, ◌/◌, ◌%◌, ℕ, Bool, true, IfOk, OnOk, bit_and, length, replicate, slice_index};
 ghost use Rattle.std.specs.Simd.Lanes.{zip2};
 ghost use Rattle.mine_vertical.specs.Bits.{MOST_WORDS, shared_bits, word_count, words_from};
-ghost use Rattle.mine_vertical.specs.Planes.{has_bit};
 ghost use Rattle.mine_vertical.specs.RowWords.{words_in};
 
 use crate::bits::{share_words, shared_by_words};
@@ -86,40 +85,12 @@ impl RowWords {
     }
 
     /// The word at a place among them, or 0 where there is none.
-    fn word(&self, at: usize) -> u64
+    pub fn word(&self, at: usize) -> u64
         ensures { result ≡ slice_index (words_in self.now) at }
     {
         if at == 0 {
             return self.first;
         }
         self.others.get(at - 1).copied().unwrap_or(0)
-    }
-
-    /// A place from one on, before which none from there on has a bit: that of the next bit of its word,
-    /// or the first of the next word.
-    pub fn next(&self, place: usize) -> usize
-        requires { place < 2 ^ 63 }
-        ensures later { place ≤ result }
-        ensures none { (other : ℕ) → place ≤ other → other < result → has_bit (other % 64) (slice_index (words_in self.now) (other / 64)) ≡ false }
-    {
-        let rest = self.word(place / 64) >> (place % 64);
-        if rest == 0 {
-            return (place / 64 + 1) * 64;
-        }
-        place + rest.trailing_zeros() as usize
-    }
-
-    /// Whether it has the bit of a place.
-    pub fn has(&self, place: usize) -> bool
-        requires { place / 64 < length (words_in self.now) }
-        ensures { result ≡ has_bit (place % 64) (slice_index (words_in self.now) (place / 64)) }
-    {
-        let at = place / 64;
-        let word = if at == 0 {
-            self.first
-        } else {
-            self.others[at - 1]
-        };
-        (word >> (place % 64)) % 2 == 1
     }
 }
