@@ -17,7 +17,7 @@ use mine_classes::laws::coded_ranks_are_frequent;
 use mine_fp::Forest;
 use mine_fp::laws::class_trees_add_up;
 use mine_phases::{Cutting, Gate, apriori_shared, count_shared, mine_shared, runs_shared};
-use mine_vertical::laws::class_joins_add_up;
+use mine_vertical::laws::part_joins_add_up;
 use mine_vertical::{BitRow, DiffList, Row, TidList, Vertical};
 use std::alloc::{AllocError, Global};
 use std::marker::PhantomData;
@@ -121,7 +121,11 @@ pub fn mine_in_place<R: Threads + Sync, G: Gate + Sync>(
             class_trees_add_up();
             let _coding = coded.baskets();
             let runs = runs_shared(rt, alloc, &coded, cutting)?;
-            let miner = Growth(Forest::of_runs(alloc, &coded, runs)?);
+            let forest = Forest::of_runs(alloc, &coded, runs)?;
+            let miner = Growth {
+                coded: &coded,
+                forest,
+            };
             let (frequent, trees) = mine_shared(rt, alloc, &coded, miner, limit, cutting, gate)?;
             Ok((frequent, Work::of_trees(trees)))
         }
@@ -164,10 +168,12 @@ fn joined<R: Threads + Sync, G: Gate + Sync, T: Row + Sync>(
     ensures too_many { (most : ℕ) → result ≡ Err (TooMany most) → (most ≡ limit) × (limit < length (frequent_of_coding coded.now)) }
 {
     coded_ranks_are_frequent();
-    class_joins_add_up();
+    part_joins_add_up();
     let runs = runs_shared(rt, alloc, coded, cutting)?;
+    let cut = cutting.class_parts(coded.ranks());
     let miner = Joining::<T> {
         vertical: Vertical::of_runs(coded, runs),
+        cut,
         rows: PhantomData,
     };
     let (frequent, joins) = mine_shared(rt, alloc, coded, miner, limit, cutting, gate)?;

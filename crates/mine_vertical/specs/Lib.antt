@@ -1,6 +1,7 @@
 pub mod Cover
 pub mod Weights
 pub mod Walk
+pub mod Part
 pub mod Rows
 pub mod Search
 pub mod Vertical

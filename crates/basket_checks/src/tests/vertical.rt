@@ -1,7 +1,10 @@
 //! Classes by Eclat.
 use super::{Early, NINE_BASKETS, database, long_basket};
 use basket_core::{Coded, CountedSets, Limit, MineFault, Minimum, Tally};
-use mine_vertical::{BitRow, DiffList, Row as Kind, TidList, Vertical, eclat_class};
+use mine_classes::Tables;
+use mine_vertical::{
+    BitRow, DiffList, Part, Row as Kind, TidList, Vertical, eclat_class, eclat_part,
+};
 use std::alloc::Global;
 use std::fmt::Write;
 use std::test::Fail;
@@ -47,6 +50,36 @@ fn class_of_the_last_rank(rt: HostRuntime) -> Result<(), Fail> {
     assert_eq!(rt; last_class::<TidList>(alloc)?.as_str(), listed);
     assert_eq!(rt; last_class::<DiffList>(alloc)?.as_str(), listed);
     assert_eq!(rt; last_class::<BitRow>(alloc)?.as_str(), listed);
+    Ok(())
+}
+
+/// The sets of a part of the class of the last of five ranks, where the class is cut in two, and how
+/// many joins were made for them.
+fn half_class(alloc: Global, place: u32) -> Result<(String, u64), Fail> {
+    let coded = Coded::of(alloc, &database(alloc, NINE_BASKETS)?, Minimum::Count(2))?;
+    let vertical = Vertical::of(alloc, &coded)?;
+    let mut tables = Tables::new(alloc, coded.ranks())?;
+    if coded.ranks() != 5 {
+        return Err(Fail::from("five items are frequent"));
+    }
+    let part = Part::new(2, place);
+    let tally = &mut Limit::new(2);
+    match eclat_part::<TidList, Limit>(alloc, &vertical, &mut tables, 4, part, tally) {
+        Ok((found, joins)) => Ok((text(alloc, found)?, joins)),
+        Err(_) => Err(Fail::from("the part is as long as the limit")),
+    }
+}
+
+/// The ranks of items 2 and 1 are 0 and 1. Item 5 is joined with each of the four ranks below its
+/// own, which counts for the first part, and item 1 with item 2, which are both frequent with it.
+#[test]
+fn halves_of_the_class_of_the_last_rank(rt: HostRuntime) -> Result<(), Fail> {
+    let alloc = rt.alloc();
+    let (first, first_joins) = half_class(alloc, 0)?;
+    let (second, second_joins) = half_class(alloc, 1)?;
+    assert_eq!(rt; first.as_str(), "5 (2) 2 5 (2) ");
+    assert_eq!(rt; second.as_str(), "1 5 (2) 1 2 5 (2) ");
+    assert_eq!(rt; (first_joins, second_joins), (4, 1));
     Ok(())
 }
 

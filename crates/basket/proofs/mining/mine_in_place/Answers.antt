@@ -176,6 +176,6 @@ returns-in_ok-frequent-in-FpGrowth-clause-work g c =
     let question = c.args.plan.now.question in
     let made = c.in_ok-coded.ensures ∙ ap (coding_of database) c.minimum.ensures in
     let is : c.args.plan.now.miner ≡ FpGrowth = sym c.miner.ensures ∙ c.in-FpGrowth.is in
-    let work = subst (λ k. IsWorkOfAll (IsTrees k) (length c.in_ok-coded.coded.items) c.in_ok-frequent-in-FpGrowth.trees) c.in_ok-of_runs-in-FpGrowth.ensures c.in_ok-frequent-in-FpGrowth.ensures.work in
+    let work = subst (λ k. IsWorkOfAll (IsTrees k) (length k.items) c.in_ok-frequent-in-FpGrowth.trees) c.in_ok-forest-in-FpGrowth.ensures c.in_ok-frequent-in-FpGrowth.ensures.work in
     let count = trees_are database question.minimum c.in_ok-coded.coded made c.in_ok-frequent-in-FpGrowth.trees c.baskets-coding.ensures.coding c.class_trees_add_up.ensures work in
     rw is (c.of_trees.ensures ∙ (λ i. record { candidates = 0; joins = 0; trees = count i }))
