@@ -1,34 +1,45 @@
-.PHONY: demo test install bench
+.PHONY: all demo test install uninstall package bench
 
 PREFIX ?= $(HOME)/.local
 PROGRAM := crates/basket_cli/out/basket_cli
 STAGES := crates/basket_bench/out/basket_bench
-SOURCES := crates.txt $(shell find crates -name out -prune -o -type f \( -name '*.rt' -o -name '*.antt' \) -print)
+TESTS := crates/basket_checks/% crates/basket_runs/%
+SOURCES := crates.txt $(filter-out $(TESTS),$(shell find crates -name out -prune -o -type f \( -name '*.rt' -o -name '*.antt' \) -print))
+PLACE := $(DESTDIR)$(PREFIX)
 
-# Proves and builds the program, if that is not done, and lists what is bought in the baskets of the small shop.
-demo: $(PROGRAM)
-	$(PROGRAM) items --min 2 < examples/shop.dat
-	$(PROGRAM) sets --min 20% < examples/shop.dat
+# Proves and builds the program, if that is not done, on all processors.
+all: $(PROGRAM)
 
-# The crates are proved one after another, each on all processors.
 $(PROGRAM): $(SOURCES)
 	tools/prove.py basket_cli
-	touch $@
 
+# Builds the program without its proofs and runs it over examples/.
+demo:
+	tools/demo.py
+
+# The gate: proves every crate and its tests from nothing, tries the must-fail edits, and tests the program.
+test:
+	tools/test.py
+
+# Puts the program, its manual page and its completions below PREFIX.
+install: $(PROGRAM)
+	install -D -m 755 $(PROGRAM) $(PLACE)/bin/basket
+	install -D -m 644 man/basket.1 $(PLACE)/share/man/man1/basket.1
+	install -D -m 644 completions/basket.bash $(PLACE)/share/bash-completion/completions/basket
+	install -D -m 644 completions/_basket $(PLACE)/share/zsh/site-functions/_basket
+	install -D -m 644 completions/basket.fish $(PLACE)/share/fish/vendor_completions.d/basket.fish
+
+uninstall:
+	rm -f $(PLACE)/bin/basket $(PLACE)/share/man/man1/basket.1 $(PLACE)/share/bash-completion/completions/basket \
+		$(PLACE)/share/zsh/site-functions/_basket $(PLACE)/share/fish/vendor_completions.d/basket.fish
+
+# A Debian package and a tar file of the proved program, under dist/.
+package: $(PROGRAM)
+	tools/package.py
+
+# Times the program, and its stages, and writes bench/RESULTS.md.
 $(STAGES): $(SOURCES)
 	tools/prove.py basket_bench
-	touch $@
 
-# The gate: proves every crate and its tests from nothing, tries the must-fail edits, and runs the tests and programs.
-test:
-	rt ci
-
-# Puts the program into PREFIX/bin.
-install: $(PROGRAM)
-	install -D -m 755 $(PROGRAM) $(DESTDIR)$(PREFIX)/bin/basket
-
-# Times the program on a million baskets for items and 100,000 for sets, and its stages one by one.
 bench: $(PROGRAM) $(STAGES)
-	bench/items.sh $(PROGRAM)
-	bench/sets.sh $(PROGRAM)
-	bench/stages.sh $(STAGES)
+	bench/run.py $(PROGRAM) --stages $(STAGES)

@@ -16,7 +16,7 @@ use Rattle.mine_phases.specs.Classes.{IsWorkOfAll, MOST_WORK}
 use Rattle.mine_vertical.specs.Joins.{joins_of}
 use Rattle.mine_vertical.specs.Part.{PartJoinsAddUp, numbered_joins}
 use Rattle.basket.specs.Classes.{IsJoins, IsTrees}
-use Rattle.basket.specs.Mining.{join_work}
+use Rattle.basket.specs.Mining.{IsWorkOver}
 use Rattle.basket.specs.declared.mining.Work.{Work}
 use Rattle.basket_core.specs.Listing.{Listing, listing_of}
 use Rattle.basket_core.specs.declared.fault.MineFault.{MineFault}
@@ -30,26 +30,30 @@ module _ (database : List Weighted) (minimum : Minimum) (coding : Coding) (made 
   pub total_is : total_of coding.baskets ≡ total_of database
   total_is = ap (λ c. total_of c.baskets) made ∙ coded_total (ranks_of database minimum) database
 
-  -- also where equal baskets are merged, and these have as many candidates
-  module _ (merged : Coding) (is : merged ≡ merged_coding coding) where
-    pub merged_list : frequent_of_coding merged ≡ frequent_of database minimum
-    merged_list = ap frequent_of_coding is ∙ (merging_keeps_coded coding).0 ∙ list_is
-
-    pub merged_total : total_of merged.baskets ≡ total_of database
-    merged_total = ap (λ c. total_of c.baskets) is ∙ (merging_keeps_coded coding).1 ∙ total_is
-
-    pub count_is : CandidatesBySets → candidate_count (baskets_of merged) merged.minimum ≡ candidate_count database minimum
-    count_is law =
-        let one : merged.minimum ≡ minimum = ap (λ c. c.minimum) is ∙ ap (λ c. c.minimum) made in
-        ap (candidate_count (baskets_of merged)) one
-        ∙ ap length (law (baskets_of merged) database minimum (subst (λ m. frequent_of (baskets_of merged) m ≡ frequent_of database minimum) one merged_list))
-
   -- a frequent set of enough items settles that there are more sets than the limit
   pub settled : (size limit : ℕ) → limit + 1 < 2 ^ size → HasSetOfSize (frequent_of_coding coding) size → limit < length (frequent_of database minimum)
   settled size limit enough h =
       let many = deep_sets_are_many (baskets_of coding) coding.minimum size h in
       let same = ap length list_is in
       omega (arith, many, same, enough)
+
+-- ---- equal baskets merged
+
+module _ (coding merged : Coding) (is : merged ≡ merged_coding coding) where
+  pub merged_list : frequent_of_coding merged ≡ frequent_of_coding coding
+  merged_list = ap frequent_of_coding is ∙ (merging_keeps_coded coding).0
+
+  pub merged_listing : listing_of merged ≡ listing_of coding
+  merged_listing = λ i. record { sets = merged_list i; total = (ap (λ c. total_of c.baskets) is ∙ (merging_keeps_coded coding).1) i }
+
+  -- there are as many candidates
+  pub count_is : CandidatesBySets → (database : List Weighted) (minimum : Minimum) → coding ≡ coding_of database minimum
+      → candidate_count (baskets_of merged) merged.minimum ≡ candidate_count database minimum
+  count_is law database minimum made =
+      let one : merged.minimum ≡ minimum = ap (λ c. c.minimum) is ∙ ap (λ c. c.minimum) made in
+      let same = merged_list ∙ list_is database minimum coding made in
+      ap (candidate_count (baskets_of merged)) one
+      ∙ ap length (law (baskets_of merged) database minimum (subst (λ m. frequent_of (baskets_of merged) m ≡ frequent_of database minimum) one same))
 
 -- ---- the work of classes
 
@@ -85,7 +89,6 @@ module _ (database : List Weighted) (minimum : Minimum) (coding : Coding) (made 
   totals_are (Ok mined) is = ap (λ f. f.total) is ∙ total_is database minimum coding made
   totals_are (Err fault) is = is
 
-  pub work_is : (result : Result (Listing × Work) MineFault) → IfOk result (λ mined. (baskets : List Weighted) (bound : Minimum) → coding ≡ coding_of baskets bound → mined.1 ≡ join_work baskets bound)
-      → IfOk result (λ mined. mined.1 ≡ join_work database minimum)
-  work_is (Ok mined) is = is database minimum made
-  work_is (Err fault) is = is
+  pub work_is : (such : List Weighted → Minimum → Work) (result : Result (Listing × Work) MineFault) → IfOk result (λ mined. IsWorkOver coding such mined.1) → IfOk result (λ mined. mined.1 ≡ such database minimum)
+  work_is such (Ok mined) is = is database minimum made
+  work_is such (Err fault) is = is

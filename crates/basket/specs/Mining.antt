@@ -3,13 +3,17 @@ use Rattle.std.specs.Prelude.{◌≡◌, List, min}
 use Rattle.basket.specs.declared.mining.Work.{Work}
 use Rattle.basket_plan.specs.declared.plan.Miner.{Miner}
 use Rattle.basket_plan.specs.declared.plan.Miner.TheVariants.{Apriori, Eclat, EclatDiff, EclatBits, FpGrowth}
-use Rattle.basket_core.specs.Codes.{coding_of}
+use Rattle.basket_core.specs.Codes.{Coding, coding_of}
 use Rattle.basket_sets.specs.declared.minimum.Minimum.{Minimum}
 use Rattle.basket_sets.specs.declared.weighted.Weighted.{Weighted}
 use Rattle.mine_apriori.specs.Work.{candidate_count}
 use Rattle.mine_vertical.specs.Joins.{joins_of}
 use Rattle.mine_fp.specs.Trees.{trees_of}
 use Rattle.mine_phases.specs.Classes.{MOST_WORK}
+
+-- the candidates of Apriori
+abbrev pub candidate_work : List Weighted → Minimum → Work
+candidate_work baskets minimum = record { candidates = candidate_count baskets minimum; joins = 0; trees = 0 }
 
 -- the joins of Eclat, as far as they are counted
 abbrev pub join_work : List Weighted → Minimum → Work
@@ -20,9 +24,16 @@ abbrev pub tree_work : List Weighted → Minimum → Work
 tree_work baskets minimum = record { candidates = 0; joins = 0; trees = min (trees_of (coding_of baskets minimum)) MOST_WORK }
 
 -- the work of a miner: Apriori counts each candidate, Eclat makes each join, and FP-growth builds each conditional tree
+abbrev pub work_of : Miner → List Weighted → Minimum → Work
+work_of Apriori = candidate_work
+work_of Eclat = join_work
+work_of EclatDiff = join_work
+work_of EclatBits = join_work
+work_of FpGrowth = tree_work
+
 abbrev pub IsWorkOf : Miner → List Weighted → Minimum → Work → Type 0
-IsWorkOf Apriori baskets minimum work = work ≡ record { candidates = candidate_count baskets minimum; joins = 0; trees = 0 }
-IsWorkOf Eclat baskets minimum work = work ≡ join_work baskets minimum
-IsWorkOf EclatDiff baskets minimum work = work ≡ join_work baskets minimum
-IsWorkOf EclatBits baskets minimum work = work ≡ join_work baskets minimum
-IsWorkOf FpGrowth baskets minimum work = work ≡ tree_work baskets minimum
+IsWorkOf miner baskets minimum work = work ≡ work_of miner baskets minimum
+
+-- work over coded baskets is such work for each database that they come from
+abbrev pub IsWorkOver : Coding → (List Weighted → Minimum → Work) → Work → Type 0
+IsWorkOver coding such work = (baskets : List Weighted) (minimum : Minimum) → coding ≡ coding_of baskets minimum → work ≡ such baskets minimum

@@ -1,11 +1,9 @@
 //! The frequent sets of a database.
-ghost use Rattle.std.specs.Prelude.{◌≡◌, ◌<◌, ◌≤◌, ◌+◌, ◌^◌, ℕ, List, Err, IfOk, length};
-ghost use Rattle.basket.specs.Mining.{IsWorkOf, join_work};
+ghost use Rattle.std.specs.Prelude.{◌≡◌, ◌<◌, ◌≤◌, ◌+◌, ◌^◌, ℕ, Err, IfOk, length};
+ghost use Rattle.basket.specs.Mining.{IsWorkOf, IsWorkOver, candidate_work, join_work, tree_work, work_of};
 ghost use Rattle.basket_core.specs.declared.fault.MineFault.TheVariants.{TooMany};
 ghost use Rattle.basket_core.specs.Codes.{coding_of, frequent_of_coding};
 ghost use Rattle.basket_core.specs.Listing.{listing_of};
-ghost use Rattle.basket_sets.specs.declared.minimum.Minimum.{Minimum as Bound};
-ghost use Rattle.basket_sets.specs.declared.weighted.Weighted.{Weighted as Basket};
 ghost use Rattle.basket_sets.specs.Frequent.{frequent_of};
 ghost use Rattle.basket_sets.specs.Support.{total_of};
 
@@ -102,33 +100,35 @@ pub fn mine_in_place<R: Threads + Sync, G: Gate + Sync>(
         → (most ≡ plan.now.question.limit) × (plan.now.question.limit < length (frequent_of database plan.now.question.minimum)) }
 {
     let limit = plan.limit();
-    let cutting = cutting(plan);
-    let coded = coded(rt, alloc, database, plan.minimum(), cutting, gate)?;
+    let coded = coded(rt, alloc, database, plan.minimum(), cutting(plan), gate)?;
     if deep(alloc, &coded, settling_size(limit))? {
         return Err(MineFault::TooMany { limit });
     }
+    mine_coded(rt, alloc, coded, plan, gate)
+}
+
+/// The same of a database that is coded.
+fn mine_coded<R: Threads + Sync, G: Gate + Sync>(
+    rt: &R,
+    alloc: Global,
+    coded: Coded,
+    plan: &Plan,
+    gate: &G,
+) -> Result<(Frequent, Work), MineFault>
+    ensures list { IfOk result (λ mined. mined.0 ≡ listing_of coded) }
+    ensures within { IfOk result (λ mined. length mined.0.sets ≤ plan.now.question.limit) }
+    ensures work { IfOk result (λ mined. IsWorkOver coded (work_of plan.now.miner) mined.1) }
+    ensures too_many { (most : ℕ) → result ≡ Err (TooMany most)
+        → (most ≡ plan.now.question.limit) × (plan.now.question.limit < length (frequent_of_coding coded)) }
+{
+    let limit = plan.limit();
+    let cutting = cutting(plan);
     match plan.miner() {
-        Miner::Apriori => {
-            let merged = coded.merged(alloc)?;
-            let (frequent, candidates) = apriori_shared(rt, alloc, &merged, limit, cutting, gate)?;
-            candidates_by_sets();
-            Ok((frequent, Work::of_candidates(candidates)))
-        }
-        Miner::Eclat => joined::<R, G, TidList>(rt, alloc, &coded, limit, cutting, gate),
-        Miner::EclatDiff => joined::<R, G, DiffList>(rt, alloc, &coded, limit, cutting, gate),
-        Miner::EclatBits => joined::<R, G, BitRow>(rt, alloc, &coded, limit, cutting, gate),
-        Miner::FpGrowth => {
-            class_trees_add_up();
-            let _coding = coded.baskets();
-            let runs = runs_shared(rt, alloc, &coded, cutting)?;
-            let forest = Forest::of_runs(alloc, &coded, runs)?;
-            let miner = Growth {
-                coded: &coded,
-                forest,
-            };
-            let (frequent, trees) = mine_shared(rt, alloc, &coded, miner, limit, cutting, gate)?;
-            Ok((frequent, Work::of_trees(trees)))
-        }
+        Miner::Apriori => by_apriori(rt, alloc, coded, limit, cutting, gate),
+        Miner::Eclat => by_eclat::<R, G, TidList>(rt, alloc, &coded, limit, cutting, gate),
+        Miner::EclatDiff => by_eclat::<R, G, DiffList>(rt, alloc, &coded, limit, cutting, gate),
+        Miner::EclatBits => by_eclat::<R, G, BitRow>(rt, alloc, &coded, limit, cutting, gate),
+        Miner::FpGrowth => by_fp_growth(rt, alloc, &coded, limit, cutting, gate),
     }
 }
 
@@ -153,8 +153,29 @@ fn coded<R: Threads + Sync, G: Gate + Sync>(
     Ok(codes.code_shared(rt, database, cutting.workers))
 }
 
+/// The list of the frequent sets by Apriori, and how many candidates it counted. Equal baskets are
+/// merged before.
+fn by_apriori<R: Threads + Sync, G: Gate + Sync>(
+    rt: &R,
+    alloc: Global,
+    coded: Coded,
+    limit: u32,
+    cutting: Cutting,
+    gate: &G,
+) -> Result<(Frequent, Work), MineFault>
+    ensures list { IfOk result (λ mined. mined.0 ≡ listing_of coded) }
+    ensures within { IfOk result (λ mined. length mined.0.sets ≤ limit) }
+    ensures work { IfOk result (λ mined. IsWorkOver coded candidate_work mined.1) }
+    ensures too_many { (most : ℕ) → result ≡ Err (TooMany most) → (most ≡ limit) × (limit < length (frequent_of_coding coded)) }
+{
+    let merged = coded.merged(alloc)?;
+    let (frequent, candidates) = apriori_shared(rt, alloc, &merged, limit, cutting, gate)?;
+    candidates_by_sets();
+    Ok((frequent, Work::of_candidates(candidates)))
+}
+
 /// The list of the frequent sets by Eclat over rows of one type, and how many joins were made for it.
-fn joined<R: Threads + Sync, G: Gate + Sync, T: Row + Sync>(
+fn by_eclat<R: Threads + Sync, G: Gate + Sync, T: Row + Sync>(
     rt: &R,
     alloc: Global,
     coded: &Coded,
@@ -164,7 +185,7 @@ fn joined<R: Threads + Sync, G: Gate + Sync, T: Row + Sync>(
 ) -> Result<(Frequent, Work), MineFault>
     ensures list { IfOk result (λ mined. mined.0 ≡ listing_of coded.now) }
     ensures within { IfOk result (λ mined. length mined.0.sets ≤ limit) }
-    ensures work { IfOk result (λ mined. (database : List Basket) (minimum : Bound) → coded.now ≡ coding_of database minimum → mined.1 ≡ join_work database minimum) }
+    ensures work { IfOk result (λ mined. IsWorkOver coded.now join_work mined.1) }
     ensures too_many { (most : ℕ) → result ≡ Err (TooMany most) → (most ≡ limit) × (limit < length (frequent_of_coding coded.now)) }
 {
     coded_ranks_are_frequent();
@@ -178,6 +199,29 @@ fn joined<R: Threads + Sync, G: Gate + Sync, T: Row + Sync>(
     };
     let (frequent, joins) = mine_shared(rt, alloc, coded, miner, limit, cutting, gate)?;
     Ok((frequent, Work::of_joins(joins)))
+}
+
+/// The list of the frequent sets by FP-growth, and how many conditional trees it has.
+fn by_fp_growth<R: Threads + Sync, G: Gate + Sync>(
+    rt: &R,
+    alloc: Global,
+    coded: &Coded,
+    limit: u32,
+    cutting: Cutting,
+    gate: &G,
+) -> Result<(Frequent, Work), MineFault>
+    ensures list { IfOk result (λ mined. mined.0 ≡ listing_of coded.now) }
+    ensures within { IfOk result (λ mined. length mined.0.sets ≤ limit) }
+    ensures work { IfOk result (λ mined. IsWorkOver coded.now tree_work mined.1) }
+    ensures too_many { (most : ℕ) → result ≡ Err (TooMany most) → (most ≡ limit) × (limit < length (frequent_of_coding coded.now)) }
+{
+    class_trees_add_up();
+    let _coding = coded.baskets();
+    let runs = runs_shared(rt, alloc, coded, cutting)?;
+    let forest = Forest::of_runs(alloc, coded, runs)?;
+    let miner = Growth { coded, forest };
+    let (frequent, trees) = mine_shared(rt, alloc, coded, miner, limit, cutting, gate)?;
+    Ok((frequent, Work::of_trees(trees)))
 }
 
 /// The least number of items of a set that has more nonempty subsets than the limit.

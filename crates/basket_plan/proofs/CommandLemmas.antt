@@ -18,10 +18,8 @@ use Rattle.clap.specs.declared.parser.matches.Found.{Found}
 use Rattle.clap.proofs.OnLiterals.{clap_on_literals}
 use Rattle.clap.proofs.ValueTestLemmas.{Accepts-accepts, accepts-Accepts}
 use Rattle.clap.proofs.WalkLemmas.{first_value-rows, one_text-rows}
-use Rattle.basket_plan.proofs.NamesLemmas.{same_line}
 use Rattle.basket_plan.proofs.HelpLemmas.{help_told}
-use Rattle.basket_plan.specs.declared.command.Choices.{Choices}
-use Rattle.basket_plan.specs.Command.{IsNamed, asks_help, is_answer, command_line, flag_in, line_with, number_in, number_of, plan_of_command, plan_of_words, where_taken}
+use Rattle.basket_plan.specs.Command.{asks_help, is_answer, command_line, flag_in, number_in, number_of, plan_of_command, plan_of_words, where_taken}
 
 -- ---- values
 
@@ -111,26 +109,26 @@ module _ (f : Found) (name : Text) (most : ℕ) where
 pub stays_local : (old new global : Bool) → new ≡ (old || global) → global ≡ false → old ≡ false → new ≡ false
 stays_local old new global e g o = e ∙ ap₂ (λ a b. a || b) o g
 
-simple_line : (choices : Choices) → is_simple_and_free (line_with choices) ≡ true
+simple_line : is_simple_and_free command_line ≡ true
 unfolding clap_on_literals
-simple_line choices = refl
+simple_line = refl
 
-simple_app : (choices : Choices) → is_simple (line_with choices) ≡ true
+simple_app : is_simple command_line ≡ true
 unfolding clap_on_literals
-simple_app choices = refl
+simple_app = refl
 
-module _ (choices : Choices) (named : IsNamed choices) (app : App) (is : app ≡ line_with choices) (words : List Text) where
+module _ (app : App) (is : app ≡ command_line) (words : List Text) where
   simple : is_simple_and_free app ≡ true
-  simple = ap is_simple_and_free is ∙ simple_line choices
+  simple = ap is_simple_and_free is ∙ simple_line
 
   same_faults : fault_of app words ≡ fault_of command_line words
-  same_faults = ap (λ a. fault_of a words) is ∙ (same_line choices named words).0
+  same_faults = ap (λ a. fault_of a words) is
 
   pub plan_taken : (entered : Option (Text × List Row)) → (is_simple_and_free app ≡ true → fault_of app words ≡ [])
       → (is_simple app ≡ true → entered ≡ subcommand_of app words) → plan_of_words words ≡ plan_of_command entered
   plan_taken entered takes enters =
       let faults : fault_of command_line words ≡ [] = sym same_faults ∙ takes simple in
-      let found : subcommand_of command_line words ≡ entered = sym (same_line choices named words).1 ∙ (ap (λ a. subcommand_of a words) (sym is) ∙ sym (enters (ap is_simple is ∙ simple_app choices))) in
+      let found : subcommand_of command_line words ≡ entered = ap (λ a. subcommand_of a words) (sym is) ∙ sym (enters (ap is_simple is ∙ simple_app)) in
       ap₂ (λ (kinds : Kinds) (e : Option (Text × List Row)). where_taken kinds (plan_of_command e)) faults found
 
   pub plan_refused : (e : Error) → (is_simple_and_free app ≡ true → HasKind (fault_of app words) e) → (kind_of e ≡ OutOfMemory → ⊥) → plan_of_words words ≡ None

@@ -1,4 +1,2 @@
-mod NamesWalkLemmas
-mod NamesLemmas
 mod HelpLemmas
 mod CommandLemmas

@@ -1,6 +1,5 @@
 -- The command line as `clap` sees it, and the plan that words make.
 use Rattle.std.specs.Prelude.{◌≡◌, List, [], ◌∷◌, ℕ, Bool, true, false, map, codes, if◌then◌else◌, option_and_then, option_map, unwrap_or, Option, Some, None}
-use Rattle.std.specs.Borrow.{Bor}
 use Rattle.std.specs.List.{list_any}
 use Rattle.std.specs.Str.{bytes_eq}
 use Rattle.std.specs.Str.Parse.{digits_value, without_leading_plus}
@@ -16,7 +15,6 @@ use Rattle.clap.specs.declared.error.kind.ErrorKind.TheVariants as kind
 use Rattle.basket_sets.specs.Minimum.{minimum_of, share_of}
 use Rattle.basket_sets.specs.declared.minimum.Minimum.{Minimum}
 use Rattle.basket_plan.specs.Plan.{GREATEST_LIMIT, Planned}
-use Rattle.basket_plan.specs.declared.command.Choices.{Choices}
 use Rattle.basket_plan.specs.declared.command.PlanFault.{PlanFault}
 use Rattle.basket_plan.specs.declared.command.PlanFault.TheVariants.{Memory, Usage, Help}
 use Rattle.basket_plan.specs.declared.plan.TheConstants.{MOST_PIECES, MOST_WORKERS}
@@ -37,13 +35,9 @@ option name = record (new_rule name) { long = Some name; value_names = 1; action
 abbrev pub required : Text → Rule
 required name = record (option name) { required = true }
 
--- texts as `clap` holds them: behind references, of which only the texts count
-abbrev pub Names : Type 0
-Names = Bor (List (Bor Text))
-
--- an option of one of these names, and which it is if it isn't given
-abbrev pub choice : Text → Names → Text → Rule
-choice name names default = record (option name) { parser = Some (parser.Names names); defaults = default ∷ [] }
+-- an option with a text, and which it is if it isn't given
+abbrev pub choice : Text → Text → Rule
+choice name default = record (option name) { defaults = default ∷ [] }
 
 -- the flag `--name`, which takes no value
 abbrev pub flag : Text → Rule
@@ -54,76 +48,48 @@ abbrev pub number : Text → ℕ → Text → Rule
 number name most default = record (option name) { parser = Some (parser.Unsigned 1 most); defaults = default ∷ [] }
 
 -- the options that all commands have, and some more
-abbrev pub options_and : Choices → List Rule → List Rule
-options_and choices more =
+abbrev pub options_and : List Rule → List Rule
+options_and more =
     required (codes "min")
-    ∷ choice (codes "form") choices.forms (codes "fimi")
-    ∷ choice (codes "sep") choices.separators (codes "comma")
+    ∷ choice (codes "form") (codes "fimi")
+    ∷ choice (codes "sep") (codes "comma")
     ∷ flag (codes "header")
     ∷ flag (codes "weight")
-    ∷ choice (codes "miner") choices.miners (codes "apriori")
+    ∷ choice (codes "miner") (codes "apriori")
     ∷ number (codes "limit") GREATEST_LIMIT (codes "4294967295")
     ∷ number (codes "workers") MOST_WORKERS (codes "1")
     ∷ number (codes "pieces") MOST_PIECES (codes "16")
     ∷ more
 
 -- a command of a name, with some more options
-abbrev pub command_with : Choices → Text → List Rule → App
-command_with choices name more = record { top = record (new_shape name) { rules = options_and choices more }; subs = [] }
+abbrev pub command_with : Text → List Rule → App
+command_with name more = record { top = record (new_shape name) { rules = options_and more }; subs = [] }
 
-abbrev pub command_app : Choices → Text → App
-command_app choices name = command_with choices name []
+abbrev pub command_app : Text → App
+command_app name = command_with name []
 
-abbrev pub rules_app : Choices → App
-rules_app choices = command_with choices (codes "rules") (required (codes "conf") ∷ [])
+abbrev pub rules_app : App
+rules_app = command_with (codes "rules") (required (codes "conf") ∷ [])
 
 -- the line without commands
 abbrev pub bare_line : App
 bare_line = record {
-  top = record (new_shape (codes "basket")) { no_binary_name = true; subcommand_required = true; disable_help_subcommand = true };
+  top = record (new_shape (codes "basket")) { no_binary_name = true; has_version = true; subcommand_required = true; disable_help_subcommand = true };
   subs = [];
 }
 
--- all commands, where the names of miners, forms and separators lie as given
-abbrev pub line_with : Choices → App
-line_with choices = record {
-  top = record (new_shape (codes "basket")) { is_leaf = false; no_binary_name = true; subcommand_required = true; disable_help_subcommand = true };
+-- all commands
+abbrev pub command_line : App
+command_line = record {
+  top = record bare_line.top { is_leaf = false };
   subs =
-      (command_app choices (codes "items")).top
-      ∷ (command_app choices (codes "sets")).top
-      ∷ (command_app choices (codes "closed")).top
-      ∷ (command_app choices (codes "maximal")).top
-      ∷ (rules_app choices).top
+      (command_app (codes "items")).top
+      ∷ (command_app (codes "sets")).top
+      ∷ (command_app (codes "closed")).top
+      ∷ (command_app (codes "maximal")).top
+      ∷ rules_app.top
       ∷ [];
 }
-
--- the miners by the names that the command line has for them
-abbrev pub miner_names : List Text
-miner_names = codes "apriori" ∷ codes "eclat" ∷ codes "eclat-diff" ∷ codes "eclat-bits" ∷ codes "fpgrowth" ∷ []
-
--- the forms of an input
-abbrev pub form_names : List Text
-form_names = codes "fimi" ∷ codes "baskets" ∷ codes "single" ∷ []
-
--- the separators of CSV
-abbrev pub separator_names : List Text
-separator_names = codes "comma" ∷ codes "semicolon" ∷ codes "tab" ∷ codes "pipe" ∷ []
-
--- names that lie somewhere are these
-abbrev pub AreNames : Names → List Text → Type 0
-AreNames names texts = map (λ name. name.now) names.now ≡ texts
-
--- the names that options choose from are those of the miners, of the forms and of the separators
-abbrev pub IsNamed : Choices → Type 0
-IsNamed choices = AreNames choices.miners miner_names × AreNames choices.forms form_names × AreNames choices.separators separator_names
-
--- names that lie nowhere
-abbrev pub nowhere : List Text → Names
-nowhere names = record { ref_ptr = (0, 0); now = map (λ name. record { ref_ptr = (0, 0); now = name }) names }
-
--- all commands; what `clap` makes of words doesn't depend on where the names lie
-abbrev pub command_line : App
-command_line = line_with (record { miners = nowhere miner_names; forms = nowhere form_names; separators = nowhere separator_names })
 
 -- ---- what the values say
 
@@ -199,11 +165,11 @@ ask_in name rows =
 -- the plan of a command with the matches of its options: none where an option's value says nothing
 abbrev pub plan_of_rows : Text → List Row → Option Planned
 plan_of_rows name rows =
-    option_and_then (λ minimum.
-    option_and_then (λ ask.
     option_and_then (λ form.
     option_and_then (λ separator.
     option_and_then (λ miner.
+    option_and_then (λ minimum.
+    option_and_then (λ ask.
     option_and_then (λ limit.
     option_and_then (λ workers.
     option_map (λ pieces. record {
@@ -223,11 +189,11 @@ plan_of_rows name rows =
     (pieces_in rows))
     (workers_in rows))
     (limit_in rows))
+    (ask_in name rows))
+    (min_in rows))
     (miner_in rows))
     (sep_in rows))
-    (form_in rows))
-    (ask_in name rows))
-    (min_in rows)
+    (form_in rows)
 
 -- the plan of the command that words enter
 abbrev pub plan_of_command : Option (Text × List Row) → Option Planned
@@ -250,11 +216,11 @@ is_answer kind.DisplayHelp = true
 is_answer kind.DisplayVersion = true
 is_answer _ = false
 
--- the words ask for help
+-- the words ask for help or the version
 abbrev pub asks_help : List Text → Bool
 asks_help words = list_any is_answer (fault_of command_line words)
 
--- the fault is help that was asked for
+-- the fault is help, or a version, that was asked for
 abbrev pub is_help : PlanFault → Bool
 is_help Memory = false
 is_help (Usage text) = false

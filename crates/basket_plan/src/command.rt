@@ -3,7 +3,7 @@ ghost use Rattle.std.specs.Prelude.{◌≡◌, ◌≢◌, IfErr, IfOk, codes, fa
 ghost use Rattle.clap.specs.Words.{app_of, kind_of, rule_of};
 ghost use Rattle.clap.specs.declared.builder.command.Command.TheViews.{out-Command as fields_of};
 ghost use Rattle.basket_plan.specs.declared.command.PlanFault.TheVariants.{Memory};
-ghost use Rattle.basket_plan.specs.Command.{IsNamed, asks_help, bare_line, choice, command_app, flag, is_answer, is_help, line_with, number, plan_of_words, required, rules_app};
+ghost use Rattle.basket_plan.specs.Command.{asks_help, bare_line, choice, command_app, command_line, flag, is_answer, is_help, number, plan_of_words, required, rules_app};
 ghost use Rattle.basket_plan.specs.Status.{plan_status_of};
 
 use crate::help;
@@ -20,7 +20,7 @@ pub enum PlanFault {
     Memory,
     /// A mistake in the words, with the text to print on standard error.
     Usage(String),
-    /// Help was asked for, with the text to print on standard output.
+    /// Help or the version was asked for, with the text to print on standard output.
     Help(String),
 }
 
@@ -49,57 +49,21 @@ pub fn plan_of<'a>(alloc: Global, words: &'a [&'a str]) -> Result<Plan, PlanFaul
     ensures refused { IfErr result (λ fault. fault ≢ PlanFault.Memory → plan_of_words (map (λ word. word.now) words.now) ≡ None) }
     ensures help { IfErr result (λ fault. fault ≢ PlanFault.Memory → asks_help (map (λ word. word.now) words.now) ≡ is_help fault) }
 {
-    match command_line(alloc, all_choices())?.try_get_matches_from(words) {
+    match command_line(alloc)?.try_get_matches_from(words) {
         Ok(matches) => plan_from(alloc, &matches),
         Err(error) => Err(fault_of(alloc, &error)?),
     }
 }
 
-/// The names that options choose from.
-#[derive(Clone, Copy)]
-struct Choices<'a> {
-    miners: &'a [&'a str],
-    forms: &'a [&'a str],
-    separators: &'a [&'a str],
-}
-
-fn all_choices() -> Choices<'static>
-    ensures { IsNamed result }
-{
-    Choices {
-        miners: &["apriori", "eclat", "eclat-diff", "eclat-bits", "fpgrowth"],
-        forms: &["fimi", "baskets", "single"],
-        separators: &["comma", "semicolon", "tab", "pipe"],
-    }
-}
-
-fn command_line<'a>(alloc: Global, choices: Choices<'a>) -> Result<Command<'a>, AllocError>
-    ensures { IfOk result (λ command. app_of command ≡ line_with choices.entry) }
+fn command_line<'a>(alloc: Global) -> Result<Command<'a>, AllocError>
+    ensures { IfOk result (λ command. app_of command ≡ command_line) }
 {
     bare_line(alloc)?
-        .subcommand(command(
-            alloc,
-            "items",
-            help::ITEMS_ABOUT,
-            help::ITEMS_EXAMPLE,
-            choices,
-        )?)?
-        .subcommand(command(alloc, "sets", help::SETS_ABOUT, help::SETS_EXAMPLE, choices)?)?
-        .subcommand(command(
-            alloc,
-            "closed",
-            help::CLOSED_ABOUT,
-            help::CLOSED_EXAMPLE,
-            choices,
-        )?)?
-        .subcommand(command(
-            alloc,
-            "maximal",
-            help::MAXIMAL_ABOUT,
-            help::MAXIMAL_EXAMPLE,
-            choices,
-        )?)?
-        .subcommand(rules_command(alloc, choices)?)
+        .subcommand(command(alloc, "items", help::ITEMS_ABOUT, help::ITEMS_EXAMPLE)?)?
+        .subcommand(command(alloc, "sets", help::SETS_ABOUT, help::SETS_EXAMPLE)?)?
+        .subcommand(command(alloc, "closed", help::CLOSED_ABOUT, help::CLOSED_EXAMPLE)?)?
+        .subcommand(command(alloc, "maximal", help::MAXIMAL_ABOUT, help::MAXIMAL_EXAMPLE)?)?
+        .subcommand(rules_command(alloc)?)
 }
 
 /// The command line without its commands.
@@ -110,6 +74,7 @@ fn bare_line<'a>(alloc: Global) -> Result<Command<'a>, AllocError>
         Command::new(alloc, "basket")
             .no_binary_name(true)
             .bin_name("basket")?
+            .version(help::VERSION)
             .about(help::ABOUT)
             .after_help(help::INPUT)
             .subcommand_required(true)
@@ -123,25 +88,19 @@ fn command<'a>(
     name: &'a str,
     about: &'a str,
     example: &'a str,
-    choices: Choices<'a>,
 ) -> Result<Command<'a>, AllocError>
-    ensures options { IfOk result (λ command. app_of command ≡ command_app choices.entry name.now) }
+    ensures options { IfOk result (λ command. app_of command ≡ command_app name.now) }
     ensures local { IfOk result (λ command. (fields_of command).has_globals ≡ false) }
 {
-    let Choices {
-        miners,
-        forms,
-        separators,
-    } = choices;
     Command::new(alloc, name)
         .about(about)
         .after_help(example)
         .arg(required(alloc, "min", "M", help::MIN_HELP))?
-        .arg(choice(alloc, "form", "F", help::FORM_HELP, forms, "fimi"))?
-        .arg(choice(alloc, "sep", "S", help::SEP_HELP, separators, "comma"))?
+        .arg(choice(alloc, "form", "F", help::FORM_HELP, "fimi"))?
+        .arg(choice(alloc, "sep", "S", help::SEP_HELP, "comma"))?
         .arg(flag(alloc, "header", help::HEADER_HELP))?
         .arg(flag(alloc, "weight", help::WEIGHT_HELP))?
-        .arg(choice(alloc, "miner", "A", help::MINER_HELP, miners, "apriori"))?
+        .arg(choice(alloc, "miner", "A", help::MINER_HELP, "apriori"))?
         .arg(number(
             alloc,
             "limit",
@@ -154,18 +113,16 @@ fn command<'a>(
         .arg(number(alloc, "pieces", "P", help::PIECES_HELP, MOST_PIECES, "16"))
 }
 
-fn rules_command<'a>(alloc: Global, choices: Choices<'a>) -> Result<Command<'a>, AllocError>
-    ensures options { IfOk result (λ command. app_of command ≡ rules_app choices.entry) }
+fn rules_command<'a>(alloc: Global) -> Result<Command<'a>, AllocError>
+    ensures options { IfOk result (λ command. app_of command ≡ rules_app) }
     ensures local { IfOk result (λ command. (fields_of command).has_globals ≡ false) }
 {
-    command(
+    command(alloc, "rules", help::RULES_ABOUT, help::RULES_EXAMPLE)?.arg(required(
         alloc,
-        "rules",
-        help::RULES_ABOUT,
-        help::RULES_EXAMPLE,
-        choices,
-    )?
-    .arg(required(alloc, "conf", "C", help::CONF_HELP))
+        "conf",
+        "C",
+        help::CONF_HELP,
+    ))
 }
 
 /// An option that has to be given.
@@ -181,23 +138,22 @@ fn required<'a>(alloc: Global, name: &'a str, value: &'a str, help: &'a str) -> 
         .action(ArgAction::Set)
 }
 
-/// An option whose value is one of some names.
+/// An option whose value is one of some names. Which these are is judged with the other values:
+/// `clap`'s own list of names would have the plan depend on where they lie.
 fn choice<'a>(
     alloc: Global,
     name: &'a str,
     value: &'a str,
     help: &'a str,
-    names: &'a [&'a str],
     default: &'a str,
 ) -> Arg<'a>
-    ensures rule { rule_of result ≡ choice name.now names.entry default.now }
+    ensures rule { rule_of result ≡ choice name.now default.now }
     ensures local { result.global ≡ false }
 {
     Arg::new(alloc, name)
         .long(name)
         .value_name(value)
         .help(help)
-        .value_parser(ValueParser::Names(names))
         .default_value(default)
         .action(ArgAction::Set)
 }

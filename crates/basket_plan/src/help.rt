@@ -1,4 +1,7 @@
-//! The texts of help.
+//! The texts of help, and the version.
+
+/// The version of the program, which packages and the manual page take over.
+pub const VERSION: &str = "1.0.0";
 
 pub const ABOUT: &str =
     "Lists the items and sets of items that are often bought, and the rules between them, with exact counts.";
@@ -16,7 +19,14 @@ Standard input has the baskets, by --form:
              r1,bread
              r1,milk
 In CSV, spaces and tabs at the ends of a field don't count, nor do empty names, and the
-report is CSV as well: the count, then the names. Each command's --help says more.";
+report is CSV as well: the count, then the names. Each command's --help says more.
+
+The report doesn't depend on --miner, but time and memory do:
+  apriori     few frequent sets, or many thousands of items: least memory there
+  eclat-bits  many frequent sets: quick on most data
+  fpgrowth    many frequent sets, and many baskets that begin alike
+  eclat-diff  dense data, where the frequent items are in most baskets
+  eclat       sparse data, where they are in few";
 
 pub const ITEMS_ABOUT: &str =
     "Writes each item that is in enough baskets, with the number of those baskets";
@@ -89,7 +99,9 @@ pub const CONF_HELP: &str = "The least confidence of a rule to be listed: a shar
 pub const MIN_HELP: &str = "The least count of a set to be listed: a number, as 20, \
 or a share of all baskets, as 5% or 1/200";
 
-pub const MINER_HELP: &str = "How the sets are found; the report doesn't depend on it";
+pub const MINER_HELP: &str =
+    "How the sets are found (`basket --help` says which way suits which data) \
+[possible values: apriori, eclat, eclat-diff, eclat-bits, fpgrowth]";
 
 pub const LIMIT_HELP: &str = "How many sets there may be, from 1 to 4294967295; \
 where there are more, none is written (`items` has no limit)";
@@ -100,9 +112,11 @@ pub const WORKERS_HELP: &str =
 pub const PIECES_HELP: &str =
     "How many pieces the mining is cut into, from 1 to 65536; the report doesn't depend on it";
 
-pub const FORM_HELP: &str = "How standard input is written (`basket --help` shows it)";
+pub const FORM_HELP: &str = "How standard input is written (`basket --help` shows it) \
+[possible values: fimi, baskets, single]";
 
-pub const SEP_HELP: &str = "What stands between the fields of CSV, also in the report";
+pub const SEP_HELP: &str = "What stands between the fields of CSV, also in the report \
+[possible values: comma, semicolon, tab, pipe]";
 
 pub const HEADER_HELP: &str = "Leaves out the first record of CSV";
 

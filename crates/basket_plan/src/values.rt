@@ -11,6 +11,13 @@ use basket_sets::{Minimum, parse_minimum, parse_share};
 use clap::ArgMatches;
 use std::alloc::{AllocError, Global};
 
+const BAD_FORM: &str = "basket: bad value for --form (fimi, baskets, single)\n";
+
+const BAD_SEP: &str = "basket: bad value for --sep (comma, semicolon, tab, pipe)\n";
+
+const BAD_MINER: &str =
+    "basket: bad value for --miner (apriori, eclat, eclat-diff, eclat-bits, fpgrowth)\n";
+
 /// The plan of words that clap has accepted.
 pub fn plan_from(alloc: Global, matches: &ArgMatches<'_>) -> Result<Plan, PlanFault>
     ensures made { IfOk result (λ plan. plan_of_command (subcommand_rows_of matches.now) ≡ Some plan) }
@@ -31,11 +38,11 @@ fn plan_in(name: &str, options: &ArgMatches<'_>) -> Result<Plan, &'static str>
     ensures made { IfOk result (λ plan. plan_of_rows name.now (rows_of (found_of options.now)) ≡ Some plan) }
     ensures refused { IfErr result (λ _. plan_of_rows name.now (rows_of (found_of options.now)) ≡ None) }
 {
+    let form = form_in(options).ok_or(BAD_FORM)?;
+    let sep = sep_in(options).ok_or(BAD_SEP)?;
+    let miner = miner_in(options).ok_or(BAD_MINER)?;
     let minimum = min_in(options).ok_or("basket: bad value for --min\n")?;
     let ask = ask_in(name, options).ok_or("basket: bad value for --conf\n")?;
-    let form = form_in(options).ok_or("basket: bad value for --form\n")?;
-    let sep = sep_in(options).ok_or("basket: bad value for --sep\n")?;
-    let miner = miner_in(options).ok_or("basket: bad value for --miner\n")?;
     let limit = number_in("limit", u32::MAX, options).ok_or("basket: bad value for --limit\n")?;
     let workers = number_in("workers", MOST_WORKERS, options).ok_or(
         "basket: bad value for --workers\n",

@@ -7,5 +7,6 @@ unfolding clap_on_literals
 returns c = record {
   plan = refl;
   help = refl;
+  version = refl;
   mistake = refl;
 }

@@ -2,7 +2,7 @@ use Rattle.std.proofs.Common.{◌∙◌, ◌*◌, length, subst}
 use Rattle.basket.specs.Classes.{IsJoins}
 use Rattle.mine_phases.specs.Classes.{IsWorkOfAll}
 use Rattle.basket.proofs.MiningLemmas.{joins_are}
-use Rattle.basket.proofs.mining.joined.Goals as goal
+use Rattle.basket.proofs.mining.by_eclat.Goals as goal
 
 pub returns-clause-work : goal.returns-clause-work
 returns-clause-work g c database minimum made =

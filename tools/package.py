@@ -1,0 +1,110 @@
+#!/usr/bin/env python3
+"""Makes a Debian package and a tar file of the proved program, each with its sum, under dist/.
+
+usage: tools/package.py    at the top of the repository, after `make`
+
+The same program and commit give the same bytes: every file has the commit's time and root as its owner.
+"""
+
+import gzip
+import hashlib
+import os
+import re
+import shutil
+import subprocess
+import tempfile
+from pathlib import Path
+
+PROGRAM = Path("crates/basket_cli/out/basket_cli")
+DOCUMENTS = ("README.md", "CHANGELOG.md", "docs/FORMATS.md", "docs/DEFINITIONS.md", "docs/RELEASE.md", "LICENSE")
+PLACES = {
+    "completions/basket.bash": "share/bash-completion/completions/basket",
+    "completions/_basket": "share/zsh/vendor-completions/_basket",
+    "completions/basket.fish": "share/fish/vendor_completions.d/basket.fish",
+}
+
+
+def output_of(*words: str) -> str:
+    return subprocess.run(words, stdout=subprocess.PIPE, text=True, check=True).stdout.strip()
+
+
+def least_libc() -> str:
+    """The least version of the C library that has all that the program calls."""
+    called = re.findall(r"GLIBC_(\d+)\.(\d+)", output_of("objdump", "-T", str(PROGRAM)))
+    return ".".join(max(called, key=lambda version: (int(version[0]), int(version[1]))))
+
+
+def fill(prefix: Path) -> None:
+    """Puts the program, its manual page, completions and documents below a prefix."""
+    places = {str(PROGRAM): "bin/basket", **PLACES}
+    documents = [name for name in DOCUMENTS if Path(name).is_file()]
+    places |= {name: f"share/doc/basket/{Path(name).name}" for name in documents}
+    for name, place in places.items():
+        (prefix / place).parent.mkdir(parents=True, exist_ok=True)
+        shutil.copyfile(name, prefix / place)
+    manual = prefix / "share/man/man1/basket.1.gz"
+    manual.parent.mkdir(parents=True)
+    manual.write_bytes(gzip.compress(Path("man/basket.1").read_bytes(), mtime=0))
+
+
+def settle(folder: Path, time: int) -> None:
+    """Gives all files below a folder the same time, and rights that follow from what they are."""
+    for path in (folder, *folder.rglob("*")):
+        is_run = path.is_dir() or path.parent.name == "bin"
+        path.chmod(0o755 if is_run else 0o644)
+        os.utime(path, (time, time))
+
+
+def write_control(tree: Path, version: str) -> None:
+    size = sum(path.stat().st_size for path in tree.rglob("*") if path.is_file())
+    (tree / "DEBIAN").mkdir()
+    (tree / "DEBIAN/control").write_text(
+        f"""Package: basket
+Version: {version}
+Architecture: amd64
+Maintainer: the developers of basket <basket@localhost>
+Depends: libc6 (>= {least_libc()})
+Installed-Size: {size // 1024 + 1}
+Section: math
+Priority: optional
+Description: verified market-basket miner
+ Lists the items and sets of items that are often bought together, and the
+ rules between them, with exact counts, from FIMI files and CSV.
+""",
+        encoding="utf-8",
+    )
+
+
+def sum_up(made: Path) -> None:
+    digest = hashlib.sha256(made.read_bytes()).hexdigest()
+    Path(f"{made}.sha256").write_text(f"{digest}  {made.name}\n", encoding="utf-8")
+    print(f"{digest}  {made}")
+
+
+def main() -> None:
+    version = output_of(str(PROGRAM), "--version").removeprefix("basket ")
+    time = int(output_of("git", "log", "-1", "--format=%ct"))
+    os.environ["SOURCE_DATE_EPOCH"] = str(time)
+    os.umask(0o022)
+    dist = Path("dist")
+    dist.mkdir(exist_ok=True)
+    with tempfile.TemporaryDirectory() as folder:
+        name = f"basket-{version}-x86_64-linux"
+        fill(Path(folder, name))
+        settle(Path(folder, name), time)
+        made = dist / f"{name}.tar.gz"
+        words = ["tar", "--sort=name", "--owner=0", "--group=0", "--numeric-owner", "--format=ustar"]
+        packed = subprocess.run([*words, "-C", folder, "-c", name], stdout=subprocess.PIPE, check=True)
+        made.write_bytes(gzip.compress(packed.stdout, mtime=0))
+        sum_up(made)
+        tree = Path(folder, "debian")
+        fill(tree / "usr")
+        write_control(tree, version)
+        settle(tree, time)
+        made = dist / f"basket_{version}_amd64.deb"
+        output_of("dpkg-deb", "--root-owner-group", "-Zxz", "--build", str(tree), str(made))
+        sum_up(made)
+
+
+if __name__ == "__main__":
+    main()

@@ -1,0 +1,53 @@
+"""The built program, and what a run of it gives."""
+
+import os
+import subprocess
+from collections.abc import Callable
+from dataclasses import dataclass
+from pathlib import Path
+
+ROOT = Path(__file__).parents[2]
+PROGRAM = os.environ.get("BASKET", str(ROOT / "crates/basket_cli/out/basket_cli"))
+SECONDS = 120
+
+
+@dataclass(frozen=True)
+class Run:
+    """What a run wrote, and how it ended."""
+
+    out: bytes
+    said: str
+    status: int
+
+
+def run(
+    words: list[str], given: bytes = b"", prepare: Callable[[], None] | None = None
+) -> Run:
+    """Runs the program with these words over these bytes."""
+    ended = subprocess.run(
+        [PROGRAM, *words],
+        input=given,
+        capture_output=True,
+        timeout=SECONDS,
+        preexec_fn=prepare,
+        check=False,
+    )
+    return Run(ended.stdout, ended.stderr.decode(), ended.returncode)
+
+
+def run_between(words: list[str], given: str, taken: str) -> Run:
+    """Runs the program from a file or folder of a name to another."""
+    opened = os.open(given, os.O_RDONLY)
+    try:
+        with open(taken, "wb") as out:
+            ended = subprocess.run(
+                [PROGRAM, *words],
+                stdin=opened,
+                stdout=out,
+                stderr=subprocess.PIPE,
+                timeout=SECONDS,
+                check=False,
+            )
+    finally:
+        os.close(opened)
+    return Run(b"", ended.stderr.decode(), ended.returncode)

@@ -1,0 +1,114 @@
+"""README, manual page, completions and change log say what the program does."""
+
+import re
+import shlex
+import subprocess
+import tempfile
+import unittest
+from pathlib import Path
+
+from .program import PROGRAM, ROOT, run
+
+COMMANDS = ("items", "sets", "closed", "maximal", "rules")
+DOCUMENTS = ("README.md", "man/basket.1")
+COMPLETIONS = ("completions/basket.bash", "completions/_basket", "completions/basket.fish")
+
+
+def text_of(name: str) -> str:
+    return (ROOT / name).read_text(encoding="utf-8")
+
+
+def manual() -> str:
+    """The source of the manual page without marks of fonts and without escaped hyphens."""
+    plain = re.sub(r"^\.\w+ ", "", text_of("man/basket.1"), flags=re.MULTILINE)
+    return plain.replace("\\-", "-").replace("\\e", "\\")
+
+
+def shown(document: str) -> list[tuple[str, str]]:
+    """Each command that a document shows behind a dollar sign, with the lines that it shows below."""
+    found: list[tuple[str, str]] = []
+    command, lines, indent = "", "", ""
+    for line in document.splitlines():
+        start = re.match(r"( *)\$ (.*basket .*)$", line)
+        is_below = command and line.startswith(indent) and line.strip(" `")
+        if start or not is_below:
+            if command:
+                found.append((command, lines))
+            command, lines, indent = (start[2], "", start[1]) if start else ("", "", "")
+        else:
+            lines += line.removeprefix(indent) + "\n"
+    return found
+
+
+def options_of(command: str) -> set[str]:
+    said = run([command, "--help"]).out.decode()
+    return set(re.findall(r"(?m)^ +(?:-\w, )?(--[a-z]+)", said))
+
+
+def values_of(option: str) -> list[str]:
+    """The values that help lists of an option."""
+    said = run(["sets", "--help"]).out.decode()
+    found = re.search(rf"--{option} .*\[possible values: ([^]]*)\]", said)
+    return found[1].split(", ") if found else []
+
+
+class Documents(unittest.TestCase):
+    """Texts that are written by hand, beside what the program says."""
+
+    def test_commands_that_a_document_shows_write_what_it_shows(self) -> None:
+        with tempfile.TemporaryDirectory() as folder:
+            Path(folder, "basket").symlink_to(Path(PROGRAM).resolve())
+            for name in DOCUMENTS:
+                text = manual() if name.endswith(".1") else text_of(name)
+                rows = shown(text)
+                self.assertTrue(rows, f"{name} shows no command")
+                for command, lines in rows:
+                    with self.subTest(name=name, command=command):
+                        words = ["bash", "-c", f"PATH={shlex.quote(folder)}:$PATH; {command}"]
+                        ended = subprocess.run(words, cwd=ROOT, capture_output=True, check=False)
+                        self.assertEqual((ended.stdout.decode(), ended.returncode), (lines, 0))
+
+    def test_manual_and_completions_have_each_option_and_no_other(self) -> None:
+        wanted = {"--version"}.union(*(options_of(command) for command in COMMANDS))
+        self.assertIn("--conf", wanted)
+        self.assertEqual(set(re.findall(r"--[a-z]+", manual())), wanted)
+        for name in COMPLETIONS:
+            with self.subTest(name=name):
+                found = re.findall(r"--([a-z]+)|-l ([a-z]+)", text_of(name))
+                self.assertEqual({f"--{long or short}" for long, short in found}, wanted)
+
+    def test_manual_and_completions_have_each_command_and_value(self) -> None:
+        for name in ("man/basket.1", *COMPLETIONS):
+            text = manual() if name.endswith(".1") else text_of(name)
+            for option in ("form", "sep", "miner"):
+                values = values_of(option)
+                self.assertGreater(len(values), 2, option)
+                for word in (*COMMANDS, *values):
+                    with self.subTest(name=name, word=word):
+                        self.assertRegex(text, rf"(?<![\w-]){word}(?![\w-])")
+
+    def test_completion_for_bash_offers_commands_options_and_values(self) -> None:
+        rows = (("basket it", "items"), ("basket rules --co", "--conf"), ("basket sets --miner f", "fpgrowth"))
+        for line, wanted in rows:
+            words = line.split()
+            script = (
+                f"source {ROOT}/completions/basket.bash; COMP_WORDS=({line}); "
+                f"COMP_CWORD={len(words) - 1}; _basket; echo ${{COMPREPLY[*]}}"
+            )
+            with self.subTest(line=line):
+                said = subprocess.run(["bash", "-c", script], capture_output=True, check=True).stdout
+                self.assertEqual(said.decode().strip(), wanted)
+
+    def test_the_version_is_the_same_everywhere(self) -> None:
+        version = run(["--version"]).out.decode().removeprefix("basket ").strip()
+        self.assertRegex(version, r"^\d+\.\d+\.\d+$")
+        self.assertIn(f'"basket {version}"', text_of("man/basket.1"))
+        self.assertRegex(text_of("CHANGELOG.md"), rf"\A# [^\n]*\n+## {re.escape(version)}\b")
+
+    def test_the_manual_page_is_laid_out_without_a_warning(self) -> None:
+        words = ["groff", "-man", "-Tutf8", "-ww", "-z", str(ROOT / "man/basket.1")]
+        try:
+            ended = subprocess.run(words, capture_output=True, check=False)
+        except FileNotFoundError:
+            self.skipTest("groff isn't here")
+        self.assertEqual((ended.stderr.decode(), ended.returncode), ("", 0))

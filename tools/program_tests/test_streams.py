@@ -1,0 +1,81 @@
+"""Exit statuses, and where each text goes."""
+
+import os
+import resource
+import tempfile
+import unittest
+
+from .program import run, run_between
+
+ITEMS = ["items", "--min", "1"]
+SETS = ["sets", "--min", "1"]
+
+
+def little_memory() -> None:
+    """Leaves the process 64 MB of addresses."""
+    resource.setrlimit(resource.RLIMIT_AS, (1 << 26, 1 << 26))
+
+
+class Statuses(unittest.TestCase):
+    """What the program answers, and on which stream it says why."""
+
+    def test_a_report_goes_to_standard_output_and_ends_with_0(self) -> None:
+        ended = run(SETS, b"1 2\n")
+        self.assertEqual((ended.out, ended.said, ended.status), (b"1 (1)\n2 (1)\n1 2 (1)\n", "", 0))
+
+    def test_help_and_the_version_go_to_standard_output_and_end_with_0(self) -> None:
+        for words in (["--help"], ["sets", "--help"], ["-h"], ["--version"], ["-V"]):
+            with self.subTest(words=words):
+                ended = run(words)
+                self.assertTrue(ended.out)
+                self.assertEqual((ended.said, ended.status), ("", 0))
+
+    def test_a_mistake_in_the_words_is_told_on_standard_error_and_ends_with_2(self) -> None:
+        rows = (
+            ([], "Usage: basket"),
+            (["things"], "'things'"),
+            (["sets"], "--min"),
+            (["sets", "--min", "0"], "basket: bad value for --min\n"),
+            (["rules", "--min", "1", "--conf", "2"], "basket: bad value for --conf\n"),
+            (["sets", "--min", "1", "--miner", "fp"], "basket: bad value for --miner (apriori, "),
+            (["sets", "--min", "1", "--workers", "65"], "'65'"),
+            (["sets", "--min", b"\xff"], "basket: the command line is not UTF-8 text\n"),
+        )
+        for words, text in rows:
+            with self.subTest(words=words):
+                ended = run([os.fsdecode(word) for word in words])
+                self.assertIn(text, ended.said)
+                self.assertEqual((ended.out, ended.status), (b"", 2))
+
+    def test_a_refused_input_is_told_on_standard_error_and_ends_with_3(self) -> None:
+        ended = run(SETS, b"1 2\n3 -\n")
+        said = "basket: line 2: byte 0x2D is no digit or blank\n"
+        self.assertEqual((ended.out, ended.said, ended.status), (b"", said, 3))
+
+    def test_an_input_that_cannot_be_read_ends_with_4(self) -> None:
+        with tempfile.TemporaryDirectory() as folder:
+            ended = run_between(SETS, folder, os.devnull)
+        self.assertEqual((ended.said, ended.status), ("basket: cannot read the input\n", 4))
+
+    def test_an_output_that_takes_nothing_ends_with_4(self) -> None:
+        with tempfile.NamedTemporaryFile() as baskets:
+            baskets.write(b"1 2\n")
+            baskets.flush()
+            for words in (ITEMS, SETS):
+                with self.subTest(words=words):
+                    ended = run_between(words, baskets.name, "/dev/full")
+                    said = "basket: cannot write the report\n"
+                    self.assertEqual((ended.said, ended.status), (said, 4))
+        ended = run_between(["--help"], os.devnull, "/dev/full")
+        self.assertEqual(ended.status, 4)
+
+    def test_more_sets_than_the_limit_end_with_5(self) -> None:
+        ended = run([*SETS, "--limit", "2"], b"1 2\n")
+        said = "basket: more than 2 frequent itemsets\n"
+        self.assertEqual((ended.out, ended.said, ended.status), (b"", said, 5))
+
+    def test_want_of_memory_ends_with_6(self) -> None:
+        many = b"".join(b"%d %d\n" % (place, place + 1) for place in range(2_000_000))
+        ended = run(SETS, many, little_memory)
+        said = "basket: out of memory\n"
+        self.assertEqual((ended.out, ended.said, ended.status), (b"", said, 6))

@@ -1,0 +1,21 @@
+#!/usr/bin/env bash
+# Installs a package in a Debian system that has nothing of this repository, runs the program there and takes it away
+# again: try_package.sh DEB, as root, with debootstrap and Debian's packages within reach.
+set -eu
+deb=$(realpath "$1")
+root=$(mktemp -d)
+trap 'rm -rf --one-file-system "$root"' EXIT
+debootstrap --variant=minbase stable "$root" > "$root.log" || { cat "$root.log"; exit 1; }
+rm "$root.log"
+cp "$deb" "$root/basket.deb"
+inside() { env -i PATH=/usr/sbin:/usr/bin:/sbin:/bin chroot "$root" "$@"; }
+inside dpkg --install /basket.deb
+inside basket --version
+printf '1 2 5\n2 4\n2 3\n' | inside basket items --min 2 | tee "$root/report"
+[ "$(cat "$root/report")" = "2 (3)" ]
+inside dpkg --purge basket
+if inside sh -c 'command -v basket || find /usr/share -name "*basket*" | grep .'; then
+    echo "something was left" >&2
+    exit 1
+fi
+echo "installed, run and taken away"
