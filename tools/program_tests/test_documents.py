@@ -20,7 +20,8 @@ def text_of(name: str) -> str:
 
 def manual() -> str:
     """The source of the manual page without marks of fonts and without escaped hyphens."""
-    plain = re.sub(r"^\.\w+ ", "", text_of("man/basket.1"), flags=re.MULTILINE)
+    plain = re.sub(r"(?m)^\.(nf|fi|br|PP|TP|SH.*)$", "", text_of("man/basket.1"))
+    plain = re.sub(r"(?m)^\.\w+ ", "", plain)
     return plain.replace("\\-", "-").replace("\\e", "\\")
 
 
@@ -28,7 +29,7 @@ def shown(document: str) -> list[tuple[str, str]]:
     """Each command that a document shows behind a dollar sign, with the lines that it shows below."""
     found: list[tuple[str, str]] = []
     command, lines, indent = "", "", ""
-    for line in document.splitlines():
+    for line in [*document.splitlines(), ""]:
         start = re.match(r"( *)\$ (.*basket .*)$", line)
         is_below = command and line.startswith(indent) and line.strip(" `")
         if start or not is_below:
@@ -67,6 +68,14 @@ class Documents(unittest.TestCase):
                         words = ["bash", "-c", f"PATH={shlex.quote(folder)}:$PATH; {command}"]
                         ended = subprocess.run(words, cwd=ROOT, capture_output=True, check=False)
                         self.assertEqual((ended.stdout.decode(), ended.returncode), (lines, 0))
+
+    def test_the_theorem_that_readme_quotes_stands_in_the_source(self) -> None:
+        theorem = text_of("README.md").partition("## The theorem\n")[2].partition("\n## ")[0]
+        quoted = [line.strip() for line in theorem.splitlines() if line.startswith("    ")]
+        self.assertGreater(len(quoted), 10)
+        source = text_of("crates/basket/src/engine.rt") + text_of("crates/basket/specs/Outcome.antt")
+        stated = {line.strip() for line in source.splitlines()}
+        self.assertEqual([line for line in quoted if line and line not in stated], [])
 
     def test_manual_and_completions_have_each_option_and_no_other(self) -> None:
         wanted = {"--version"}.union(*(options_of(command) for command in COMMANDS))
