@@ -1,8 +1,8 @@
 -- The items of an input that are counted while it is read.
 use Rattle.std.proofs.Common.{◌≡◌, ℕ, ◌+◌, ◌≤◌, ◌<◌, ◌^◌, List, [], ◌∷◌, ◌++◌, Bool, true, false, cond, Option, Some, None, Ok, Err, refl, sym, ap, ◌∙◌, subst, arith}
 use Rattle.std.specs.Prelude.{IfSome}
-use Rattle.basket_core.proofs.theory.Added.{number_is_support, item_supports_add_up, items_of_map}
-use Rattle.basket_core.specs.Added.{added_counts, items_of_counts, number_of}
+use Rattle.basket_ranks.proofs.theory.Added.{number_is_support, item_supports_add_up, items_of_map}
+use Rattle.basket_ranks.specs.Added.{added_counts, items_of_counts, number_of}
 use Rattle.basket_core.specs.declared.fault.MineFault.TheVariants.{TooMany}
 use Rattle.basket_plan.specs.declared.plan.Ask.TheVariants.{Items}
 use Rattle.basket_plan.specs.declared.plan.Form.TheVariants.{Fimi}

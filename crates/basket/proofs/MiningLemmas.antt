@@ -4,12 +4,12 @@ use Rattle.std.specs.List.{range_with_len, sum, sum_by}
 use Rattle.std.proofs.lemmas.List.Sums.{sum_by-cons}
 use Rattle.basket_sets.specs.declared.minimum.Minimum.{Minimum}
 use Rattle.basket_sets.specs.declared.weighted.Weighted.{Weighted}
-use Rattle.basket_core.specs.Codes.{Coding, IsCoding, coding_of, merged_coding, baskets_of, frequent_of_coding, ranks_of}
-use Rattle.basket_core.specs.Depth.{HasSetOfSize}
+use Rattle.basket_ranks.specs.Codes.{Coding, IsCoding, coding_of, merged_coding, baskets_of, frequent_of_coding, ranks_of}
+use Rattle.basket_ranks.specs.Depth.{HasSetOfSize}
 use Rattle.basket_sets.specs.Frequent.{frequent_of}
 use Rattle.basket_sets.specs.Support.{total_of}
-use Rattle.basket_core.proofs.theory.Coding.{coding_keeps_frequent, coded_total, merging_keeps_coded}
-use Rattle.basket_core.proofs.theory.Depth.{deep_sets_are_many}
+use Rattle.basket_ranks.proofs.theory.Coding.{coding_keeps_frequent, coded_total, merging_keeps_coded}
+use Rattle.basket_ranks.proofs.theory.Depth.{deep_sets_are_many}
 use Rattle.mine_classes.specs.Mined.{CodedRanksAreFrequent, RanksAreFrequent}
 use Rattle.mine_fp.specs.Trees.{ClassTreesAddUp, class_trees, trees_of}
 use Rattle.mine_phases.specs.Classes.{IsWorkOfAll, MOST_WORK}

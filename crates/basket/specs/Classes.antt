@@ -1,6 +1,6 @@
 -- The work of mining class by class.
 use Rattle.std.specs.Prelude.{◌≡◌, ℕ}
-use Rattle.basket_core.specs.Codes.{Coding}
+use Rattle.basket_ranks.specs.Codes.{Coding}
 use Rattle.mine_classes.specs.Mined.{RanksAreFrequent}
 use Rattle.mine_fp.specs.Trees.{class_trees}
 use Rattle.mine_vertical.specs.Part.{numbered_joins}

@@ -3,7 +3,7 @@ use Rattle.std.specs.Prelude.{◌≡◌, List, min}
 use Rattle.basket.specs.declared.mining.Work.{Work}
 use Rattle.basket_plan.specs.declared.plan.Miner.{Miner}
 use Rattle.basket_plan.specs.declared.plan.Miner.TheVariants.{Apriori, Eclat, EclatDiff, EclatBits, FpGrowth}
-use Rattle.basket_core.specs.Codes.{Coding, coding_of}
+use Rattle.basket_ranks.specs.Codes.{Coding, coding_of}
 use Rattle.basket_sets.specs.declared.minimum.Minimum.{Minimum}
 use Rattle.basket_sets.specs.declared.weighted.Weighted.{Weighted}
 use Rattle.mine_apriori.specs.Work.{candidate_count}

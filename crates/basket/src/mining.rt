@@ -2,7 +2,7 @@
 ghost use Rattle.std.specs.Prelude.{◌≡◌, ◌<◌, ◌≤◌, ◌+◌, ◌^◌, ℕ, Err, IfOk, length};
 ghost use Rattle.basket.specs.Mining.{IsWorkOf, IsWorkOver, candidate_work, join_work, tree_work, work_of};
 ghost use Rattle.basket_core.specs.declared.fault.MineFault.TheVariants.{TooMany};
-ghost use Rattle.basket_core.specs.Codes.{coding_of, frequent_of_coding};
+ghost use Rattle.basket_ranks.specs.Codes.{coding_of, frequent_of_coding};
 ghost use Rattle.basket_core.specs.Listing.{listing_of};
 ghost use Rattle.basket_sets.specs.Frequent.{frequent_of};
 ghost use Rattle.basket_sets.specs.Support.{total_of};

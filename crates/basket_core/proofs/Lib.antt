@@ -1,6 +1,2 @@
-pub mod theory
-mod RankLemmas
-mod CodeLemmas
-mod DepthLemmas
 mod FractionLemmas
 mod DivisorLemmas

@@ -9,11 +9,6 @@ pub use Rattle.basket_sets.specs.Frequent
 pub use Rattle.basket_sets.specs.Worked
 pub use Rattle.basket_lists.specs.CountedSets
 pub use Rattle.basket_stream.specs.Stream
-pub mod Codes
-pub mod Ranks
 pub mod Listing
 pub mod Tally
-pub mod Depth
 pub mod Fraction
-pub mod Shards
-pub mod Added

@@ -1,7 +1,7 @@
 -- The complete list of the frequent sets.
 use Rattle.std.specs.Prelude.{ℕ, List}
 use Rattle.basket_sets.specs.declared.counted.Counted.{Counted}
-use Rattle.basket_core.specs.Codes.{Coding, frequent_of_coding}
+use Rattle.basket_ranks.specs.Codes.{Coding, frequent_of_coding}
 use Rattle.basket_sets.specs.Support.{total_of}
 
 -- sets with their supports, and the weight of all baskets together

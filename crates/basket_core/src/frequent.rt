@@ -1,12 +1,12 @@
 ghost use Rattle.std.specs.Prelude.{◌≡◌, IfOk};
 ghost use Rattle.std.specs.List.{flat_map};
-ghost use Rattle.basket_core.specs.Codes.{baskets_of};
+ghost use Rattle.basket_ranks.specs.Codes.{baskets_of};
 ghost use Rattle.basket_core.specs.Listing.{listing_of};
 ghost use Rattle.basket_sets.specs.Frequent.{ListsOnce};
 
-use crate::codes::Coded;
 use crate::unpacked::Unpacked;
 use basket_lists::CountedSets;
+use basket_ranks::Coded;
 use std::alloc::{AllocError, Global};
 use std::marker::Model;
 use std::thread::Threads;

@@ -7,9 +7,9 @@ use Rattle.std.proofs.lemmas.List.{append_assoc, append-nil, map-append, take_mo
 use Rattle.std.proofs.lemmas.List.Concat.{flat_map-append}
 use Rattle.std.proofs.lemmas.List.Elements.{filter-append, filter_more, All-from_recursion}
 use Rattle.std.proofs.Math.Pow.{pow_mono}
-use Rattle.basket_core.specs.Depth.{HasSetOfSize}
+use Rattle.basket_ranks.specs.Depth.{HasSetOfSize}
 use Rattle.basket_core.specs.Listing.{Listing}
-use Rattle.basket_core.proofs.theory.Depth.{deep_sets_are_many}
+use Rattle.basket_ranks.proofs.theory.Depth.{deep_sets_are_many}
 use Rattle.basket_sets.specs.declared.weighted.Weighted.{Weighted}
 use Rattle.basket_sets.specs.declared.counted.Counted.{Counted}
 use Rattle.basket_sets.specs.declared.minimum.Minimum.{Minimum}

@@ -12,9 +12,9 @@ use Rattle.std.proofs.lemmas.List.Kept.{IsStrictlySortedBy-filter}
 use Rattle.std.proofs.lemmas.Map.Keys.{IsDistinct-from_sorted}
 use Rattle.std.proofs.lemmas.Map.Made.{length-from_same_keys}
 use Rattle.std.proofs.lemmas.Map.Views.{Contains-from_any, list_any-from_Contains}
-use Rattle.basket_core.specs.Codes.{Coding, IsCoding, baskets_of, coded, decoded}
-use Rattle.basket_core.proofs.theory.Coding.{from_decoded, from_ranks, into_decoded, ranks_rise}
-use Rattle.basket_core.proofs.theory.Decoding.{decoded_apart, items_ranked, rank_from_decoded, ranks_below, recoded, test_is}
+use Rattle.basket_ranks.specs.Codes.{Coding, IsCoding, baskets_of, coded, decoded}
+use Rattle.basket_ranks.proofs.theory.Coding.{from_decoded, from_ranks, into_decoded, ranks_rise}
+use Rattle.basket_ranks.proofs.theory.Decoding.{decoded_apart, items_ranked, rank_from_decoded, ranks_below, recoded, test_is}
 use Rattle.basket_sets.specs.declared.weighted.Weighted.{Weighted}
 use Rattle.basket_sets.specs.declared.minimum.Minimum.{Minimum}
 use Rattle.basket_sets.specs.Counts.{AllBelow}

@@ -8,7 +8,7 @@ use Rattle.std.proofs.lemmas.List.{append-nil, length-append, length-map, map-ap
 use Rattle.std.proofs.lemmas.Option.{slice_get_within, get_or_from_slice_get}
 use Rattle.std.proofs.lemmas.List.Elements.{filter-append}
 use Rattle.std.proofs.lemmas.List.Kept.{IsStrictlySortedBy-filter}
-use Rattle.basket_core.specs.Codes.{Coding, IsCoding, baskets_of, frequent_of_coding, decoded_set}
+use Rattle.basket_ranks.specs.Codes.{Coding, IsCoding, baskets_of, frequent_of_coding, decoded_set}
 use Rattle.basket_sets.specs.Counts.{item_supports, AllBelow}
 use Rattle.basket_sets.specs.Frequent.{is_frequent, counted, frequent_of, ListsOnce}
 use Rattle.basket_sets.specs.Itemset.{IsRising}
@@ -16,7 +16,7 @@ use Rattle.basket_sets.specs.Minimum.{meets}
 use Rattle.basket_sets.specs.Order.{report_order, report_order_total, IsInReportOrder}
 use Rattle.basket_sets.specs.Subsets.{subsets_of_size, subsets_up_to}
 use Rattle.basket_sets.specs.Support.{support_of, total_of, items_of, all_items}
-use Rattle.basket_core.proofs.theory.Decoding.{decoding_keeps_frequent, ranks_below, as_many}
+use Rattle.basket_ranks.proofs.theory.Decoding.{decoding_keeps_frequent, ranks_below, as_many}
 use Rattle.basket_sets.proofs.theory.Frequent.{frequent_once}
 use Rattle.std.proofs.lemmas.Simd.{map-map}
 use Rattle.basket_sets.proofs.theory.Items.{filter-map, one_item}

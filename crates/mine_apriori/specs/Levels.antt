@@ -1,6 +1,6 @@
 -- The frequent sets by levels: those of one item, those of two, and so on.
 use Rattle.std.specs.Prelude.{◌≡◌, ◌<◌, ◌≤◌, ◌+◌, ℕ, List, length, filter, map}
-use Rattle.basket_core.specs.Codes.{Coding, frequent_of_coding}
+use Rattle.basket_ranks.specs.Codes.{Coding, frequent_of_coding}
 use Rattle.basket_sets.specs.Frequent.{is_frequent}
 use Rattle.basket_sets.specs.Subsets.{subsets_of_size, subsets_up_to}
 use Rattle.basket_sets.specs.Support.{support_of, items_of}

@@ -1,7 +1,7 @@
 //! Apriori, level by level.
 ghost use Rattle.std.specs.Prelude.{◌≡◌, ◌≢◌, ◌<◌, ◌≤◌, ◌+◌, ◌-◌, ◌*◌, ◌/◌, ◌^◌, ◌++◌, [], ◌∷◌, ℕ, List, Err, IfOk, IfErr, OnOk, drop, filter, length, map, All};
 ghost use Rattle.basket_core.specs.declared.fault.MineFault.TheVariants.{Memory, TooMany};
-ghost use Rattle.basket_core.specs.Codes.{IsCoding, baskets_of, decoded_set};
+ghost use Rattle.basket_ranks.specs.Codes.{IsCoding, baskets_of, decoded_set};
 ghost use Rattle.basket_sets.specs.Counts.{AllBelow};
 ghost use Rattle.basket_sets.specs.Frequent.{counted, is_frequent};
 ghost use Rattle.basket_core.specs.Listing.{listing_of};
@@ -140,7 +140,7 @@ pub struct FirstLevel<'a> {
 
 impl<'a> Model for FirstLevel<'a> {
     ghost use Rattle.std.specs.Prelude.{◌≤◌, length};
-    ghost use Rattle.basket_core.specs.Codes.{IsCoding};
+    ghost use Rattle.basket_ranks.specs.Codes.{IsCoding};
     ghost use Rattle.mine_apriori.specs.Levels.{AreFound, Search};
 
     ghost Value = { Search };
@@ -211,7 +211,7 @@ pub struct Levels<'a> {
 }
 
 impl<'a> Model for Levels<'a> {
-    ghost use Rattle.basket_core.specs.Codes.{IsCoding};
+    ghost use Rattle.basket_ranks.specs.Codes.{IsCoding};
     ghost use Rattle.mine_apriori.specs.Levels.{Search, Knows};
 
     ghost Value = { Search };

@@ -1,7 +1,7 @@
 //! A count for each pair of ranks.
 ghost use Rattle.std.specs.Prelude.{◌≡◌, ◌<◌, ◌≤◌, ◌+◌, ◌-◌, ◌*◌, ◌/◌, ◌^◌, ℕ, IfOk, filter, length, map, replicate, slice_index};
 ghost use Rattle.std.specs.List.{range_with_len};
-ghost use Rattle.basket_core.specs.Codes.{IsCoding};
+ghost use Rattle.basket_ranks.specs.Codes.{IsCoding};
 ghost use Rattle.basket_sets.specs.Counts.{AllBelow};
 ghost use Rattle.basket_sets.specs.Database.{MOST_WEIGHT};
 ghost use Rattle.basket_sets.specs.Itemset.{IsRising};

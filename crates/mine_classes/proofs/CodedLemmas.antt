@@ -8,8 +8,8 @@ use Rattle.std.proofs.lemmas.List.{get_or_default}
 use Rattle.std.proofs.lemmas.List.Elements.{All-weaker, recursion_from_All}
 use Rattle.std.proofs.lemmas.List.Kept.{IsStrictlySortedBy-filter}
 use Rattle.std.proofs.lemmas.List.Sums.{sum_by-cons}
-use Rattle.basket_core.specs.Codes.{IsCoding, IsCodedPlace, MOST_RANKS, coded, coded_place, decoded, decoded_place}
-use Rattle.basket_core.proofs.theory.Coding.{from_decoded, from_ranks, into_decoded, into_ranks}
+use Rattle.basket_ranks.specs.Codes.{IsCoding, IsCodedPlace, MOST_RANKS, coded, coded_place, decoded, decoded_place}
+use Rattle.basket_ranks.proofs.theory.Coding.{from_decoded, from_ranks, into_decoded, into_ranks}
 use Rattle.basket_sets.specs.declared.weighted.Weighted.{Weighted}
 use Rattle.basket_sets.specs.declared.minimum.Minimum.TheVariants.{Count}
 use Rattle.basket_sets.specs.Counts.{AllBelow}

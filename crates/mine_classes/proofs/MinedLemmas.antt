@@ -22,10 +22,10 @@ use Rattle.basket_sets.proofs.theory.Merging.{merging_keeps_supports}
 use Rattle.basket_sets.proofs.theory.Members.{Member, at_Member, Member-append, Member-append_left, Member-append_right, Member-map, Member-from_map, Member-from_Contains, Contains-from_Member}
 use Rattle.basket_sets.proofs.theory.Rising.{nil_rises, contains_each}
 use Rattle.basket_sets.proofs.theory.Support.{subsets_are_frequent, at_least_one, in_items}
-use Rattle.basket_core.specs.Codes.{Coding, DecodingKeepsFrequent, IsCodedPlace, baskets_of, coding_of, decoded_set, merged_coding, ranks_of}
-use Rattle.basket_core.proofs.theory.Coding.{coded_support, coded_total, ranked_is_frequent}
-use Rattle.basket_core.proofs.theory.Decoding.{as_many}
-use Rattle.basket_core.proofs.theory.Depth.{deep_sets_are_many}
+use Rattle.basket_ranks.specs.Codes.{Coding, DecodingKeepsFrequent, IsCodedPlace, baskets_of, coding_of, decoded_set, merged_coding, ranks_of}
+use Rattle.basket_ranks.proofs.theory.Coding.{coded_support, coded_total, ranked_is_frequent}
+use Rattle.basket_ranks.proofs.theory.Decoding.{as_many}
+use Rattle.basket_ranks.proofs.theory.Depth.{deep_sets_are_many}
 use Rattle.mine_classes.specs.Classes.{ListsClass, class_of, ends_in, extended, with_rank}
 use Rattle.mine_classes.specs.Mined.{ClassItemsAreAll, ClassSizesAddUp, CodedRanksAreFrequent, DeepClassesAreLarge, ListsClassItems, ListsHaveClassSize, RanksAreFrequent, class_size}
 use Rattle.mine_classes.proofs.ClassLemmas.{sets, Member-sets, ends_in-push, extended_distinct, front_below, front_of, front_rises, push_rises, push_some}

@@ -8,8 +8,8 @@ use Rattle.std.proofs.lemmas.Bool.{cases_Bool, cases_eq, cases_lt, eq-eqb, ne_eq
 use Rattle.std.proofs.lemmas.List.{append-nil, ext_get_or, get_or_default, get_or-map, get_or-replicate, get_or-set_same, get_or-set_other, get_or-take, length-map, length-replicate, length-take, map-append, take-set, take_more, take_more_set}
 use Rattle.std.proofs.lemmas.List.Elements.{All-from_recursion, recursion_from_All}
 use Rattle.basket_sets.specs.declared.weighted.Weighted.{Weighted}
-use Rattle.basket_core.specs.Codes.{coded, coded_place, rank_from, rank_of}
-use Rattle.basket_core.proofs.theory.Coding.{coded_place_is, coded_total, from_ranks, into_ranks, ranks_rise}
+use Rattle.basket_ranks.specs.Codes.{coded, coded_place, rank_from, rank_of}
+use Rattle.basket_ranks.proofs.theory.Coding.{coded_place_is, coded_total, from_ranks, into_ranks, ranks_rise}
 use Rattle.basket_sets.specs.Database.{MOST_WEIGHT, weighted}
 use Rattle.basket_sets.specs.Itemset.{IsRising, has}
 use Rattle.basket_sets.proofs.theory.Members.{Member, Contains-from_Member}

@@ -8,8 +8,8 @@ use Rattle.std.proofs.lemmas.List.Elements.{All-weaker, recursion_from_All}
 use Rattle.std.proofs.lemmas.List.Kept.{IsStrictlySortedBy-filter}
 use Rattle.std.proofs.lemmas.List.Sums.{sum_by-cons, sum_by-append, sum_by-le-sum_by, sum_by_more_le}
 use Rattle.std.proofs.lemmas.Simd.{map-map}
-use Rattle.basket_core.specs.Codes.{coded_place}
-use Rattle.basket_core.proofs.theory.Coding.{coded_support}
+use Rattle.basket_ranks.specs.Codes.{coded_place}
+use Rattle.basket_ranks.proofs.theory.Coding.{coded_support}
 use Rattle.basket_sets.specs.declared.weighted.Weighted.{Weighted}
 use Rattle.basket_sets.specs.declared.minimum.Minimum.TheVariants.{Count}
 use Rattle.basket_sets.specs.Database.{MOST_WEIGHT}

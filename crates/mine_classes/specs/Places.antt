@@ -1,7 +1,7 @@
 -- Baskets of the ranks that stand in a list, by their places there.
 use Rattle.std.specs.Prelude.{◌≡◌, ◌<◌, ℕ, List, Option, Some, None, length, slice_index, slice_index_or, false}
 use Rattle.std.specs.List.{filter_map}
-use Rattle.basket_core.specs.Codes.{rank_of}
+use Rattle.basket_ranks.specs.Codes.{rank_of}
 use Rattle.basket_sets.specs.declared.weighted.Weighted.{Weighted}
 use Rattle.basket_sets.specs.Database.{weighted}
 use Rattle.basket_sets.specs.Itemset.{has}

@@ -2,7 +2,7 @@
 use Rattle.std.specs.Prelude.{◌≡◌, ◌<◌, ◌-◌, ◌^◌, ◌==◌, ℕ, Bool, bit_or, List, Option, Some, None, filter, fold, length, map, slice_index}
 use Rattle.std.specs.Int.{bit_at}
 use Rattle.std.specs.List.{range_with_len}
-use Rattle.basket_core.specs.Codes.{rank_of}
+use Rattle.basket_ranks.specs.Codes.{rank_of}
 use Rattle.basket_sets.specs.declared.weighted.Weighted.{Weighted}
 use Rattle.basket_sets.specs.Database.{weighted}
 use Rattle.mine_classes.specs.declared.words.Word.{Word}

@@ -1,6 +1,6 @@
 //! The conditional database of a rank.
 ghost use Rattle.std.specs.Prelude.{◌≡◌, ◌<◌, IfOk, length, map};
-ghost use Rattle.basket_core.specs.Codes.{IsCoding, baskets_of};
+ghost use Rattle.basket_ranks.specs.Codes.{IsCoding, baskets_of};
 ghost use Rattle.basket_sets.specs.declared.minimum.Minimum.TheVariants.{Count};
 ghost use Rattle.mine_classes.specs.Conditional.{conditional};
 ghost use Rattle.mine_classes.specs.Form.{form_baskets};
@@ -26,7 +26,7 @@ pub struct Conditional {
 
 impl Model for Conditional {
     ghost use Rattle.std.specs.Prelude.{◌≡◌, length};
-    ghost use Rattle.basket_core.specs.Codes.{Coding};
+    ghost use Rattle.basket_ranks.specs.Codes.{Coding};
     ghost use Rattle.basket_sets.specs.declared.minimum.Minimum.TheVariants.{Count};
     ghost use Rattle.mine_classes.specs.Form.{form_baskets};
 

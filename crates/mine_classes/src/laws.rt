@@ -4,7 +4,7 @@ ghost use Rattle.mine_classes.specs.Conditional.{ConditionalSupports};
 ghost use Rattle.mine_classes.specs.Classes.{ClassesAreListed, ClassesAreConditional, RareRanksHaveNoClass, ClassesAreAll, SupportsSettleFrequent, LeastSupportSettles, ClassesByCodings, DecodedClassesAreAll};
 ghost use Rattle.mine_classes.specs.Mined.{ClassItemsAreAll, ClassSizesAddUp, CodedRanksAreFrequent, DeepClassesAreLarge, ListsHaveClassSize};
 
-use basket_core::laws::decoding_keeps_frequent;
+use basket_ranks::laws::decoding_keeps_frequent;
 
 /// A set of ranks that the conditional database of a rank keeps has there the support that it has,
 /// with the rank added, in the baskets (Han, Pei and Yin 2000).

@@ -12,7 +12,7 @@ ghost use Rattle.mine_classes.specs.Span.{IsWithin, baskets_at};
 use crate::found::Found;
 use crate::places::coded_spans;
 use crate::span::{BASKETS_AHEAD, Span, read_ahead, table_pays};
-use basket_core::Itemset;
+use basket_sets::Itemset;
 use std::alloc::{AllocError, Global};
 use std::marker::Model;
 

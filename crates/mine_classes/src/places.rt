@@ -1,6 +1,6 @@
 //! Baskets of the ranks that stand in a list, by their places there.
 ghost use Rattle.std.specs.Prelude.{◌≡◌, ◌≤◌, ◌+◌, ◌++◌, [], None, All, IfOk, length, map, replicate, take};
-ghost use Rattle.basket_core.specs.Codes.{coded_place, rank_of};
+ghost use Rattle.basket_ranks.specs.Codes.{coded_place, rank_of};
 ghost use Rattle.basket_sets.specs.Counts.{AllBelow};
 ghost use Rattle.basket_sets.specs.Itemset.{IsRising};
 ghost use Rattle.mine_classes.specs.Form.{form_baskets};

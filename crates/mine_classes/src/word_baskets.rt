@@ -8,7 +8,8 @@ ghost use Rattle.mine_classes.specs.Words.{rank_bits, word_places};
 
 use crate::list_baskets::ListBaskets;
 use crate::words::{WORD_RANKS, Word, add, bit_of, merged};
-use basket_core::{Coded, Weighted};
+use basket_ranks::Coded;
+use basket_sets::Weighted;
 use std::alloc::{AllocError, Global};
 use std::marker::Model;
 

@@ -1,7 +1,7 @@
 //! Worked examples of the definitions, proved by computing them.
 ghost use Rattle.std.specs.Prelude.{◌≡◌, [], ◌∷◌};
 ghost use Rattle.basket_sets.specs.declared.minimum.Minimum.TheVariants.{Count};
-ghost use Rattle.basket_core.specs.Codes.{coding_of};
+ghost use Rattle.basket_ranks.specs.Codes.{coding_of};
 ghost use Rattle.basket_sets.specs.Frequent.{frequent_of};
 ghost use Rattle.basket_sets.specs.Worked.{each_once, nine_baskets, set};
 ghost use Rattle.mine_classes.specs.Classes.{class_of, extended};

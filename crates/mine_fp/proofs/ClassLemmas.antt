@@ -6,9 +6,9 @@ use Rattle.std.proofs.lemmas.Grind.{flat_map-append}
 use Rattle.std.proofs.lemmas.List.{append-nil, get_or_append_left, get_or-append_right, length-append, length-map, map-append}
 use Rattle.std.proofs.lemmas.List.Elements.{All-from_recursion, recursion_from_All}
 use Rattle.std.proofs.lemmas.List.FromFn.{get_or-map-range_with_len, length-map-range_with_len}
-use Rattle.basket_core.specs.Codes.{Coding, IsCodedPlace, IsCoding, decoded_set, decoded}
-use Rattle.basket_core.specs.Depth.{HasSetOfSize}
-use Rattle.basket_core.proofs.theory.Decoding.{ranks_below}
+use Rattle.basket_ranks.specs.Codes.{Coding, IsCodedPlace, IsCoding, decoded_set, decoded}
+use Rattle.basket_ranks.specs.Depth.{HasSetOfSize}
+use Rattle.basket_ranks.proofs.theory.Decoding.{ranks_below}
 use Rattle.basket_sets.specs.declared.weighted.Weighted.{Weighted}
 use Rattle.basket_sets.specs.declared.counted.Counted.{Counted}
 use Rattle.basket_sets.specs.declared.minimum.Minimum.{Minimum}

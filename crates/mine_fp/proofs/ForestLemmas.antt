@@ -4,8 +4,8 @@ use Rattle.std.specs.List.{Contains}
 use Rattle.std.proofs.lemmas.Bool.{leb-true, le-leb}
 use Rattle.std.proofs.lemmas.List.{append-nil}
 use Rattle.std.proofs.lemmas.List.Elements.{All-weaker, recursion_from_All}
-use Rattle.basket_core.specs.Codes.{Coding, IsCodedPlace, IsCoding, decoded_set}
-use Rattle.basket_core.specs.Depth.{HasSetOfSize}
+use Rattle.basket_ranks.specs.Codes.{Coding, IsCodedPlace, IsCoding, decoded_set}
+use Rattle.basket_ranks.specs.Depth.{HasSetOfSize}
 use Rattle.basket_sets.specs.declared.counted.Counted.{Counted}
 use Rattle.basket_sets.specs.declared.minimum.Minimum.TheVariants.{Count}
 use Rattle.basket_sets.specs.Database.{HasWeight}

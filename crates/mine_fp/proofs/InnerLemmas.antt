@@ -4,9 +4,9 @@ use Rattle.std.specs.Prelude.{nat_eq, not}
 use Rattle.std.specs.List.{IsDistinct, list_all, range_with_len}
 use Rattle.std.proofs.lemmas.Bool.{and_from, and_parts, cases_lt, lt-ltb, ltb-true}
 use Rattle.std.proofs.lemmas.List.{get_or_default}
-use Rattle.basket_core.specs.Codes.{decoded, decoded_place}
-use Rattle.basket_core.proofs.theory.Coding.{into_decoded}
-use Rattle.basket_core.proofs.theory.Decoding.{rank_from_decoded}
+use Rattle.basket_ranks.specs.Codes.{decoded, decoded_place}
+use Rattle.basket_ranks.proofs.theory.Coding.{into_decoded}
+use Rattle.basket_ranks.proofs.theory.Decoding.{rank_from_decoded}
 use Rattle.basket_sets.specs.declared.weighted.Weighted.{Weighted}
 use Rattle.basket_sets.specs.declared.minimum.Minimum.TheVariants.{Count}
 use Rattle.basket_sets.specs.Counts.{AllBelow}

@@ -4,8 +4,8 @@ use Rattle.std.specs.List.{AllByRecursion, range_with_len, sum_by}
 use Rattle.std.proofs.lemmas.Bool.{cases_Bool, eq-eqb, eqb-true}
 use Rattle.std.proofs.lemmas.List.Elements.{recursion_from_All}
 use Rattle.std.proofs.lemmas.List.Sums.{sum_by-cons}
-use Rattle.basket_core.specs.Codes.{Coding, IsCoding}
-use Rattle.basket_core.proofs.theory.Decoding.{ranks_below}
+use Rattle.basket_ranks.specs.Codes.{Coding, IsCoding}
+use Rattle.basket_ranks.proofs.theory.Decoding.{ranks_below}
 use Rattle.basket_sets.specs.declared.counted.Counted.{Counted}
 use Rattle.basket_sets.specs.Frequent.{IsNonemptySet, frequent_of, is_frequent}
 use Rattle.basket_sets.specs.Support.{support_of}

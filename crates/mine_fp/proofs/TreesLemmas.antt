@@ -8,9 +8,9 @@ use Rattle.std.proofs.lemmas.List.Elements.{recursion_from_All}
 use Rattle.std.proofs.lemmas.List.Sums.{sum_by-append, sum_by-cons}
 use Rattle.std.proofs.lemmas.Map.Made.{length-from_same_keys}
 use Rattle.std.proofs.lemmas.Map.Views.{Contains-from_any, list_any-from_Contains}
-use Rattle.basket_core.specs.Codes.{Coding, IsCodedPlace, decoded_set}
-use Rattle.basket_core.proofs.theory.Decoding.{ranks_below}
-use Rattle.basket_core.proofs.theory.Shards.{range_more}
+use Rattle.basket_ranks.specs.Codes.{Coding, IsCodedPlace, decoded_set}
+use Rattle.basket_ranks.proofs.theory.Decoding.{ranks_below}
+use Rattle.basket_ranks.proofs.theory.Shards.{range_more}
 use Rattle.basket_sets.specs.declared.weighted.Weighted.{Weighted}
 use Rattle.basket_sets.specs.declared.counted.Counted.{Counted}
 use Rattle.basket_sets.specs.declared.minimum.Minimum.{Minimum}

@@ -13,8 +13,8 @@ use Rattle.std.proofs.lemmas.List.Sorted.{IsPermutation-map, sum_by-IsPermutatio
 use Rattle.std.proofs.lemmas.List.Sums.{sum_by-cons, sum_by_push}
 use Rattle.std.proofs.lemmas.Nat.Bits.{bit_at-lt, bit_at-pow_other, bit_at-pow_same, bit_at-zero, bit_at_or}
 use Rattle.std.specs.Prelude.{max}
-use Rattle.basket_core.specs.Codes.{IsCodedPlace, IsCoding, MOST_RANKS, decoded, decoded_place}
-use Rattle.basket_core.proofs.theory.Coding.{from_decoded, into_decoded}
+use Rattle.basket_ranks.specs.Codes.{IsCodedPlace, IsCoding, MOST_RANKS, decoded, decoded_place}
+use Rattle.basket_ranks.proofs.theory.Coding.{from_decoded, into_decoded}
 use Rattle.basket_sets.specs.declared.weighted.Weighted.{Weighted}
 use Rattle.basket_sets.specs.declared.minimum.Minimum.TheVariants.{Count}
 use Rattle.basket_sets.specs.Counts.{AllBelow}

@@ -1,6 +1,6 @@
 -- Coded baskets in order, for FP-growth.
 use Rattle.std.specs.Prelude.{◌≡◌, ℕ, List, length}
-use Rattle.basket_core.specs.Codes.{Coding}
+use Rattle.basket_ranks.specs.Codes.{Coding}
 use Rattle.basket_sets.specs.Minimum.{IsLeastSupport}
 use Rattle.basket_sets.specs.Support.{support_of, total_of}
 use Rattle.mine_classes.specs.ListBaskets.{AreRankBaskets, HaveSameWeights, RankBaskets}

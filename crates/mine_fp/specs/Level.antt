@@ -1,7 +1,7 @@
 -- Sets that are found within a conditional database, as items.
 use Rattle.std.specs.Prelude.{◌≡◌, ◌≤◌, ◌<◌, ◌+◌, ◌-◌, ◌++◌, ℕ, List, [], ◌∷◌, Option, Some, None, length, map, slice_index_or}
 use Rattle.std.specs.List.{flat_map}
-use Rattle.basket_core.specs.Codes.{IsCoding, decoded_place}
+use Rattle.basket_ranks.specs.Codes.{IsCoding, decoded_place}
 use Rattle.basket_lists.specs.CountedSets.{set_at}
 use Rattle.basket_sets.specs.declared.counted.Counted.{Counted}
 use Rattle.basket_sets.specs.declared.minimum.Minimum.TheVariants.{Count}

@@ -1,7 +1,7 @@
 -- How many conditional trees FP-growth makes.
 use Rattle.std.specs.Prelude.{◌≡◌, ◌||◌, ◌&&◌, not, ℕ, Bool, List, [], ◌∷◌, filter, length, nat_lt, if◌then◌else◌}
 use Rattle.std.specs.List.{flat_map, list_all, range_with_len, sum_by}
-use Rattle.basket_core.specs.Codes.{Coding, IsCoding}
+use Rattle.basket_ranks.specs.Codes.{Coding, IsCoding}
 use Rattle.basket_sets.specs.declared.weighted.Weighted.{Weighted}
 use Rattle.basket_sets.specs.declared.minimum.Minimum.{Minimum}
 use Rattle.basket_sets.specs.declared.minimum.Minimum.TheVariants.{Count}

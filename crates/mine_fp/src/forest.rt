@@ -27,7 +27,7 @@ pub struct Forest<'a> {
 
 impl<'a> Model for Forest<'a> {
     ghost use Rattle.std.specs.Prelude.{◌≡◌, [], None, length};
-    ghost use Rattle.basket_core.specs.Codes.{Coding};
+    ghost use Rattle.basket_ranks.specs.Codes.{Coding};
     ghost use Rattle.mine_fp.specs.Forest.{AreInForest};
     ghost use Rattle.mine_fp.specs.Level.{AreNames, items_of};
 

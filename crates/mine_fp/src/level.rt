@@ -1,7 +1,7 @@
 //! Sets that are grown within a conditional database.
 ghost use Rattle.std.specs.Prelude.{◌≡◌, ◌≤◌, ◌<◌, ◌+◌, ◌++◌, ◌⊎◌, [], ◌∷◌, ℕ, Err, IfOk, IsTrue, OnOk, Some, false, length, map, slice_index, vec_len};
 ghost use Rattle.basket_core.specs.declared.fault.MineFault.TheVariants.{TooMany};
-ghost use Rattle.basket_core.specs.Depth.{HasSetOfSize};
+ghost use Rattle.basket_ranks.specs.Depth.{HasSetOfSize};
 ghost use Rattle.basket_sets.specs.declared.minimum.Minimum.TheVariants.{Count};
 ghost use Rattle.basket_sets.specs.Counts.{AllBelow};
 ghost use Rattle.basket_sets.specs.Frequent.{frequent_of};

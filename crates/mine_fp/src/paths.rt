@@ -1,7 +1,7 @@
 //! A conditional database in the form that suits its number of ranks.
 ghost use Rattle.std.specs.Prelude.{◌≡◌, ◌≤◌, ◌<◌, ◌-◌, [], ◌∷◌, ◌==◌, All, IfOk, length, map, sum_by};
 ghost use Rattle.std.specs.List.{list_all};
-ghost use Rattle.basket_core.specs.Codes.{IsCoding, decoded_place};
+ghost use Rattle.basket_ranks.specs.Codes.{IsCoding, decoded_place};
 ghost use Rattle.basket_sets.specs.declared.minimum.Minimum.TheVariants.{Count};
 ghost use Rattle.basket_sets.specs.Database.{MOST_WEIGHT};
 ghost use Rattle.basket_sets.specs.Support.{support_of};

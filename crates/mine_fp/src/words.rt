@@ -1,7 +1,7 @@
 //! Baskets of up to 64 ranks, each as the bits of a word.
 ghost use Rattle.std.specs.Prelude.{◌≡◌, ◌≤◌, ◌<◌, ◌+◌, ℕ, All, IfOk, length, map, slice_index, sum_by};
 ghost use Rattle.std.specs.List.{flat_map, list_all, range_with_len};
-ghost use Rattle.basket_core.specs.Codes.{decoded_place};
+ghost use Rattle.basket_ranks.specs.Codes.{decoded_place};
 ghost use Rattle.basket_sets.specs.Counts.{AllBelow};
 ghost use Rattle.basket_sets.specs.Database.{MOST_WEIGHT};
 ghost use Rattle.basket_sets.specs.Itemset.{IsRising, contains, has};

@@ -1,6 +1,6 @@
 //! Worked examples of the definitions, proved by computing them.
 ghost use Rattle.std.specs.Prelude.{◌≡◌, [], ◌∷◌, map};
-ghost use Rattle.basket_core.specs.Codes.{coding_of};
+ghost use Rattle.basket_ranks.specs.Codes.{coding_of};
 ghost use Rattle.basket_sets.specs.declared.minimum.Minimum.TheVariants.{Count};
 ghost use Rattle.basket_sets.specs.Worked.{nine_baskets};
 ghost use Rattle.mine_fp.specs.Trees.{class_trees, trees_of};

@@ -5,7 +5,7 @@ use Rattle.std.specs.List.{range_with_len, sum_by}
 use Rattle.std.proofs.lemmas.List.{length-append}
 use Rattle.std.proofs.lemmas.List.FromFn.{length-range_with_len}
 use Rattle.std.proofs.lemmas.List.Sums.{sum_by-append, sum_by_push}
-use Rattle.basket_core.specs.Shards.{shard_start}
+use Rattle.basket_ranks.specs.Shards.{shard_start}
 use Rattle.basket_sets.specs.declared.counted.Counted.{Counted}
 use Rattle.mine_phases.specs.Classes.{AreMined, parts_in}
 

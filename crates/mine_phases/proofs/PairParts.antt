@@ -7,8 +7,8 @@ use Rattle.std.proofs.lemmas.List.Folds.{flat_map-map}
 use Rattle.std.proofs.lemmas.List.FromFn.{fill_by_all, get_or-map-range_with_len, length-map-range_with_len}
 use Rattle.std.specs.declared.vec.Vec.{Vec}
 use Rattle.std.specs.declared.alloc.Global.{Global}
-use Rattle.basket_core.proofs.theory.Shards.{shards_are_all}
-use Rattle.basket_core.specs.Shards.{shard_of}
+use Rattle.basket_ranks.proofs.theory.Shards.{shards_are_all}
+use Rattle.basket_ranks.specs.Shards.{shard_of}
 use Rattle.mine_classes.specs.ListBaskets.{RankBaskets}
 use Rattle.mine_classes.specs.Pairs.{pairs_of}
 use Rattle.mine_apriori.specs.Pairs.{lists_of}

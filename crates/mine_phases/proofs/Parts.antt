@@ -8,10 +8,10 @@ use Rattle.std.proofs.lemmas.List.FromFn.{fill_by_all}
 use Rattle.std.proofs.lemmas.Simd.{map-map}
 use Rattle.std.proofs.lemmas.List.Concat.{flat_map-append}
 use Rattle.std.proofs.lemmas.List.Sums.{sum_by-take-le, sum_by-take-drop}
-use Rattle.basket_core.proofs.theory.Added.{number_is_support, item_supports_add_up, items_of_map}
-use Rattle.basket_core.proofs.theory.Shards.{shards_are_all}
-use Rattle.basket_core.specs.Added.{added_counts, items_of_counts, number_of}
-use Rattle.basket_core.specs.Shards.{shard_start, shard_of}
+use Rattle.basket_ranks.proofs.theory.Added.{number_is_support, item_supports_add_up, items_of_map}
+use Rattle.basket_ranks.proofs.theory.Shards.{shards_are_all}
+use Rattle.basket_ranks.specs.Added.{added_counts, items_of_counts, number_of}
+use Rattle.basket_ranks.specs.Shards.{shard_start, shard_of}
 use Rattle.basket_sets.proofs.theory.Rising.{rising-rises}
 use Rattle.basket_sets.proofs.theory.Support.{support-append, support_falls}
 use Rattle.basket_sets.specs.declared.weighted.Weighted.{Weighted}

@@ -7,8 +7,8 @@ use Rattle.std.proofs.lemmas.List.{length-map, map-append, reverse-append}
 use Rattle.std.proofs.lemmas.List.Elements.{All-head, All-tail}
 use Rattle.std.proofs.lemmas.List.Sorted.{IsPermutation-map, IsPermutation-refl, IsPermutation-reverse, IsPermutation-sym, IsPermutation-trans, sum_by-IsPermutation}
 use Rattle.std.proofs.lemmas.List.Sums.{sum_by-append, sum_by-cons}
-use Rattle.basket_core.proofs.theory.Shards.{range_more, shards_are_all}
-use Rattle.basket_core.specs.Codes.{Coding, baskets_of}
+use Rattle.basket_ranks.proofs.theory.Shards.{range_more, shards_are_all}
+use Rattle.basket_ranks.specs.Codes.{Coding, baskets_of}
 use Rattle.basket_core.specs.declared.fault.MineFault.{MineFault}
 use Rattle.basket_core.specs.declared.fault.MineFault.TheVariants.{Memory, TooMany}
 use Rattle.basket_sets.specs.declared.counted.Counted.{Counted}

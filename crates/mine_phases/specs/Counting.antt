@@ -2,7 +2,7 @@
 use Rattle.std.specs.Prelude.{◌≡◌, ◌<◌, ℕ, List, All, map, IfOk, Vec}
 use Rattle.std.specs.List.{flat_map}
 use Rattle.std.specs.Global.{Global}
-use Rattle.basket_core.specs.Shards.{shard_of}
+use Rattle.basket_ranks.specs.Shards.{shard_of}
 use Rattle.basket_sets.specs.declared.weighted.Weighted.{Weighted}
 use Rattle.basket_sets.specs.Counts.{item_supports}
 use Rattle.mine_round.specs.RoundView.{RoundView}

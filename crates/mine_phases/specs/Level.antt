@@ -1,7 +1,7 @@
 -- The supports of sets over the parts of a list of baskets, added to counters.
 use Rattle.std.specs.Prelude.{◌≡◌, ◌<◌, ℕ, List, [], IfOk, length, slice_index, slice_index_or}
 use Rattle.std.specs.List.{sum_by}
-use Rattle.basket_core.specs.Shards.{shard_of}
+use Rattle.basket_ranks.specs.Shards.{shard_of}
 use Rattle.basket_sets.specs.declared.weighted.Weighted.{Weighted}
 use Rattle.basket_sets.specs.Support.{support_of}
 use Rattle.mine_round.specs.RoundView.{RoundView}

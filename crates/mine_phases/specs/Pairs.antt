@@ -1,7 +1,7 @@
 -- The frequent pairs of ranks, by parts of the ranks.
 use Rattle.std.specs.Prelude.{◌≡◌, ◌<◌, ℕ, List, All, IfOk, Vec}
 use Rattle.std.specs.Global.{Global}
-use Rattle.basket_core.specs.Shards.{shard_of}
+use Rattle.basket_ranks.specs.Shards.{shard_of}
 use Rattle.mine_apriori.specs.Pairs.{lists_of, pairs_by_greater}
 use Rattle.mine_classes.specs.ListBaskets.{RankBaskets}
 use Rattle.mine_round.specs.RoundView.{RoundView}

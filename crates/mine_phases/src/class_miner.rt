@@ -1,7 +1,7 @@
 //! The miners that go part by part.
 ghost use Rattle.std.specs.Prelude.{◌≡◌, ◌≤◌, ◌<◌, ◌+◌, ◌⊎◌, ℕ, List, Err, IfOk, IsTrue, OnOk, false, length};
 ghost use Rattle.basket_core.specs.declared.fault.MineFault.TheVariants.{TooMany};
-ghost use Rattle.basket_core.specs.Codes.{Coding};
+ghost use Rattle.basket_ranks.specs.Codes.{Coding};
 ghost use Rattle.basket_sets.specs.declared.counted.Counted.{Counted};
 ghost use Rattle.mine_phases.specs.Classes.{AreParts};
 

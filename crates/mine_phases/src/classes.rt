@@ -2,7 +2,7 @@
 ghost use Rattle.std.specs.Prelude.{◌≡◌, ◌≤◌, ◌<◌, ◌+◌, ◌⊎◌, ℕ, Err, IfOk, IsTrue, false, length, nat_lt, slice_index};
 ghost use Rattle.std.specs.List.{flat_map};
 ghost use Rattle.basket_core.specs.declared.fault.MineFault.TheVariants.{TooMany};
-ghost use Rattle.basket_core.specs.Codes.{baskets_of, frequent_of_coding};
+ghost use Rattle.basket_ranks.specs.Codes.{baskets_of, frequent_of_coding};
 ghost use Rattle.basket_core.specs.Listing.{listing_of};
 ghost use Rattle.basket_sets.specs.Frequent.{ListsOnce};
 ghost use Rattle.mine_round.specs.Record.{unused};

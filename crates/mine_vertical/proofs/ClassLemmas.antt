@@ -3,7 +3,7 @@ use Rattle.std.proofs.Common.{◌≡◌, ℕ, ◌<◌, ◌≤◌, Bool, true, fa
 use Rattle.std.specs.List.{Contains}
 use Rattle.std.proofs.lemmas.Bool.{le-leb, leb-true, lt-leb, true≢false}
 use Rattle.std.proofs.lemmas.List.Elements.{All-weaker}
-use Rattle.basket_core.specs.Codes.{Coding, MOST_RANKS, decoded, decoded_set}
+use Rattle.basket_ranks.specs.Codes.{Coding, MOST_RANKS, decoded, decoded_set}
 use Rattle.basket_sets.specs.declared.weighted.Weighted.{Weighted}
 use Rattle.basket_sets.specs.declared.counted.Counted.{Counted}
 use Rattle.basket_sets.specs.declared.minimum.Minimum.TheVariants.{Count}

@@ -11,7 +11,7 @@ use Rattle.std.proofs.lemmas.Grind.{flat_map-append}
 use Rattle.basket_sets.specs.declared.weighted.Weighted.{Weighted}
 use Rattle.basket_sets.specs.declared.counted.Counted.{Counted}
 use Rattle.basket_sets.specs.declared.minimum.Minimum.TheVariants.{Count}
-use Rattle.basket_core.specs.Codes.{decoded}
+use Rattle.basket_ranks.specs.Codes.{decoded}
 use Rattle.basket_sets.specs.Itemset.{AllBelow, with_item}
 use Rattle.basket_sets.proofs.theory.Members.{Member}
 use Rattle.basket_sets.proofs.theory.Rising.{Member-from_has, has-from_Member, has_place, contains_each}

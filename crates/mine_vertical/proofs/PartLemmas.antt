@@ -13,7 +13,7 @@ use Rattle.std.proofs.lemmas.List.Sums.{sum_by-append, sum_by-cons}
 use Rattle.std.proofs.lemmas.Map.Made.{length-from_same_keys}
 use Rattle.std.proofs.lemmas.Map.Views.{list_any-from_Contains, Contains-from_any}
 use Rattle.std.proofs.lemmas.Nat.{div-mul-add, mod-mul-add, mod_below}
-use Rattle.basket_core.specs.Codes.{Coding, baskets_of, decoded_set}
+use Rattle.basket_ranks.specs.Codes.{Coding, baskets_of, decoded_set}
 use Rattle.basket_sets.specs.declared.counted.Counted.{Counted}
 use Rattle.basket_sets.specs.Frequent.{IsNonemptySet, ListsOnce, counted, is_frequent}
 use Rattle.basket_sets.specs.Support.{support_of}

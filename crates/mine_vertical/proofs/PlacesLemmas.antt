@@ -18,8 +18,8 @@ use Rattle.basket_sets.specs.Itemset.{AllBelow, IsRising, contains, has}
 use Rattle.basket_sets.specs.Support.{support_of}
 use Rattle.basket_sets.proofs.theory.Members.{Member, All-from_Member, Member-append, Member-append_left, Member-append_right, Member-filter, Member-from_filter}
 use Rattle.basket_sets.proofs.theory.Rising.{Member-from_has, has-from_Member, has_more, has_each, has_place, contains_each, first_below, not_before, rest_rises, same_test}
-use Rattle.basket_core.specs.Codes.{IsCoding, decoded, decoded_place}
-use Rattle.basket_core.proofs.theory.Coding.{from_decoded, into_decoded}
+use Rattle.basket_ranks.specs.Codes.{IsCoding, decoded, decoded_place}
+use Rattle.basket_ranks.proofs.theory.Coding.{from_decoded, into_decoded}
 use Rattle.mine_classes.specs.declared.words.Word.{Word}
 use Rattle.mine_classes.specs.ListBaskets.{AreRankBaskets, RankBaskets, weight_where}
 use Rattle.mine_classes.specs.Words.{has_rank, ranks_in, word_place, word_places}

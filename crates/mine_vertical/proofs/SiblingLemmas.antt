@@ -6,9 +6,9 @@ use Rattle.std.proofs.lemmas.Bool.{and_parts, cases_Bool, ltb-true}
 use Rattle.std.proofs.lemmas.List.{append-nil, get_or-map}
 use Rattle.std.proofs.lemmas.List.Elements.{filter-append}
 use Rattle.std.proofs.lemmas.List.Sums.{sum_by-cons}
-use Rattle.basket_core.specs.Codes.{IsCodedPlace, decoded, decoded_place}
-use Rattle.basket_core.proofs.theory.Coding.{into_decoded}
-use Rattle.basket_core.proofs.theory.Decoding.{rank_from_decoded}
+use Rattle.basket_ranks.specs.Codes.{IsCodedPlace, decoded, decoded_place}
+use Rattle.basket_ranks.proofs.theory.Coding.{into_decoded}
+use Rattle.basket_ranks.proofs.theory.Decoding.{rank_from_decoded}
 use Rattle.basket_sets.specs.declared.weighted.Weighted.{Weighted}
 use Rattle.basket_sets.specs.declared.minimum.Minimum.TheVariants.{Count}
 use Rattle.basket_sets.specs.Database.{HasWeight, weighted}

@@ -1,7 +1,7 @@
 -- Classes that are cut into parts.
 use Rattle.std.specs.Prelude.{◌≡◌, ◌≤◌, ◌<◌, ◌+◌, ◌*◌, ◌/◌, ◌%◌, ◌==◌, ℕ, Bool, false, List, [], ◌∷◌, filter, length, map, slice_index_or, if◌then◌else◌}
 use Rattle.std.specs.List.{flat_map, range_with_len, sum_by}
-use Rattle.basket_core.specs.Codes.{Coding, IsCoding, baskets_of, decoded_set, frequent_of_coding}
+use Rattle.basket_ranks.specs.Codes.{Coding, IsCoding, baskets_of, decoded_set, frequent_of_coding}
 use Rattle.basket_sets.specs.declared.counted.Counted.{Counted}
 use Rattle.basket_sets.specs.Frequent.{ListsOnce, is_frequent}
 use Rattle.mine_classes.specs.Classes.{ListsClass, class_of}

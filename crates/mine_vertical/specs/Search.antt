@@ -7,7 +7,7 @@ use Rattle.basket_sets.specs.declared.minimum.Minimum.TheVariants.{Count}
 use Rattle.basket_sets.specs.Frequent.{is_frequent}
 use Rattle.basket_sets.specs.Itemset.{AllBelow, has}
 use Rattle.basket_sets.specs.Support.{support_of}
-use Rattle.basket_core.specs.Codes.{MOST_RANKS, decoded}
+use Rattle.basket_ranks.specs.Codes.{MOST_RANKS, decoded}
 use Rattle.mine_vertical.specs.declared.search.Sibling.{Sibling}
 use Rattle.mine_vertical.specs.Cover.{cover_of, weights_of}
 use Rattle.mine_vertical.specs.Part.{has_second}

@@ -1,6 +1,6 @@
 -- Coded baskets in order.
 use Rattle.std.specs.Prelude.{◌≡◌, ℕ, length}
-use Rattle.basket_core.specs.Codes.{Coding, IsCoding}
+use Rattle.basket_ranks.specs.Codes.{Coding, IsCoding}
 use Rattle.basket_sets.specs.Minimum.{IsLeastSupport}
 use Rattle.basket_sets.specs.Support.{total_of}
 use Rattle.mine_classes.specs.ListBaskets.{HaveSameWeights, RankBaskets}

@@ -2,7 +2,7 @@
 //! the extensions whose covers have it, equal ones merged.
 ghost use Rattle.std.specs.Prelude.{◌≡◌, ◌≤◌, [], ℕ, Bool, List, All, IfOk, IfSome, length, map};
 ghost use Rattle.std.specs.List.{sum_by};
-ghost use Rattle.basket_core.specs.Codes.{decoded};
+ghost use Rattle.basket_ranks.specs.Codes.{decoded};
 ghost use Rattle.basket_sets.specs.declared.weighted.Weighted.{Weighted as Basket};
 ghost use Rattle.basket_sets.specs.Database.{MOST_WEIGHT};
 ghost use Rattle.basket_sets.specs.Itemset.{IsRising};

@@ -1,6 +1,6 @@
 //! The search for the frequent sets of a class, depth first.
 ghost use Rattle.std.specs.Prelude.{◌≡◌, ◌≤◌, ◌<◌, ◌+◌, ◌*◌, ◌++◌, [], ◌∷◌, ℕ, List, ◌⊎◌, All, Err, IfOk, IsTrue, false, OnOk, filter, length, map, take};
-ghost use Rattle.basket_core.specs.Codes.{decoded};
+ghost use Rattle.basket_ranks.specs.Codes.{decoded};
 ghost use Rattle.basket_core.specs.declared.fault.MineFault.TheVariants.{TooMany};
 ghost use Rattle.basket_sets.specs.declared.weighted.Weighted.{Weighted as Basket};
 ghost use Rattle.mine_vertical.specs.Cover.{common, cover_weight, weights_of};

@@ -1,6 +1,6 @@
 //! The siblings that a class begins with: the ranks that are frequent together with its rank.
 ghost use Rattle.std.specs.Prelude.{◌≡◌, ◌≤◌, ◌<◌, [], ◌∷◌, List, ℕ, All, IfOk, OnOk, length, map, replicate, sum, sum_by};
-ghost use Rattle.basket_core.specs.Codes.{IsCoding, baskets_of, decoded_place};
+ghost use Rattle.basket_ranks.specs.Codes.{IsCoding, baskets_of, decoded_place};
 ghost use Rattle.basket_sets.specs.declared.minimum.Minimum.TheVariants.{Count};
 ghost use Rattle.basket_sets.specs.declared.weighted.Weighted.{Weighted as Basket};
 ghost use Rattle.basket_sets.specs.Database.{MOST_WEIGHT};

@@ -1,6 +1,6 @@
 //! Coded baskets as a class call sees them.
 ghost use Rattle.std.specs.Prelude.{◌≡◌, IfOk, length};
-ghost use Rattle.basket_core.specs.Codes.{IsCoding};
+ghost use Rattle.basket_ranks.specs.Codes.{IsCoding};
 ghost use Rattle.basket_sets.specs.Minimum.{IsLeastSupport};
 ghost use Rattle.basket_sets.specs.Support.{total_of};
 ghost use Rattle.mine_classes.specs.ListBaskets.{HaveSameWeights};
@@ -21,7 +21,7 @@ pub struct Vertical<'a> {
 }
 
 impl<'a> Model for Vertical<'a> {
-    ghost use Rattle.basket_core.specs.Codes.{Coding};
+    ghost use Rattle.basket_ranks.specs.Codes.{Coding};
     ghost use Rattle.mine_vertical.specs.Vertical.{IsVertical};
 
     ghost Value = { Coding };

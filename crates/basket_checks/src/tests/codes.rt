@@ -1,6 +1,6 @@
 ghost use Rattle.std.specs.Prelude.{◌≡◌, IfOk, length, nat_lt};
 ghost use Rattle.std.specs.List.{list_all};
-ghost use Rattle.basket_core.specs.Codes.{coding_of};
+ghost use Rattle.basket_ranks.specs.Codes.{coding_of};
 
 use super::{NINE_BASKETS, database};
 use basket_core::{Coded, Codes, Database, Itemset, Minimum, count_items};

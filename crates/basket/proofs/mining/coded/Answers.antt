@@ -1,6 +1,6 @@
 use Rattle.std.proofs.Common.{sym, ap, ◌∙◌, subst, ◌∷◌, []}
-use Rattle.basket_core.proofs.theory.Added.{items_of_map}
-use Rattle.basket_core.specs.Added.{items_of_counts}
+use Rattle.basket_ranks.proofs.theory.Added.{items_of_map}
+use Rattle.basket_ranks.specs.Added.{items_of_counts}
 use Rattle.basket_sets.proofs.theory.Rising.{rising-rises}
 use Rattle.basket_sets.specs.Itemset.{IsRising}
 use Rattle.basket_sets.specs.Counts.{item_supports}

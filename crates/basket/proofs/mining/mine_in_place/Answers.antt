@@ -1,5 +1,5 @@
 use Rattle.std.proofs.Common.{◌∙◌, ap, arith, length}
-use Rattle.basket_core.specs.Codes.{coding_of}
+use Rattle.basket_ranks.specs.Codes.{coding_of}
 use Rattle.basket.specs.Mining.{work_of}
 use Rattle.basket.proofs.MiningLemmas.{list_is, sets_are, settled, totals_are, work_is}
 use Rattle.basket.proofs.mining.mine_in_place.Goals as goal

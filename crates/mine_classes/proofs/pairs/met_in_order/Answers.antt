@@ -3,7 +3,7 @@ use Rattle.std.specs.List.{filter, range_with_len}
 use Rattle.std.proofs.lemmas.Bool.{and_from, and_parts, cases_Bool, le-leb, leb-true}
 use Rattle.std.proofs.lemmas.List.{map-append}
 use Rattle.std.proofs.lemmas.List.Elements.{filter-append}
-use Rattle.basket_core.proofs.theory.Shards.{range_more}
+use Rattle.basket_ranks.proofs.theory.Shards.{range_more}
 use Rattle.mine_classes.specs.Pairs.{is_met}
 use Rattle.mine_classes.proofs.pairs.met_in_order.Goals as goal
 use Rattle.mine_classes.proofs.pairs.met_in_order.Goals.{then-sum-ge1+then-sum-least+in_ok-push, else-sum-ge1, else-sum-ge1-via-then-sum-ge1+else-sum-least, else-sum-ge1-via-else-sum-ge1}

@@ -1,5 +1,5 @@
 use Rattle.std.proofs.Common.{sym, ap, ◌∙◌, arith}
-use Rattle.basket_core.specs.Codes.{rank_of}
+use Rattle.basket_ranks.specs.Codes.{rank_of}
 use Rattle.basket_sets.proofs.theory.Rising.{found_at, found_nowhere}
 use Rattle.mine_classes.proofs.PlaceLemmas.{place_le, rank_at, rank_missing}
 use Rattle.mine_classes.proofs.places.place_of.Goals as goal

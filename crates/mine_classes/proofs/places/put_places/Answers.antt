@@ -1,7 +1,7 @@
 use Rattle.std.proofs.Common.{unwrap_or, ◌+◌, ◌++◌, get_or, set, take, sym, ap, ◌∙◌, append_assoc, arith}
 use Rattle.std.specs.Option.{is_some, option_to_list}
 use mir.Val.{bool_byte}
-use Rattle.basket_core.specs.Codes.{rank_of}
+use Rattle.basket_ranks.specs.Codes.{rank_of}
 use Rattle.mine_classes.specs.Places.{places_in}
 use Rattle.mine_classes.proofs.PlaceLemmas.{one_at_most, places_more, slot_put}
 use Rattle.mine_classes.proofs.places.put_places.Goals as goal

@@ -1,8 +1,8 @@
 use Rattle.std.proofs.Common.{◌≡◌, ◌+◌, ◌++◌, map, ap, ◌∙◌, subst, inl, inr, arith, Err}
 use Rattle.std.proofs.lemmas.Result.{err_from_is_err_and}
-use Rattle.basket_core.specs.Codes.{Coding, IsCoding}
+use Rattle.basket_ranks.specs.Codes.{Coding, IsCoding}
 use Rattle.basket_core.specs.declared.fault.MineFault.TheVariants.{TooMany}
-use Rattle.basket_core.specs.Depth.{HasSetOfSize}
+use Rattle.basket_ranks.specs.Depth.{HasSetOfSize}
 use Rattle.basket_sets.specs.declared.minimum.Minimum.TheVariants.{Count}
 use Rattle.mine_classes.specs.Classes.{class_of}
 use Rattle.mine_fp.specs.Forest.{AreInForest}

@@ -1,7 +1,7 @@
 use Rattle.std.proofs.Common.{◌≤◌, ◌<◌, ℕ, length, map, take}
 use Rattle.std.specs.Prelude.{All}
 use Rattle.std.specs.List.{flat_map, sum_by}
-use Rattle.basket_core.specs.Codes.{decoded_place}
+use Rattle.basket_ranks.specs.Codes.{decoded_place}
 use Rattle.basket_sets.specs.Itemset.{has}
 use Rattle.mine_classes.specs.declared.words.Word.{Word}
 use Rattle.mine_classes.specs.Conditional.{kept_place}

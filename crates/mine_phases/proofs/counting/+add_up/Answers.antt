@@ -1,7 +1,7 @@
 use Rattle.std.proofs.Common.{◌≡◌, ◌++◌, rules, ap, ◌∙◌, arith, length, take, drop, ◌/◌}
 use Rattle.std.specs.List.{flat_map}
 use Rattle.std.proofs.lemmas.Result.{IfOk-weaker}
-use Rattle.basket_core.specs.Added.{added_counts}
+use Rattle.basket_ranks.specs.Added.{added_counts}
 use Rattle.basket_sets.specs.Counts.{item_supports}
 use Rattle.mine_phases.proofs.Parts.{front_parts, back_parts, front_is_light, back_is_light, joined_parts, supports_rise, numbers_fit, added_is, one_part}
 use Rattle.mine_phases.proofs.counting.+add_up.Goals as goal

@@ -4,7 +4,7 @@ use Rattle.std.specs.List.{flat_map, range_with_len}
 use Rattle.std.specs.Global.{Global}
 use Rattle.std.proofs.lemmas.List.Elements.{All-map, All-same}
 use Rattle.mine_round.specs.SeatView.{SeatView}
-use Rattle.basket_core.specs.Shards.{shard_of}
+use Rattle.basket_ranks.specs.Shards.{shard_of}
 use Rattle.basket_sets.specs.declared.weighted.Weighted.{Weighted}
 use Rattle.basket_sets.specs.Counts.{item_supports}
 use Rattle.mine_round.specs.Totals.{claimed_by}

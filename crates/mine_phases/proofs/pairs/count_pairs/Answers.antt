@@ -6,7 +6,7 @@ use Rattle.std.proofs.lemmas.List.Elements.{All-map, All-same}
 use Rattle.std.proofs.lemmas.Result.{IfOk-weaker}
 use Rattle.mine_round.specs.SeatView.{SeatView}
 use Rattle.mine_round.specs.Totals.{claimed_by}
-use Rattle.basket_core.specs.Shards.{shard_of}
+use Rattle.basket_ranks.specs.Shards.{shard_of}
 use Rattle.mine_apriori.specs.Pairs.{lists_of}
 use Rattle.mine_classes.specs.ListBaskets.{RankBaskets}
 use Rattle.mine_phases.specs.Pairs.{PairsParts, pairs_in}

@@ -1,6 +1,6 @@
 use Rattle.std.proofs.Common.{◌≡◌, ℕ, Bool, ◌++◌, List, cond, length, map, subst, sym, ap, ◌∙◌}
 use Rattle.std.specs.List.{list_all}
-use Rattle.basket_core.specs.Codes.{decoded}
+use Rattle.basket_ranks.specs.Codes.{decoded}
 use Rattle.basket_sets.specs.Itemset.{contains, has}
 use Rattle.basket_sets.specs.Support.{support_of}
 use Rattle.mine_classes.specs.ListBaskets.{weight_where}

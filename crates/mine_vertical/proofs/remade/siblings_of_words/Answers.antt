@@ -1,7 +1,7 @@
 use Rattle.std.proofs.Common.{◌≡◌, ◌≤◌, List, length, map, subst, sym, ap, ◌∙◌}
 use Rattle.std.specs.Prelude.{All}
 use Rattle.std.specs.List.{sum_by}
-use Rattle.basket_core.specs.Codes.{IsCoding, decoded, decoded_place}
+use Rattle.basket_ranks.specs.Codes.{IsCoding, decoded, decoded_place}
 use Rattle.basket_sets.specs.declared.weighted.Weighted.{Weighted}
 use Rattle.basket_sets.specs.declared.minimum.Minimum.TheVariants.{Count}
 use Rattle.basket_sets.specs.Database.{HasWeight, MOST_WEIGHT}

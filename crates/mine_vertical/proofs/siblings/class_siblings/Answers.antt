@@ -1,7 +1,7 @@
 use Rattle.std.proofs.Common.{◌≡◌, ◌≤◌, List, ℕ, map, subst, sym, ap, ◌∙◌}
 use Rattle.std.specs.Prelude.{All}
 use Rattle.std.specs.List.{sum_by}
-use Rattle.basket_core.specs.Codes.{baskets_of, decoded_place}
+use Rattle.basket_ranks.specs.Codes.{baskets_of, decoded_place}
 use Rattle.basket_sets.specs.declared.weighted.Weighted.{Weighted}
 use Rattle.basket_sets.specs.Database.{HasWeight, MOST_WEIGHT}
 use Rattle.basket_sets.specs.Itemset.{contains}

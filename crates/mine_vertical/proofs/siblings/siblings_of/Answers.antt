@@ -2,7 +2,7 @@ use Rattle.std.proofs.Common.{◌++◌, ◌∷◌, [], get_or, length, map, subs
 use Rattle.std.specs.Prelude.{All}
 use Rattle.std.proofs.lemmas.List.{map-append, take_more}
 use Rattle.std.proofs.lemmas.List.Elements.{All-push, recursion_from_All}
-use Rattle.basket_core.specs.Codes.{IsCodedPlace, decoded_place}
+use Rattle.basket_ranks.specs.Codes.{IsCodedPlace, decoded_place}
 use Rattle.mine_classes.specs.Span.{baskets_at}
 use Rattle.mine_vertical.specs.Cover.{IsCover, all_places, cover_of, weights_of}
 use Rattle.mine_vertical.specs.Search.{IsSibling}

@@ -1,6 +1,6 @@
 use Rattle.std.proofs.Common.{◌≡◌, [], map, take}
 use Rattle.std.specs.Prelude.{All}
-use Rattle.basket_core.specs.Codes.{decoded_place}
+use Rattle.basket_ranks.specs.Codes.{decoded_place}
 use Rattle.mine_classes.specs.Span.{baskets_at}
 use Rattle.mine_vertical.specs.Search.{IsSibling}
 use Rattle.mine_vertical.proofs.siblings.siblings_of.Given as goal

@@ -1,5 +1,5 @@
 use Rattle.std.proofs.Common.{sym, subst}
-use Rattle.basket_core.specs.Codes.{IsCoding}
+use Rattle.basket_ranks.specs.Codes.{IsCoding}
 use Rattle.basket.proofs.class_miner.GrowthClassMiner.parts.Goals as goal
 
 pub returns-clause-parts : goal.returns-clause-parts

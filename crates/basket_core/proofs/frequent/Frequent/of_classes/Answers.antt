@@ -1,5 +1,5 @@
 use Rattle.std.proofs.Common.{sym, subst}
-use Rattle.basket_core.specs.Codes.{baskets_of}
+use Rattle.basket_ranks.specs.Codes.{baskets_of}
 use Rattle.basket_sets.specs.Frequent.{ListsOnce}
 use Rattle.basket_sets.proofs.theory.Frequent.{sorted_is_frequent}
 use Rattle.basket_core.proofs.frequent.Frequent.of_classes.Goals as goal

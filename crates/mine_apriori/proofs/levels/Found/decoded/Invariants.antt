@@ -1,5 +1,5 @@
 use Rattle.std.proofs.Common.{◌≡◌, map, take}
-use Rattle.basket_core.specs.Codes.{decoded_set}
+use Rattle.basket_ranks.specs.Codes.{decoded_set}
 use Rattle.basket_sets.specs.Frequent.{counted}
 use Rattle.mine_apriori.proofs.levels.Found.decoded.Given as goal
 

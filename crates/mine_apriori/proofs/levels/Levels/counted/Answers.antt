@@ -1,5 +1,5 @@
 use Rattle.std.proofs.Common.{length, ap, ◌∙◌}
-use Rattle.basket_core.specs.Codes.{baskets_of}
+use Rattle.basket_ranks.specs.Codes.{baskets_of}
 use Rattle.mine_apriori.specs.Levels.{asked_of}
 use Rattle.mine_apriori.specs.Work.{candidate_count}
 use Rattle.mine_apriori.proofs.ItemLemmas.{as_many_candidates}

@@ -1,6 +1,6 @@
 use Rattle.std.proofs.Common.{◌++◌, ◌∷◌, [], map, length, sym, ap, subst, ◌∙◌, arith, append-nil}
 use Rattle.std.specs.List.{All, flat_map}
-use Rattle.basket_core.specs.Codes.{baskets_of, decoded_set}
+use Rattle.basket_ranks.specs.Codes.{baskets_of, decoded_set}
 use Rattle.basket_sets.specs.Counts.{AllBelow}
 use Rattle.basket_sets.specs.Frequent.{counted, ListsOnce}
 use Rattle.mine_apriori.specs.Levels.{asked_of}

@@ -1,11 +1,11 @@
 use Rattle.std.proofs.Common.{◌≡◌, ◌∷◌, [], ℕ, List, length, map, subst, sym, ap, ◌∙◌, arith}
-use Rattle.basket_core.specs.Codes.{IsCoding, decoded_place}
+use Rattle.basket_ranks.specs.Codes.{IsCoding, decoded_place}
 use Rattle.basket_sets.specs.declared.weighted.Weighted.{Weighted}
 use Rattle.basket_sets.specs.declared.minimum.Minimum.TheVariants.{Count}
 use Rattle.basket_sets.specs.Counts.{AllBelow}
 use Rattle.basket_sets.specs.Itemset.{IsRising}
 use Rattle.basket_sets.specs.Support.{support_of}
-use Rattle.basket_core.specs.Codes.{coded_place}
+use Rattle.basket_ranks.specs.Codes.{coded_place}
 use Rattle.mine_classes.specs.Conditional.{conditional}
 use Rattle.mine_classes.specs.Form.{form_baskets}
 use Rattle.mine_classes.specs.ListBaskets.{HaveSameWeights}

@@ -1,5 +1,5 @@
 use Rattle.std.proofs.Common.{map, subst}
-use Rattle.basket_core.specs.Codes.{Coding, baskets_of, decoded_place}
+use Rattle.basket_ranks.specs.Codes.{Coding, baskets_of, decoded_place}
 use Rattle.mine_classes.specs.Form.{form_baskets}
 use Rattle.mine_classes.specs.ListBaskets.{HaveSameWeights}
 use Rattle.mine_classes.proofs.CodedLemmas.{decoded_weights}

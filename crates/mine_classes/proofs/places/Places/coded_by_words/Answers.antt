@@ -1,6 +1,6 @@
 use Rattle.std.proofs.Common.{length, map, sym, ap, ◌∙◌}
 use Rattle.std.proofs.lemmas.Result.{IfOk-weaker}
-use Rattle.basket_core.specs.Codes.{coded_place}
+use Rattle.basket_ranks.specs.Codes.{coded_place}
 use Rattle.mine_classes.specs.ListBaskets.{HaveSameWeights, weight_where}
 use Rattle.mine_classes.specs.Span.{baskets_at}
 use Rattle.mine_classes.specs.Words.{word_places}

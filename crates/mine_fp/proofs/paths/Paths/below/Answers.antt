@@ -1,6 +1,6 @@
 use Rattle.std.proofs.Common.{List, map, subst, sym, ap, ◌∙◌}
 use Rattle.std.specs.Result.{IfOk}
-use Rattle.basket_core.specs.Codes.{decoded_place}
+use Rattle.basket_ranks.specs.Codes.{decoded_place}
 use Rattle.basket_sets.specs.declared.weighted.Weighted.{Weighted}
 use Rattle.mine_classes.specs.Conditional.{conditional}
 use Rattle.mine_classes.specs.ListBaskets.{HaveSameWeights}

@@ -2,7 +2,7 @@ use Rattle.std.proofs.Common.{◌≡◌, ◌+◌, ◌++◌, ◌∷◌, [], lengt
 use Rattle.std.proofs.lemmas.List.{map-append}
 use Rattle.std.proofs.lemmas.List.Elements.{All-push, All-same}
 use Rattle.std.specs.List.{slice_range}
-use Rattle.basket_core.specs.Shards.{shard_of, shard_start}
+use Rattle.basket_ranks.specs.Shards.{shard_of, shard_start}
 use Rattle.mine_apriori.specs.Pairs.{lists_of}
 use Rattle.mine_phases.specs.Pairs.{pairs_in}
 use Rattle.mine_phases.specs.Share.{pieces_of}

@@ -1,6 +1,6 @@
 use Rattle.std.proofs.Common.{◌≡◌, ◌≤◌, ◌-◌}
 use Rattle.std.specs.Prelude.{All}
-use Rattle.basket_core.specs.Shards.{shard_of}
+use Rattle.basket_ranks.specs.Shards.{shard_of}
 use Rattle.mine_apriori.specs.Pairs.{lists_of}
 use Rattle.mine_phases.specs.Pairs.{pairs_in}
 use Rattle.mine_phases.specs.Share.{pieces_of}

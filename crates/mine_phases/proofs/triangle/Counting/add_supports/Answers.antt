@@ -1,5 +1,5 @@
 use Rattle.std.proofs.Common.{◌+◌, ap, sym, ◌∙◌, refl, subst, arith, length, get_or, slice_index, []}
-use Rattle.basket_core.specs.Shards.{shard_of}
+use Rattle.basket_ranks.specs.Shards.{shard_of}
 use Rattle.basket_sets.specs.Support.{support_of, total_of}
 use Rattle.mine_phases.specs.Triangle.{rank_pairs}
 use Rattle.mine_phases.proofs.Claims.{behind, behind-le, behind_push}

@@ -3,7 +3,7 @@ use Rattle.std.specs.List.{sum_by}
 use Rattle.std.proofs.lemmas.List.{append-nil, length-take-le, take_all}
 use Rattle.std.proofs.lemmas.List.Elements.{All-take}
 use Rattle.std.proofs.lemmas.Result.{err_from_is_err_and}
-use Rattle.basket_core.specs.Codes.{decoded}
+use Rattle.basket_ranks.specs.Codes.{decoded}
 use Rattle.basket_core.specs.declared.fault.MineFault.TheVariants.{TooMany}
 use Rattle.basket_sets.specs.Itemset.{IsRising, with_item}
 use Rattle.basket_sets.proofs.theory.Rising.{has-from_Member}

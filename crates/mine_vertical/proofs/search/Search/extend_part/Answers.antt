@@ -2,7 +2,7 @@ use Rattle.std.proofs.Common.{◌≡◌, ◌+◌, ◌++◌, ◌∷◌, [], false
 use Rattle.std.specs.List.{filter, flat_map, sum_by}
 use Rattle.std.proofs.lemmas.List.{take_all}
 use Rattle.std.proofs.lemmas.Result.{err_from_is_err_and}
-use Rattle.basket_core.specs.Codes.{decoded}
+use Rattle.basket_ranks.specs.Codes.{decoded}
 use Rattle.basket_core.specs.declared.fault.MineFault.TheVariants.{TooMany}
 use Rattle.basket_lists.specs.CountedSets.{set_at}
 use Rattle.basket_lists.proofs.theory.Places.{set_added}

@@ -1,6 +1,6 @@
 use Rattle.std.proofs.Common.{◌≡◌, List, [], ◌∷◌, ◌+◌, ◌++◌, false, length, map, take}
 use Rattle.std.specs.List.{filter, flat_map, sum_by}
-use Rattle.basket_core.specs.Codes.{decoded}
+use Rattle.basket_ranks.specs.Codes.{decoded}
 use Rattle.basket_sets.specs.declared.weighted.Weighted.{Weighted}
 use Rattle.mine_vertical.specs.Marks.{IsMarked}
 use Rattle.mine_vertical.specs.Part.{has_second}

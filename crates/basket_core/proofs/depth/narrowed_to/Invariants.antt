@@ -1,6 +1,0 @@
-use Rattle.std.proofs.Common.{◌≡◌, filter, take}
-use Rattle.basket_core.specs.Depth.{is_long, narrowed}
-use Rattle.basket_core.proofs.depth.narrowed_to.Given as goal
-
-abbrev pub invariant-loop-place : goal.invariant-loop-place
-invariant-loop-place l = l.rest.items ≡ filter (is_long l.least) (narrowed l.rank (take l.place-index l.baskets))

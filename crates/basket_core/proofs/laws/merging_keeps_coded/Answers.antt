@@ -1,5 +1,0 @@
-use Rattle.basket_core.proofs.theory.Coding as lemmas
-use Rattle.basket_core.proofs.laws.merging_keeps_coded.Goals as goal
-
-pub returns : goal.returns
-returns c = lemmas.merging_keeps_coded

@@ -1,8 +1,0 @@
-use Rattle.basket_core.proofs.theory.Shards as lemmas
-use Rattle.basket_core.proofs.laws.shards_are_all.Goals as goal
-
-pub returns-clause-numbers : goal.returns-clause-numbers
-returns-clause-numbers c = lemmas.shards_are_all
-
-pub returns-clause-baskets : goal.returns-clause-baskets
-returns-clause-baskets c = lemmas.shards_are_all

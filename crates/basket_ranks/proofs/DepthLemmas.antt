@@ -1,0 +1,304 @@
+-- A frequent set of many items, found rank by rank.
+use Rattle.std.proofs.Common.{◌≡◌, ◌≢◌, ℕ, ◌+◌, ◌-◌, ◌<◌, ◌≤◌, Bool, true, false, ◌&&◌, List, [], ◌∷◌, ◌++◌, Ok, Err, length, take, drop, get_or, cond, eqb, filter, leb, ltb, refl, sym, ap, ◌∙◌, subst, inl, inr, arith, zero, suc, add-zero}
+use Rattle.std.specs.Prelude.{nat_eq}
+use Rattle.std.specs.Ordering.{nat_cmp}
+use Rattle.std.specs.List.Sorted.{IsBinarySearchResult}
+use Rattle.std.specs.List.{Contains, IsDistinct}
+use Rattle.std.proofs.lemmas.Bool.{cases_Bool, cond-false, eqb-true, cond-true, le-leb, lt-leb, lt-ltb, ltb-true}
+use Rattle.std.proofs.lemmas.List.{append-nil, append_assoc, take_rest, take_more, get_or_default, length-append, take-append-drop}
+use Rattle.std.proofs.lemmas.List.Concat.{flat_map-append}
+use Rattle.std.proofs.lemmas.List.Elements.{filter-append}
+use Rattle.std.proofs.lemmas.List.Kept.{IsStrictlySortedBy-filter}
+use Rattle.basket_sets.specs.declared.weighted.Weighted.{Weighted}
+use Rattle.basket_ranks.specs.Codes.{Coding, IsCoding, frequent_of_coding, baskets_of, decoded}
+use Rattle.basket_sets.specs.Database.{weighted, MOST_WEIGHT}
+use Rattle.basket_ranks.specs.Depth.{HasSetOfSize, above, is_long, narrowed, narrowed_place}
+use Rattle.basket_sets.specs.Frequent.{is_frequent, counted}
+use Rattle.basket_sets.specs.Itemset.{IsRising, has, contains, with_item}
+use Rattle.basket_sets.proofs.theory.Frequent.{lists_frequent}
+use Rattle.basket_sets.proofs.theory.Members.{Member, Member-from_map, Member-filter, Member-from_filter, Member-append, Member-append_left, Member-append_right, Member-from_Contains, Contains-from_Member, sorted_append}
+use Rattle.basket_sets.specs.Support.{weight_at, support_of, total_of, all_items, items_of}
+use Rattle.basket_sets.specs.Counts.{item_supports, AllBelow}
+use Rattle.basket_sets.specs.Minimum.{meets}
+use Rattle.basket_ranks.proofs.theory.Decoding.{rank_from_decoded, ranks_below, decoded_sound}
+use Rattle.basket_sets.proofs.theory.Rising.{same_test, contains_each, has_each, Less-from_lt, nil_rises, cons_rises, first_below, rest_rises, found_at, found_nowhere, has-from_Member, Member-from_has}
+use Rattle.basket_sets.proofs.theory.Support.{support_falls, support-append, support-cons, in_items, at_least_one, meets_more}
+
+-- ---- baskets kept to the ranks above one that they have
+
+narrowed_more : (rank : ℕ) (baskets : List Weighted) (i : ℕ) (place : Weighted) → i < length baskets → place ≡ get_or baskets i place
+    → narrowed rank (take (i + 1) baskets) ≡ narrowed rank (take i baskets) ++ narrowed_place rank place
+narrowed_more rank baskets i place below is =
+    ap (narrowed rank) (take_more baskets i place below) ∙ flat_map-append (narrowed_place rank) (take i baskets) (get_or baskets i place ∷ [])
+    ∙ ap (λ l. narrowed rank (take i baskets) ++ l) (append-nil (narrowed_place rank (get_or baskets i place))) ∙ ap (λ p. narrowed rank (take i baskets) ++ narrowed_place rank p) (sym is)
+
+not_below : (x y : ℕ) → y ≤ x → ltb x y ≡ false
+not_below x y le = elim (cases_Bool (ltb x y)) [ inl e ↦ absurd (let b = ltb-true x y e in omega arith) | inr e ↦ e ]
+
+all_above : (rank : ℕ) (ranks : List ℕ) → ((y : ℕ) → Member y ranks → rank < y) → above rank ranks ≡ ranks
+all_above rank [] h = refl
+all_above rank (x ∷ ranks) h =
+    ap (λ b. cond b (x ∷ above rank ranks) (above rank ranks)) (lt-ltb rank x (h x (inl refl))) ∙ ap (λ l. x ∷ l) (all_above rank ranks (λ y m. h y (inr m)))
+
+member_at : (items : List ℕ) (k : ℕ) → k < length items → Member (get_or items k 0) items
+member_at items k below = Member-from_Contains (get_or items k 0) items (k, below, get_or_default items k (get_or items k 0) 0 below)
+
+above_is : (ranks : List ℕ) (at rank : ℕ) → IsRising ranks → at < length ranks → get_or ranks at 0 ≡ rank → above rank ranks ≡ drop (at + 1) ranks
+above_is [] at rank up below is = absurd (omega arith)
+above_is (x ∷ ranks) zero rank up below is =
+    cond-false (ltb rank x) (x ∷ above rank ranks) (above rank ranks) (not_below rank x (omega (arith, is)))
+    ∙ all_above rank ranks (λ y m. let b = first_below x ranks up y m in omega (arith, is))
+above_is (x ∷ ranks) (suc k) rank up below is =
+    cond-false (ltb rank x) (x ∷ above rank ranks) (above rank ranks)
+    (not_below rank x (let b = first_below x ranks up (get_or ranks k 0) (member_at ranks k (omega arith)) in omega (arith, is)))
+    ∙ above_is ranks k rank (rest_rises x ranks up) (omega arith) is ∙ ap (λ n. drop n (x ∷ ranks)) (next k)
+  where
+    next : (n : ℕ) → suc (n + 1) ≡ suc n + 1
+    next n = omega arith
+
+few_above : (rank : ℕ) (ranks : List ℕ) → length (above rank ranks) ≤ length ranks
+few_above rank [] = omega arith
+few_above rank (x ∷ ranks) = at (ltb rank x) (few_above rank ranks)
+  where
+    at : (b : Bool) → length (above rank ranks) ≤ length ranks → length (cond b (x ∷ above rank ranks) (above rank ranks)) ≤ suc (length ranks)
+    at true few = omega arith
+    at false few = omega arith
+
+fewer_above : (rank : ℕ) (ranks : List ℕ) → Member rank ranks → length (above rank ranks) < length ranks
+fewer_above rank [] m = absurd m
+fewer_above rank (x ∷ ranks) m = at (ltb rank x) refl (fewer_above rank ranks) m
+  where
+    at : (b : Bool) → ltb rank x ≡ b → (Member rank ranks → length (above rank ranks) < length ranks) → Member rank (x ∷ ranks) → length (cond b (x ∷ above rank ranks) (above rank ranks)) < suc (length ranks)
+    at true e rest (inl same) = absurd (let less = ltb-true rank x e in omega arith)
+    at true e rest (inr later) = let fewer = rest later in omega arith
+    at false e rest n = let few = few_above rank ranks in omega arith
+
+-- a basket that has the rank and so many above it, or not so many
+one_long : (least : ℕ) (kept : List ℕ) (weight : ℕ) → least ≤ length kept → filter (is_long least) (weighted kept weight ∷ []) ≡ weighted kept weight ∷ []
+one_long least kept weight many = cond-true (leb least (length kept)) (weighted kept weight ∷ []) [] (le-leb least (length kept) many)
+
+one_short : (least : ℕ) (kept : List ℕ) (weight : ℕ) → length kept < least → filter (is_long least) (weighted kept weight ∷ []) ≡ []
+one_short least kept weight few = cond-false (leb least (length kept)) (weighted kept weight ∷ []) [] (lt-leb least (length kept) few)
+
+pub too_short : (least rank : ℕ) (ranks : List ℕ) (weight : ℕ) → length ranks ≤ least → filter (is_long least) (narrowed_place rank (weighted ranks weight)) ≡ []
+too_short least rank ranks weight few = at (has ranks rank) refl
+  where
+    at : (b : Bool) → has ranks rank ≡ b → filter (is_long least) (cond b (weighted (above rank ranks) weight ∷ []) []) ≡ []
+    at true e = one_short least (above rank ranks) weight (let fewer = fewer_above rank ranks (Member-from_has ranks rank e) in omega arith)
+    at false e = refl
+
+module _ (rank at : ℕ) (ranks kept : List ℕ) (up : IsRising ranks) (found : IsBinarySearchResult (λ y. nat_cmp y rank) ranks (Ok at)) (made : kept ≡ take (length ranks - (at + 1)) (drop (at + 1) ranks)) where
+  kept_above : kept ≡ above rank ranks
+  kept_above = let here = found_at ranks rank at up found in made ∙ take_rest ranks (at + 1) ∙ sym (above_is ranks at rank up here.0 here.1)
+
+  found_place : (weight : ℕ) → narrowed_place rank (weighted ranks weight) ≡ weighted kept weight ∷ []
+  found_place weight =
+      let here = found_at ranks rank at up found in
+      cond-true (has ranks rank) (weighted (above rank ranks) weight ∷ []) [] (has-from_Member ranks rank (subst (λ r. Member r ranks) here.1 (member_at ranks at here.0)))
+      ∙ ap (λ l. weighted l weight ∷ []) (sym kept_above)
+
+  pub kept_rises : IsRising kept
+  kept_rises = subst IsRising (sym kept_above) (IsStrictlySortedBy-filter nat_cmp (λ other. ltb rank other) ranks up)
+
+  pub long_place : (least weight : ℕ) → least ≤ length kept → filter (is_long least) (narrowed_place rank (weighted ranks weight)) ≡ weighted kept weight ∷ []
+  long_place least weight many = ap (filter (is_long least)) (found_place weight) ∙ one_long least kept weight many
+
+  pub short_place : (least weight : ℕ) → length kept < least → filter (is_long least) (narrowed_place rank (weighted ranks weight)) ≡ []
+  short_place least weight few = ap (filter (is_long least)) (found_place weight) ∙ one_short least kept weight few
+
+-- the support of a rank is what was counted
+pub count_is : (baskets : List Weighted) (rank count : ℕ) → Contains (item_supports baskets) (rank, count) → support_of baskets (rank ∷ []) ≡ count
+count_is baskets rank count h =
+    let m = Member-from_map (λ x. (x, support_of baskets (x ∷ []))) (rank, count) (items_of baskets) (Member-from_Contains (rank, count) (item_supports baskets) h) in
+    ap (λ x. support_of baskets (x ∷ [])) (sym (ap (λ (p : ℕ × ℕ). p.0) m.2)) ∙ ap (λ (p : ℕ × ℕ). p.1) m.2
+
+narrowed_items : (rank : ℕ) (baskets : List Weighted) (x : ℕ) → Member x (all_items (narrowed rank baskets)) → (rank < x) × Member x (all_items baskets)
+narrowed_items rank [] x m = absurd m
+narrowed_items rank (place ∷ baskets) x m = at (has place.basket rank) (narrowed_items rank baskets x) m
+  where
+    later : (rank < x) × Member x (all_items baskets) → (rank < x) × Member x (all_items (place ∷ baskets))
+    later r = (r.0, Member-append_right x place.basket (all_items baskets) r.1)
+
+    at : (b : Bool) → (Member x (all_items (narrowed rank baskets)) → (rank < x) × Member x (all_items baskets))
+        → Member x (all_items (cond b (weighted (above rank place.basket) place.weight ∷ []) [] ++ narrowed rank baskets)) → (rank < x) × Member x (all_items (place ∷ baskets))
+    at true rest n = elim (Member-append x (above rank place.basket) (all_items (narrowed rank baskets)) n) [
+      | inl here ↦ (let k = Member-filter (λ other. ltb rank other) x place.basket here in (ltb-true rank x k.1, Member-append_left x place.basket (all_items baskets) k.0))
+      | inr there ↦ later (rest there)
+    ]
+    at false rest n = later (rest n)
+
+above_contains : (rank : ℕ) (basket more : List ℕ) → ((x : ℕ) → Member x more → rank < x) → contains (above rank basket) more ≡ contains basket more
+above_contains rank basket more beyond = same_test _ _
+    (λ h. contains_each basket more (λ x m. (Member-filter (λ other. ltb rank other) x basket (has_each (above rank basket) more h x m)).0))
+    (λ h. contains_each (above rank basket) more (λ x m. Member-from_filter (λ other. ltb rank other) x basket (has_each basket more h x m) (lt-ltb rank x (beyond x m))))
+
+narrowed_supports : (rank : ℕ) (baskets : List Weighted) (more : List ℕ) → ((x : ℕ) → Member x more → rank < x) → support_of (narrowed rank baskets) more ≡ support_of baskets (rank ∷ more)
+narrowed_supports rank [] more beyond = refl
+narrowed_supports rank (place ∷ baskets) more beyond =
+    support-append (narrowed_place rank place) (narrowed rank baskets) more
+    ∙ omega (arith, here (has place.basket rank) refl, narrowed_supports rank baskets more beyond, support-cons place baskets (rank ∷ more))
+  where
+    here : (b : Bool) → has place.basket rank ≡ b → support_of (cond b (weighted (above rank place.basket) place.weight ∷ []) []) more ≡ weight_at (rank ∷ more) place
+    here true e =
+        support-cons (weighted (above rank place.basket) place.weight) [] more ∙ add-zero _
+        ∙ ap (λ b. cond b place.weight 0) (above_contains rank place.basket more beyond ∙ sym (ap (λ b. b && contains place.basket more) e))
+    here false e = ap (λ b. cond (b && contains place.basket more) place.weight 0) (sym e)
+
+missed : (rank place : ℕ) (ranks : List ℕ) (weight : ℕ) → IsRising ranks → IsBinarySearchResult (λ y. nat_cmp y rank) ranks (Err place) → narrowed_place rank (weighted ranks weight) ≡ []
+missed rank place ranks weight up search = elim (cases_Bool (has ranks rank)) [
+  | inl e ↦ absurd (let c = Contains-from_Member rank ranks (Member-from_has ranks rank e) in
+      found_nowhere ranks rank place up search c.0 c.1 (get_or_default ranks c.0 0 rank c.1 ∙ c.2))
+  | inr e ↦ cond-false (has ranks rank) (weighted (above rank ranks) weight ∷ []) [] e
+]
+
+pub missed_place : (least rank place : ℕ) (ranks : List ℕ) (weight : ℕ) → IsRising ranks → IsBinarySearchResult (λ y. nat_cmp y rank) ranks (Err place)
+    → filter (is_long least) (narrowed_place rank (weighted ranks weight)) ≡ []
+missed_place least rank place ranks weight up search = ap (filter (is_long least)) (missed rank place ranks weight up search)
+
+pub left_more : (least rank : ℕ) (baskets : List Weighted) (i : ℕ) (place : Weighted) → i < length baskets → place ≡ get_or baskets i place
+    → filter (is_long least) (narrowed rank (take (i + 1) baskets)) ≡ filter (is_long least) (narrowed rank (take i baskets)) ++ filter (is_long least) (narrowed_place rank place)
+left_more least rank baskets i place below is =
+    ap (filter (is_long least)) (narrowed_more rank baskets i place below is) ∙ filter-append (is_long least) (narrowed rank (take i baskets)) (narrowed_place rank place)
+
+-- ---- some of the baskets
+
+fewer_supports : (p : Weighted → Bool) (baskets : List Weighted) (set : List ℕ) → support_of (filter p baskets) set ≤ support_of baskets set
+fewer_supports p [] set = omega arith
+fewer_supports p (place ∷ baskets) set = at (p place) (fewer_supports p baskets set)
+  where
+    at : (b : Bool) → support_of (filter p baskets) set ≤ support_of baskets set → support_of (cond b (place ∷ filter p baskets) (filter p baskets)) set ≤ support_of (place ∷ baskets) set
+    at true rest = omega (arith, support-cons place (filter p baskets) set, support-cons place baskets set, rest)
+    at false rest = omega (arith, support-cons place baskets set, rest)
+
+fewer_items : (p : Weighted → Bool) (baskets : List Weighted) (x : ℕ) → Member x (all_items (filter p baskets)) → Member x (all_items baskets)
+fewer_items p [] x m = m
+fewer_items p (place ∷ baskets) x m = at (p place) (fewer_items p baskets x) m
+  where
+    at : (b : Bool) → (Member x (all_items (filter p baskets)) → Member x (all_items baskets)) → Member x (all_items (cond b (place ∷ filter p baskets) (filter p baskets))) → Member x (all_items (place ∷ baskets))
+    at true rest n = elim (Member-append x place.basket (all_items (filter p baskets)) n) [
+      | inl here ↦ Member-append_left x place.basket (all_items baskets) here
+      | inr there ↦ Member-append_right x place.basket (all_items baskets) (rest there)
+    ]
+    at false rest n = Member-append_right x place.basket (all_items baskets) (rest n)
+
+pub weight_more : (baskets : List Weighted) (i : ℕ) (place : Weighted) → i < length baskets → place ≡ get_or baskets i place → total_of (take (i + 1) baskets) ≡ total_of (take i baskets) + place.weight
+weight_more baskets i place below is =
+    ap total_of (take_more baskets i place below) ∙ support-append (take i baskets) (get_or baskets i place ∷ []) []
+    ∙ ap (λ n. total_of (take i baskets) + n) (ap (λ p. support_of (p ∷ []) []) (sym is) ∙ support-cons place [] [] ∙ add-zero place.weight)
+
+pub weight_within : (baskets : List Weighted) (i : ℕ) → total_of (take i baskets) ≤ total_of baskets
+weight_within baskets i = let both = support-append (take i baskets) (drop i baskets) [] in let all = ap total_of (take-append-drop i baskets) in omega arith
+
+-- ---- a set that is found rank by rank
+
+-- a set of so many ranks is frequent in a coding, and these are baskets that have it, kept to the ranks above all of its own
+pub record Reaches (coding : Coding) (size : ℕ) (rest : List Weighted) : Type 0 where
+  pub set : List ℕ
+  pub rises : IsRising set
+  pub sized : length set ≡ size
+  pub frequent : set ≢ [] → is_frequent coding.baskets coding.minimum set ≡ true
+  pub beyond : (x y : ℕ) → Member x (all_items rest) → Member y set → y < x
+  pub supports : (more : List ℕ) → ((x y : ℕ) → Member x more → Member y set → y < x) → support_of rest more ≤ support_of coding.baskets (set ++ more)
+
+pub reaches_none : (coding : Coding) → Reaches coding 0 coding.baskets
+reaches_none coding = record {
+  set = [];
+  rises = nil_rises;
+  sized = refl;
+  frequent = λ some. absurd (some refl);
+  beyond = λ x y m n. absurd n;
+  supports = λ more h. omega arith;
+}
+
+-- the narrowed baskets weigh no more than all
+pub reached_light : (coding : Coding) (size : ℕ) (rest : List Weighted) → IsCoding coding → Reaches coding size rest → total_of rest ≤ MOST_WEIGHT
+reached_light coding size rest is r =
+    let same = r.supports [] (λ x y m n. absurd m) in
+    let falls = support_falls coding.baskets (r.set ++ []) [] refl in
+    omega (arith, same, falls, is.light)
+
+-- one rank more
+pub reaches_more : (coding : Coding) (size rank : ℕ) (rest narrower : List Weighted) → Reaches coding size rest → narrower ≡ narrowed rank rest
+    → meets coding.minimum (support_of rest (rank ∷ [])) (total_of coding.baskets) ≡ true → Reaches coding (size + 1) narrower
+reaches_more coding size rank rest narrower r made met = subst (Reaches coding (size + 1)) (sym made) (record {
+  set = r.set ++ rank ∷ [];
+  rises = sorted_append nat_cmp r.set (rank ∷ []) r.rises (cons_rises rank [] (λ y m. absurd m) nil_rises) (λ x y m n. Less-from_lt x y (below x y m n));
+  sized = length-append r.set (rank ∷ []) ∙ ap (λ n. n + 1) r.sized;
+  frequent = λ some. meets_more coding.minimum (support_of rest (rank ∷ [])) (support_of coding.baskets (r.set ++ rank ∷ [])) (total_of coding.baskets) single met;
+  beyond = λ x y m n.
+      let k = narrowed_items rank rest x m in
+      elim (Member-append y r.set (rank ∷ []) n) [ inl old ↦ r.beyond x y k.1 old | inr (inl new) ↦ subst (λ z. z < x) new k.0 | inr (inr no') ↦ absurd no' ];
+  supports = λ more h.
+      let here = narrowed_supports rank rest more (λ x m. h x rank m (Member-append_right rank r.set (rank ∷ []) (inl refl))) in
+      let there = r.supports (rank ∷ more) (λ x y m n. elim m [ inl e ↦ below y x n (inl e) | inr later ↦ h x y later (Member-append_left y r.set (rank ∷ []) n) ]) in
+      omega (arith, here, there, ap (support_of coding.baskets) (append_assoc r.set (rank ∷ []) more));
+})
+  where
+    here : Member rank (all_items rest)
+    here = in_items rest (rank ∷ []) (at_least_one coding.minimum (support_of rest (rank ∷ [])) (total_of coding.baskets) met) rank (inl refl)
+
+    below : (x y : ℕ) → Member x r.set → Member y (rank ∷ []) → x < y
+    below x y m (inl e) = subst (λ z. x < z) e (r.beyond rank x here m)
+    below x y m (inr n) = absurd n
+
+    single : support_of rest (rank ∷ []) ≤ support_of coding.baskets (r.set ++ rank ∷ [])
+    single = r.supports (rank ∷ []) (λ x y m n. below y x n m)
+
+-- some of the baskets
+reaches_fewer : (coding : Coding) (size : ℕ) (rest : List Weighted) (p : Weighted → Bool) → Reaches coding size rest → Reaches coding size (filter p rest)
+reaches_fewer coding size rest p r = record {
+  set = r.set;
+  rises = r.rises;
+  sized = r.sized;
+  frequent = r.frequent;
+  beyond = λ x y m n. r.beyond x y (fewer_items p rest x m) n;
+  supports = λ more h. let fewer = fewer_supports p rest more in omega (arith, fewer, r.supports more h);
+}
+
+-- one rank more, of which some of the baskets are left
+pub reaches_long : (coding : Coding) (size rank least : ℕ) (rest narrower : List Weighted) → Reaches coding size rest → narrower ≡ filter (is_long least) (narrowed rank rest)
+    → meets coding.minimum (support_of rest (rank ∷ [])) (total_of coding.baskets) ≡ true → Reaches coding (size + 1) narrower
+reaches_long coding size rank least rest narrower r made met =
+    subst (Reaches coding (size + 1)) (sym made) (reaches_fewer coding (size + 1) (narrowed rank rest) (is_long least) (reaches_more coding size rank rest (narrowed rank rest) r refl met))
+
+-- what is left of the baskets weighs no more than those that have the rank
+pub left_light : (rank least : ℕ) (baskets left : List Weighted) → left ≡ filter (is_long least) (narrowed rank baskets) → total_of left ≤ support_of baskets (rank ∷ [])
+left_light rank least baskets left made =
+    let same = narrowed_supports rank baskets [] (λ x m. absurd m) in
+    let fewer = fewer_supports (is_long least) (narrowed rank baskets) [] in
+    omega (arith, ap total_of made, same, fewer)
+
+-- ---- decoding keeps the size of a set
+
+length-with_item : (a : ℕ) (xs : List ℕ) → (Member a xs → ⊥) → length (with_item a xs) ≡ suc (length xs)
+length-with_item a [] none = refl
+length-with_item a (x ∷ xs) none = at (ltb a x) (eqb a x) refl (length-with_item a xs (λ m. none (inr m)))
+  where
+    at : (p q : Bool) → eqb a x ≡ q → length (with_item a xs) ≡ suc (length xs) → length (cond p (a ∷ x ∷ xs) (cond q (x ∷ xs) (x ∷ with_item a xs))) ≡ suc (suc (length xs))
+    at true q same e = refl
+    at false true same e = absurd (none (inl (sym (eqb-true a x same))))
+    at false false same e = ap suc e
+
+length-decoded : (items set : List ℕ) → IsDistinct nat_eq items → IsRising set → AllBelow (length items) set → length (decoded items set) ≡ length set
+length-decoded items [] apart up below = refl
+length-decoded items (rank ∷ set) apart up below =
+    length-with_item (get_or items rank 0) (decoded items set) other ∙ ap suc (length-decoded items set apart (rest_rises rank set up) (λ x h. below x (has_later x h)))
+  where
+    has_later : (x : ℕ) → has set x ≡ true → has (rank ∷ set) x ≡ true
+    has_later x h = has-from_Member (rank ∷ set) x (inr (Member-from_has set x h))
+
+    other : Member (get_or items rank 0) (decoded items set) → ⊥
+    other m =
+        let n = rank_from_decoded items set rank apart (λ x h. below x (has_later x h)) (below rank (has-from_Member (rank ∷ set) rank (inl refl))) m in
+        let b = first_below rank set up rank n in omega arith
+
+pub reached : (coding : Coding) (size : ℕ) (rest : List Weighted) → IsCoding coding → 1 ≤ size → Reaches coding size rest → HasSetOfSize (frequent_of_coding coding) size
+reached coding size rest is some r =
+    let none : r.set ≢ [] = λ e. (let l = r.sized in let z = ap length e in omega arith) in
+    let h = r.frequent none in
+    let within = ranks_below coding is r.set h in
+    let s = decoded_sound coding is (counted coding.baskets r.set) ((r.rises, none), h, refl) in (
+      counted (baskets_of coding) (decoded coding.items r.set),
+      (lists_frequent (baskets_of coding) coding.minimum).complete (decoded coding.items r.set) s.0 s.1,
+      length-decoded coding.items r.set is.distinct r.rises within ∙ r.sized,
+    )

@@ -1,0 +1,4 @@
+pub mod theory
+mod RankLemmas
+mod CodeLemmas
+mod DepthLemmas

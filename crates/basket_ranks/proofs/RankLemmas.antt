@@ -1,0 +1,327 @@
+-- The frequent items in the order of their ranks, and the ranks of items.
+use Rattle.std.proofs.Common.{◌≡◌, ◌≢◌, ℕ, ◌+◌, ◌<◌, ◌≤◌, Bool, true, false, List, [], ◌∷◌, ◌++◌, length, take, get_or, map, cond, eqb, set, Option, Some, None, Ok, Err, refl, sym, ap, ◌∙◌, subst, inl, inr, ◌⊎◌, arith, zero, suc, zero-add}
+use Rattle.std.specs.declared.cmp.Ordering.{Ordering}
+use Rattle.std.specs.declared.cmp.Ordering.TheVariants.{Less, Equal, Greater}
+use Rattle.std.specs.Ordering.{nat_cmp, ordering_then, ordering_reverse, is_lt, is_eq, eq_by_cmp}
+use Rattle.std.specs.Cmp.{IsTotalOrder, nat_cmp_total}
+use Rattle.std.specs.Prelude.{nat_eq}
+use Rattle.std.specs.List.{IsDistinct, filter}
+use Rattle.std.specs.List.Sorted.{IsBinarySearchResult, IsStrictlySortedBy, IsPermutation, IsSorted}
+use Rattle.std.proofs.lemmas.Cmp.{then_total, on_total, back_total}
+use Rattle.std.proofs.lemmas.Bool.{cases_Bool, cases_eq, cases_order, or_cases, eqb-true, eq-eqb, ne_eqb, true≢false}
+use Rattle.std.proofs.lemmas.Bool.Decides.{nat_tests}
+use Rattle.std.proofs.lemmas.List.{take_more, take_all, get_or-take, get_or_default, get_or-set_same, get_or-set_other, length-take, length-set}
+use Rattle.std.proofs.lemmas.List.Sorted.{IsPermutation-map}
+use Rattle.std.proofs.lemmas.Map.Keys.{IsDistinct-IsPermutation, apart_from_distinct, below_from_sorted}
+use Rattle.basket_ranks.specs.Codes.{rank_order, with_entry, ranked, rank_from, rank_of}
+use Rattle.basket_sets.specs.Itemset.{IsRising, has, rising}
+use Rattle.basket_ranks.specs.declared.ranks.Entry.{Entry}
+use Rattle.basket_ranks.specs.Ranks.{AreSlots, AreRanksAt, entries_of}
+use Rattle.basket_sets.proofs.theory.Members.{Member, All-from_Member, at_Member, Member-map, Member-from_map, Member-filter, Member-from_Contains, Contains-from_Member}
+use Rattle.basket_sets.proofs.theory.Rising.{has_more, first_below, rest_rises, cons_rises, nil_rises, rising-rises, Member-rising, Member-into_rising, has-from_Member, found_at, found_nowhere}
+use Rattle.basket_sets.proofs.theory.Sorting.{sorted_is}
+
+-- ---- the order of ranks
+
+pub rank_order_total : IsTotalOrder rank_order
+rank_order_total = then_total (back_total (on_total (λ (e : ℕ × ℕ). e.1) nat_cmp_total)) (on_total (λ (e : ℕ × ℕ). e.0) nat_cmp_total)
+
+second_equal : (r s : Ordering) → ordering_then r s ≡ Equal → s ≡ Equal
+second_equal Less s e = absurd (not_equal e)
+  where
+    not_equal : Less ≡ Equal → ⊥
+    not_equal p = cc
+second_equal Equal s e = e
+second_equal Greater s e = absurd (not_equal e)
+  where
+    not_equal : Greater ≡ Equal → ⊥
+    not_equal p = cc
+
+equal_from : (r : Ordering) → is_eq r ≡ true → r ≡ Equal
+equal_from Less e = absurd (true≢false (sym e))
+equal_from Equal e = refl
+equal_from Greater e = absurd (true≢false (sym e))
+
+same_number : (x y : ℕ) → nat_cmp x y ≡ Equal → x ≡ y
+same_number x y e = grind (arith, nat_tests)
+
+-- entries of two items are told apart
+apart_entries : (a b : ℕ × ℕ) → a.0 ≢ b.0 → eq_by_cmp rank_order a b ≡ false
+apart_entries a b ne = elim (cases_Bool (eq_by_cmp rank_order a b)) [
+  | inl e ↦ absurd (ne (same_number a.0 b.0 (second_equal (nat_cmp b.1 a.1) (nat_cmp a.0 b.0) (equal_from (rank_order a b) e))))
+  | inr e ↦ e
+]
+
+-- entries whose items rise are distinct
+pub distinct_entries : (entries : List (ℕ × ℕ)) → IsRising (map (λ e. e.0) entries) → IsDistinct (eq_by_cmp rank_order) entries
+unfolding IsDistinct
+distinct_entries [] up = tt
+distinct_entries (e ∷ entries) up = (
+  All-from_Member (λ f. eq_by_cmp rank_order e f ≡ false) entries
+      (λ f m. apart_entries e f (λ same. let b = first_below e.0 (map (λ x. x.0) entries) up f.0 (Member-map (λ (x : ℕ × ℕ). x.0) f entries m) in omega arith)),
+  distinct_entries entries (rest_rises e.0 (map (λ x. x.0) entries) up),
+)
+
+-- the entries that pass a test rise as all do
+pub filter_rises : (p : ℕ × ℕ → Bool) (entries : List (ℕ × ℕ)) → IsRising (map (λ e. e.0) entries) → IsRising (map (λ e. e.0) (filter p entries))
+filter_rises p [] up = nil_rises
+filter_rises p (e ∷ entries) up = at (p e) (filter_rises p entries (rest_rises e.0 (map (λ x. x.0) entries) up))
+  where
+    below : (y : ℕ) → Member y (map (λ (x : ℕ × ℕ). x.0) (filter p entries)) → e.0 < y
+    below y m =
+        let f = Member-from_map (λ (x : ℕ × ℕ). x.0) y (filter p entries) m in
+        subst (λ z. e.0 < z) f.2 (first_below e.0 (map (λ x. x.0) entries) up f.0.0 (Member-map (λ (x : ℕ × ℕ). x.0) f.0 entries (Member-filter p f.0 entries f.1).0))
+
+    at : (b : Bool) → IsRising (map (λ x. x.0) (filter p entries)) → IsRising (map (λ x. x.0) (cond b (e ∷ filter p entries) (filter p entries)))
+    at true rest = cons_rises e.0 (map (λ x. x.0) (filter p entries)) below rest
+    at false rest = rest
+
+-- ---- entries in the order of ranks
+
+with_at : (e f x : ℕ × ℕ) (xs rest : List (ℕ × ℕ)) (b : Bool) → (Member x rest → (e ≡ x) ⊎ Member x xs) → Member x (cond b (e ∷ f ∷ xs) (f ∷ rest)) → (e ≡ x) ⊎ Member x (f ∷ xs)
+with_at e f x xs rest true later (inl s) = inl s
+with_at e f x xs rest true later (inr m) = inr m
+with_at e f x xs rest false later (inl s) = inr (inl s)
+with_at e f x xs rest false later (inr m) = elim (later m) [ inl s ↦ inl s | inr n ↦ inr (inr n) ]
+
+pub Member-with_entry : (e : ℕ × ℕ) (xs : List (ℕ × ℕ)) (x : ℕ × ℕ) → Member x (with_entry e xs) → (e ≡ x) ⊎ Member x xs
+Member-with_entry e [] x (inl s) = inl s
+Member-with_entry e [] x (inr m) = absurd m
+Member-with_entry e (f ∷ xs) x m = with_at e f x xs (with_entry e xs) (is_lt (rank_order e f)) (Member-with_entry e xs x) m
+
+into_at : (e f x : ℕ × ℕ) (xs rest : List (ℕ × ℕ)) (b : Bool) → ((e ≡ x) ⊎ Member x xs → Member x rest) → (e ≡ x) ⊎ Member x (f ∷ xs) → Member x (cond b (e ∷ f ∷ xs) (f ∷ rest))
+into_at e f x xs rest true later (inl s) = inl s
+into_at e f x xs rest true later (inr m) = inr m
+into_at e f x xs rest false later (inl s) = inr (later (inl s))
+into_at e f x xs rest false later (inr (inl s)) = inl s
+into_at e f x xs rest false later (inr (inr m)) = inr (later (inr m))
+
+pub Member-into_with_entry : (e : ℕ × ℕ) (xs : List (ℕ × ℕ)) (x : ℕ × ℕ) → (e ≡ x) ⊎ Member x xs → Member x (with_entry e xs)
+Member-into_with_entry e [] x (inl s) = inl s
+Member-into_with_entry e [] x (inr m) = absurd m
+Member-into_with_entry e (f ∷ xs) x m = into_at e f x xs (with_entry e xs) (is_lt (rank_order e f)) (Member-into_with_entry e xs x) m
+
+pub Member-ranked : (entries : List (ℕ × ℕ)) (x : ℕ × ℕ) → Member x (ranked entries) → Member x entries
+Member-ranked [] x m = m
+Member-ranked (e ∷ entries) x m = elim (Member-with_entry e (ranked entries) x m) [ inl s ↦ inl s | inr n ↦ inr (Member-ranked entries x n) ]
+
+pub Member-into_ranked : (entries : List (ℕ × ℕ)) (x : ℕ × ℕ) → Member x entries → Member x (ranked entries)
+Member-into_ranked [] x m = m
+Member-into_ranked (e ∷ entries) x (inl s) = Member-into_with_entry e (ranked entries) x (inl s)
+Member-into_ranked (e ∷ entries) x (inr m) = Member-into_with_entry e (ranked entries) x (inr (Member-into_ranked entries x m))
+
+not_less : (r s : Ordering) → s ≡ ordering_reverse r → is_lt r ≡ false → is_eq r ≡ false → s ≡ Less
+not_less Less s e up apart = absurd (true≢false up)
+not_less Equal s e up apart = absurd (true≢false apart)
+not_less Greater s e up apart = e
+
+less_from : (r : Ordering) → is_lt r ≡ true → r ≡ Less
+less_from Less e = refl
+less_from Equal e = absurd (true≢false (sym e))
+less_from Greater e = absurd (true≢false (sym e))
+
+with_entry_sorted : (e : ℕ × ℕ) (xs : List (ℕ × ℕ)) → IsStrictlySortedBy rank_order xs → ((x : ℕ × ℕ) → Member x xs → eq_by_cmp rank_order e x ≡ false)
+    → IsStrictlySortedBy rank_order (with_entry e xs)
+unfolding IsStrictlySortedBy
+with_entry_sorted e [] up apart = (tt, tt)
+with_entry_sorted e (f ∷ xs) up apart = at (is_lt (rank_order e f)) refl (with_entry_sorted e xs up.1 (λ x m. apart x (inr m)))
+  where
+    o : IsTotalOrder rank_order
+    o = rank_order_total
+
+    before : is_lt (rank_order e f) ≡ true → (z : ℕ × ℕ) → Member z (f ∷ xs) → rank_order e z ≡ Less
+    before less z (inl s) = subst (λ w. rank_order e w ≡ Less) s (less_from (rank_order e f) less)
+    before less z (inr m) = o.trans e f z (less_from (rank_order e f) less) (at_Member (λ w. rank_order f w ≡ Less) z xs up.0 m)
+
+    after : is_lt (rank_order e f) ≡ false → (z : ℕ × ℕ) → Member z (with_entry e xs) → rank_order f z ≡ Less
+    after more z m = elim (Member-with_entry e xs z m) [
+      | inl s ↦ subst (λ w. rank_order f w ≡ Less) s (not_less (rank_order e f) (rank_order f e) (o.antisymm f e) more (apart f (inl refl)))
+      | inr n ↦ at_Member (λ w. rank_order f w ≡ Less) z xs up.0 n
+    ]
+
+    at : (b : Bool) → is_lt (rank_order e f) ≡ b → IsStrictlySortedBy rank_order (with_entry e xs) → IsStrictlySortedBy rank_order (cond b (e ∷ f ∷ xs) (f ∷ with_entry e xs))
+    at true less rest = (All-from_Member (λ z. rank_order e z ≡ Less) (f ∷ xs) (before less), up)
+    at false more rest = (All-from_Member (λ z. rank_order f z ≡ Less) (with_entry e xs) (after more), rest)
+
+pub ranked_sorted : (entries : List (ℕ × ℕ)) → IsDistinct (eq_by_cmp rank_order) entries → IsStrictlySortedBy rank_order (ranked entries)
+unfolding IsDistinct IsStrictlySortedBy
+ranked_sorted [] apart = tt
+ranked_sorted (e ∷ entries) apart =
+    with_entry_sorted e (ranked entries) (ranked_sorted entries apart.1) (λ x m. at_Member (λ y. eq_by_cmp rank_order e y ≡ false) x entries apart.0 (Member-ranked entries x m))
+
+-- a sort by rank of entries whose items rise
+pub sorted_ranks : (entries sorted : List (ℕ × ℕ)) → IsRising (map (λ e. e.0) entries) → IsPermutation entries sorted → IsSorted rank_order sorted → sorted ≡ ranked entries
+sorted_ranks entries sorted up moved in_order =
+    let apart = distinct_entries entries up in
+    sorted_is rank_order_total entries sorted (ranked entries) apart moved in_order (ranked_sorted entries apart)
+    (λ z m. Member-into_ranked entries z m) (λ z m. Member-ranked entries z m)
+
+-- rising numbers are distinct
+rising_distinct : (items : List ℕ) → IsRising items → IsDistinct nat_eq items
+unfolding IsDistinct
+rising_distinct [] up = tt
+rising_distinct (x ∷ items) up = (
+  All-from_Member (λ y. nat_eq x y ≡ false) items (λ y m. ne_eqb x y (λ e. let b = first_below x items up y m in omega arith)),
+  rising_distinct items (rest_rises x items up),
+)
+
+flips : (x y : ℕ) → nat_eq x y ≡ nat_eq y x
+flips x y = grind (arith, nat_tests)
+
+-- their items are distinct
+pub ranks_distinct : (entries sorted : List (ℕ × ℕ)) → IsRising (map (λ e. e.0) entries) → IsPermutation entries sorted → IsDistinct nat_eq (map (λ e. e.0) sorted)
+ranks_distinct entries sorted up moved =
+    IsDistinct-IsPermutation nat_eq flips (map (λ e. e.0) entries) (map (λ e. e.0) sorted) (IsPermutation-map (λ (e : ℕ × ℕ). e.0) entries sorted moved) (rising_distinct _ up)
+
+-- ---- the rank of an item
+
+abbrev after : ℕ → ℕ → ℕ → Option ℕ → Option ℕ
+after number last item (Some rank) = Some rank
+after number last item None = cond (eqb last item) (Some number) None
+
+rank_from-push : (number : ℕ) (items : List ℕ) (last item : ℕ) → rank_from number (items ++ last ∷ []) item ≡ after (number + length items) last item (rank_from number items item)
+rank_from-push number [] last item = ap (λ n. cond (eqb last item) (Some n) None) (omega arith)
+rank_from-push number (x ∷ items) last item = at (eqb x item) (rank_from-push (number + 1) items last item)
+  where
+    long : number + 1 + length items ≡ number + suc (length items)
+    long = omega arith
+
+    at : (b : Bool) → rank_from (number + 1) (items ++ last ∷ []) item ≡ after (number + 1 + length items) last item (rank_from (number + 1) items item)
+        → cond b (Some number) (rank_from (number + 1) (items ++ last ∷ []) item) ≡ after (number + suc (length items)) last item (cond b (Some number) (rank_from (number + 1) items item))
+    at true e = refl
+    at false e = e ∙ ap (λ n. after n last item (rank_from (number + 1) items item)) long
+
+-- an item that is not there has no rank
+pub no_rank : (number : ℕ) (items : List ℕ) (item : ℕ) → (Member item items → ⊥) → rank_from number items item ≡ None
+no_rank number [] item none = refl
+no_rank number (x ∷ items) item none =
+    ap (λ b. cond b (Some number) (rank_from (number + 1) items item)) (ne_eqb x item (λ e. none (inl e))) ∙ no_rank (number + 1) items item (λ m. none (inr m))
+
+-- each of distinct items has its place as its rank
+pub rank_at : (number : ℕ) (items : List ℕ) (i d : ℕ) → IsDistinct nat_eq items → i < length items → rank_from number items (get_or items i d) ≡ Some (number + i)
+unfolding IsDistinct
+rank_at number [] i d apart below = absurd (omega arith)
+rank_at number (x ∷ items) zero d apart below = ap (λ b. cond b (Some number) (rank_from (number + 1) items x)) (eq-eqb x x refl) ∙ ap Some (omega arith)
+rank_at number (x ∷ items) (suc i) d apart below =
+    ap (λ b. cond b (Some number) (rank_from (number + 1) items (get_or items i d))) (apart_from_distinct nat_eq (x ∷ items) 0 (suc i) d (apart.0, apart.1) (omega arith) below)
+    ∙ rank_at (number + 1) items i d apart.1 (omega arith) ∙ ap Some (omega arith)
+
+-- an item that has a rank stands at that place
+pub rank_from_is : (number : ℕ) (items : List ℕ) (item rank : ℕ) → rank_from number items item ≡ Some rank → (k : ℕ) × (k < length items) × (rank ≡ number + k) × (get_or items k 0 ≡ item)
+rank_from_is number [] item rank e = absurd (none_some e)
+  where
+    none_some : None ≡ Some rank → ⊥
+    none_some p = cc
+rank_from_is number (x ∷ items) item rank e = at (eqb x item) refl (rank_from_is (number + 1) items item rank) e
+  where
+    later : (k : ℕ) × (k < length items) × (rank ≡ number + 1 + k) × (get_or items k 0 ≡ item) → (k : ℕ) × (k < suc (length items)) × (rank ≡ number + k) × (get_or (x ∷ items) k 0 ≡ item)
+    later r = (suc r.0, omega (arith, r.1), omega (arith, r.2), r.3)
+
+    number_is : (a b : ℕ) → Some a ≡ Some b → a ≡ b
+    number_is a b p = cc
+
+    at : (b : Bool) → eqb x item ≡ b → (rank_from (number + 1) items item ≡ Some rank → (k : ℕ) × (k < length items) × (rank ≡ number + 1 + k) × (get_or items k 0 ≡ item))
+        → cond b (Some number) (rank_from (number + 1) items item) ≡ Some rank → (k : ℕ) × (k < suc (length items)) × (rank ≡ number + k) × (get_or (x ∷ items) k 0 ≡ item)
+    at true same rest p = (0, omega arith, let q = number_is number rank p in omega arith, eqb-true x item same)
+    at false other rest p = later (rest p)
+
+-- ---- a table from items to ranks
+
+-- one item more
+rank_more : (ranked : List ℕ) (i item : ℕ) → i < length ranked → rank_of (take (i + 1) ranked) item ≡ after i (get_or ranked i 0) item (rank_of (take i ranked) item)
+rank_more ranked i item below =
+    ap (λ l. rank_of l item) (take_more ranked i 0 below) ∙ rank_from-push 0 (take i ranked) (get_or ranked i 0) item
+    ∙ ap (λ n. after n (get_or ranked i 0) item (rank_of (take i ranked) item)) (omega (arith, length-take i ranked))
+
+after_other : (number last item : ℕ) (o : Option ℕ) → last ≢ item → after number last item o ≡ o
+after_other number last item (Some rank) ne = refl
+after_other number last item None ne = ap (λ b. cond b (Some number) None) (ne_eqb last item ne)
+
+-- a later item has no rank among those before it
+not_yet : (ranked : List ℕ) (i : ℕ) → IsDistinct nat_eq ranked → i < length ranked → rank_of (take i ranked) (get_or ranked i 0) ≡ None
+not_yet ranked i apart below = no_rank 0 (take i ranked) (get_or ranked i 0) (λ m.
+    let c = Contains-from_Member (get_or ranked i 0) (take i ranked) m in
+    let short = length-take i ranked in
+    let at : get_or ranked c.0 0 ≡ get_or ranked i 0 = sym (get_or-take i ranked c.0 0 (omega (arith, c.1))) ∙ get_or_default (take i ranked) c.0 0 (get_or ranked i 0) c.1 ∙ c.2 in
+    true≢false (sym (eq-eqb _ _ at) ∙ apart_from_distinct nat_eq ranked c.0 i 0 apart (omega (arith, c.1)) below))
+
+pub slots_more : (ranked : List ℕ) (slots : List (Option ℕ)) (i : ℕ) → IsDistinct nat_eq ranked → i < length ranked → get_or ranked i 0 < length slots
+    → AreSlots (take i ranked) slots → AreSlots (take (i + 1) ranked) (set slots (get_or ranked i 0) (Some i))
+slots_more ranked slots i apart below inside are item within = elim (cases_eq (get_or ranked i 0) item) [
+  | inl same ↦
+      subst (λ x. get_or (set slots (get_or ranked i 0) (Some i)) x None ≡ rank_of (take (i + 1) ranked) x) same
+      (get_or-set_same slots (get_or ranked i 0) (Some i) None inside
+      ∙ sym (rank_more ranked i (get_or ranked i 0) below ∙ ap (after i (get_or ranked i 0) (get_or ranked i 0)) (not_yet ranked i apart below)
+      ∙ ap (λ b. cond b (Some i) None) (eq-eqb (get_or ranked i 0) (get_or ranked i 0) refl)))
+  | inr other ↦
+      get_or-set_other slots (get_or ranked i 0) item (Some i) None (λ e. other (sym e))
+      ∙ are item (omega (arith, within, length-set slots (get_or ranked i 0) (Some i)))
+      ∙ sym (rank_more ranked i item below ∙ after_other i (get_or ranked i 0) item (rank_of (take i ranked) item) other)
+]
+
+pub slots_missed : (ranked : List ℕ) (slots : List (Option ℕ)) (i : ℕ) → i < length ranked → length slots ≤ get_or ranked i 0 → AreSlots (take i ranked) slots → AreSlots (take (i + 1) ranked) slots
+slots_missed ranked slots i below outside are item within =
+    are item within ∙ sym (rank_more ranked i item below ∙ after_other i (get_or ranked i 0) item (rank_of (take i ranked) item) (λ e. omega arith))
+
+-- beside each item of the rising list that is among some, stands its rank
+pub record AreSomeRanksAt (ranked some items ranks : List ℕ) : Type 0 where
+  pub long : length ranks ≡ length items
+  pub at : (k : ℕ) → k < length items → has some (get_or items k 0) ≡ true → rank_from 0 ranked (get_or items k 0) ≡ Some (get_or ranks k 0)
+
+-- an item that a search of the rising list misses has no rank
+pub missed_rank : (ranked items : List ℕ) (item place : ℕ) → items ≡ rising ranked → IsBinarySearchResult (λ y. nat_cmp y item) items (Err place) → rank_of ranked item ≡ None
+missed_rank ranked items item place same missed = no_rank 0 ranked item (λ m.
+    let up = subst IsRising (sym same) (rising-rises ranked) in
+    let c = Contains-from_Member item items (subst (Member item) (sym same) (Member-into_rising ranked item m)) in
+    found_nowhere items item place up missed c.0 c.1 (get_or_default items c.0 0 item c.1 ∙ c.2))
+
+-- the rank of one item more is put down
+pub put_rank : (ranked items ranks : List ℕ) (i place : ℕ) → items ≡ rising ranked → IsDistinct nat_eq ranked → i < length ranked
+    → IsBinarySearchResult (λ y. nat_cmp y (get_or ranked i 0)) items (Ok place) → AreSomeRanksAt ranked (take i ranked) items ranks
+    → AreSomeRanksAt ranked (take (i + 1) ranked) items (set ranks place i)
+put_rank ranked items ranks i place same apart below found some = record {
+  long = length-set ranks place i ∙ some.long;
+  at = λ k inside h. elim (cases_eq k place) [
+    | inl here ↦
+        subst (λ n. rank_of ranked (get_or items n 0) ≡ Some (get_or (set ranks place i) n 0)) (sym here)
+        (ap (rank_of ranked) at.1 ∙ rank_at 0 ranked i 0 apart below ∙ ap Some (zero-add i ∙ sym (get_or-set_same ranks place i 0 (omega (arith, some.long, at.0)))))
+    | inr other ↦
+        some.at k inside (elim (or_cases _ _ (sym (has_more ranked i (get_or items k 0) below) ∙ h)) [
+          | inl e ↦ e
+          | inr e ↦ absurd (other (places_apart k inside (sym (eqb-true _ _ e) ∙ sym at.1)))
+        ]) ∙ ap Some (sym (get_or-set_other ranks place k i 0 other))
+  ];
+}
+  where
+    up : IsRising items
+    up = subst IsRising (sym same) (rising-rises ranked)
+
+    at : (place < length items) × (get_or items place 0 ≡ get_or ranked i 0)
+    at = found_at items (get_or ranked i 0) place up found
+
+    places_apart : (k : ℕ) → k < length items → get_or items k 0 ≡ get_or items place 0 → k ≡ place
+    places_apart k inside e = elim (cases_order k place) [
+      | inl is ↦ is
+      | inr (inl less) ↦ absurd (let b = below_from_sorted items k place 0 up less at.0 in omega arith)
+      | inr (inr more) ↦ absurd (let b = below_from_sorted items place k 0 up more inside in omega arith)
+    ]
+
+-- an item of the list is found
+pub never_missed : (ranked items : List ℕ) (i place : ℕ) → items ≡ rising ranked → IsDistinct nat_eq ranked → i < length ranked → IsBinarySearchResult (λ y. nat_cmp y (get_or ranked i 0)) items (Err place) → ⊥
+never_missed ranked items i place same apart below missed =
+    none_some (0 + i) (sym (missed_rank ranked items (get_or ranked i 0) place same missed) ∙ rank_at 0 ranked i 0 apart below)
+  where
+    none_some : (r : ℕ) → None ≡ Some r → ⊥
+    none_some r p = cc
+
+-- all ranks are put down
+pub all_ranks : (ranked items ranks : List ℕ) (i : ℕ) → items ≡ rising ranked → length ranked ≤ i → AreSomeRanksAt ranked (take i ranked) items ranks → AreRanksAt ranked items ranks
+all_ranks ranked items ranks i same done some = record {
+  long = some.long;
+  at = λ k inside. some.at k inside (has-from_Member (take i ranked) (get_or items k 0) (subst (Member (get_or items k 0)) (sym (take_all i ranked done))
+      (Member-rising ranked (get_or items k 0) (subst (Member (get_or items k 0)) same (Member-from_Contains _ items (k, inside, get_or_default items k (get_or items k 0) 0 inside))))));
+}
+
+pub items_of_entries : (entries : List Entry) → map (λ e. e.item) entries ≡ map (λ e. e.0) (entries_of entries)
+items_of_entries [] = refl
+items_of_entries (e ∷ entries) = ap (λ l. e.item ∷ l) (items_of_entries entries)

@@ -1,0 +1,32 @@
+use Rattle.std.proofs.Common.{◌≡◌, ◌++◌, ◌∷◌, [], filter, refl, take, sym, ap, ◌∙◌, append-nil}
+use Rattle.std.proofs.lemmas.List.{take_all}
+use Rattle.basket_sets.specs.Database.{weighted}
+use Rattle.basket_sets.proofs.theory.Rising.{rising-rising}
+use Rattle.basket_ranks.specs.Depth.{is_long, narrowed, narrowed_place}
+use Rattle.basket_ranks.proofs.DepthLemmas.{left_more}
+use Rattle.basket_ranks.proofs.depth.narrowed_to.Goals as goal
+use Rattle.basket_ranks.proofs.depth.narrowed_to.Goals.{in-Some+in_ok-from_items+in_ok-push, in_default}
+
+pub loop-place-preserved : goal.loop-place-preserved
+loop-place-preserved c =
+    let place = c.place-item.result in
+    let rank = c.args.rank in
+    let least = c.args.least in
+    let before = filter (is_long least) (narrowed rank (take c.loop-place.place-index c.args.baskets.now)) in
+    let more = left_more least rank c.args.baskets.now c.loop-place.place-index place c.loop-place-test.true c.place-item.is in
+    let same = c.items.ensures.items in
+    elim c.match-ranks_above.branch [
+      | in-Some+in_ok-from_items+in_ok-push w ↦
+          (let set = w.in_ok-from_items.field-0 in
+          let kept : set ≡ w.in-Some.above.now = w.in_ok-from_items.ensures.ok ∙ rising-rising w.in-Some.above.now w.in-Some.ensures.some.0 in
+          let long : filter (is_long least) (narrowed_place rank place) ≡ weighted set place.weight ∷ []
+          = ap (λ l. filter (is_long least) (narrowed_place rank (weighted l place.weight))) (sym same) ∙ w.in-Some.ensures.some.1 place.weight ∙ ap (λ l. weighted l place.weight ∷ []) (sym kept) in
+          ap (λ v. v.items) w.rest-is ∙ w.in_ok-push.ensures.items ∙ ap (λ l. l ++ weighted set place.weight ∷ []) c.loop-place.invariant ∙ sym (more ∙ ap (λ l. before ++ l) long))
+      | in_default w ↦
+          (let short : filter (is_long least) (narrowed_place rank place) ≡ []
+          = ap (λ l. filter (is_long least) (narrowed_place rank (weighted l place.weight))) (sym same) ∙ w.in_default.ensures.none refl place.weight in
+          ap (λ v. v.items) w.rest-is ∙ c.loop-place.invariant ∙ sym (more ∙ ap (λ l. before ++ l) short ∙ append-nil before))
+    ]
+
+pub returns : goal.returns
+returns c = c.loop-place.invariant ∙ ap (λ l. filter (is_long c.args.least) (narrowed c.args.rank l)) (take_all c.loop-place.place-index c.args.baskets.now c.loop-place-test.false)

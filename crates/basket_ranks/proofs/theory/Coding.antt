@@ -1,0 +1,245 @@
+-- Coding is a renaming: the supports of ranks are those of their items.
+use Rattle.std.proofs.Common.{◌≡◌, ℕ, ◌+◌, ◌<◌, Bool, true, false, List, [], ◌∷◌, length, get_or, map, cond, refl, sym, ap, ◌∙◌, subst, inl, inr, arith, zero, suc, zero-add}
+use Rattle.std.specs.List.{Contains, filter, flat_map, sum_by}
+use Rattle.std.proofs.lemmas.List.Elements.{All-weaker}
+use Rattle.std.proofs.lemmas.List.Sums.{sum_by-cons}
+use Rattle.basket_sets.specs.declared.weighted.Weighted.{Weighted}
+use Rattle.basket_sets.specs.declared.minimum.Minimum.{Minimum}
+use Rattle.basket_ranks.specs.Codes.{ranked, ranks_from, coded, decoded, coded_place, decoded_place, ranks_of, coding_of, IsCodedPlace, baskets_of, CodingKeepsFrequent, merged_coding, MergingKeepsCoded}
+use Rattle.basket_sets.specs.Counts.{item_supports}
+use Rattle.basket_sets.specs.Database.{merged_of}
+use Rattle.basket_sets.specs.Frequent.{is_frequent, frequent_of, ListsFrequent}
+use Rattle.basket_sets.specs.Itemset.{IsRising, has, contains}
+use Rattle.basket_sets.specs.Minimum.{meets}
+use Rattle.basket_sets.specs.Support.{weight_at, support_of, total_of, items_of}
+use Rattle.basket_sets.proofs.theory.Frequent.{IsSound, frequent_is_unique, same_supports}
+use Rattle.basket_sets.proofs.theory.Members.{Member, Member-append, Member-map, Member-from_map, Member-filter, Member-from_filter}
+use Rattle.basket_ranks.proofs.RankLemmas.{Member-ranked, Member-into_ranked}
+use Rattle.basket_sets.proofs.theory.Rising.{nil_rises, cons_rises, Member-rising, Member-into_rising, Member-from_has, has-from_Member, has_each, contains_each, same_test}
+use Rattle.basket_sets.proofs.theory.Support.{subsets_are_frequent, frequent_items, in_items, at_least_one}
+use Rattle.basket_sets.proofs.theory.Merging.{merging_keeps_supports, merging_keeps_weights}
+
+-- ---- a basket as ranks
+
+-- a rank of a basket is the place of an item that it has
+pub from_ranks : (number : ℕ) (items basket : List ℕ) (rank : ℕ) → Member rank (ranks_from number items basket)
+    → (k : ℕ) × (k < length items) × (rank ≡ number + k) × (has basket (get_or items k 0) ≡ true)
+from_ranks number [] basket rank m = absurd m
+from_ranks number (x ∷ items) basket rank m = at (has basket x) refl (from_ranks (number + 1) items basket rank) m
+  where
+    later : (k : ℕ) × (k < length items) × (rank ≡ number + 1 + k) × (has basket (get_or items k 0) ≡ true)
+        → (k : ℕ) × (k < suc (length items)) × (rank ≡ number + k) × (has basket (get_or (x ∷ items) k 0) ≡ true)
+    later r = (suc r.0, omega (arith, r.1), omega (arith, r.2), r.3)
+
+    at : (b : Bool) → has basket x ≡ b
+        → (Member rank (ranks_from (number + 1) items basket) → (k : ℕ) × (k < length items) × (rank ≡ number + 1 + k) × (has basket (get_or items k 0) ≡ true))
+        → Member rank (cond b (number ∷ ranks_from (number + 1) items basket) (ranks_from (number + 1) items basket))
+        → (k : ℕ) × (k < suc (length items)) × (rank ≡ number + k) × (has basket (get_or (x ∷ items) k 0) ≡ true)
+    at true e rest (inl s) = (0, omega arith, omega (arith, s), e)
+    at true e rest (inr n) = later (rest n)
+    at false e rest n = later (rest n)
+
+-- and each item that it has gives its rank
+pub into_ranks : (number : ℕ) (items basket : List ℕ) (k : ℕ) → k < length items → has basket (get_or items k 0) ≡ true → Member (number + k) (ranks_from number items basket)
+into_ranks number [] basket k below h = absurd (omega arith)
+into_ranks number (x ∷ items) basket zero below h =
+    subst (λ b. Member (number + 0) (cond b (number ∷ ranks_from (number + 1) items basket) (ranks_from (number + 1) items basket))) (sym h) (inl (omega arith))
+into_ranks number (x ∷ items) basket (suc k) below h =
+    at (has basket x) (subst (λ n. Member n (ranks_from (number + 1) items basket)) (omega arith) (into_ranks (number + 1) items basket k (omega arith) h))
+  where
+    at : (b : Bool) → Member (number + suc k) (ranks_from (number + 1) items basket)
+        → Member (number + suc k) (cond b (number ∷ ranks_from (number + 1) items basket) (ranks_from (number + 1) items basket))
+    at true rest = inr rest
+    at false rest = rest
+
+-- the ranks of a basket rise
+pub ranks_rise : (number : ℕ) (items basket : List ℕ) → IsRising (ranks_from number items basket)
+ranks_rise number [] basket = nil_rises
+ranks_rise number (x ∷ items) basket = at (has basket x) (ranks_rise (number + 1) items basket)
+  where
+    above : (y : ℕ) → Member y (ranks_from (number + 1) items basket) → number < y
+    above y m = let r = from_ranks (number + 1) items basket y m in omega (arith, r.2)
+
+    at : (b : Bool) → IsRising (ranks_from (number + 1) items basket) → IsRising (cond b (number ∷ ranks_from (number + 1) items basket) (ranks_from (number + 1) items basket))
+    at true rest = cons_rises number (ranks_from (number + 1) items basket) above rest
+    at false rest = rest
+
+-- a place of a coding
+pub coded_place_is : (items : List ℕ) (place : Weighted) → IsCodedPlace items (coded_place items place)
+coded_place_is items place = (
+  ranks_rise 0 items place.basket,
+  λ rank h. let r = from_ranks 0 items place.basket rank (Member-from_has (coded items place.basket) rank h) in omega (arith, r.1, r.2),
+)
+
+-- coding keeps the total weight
+pub coded_total : (items : List ℕ) (baskets : List Weighted) → total_of (map (coded_place items) baskets) ≡ total_of baskets
+coded_total items [] = refl
+coded_total items (place ∷ baskets) =
+    sum_by-cons (weight_at []) (coded_place items place) (map (coded_place items) baskets) ∙ ap (λ n. place.weight + n) (coded_total items baskets)
+    ∙ sym (sum_by-cons (weight_at []) place baskets)
+
+-- a rank has the support of its item
+pub coded_support : (items : List ℕ) (baskets : List Weighted) (rank : ℕ) → rank < length items
+    → support_of (map (coded_place items) baskets) (rank ∷ []) ≡ support_of baskets (get_or items rank 0 ∷ [])
+coded_support items [] rank below = refl
+coded_support items (place ∷ baskets) rank below =
+    sum_by-cons (weight_at (rank ∷ [])) (coded_place items place) (map (coded_place items) baskets)
+    ∙ ap (λ b. cond b place.weight 0 + support_of (map (coded_place items) baskets) (rank ∷ []))
+    (same_test (contains (coded items place.basket) (rank ∷ [])) (contains place.basket (get_or items rank 0 ∷ [])) there back)
+    ∙ ap (λ n. weight_at (get_or items rank 0 ∷ []) place + n) (coded_support items baskets rank below)
+    ∙ sym (sum_by-cons (weight_at (get_or items rank 0 ∷ [])) place baskets)
+  where
+    there : contains (coded items place.basket) (rank ∷ []) ≡ true → contains place.basket (get_or items rank 0 ∷ []) ≡ true
+    there h =
+        let r = from_ranks 0 items place.basket rank (has_each (coded items place.basket) (rank ∷ []) h rank (inl refl)) in
+        contains_each place.basket (get_or items rank 0 ∷ []) (λ item m. elim m [
+          | inl e ↦ subst (λ x. Member x place.basket) (ap (λ k. get_or items k 0) (omega (arith, r.2)) ∙ e) (Member-from_has place.basket (get_or items r.0 0) r.3)
+          | inr n ↦ absurd n
+        ])
+
+    back : contains place.basket (get_or items rank 0 ∷ []) ≡ true → contains (coded items place.basket) (rank ∷ []) ≡ true
+    back h = contains_each (coded items place.basket) (rank ∷ []) (λ other m. elim m [
+      | inl e ↦ subst (λ x. Member x (coded items place.basket)) (omega (arith, e))
+          (into_ranks 0 items place.basket rank below (has-from_Member place.basket (get_or items rank 0) (has_each place.basket (get_or items rank 0 ∷ []) h (get_or items rank 0) (inl refl))))
+      | inr n ↦ absurd n
+    ])
+
+-- ---- ranks as items
+
+-- an item of decoded ranks is the item of one of them
+pub from_decoded : (items ranks : List ℕ) (item : ℕ) → Member item (decoded items ranks) → (rank : ℕ) × Member rank ranks × (get_or items rank 0 ≡ item)
+from_decoded items ranks item m = Member-from_map (λ rank. get_or items rank 0) item ranks (Member-rising (map (λ rank. get_or items rank 0) ranks) item m)
+
+-- the item of each rank is among the decoded
+pub into_decoded : (items ranks : List ℕ) (rank : ℕ) → Member rank ranks → Member (get_or items rank 0) (decoded items ranks)
+into_decoded items ranks rank m = Member-into_rising (map (λ r. get_or items r 0) ranks) (get_or items rank 0) (Member-map (λ r. get_or items r 0) rank ranks m)
+
+place_of : (items : List ℕ) (item : ℕ) → Member item items → (k : ℕ) × (k < length items) × (get_or items k 0 ≡ item)
+place_of [] item m = absurd m
+place_of (x ∷ items) item (inl e) = (0, omega arith, e)
+place_of (x ∷ items) item (inr m) = let r = place_of items item m in (suc r.0, omega (arith, r.1), r.2)
+
+member_at : (items : List ℕ) (k : ℕ) → k < length items → Member (get_or items k 0) items
+member_at [] k below = absurd (omega arith)
+member_at (x ∷ items) zero below = inl refl
+member_at (x ∷ items) (suc k) below = inr (member_at items k (omega arith))
+
+-- a basket that was coded has those of its items that have ranks
+kept_from : (items basket : List ℕ) (item : ℕ) → Member item (decoded items (coded items basket)) → Member item basket × Member item items
+kept_from items basket item m =
+    let d = from_decoded items (coded items basket) item m in
+    let r = from_ranks 0 items basket d.0 d.1 in
+    let same : get_or items r.0 0 ≡ item = ap (λ n. get_or items n 0) (omega (arith, r.2)) ∙ d.2 in
+    (Member-from_has basket item (ap (has basket) (sym same) ∙ r.3), subst (λ y. Member y items) same (member_at items r.0 r.1))
+
+kept_into : (items basket : List ℕ) (item : ℕ) → Member item basket → Member item items → Member item (decoded items (coded items basket))
+kept_into items basket item m n =
+    let p = place_of items item n in
+    let r : Member p.0 (coded items basket) = subst (λ n. Member n (coded items basket)) (zero-add p.0)
+    (into_ranks 0 items basket p.0 p.1 (has-from_Member basket (get_or items p.0 0) (subst (λ y. Member y basket) (sym p.2) m))) in
+    subst (λ y. Member y (decoded items (coded items basket))) p.2 (into_decoded items (coded items basket) p.0 r)
+
+-- ---- coding keeps the frequent sets
+
+kept_contains : (items basket set : List ℕ) → ((item : ℕ) → Member item set → Member item items) → contains (decoded items (coded items basket)) set ≡ contains basket set
+kept_contains items basket set ranked = same_test _ _
+    (λ h. contains_each basket set (λ item m. (kept_from items basket item (has_each (decoded items (coded items basket)) set h item m)).0))
+    (λ h. contains_each (decoded items (coded items basket)) set (λ item m. kept_into items basket item (has_each basket set h item m) (ranked item m)))
+
+kept_support : (items : List ℕ) (baskets : List Weighted) (set : List ℕ) → ((item : ℕ) → Member item set → Member item items)
+    → support_of (map (decoded_place items) (map (coded_place items) baskets)) set ≡ support_of baskets set
+kept_support items [] set ranked = refl
+kept_support items (place ∷ baskets) set ranked =
+    sum_by-cons (weight_at set) (decoded_place items (coded_place items place)) (map (decoded_place items) (map (coded_place items) baskets))
+    ∙ ap (λ b. cond b place.weight 0 + support_of (map (decoded_place items) (map (coded_place items) baskets)) set) (kept_contains items place.basket set ranked)
+    ∙ ap (λ n. weight_at set place + n) (kept_support items baskets set ranked) ∙ sym (sum_by-cons (weight_at set) place baskets)
+
+-- a frequent item has a rank
+pub item_ranked : (baskets : List Weighted) (minimum : Minimum) (item : ℕ) → is_frequent baskets minimum (item ∷ []) ≡ true → Member item (ranks_of baskets minimum)
+item_ranked baskets minimum item h =
+    let entry : ℕ × ℕ = (item, support_of baskets (item ∷ [])) in
+    let m = frequent_items baskets minimum (item ∷ []) h item (inl refl) in
+    Member-map (λ (e : ℕ × ℕ). e.0) entry (ranked (filter (λ e. meets minimum e.1 (total_of baskets)) (item_supports baskets)))
+    (Member-into_ranked _ entry (Member-from_filter (λ (e : ℕ × ℕ). meets minimum e.1 (total_of baskets)) entry (item_supports baskets)
+    (Member-map (λ x. (x, support_of baskets (x ∷ []))) item (items_of baskets) m) h))
+
+-- an item that has a rank is frequent
+pub ranked_is_frequent : (baskets : List Weighted) (minimum : Minimum) (item : ℕ) → Member item (ranks_of baskets minimum) → is_frequent baskets minimum (item ∷ []) ≡ true
+ranked_is_frequent baskets minimum item m =
+    let e = Member-from_map (λ (e : ℕ × ℕ). e.0) item (ranked (filter (λ e. meets minimum e.1 (total_of baskets)) (item_supports baskets))) m in
+    let f = Member-filter (λ (e : ℕ × ℕ). meets minimum e.1 (total_of baskets)) e.0 (item_supports baskets) (Member-ranked _ e.0 e.1) in
+    let s = Member-from_map (λ x. (x, support_of baskets (x ∷ []))) e.0 (items_of baskets) f.0 in
+    subst (λ x. is_frequent baskets minimum (x ∷ []) ≡ true) (ap (λ (e : ℕ × ℕ). e.0) s.2 ∙ e.2)
+    (subst (λ n. meets minimum n (total_of baskets) ≡ true) (sym (ap (λ (e : ℕ × ℕ). e.1) s.2)) f.1)
+
+-- coding changes no support of a frequent set, and makes no set frequent
+module _ (baskets : List Weighted) (minimum : Minimum) where
+  abbrev kept : List Weighted
+  kept = baskets_of (coding_of baskets minimum)
+
+  kept_total : total_of kept ≡ total_of baskets
+  kept_total = kept_support (ranks_of baskets minimum) baskets [] (λ item m. absurd m)
+
+  -- each item of a frequent set is frequent
+  has_ranks : (set : List ℕ) → is_frequent baskets minimum set ≡ true → (item : ℕ) → Member item set → Member item (ranks_of baskets minimum)
+  has_ranks set h item m =
+      item_ranked baskets minimum item (subsets_are_frequent baskets minimum set (item ∷ []) (contains_each set (item ∷ []) (single item set m)) h)
+    where
+      single : (item : ℕ) (set : List ℕ) → Member item set → (y : ℕ) → Member y (item ∷ []) → Member y set
+      single item set m y (inl e) = subst (λ z. Member z set) e m
+      single item set m y (inr n) = absurd n
+
+  kept_items : (set : List ℕ) → is_frequent kept minimum set ≡ true → (item : ℕ) → Member item set → Member item (ranks_of baskets minimum)
+  kept_items set h item m = from_kept baskets (in_items kept set (at_least_one minimum (support_of kept set) (total_of kept) h) item m)
+    where
+      from_kept : (places : List Weighted) → Member item (flat_map (λ place. place.basket) (map (decoded_place (ranks_of baskets minimum)) (map (coded_place (ranks_of baskets minimum)) places)))
+          → Member item (ranks_of baskets minimum)
+      from_kept [] n = absurd n
+      from_kept (place ∷ places) n = elim (Member-append item (decoded (ranks_of baskets minimum) (coded (ranks_of baskets minimum) place.basket)) _ n) [
+        | inl here ↦ (kept_from (ranks_of baskets minimum) place.basket item here).1
+        | inr later ↦ from_kept places later
+      ]
+
+  frequent_kept : (set : List ℕ) → is_frequent baskets minimum set ≡ true → is_frequent kept minimum set ≡ true
+  frequent_kept set h =
+      ap (λ s. meets minimum s (total_of kept)) (kept_support (ranks_of baskets minimum) baskets set (has_ranks set h))
+      ∙ ap (meets minimum (support_of baskets set)) kept_total ∙ h
+
+  frequent_from_kept : (set : List ℕ) → is_frequent kept minimum set ≡ true → (is_frequent baskets minimum set ≡ true) × (support_of kept set ≡ support_of baskets set)
+  frequent_from_kept set h =
+      let same = kept_support (ranks_of baskets minimum) baskets set (kept_items set h) in
+      (ap (λ s. meets minimum s (total_of baskets)) (sym same) ∙ ap (meets minimum (support_of kept set)) (sym kept_total) ∙ h, same)
+
+-- coding keeps the frequent sets
+pub coding_keeps_frequent : CodingKeepsFrequent
+coding_keeps_frequent baskets minimum =
+    let list = frequent_of (kept baskets minimum) minimum in
+    let lists = (frequent_is_unique (kept baskets minimum) minimum list).1 refl in
+    let all : ListsFrequent baskets minimum list = record {
+      in_order = lists.in_order;
+      sound = All-weaker (IsSound (kept baskets minimum) minimum) (IsSound baskets minimum)
+          (λ c s. let f = frequent_from_kept baskets minimum c.set s.1 in (s.0, f.0, s.2 ∙ f.1)) list lists.sound;
+      complete = λ set n h.
+          let k = frequent_kept baskets minimum set h in
+          subst (Contains list) (λ i. record { set = set; count = (frequent_from_kept baskets minimum set k).1 i }) (lists.complete set n k);
+    } in
+    (frequent_is_unique baskets minimum list).0 all
+
+-- ---- merging equal baskets of ranks
+
+-- the support of a set over the baskets as items, told over the baskets of ranks
+decoded_support : (items : List ℕ) (baskets : List Weighted) (set : List ℕ)
+    → support_of (map (decoded_place items) baskets) set ≡ sum_by (λ place. cond (contains (decoded items place.basket) set) place.weight 0) baskets
+decoded_support items [] set = refl
+decoded_support items (place ∷ baskets) set =
+    sum_by-cons (weight_at set) (decoded_place items place) (map (decoded_place items) baskets)
+    ∙ ap (λ n. weight_at set (decoded_place items place) + n) (decoded_support items baskets set)
+    ∙ sym (sum_by-cons (λ other. cond (contains (decoded items other.basket) set) other.weight 0) place baskets)
+
+-- so does merging coded baskets, which keeps the total weight
+pub merging_keeps_coded : MergingKeepsCoded
+merging_keeps_coded coding =
+    let same : (set : List ℕ) → support_of (baskets_of (merged_coding coding)) set ≡ support_of (baskets_of coding) set = λ set.
+    decoded_support coding.items (merged_of coding.baskets) set ∙ merging_keeps_weights (λ basket. contains (decoded coding.items basket) set) coding.baskets
+    ∙ sym (decoded_support coding.items coding.baskets set) in
+    (same_supports (baskets_of (merged_coding coding)) (baskets_of coding) same coding.minimum, merging_keeps_supports coding.baskets [])

@@ -1,0 +1,5 @@
+pub mod Codes
+pub mod Ranks
+pub mod Depth
+pub mod Shards
+pub mod Added

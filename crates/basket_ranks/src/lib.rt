@@ -1,0 +1,15 @@
+//! The frequent items by rank, baskets as lists of ranks, and the shards of a list of baskets.
+#![tactic(auto)]
+
+mod added;
+mod codes;
+mod depth;
+pub mod laws;
+mod ranks;
+mod shards;
+pub mod worked;
+
+pub use added::add_counts;
+pub use codes::{Coded, Codes};
+pub use depth::deep;
+pub use shards::shard;

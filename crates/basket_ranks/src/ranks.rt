@@ -1,0 +1,154 @@
+//! From items to ranks.
+ghost use Rattle.std.specs.Prelude.{◌≡◌, ◌<◌, ◌≤◌, List, ℕ, IfOk, length, map, filter, nat_eq, take};
+ghost use Rattle.std.specs.List.{IsDistinct, filter_map};
+ghost use Rattle.basket_ranks.specs.Codes.{MOST_RANKS, rank_of, ranks_of_counts};
+ghost use Rattle.basket_sets.specs.Itemset.{IsRising, rising};
+ghost use Rattle.basket_sets.specs.Minimum.{meets};
+ghost use Rattle.basket_ranks.specs.Ranks.{AreSlots, AreRanksAt, IsRankTable, entries_of};
+
+use basket_sets::{Itemset, Minimum};
+use std::alloc::{AllocError, Global};
+use std::cmp::Reverse;
+
+/// How many ranks there are at most.
+const MAX_RANKS: usize = 4_294_967_295;
+
+/// A table of so many slots is made for any items.
+const SMALL_TABLE: usize = 65_536;
+
+/// How many slots a larger table may have for each item.
+const SLOTS_PER_ITEM: usize = 16;
+
+/// A frequent item. The items with the greatest counts come first, of one count by number.
+#[derive(PartialEq, Eq, PartialOrd, Ord, Drop)]
+struct Entry {
+    count: Reverse<u64>,
+    item: u32,
+}
+
+/// The items whose counts meet the minimum, in the order of their ranks.
+pub fn ranked_items(
+    alloc: Global,
+    counts: &[(u32, u64)],
+    total: u64,
+    minimum: Minimum,
+) -> Result<Vec<u32>, AllocError>
+    requires { IsRising (map (λ entry. entry.0) counts.now) }
+    ensures ranks { IfOk result (λ items. items.items ≡ ranks_of_counts counts.now total minimum) }
+    ensures few { IfOk result (λ items. length items.items < MOST_RANKS) }
+    ensures distinct { IfOk result (λ items. IsDistinct nat_eq items.items) }
+{
+    let mut entries = frequent_entries(alloc, counts, total, minimum)?;
+    if entries.len() > MAX_RANKS {
+        return Err(AllocError);
+    }
+    entries.sort_unstable();
+    items_in_order(alloc, &entries)
+}
+
+fn items_in_order(alloc: Global, entries: &[Entry]) -> Result<Vec<u32>, AllocError>
+    ensures { IfOk result (λ items. items.items ≡ map (λ entry. entry.item) entries.now) }
+{
+    entries.iter().map(|entry| entry.item).collect(alloc)
+}
+
+fn frequent_entries(
+    alloc: Global,
+    counts: &[(u32, u64)],
+    total: u64,
+    minimum: Minimum,
+) -> Result<Vec<Entry>, AllocError>
+    ensures { IfOk result (λ entries. entries_of entries.items ≡ filter (λ entry. meets minimum entry.1 total) counts.now) }
+{
+    let mut entries = Vec::new(alloc);
+    for (item, count) in counts {
+        if minimum.met(*count, total) {
+            entries.push(Entry {
+                count: Reverse(*count),
+                item: *item,
+            })?;
+        }
+    }
+    Ok(entries)
+}
+
+/// The rank of each frequent item: in a table for small numbers, else by a search.
+#[derive(Debug, Drop)]
+pub struct RankTable {
+    /// At each number below its length, the rank of that item.
+    slots: Vec<Option<u32>>,
+    /// All items, rising, and their ranks at the same places.
+    items: Itemset,
+    ranks: Vec<u32>,
+}
+
+impl RankTable {
+    /// The table of distinct items, each of which has its place as its rank.
+    pub fn of(alloc: Global, ranked: &[u32]) -> Result<Self, AllocError>
+        requires distinct { IsDistinct nat_eq ranked.now }
+        requires few { length ranked.now < MOST_RANKS }
+        ensures { IfOk result (λ table. IsRankTable ranked.now table) }
+    {
+        let items = Itemset::from_items(alloc, ranked)?;
+        let slots = slots_of(alloc, ranked, slots_for(&items))?;
+        let ranks = ranks_at(alloc, ranked, &items)?;
+        Ok(RankTable {
+            slots,
+            items,
+            ranks,
+        })
+    }
+
+    pub fn rank(&self, item: u32) -> Option<u32>
+        ensures { (ranked : List ℕ) → IsRankTable ranked self.now → result ≡ rank_of ranked item }
+    {
+        if (item as usize) < self.slots.len() {
+            return self.slots[item as usize];
+        }
+        match self.items.items().binary_search(&item) {
+            Ok(place) => self.ranks.get(place).copied(),
+            Err(_) => None,
+        }
+    }
+}
+
+/// How many slots a table for the items has.
+fn slots_for(items: &Itemset) -> usize {
+    match items.items().last() {
+        Some(greatest) => SMALL_TABLE
+            .max(items.len().saturating_mul(SLOTS_PER_ITEM))
+            .min(*greatest as usize + 1),
+        None => 0,
+    }
+}
+
+/// Slots for the numbers below a length, each with the rank of that item.
+fn slots_of(alloc: Global, ranked: &[u32], len: usize) -> Result<Vec<Option<u32>>, AllocError>
+    requires distinct { IsDistinct nat_eq ranked.now }
+    requires few { length ranked.now < MOST_RANKS }
+    ensures { IfOk result (λ slots. AreSlots ranked.now slots.items) }
+{
+    let mut slots = vec![in alloc; None; len]?;
+    for (rank, item) in ranked.iter().enumerate() {
+        if (*item as usize) < slots.len() {
+            slots[*item as usize] = Some(rank as u32);
+        }
+    }
+    Ok(slots)
+}
+
+/// The ranks of the items at their places in the rising list.
+fn ranks_at(alloc: Global, ranked: &[u32], items: &Itemset) -> Result<Vec<u32>, AllocError>
+    requires distinct { IsDistinct nat_eq ranked.now }
+    requires few { length ranked.now < MOST_RANKS }
+    requires same { items.now ≡ rising ranked.now }
+    ensures { IfOk result (λ ranks. AreRanksAt ranked.now items.now ranks.items) }
+{
+    let mut ranks = vec![in alloc; 0; items.len()]?;
+    for (rank, item) in ranked.iter().enumerate() {
+        if let Ok(place) = items.items().binary_search(item) {
+            ranks[place] = rank as u32;
+        }
+    }
+    Ok(ranks)
+}
