@@ -83,8 +83,9 @@ class Documents(unittest.TestCase):
         self.assertEqual(set(re.findall(r"--[a-z]+", manual())), wanted)
         for name in COMPLETIONS:
             with self.subTest(name=name):
-                found = re.findall(r"--([a-z]+)|-l ([a-z]+)", text_of(name))
-                self.assertEqual({f"--{long or short}" for long, short in found}, wanted)
+                completed = re.sub(r"(?m)^set -l .*$", "", text_of(name))
+                found = re.findall(r"(?:--|-l )([a-z]+)", completed)
+                self.assertEqual({f"--{option}" for option in found}, wanted)
 
     def test_manual_and_completions_have_each_command_and_value(self) -> None:
         for name in ("man/basket.1", *COMPLETIONS):

@@ -37,7 +37,7 @@ impl Frequent {
         ensures { IfOk result (λ frequent. frequent ≡ listing_of coded.now) }
     {
         let mut sets = gathered(alloc, classes)?;
-        sets.sort(alloc, coded.greatest_item())?;
+        sets.sort(alloc, greatest_item(coded))?;
         Ok(Frequent {
             sets,
             total: coded.total(),
@@ -56,7 +56,7 @@ impl Frequent {
         ensures { IfOk result (λ frequent. frequent ≡ listing_of coded.now) }
     {
         let mut sets = gathered(alloc, classes)?;
-        sets.sort_shared(rt, alloc, coded.greatest_item(), threads)?;
+        sets.sort_shared(rt, alloc, greatest_item(coded), threads)?;
         Ok(Frequent {
             sets,
             total: coded.total(),
@@ -119,4 +119,9 @@ fn count_sets(classes: &[CountedSets]) -> usize {
         count = count.saturating_add(class.len());
     }
     count
+}
+
+/// The greatest frequent item, or 0 where there is none.
+fn greatest_item(coded: &Coded) -> u32 {
+    coded.items().iter().copied().max().unwrap_or(0)
 }

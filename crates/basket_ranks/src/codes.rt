@@ -209,11 +209,6 @@ impl Coded {
         &self.items
     }
 
-    /// The greatest frequent item, or 0 where there is none.
-    pub(crate) fn greatest_item(&self) -> u32 {
-        self.items.iter().copied().max().unwrap_or(0)
-    }
-
     /// The item of a rank.
     pub fn item(&self, rank: u32) -> u32
         requires { rank < length self.now.items }
