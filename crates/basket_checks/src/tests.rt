@@ -1,24 +1,23 @@
 ghost use Rattle.std.specs.Prelude.{nat_lt};
 
-mod classes;
 mod codes;
-mod csv;
+mod conditional;
 mod databases;
-mod depth;
-mod fault;
+mod eclat;
 mod fimi;
+mod fraction;
 mod growth;
 mod itemset;
-mod join;
 mod levels;
-mod minimum;
+mod rounds;
+mod rows;
 mod rules;
+mod seats;
+mod shard;
 mod stream;
-mod tally;
-mod tree;
-mod vertical;
 
-use basket_core::{Coded, Database, Itemset, Minimum, Tally};
+use basket_core::{Coded, Database, Frequent, Itemset, Minimum, Tally};
+use mine_apriori::apriori;
 use std::alloc::{AllocError, Global};
 use std::test::Fail;
 
@@ -37,29 +36,26 @@ const NINE_BASKETS: &[Row] = &[
     (&[1, 2, 3], 1),
 ];
 
-/// A database of the baskets, each with its weight, where it can hold them.
+/// A database of the baskets, each with its weight.
 fn database(alloc: Global, baskets: &[(&[u32], u64)]) -> Result<Database, Fail> {
     let mut database = Database::new(alloc);
     for (numbers, weight) in baskets {
         let basket = Itemset::from_items(alloc, numbers)?;
         let room = database.len() < Database::MAX_BASKETS
             && *weight <= Database::MAX_WEIGHT - database.total();
-        if !basket.is_empty() && *weight > 0 && room {
-            database.push(basket, *weight).map_err(|_| AllocError)?;
+        if basket.is_empty() || *weight == 0 || !room {
+            return Err(Fail::new(format_args!("{numbers:?} of weight {weight} is no basket")));
         }
+        database.push(basket, *weight).map_err(|_| AllocError)?;
     }
     Ok(database)
 }
 
-/// The numbers from 1 to 70,000.
-fn many_numbers(alloc: Global) -> Result<Vec<u32>, AllocError> {
-    (1..70_001).collect(alloc)
-}
-
-/// One basket of these numbers, as ranks.
-fn long_basket(alloc: Global) -> Result<Coded, Fail> {
-    let database = database(alloc, &[(&many_numbers(alloc)?, 1)])?;
-    Ok(Coded::of(alloc, &database, Minimum::Count(1))?)
+/// The frequent sets of the baskets, by Apriori.
+fn frequent(alloc: Global, rows: &[Row], minimum: Minimum) -> Result<Frequent, Fail> {
+    let coded = Coded::of(alloc, &database(alloc, rows)?, minimum)?;
+    let (frequent, _candidates) = apriori(alloc, &coded, u32::MAX)?;
+    Ok(frequent)
 }
 
 /// Whether the baskets are these, each with its weight.

@@ -1,8 +1,6 @@
-ghost use Rattle.std.specs.Prelude.{◌≡◌, ◌<◌, false};
+ghost use Rattle.std.specs.Prelude.{◌≡◌, false};
 
-use basket::{
-    Ask, Gate, Miner, Open, Plan, PlanFault, RunFault, mine, plan_of, plan_status, run, status_of,
-};
+use basket::{Ask, Gate, Miner, Open, Plan, RunFault, mine, plan_of, run, status_of};
 use basket_core::{Database, MemSink, MemSource, MineFault, Sink, Source, parse_minimum};
 use basket_read::{ReadFault, read_fimi};
 use itoa::Buffer;
@@ -14,13 +12,9 @@ use std::test::Fail;
 use std::thread::Threads;
 
 mod gates;
-mod items;
+mod limits;
 mod mined;
-mod named;
-mod rules;
-mod sets;
-mod words;
-mod workers;
+mod streams;
 
 /// A runtime that has threads and no random bytes.
 #[derive(Drop)]
@@ -52,7 +46,7 @@ fn database(alloc: Global, text: &[u8]) -> Result<Database, Fail> {
     match read_fimi(alloc, &mut reader) {
         Ok(database) => Ok(database),
         Err(ReadFault::Memory) => Err(Fail::from(AllocError)),
-        Err(_) => Err(Fail::new("the text is good")),
+        Err(fault) => Err(Fail::from(fault)),
     }
 }
 
@@ -60,7 +54,7 @@ fn database(alloc: Global, text: &[u8]) -> Result<Database, Fail> {
 fn plan(minimum: &str) -> Result<Plan, Fail> {
     match parse_minimum(minimum) {
         Some(minimum) => Ok(Plan::of(Ask::Sets, minimum)),
-        None => Err(Fail::new("the text is a minimum")),
+        None => Err(Fail::new("the text is no minimum")),
     }
 }
 
@@ -96,79 +90,5 @@ fn run_words<R: Threads + Sync, S: Source>(
             }
         }
         result => Ok(result),
-    }
-}
-
-/// Runs the words over the input, of which each read gives so many bytes, and answers what a sink
-/// took, and the fault.
-fn ran<R: Threads + Sync>(
-    rt: &R,
-    alloc: Global,
-    words: &[&str],
-    input: &[u8],
-    step: usize,
-) -> Result<(MemSink, Result<(), RunFault>), Fail>
-    requires { 0 < step }
-{
-    let mut reader = MemSource::new(input, step, None);
-    let mut writer = MemSink::new(alloc, 300, 100, false)?;
-    let result = run_words(rt, alloc, words, &mut reader, &mut writer)?;
-    Ok((writer, result))
-}
-
-/// Asserts that the words write this for the input.
-fn assert_writes<R: Threads + Sync + Abort>(
-    rt: &R,
-    alloc: Global,
-    words: &[&str],
-    input: &[u8],
-    want: &[u8],
-) -> Result<(), Fail> {
-    let (writer, result) = ran(rt, alloc, words, input, 7)?;
-    assert_eq!(rt; result, Ok(()), "{words:?}");
-    assert_eq!(rt; writer.bytes(), want, "{words:?}");
-    Ok(())
-}
-
-/// Asserts that the words write nothing for the input, read byte by byte, and what the fault says.
-fn assert_refuses<R: Threads + Sync + Abort>(
-    rt: &R,
-    alloc: Global,
-    words: &[&str],
-    input: &[u8],
-    fault: RunFault,
-    text: &str,
-) -> Result<(), Fail> {
-    let (writer, result) = ran(rt, alloc, words, input, 1)?;
-    assert_eq!(rt; result, Err(fault), "{words:?}");
-    assert!(rt; writer.bytes().is_empty(), "{words:?}");
-    assert_eq!(rt; fault.to_string(alloc)?.as_str(), text);
-    Ok(())
-}
-
-/// The fault of words that make no plan.
-fn refused(alloc: Global, words: &[&str]) -> Result<PlanFault, Fail> {
-    match plan_of(alloc, words) {
-        Ok(_) => Err(Fail::new("the words make a plan")),
-        Err(fault) if is_memory(&fault) => Err(Fail::from(AllocError)),
-        Err(fault) => Ok(fault),
-    }
-}
-
-fn is_memory(fault: &PlanFault) -> bool {
-    matches!(fault, PlanFault::Memory)
-}
-
-fn usage_text(fault: &PlanFault) -> &str {
-    match fault {
-        PlanFault::Usage(text) => text.as_str(),
-        _ => "no usage fault",
-    }
-}
-
-fn help_text(fault: &PlanFault) -> &str {
-    match fault {
-        PlanFault::Help(text) => text.as_str(),
-        _ => "no help",
     }
 }

@@ -13,6 +13,3 @@ pub use collector::{Collector, Missing, Refused};
 pub use round::Round;
 pub use seat::RoundSeat;
 pub use totals::{Outstanding, Totals};
-
-#[cfg(test)]
-mod tests;

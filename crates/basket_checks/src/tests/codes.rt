@@ -49,9 +49,13 @@ fn assert_ranks(
 ) -> Result<(), AllocError> {
     assert_eq!(rt; coded.ranks() as usize, items.len());
     for (rank, item) in items.iter().enumerate() {
-        assert!(rt; is_rank_of(alloc, coded, rank as u32, *item)?);
+        assert!(rt;
+            is_rank_of(alloc, coded, rank as u32, *item)?,
+            "{rank} isn't that of {item}"
+        );
     }
-    assert!(rt; decoded(alloc, coded, &[coded.ranks()])?.is_none());
+    let next = decoded(alloc, coded, &[coded.ranks()])?;
+    assert!(rt; next.is_none(), "a rank more is that of {next:?}");
     Ok(())
 }
 
@@ -65,7 +69,7 @@ fn assert_baskets(rt: &impl Abort, coded: &Coded, want: &[(&[u32], u64)]) {
 }
 
 #[test]
-fn nine_baskets(rt: HostRuntime) -> Result<(), Fail> {
+fn items_get_ranks_by_count_and_then_by_number(rt: HostRuntime) -> Result<(), Fail> {
     let database = database(rt.alloc(), NINE_BASKETS)?;
     let coded = coded_at(rt.alloc(), &database, Minimum::Count(2))?;
     // Items 1 and 3 have one count, and so have 4 and 5.
@@ -84,25 +88,5 @@ fn nine_baskets(rt: HostRuntime) -> Result<(), Fail> {
     assert_baskets(&rt, &coded, want);
     assert_eq!(rt; coded.total(), 9);
     assert_eq!(rt; coded.minimum(), Minimum::Count(2));
-    Ok(())
-}
-
-/// Most of the numbers are far above the table, and some have no rank.
-#[test]
-fn sparse_numbers(rt: HostRuntime) -> Result<(), Fail> {
-    let database = database(
-        rt.alloc(),
-        &[
-            (&[7, 4_294_967_295], 2),
-            (&[7, 4_294_967_294, 4_294_967_295], 1),
-            (&[4_294_967_294], 1),
-            (&[8, 4_294_967_293], 1),
-        ],
-    )?;
-    let coded = coded_at(rt.alloc(), &database, Minimum::Count(2))?;
-    assert_ranks(&rt, rt.alloc(), &coded, &[7, 4_294_967_295, 4_294_967_294])?;
-    let want: &[(&[u32], u64)] = &[(&[0, 1], 2), (&[0, 1, 2], 1), (&[2], 1), (&[], 1)];
-    assert_baskets(&rt, &coded, want);
-    assert_eq!(rt; coded.total(), 5);
     Ok(())
 }

@@ -1,5 +1,6 @@
-use super::{Early, NINE_BASKETS, Row, database, long_basket, many_numbers};
-use basket_core::{Coded, Counted, Itemset, Limit, MineFault, Minimum, Tally};
+//! FP-growth.
+use super::{Early, NINE_BASKETS, Row, database};
+use basket_core::{Coded, MineFault, Minimum, Tally};
 use mine_fp::{Forest, FpTree, fp_class};
 use std::alloc::Global;
 use std::fmt::Write;
@@ -18,9 +19,10 @@ fn tree(alloc: Global, coded: &Coded) -> Result<FpTree, Fail> {
     let mut tree = FpTree::new(alloc);
     for place in coded.baskets() {
         let room = place.weight <= MOST && tree.total() <= MOST - place.weight;
-        if place.weight > 0 && room {
-            tree.insert(place.basket.items(), place.weight)?;
+        if place.weight == 0 || !room {
+            return Err(Fail::from("a path weighs nothing or too much"));
         }
+        tree.insert(place.basket.items(), place.weight)?;
     }
     Ok(tree)
 }
@@ -37,25 +39,25 @@ fn base(alloc: Global, tree: &FpTree, rank: u32) -> Result<String, Fail> {
     Ok(text)
 }
 
-/// The sets of a class in report order, where the tally is not over.
-fn class<T: Tally>(
+/// The fault of a class, where there is such a rank.
+fn fault_of_class<T: Tally>(
     alloc: Global,
     coded: &Coded,
     rank: u32,
     tally: &mut T,
-) -> Result<Vec<Counted>, MineFault> {
+) -> Result<MineFault, Fail> {
     if tally.over() || rank >= coded.ranks() {
-        return Ok(Vec::new(alloc));
+        return Err(Fail::from("the tally is over before, or no such rank"));
     }
     let forest = Forest::of(alloc, coded)?;
-    let (found, _trees) = fp_class(alloc, &forest, rank, tally)?;
-    let mut sets = found.unpacked(alloc)?;
-    sets.sort_unstable();
-    Ok(sets)
+    match fp_class(alloc, &forest, rank, tally) {
+        Ok(_) => Err(Fail::from("the class was listed")),
+        Err(fault) => Ok(fault),
+    }
 }
 
 #[test]
-fn bases_of_the_nine_baskets(rt: HostRuntime) -> Result<(), Fail> {
+fn a_tree_gives_the_paths_above_each_rank(rt: HostRuntime) -> Result<(), Fail> {
     let alloc = rt.alloc();
     let tree = tree(alloc, &coded(alloc, NINE_BASKETS, 2)?)?;
     let wanted = [
@@ -78,37 +80,12 @@ fn bases_of_the_nine_baskets(rt: HostRuntime) -> Result<(), Fail> {
 }
 
 #[test]
-fn a_deep_tree(rt: HostRuntime) -> Result<(), Fail> {
-    let alloc = rt.alloc();
-    let path = Itemset::from_items(alloc, &many_numbers(alloc)?)?;
-    let mut tree = FpTree::new(alloc);
-    for _ in 0..2 {
-        if tree.total() < MOST {
-            tree.insert(path.items(), 1)?;
-        }
-    }
-    let above = tree.base(alloc, 70_000)?;
-    assert_eq!(rt; above.len(), 1);
-    assert_eq!(rt; above[0].0.len(), 69_999);
-    assert_eq!(rt; above[0].1, 2);
-    Ok(())
-}
-
-#[test]
-fn a_class_of_a_long_basket(rt: HostRuntime) -> Result<(), Fail> {
-    let mut tally = Limit::new(1_000);
-    let found = class(rt.alloc(), &long_basket(rt.alloc())?, 69_999, &mut tally);
-    assert_eq!(rt; found.err(), Some(MineFault::TooMany { limit: 1_000 }));
-    Ok(())
-}
-
-#[test]
-fn a_tally_that_is_over_early(rt: HostRuntime) -> Result<(), Fail> {
+fn growth_stops_where_the_tally_is_over(rt: HostRuntime) -> Result<(), Fail> {
     let alloc = rt.alloc();
     let coded = coded(alloc, NINE_BASKETS, 2)?;
     let mut tally = Early { told: 0 };
-    let found = class(alloc, &coded, 0, &mut tally);
-    assert_eq!(rt; found.err(), Some(MineFault::TooMany { limit: 1_000 }));
+    let fault = fault_of_class(alloc, &coded, 0, &mut tally)?;
+    assert_eq!(rt; fault, MineFault::TooMany { limit: 1_000 });
     assert_eq!(rt; tally.told(), 1);
     Ok(())
 }

@@ -1,65 +1,40 @@
-//! Closed and maximal sets and rules, of lists that Apriori finds.
-use super::{Row, database};
-use basket_core::{Coded, CountedSets, Fraction, Frequent, Minimum};
-use basket_rules::{closed, maximal};
-use mine_apriori::apriori;
+//! Rules of a list that Apriori finds.
+use super::{Row, frequent};
+use basket_core::Minimum;
+use basket_rules::{Rule, rules, rules_with};
 use std::alloc::Global;
+use std::fmt::Write;
 use std::test::Fail;
 
-fn frequent(alloc: Global, rows: &[Row], minimum: Minimum) -> Result<Frequent, Fail> {
-    let database = database(alloc, rows)?;
-    let coded = Coded::of(alloc, &database, minimum)?;
-    let (frequent, _candidates) = apriori(alloc, &coded, u32::MAX)?;
-    Ok(frequent)
-}
+/// Five baskets. All three items are in two of them, items 1 and 2 in three, 1 and 3 in three, and 2
+/// and 3 in two; item 1 is in four, 2 in four and 3 in three.
+const FIVE_BASKETS: &[Row] = &[(&[1, 2, 3], 2), (&[1, 2], 1), (&[1, 3], 1), (&[2], 1)];
 
-/// Compares sets with lines as `1 2 (4)`.
-fn compare_sets(alloc: Global, sets: &CountedSets, lines: &[&str]) -> Result<(), Fail> {
-    if sets.len() != lines.len() {
-        return Err(Fail::new("there are as many sets as lines"));
+/// The rules as text.
+fn text(alloc: Global, rules: &[Rule]) -> Result<String, Fail> {
+    let mut text = String::new(alloc);
+    for rule in rules {
+        write!(text, "{} => {} ({}) ", rule.left, rule.right, rule.count)?;
+        write!(text, "{} {}|", rule.confidence, rule.lift)?;
     }
-    for (counted, line) in sets.unpacked(alloc)?.iter().zip(lines) {
-        let text = format!(in alloc; "{} ({})", counted.set, counted.count)?;
-        if text.as_str() != *line {
-            return Err(Fail::new("the sets are those of the lines"));
-        }
-    }
-    Ok(())
-}
-
-/// Of the 262,143 subsets of eighteen items one is closed, and the same is maximal.
-#[test]
-fn one_long_basket(rt: HostRuntime) -> Result<(), Fail> {
-    let items: &[u32] = &[
-        1, 2, 3, 4, 5, 6, 7, 8, 9, 10, 11, 12, 13, 14, 15, 16, 17, 18,
-    ];
-    let frequent = frequent(rt.alloc(), &[(items, 1)], Minimum::Count(1))?;
-    assert_eq!(rt; frequent.sets().len(), 262_143);
-    let line = "1 2 3 4 5 6 7 8 9 10 11 12 13 14 15 16 17 18 (1)";
-    compare_sets(rt.alloc(), &closed(rt.alloc(), &frequent)?, &[line])?;
-    compare_sets(rt.alloc(), &maximal(rt.alloc(), &frequent)?, &[line])
+    Ok(text)
 }
 
 #[test]
-fn fractions(rt: HostRuntime) -> Result<(), Fail> {
-    let rows: &[(u128, u128, &str)] = &[
-        (18, 8, "9/4"),
-        (36, 36, "1/1"),
-        (0, 5, "0/1"),
-        (7, 10, "7/10"),
-        // 2^100 and three times 2^50.
-        (
-            1_267_650_600_228_229_401_496_703_205_376,
-            3_377_699_720_527_872,
-            "1125899906842624/3",
-        ),
-    ];
-    for &(numerator, denominator, text) in rows {
-        if denominator >= 1 {
-            let fraction = Fraction::reduced(numerator, denominator);
-            let printed = format!(in rt.alloc(); "{fraction}")?;
-            assert_eq!(rt; printed.as_str(), text);
-        }
-    }
+fn rules_stand_union_after_union_and_by_their_right_sides(rt: HostRuntime) -> Result<(), Fail> {
+    let alloc = rt.alloc();
+    let frequent = frequent(alloc, FIVE_BASKETS, Minimum::Count(2))?.unpacked(alloc)?;
+    let found = rules(alloc, &frequent, (3, 4))?;
+    assert_eq!(rt;
+        text(alloc, &found)?.as_str(),
+        "2 => 1 (3) 3/4 15/16|1 => 2 (3) 3/4 15/16|3 => 1 (3) 1/1 5/4|1 => 3 (3) 3/4 5/4|2 3 => 1 (2) 1/1 5/4|"
+    );
+    // The last of the seven sets has all three items.
+    assert_eq!(rt; frequent.sets().len(), 7);
+    let found = rules_with(alloc, &frequent, 6, (2, 3))?;
+    assert_eq!(rt;
+        text(alloc, &found)?.as_str(),
+        "2 3 => 1 (2) 1/1 5/4|1 3 => 2 (2) 2/3 5/6|1 2 => 3 (2) 2/3 10/9|3 => 1 2 (2) 2/3 10/9|"
+    );
     Ok(())
 }

@@ -1,4 +1,4 @@
-use basket_core::{Failed, MemSink, MemSource, Sink, Source, StdSink, StdSource};
+use basket_core::{Failed, MemSink, MemSource, Sink, Source};
 use std::process::Abort;
 use std::test::Fail;
 
@@ -24,7 +24,7 @@ fn read_through(rt: &impl Abort, mut source: MemSource<'_>) -> (usize, u64) {
 }
 
 #[test]
-fn sources(rt: HostRuntime) {
+fn a_source_gives_its_bytes_until_it_fails(rt: HostRuntime) {
     let bytes = b"0123456789";
     assert_eq!(rt;
         read_through(&rt, MemSource::new(bytes, 100, None)),
@@ -42,7 +42,7 @@ fn sources(rt: HostRuntime) {
 }
 
 #[test]
-fn sinks(rt: HostRuntime) -> Result<(), Fail> {
+fn a_sink_takes_bytes_until_it_is_full_or_fails(rt: HostRuntime) -> Result<(), Fail> {
     let mut sink = MemSink::new(rt.alloc(), 10, 4, true)?;
     for (bytes, want) in [
         (4, Ok(4)),
@@ -51,9 +51,9 @@ fn sinks(rt: HostRuntime) -> Result<(), Fail> {
         (0, Ok(0)),
         (1, Err(Failed)),
     ] {
-        if !sink.failed() && bytes <= 5 {
-            assert_eq!(rt; sink.write(&b"01234"[..bytes]), want, "at {bytes}");
-        }
+        assert!(rt; !sink.failed(), "before {bytes}");
+        assert!(rt; bytes <= 5, "no {bytes} bytes are there");
+        assert_eq!(rt; sink.write(&b"01234"[..bytes]), want, "at {bytes}");
     }
     assert!(rt; sink.failed());
     assert_eq!(rt; sink.bytes(), b"0123012012".as_slice());
@@ -68,21 +68,4 @@ fn sinks(rt: HostRuntime) -> Result<(), Fail> {
     assert_eq!(rt; sink.write(b"01"), Ok(0));
     assert!(rt; sink.failed());
     Ok(())
-}
-
-#[test]
-fn source_of_std(rt: HostRuntime) {
-    let mut source = StdSource::new(b"01234".as_slice());
-    let mut buf = [0; 3];
-    assert_eq!(rt; source.read(&mut buf), Ok(3));
-    assert_eq!(rt; buf.as_slice(), b"012".as_slice());
-    assert!(rt; !source.failed());
-}
-
-#[test]
-fn sink_of_std(rt: HostRuntime) {
-    let mut sink = StdSink::new(Vec::new(rt.alloc()));
-    assert_eq!(rt; sink.write(b"01"), Ok(2));
-    assert!(rt; !sink.failed());
-    assert_eq!(rt; sink.flush(), Ok(()));
 }

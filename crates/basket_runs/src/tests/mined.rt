@@ -14,25 +14,9 @@ const INPUTS: &[&[u8]] = &[
     b"2x70000 80000 90000\n2x70000 90000 4000000000\n1 70000 4000000000\n1000000x1 80000\n",
 ];
 
-/// Baskets of up to ten of sixteen items, which a simple generator of numbers chooses.
-fn mixed(alloc: Global, seed: u64) -> Result<Vec<u8>, AllocError> {
-    let mut text = Vec::new(alloc);
-    let mut buffer = Buffer::new();
-    let mut state = seed;
-    for place in 1..401u32 {
-        state = state
-            .wrapping_mul(6_364_136_223_846_793_005)
-            .wrapping_add(1);
-        // Small numbers come more often.
-        let number = (state >> 60) & (state >> 40) & 15;
-        text.extend_from_slice(buffer.format(number).as_bytes())?;
-        text.push(if place % 10 == 0 { b'\n' } else { b' ' })?;
-    }
-    Ok(text)
-}
-
-/// Compares what each miner finds, however many workers share it, with the plain miner's list.
-fn compare<R: Threads + Sync>(
+/// Asserts that each miner finds the plain miner's list, however many workers share it, and does as much
+/// for it by any number of them.
+fn assert_plain<R: Threads + Sync + Abort>(
     rt: &R,
     alloc: Global,
     text: &[u8],
@@ -41,7 +25,7 @@ fn compare<R: Threads + Sync>(
     let database = database(alloc, text)?;
     let plan = plan(minimum)?;
     let plain = plain_sets(alloc, &database, plan.minimum())?;
-    for &(_, miner) in MINERS {
+    for &(name, miner) in MINERS {
         let mut known = None;
         for (workers, pieces) in [(1, 16), (7, 3)] {
             let plan = plan
@@ -50,33 +34,31 @@ fn compare<R: Threads + Sync>(
                 .with_pieces(pieces);
             let (mined, work) = mine(rt, alloc, &database, &plan, &Open)?;
             let mined = mined.unpacked(alloc)?;
-            if mined.sets() != plain.as_slice() || mined.total() != database.total() {
-                return Err(Fail::new("the lists are the same"));
-            }
-            if *known.get_or_insert(work) != work {
-                return Err(Fail::new("the work is the same"));
-            }
+            let sets = mined.sets();
+            assert!(rt;
+                sets == plain.as_slice(),
+                "{name} by {workers} workers found {sets:?} at {minimum}, not {plain:?}"
+            );
+            assert_eq!(rt;
+                mined.total(),
+                database.total(),
+                "{name} by {workers} workers"
+            );
+            assert_eq!(rt;
+                work,
+                *known.get_or_insert(work),
+                "{name} by {workers} workers at {minimum}"
+            );
         }
     }
     Ok(())
 }
 
 #[test]
-fn small_inputs(rt: HostRuntime) -> Result<(), Fail> {
+fn each_miner_finds_the_sets_of_the_plain_one(rt: HostRuntime) -> Result<(), Fail> {
     for &text in INPUTS {
         for &minimum in MINIMUMS {
-            compare(&rt, rt.alloc(), text, minimum)?;
-        }
-    }
-    Ok(())
-}
-
-#[test]
-fn mixed_inputs(rt: HostRuntime) -> Result<(), Fail> {
-    for seed in [1, 2] {
-        let text = mixed(rt.alloc(), seed)?;
-        for minimum in ["2", "20%"] {
-            compare(&rt, rt.alloc(), &text, minimum)?;
+            assert_plain(&rt, rt.alloc(), text, minimum)?;
         }
     }
     Ok(())
@@ -84,7 +66,7 @@ fn mixed_inputs(rt: HostRuntime) -> Result<(), Fail> {
 
 /// How much the miners do: candidates, joins and trees.
 #[test]
-fn work_of_miners(rt: HostRuntime) -> Result<(), Fail> {
+fn each_miner_counts_its_work(rt: HostRuntime) -> Result<(), Fail> {
     let alloc = rt.alloc();
     let forty = forty_items(alloc)?;
     let cases: &[(&[u8], &str, u64, u64, u64)] = &[
@@ -105,7 +87,11 @@ fn work_of_miners(rt: HostRuntime) -> Result<(), Fail> {
                 sums.2 = sums.2.saturating_add(work.trees);
             }
             // Three of the five miners are Eclat's.
-            assert_eq!(rt; sums, (candidates, joins.saturating_mul(3), trees));
+            assert_eq!(rt;
+                sums,
+                (candidates, joins.saturating_mul(3), trees),
+                "by {workers} workers at {minimum}"
+            );
         }
     }
     Ok(())

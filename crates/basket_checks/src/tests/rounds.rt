@@ -2,7 +2,7 @@
 ghost use Rattle.std.specs.Prelude.{◌≡◌, ℕ, ◌+◌, ◌^◌, ◌<◌, ◌≤◌, All, slice_index, IfOk};
 ghost use Rattle.mine_round.specs.Record.{unused};
 
-use crate::{Round, RoundSeat};
+use mine_round::{Round, RoundSeat};
 use std::alloc::{AllocError, Global};
 use std::test::Fail;
 use std::thread;

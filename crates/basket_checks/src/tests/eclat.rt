@@ -1,10 +1,7 @@
 //! Classes by Eclat.
-use super::{Early, NINE_BASKETS, database, long_basket};
+use super::{Early, NINE_BASKETS, database};
 use basket_core::{Coded, CountedSets, Limit, MineFault, Minimum, Tally};
-use mine_classes::Tables;
-use mine_vertical::{
-    BitRow, DiffList, Part, Row as Kind, TidList, Vertical, eclat_class, eclat_part,
-};
+use mine_vertical::{BitRow, DiffList, Row as Kind, TidList, Vertical, eclat_class};
 use std::alloc::Global;
 use std::fmt::Write;
 use std::test::Fail;
@@ -39,47 +36,17 @@ fn last_class<R: Kind>(alloc: Global) -> Result<String, Fail> {
     let coded = Coded::of(alloc, &database(alloc, NINE_BASKETS)?, Minimum::Count(2))?;
     match class::<R>(alloc, &coded, 4, 4)? {
         Ok(mined) => text(alloc, mined.0),
-        Err(_) => Err(Fail::from("the class is as long as the limit")),
+        Err(fault) => Err(Fail::from(fault)),
     }
 }
 
 #[test]
-fn class_of_the_last_rank(rt: HostRuntime) -> Result<(), Fail> {
+fn a_class_is_the_same_by_each_kind_of_row(rt: HostRuntime) -> Result<(), Fail> {
     let alloc = rt.alloc();
     let listed = "5 (2) 1 5 (2) 2 5 (2) 1 2 5 (2) ";
     assert_eq!(rt; last_class::<TidList>(alloc)?.as_str(), listed);
     assert_eq!(rt; last_class::<DiffList>(alloc)?.as_str(), listed);
     assert_eq!(rt; last_class::<BitRow>(alloc)?.as_str(), listed);
-    Ok(())
-}
-
-/// The sets of a part of the class of the last of five ranks, where the class is cut in two, and how
-/// many joins were made for them.
-fn half_class(alloc: Global, place: u32) -> Result<(String, u64), Fail> {
-    let coded = Coded::of(alloc, &database(alloc, NINE_BASKETS)?, Minimum::Count(2))?;
-    let vertical = Vertical::of(alloc, &coded)?;
-    let mut tables = Tables::new(alloc, coded.ranks())?;
-    if coded.ranks() != 5 {
-        return Err(Fail::from("five items are frequent"));
-    }
-    let part = Part::new(2, place);
-    let tally = &mut Limit::new(2);
-    match eclat_part::<TidList, Limit>(alloc, &vertical, &mut tables, 4, part, tally) {
-        Ok((found, joins)) => Ok((text(alloc, found)?, joins)),
-        Err(_) => Err(Fail::from("the part is as long as the limit")),
-    }
-}
-
-/// The ranks of items 2 and 1 are 0 and 1. Item 5 is joined with each of the four ranks below its
-/// own, which counts for the first part, and item 1 with item 2, which are both frequent with it.
-#[test]
-fn halves_of_the_class_of_the_last_rank(rt: HostRuntime) -> Result<(), Fail> {
-    let alloc = rt.alloc();
-    let (first, first_joins) = half_class(alloc, 0)?;
-    let (second, second_joins) = half_class(alloc, 1)?;
-    assert_eq!(rt; first.as_str(), "5 (2) 2 5 (2) ");
-    assert_eq!(rt; second.as_str(), "1 5 (2) 1 2 5 (2) ");
-    assert_eq!(rt; (first_joins, second_joins), (4, 1));
     Ok(())
 }
 
@@ -92,25 +59,17 @@ fn told_early<R: Kind>(alloc: Global, coded: &Coded) -> Result<u64, Fail> {
     }
     match eclat_class::<R, Early>(alloc, &vertical, 0, &mut tally) {
         Err(MineFault::TooMany { limit: 1_000 }) => Ok(tally.told()),
-        _ => Err(Fail::from("the tally is over")),
+        Err(fault) => Err(Fail::from(fault)),
+        Ok(_) => Err(Fail::from("the class was listed")),
     }
 }
 
 #[test]
-fn a_tally_that_is_over_early(rt: HostRuntime) -> Result<(), Fail> {
+fn eclat_stops_where_the_tally_is_over(rt: HostRuntime) -> Result<(), Fail> {
     let alloc = rt.alloc();
     let coded = Coded::of(alloc, &database(alloc, NINE_BASKETS)?, Minimum::Count(2))?;
     assert_eq!(rt; told_early::<TidList>(alloc, &coded)?, 1);
     assert_eq!(rt; told_early::<DiffList>(alloc, &coded)?, 1);
     assert_eq!(rt; told_early::<BitRow>(alloc, &coded)?, 1);
     Ok(())
-}
-
-#[test]
-fn a_class_of_a_long_basket(rt: HostRuntime) -> Result<(), Fail> {
-    let coded = long_basket(rt.alloc())?;
-    match class::<TidList>(rt.alloc(), &coded, 69_999, 1_000)? {
-        Err(MineFault::TooMany { limit: 1_000 }) => Ok(()),
-        _ => Err(Fail::from("the class is longer than the limit")),
-    }
 }

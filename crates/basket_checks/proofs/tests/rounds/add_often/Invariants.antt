@@ -1,5 +1,5 @@
 use Rattle.std.proofs.Common.{◌≡◌, length, slice_index}
-use Rattle.mine_round.proofs.tests.threads.add_often.Given as goal
+use Rattle.basket_checks.proofs.tests.rounds.add_often.Given as goal
 
 abbrev pub invariant-loop : goal.invariant-loop
 invariant-loop l = record {

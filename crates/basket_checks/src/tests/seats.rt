@@ -1,5 +1,5 @@
 //! Seats of one thread.
-use crate::{Collector, Refused, Round};
+use mine_round::{Collector, Refused, Round};
 use std::test::Fail;
 
 #[test]

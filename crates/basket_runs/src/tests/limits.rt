@@ -1,0 +1,82 @@
+//! Limits that two workers pass. What is asserted holds whatever the schedule.
+use super::gates::{FirstLast, Meeting, found_by_two};
+use super::*;
+use std::sync::atomic::{AtomicU64, Ordering};
+
+/// 4,095 sets at a minimum of 2, of which none has more than ten items: that they are more than a limit
+/// isn't known from one of them before they are mined.
+const FOUR_TENS: &[u8] =
+    b"2x1 2 3 4 5 6 7 8 9 10\n2x11 12 13 14 15 16 17 18 19 20\n2x21 22 23 24 25 26 27 28 29 30\n2x31 32 33 34 35 36 37 38 39 40\n2x41\n2x42\n2x43\n";
+
+/// Where each worker had a limit of its own, three pieces a worker would be passed.
+#[test]
+fn two_workers_have_one_limit(rt: HostRuntime) -> Result<(), Fail> {
+    let forty = forty_items(rt.alloc())?;
+    let plan = plan("2")?
+        .with_miner(Miner::Eclat)
+        .with_pieces(40)
+        .with_limit(2);
+    let gate = Meeting::in_phase(2);
+    let found = found_by_two(&rt, rt.alloc(), &forty, &plan, &gate)?;
+    assert_eq!(rt; found, None);
+    assert!(rt; gate.met(), "the workers did not meet");
+    let passed = gate.passed.load(Ordering::SeqCst);
+    assert!(rt; passed <= 4, "{passed} pieces were passed");
+    Ok(())
+}
+
+/// While one worker is held at the first piece, of one set, the other has 1,025 in twelve pieces and 512 in
+/// the next. Before it has told of these, the first may go on to one more piece, of 256.
+#[test]
+fn a_worker_stops_at_what_the_other_found(rt: HostRuntime) -> Result<(), Fail> {
+    for (name, miner) in [("eclat", Miner::Eclat), ("fpgrowth", Miner::FpGrowth)] {
+        let plan = plan("2")?
+            .with_miner(miner)
+            .with_pieces(43)
+            .with_limit(1_100);
+        let gate = FirstLast::behind(13);
+        let found = found_by_two(&rt, rt.alloc(), FOUR_TENS, &plan, &gate)?;
+        assert_eq!(rt; found, None, "{name}");
+        assert!(rt; !gate.is_late(), "{name} passed few pieces");
+        let passed = gate.passed.load(Ordering::SeqCst);
+        assert!(rt; passed <= 14, "{name} passed {passed} pieces");
+    }
+    Ok(())
+}
+
+/// Holds one worker at its first piece of each phase.
+#[derive(Drop)]
+struct Held {
+    worker: u32,
+    /// The last phase that the worker came to.
+    phase: AtomicU64,
+}
+
+impl Gate for Held {
+    fn pass(&self, phase: u32, worker: u32, _piece: u32) {
+        if worker == self.worker && self.phase.swap(phase.into(), Ordering::SeqCst) < phase.into() {
+            for _ in 0..1_000_000 {
+                self.phase.load(Ordering::SeqCst);
+            }
+        }
+    }
+}
+
+#[test]
+fn a_limit_is_the_same_while_a_worker_is_held(rt: HostRuntime) -> Result<(), Fail> {
+    for worker in 0..2 {
+        for pieces in [1, 2, 16] {
+            let plan = plan("2")?.with_miner(Miner::Eclat).with_pieces(pieces);
+            for (limit, want) in [(13, Some(13)), (12, None)] {
+                let gate = Held {
+                    worker,
+                    phase: AtomicU64::new(0),
+                };
+                let plan = plan.with_limit(limit);
+                let found = found_by_two(&rt, rt.alloc(), NINE_BASKETS, &plan, &gate)?;
+                assert_eq!(rt; found, want, "{worker} held, {pieces} pieces");
+            }
+        }
+    }
+    Ok(())
+}

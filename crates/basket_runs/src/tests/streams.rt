@@ -1,0 +1,111 @@
+//! Readers that give few bytes or fail, and writers that take few or fail.
+use super::*;
+
+const THIRTEEN_SETS: &[u8] =
+    b"1 (6)\n2 (7)\n3 (6)\n4 (2)\n5 (2)\n1 2 (4)\n1 3 (4)\n1 5 (2)\n2 3 (4)\n2 4 (2)\n2 5 (2)\n1 2 3 (2)\n1 2 5 (2)\n";
+
+const SIX_RULES: &[u8] =
+    b"5 => 1 (2) 1/1 3/2\n4 => 2 (2) 1/1 9/7\n5 => 2 (2) 1/1 9/7\n2 5 => 1 (2) 1/1 3/2\n1 5 => 2 (2) 1/1 9/7\n5 => 1 2 (2) 1/1 9/4\n";
+
+#[test]
+fn a_report_is_the_same_however_its_bytes_are_given_and_taken(rt: HostRuntime) -> Result<(), Fail> {
+    let cases: &[(&[&str], &[u8], &[u8])] = &[
+        (&["items", "--min", "2"], NINE_BASKETS, NINE_ITEMS),
+        (&["sets", "--min", "2"], NINE_BASKETS, THIRTEEN_SETS),
+        (
+            &["rules", "--min", "2", "--conf", "7/10"],
+            NINE_BASKETS,
+            SIX_RULES,
+        ),
+        (
+            &["sets", "--form", "single", "--min", "1"],
+            b"b,milk\na,bread\nb,bread\n",
+            b"1,milk\n2,bread\n1,milk,bread\n",
+        ),
+    ];
+    for &(words, input, want) in cases {
+        for step in [1, 7, 65_536] {
+            let mut reader = MemSource::new(input, step, None);
+            let mut writer = MemSink::new(rt.alloc(), 300, step, false)?;
+            let result = run_words(&rt, rt.alloc(), words, &mut reader, &mut writer)?;
+            assert_eq!(rt; result, Ok(()), "{words:?} by {step}");
+            assert_eq!(rt; writer.bytes(), want, "{words:?} by {step}");
+        }
+    }
+    Ok(())
+}
+
+#[test]
+fn a_fault_in_the_lines_before_a_failed_read_is_told(rt: HostRuntime) -> Result<(), Fail> {
+    let byte = ReadFault::Byte {
+        line: 2,
+        byte: 0x78,
+    };
+    let cases: &[(&[u8], u64, ReadFault, u8)] = &[
+        (b"1 2\n", 0, ReadFault::Read, 4),
+        (b"1 2\n", 4, ReadFault::Read, 4),
+        (b"1 2\nx", 5, byte, 3),
+    ];
+    for &(input, reads, fault, status) in cases {
+        let mut reader = MemSource::new(input, 1, Some(reads));
+        let mut writer = MemSink::new(rt.alloc(), 100, 100, false)?;
+        let result = run_words(
+            &rt,
+            rt.alloc(),
+            &["items", "--min", "1"],
+            &mut reader,
+            &mut writer,
+        )?;
+        assert_eq!(rt; result, Err(RunFault::Input(fault)), "after {reads} reads");
+        assert_eq!(rt; writer.bytes(), b"".as_slice(), "after {reads} reads");
+        assert_eq!(rt; status_of(&RunFault::Input(fault)), status);
+    }
+    Ok(())
+}
+
+#[test]
+fn a_failed_read_of_csv_is_all_that_is_told(rt: HostRuntime) -> Result<(), Fail> {
+    for (form, input) in [("single", b"a\n".as_slice()), ("baskets", b"\xFF\n")] {
+        let mut reader = MemSource::new(input, 1, Some(2));
+        let mut writer = MemSink::new(rt.alloc(), 100, 100, false)?;
+        let words = ["items", "--form", form, "--min", "1"];
+        let result = run_words(&rt, rt.alloc(), &words, &mut reader, &mut writer)?;
+        assert_eq!(rt; result, Err(RunFault::Input(ReadFault::Read)), "{form}");
+        assert_eq!(rt; writer.bytes(), b"".as_slice(), "{form}");
+    }
+    Ok(())
+}
+
+#[test]
+fn a_writer_that_fails_has_taken_a_front_of_the_report(rt: HostRuntime) -> Result<(), Fail> {
+    let write = Err(RunFault::Write);
+    let front = b"1 (6)\n2 (7".as_slice();
+    let cases = &[
+        ("items", 100, 1, false, Ok(()), NINE_ITEMS),
+        ("items", 10, 100, false, write, front),
+        ("items", 10, 3, false, write, front),
+        ("items", 100, 0, false, write, b""),
+        ("items", 100, 100, true, write, NINE_ITEMS),
+        ("sets", 300, 1, false, Ok(()), THIRTEEN_SETS),
+        ("sets", 10, 100, false, write, front),
+        ("sets", 300, 0, false, write, b""),
+        ("sets", 300, 100, true, write, THIRTEEN_SETS),
+    ];
+    for &(ask, room, piece, flush_fails, want, written) in cases {
+        let mut reader = MemSource::new(NINE_BASKETS, 100, None);
+        let mut writer = MemSink::new(rt.alloc(), room, piece, flush_fails)?;
+        let result = run_words(
+            &rt,
+            rt.alloc(),
+            &[ask, "--min", "2"],
+            &mut reader,
+            &mut writer,
+        )?;
+        assert_eq!(rt; result, want, "{ask} by {piece} into {room}");
+        assert_eq!(rt; writer.bytes(), written, "{ask} by {piece} into {room}");
+    }
+    assert_eq!(rt; status_of(&RunFault::Write), 4);
+    let text = RunFault::Write.to_string(rt.alloc())?;
+    assert_eq!(rt; text.as_str(), "cannot write the report");
+    Ok(())
+}

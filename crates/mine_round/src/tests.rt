@@ -1,2 +1,0 @@
-mod alone;
-mod threads;
