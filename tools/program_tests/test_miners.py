@@ -70,8 +70,9 @@ class Miners(unittest.TestCase):
                 self.assertEqual(summed(ended), (lines, digest, "", 0))
 
     def test_a_limit_is_passed_exactly_also_in_the_midst_of_a_piece(self) -> None:
-        # Twelve items on two lines have 4,095 sets.
-        given = b"1 2 3 4 5 6 7 8 9 10 11 12\n" * 2
+        # Four times 1,023 sets and three more, of which none alone has more subsets than a limit.
+        lines = [range(10 * ten, 10 * ten + 10) for ten in range(4)]
+        given = "".join(f"2x {' '.join(map(str, line))}\n" for line in (*lines, [40], [41], [42])).encode()
         for miner, pieces, limit in itertools.product(MINERS, ("1", "2"), (1_100, 2_048, 4_094, 4_095)):
             with self.subTest(miner=miner, pieces=pieces, limit=limit):
                 words = ["sets", "--min", "2", "--miner", miner, "--workers", "2", "--pieces", pieces]
@@ -81,6 +82,15 @@ class Miners(unittest.TestCase):
                     self.assertEqual((ended.out, ended.said, ended.status), (b"", said, 5))
                 else:
                     self.assertEqual((ended.out.count(b"\n"), ended.said, ended.status), (4_095, "", 0))
+
+    def test_a_limit_stops_classes_that_no_memory_holds(self) -> None:
+        # That they are too many isn't known before they are mined: the most frequent item is in no larger set.
+        given = f"3x 0\n2x {' '.join(map(str, range(1, 41)))}\n".encode()
+        for miner, workers in itertools.product(MINERS, ("1", "2")):
+            with self.subTest(miner=miner, workers=workers):
+                words = ["sets", "--min", "2", "--miner", miner, "--workers", workers, "--limit", "1100"]
+                ended = run(words, given)
+                self.assertEqual((ended.out, ended.status), (b"", 5))
 
     def test_one_basket_of_many_items_is_refused_at_once_under_a_limit(self) -> None:
         given = f"{' '.join(map(str, range(70_000)))}\n".encode()

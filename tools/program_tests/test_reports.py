@@ -38,6 +38,8 @@ FIMI = (
     ("items --min 1", b"10 2", "2 (1)|10 (1)|"),
     ("items --min 1", b"7 7 007\n", "7 (1)|"),
     ("items --min 1", b"9x \n1\n", "1 (1)|"),
+    ("items --min 1", b"0" * 1_000_000 + b"1\n", "1 (1)|"),
+    ("items --min 1", b"4294967295x 1\n" * 256 + b"255x 1\n", "1 (1099511627775)|"),
     ("items --min 1", b"1 2\n2x 2 3\n4294967295 1\n1 2\n", "1 (3)|2 (4)|3 (2)|4294967295 (1)|"),
     ("sets --min 2", WEIGHTED, SETS),
     ("sets --min 22%", NINE_BASKETS, SETS),
@@ -109,6 +111,12 @@ REFUSED = (
     ("items --form baskets --min 1", b"a\n\xff\n", 3, "record 2: field is not UTF-8"),
     ("sets --form single --min 1", RECEIPTS + b"a\n", 3, "record 4: fewer than two fields"),
     ("sets --form baskets --weight --min 2", b"0,bread\n", 3, "record 1: bad weight"),
+    (
+        "sets --form baskets --weight --min 2",
+        b"4294967295,a\n" * 256 + b"256,a\n",
+        3,
+        "total weight above 1099511627775",
+    ),
     ("sets --min 2 --limit 12", NINE_BASKETS, 5, "more than 12 frequent itemsets"),
     ("closed --min 2 --limit 12", NINE_BASKETS, 5, "more than 12 frequent itemsets"),
     ("maximal --min 2 --limit 12", NINE_BASKETS, 5, "more than 12 frequent itemsets"),
@@ -175,7 +183,7 @@ class Reports(unittest.TestCase):
 
     def test_a_report_has_the_lines_that_the_definitions_ask_for(self) -> None:
         for words, given, wanted in FIMI + CSV:
-            with self.subTest(words=words, given=given):
+            with self.subTest(words=words, given=given[:80]):
                 ended = run(words.split(), given)
                 report = ended.out.decode().replace("\n", "|")
                 self.assertEqual((report, ended.said, ended.status), (wanted, "", 0))
