@@ -1,0 +1,207 @@
+#!/usr/bin/env python3
+"""Times a program over baskets of the generators here, and writes RESULTS.md here.
+
+With --beside another program runs in turn with it, which takes `items --min M`, and
+`fast --min M` for `sets`, and has to write the same bytes. With --stages the program
+that times the stages of `sets` runs too."""
+
+import argparse
+import ctypes
+import datetime
+import hashlib
+import os
+import pathlib
+import subprocess
+import sys
+import tempfile
+import time
+from collections.abc import Sequence
+from typing import NamedTuple
+
+HERE = pathlib.Path(__file__).resolve().parent
+
+# How often each command of a row runs, one after another in each turn.
+RUNS = 5
+
+MINERS = ["apriori", "eclat", "eclat-diff", "eclat-bits", "fpgrowth"]
+
+# What each input is, and its generator.
+INPUTS = {
+    "1,000,000 of eight items": "baskets.py 1000000 8 100000 1",
+    "100,000 of some ten items": "quest.py 10 4 100000 1000 2000 1",
+    "100,000 of some forty items": "quest.py 40 10 100000 1000 2000 2",
+    "60,000 of some four items": "quest.py 4 2 60000 20000 20000 3",
+    "8,000 of 23 attributes": "dense.py 8000 23 8 1",
+}
+MANY, SPARSE, FORTY, SHORT, DENSE = INPUTS
+
+TABLES = {
+    "Items": [(MANY, "items --min 1")],
+    "Itemsets": [
+        (SPARSE, "sets --min 1/200"),
+        (SPARSE, "sets --min 1/1000"),
+        (FORTY, "sets --min 1%"),
+        (SHORT, "sets --min 1/5000"),
+        (DENSE, "sets --min 10%"),
+        (DENSE, "sets --min 5%"),
+    ],
+    "Closed and maximal itemsets, and rules": [
+        (DENSE, "closed --min 10%"),
+        (DENSE, "maximal --min 10%"),
+        (DENSE, "rules --min 20% --conf 1/10"),
+        (SPARSE, "rules --min 1/1000 --conf 1/2"),
+    ],
+}
+
+SHARED = [
+    (SPARSE, "sets --min 1/1000 --miner apriori"),
+    (FORTY, "sets --min 1% --miner fpgrowth"),
+    (DENSE, "sets --min 5% --miner eclat-bits"),
+]
+
+STAGES = [(SPARSE, "1/200"), (SPARSE, "1/1000")]
+
+# The shell ends at once and leaves the program to this process. A process has at least
+# the memory of the one that begins it, and a shell has little.
+START = 'data=$1; report=$2; shift 2; "$@" < "$data" > "$report" & echo $!'
+
+Words = Sequence[str]
+
+
+class Run(NamedTuple):
+    """Seconds of the processor and by the clock, and the most memory in megabytes."""
+
+    seconds: float
+    clock: float
+    memory: float
+
+
+def output(*words: str) -> str:
+    ran = subprocess.run(words, stdout=subprocess.PIPE, text=True, check=True)
+    return ran.stdout.strip()
+
+
+def measured(words: Words, data: str, report: str) -> Run:
+    begun = time.monotonic()
+    started = output("sh", "-c", START, "sh", data, report, *words)
+    _, status, used = os.wait4(int(started), 0)
+    clock = time.monotonic() - begun
+    if status != 0:
+        sys.exit(f"{' '.join(words)}: status {os.waitstatus_to_exitcode(status)}")
+    return Run(used.ru_utime + used.ru_stime, clock, used.ru_maxrss / 1024)
+
+
+def in_turn(commands: Sequence[Words], data: str) -> tuple[int, list[Run]]:
+    """The lines that all commands write, and the best of the runs of each."""
+    report = f"{data}.report"
+    digests: set[bytes] = set()
+    for words in commands:
+        measured(words, data, report)
+        text = pathlib.Path(report).read_bytes()
+        digests.add(hashlib.sha256(text).digest())
+        if len(digests) > 1:
+            sys.exit(f"{' '.join(words)}: other bytes than {' '.join(commands[0])}")
+    turns = [[measured(one, data, os.devnull) for one in commands] for _ in range(RUNS)]
+    runs = []
+    for of_one in zip(*turns):
+        seconds, clocks, memory = zip(*of_one)
+        runs.append(Run(min(seconds), min(clocks), max(memory)))
+    return text.count(b"\n"), runs
+
+
+def table(head: Words, rows: Sequence[Words]) -> list[str]:
+    lines = [f"| {' | '.join(row)} |" for row in (head, *rows)]
+    return [lines[0], "|---" * len(head) + "|", *lines[1:]]
+
+
+class Bench:
+    """The programs, and the inputs, which it makes in a folder."""
+
+    def __init__(self, program: str, beside: str | None, folder: str) -> None:
+        self.program = os.path.abspath(program)
+        self.beside = os.path.abspath(beside) if beside else None
+        self.data = {says: os.path.join(folder, says) for says in INPUTS}
+        for says, generator in INPUTS.items():
+            words = [sys.executable, *generator.split()]
+            with open(self.data[says], "wb") as data:
+                subprocess.run(words, stdout=data, cwd=HERE, check=True)
+
+    def rows(self, says: str, command: str) -> list[list[str]]:
+        """A row for each miner: all for `sets`, and for what is made of these one."""
+        print(says, command, sep=": ", file=sys.stderr)
+        verb, _, options = command.partition(" ")
+        miners = MINERS if verb == "sets" else ["eclat-bits"]
+        words = [self.program, *command.split(), "--miner"]
+        commands: list[Words] = [[*words, miner] for miner in miners]
+        if self.beside and verb in ("items", "sets"):
+            other = "fast" if verb == "sets" else verb
+            commands.append([self.beside, other, *options.split()])
+        lines, runs = in_turn(commands, self.data[says])
+        rows = []
+        for miner, run in zip(miners, runs):
+            by = "" if verb == "items" else miner
+            took = [f"{run.seconds:.3f}", f"{run.memory:.0f}"]
+            rows.append([says, f"`{command}`", f"{lines:,}", by, *took])
+            if len(commands) > len(miners):
+                rows[-1].append(f"{run.seconds / max(runs[-1].seconds, 0.001):.1f}")
+        return rows
+
+    def tables(self) -> list[str]:
+        text: list[str] = []
+        for title, commands in TABLES.items():
+            rows = [row for each in commands for row in self.rows(*each)]
+            head = ["Baskets", "Command", "Lines", "Miner", "Seconds", "MB"]
+            if len(rows[0]) > len(head):
+                head.append("Times the other program's seconds")
+            text += ["", f"## {title}", "", *table(head, rows)]
+        return text
+
+    def shared(self) -> list[str]:
+        rows = []
+        for says, command in SHARED:
+            words = [self.program, *command.split(), "--pieces", "64", "--workers"]
+            _, (one, four) = in_turn([[*words, "1"], [*words, "4"]], self.data[says])
+            clocks = [one.clock, four.clock, one.clock / four.clock]
+            cells = [f"{number:.3f}" for number in clocks]
+            cells += [f"{run.memory:.0f}" for run in (one, four)]
+            rows.append([says, f"`{command}`", *cells])
+        head = ["Baskets", "Command", "One", "Four", "Ratio", "MB of one", "MB of four"]
+        return ["", "## One worker and four, by the clock", "", *table(head, rows)]
+
+    def stages(self, program: str) -> list[str]:
+        text = ["", "## Stages of `sets`"]
+        for says, least in STAGES:
+            words = [os.path.abspath(program), least, str(RUNS)]
+            with open(self.data[says], "rb") as data:
+                said = subprocess.check_output(words, stdin=data, text=True)
+            text += ["", f"{says}, at {least}:", "", "```", said.strip(), "```"]
+        return text
+
+
+def machine() -> str:
+    with open("/proc/cpuinfo", encoding="utf-8") as said:
+        found = [line.partition(": ")[2] for line in said if "model name" in line]
+    return f"{found[0].strip() if found else 'unknown'}, {os.cpu_count()} cores"
+
+
+def main() -> None:
+    parser = argparse.ArgumentParser(description=__doc__)
+    parser.add_argument("program")
+    parser.add_argument("--beside")
+    parser.add_argument("--stages")
+    given = parser.parse_args()
+    # PR_SET_CHILD_SUBREAPER: what a shell leaves comes to this process.
+    ctypes.CDLL(None).prctl(36, 1, 0, 0, 0)
+    commit = output("git", "-C", str(HERE), "describe", "--always", "--dirty")
+    with tempfile.TemporaryDirectory() as folder:
+        bench = Bench(given.program, given.beside, folder)
+        text = [*bench.tables(), *bench.shared()]
+        if given.stages:
+            text += bench.stages(given.stages)
+    made = f"{machine()}; {datetime.date.today()}; {commit}; {output('rt', 'version')}."
+    how = f"Least processor time and most memory of {RUNS} runs in turn."
+    lines = ["# Results", "", f"{made} {how}", *text, ""]
+    (HERE / "RESULTS.md").write_text("\n".join(lines), encoding="utf-8")
+
+
+main()
