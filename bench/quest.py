@@ -25,7 +25,9 @@ def length(source: random.Random, mean: float) -> int:
     return max(count, 1)
 
 
-def patterns(source: random.Random, mean: float, items: int, count: int) -> list[list[int]]:
+def patterns(
+    source: random.Random, mean: float, items: int, count: int
+) -> list[list[int]]:
     """The patterns, each with a share of its items from the one before."""
     made: list[list[int]] = []
     pattern: list[int] = []
@@ -55,7 +57,9 @@ def picks(source: random.Random, made: list[list[int]]) -> Iterator[list[int]]:
             yield source.sample(pattern, left)
 
 
-def baskets(source: random.Random, mean: float, picked: Iterator[list[int]]) -> Iterator[set[int]]:
+def baskets(
+    source: random.Random, mean: float, picked: Iterator[list[int]]
+) -> Iterator[set[int]]:
     """Baskets of picked patterns, without end. A pattern that doesn't fit goes in all the same in
     half of the cases, and where the basket is empty, and else into the next basket."""
     kept: list[int] = []

@@ -19,23 +19,32 @@ RUNS = (
 def written(folder: str) -> tuple[int, str, str]:
     """Runs each case of a folder, and answers the status, what the program wrote, and what `rt` said."""
     words = ["rt", "try", "--cases", folder]
-    ended = subprocess.run(words, cwd="crates/basket_cli", capture_output=True, text=True, check=False)
+    ended = subprocess.run(
+        words, cwd="crates/basket_cli", capture_output=True, text=True, check=False
+    )
     return ended.returncode, ended.stdout, ended.stderr
 
 
 def main() -> None:
-    print("Building the program without its proofs, which takes a minute or two.", flush=True)
+    print(
+        "Building the program without its proofs, which takes a minute or two.",
+        flush=True,
+    )
     with tempfile.TemporaryDirectory() as folder:
         for number, (data, words) in enumerate(RUNS):
             shutil.copyfile(Path("examples", data), Path(folder, str(number)))
-            Path(folder, f"{number}.args").write_text(words.replace(" ", "\n") + "\n", encoding="utf-8")
+            Path(folder, f"{number}.args").write_text(
+                words.replace(" ", "\n") + "\n", encoding="utf-8"
+            )
         status, out, said = written(folder)
     parts = re.split(r"(?m)^== \d+\n", out)[1:]
     if status != 0 or len(parts) != len(RUNS):
         sys.exit(f"{out}{said}The program was not built, or didn't run.")
     for (data, words), lines in zip(RUNS, parts):
         print(f"\n$ basket {words} < examples/{data}\n{lines}", end="")
-    print("\nThis program is not proved yet: `make` proves and builds it, in some half an hour on four processors.")
+    print(
+        "\nThis program is not proved yet: `make` proves and builds it, in some half an hour on four processors."
+    )
 
 
 if __name__ == "__main__":

@@ -16,7 +16,14 @@ import tempfile
 from pathlib import Path
 
 PROGRAM = Path("crates/basket_cli/out/basket_cli")
-DOCUMENTS = ("README.md", "CHANGELOG.md", "docs/FORMATS.md", "docs/DEFINITIONS.md", "docs/RELEASE.md", "LICENSE")
+DOCUMENTS = (
+    "README.md",
+    "CHANGELOG.md",
+    "docs/FORMATS.md",
+    "docs/DEFINITIONS.md",
+    "docs/RELEASE.md",
+    "LICENSE",
+)
 PLACES = {
     "completions/basket.bash": "share/bash-completion/completions/basket",
     "completions/_basket": "share/zsh/vendor-completions/_basket",
@@ -25,13 +32,16 @@ PLACES = {
 
 
 def output_of(*words: str) -> str:
-    return subprocess.run(words, stdout=subprocess.PIPE, text=True, check=True).stdout.strip()
+    return subprocess.run(
+        words, stdout=subprocess.PIPE, text=True, check=True
+    ).stdout.strip()
 
 
 def least_libc() -> str:
     """The least version of the C library that has all that the program calls."""
     called = re.findall(r"GLIBC_(\d+)\.(\d+)", output_of("objdump", "-T", str(PROGRAM)))
-    return ".".join(max(called, key=lambda version: (int(version[0]), int(version[1]))))
+    major, minor = max((int(major), int(minor)) for major, minor in called)
+    return f"{major}.{minor}"
 
 
 def fill(prefix: Path) -> None:
@@ -93,8 +103,17 @@ def main() -> None:
         fill(Path(folder, name))
         settle(Path(folder, name), time)
         made = dist / f"{name}.tar.gz"
-        words = ["tar", "--sort=name", "--owner=0", "--group=0", "--numeric-owner", "--format=ustar"]
-        packed = subprocess.run([*words, "-C", folder, "-c", name], stdout=subprocess.PIPE, check=True)
+        words = [
+            "tar",
+            "--sort=name",
+            "--owner=0",
+            "--group=0",
+            "--numeric-owner",
+            "--format=ustar",
+        ]
+        packed = subprocess.run(
+            [*words, "-C", folder, "-c", name], stdout=subprocess.PIPE, check=True
+        )
         made.write_bytes(gzip.compress(packed.stdout, mtime=0))
         sum_up(made)
         tree = Path(folder, "debian")
@@ -102,7 +121,9 @@ def main() -> None:
         write_control(tree, version)
         settle(tree, time)
         made = dist / f"basket_{version}_amd64.deb"
-        output_of("dpkg-deb", "--root-owner-group", "-Zxz", "--build", str(tree), str(made))
+        output_of(
+            "dpkg-deb", "--root-owner-group", "-Zxz", "--build", str(tree), str(made)
+        )
         sum_up(made)
 
 

@@ -21,7 +21,10 @@ from collections.abc import Iterator
 from pathlib import Path
 
 PROVED = re.compile(r"rt: (\w+) proved")
-LAST_LINES = 80
+# Lines on what is well.
+WELL = re.compile(
+    r"\w+ \S+: (proved|modules loaded)|logic |logic=proved|by-macro: |empty contracts: 0 "
+)
 
 
 def say(text: str) -> None:
@@ -53,7 +56,9 @@ def needed(programs: list[str], crates: dict[str, tuple[str, list[str]]]) -> lis
     return found
 
 
-def copy_to(tree: Path, names: list[str], crates: dict[str, tuple[str, list[str]]]) -> None:
+def copy_to(
+    tree: Path, names: list[str], crates: dict[str, tuple[str, list[str]]]
+) -> None:
     (tree / ".git").mkdir()
     shutil.copy("HANDLES", tree)
     text = "".join(f"{crates[name][0]}\n" for name in names)
@@ -84,21 +89,28 @@ def proved_in(tree: Path) -> Iterator[str]:
             os.killpg(checker.pid, signal.SIGKILL)
 
 
-def prove(programs: list[str], crates: dict[str, tuple[str, list[str]]], tree: Path) -> None:
+def prove(
+    programs: list[str], crates: dict[str, tuple[str, list[str]]], tree: Path
+) -> None:
     names = needed(programs, crates)
     copy_to(tree, names, crates)
-    say(f"Proving {len(names)} crates, once. On four processors that takes some half an hour.")
+    say(
+        f"Proving {len(names)} crates, once. On four processors that takes some half an hour."
+    )
     begun, done, said = time.monotonic(), 0, []
     try:
         for line in proved_in(tree):
-            said.append(line)
+            if not WELL.match(line):
+                said.append(line)
             if found := PROVED.match(line):
                 done += 1
                 minutes, seconds = divmod(round(time.monotonic() - begun), 60)
-                say(f"{found[1]}: proved, {done} of {len(names)} after {minutes}:{seconds:02}")
+                say(
+                    f"{found[1]}: proved, {done} of {len(names)} after {minutes}:{seconds:02}"
+                )
     except subprocess.CalledProcessError:
-        say("Not proved. What the checker said last:")
-        sys.exit("".join(said[-LAST_LINES:]))
+        say("Not proved. What the checker said:")
+        sys.exit("".join(said))
     for program in programs:
         made = Path("crates", program, "out", program)
         made.parent.mkdir(exist_ok=True)
@@ -108,7 +120,9 @@ def prove(programs: list[str], crates: dict[str, tuple[str, list[str]]], tree: P
 
 def main(programs: list[str]) -> None:
     crates = listed()
-    strange = [name for name in programs if not Path("crates", name, "src/main.rt").is_file()]
+    strange = [
+        name for name in programs if not Path("crates", name, "src/main.rt").is_file()
+    ]
     if strange or not programs:
         sys.exit(f"{' '.join(strange) or 'nothing'}: no program of crates.txt")
     with tempfile.TemporaryDirectory(prefix="basket-") as tree:

@@ -27,9 +27,13 @@ def proved() -> tuple[int, int]:
 
 def tried() -> tuple[int, int]:
     """Runs the tests of the program likewise. A test that is skipped counts as neither."""
-    suite = unittest.defaultTestLoader.discover("tools/program_tests", top_level_dir="tools")
+    suite = unittest.defaultTestLoader.discover(
+        "tools/program_tests", top_level_dir="tools"
+    )
     ended = unittest.TextTestRunner(stream=sys.stdout, verbosity=2).run(suite)
-    failed = len({case.id().partition(" ")[0] for case, _ in ended.failures + ended.errors})
+    failed = len(
+        {case.id().partition(" ")[0] for case, _ in ended.failures + ended.errors}
+    )
     return ended.testsRun - failed - len(ended.skipped), failed
 
 

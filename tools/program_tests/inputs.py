@@ -10,10 +10,15 @@ def shop() -> Baskets:
     source = random.Random(1)
     baskets = []
     for _ in range(2_000):
-        basket = {int(200 * source.random() ** 1.5) + 1 for _ in range(4 + int(12 * source.random()))}
+        basket = {
+            int(200 * source.random() ** 1.5) + 1
+            for _ in range(4 + int(12 * source.random()))
+        }
         for _ in range(1 + int(2 * source.random())):
             family = int(25 * source.random() ** 1.3)
-            basket |= {8 * family + item + 1 for item in range(8) if source.random() < 0.7}
+            basket |= {
+                8 * family + item + 1 for item in range(8) if source.random() < 0.7
+            }
         baskets.append(sorted(basket))
     return baskets
 
@@ -22,13 +27,18 @@ def dense() -> Baskets:
     """1,000 baskets of 30 items, of which some twenty are in half of the baskets or more."""
     source = random.Random(2)
     shares = [0.9 - 0.025 * item for item in range(30)]
-    return [[item + 1 for item, share in enumerate(shares) if source.random() < share] for _ in range(1_000)]
+    return [
+        [item + 1 for item, share in enumerate(shares) if source.random() < share]
+        for _ in range(1_000)
+    ]
 
 
 def repeated() -> Baskets:
     """4,000 baskets over eight items, most of which are equal to others."""
     source = random.Random(3)
-    return [[item + 1 for item in range(8) if source.random() < 0.5] for _ in range(4_000)]
+    return [
+        [item + 1 for item in range(8) if source.random() < 0.5] for _ in range(4_000)
+    ]
 
 
 def fimi(baskets: Baskets) -> bytes:
@@ -41,4 +51,7 @@ def weighted(baskets: Baskets) -> bytes:
     weights: dict[tuple[int, ...], int] = {}
     for basket in baskets:
         weights[tuple(basket)] = weights.get(tuple(basket), 0) + 1
-    return "".join(f"{weight}x {' '.join(map(str, basket))}\n" for basket, weight in weights.items()).encode()
+    return "".join(
+        f"{weight}x {' '.join(map(str, basket))}\n"
+        for basket, weight in weights.items()
+    ).encode()

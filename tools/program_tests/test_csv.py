@@ -9,7 +9,20 @@ from collections import Counter
 
 from .program import run
 
-NAMES = ("bread", "semi, skim", 'say "hi"', "two\nlines", "a;b", "tab\there", "x|y", "é", "€uro", "𝄞 clef", "green  tea", "'single'")
+NAMES = (
+    "bread",
+    "semi, skim",
+    'say "hi"',
+    "two\nlines",
+    "a;b",
+    "tab\there",
+    "x|y",
+    "é",
+    "€uro",
+    "𝄞 clef",
+    "green  tea",
+    "'single'",
+)
 SEPARATORS = {"comma": ",", "semicolon": ";", "tab": "\t", "pipe": "|"}
 MOST_ITEMS = 6
 LEAST = 40
@@ -35,12 +48,16 @@ def written(form: str, baskets: list[list[str]], separator: str) -> bytes:
     text = io.StringIO()
     writer = csv.writer(text, delimiter=separator, lineterminator="\n")
     for number, basket in enumerate(baskets):
-        writer.writerows([basket] if form == "baskets" else [[number, name] for name in basket])
+        writer.writerows(
+            [basket] if form == "baskets" else [[number, name] for name in basket]
+        )
     return text.getvalue().encode()
 
 
 def records(report: bytes, separator: str) -> list[list[str]]:
-    return list(csv.reader(io.StringIO(report.decode(), newline=""), delimiter=separator))
+    return list(
+        csv.reader(io.StringIO(report.decode(), newline=""), delimiter=separator)
+    )
 
 
 class ReadBack(unittest.TestCase):
@@ -55,10 +72,24 @@ class ReadBack(unittest.TestCase):
                 words = ["sets", "--form", form, "--sep", word, "--min", str(LEAST)]
                 report = run(words, written(form, baskets, separator)).out
                 rows = records(report, separator)
-                self.assertEqual({tuple(sorted(row[1:])): int(row[0]) for row in rows}, wanted)
+                self.assertEqual(
+                    {tuple(sorted(row[1:])): int(row[0]) for row in rows}, wanted
+                )
                 self.assertEqual(len(rows), len(wanted))
-                words = ["items", "--form", "baskets", "--weight", "--sep", word, "--min", "1"]
-                back = {row[1]: int(row[0]) for row in records(run(words, report).out, separator)}
+                words = [
+                    "items",
+                    "--form",
+                    "baskets",
+                    "--weight",
+                    "--sep",
+                    word,
+                    "--min",
+                    "1",
+                ]
+                back = {
+                    row[1]: int(row[0])
+                    for row in records(run(words, report).out, separator)
+                }
                 sums: Counter[str] = Counter()
                 for names, count in wanted.items():
                     sums.update(dict.fromkeys(names, count))

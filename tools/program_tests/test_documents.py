@@ -11,7 +11,11 @@ from .program import PROGRAM, ROOT, run
 
 COMMANDS = ("items", "sets", "closed", "maximal", "rules")
 DOCUMENTS = ("README.md", "man/basket.1")
-COMPLETIONS = ("completions/basket.bash", "completions/_basket", "completions/basket.fish")
+COMPLETIONS = (
+    "completions/basket.bash",
+    "completions/_basket",
+    "completions/basket.fish",
+)
 
 
 def text_of(name: str) -> str:
@@ -65,15 +69,29 @@ class Documents(unittest.TestCase):
                 self.assertTrue(rows, f"{name} shows no command")
                 for command, lines in rows:
                     with self.subTest(name=name, command=command):
-                        words = ["bash", "-c", f"PATH={shlex.quote(folder)}:$PATH; {command}"]
-                        ended = subprocess.run(words, cwd=ROOT, capture_output=True, check=False)
-                        self.assertEqual((ended.stdout.decode(), ended.returncode), (lines, 0))
+                        words = [
+                            "bash",
+                            "-c",
+                            f"PATH={shlex.quote(folder)}:$PATH; {command}",
+                        ]
+                        ended = subprocess.run(
+                            words, cwd=ROOT, capture_output=True, check=False
+                        )
+                        self.assertEqual(
+                            (ended.stdout.decode(), ended.returncode), (lines, 0)
+                        )
 
     def test_the_theorem_that_readme_quotes_stands_in_the_source(self) -> None:
-        theorem = text_of("README.md").partition("## The theorem\n")[2].partition("\n## ")[0]
-        quoted = [line.strip() for line in theorem.splitlines() if line.startswith("    ")]
+        theorem = (
+            text_of("README.md").partition("## The theorem\n")[2].partition("\n## ")[0]
+        )
+        quoted = [
+            line.strip() for line in theorem.splitlines() if line.startswith("    ")
+        ]
         self.assertGreater(len(quoted), 10)
-        source = text_of("crates/basket/src/engine.rt") + text_of("crates/basket/specs/Outcome.antt")
+        source = text_of("crates/basket/src/engine.rt") + text_of(
+            "crates/basket/specs/Outcome.antt"
+        )
         stated = {line.strip() for line in source.splitlines()}
         self.assertEqual([line for line in quoted if line and line not in stated], [])
 
@@ -98,7 +116,11 @@ class Documents(unittest.TestCase):
                         self.assertRegex(text, rf"(?<![\w-]){word}(?![\w-])")
 
     def test_completion_for_bash_offers_commands_options_and_values(self) -> None:
-        rows = (("basket it", "items"), ("basket rules --co", "--conf"), ("basket sets --miner f", "fpgrowth"))
+        rows = (
+            ("basket it", "items"),
+            ("basket rules --co", "--conf"),
+            ("basket sets --miner f", "fpgrowth"),
+        )
         for line, wanted in rows:
             words = line.split()
             script = (
@@ -106,14 +128,18 @@ class Documents(unittest.TestCase):
                 f"COMP_CWORD={len(words) - 1}; _basket; echo ${{COMPREPLY[*]}}"
             )
             with self.subTest(line=line):
-                said = subprocess.run(["bash", "-c", script], capture_output=True, check=True).stdout
+                said = subprocess.run(
+                    ["bash", "-c", script], capture_output=True, check=True
+                ).stdout
                 self.assertEqual(said.decode().strip(), wanted)
 
     def test_the_version_is_the_same_everywhere(self) -> None:
         version = run(["--version"]).out.decode().removeprefix("basket ").strip()
         self.assertRegex(version, r"^\d+\.\d+\.\d+$")
         self.assertIn(f'"basket {version}"', text_of("man/basket.1"))
-        self.assertRegex(text_of("CHANGELOG.md"), rf"\A# [^\n]*\n+## {re.escape(version)}\b")
+        self.assertRegex(
+            text_of("CHANGELOG.md"), rf"\A# [^\n]*\n+## {re.escape(version)}\b"
+        )
 
     def test_the_manual_page_is_laid_out_without_a_warning(self) -> None:
         words = ["groff", "-man", "-Tutf8", "-ww", "-z", str(ROOT / "man/basket.1")]

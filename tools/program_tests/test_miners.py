@@ -19,21 +19,76 @@ INPUTS = {"shop": inputs.shop, "dense": inputs.dense, "repeated": inputs.repeate
 
 # Input, minimum, number of lines and sum of `sets`.
 SETS = (
-    ("shop", "16", 12054, "dde9eef7ce45752a3193f1796686bc3bc8274ef90fbdbbaed5f5e44d531ecea5"),
-    ("shop", "8%", 110, "b5adc412122e39509ad04a52c4a17531ad71f0afb506d5598fda5cfa8e3f15c0"),
-    ("dense", "10%", 41157, "2a8efd3499cebd9091e8d77ba376dff31c941d8e757c6d23f6e81253f7c146a2"),
-    ("repeated", "1000", 25, "1551e0d5012b57dac40253f992cbb91dff25735d71fcb942f34ba99413c2f40a"),
-    ("repeated", "1", 255, "4a92e3dcc5ab59bc9a1334ecb5e6fcb9d723878cdf940f15f4a1e5c77d53412a"),
+    (
+        "shop",
+        "16",
+        12054,
+        "dde9eef7ce45752a3193f1796686bc3bc8274ef90fbdbbaed5f5e44d531ecea5",
+    ),
+    (
+        "shop",
+        "8%",
+        110,
+        "b5adc412122e39509ad04a52c4a17531ad71f0afb506d5598fda5cfa8e3f15c0",
+    ),
+    (
+        "dense",
+        "10%",
+        41157,
+        "2a8efd3499cebd9091e8d77ba376dff31c941d8e757c6d23f6e81253f7c146a2",
+    ),
+    (
+        "repeated",
+        "1000",
+        25,
+        "1551e0d5012b57dac40253f992cbb91dff25735d71fcb942f34ba99413c2f40a",
+    ),
+    (
+        "repeated",
+        "1",
+        255,
+        "4a92e3dcc5ab59bc9a1334ecb5e6fcb9d723878cdf940f15f4a1e5c77d53412a",
+    ),
 )
 
 # Input and words, number of lines and sum.
 ANSWERS = (
-    ("dense", "closed --min 10%", 41157, "2a8efd3499cebd9091e8d77ba376dff31c941d8e757c6d23f6e81253f7c146a2"),
-    ("dense", "maximal --min 10%", 10660, "a5216a0f9e59e4399215835ff67fe5e66519e756be985af72ad3fcbe27cfac53"),
-    ("dense", "rules --min 10% --conf 9/10", 15275, "ddd13487cc7600ddf44ed51a9699e75ca52fa6405d2a71ccad8b3ac5c4ebc286"),
-    ("shop", "closed --min 16", 12044, "76f1b1a904c1261055703c258230158e8bbdc8c10f4d3fb0c33fa4d6dd25f33c"),
-    ("shop", "maximal --min 16", 6061, "a3485a2849f16b01f90ac3ebcc3ba19534dcd0a0255d38e41f7eed904e019c44"),
-    ("shop", "rules --min 16 --conf 9/10", 208, "cf6d8d114a3b2ecf9d1b82288478dc174a3f859bfa6a3cd2c935055dd377ec85"),
+    (
+        "dense",
+        "closed --min 10%",
+        41157,
+        "2a8efd3499cebd9091e8d77ba376dff31c941d8e757c6d23f6e81253f7c146a2",
+    ),
+    (
+        "dense",
+        "maximal --min 10%",
+        10660,
+        "a5216a0f9e59e4399215835ff67fe5e66519e756be985af72ad3fcbe27cfac53",
+    ),
+    (
+        "dense",
+        "rules --min 10% --conf 9/10",
+        15275,
+        "ddd13487cc7600ddf44ed51a9699e75ca52fa6405d2a71ccad8b3ac5c4ebc286",
+    ),
+    (
+        "shop",
+        "closed --min 16",
+        12044,
+        "76f1b1a904c1261055703c258230158e8bbdc8c10f4d3fb0c33fa4d6dd25f33c",
+    ),
+    (
+        "shop",
+        "maximal --min 16",
+        6061,
+        "a3485a2849f16b01f90ac3ebcc3ba19534dcd0a0255d38e41f7eed904e019c44",
+    ),
+    (
+        "shop",
+        "rules --min 16 --conf 9/10",
+        208,
+        "cf6d8d114a3b2ecf9d1b82288478dc174a3f859bfa6a3cd2c935055dd377ec85",
+    ),
 )
 
 
@@ -46,13 +101,29 @@ def summed(ended: Run) -> tuple[int, str, str, int]:
 class Miners(unittest.TestCase):
     """Reports beside those of other programs."""
 
-    def test_each_miner_by_one_and_by_four_workers_writes_what_another_program_writes(self) -> None:
+    def test_each_miner_by_one_and_by_four_workers_writes_what_another_program_writes(
+        self,
+    ) -> None:
         # 512 pieces are more than the frequent items, so that Eclat cuts classes into parts.
-        for (name, minimum, lines, digest), miner, (workers, pieces) in itertools.product(
-            SETS, MINERS, (("1", "16"), ("4", "16"), ("4", "512"))
-        ):
-            with self.subTest(input=name, minimum=minimum, miner=miner, workers=workers, pieces=pieces):
-                words = ["sets", "--min", minimum, "--miner", miner, "--workers", workers, "--pieces", pieces]
+        for (
+            (name, minimum, lines, digest),
+            miner,
+            (workers, pieces),
+        ) in itertools.product(SETS, MINERS, (("1", "16"), ("4", "16"), ("4", "512"))):
+            with self.subTest(
+                input=name, minimum=minimum, miner=miner, workers=workers, pieces=pieces
+            ):
+                words = [
+                    "sets",
+                    "--min",
+                    minimum,
+                    "--miner",
+                    miner,
+                    "--workers",
+                    workers,
+                    "--pieces",
+                    pieces,
+                ]
                 ended = run(words, inputs.fimi(INPUTS[name]()))
                 self.assertEqual(summed(ended), (lines, digest, "", 0))
 
@@ -63,32 +134,66 @@ class Miners(unittest.TestCase):
                 ended = run(words, inputs.weighted(INPUTS[name]()))
                 self.assertEqual(summed(ended), (lines, digest, "", 0))
 
-    def test_closed_and_maximal_sets_and_rules_are_those_of_another_program(self) -> None:
+    def test_closed_and_maximal_sets_and_rules_are_those_of_another_program(
+        self,
+    ) -> None:
         for name, words, lines, digest in ANSWERS:
             with self.subTest(input=name, words=words):
-                ended = run([*words.split(), "--miner", "eclat-bits"], inputs.fimi(INPUTS[name]()))
+                ended = run(
+                    [*words.split(), "--miner", "eclat-bits"],
+                    inputs.fimi(INPUTS[name]()),
+                )
                 self.assertEqual(summed(ended), (lines, digest, "", 0))
 
     def test_a_limit_is_passed_exactly_also_in_the_midst_of_a_piece(self) -> None:
         # Four times 1,023 sets and three more, of which none alone has more subsets than a limit.
         lines = [range(10 * ten, 10 * ten + 10) for ten in range(4)]
-        given = "".join(f"2x {' '.join(map(str, line))}\n" for line in (*lines, [40], [41], [42])).encode()
-        for miner, pieces, limit in itertools.product(MINERS, ("1", "2"), (1_100, 2_048, 4_094, 4_095)):
+        given = "".join(
+            f"2x {' '.join(map(str, line))}\n" for line in (*lines, [40], [41], [42])
+        ).encode()
+        for miner, pieces, limit in itertools.product(
+            MINERS, ("1", "2"), (1_100, 2_048, 4_094, 4_095)
+        ):
             with self.subTest(miner=miner, pieces=pieces, limit=limit):
-                words = ["sets", "--min", "2", "--miner", miner, "--workers", "2", "--pieces", pieces]
+                words = [
+                    "sets",
+                    "--min",
+                    "2",
+                    "--miner",
+                    miner,
+                    "--workers",
+                    "2",
+                    "--pieces",
+                    pieces,
+                ]
                 ended = run([*words, "--limit", str(limit)], given)
                 if limit < 4_095:
                     said = f"basket: more than {limit} frequent itemsets\n"
-                    self.assertEqual((ended.out, ended.said, ended.status), (b"", said, 5))
+                    self.assertEqual(
+                        (ended.out, ended.said, ended.status), (b"", said, 5)
+                    )
                 else:
-                    self.assertEqual((ended.out.count(b"\n"), ended.said, ended.status), (4_095, "", 0))
+                    self.assertEqual(
+                        (ended.out.count(b"\n"), ended.said, ended.status),
+                        (4_095, "", 0),
+                    )
 
     def test_a_limit_stops_classes_that_no_memory_holds(self) -> None:
         # That they are too many isn't known before they are mined: the most frequent item is in no larger set.
         given = f"3x 0\n2x {' '.join(map(str, range(1, 41)))}\n".encode()
         for miner, workers in itertools.product(MINERS, ("1", "2")):
             with self.subTest(miner=miner, workers=workers):
-                words = ["sets", "--min", "2", "--miner", miner, "--workers", workers, "--limit", "1100"]
+                words = [
+                    "sets",
+                    "--min",
+                    "2",
+                    "--miner",
+                    miner,
+                    "--workers",
+                    workers,
+                    "--limit",
+                    "1100",
+                ]
                 ended = run(words, given)
                 self.assertEqual((ended.out, ended.status), (b"", 5))
 
@@ -96,7 +201,9 @@ class Miners(unittest.TestCase):
         given = f"{' '.join(map(str, range(70_000)))}\n".encode()
         for miner in MINERS:
             with self.subTest(miner=miner):
-                ended = run(["sets", "--min", "1", "--miner", miner, "--limit", "1000"], given)
+                ended = run(
+                    ["sets", "--min", "1", "--miner", miner, "--limit", "1000"], given
+                )
                 self.assertEqual((ended.out, ended.status), (b"", 5))
 
 
@@ -105,22 +212,36 @@ class Counts(unittest.TestCase):
 
     def test_items_with_great_numbers_are_counted_as_python_counts_them(self) -> None:
         # The greatest come first, so that the first baskets wait for a table that has room for them.
-        baskets = [[place % 7, 90_000 - place % 60_000, 4_294_967_295 - place % 3] for place in range(60_000)]
+        baskets = [
+            [place % 7, 90_000 - place % 60_000, 4_294_967_295 - place % 3]
+            for place in range(60_000)
+        ]
         counts = Counter(item for basket in baskets for item in basket)
         wanted = "".join(f"{item} ({counts[item]})\n" for item in sorted(counts))
         ended = run(["items", "--min", "1", "--workers", "2"], inputs.fimi(baskets))
-        self.assertEqual((ended.out.decode(), ended.said, ended.status), (wanted, "", 0))
+        self.assertEqual(
+            (ended.out.decode(), ended.said, ended.status), (wanted, "", 0)
+        )
 
     def test_items_of_long_names_are_counted_as_python_counts_them(self) -> None:
-        names = [f"the article of number {place * 7 % 20_000}" for place in range(60_000)]
+        names = [
+            f"the article of number {place * 7 % 20_000}" for place in range(60_000)
+        ]
         counts = Counter(names)
         wanted = "".join(f"{count},{name}\n" for name, count in counts.items())
-        ended = run(["items", "--form", "baskets", "--min", "1"], "".join(f"{name}\n" for name in names).encode())
-        self.assertEqual((ended.out.decode(), ended.said, ended.status), (wanted, "", 0))
+        ended = run(
+            ["items", "--form", "baskets", "--min", "1"],
+            "".join(f"{name}\n" for name in names).encode(),
+        )
+        self.assertEqual(
+            (ended.out.decode(), ended.said, ended.status), (wanted, "", 0)
+        )
 
     def test_fractions_of_great_counts_are_in_lowest_terms(self) -> None:
         heavy, light, other = 4_294_967_291, 4_294_967_279, 4_294_967_231
-        lines = [f"{heavy}x 1 2\n"] * 60 + [f"{light}x 1\n"] * 50 + [f"{other}x 2\n"] * 40
+        lines = (
+            [f"{heavy}x 1 2\n"] * 60 + [f"{light}x 1\n"] * 50 + [f"{other}x 2\n"] * 40
+        )
         both, left, right = heavy * 60, heavy * 60 + light * 50, heavy * 60 + other * 40
         total = heavy * 60 + light * 50 + other * 40
         rules = ((2, 1, Fraction(both, right)), (1, 2, Fraction(both, left)))
@@ -131,4 +252,6 @@ class Counts(unittest.TestCase):
             for antecedent, consequent, share in rules
         )
         ended = run(["rules", "--min", "1", "--conf", "1/10"], "".join(lines).encode())
-        self.assertEqual((ended.out.decode(), ended.said, ended.status), (wanted, "", 0))
+        self.assertEqual(
+            (ended.out.decode(), ended.said, ended.status), (wanted, "", 0)
+        )

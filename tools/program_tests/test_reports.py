@@ -40,7 +40,11 @@ FIMI = (
     ("items --min 1", b"9x \n1\n", "1 (1)|"),
     ("items --min 1", b"0" * 1_000_000 + b"1\n", "1 (1)|"),
     ("items --min 1", b"4294967295x 1\n" * 256 + b"255x 1\n", "1 (1099511627775)|"),
-    ("items --min 1", b"1 2\n2x 2 3\n4294967295 1\n1 2\n", "1 (3)|2 (4)|3 (2)|4294967295 (1)|"),
+    (
+        "items --min 1",
+        b"1 2\n2x 2 3\n4294967295 1\n1 2\n",
+        "1 (3)|2 (4)|3 (2)|4294967295 (1)|",
+    ),
     ("sets --min 2", WEIGHTED, SETS),
     ("sets --min 22%", NINE_BASKETS, SETS),
     ("sets --min 2/9", NINE_BASKETS, SETS),
@@ -63,13 +67,21 @@ FIMI = (
     ("rules --min 1 --conf 0/1", b"1\n", ""),
     ("rules --min 1 --conf 0%", b"1 2\n1\n", "2 => 1 (1) 1/1 1/1|1 => 2 (1) 1/2 1/1|"),
     ("rules --min 1 --conf 1/1", b"1 2\n1\n", "2 => 1 (1) 1/1 1/1|"),
-    ("rules --min 1 --conf 3/4", b"3x 1 2\n1\n", "2 => 1 (3) 1/1 1/1|1 => 2 (3) 3/4 1/1|"),
+    (
+        "rules --min 1 --conf 3/4",
+        b"3x 1 2\n1\n",
+        "2 => 1 (3) 1/1 1/1|1 => 2 (3) 3/4 1/1|",
+    ),
 )
 
 # The same with a bar behind each record, and no line feed or bar within one.
 CSV = (
     ("items --form baskets --min 2", SEMI_SKIM, '2,"semi, skim"|2,bread|'),
-    ("sets --form baskets --min 2", SEMI_SKIM, '2,"semi, skim"|2,bread|2,"semi, skim",bread|'),
+    (
+        "sets --form baskets --min 2",
+        SEMI_SKIM,
+        '2,"semi, skim"|2,bread|2,"semi, skim",bread|',
+    ),
     ("closed --form baskets --min 2", SEMI_SKIM, '2,"semi, skim",bread|'),
     (
         "rules --form baskets --min 2 --conf 1/1",
@@ -107,9 +119,19 @@ REFUSED = (
     ("items --min 1", b"1\x00", 3, "line 1: byte 0x00 is no digit or blank"),
     ("items --min 1", b"0x 1\n", 3, "line 1: byte 0x78 is no digit or blank"),
     ("items --min 1", b"1 3x\n", 3, "line 1: byte 0x78 is no digit or blank"),
-    ("items --min 1", b"4294967295x 1\n" * 256 + b"256x 1\n", 3, "total weight above 1099511627775"),
+    (
+        "items --min 1",
+        b"4294967295x 1\n" * 256 + b"256x 1\n",
+        3,
+        "total weight above 1099511627775",
+    ),
     ("items --form baskets --min 1", b"a\n\xff\n", 3, "record 2: field is not UTF-8"),
-    ("sets --form single --min 1", RECEIPTS + b"a\n", 3, "record 4: fewer than two fields"),
+    (
+        "sets --form single --min 1",
+        RECEIPTS + b"a\n",
+        3,
+        "record 4: fewer than two fields",
+    ),
     ("sets --form baskets --weight --min 2", b"0,bread\n", 3, "record 1: bad weight"),
     (
         "sets --form baskets --weight --min 2",
@@ -120,7 +142,12 @@ REFUSED = (
     ("sets --min 2 --limit 12", NINE_BASKETS, 5, "more than 12 frequent itemsets"),
     ("closed --min 2 --limit 12", NINE_BASKETS, 5, "more than 12 frequent itemsets"),
     ("maximal --min 2 --limit 12", NINE_BASKETS, 5, "more than 12 frequent itemsets"),
-    ("rules --min 2 --conf 1/1 --limit 12", NINE_BASKETS, 5, "more than 12 frequent itemsets"),
+    (
+        "rules --min 2 --conf 1/1 --limit 12",
+        NINE_BASKETS,
+        5,
+        "more than 12 frequent itemsets",
+    ),
     (
         "sets --min 1",
         f"{' '.join(map(str, range(33)))}\n".encode(),
@@ -140,17 +167,47 @@ SHARED = (
 )
 
 # Words that make no plan, and a part of what is told.
-MISTAKES = (
-    *((["sets", "--min", text], "basket: bad value for --min\n") for text in (
-        "0", "3/2", "101%", "1/0", "", "1099511627776", "1/4294967296", "+1", " 1", "1.5",
-    )),
-    *((["rules", "--min", "2", "--conf", text], "basket: bad value for --conf\n") for text in (
-        "7/6", "1", "0/0", "", "2/3 ", "x", "101%",
-    )),
+MISTAKES: tuple[tuple[list[str], str], ...] = (
+    *(
+        (["sets", "--min", text], "basket: bad value for --min\n")
+        for text in (
+            "0",
+            "3/2",
+            "101%",
+            "1/0",
+            "",
+            "1099511627776",
+            "1/4294967296",
+            "+1",
+            " 1",
+            "1.5",
+        )
+    ),
+    *(
+        (["rules", "--min", "2", "--conf", text], "basket: bad value for --conf\n")
+        for text in (
+            "7/6",
+            "1",
+            "0/0",
+            "",
+            "2/3 ",
+            "x",
+            "101%",
+        )
+    ),
     (["rules", "--conf", "7/6", "--min", "0"], "basket: bad value for --min\n"),
-    (["sets", "--min", "0", "--form", "csv"], "bad value for --form (fimi, baskets, single)\n"),
-    (["sets", "--min", "1", "--sep", ","], "bad value for --sep (comma, semicolon, tab, pipe)\n"),
-    (["sets", "--min", "1", "--miner", "fp"], "bad value for --miner (apriori, eclat, "),
+    (
+        ["sets", "--min", "0", "--form", "csv"],
+        "bad value for --form (fimi, baskets, single)\n",
+    ),
+    (
+        ["sets", "--min", "1", "--sep", ","],
+        "bad value for --sep (comma, semicolon, tab, pipe)\n",
+    ),
+    (
+        ["sets", "--min", "1", "--miner", "fp"],
+        "bad value for --miner (apriori, eclat, ",
+    ),
     (["rules", "--min", "2"], "--conf <C>"),
     (["sets", "--conf", "1/2"], "'--conf'"),
     ([], "Usage: basket <COMMAND>\n"),
@@ -188,7 +245,9 @@ class Reports(unittest.TestCase):
                 report = ended.out.decode().replace("\n", "|")
                 self.assertEqual((report, ended.said, ended.status), (wanted, "", 0))
 
-    def test_names_with_a_bar_or_a_line_feed_are_quoted_where_they_need_it(self) -> None:
+    def test_names_with_a_bar_or_a_line_feed_are_quoted_where_they_need_it(
+        self,
+    ) -> None:
         rows = (
             (b'a|"b|c"\n', b'1|a\n1|"b|c"\n'),
             (b'"two\nlines"\n', b'1|"two\nlines"\n'),
@@ -198,7 +257,9 @@ class Reports(unittest.TestCase):
                 ended = run("items --form baskets --sep pipe --min 1".split(), given)
                 self.assertEqual((ended.out, ended.said, ended.status), (wanted, "", 0))
 
-    def test_the_report_is_the_same_by_each_miner_and_any_number_of_workers(self) -> None:
+    def test_the_report_is_the_same_by_each_miner_and_any_number_of_workers(
+        self,
+    ) -> None:
         miners = ("apriori", "eclat", "eclat-diff", "eclat-bits", "fpgrowth")
         for (words, status, wanted), miner, workers, pieces in itertools.product(
             SHARED, miners, ("1", "2", "7"), ("1", "2", "16")
@@ -214,7 +275,9 @@ class Reports(unittest.TestCase):
             with self.subTest(words=words, given=given[:80]):
                 ended = run(words.split(), given)
                 said = f"basket: {told}\n"
-                self.assertEqual((ended.out, ended.said, ended.status), (b"", said, status))
+                self.assertEqual(
+                    (ended.out, ended.said, ended.status), (b"", said, status)
+                )
 
     def test_words_that_make_no_plan_are_told(self) -> None:
         for words, part in MISTAKES:
@@ -227,9 +290,20 @@ class Reports(unittest.TestCase):
         self.assertTrue(run(["sets", "--help"]).out.decode().startswith(HELP_OF_SETS))
         for command in ("items", "sets", "closed", "maximal", "rules"):
             with self.subTest(command=command):
-                example = run([command, "--help"]).out.decode().partition("Example")[2].splitlines()
+                example = (
+                    run([command, "--help"])
+                    .out.decode()
+                    .partition("Example")[2]
+                    .splitlines()
+                )
                 words = example[1].partition("| basket ")[2].split()
                 given = example[1].partition("printf '")[2].partition("'")[0]
-                report = run(words, given.replace("\\n", "\n").encode()).out.decode().splitlines()
-                self.assertEqual([f"  {line}" for line in report], example[2 : 2 + len(report)])
+                report = (
+                    run(words, given.replace("\\n", "\n").encode())
+                    .out.decode()
+                    .splitlines()
+                )
+                self.assertEqual(
+                    [f"  {line}" for line in report], example[2 : 2 + len(report)]
+                )
                 self.assertTrue(report)

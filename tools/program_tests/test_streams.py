@@ -21,7 +21,9 @@ class Statuses(unittest.TestCase):
 
     def test_a_report_goes_to_standard_output_and_ends_with_0(self) -> None:
         ended = run(SETS, b"1 2\n")
-        self.assertEqual((ended.out, ended.said, ended.status), (b"1 (1)\n2 (1)\n1 2 (1)\n", "", 0))
+        self.assertEqual(
+            (ended.out, ended.said, ended.status), (b"1 (1)\n2 (1)\n1 2 (1)\n", "", 0)
+        )
 
     def test_help_and_the_version_go_to_standard_output_and_end_with_0(self) -> None:
         for words in (["--help"], ["sets", "--help"], ["-h"], ["--version"], ["-V"]):
@@ -30,16 +32,24 @@ class Statuses(unittest.TestCase):
                 self.assertTrue(ended.out)
                 self.assertEqual((ended.said, ended.status), ("", 0))
 
-    def test_a_mistake_in_the_words_is_told_on_standard_error_and_ends_with_2(self) -> None:
-        rows = (
+    def test_a_mistake_in_the_words_is_told_on_standard_error_and_ends_with_2(
+        self,
+    ) -> None:
+        rows: tuple[tuple[list[str | bytes], str], ...] = (
             ([], "Usage: basket"),
             (["things"], "'things'"),
             (["sets"], "--min"),
             (["sets", "--min", "0"], "basket: bad value for --min\n"),
             (["rules", "--min", "1", "--conf", "2"], "basket: bad value for --conf\n"),
-            (["sets", "--min", "1", "--miner", "fp"], "basket: bad value for --miner (apriori, "),
+            (
+                ["sets", "--min", "1", "--miner", "fp"],
+                "basket: bad value for --miner (apriori, ",
+            ),
             (["sets", "--min", "1", "--workers", "65"], "'65'"),
-            (["sets", "--min", b"\xff"], "basket: the command line is not UTF-8 text\n"),
+            (
+                ["sets", "--min", b"\xff"],
+                "basket: the command line is not UTF-8 text\n",
+            ),
         )
         for words, text in rows:
             with self.subTest(words=words):
@@ -55,7 +65,9 @@ class Statuses(unittest.TestCase):
     def test_an_input_that_cannot_be_read_ends_with_4(self) -> None:
         with tempfile.TemporaryDirectory() as folder:
             ended = run_between(SETS, folder, os.devnull)
-        self.assertEqual((ended.said, ended.status), ("basket: cannot read the input\n", 4))
+        self.assertEqual(
+            (ended.said, ended.status), ("basket: cannot read the input\n", 4)
+        )
 
     def test_an_output_that_takes_nothing_ends_with_4(self) -> None:
         with tempfile.NamedTemporaryFile() as baskets:
