@@ -21,9 +21,9 @@ INPUTS = {"shop": inputs.shop, "dense": inputs.dense, "repeated": inputs.repeate
 SETS = (
     (
         "shop",
-        "16",
-        12054,
-        "dde9eef7ce45752a3193f1796686bc3bc8274ef90fbdbbaed5f5e44d531ecea5",
+        "12",
+        22072,
+        "8de5180b3511ef6446119dbf541094c5a79ebf591d2f193f2db42465f2dedc50",
     ),
     (
         "shop",
@@ -211,17 +211,22 @@ class Counts(unittest.TestCase):
     """Counts and fractions beside those of Python."""
 
     def test_items_with_great_numbers_are_counted_as_python_counts_them(self) -> None:
-        # The greatest come first, so that the first baskets wait for a table that has room for them.
-        baskets = [
-            [place % 7, 90_000 - place % 60_000, 4_294_967_295 - place % 3]
-            for place in range(60_000)
-        ]
-        counts = Counter(item for basket in baskets for item in basket)
-        wanted = "".join(f"{item} ({counts[item]})\n" for item in sorted(counts))
-        ended = run(["items", "--min", "1", "--workers", "2"], inputs.fimi(baskets))
-        self.assertEqual(
-            (ended.out.decode(), ended.said, ended.status), (wanted, "", 0)
-        )
+        # The greatest come first, so that the first baskets wait for a table with room for them,
+        # and with numbers that no table has room for all of them do.
+        for greatest in (90_000, 4_294_967_295):
+            baskets = [
+                [place % 7, greatest - 60_000 + place % 60_000 // 2, greatest]
+                for place in range(60_000, 0, -1)
+            ]
+            counts = Counter(item for basket in baskets for item in basket)
+            wanted = "".join(f"{item} ({counts[item]})\n" for item in sorted(counts))
+            with self.subTest(greatest=greatest):
+                ended = run(
+                    ["items", "--min", "1", "--workers", "2"], inputs.fimi(baskets)
+                )
+                self.assertEqual(
+                    (ended.out.decode(), ended.said, ended.status), (wanted, "", 0)
+                )
 
     def test_items_of_long_names_are_counted_as_python_counts_them(self) -> None:
         names = [
