@@ -1,5 +1,6 @@
 ghost use Rattle.std.specs.Prelude.{nat_lt};
 
+mod bits;
 mod codes;
 mod conditional;
 mod databases;
@@ -9,8 +10,6 @@ mod fraction;
 mod growth;
 mod itemset;
 mod levels;
-mod rounds;
-mod rows;
 mod rules;
 mod seats;
 mod shard;

@@ -1,9 +1,0 @@
-use Rattle.std.proofs.Common.{◌≡◌, length, slice_index}
-use Rattle.basket_checks.proofs.tests.rounds.add_often.Given as goal
-
-abbrev pub invariant-loop : goal.invariant-loop
-invariant-loop l = record {
-  own : l.seat.round ≡ l.initial.seat.round;
-  one : length l.seat.held.added ≡ 1;
-  added : slice_index l.seat.held.added 0 ≡ l.counter;
-}
