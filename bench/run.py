@@ -21,7 +21,7 @@ from typing import NamedTuple
 HERE = pathlib.Path(__file__).resolve().parent
 
 # How often each command of a row runs, one after another in each turn.
-RUNS = 5
+RUNS = 3
 
 MINERS = ["apriori", "eclat", "eclat-diff", "eclat-bits", "fpgrowth"]
 
