@@ -1,4 +1,4 @@
-.PHONY: all demo test install uninstall package bench
+.PHONY: all demo test test-python install uninstall package wheel bench pictures
 
 PREFIX ?= $(HOME)/.local
 PROGRAM := crates/basket_cli/out/basket_cli
@@ -17,9 +17,14 @@ $(PROGRAM): $(SOURCES)
 demo:
 	tools/demo.py
 
-# The gate: proves every crate and its tests from nothing, tries the must-fail edits, and tests the program.
+# The gate: proves every crate and its tests from nothing, tries the must-fail edits, and tests the program
+# and the Python package.
 test:
 	tools/test.py
+
+# The tests of the Python package alone, over the program that is built or that BASKET names.
+test-python: $(if $(BASKET),,$(PROGRAM))
+	tools/test.py --python
 
 # Puts the program, its manual page and its completions below PREFIX.
 install: $(PROGRAM)
@@ -36,6 +41,15 @@ uninstall:
 # A Debian package and a tar file of the proved program, under dist/.
 package: $(PROGRAM)
 	tools/package.py
+
+# The Python package with the proved program in it, under dist/.
+wheel: $(PROGRAM)
+	tools/wheel.py
+
+# The pictures of docs/GUIDE.md and README, from examples/.
+pictures: $(if $(BASKET),,$(PROGRAM))
+	tools/python-packages
+	/usr/bin/python3 tools/pictures.py
 
 # Times the program, and its stages, and writes bench/RESULTS.md.
 $(STAGES): $(SOURCES)

@@ -59,6 +59,9 @@ SHARED = [
     (DENSE, "sets --min 5% --miner eclat-bits"),
 ]
 
+# Of which sets `count` has to write the supports: those that are frequent at a minimum.
+GIVEN = [(SPARSE, "1/1000"), (SPARSE, "1/10000"), (DENSE, "10%")]
+
 STAGES = [(SPARSE, "1/200"), (SPARSE, "1/1000")]
 
 # The shell ends at once and leaves the program to this process. A process has at least
@@ -168,6 +171,32 @@ class Bench:
         head = ["Baskets", "Command", "One", "Four", "Ratio", "MB of one", "MB of four"]
         return ["", "## One worker and four, by the clock", "", *table(head, rows)]
 
+    def given(self) -> list[str]:
+        """`count` of sets, beside the search for them, and questions to its counts."""
+        rows = []
+        for says, least in GIVEN:
+            print(says, f"count at {least}", sep=": ", file=sys.stderr)
+            data = self.data[says]
+            sets, counts = f"{data}.sets", f"{data}.counts"
+            search = [self.program, "sets", "--min", least]
+            count = [self.program, "count", "--sets", sets]
+            measured([*search, "--miner", "fpgrowth"], data, sets)
+            measured(count, data, counts)
+            _, (found,) = in_turn([[*search, "--miner", "apriori"]], data)
+            lines, (one, four) = in_turn([count, [*count, "--workers", "4"]], data)
+            _, (asked,) = in_turn([[*search, "--form", "counts"]], counts)
+            _, (closed,) = in_turn(
+                [[self.program, "closed", *search[2:], "--form", "counts"]], counts
+            )
+            runs = [found, one, asked, closed]
+            cells = [f"{run.seconds:.3f}" for run in runs]
+            cells += [f"{one.memory:.0f}", f"{four.clock:.3f}"]
+            rows.append([says, least, f"{lines:,}", *cells])
+        head = ["Baskets", "Minimum", "Lines of `count`", "`sets` by Apriori"]
+        head += ["`count`", "`sets` of its counts", "`closed` of its counts"]
+        head += ["MB of `count`", "`count` by four, by the clock"]
+        return ["", "## Given sets", "", *table(head, rows)]
+
     def stages(self, program: str) -> list[str]:
         text = ["", "## Stages of `sets`"]
         for says, least in STAGES:
@@ -195,7 +224,7 @@ def main() -> None:
     commit = output("git", "-C", str(HERE), "describe", "--always", "--dirty")
     with tempfile.TemporaryDirectory() as folder:
         bench = Bench(given.program, given.beside, folder)
-        text = [*bench.tables(), *bench.shared()]
+        text = [*bench.tables(), *bench.given(), *bench.shared()]
         if given.stages:
             text += bench.stages(given.stages)
     made = f"{machine()}; {datetime.date.today()}; {commit}; {output('rt', 'version')}."

@@ -2,18 +2,19 @@
 _basket() {
     local word=${COMP_WORDS[COMP_CWORD]} before=${COMP_WORDS[COMP_CWORD - 1]} values=
     case $before in
-    --form) values="fimi baskets single" ;;
+    --form) values="fimi baskets single counts csv-counts" ;;
     --sep) values="comma semicolon tab pipe" ;;
     --miner) values="apriori eclat eclat-diff eclat-bits fpgrowth" ;;
-    --min | --conf | --limit | --workers | --pieces) return ;;
+    --min | --conf | --sets | --limit | --workers | --pieces) return ;;
     *)
         case ${COMP_WORDS[1]} in
         items | sets | closed | maximal | rules)
             values="--min --form --sep --header --weight --miner --limit --workers --pieces --help"
             [ "${COMP_WORDS[1]}" = rules ] && values="$values --conf"
             ;;
+        count) values="--sets --form --sep --header --weight --workers --pieces --help" ;;
         esac
-        [ "$COMP_CWORD" = 1 ] && values="items sets closed maximal rules --help --version"
+        [ "$COMP_CWORD" = 1 ] && values="items sets closed maximal rules count --help --version"
         ;;
     esac
     mapfile -t COMPREPLY < <(compgen -W "$values" -- "$word")

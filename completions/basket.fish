@@ -1,5 +1,6 @@
 # Completion of basket for fish.
-set -l commands items sets closed maximal rules
+set -l reports items sets closed maximal rules
+set -l commands $reports count
 complete -c basket -n "not __fish_seen_subcommand_from $commands" -f
 complete -c basket -n "not __fish_seen_subcommand_from $commands" -l version -d 'print the version'
 complete -c basket -l help -d 'print help'
@@ -8,14 +9,16 @@ complete -c basket -n __fish_use_subcommand -a sets -d 'each set of items that i
 complete -c basket -n __fish_use_subcommand -a closed -d 'each frequent set of which no larger set has the same support'
 complete -c basket -n __fish_use_subcommand -a maximal -d 'each frequent set of which no larger set is frequent'
 complete -c basket -n __fish_use_subcommand -a rules -d 'each rule that holds often enough'
-set -l after "__fish_seen_subcommand_from $commands"
+complete -c basket -n __fish_use_subcommand -a count -d 'given sets with their supports'
+set -l after "__fish_seen_subcommand_from $reports"
 complete -c basket -n $after -l min -x -d 'the least support of a set'
 complete -c basket -n '__fish_seen_subcommand_from rules' -l conf -x -d 'the least confidence of a rule'
-complete -c basket -n $after -l form -x -a 'fimi baskets single' -d 'how standard input is written'
-complete -c basket -n $after -l sep -x -a 'comma semicolon tab pipe' -d 'what stands between the fields of CSV'
-complete -c basket -n $after -l header -d 'leave out the first record of CSV'
-complete -c basket -n $after -l weight -d 'take the first field of each CSV basket for its weight'
 complete -c basket -n $after -l miner -x -a 'apriori eclat eclat-diff eclat-bits fpgrowth' -d 'how the sets are found'
 complete -c basket -n $after -l limit -x -d 'how many sets there may be'
-complete -c basket -n $after -l workers -x -d 'how many threads share the mining'
-complete -c basket -n $after -l pieces -x -d 'how many pieces the mining is cut into'
+complete -c basket -n '__fish_seen_subcommand_from count' -l sets -r -d 'the file of the sets to count'
+complete -c basket -n "__fish_seen_subcommand_from $commands" -l form -x -a 'fimi baskets single counts csv-counts' -d 'how the input is written'
+complete -c basket -n "__fish_seen_subcommand_from $commands" -l sep -x -a 'comma semicolon tab pipe' -d 'what stands between the fields of CSV'
+complete -c basket -n "__fish_seen_subcommand_from $commands" -l header -d 'leave out the first record of CSV'
+complete -c basket -n "__fish_seen_subcommand_from $commands" -l weight -d 'take the first field of each CSV basket for its weight'
+complete -c basket -n "__fish_seen_subcommand_from $commands" -l workers -x -d 'how many threads share the mining'
+complete -c basket -n "__fish_seen_subcommand_from $commands" -l pieces -x -d 'how many pieces the mining is cut into'

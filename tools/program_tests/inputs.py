@@ -1,4 +1,4 @@
-"""Inputs that are made for the tests, the same on every machine."""
+"""Inputs that are made for the tests, the same on every machine, and how tests write them."""
 
 import random
 
@@ -55,3 +55,13 @@ def weighted(baskets: Baskets) -> bytes:
         f"{weight}x {' '.join(map(str, basket))}\n"
         for basket, weight in weights.items()
     ).encode()
+
+
+def text_of(lines: str) -> bytes:
+    """The bytes of lines that have a bar for each line feed."""
+    return lines.replace("|", "\n").encode()
+
+
+def lines_of(text: bytes) -> str:
+    """The lines of a text likewise."""
+    return text.decode().replace("\n", "|")

@@ -1,7 +1,9 @@
 """The built program, and what a run of it gives."""
 
 import os
+import shlex
 import subprocess
+import tempfile
 from collections.abc import Callable
 from dataclasses import dataclass
 from pathlib import Path
@@ -51,3 +53,17 @@ def run_between(words: list[str], given: str, taken: str) -> Run:
     finally:
         os.close(opened)
     return Run(b"", ended.stderr.decode(), ended.returncode)
+
+
+def run_script(script: str, place: Path) -> Run:
+    """Runs commands in a folder, where the program is `basket`."""
+    with tempfile.TemporaryDirectory() as folder:
+        Path(folder, "basket").symlink_to(Path(PROGRAM).resolve())
+        ended = subprocess.run(
+            ["bash", "-c", f"PATH={shlex.quote(folder)}:$PATH; {script}"],
+            cwd=place,
+            capture_output=True,
+            timeout=SECONDS,
+            check=False,
+        )
+    return Run(ended.stdout, ended.stderr.decode(), ended.returncode)

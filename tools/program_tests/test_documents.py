@@ -1,15 +1,14 @@
 """README, manual page, completions and change log say what the program does."""
 
 import re
-import shlex
 import subprocess
 import tempfile
 import unittest
 from pathlib import Path
 
-from .program import PROGRAM, ROOT, run
+from .program import ROOT, run, run_script
 
-COMMANDS = ("items", "sets", "closed", "maximal", "rules")
+COMMANDS = ("items", "sets", "closed", "maximal", "rules", "count")
 DOCUMENTS = ("README.md", "man/basket.1")
 COMPLETIONS = (
     "completions/basket.bash",
@@ -61,25 +60,31 @@ class Documents(unittest.TestCase):
     """Texts that are written by hand, beside what the program says."""
 
     def test_commands_that_a_document_shows_write_what_it_shows(self) -> None:
+        for name in DOCUMENTS:
+            text = manual() if name.endswith(".1") else text_of(name)
+            rows = shown(text)
+            self.assertTrue(rows, f"{name} shows no command")
+            for command, lines in rows:
+                with self.subTest(name=name, command=command):
+                    ended = run_script(command, ROOT)
+                    self.assertEqual((ended.out.decode(), ended.status), (lines, 0))
+
+    def test_the_way_over_parts_in_readme_writes_what_it_shows_of_the_whole(
+        self,
+    ) -> None:
+        text = text_of("README.md")
+        section = text.partition("## Parts\n")[2].partition("\n## ")[0]
+        script = "".join(
+            line + "\n" for line in section.splitlines() if line.startswith("    ")
+        )
         with tempfile.TemporaryDirectory() as folder:
-            Path(folder, "basket").symlink_to(Path(PROGRAM).resolve())
-            for name in DOCUMENTS:
-                text = manual() if name.endswith(".1") else text_of(name)
-                rows = shown(text)
-                self.assertTrue(rows, f"{name} shows no command")
-                for command, lines in rows:
-                    with self.subTest(name=name, command=command):
-                        words = [
-                            "bash",
-                            "-c",
-                            f"PATH={shlex.quote(folder)}:$PATH; {command}",
-                        ]
-                        ended = subprocess.run(
-                            words, cwd=ROOT, capture_output=True, check=False
-                        )
-                        self.assertEqual(
-                            (ended.stdout.decode(), ended.returncode), (lines, 0)
-                        )
+            Path(folder, "examples").symlink_to(ROOT / "examples")
+            ended = run_script(script, Path(folder))
+        wanted = [
+            lines for command, lines in shown(text) if command.endswith("shop.dat")
+        ]
+        self.assertEqual(len(wanted), 2)
+        self.assertEqual((ended.out.decode(), ended.said), ("".join(wanted), ""))
 
     def test_the_theorem_that_readme_quotes_stands_in_the_source(self) -> None:
         theorem = (
@@ -120,6 +125,9 @@ class Documents(unittest.TestCase):
             ("basket it", "items"),
             ("basket rules --co", "--conf"),
             ("basket sets --miner f", "fpgrowth"),
+            ("basket count --se", "--sets"),
+            ("basket count --form c", "counts"),
+            ("basket count --mi", ""),
         )
         for line, wanted in rows:
             words = line.split()
@@ -138,7 +146,8 @@ class Documents(unittest.TestCase):
         self.assertRegex(version, r"^\d+\.\d+\.\d+$")
         self.assertIn(f'"basket {version}"', text_of("man/basket.1"))
         self.assertRegex(
-            text_of("CHANGELOG.md"), rf"\A# [^\n]*\n+## {re.escape(version)}\b"
+            text_of("CHANGELOG.md"),
+            rf"\A# [^\n]*\n+(## Unreleased\n[^#]*)?## {re.escape(version)}\b",
         )
 
     def test_the_manual_page_is_laid_out_without_a_warning(self) -> None:

@@ -198,7 +198,7 @@ MISTAKES: tuple[tuple[list[str], str], ...] = (
     (["rules", "--conf", "7/6", "--min", "0"], "basket: bad value for --min\n"),
     (
         ["sets", "--min", "0", "--form", "csv"],
-        "bad value for --form (fimi, baskets, single)\n",
+        "bad value for --form (fimi, baskets, single, counts)\n",
     ),
     (
         ["sets", "--min", "1", "--sep", ","],
@@ -214,7 +214,7 @@ MISTAKES: tuple[tuple[list[str], str], ...] = (
     (["things"], "'things'"),
     (["items"], "--min <M>"),
     (["items", "--min"], "--min <M>"),
-    (["items", "--min", "1", "more"], "'more'"),
+    (["items", "--min", "1", "a file", "more"], "'more'"),
     (["sets", "--min", "1", "--header", "--header"], "--header"),
     (["sets", "--min", "1", "--limit", "0"], "'0'"),
     (["sets", "--min", "1", "--limit", "4294967296"], "'4294967296'"),
@@ -228,7 +228,10 @@ MISTAKES: tuple[tuple[list[str], str], ...] = (
 HELP_OF_SETS = """\
 Writes each set of items that is in enough baskets, with the number of those baskets
 
-Usage: basket sets [OPTIONS] --min <M>
+Usage: basket sets [OPTIONS] --min <M> [FILE]
+
+Arguments:
+  [FILE]  The file of the input; without it, or with -, standard input
 
 Options:
       --min <M>      The least count of a set to be listed: a number, as 20, or a share of all baskets, as 5% or 1/200

@@ -7,15 +7,18 @@ use Rattle.basket_core.specs.declared.fault.MineFault.{MineFault}
 use Rattle.basket_core.specs.declared.fault.MineFault.TheVariants.{Memory}
 use Rattle.basket_read.specs.declared.fault.ReadFault.{ReadFault}
 use Rattle.basket_read.specs.declared.fault.ReadFault.TheVariants.{Read}
-use Rattle.basket.specs.Input.{Answers, Said, said_of}
+use Rattle.basket.specs.Contents.{Answers}
+use Rattle.basket.specs.Input.{Said, said_of}
 use Rattle.basket.specs.declared.fault.RunFault.{RunFault}
-use Rattle.basket.specs.declared.fault.RunFault.TheVariants.{Input, Mine, Write}
+use Rattle.basket.specs.declared.fault.RunFault.TheVariants.{Input, Sets, Uncounted, Mine, Write}
 use Rattle.basket.specs.Outcome.{outcome, outcome_of, outcome_for, of_mining}
 use Rattle.basket_plan.specs.Plan.{Question}
 use Rattle.basket.specs.Engine.{FailsInput, MakesReport, RefusesInput, RefusesSets, WritesFront, WritesReport}
 
 abbrev input_fault : ReadFault → Result Unit RunFault → ReadFault
 input_fault other (Err (Input fault)) = fault
+input_fault other (Err (Sets fault)) = other
+input_fault other (Err (Uncounted nth)) = other
 input_fault other (Err (Mine fault)) = other
 input_fault other (Err Write) = other
 input_fault other (Ok x) = other
@@ -28,6 +31,8 @@ same_refusal fault other same = ap (input_fault fault) same
 
 abbrev mine_fault : MineFault → Result Unit RunFault → MineFault
 mine_fault other (Err (Input fault)) = other
+mine_fault other (Err (Sets fault)) = other
+mine_fault other (Err (Uncounted nth)) = other
 mine_fault other (Err (Mine fault)) = fault
 mine_fault other (Err Write) = other
 mine_fault other (Ok x) = other
@@ -78,31 +83,43 @@ answer fault = Err fault
 module _ (question : Question) (left after : Option (List ℕ)) (failed : Bool) where
   pub told_input : (fault : RunFault) → MakesReport question left after failed (Err fault) → (other : ReadFault) → answer fault ≡ Err (Input other) → failed ≡ false → RefusesInput left question other
   told_input (Input fault) made other is = subst (λ f. failed ≡ false → RefusesInput left question f) (same_refusal fault other is) made.0
+  told_input (Sets fault) made other is = absurd made
+  told_input (Uncounted nth) made other is = absurd made
   told_input (Mine fault) made other is = absurd cc
   told_input Write made other is = absurd made
 
   pub told_failed : (fault : RunFault) → MakesReport question left after failed (Err fault) → (other : ReadFault) → answer fault ≡ Err (Input other) → failed ≡ true → FailsInput left question after other
   told_failed (Input fault) made other is = subst (λ f. failed ≡ true → FailsInput left question after f) (same_refusal fault other is) made.1
+  told_failed (Sets fault) made other is = absurd made
+  told_failed (Uncounted nth) made other is = absurd made
   told_failed (Mine fault) made other is = absurd cc
   told_failed Write made other is = absurd made
 
   pub told_by_reader : (fault : RunFault) → MakesReport question left after failed (Err fault) → failed ≡ true → (other : ReadFault) × (answer fault ≡ Err (Input other))
   told_by_reader (Input fault) made broken = (fault, refl)
+  told_by_reader (Sets fault) made broken = absurd made
+  told_by_reader (Uncounted nth) made broken = absurd made
   told_by_reader (Mine fault) made broken = absurd (false≢true (sym made.0 ∙ broken))
   told_by_reader Write made broken = absurd made
 
   pub told_read : (fault : RunFault) → MakesReport question left after failed (Err fault) → answer fault ≡ Err (Input Read) → failed ≡ true
   told_read (Input fault) made is = made.2 (same_refusal fault Read is)
+  told_read (Sets fault) made is = absurd made
+  told_read (Uncounted nth) made is = absurd made
   told_read (Mine fault) made is = absurd cc
   told_read Write made is = absurd made
 
   pub told_mine : (fault : RunFault) → MakesReport question left after failed (Err fault) → (other : MineFault) → answer fault ≡ Err (Mine other) → RefusesSets left question other
   told_mine (Input fault) made other is = absurd cc
+  told_mine (Sets fault) made other is = absurd made
+  told_mine (Uncounted nth) made other is = absurd made
   told_mine (Mine fault) made other is = subst (RefusesSets left question) (same_fault fault other is) made.1
   told_mine Write made other is = absurd made
 
   pub not_write : (fault : RunFault) → MakesReport question left after failed (Err fault) → answer fault ≡ Err Write → ⊥
   not_write (Input fault) made is = cc
+  not_write (Sets fault) made is = made
+  not_write (Uncounted nth) made is = made
   not_write (Mine fault) made is = cc
   not_write Write made is = made
 

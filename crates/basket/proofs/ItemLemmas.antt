@@ -5,7 +5,7 @@ use Rattle.basket_ranks.proofs.theory.Added.{number_is_support, item_supports_ad
 use Rattle.basket_ranks.specs.Added.{added_counts, items_of_counts, number_of}
 use Rattle.basket_core.specs.declared.fault.MineFault.TheVariants.{TooMany}
 use Rattle.basket_plan.specs.declared.plan.Ask.TheVariants.{Items}
-use Rattle.basket_plan.specs.declared.plan.Form.TheVariants.{Fimi}
+use Rattle.basket_plan.specs.declared.layout.Form.TheVariants.{Fimi}
 use Rattle.basket_plan.specs.Plan.{Question}
 use Rattle.basket_read.specs.declared.fault.ReadFault.{ReadFault}
 use Rattle.basket_read.specs.declared.fault.ReadFault.TheVariants.{Read}
@@ -25,7 +25,9 @@ use Rattle.basket_sets.specs.Itemset.{IsRising}
 use Rattle.basket_sets.specs.Support.{support_of, total_of, items_of, all_items}
 use Rattle.basket.specs.declared.fault.RunFault.TheVariants.{Input}
 use Rattle.basket.specs.Engine.{MakesReport, RefusesInput}
-use Rattle.basket.specs.Input.{FailsIn, numbered, said_in, wording_with}
+use Rattle.basket.specs.declared.contents.Contents.TheVariants as contents
+use Rattle.basket.specs.Contents.{FailsIn, by_numbers, contents_in, where_read, wording_with}
+use Rattle.basket.specs.Input.{said_for}
 use Rattle.basket.specs.Outcome.{are_too_many, of_mining, outcome, outcome_of, text_of}
 
 -- ---- counts of two lists of baskets
@@ -52,7 +54,7 @@ totals_add front back baskets whole = let s = support-append front back [] in le
 -- ---- what comes of a reader
 
 -- its fault is that of the input
-pub counts_refuse : (left after : Option (List ℕ)) (question : Question) (fault : ReadFault) (failed : Bool) → question.form ≡ Fimi
+pub counts_refuse : (left after : Option (List ℕ)) (question : Question) (fault : ReadFault) (failed : Bool) → question.layout.form ≡ Fimi
     → (failed ≡ false → IfSome left (λ bytes. Counts (Err fault) (fimi_of bytes)))
     → (failed ≡ true → IfSome left (λ bytes. FailsAfter bytes after (Err fault)))
     → (fault ≡ Read → failed ≡ true) → MakesReport question left after failed (Err (Input fault))
@@ -64,15 +66,15 @@ counts_refuse left after question fault failed form exact fails read = (
   where
     refused : (left : Option (List ℕ)) → IfSome left (λ bytes. Counts (Err fault) (fimi_of bytes)) → RefusesInput left question fault
     refused None h = tt
-    refused (Some bytes) h = λ other. ap (λ f. outcome_of (said_in f question bytes) question) form ∙ ap (λ r. outcome_of (numbered r) question) (h other)
+    refused (Some bytes) h = λ other. ap (λ f. outcome_of (where_read (said_for question) (contents_in f question.layout [] bytes)) question) form ∙ ap (λ r. outcome_of (where_read (said_for question) (by_numbers contents.Baskets r)) question) (h other)
 
 -- the report of the counts is that of the input
-pub counts_report : (left : Option (List ℕ)) (question : Question) (counts : ItemCounts) (report : List ℕ) → question.ask ≡ Items → question.form ≡ Fimi
+pub counts_report : (left : Option (List ℕ)) (question : Question) (counts : ItemCounts) (report : List ℕ) → question.ask ≡ Items → question.layout.form ≡ Fimi
     → IfSome left (λ bytes. Counts (Ok counts) (fimi_of bytes))
     → ((baskets : List Weighted) → AreCountsOf counts baskets → report ≡ report_of Numbered (frequent_items_of baskets question.minimum))
     → IfSome left (λ bytes. outcome bytes question ≡ Ok report)
 counts_report None question counts report items form read made = tt
 counts_report (Some bytes) question counts report items form (baskets, is, counted) made =
-    ap (λ f. outcome_of (said_in f question bytes) question) form ∙ ap (λ r. outcome_of (numbered r) question) is
-    ∙ ap (λ a. of_mining (cond (are_too_many a baskets question.minimum question.limit) (Err (TooMany question.limit)) (Ok (text_of (wording_with question.separator None) a baskets question.minimum)))) items
+    ap (λ f. outcome_of (where_read (said_for question) (contents_in f question.layout [] bytes)) question) form ∙ ap (λ r. outcome_of (where_read (said_for question) (by_numbers contents.Baskets r)) question) is
+    ∙ ap (λ a. of_mining (cond (are_too_many a baskets question.minimum question.limit) (Err (TooMany question.limit)) (Ok (text_of (wording_with question.layout.separator None) a baskets question.minimum)))) items
     ∙ ap Ok (sym (made baskets counted))

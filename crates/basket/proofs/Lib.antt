@@ -1,4 +1,6 @@
 mod MiningLemmas
-mod InputLemmas
+mod ContentsLemmas
 mod ItemLemmas
 mod EngineLemmas
+mod GapLemmas
+mod CountLemmas

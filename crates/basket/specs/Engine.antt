@@ -6,9 +6,9 @@ use Rattle.basket_read.specs.declared.fault.ReadFault.TheVariants.{Memory, Read}
 use Rattle.basket_core.specs.declared.fault.MineFault.{MineFault}
 use Rattle.basket_core.specs.declared.fault.MineFault.TheVariants as mine
 use Rattle.basket.specs.declared.fault.RunFault.{RunFault}
-use Rattle.basket.specs.declared.fault.RunFault.TheVariants.{Input, Mine, Write}
+use Rattle.basket.specs.declared.fault.RunFault.TheVariants.{Input, Sets, Uncounted, Mine, Write}
 use Rattle.basket.specs.declared.made.Made.{Made}
-use Rattle.basket.specs.Input.{FailsIn}
+use Rattle.basket.specs.Contents.{FailsIn}
 use Rattle.basket.specs.Made.{made_text}
 use Rattle.basket.specs.Outcome.{outcome}
 use Rattle.basket_plan.specs.Plan.{Question}
@@ -32,7 +32,7 @@ RefusesSets left question fault = IfSome left (λ bytes. fault ≢ mine.Memory �
 
 -- where the reader failed, the fault is what the form of the input says of that
 abbrev pub FailsInput : Option (List ℕ) → Question → Option (List ℕ) → ReadFault → Type 0
-FailsInput left question after fault = IfSome left (λ bytes. FailsIn question.form bytes after fault)
+FailsInput left question after fault = IfSome left (λ bytes. FailsIn question.layout.form bytes after fault)
 
 -- what comes of a reader: the report of what it had left, or why there is none
 abbrev pub MakesReport : Question → Option (List ℕ) → Option (List ℕ) → Bool → Result Made RunFault → Type 0
@@ -40,4 +40,6 @@ MakesReport question left after failed (Ok made) = (failed ≡ false) × IfSome 
 MakesReport question left after failed (Err (Input fault)) =
     (failed ≡ false → RefusesInput left question fault) × (failed ≡ true → FailsInput left question after fault) × (fault ≡ Read → failed ≡ true)
 MakesReport question left after failed (Err (Mine fault)) = (failed ≡ false) × RefusesSets left question fault
+MakesReport question left after failed (Err (Sets fault)) = ⊥
+MakesReport question left after failed (Err (Uncounted nth)) = ⊥
 MakesReport question left after failed (Err Write) = ⊥

@@ -1,51 +1,44 @@
--- What an input says, by the form in which it is written.
-use Rattle.std.specs.Prelude.{◌≡◌, ◌≢◌, ℕ, List, Option, Some, None, Result, Ok, Err}
+-- What an input says for a question.
+use Rattle.std.specs.Prelude.{ℕ, List, [], Option, Result, Ok, Err}
+use Rattle.basket_core.specs.Listing.{Listing}
 use Rattle.basket_sets.specs.declared.weighted.Weighted.{Weighted}
-use Rattle.basket_csv.specs.Csv.{Named, baskets_of_csv, pairs_of_csv}
 use Rattle.basket_read.specs.declared.fault.ReadFault.{ReadFault}
-use Rattle.basket_read.specs.declared.fault.ReadFault.TheVariants.{Memory, Read}
-use Rattle.basket_read.specs.Fimi.{fimi_of}
-use Rattle.basket_read.specs.Read.{FailsAfter}
-use Rattle.basket_report.specs.Style.{Wording, Numbered, Named as ByNames}
-use Rattle.basket_plan.specs.declared.plan.Form.{Form}
-use Rattle.basket_plan.specs.declared.plan.Form.TheVariants.{Fimi, Baskets, Single}
+use Rattle.basket_plan.specs.declared.plan.Ask.{Ask}
 use Rattle.basket_plan.specs.Plan.{Question}
+use Rattle.basket.specs.Contents.{contents_of, where_read}
+use Rattle.basket.specs.Counted.{IsWhole, listing_in}
+use Rattle.basket.specs.declared.contents.Contents.{Contents}
+use Rattle.basket.specs.declared.contents.Contents.TheVariants as contents
+use Rattle.basket.specs.declared.input.Input.{Input}
+use Rattle.basket.specs.declared.input.Input.TheVariants as input
 
--- baskets, and of CSV the names of their items
-pub record Said : Type 0 where
-  pub baskets : List Weighted
-  pub names : Option (List (List ℕ))
+-- baskets, or the sets of a counted input that meet the minimum; and of CSV the names of the items
+pub data Said : Type 0 where
+  OfBaskets : List Weighted → Option (List (List ℕ)) → Said
+  OfCounts : Listing → Option (List (List ℕ)) → Said
 
--- baskets of numbers, and baskets of names
-abbrev pub numbered : Result (List Weighted) ReadFault → Result Said ReadFault
-numbered (Ok baskets) = Ok (record { baskets = baskets; names = None })
-numbered (Err fault) = Err fault
+abbrev pub listed : Option (List (List ℕ)) → Result Listing ReadFault → Result Said ReadFault
+listed names read = where_read (λ listing. Ok (OfCounts listing names)) read
 
-abbrev pub named : Result Named ReadFault → Result Said ReadFault
-named (Ok both) = Ok (record { baskets = both.0; names = Some both.1 })
-named (Err fault) = Err fault
+-- what contents say for a question
+abbrev pub said_for : Question → Contents → Result Said ReadFault
+said_for question (contents.Baskets baskets names) = Ok (OfBaskets baskets names)
+said_for question (contents.Counts lines names) = listed names (listing_in question lines)
 
--- what the bytes say in a form, or their fault
-abbrev pub said_in : Form → Question → List ℕ → Result Said ReadFault
-said_in Fimi question bytes = numbered (fimi_of bytes)
-said_in Baskets question bytes = named (baskets_of_csv question.separator question.header question.weighted bytes)
-said_in Single question bytes = named (pairs_of_csv question.separator question.header bytes)
-
+-- what the bytes say, or their fault
 abbrev pub said_of : Question → List ℕ → Result Said ReadFault
-said_of question bytes = said_in question.form question bytes
+said_of question bytes = where_read (said_for question) (contents_of question.layout [] bytes)
 
--- but for want of memory, the answer is the one that is defined
-abbrev pub Answers : Result Said ReadFault → Result Said ReadFault → Type 0
-Answers (Ok said) answer = answer ≡ Ok said
-Answers (Err fault) answer = fault ≢ Memory → answer ≡ Err fault
+-- what an input that was read says
+abbrev pub said_by : Input → Said
+said_by (input.Baskets database names) = OfBaskets database names
+said_by (input.Counts frequent names) = OfCounts frequent names
 
--- what a reader that failed answers: in FIMI the fault in the bytes that it gave, else `Read`; in CSV `Read`
-abbrev pub FailsIn : Form → List ℕ → Option (List ℕ) → ReadFault → Type 0
-FailsIn Fimi bytes left fault = FailsAfter bytes left (Err fault)
-FailsIn Baskets bytes left fault = fault ≡ Read
-FailsIn Single bytes left fault = fault ≡ Read
+abbrev pub result_said : Result Input ReadFault → Result Said ReadFault
+result_said (Ok input) = Ok (said_by input)
+result_said (Err fault) = Err fault
 
--- how a report writes items: as the input does
-abbrev pub wording_with : ℕ → Option (List (List ℕ)) → Wording
-wording_with separator None = Numbered
-wording_with separator (Some names) = ByNames separator names
+-- of a counted input all is there that matters
+abbrev pub IsWholeInput : Ask → Input → Type 0
+IsWholeInput ask (input.Baskets database names) = Unit {0}
+IsWholeInput ask (input.Counts frequent names) = IsWhole ask frequent

@@ -1,3 +1,5 @@
+pub mod Contents
+pub mod Counted
 pub mod Input
 pub mod Status
 pub mod Classes
@@ -5,3 +7,4 @@ pub mod Mining
 pub mod Outcome
 pub mod Made
 pub mod Engine
+pub mod Count

@@ -1,12 +1,13 @@
 -- What a run over an input is to write, or why it writes nothing.
-use Rattle.std.specs.Prelude.{ℕ, Bool, false, List, Result, Ok, Err, length, nat_lt, if◌then◌else◌}
+use Rattle.std.specs.Prelude.{ℕ, Bool, false, List, Result, Ok, Err, filter, length, nat_lt, ◌==◌, if◌then◌else◌}
+use Rattle.basket_core.specs.Listing.{Listing}
 use Rattle.basket_core.specs.declared.fault.MineFault.{MineFault}
 use Rattle.basket_core.specs.declared.fault.MineFault.TheVariants.{TooMany}
 use Rattle.basket_sets.specs.declared.minimum.Minimum.{Minimum}
 use Rattle.basket_sets.specs.declared.weighted.Weighted.{Weighted}
 use Rattle.basket_sets.specs.Frequent.{frequent_items_of, frequent_of}
-use Rattle.basket_rules.specs.Condensed.{closed_of, maximal_of}
-use Rattle.basket_rules.specs.Rules.{rules_of}
+use Rattle.basket_rules.specs.Condensed.{closed_in, closed_of, maximal_in, maximal_of}
+use Rattle.basket_rules.specs.Rules.{rules_among, rules_of}
 use Rattle.basket_read.specs.declared.fault.ReadFault.{ReadFault}
 use Rattle.basket_report.specs.Report.{report_of, rules_report_of}
 use Rattle.basket_report.specs.Style.{Wording}
@@ -14,7 +15,8 @@ use Rattle.basket.specs.declared.fault.RunFault.{RunFault}
 use Rattle.basket.specs.declared.fault.RunFault.TheVariants.{Input, Mine}
 use Rattle.basket_plan.specs.declared.plan.Ask.{Ask}
 use Rattle.basket_plan.specs.declared.plan.Ask.TheVariants.{Items, Sets, Closed, Maximal, Rules}
-use Rattle.basket.specs.Input.{Said, said_of, wording_with}
+use Rattle.basket.specs.Contents.{wording_with}
+use Rattle.basket.specs.Input.{Said, OfBaskets, OfCounts, said_of}
 use Rattle.basket_plan.specs.Plan.{Question}
 
 -- the text of what is asked for
@@ -30,11 +32,26 @@ abbrev pub are_too_many : Ask → List Weighted → Minimum → ℕ → Bool
 are_too_many Items baskets minimum limit = false
 are_too_many _ baskets minimum limit = nat_lt limit (length (frequent_of baskets minimum))
 
+-- the same of the sets of a counted input that meet the minimum
+abbrev pub text_in : Wording → Ask → Listing → List ℕ
+text_in wording Items listing = report_of wording (filter (λ c. length c.set == 1) listing.sets)
+text_in wording Sets listing = report_of wording listing.sets
+text_in wording Closed listing = report_of wording (closed_in listing.sets)
+text_in wording Maximal listing = report_of wording (maximal_in listing.sets)
+text_in wording (Rules above below) listing = rules_report_of wording (rules_among listing (above, below))
+
+abbrev pub are_too_many_in : Ask → Listing → ℕ → Bool
+are_too_many_in Items listing limit = false
+are_too_many_in _ listing limit = nat_lt limit (length listing.sets)
+
 -- the outcome for what an input says: the text of what is asked for, unless there are more frequent sets than the limit
 abbrev pub outcome_for : Said → Question → Result (List ℕ) MineFault
-outcome_for said question =
-    if are_too_many question.ask said.baskets question.minimum question.limit then Err (TooMany question.limit)
-    else Ok (text_of (wording_with question.separator said.names) question.ask said.baskets question.minimum)
+outcome_for (OfBaskets baskets names) question =
+    if are_too_many question.ask baskets question.minimum question.limit then Err (TooMany question.limit)
+    else Ok (text_of (wording_with question.layout.separator names) question.ask baskets question.minimum)
+outcome_for (OfCounts listing names) question =
+    if are_too_many_in question.ask listing question.limit then Err (TooMany question.limit)
+    else Ok (text_in (wording_with question.layout.separator names) question.ask listing)
 
 abbrev pub of_mining : Result (List ℕ) MineFault → Result (List ℕ) RunFault
 of_mining (Ok text) = Ok text

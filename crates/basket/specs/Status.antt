@@ -5,7 +5,7 @@ use Rattle.basket_core.specs.declared.fault.MineFault.TheVariants as mine
 use Rattle.basket_read.specs.declared.fault.ReadFault.{ReadFault}
 use Rattle.basket_read.specs.declared.fault.ReadFault.TheVariants as read
 use Rattle.basket.specs.declared.fault.RunFault.{RunFault}
-use Rattle.basket.specs.declared.fault.RunFault.TheVariants.{Input, Mine, Write}
+use Rattle.basket.specs.declared.fault.RunFault.TheVariants.{Input, Sets, Uncounted, Mine, Write}
 
 -- the status after an input that was not read: 6 for want of memory, 4 where the reader failed, else 3
 abbrev pub status_after_input : ReadFault → ℕ
@@ -18,14 +18,21 @@ status_after_input (read.NotText nth) = 3
 status_after_input (read.ShortRecord nth) = 3
 status_after_input read.Heavy = 3
 status_after_input (read.Weight nth) = 3
+status_after_input (read.Count line) = 3
+status_after_input (read.NoCount line) = 3
+status_after_input read.NoTotal = 3
+status_after_input (read.Subset line) = 3
+status_after_input (read.RecordCount nth) = 3
 
 -- the status after mining: 6 for want of memory, 5 for too many sets
 abbrev pub status_after_mining : MineFault → ℕ
 status_after_mining mine.Memory = 6
 status_after_mining (mine.TooMany limit) = 5
 
--- the status after a run: 4 where the writer failed
+-- the status after a run: 4 where the writer failed, 3 where a set that is to be counted has no count
 abbrev pub status_after : RunFault → ℕ
 status_after (Input fault) = status_after_input fault
+status_after (Sets fault) = status_after_input fault
+status_after (Uncounted nth) = 3
 status_after (Mine fault) = status_after_mining fault
 status_after Write = 4

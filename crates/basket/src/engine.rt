@@ -3,15 +3,19 @@ ghost use Rattle.std.specs.Io.KnownBytes.{Keeps};
 ghost use Rattle.basket_core.specs.declared.fault.MineFault.{MineFault as MiningFault};
 ghost use Rattle.basket_read.specs.declared.fault.ReadFault.{ReadFault as InputFault};
 ghost use Rattle.basket.specs.Engine.{MakesReport, WritesReport, WritesFront, RefusesInput, RefusesSets, FailsInput};
+ghost use Rattle.basket.specs.Input.{IsWholeInput, OfBaskets, said_by};
 ghost use Rattle.basket.specs.Made.{made_text};
 ghost use Rattle.basket.specs.Outcome.{outcome_for};
 
+use crate::contents::style_of;
+use crate::counted::report_listing;
 use crate::fault::RunFault;
-use crate::input::{Input, style_of};
+use crate::input::Input;
 use crate::items::report_items;
 use crate::made::Made;
 use crate::mining::{cutting, mine_in_place};
-use basket_core::{MineFault, Sink, Source};
+use basket_core::{Database, MineFault, Sink, Source};
+use basket_csv::Names;
 use basket_plan::{Ask, Form, Plan};
 use basket_read::ReadFault;
 use basket_report::{items_report, rules_report};
@@ -66,14 +70,14 @@ fn reported<R: RandomSource + Threads + Sync, S: Source>(
     requires { S.has_failed reader.old ≡ false }
     ensures { MakesReport plan.now.question (S.left reader.old) (S.left reader.new) (S.has_failed reader.new) result }
 {
-    match (plan.ask(), plan.form()) {
+    match (plan.ask(), plan.layout().form) {
         (Ask::Items, Form::Fimi) => report_items(rt, alloc, plan, reader),
-        _ => report_baskets(rt, alloc, plan, reader),
+        _ => report_input(rt, alloc, plan, reader),
     }
 }
 
-/// The same by way of the baskets.
-fn report_baskets<R: RandomSource + Threads + Sync, S: Source>(
+/// The same by way of all that the input says.
+fn report_input<R: RandomSource + Threads + Sync, S: Source>(
     rt: &R,
     alloc: Global,
     plan: &Plan,
@@ -92,18 +96,35 @@ fn report_baskets<R: RandomSource + Threads + Sync, S: Source>(
     }
 }
 
-/// The report that the plan asks for over the baskets.
+/// The report that the plan asks for over what an input says.
 fn report<R: Threads + Sync>(
     rt: &R,
     alloc: Global,
     input: Input,
     plan: &Plan,
 ) -> Result<Made, MineFault>
-    ensures ok { IfOk result (λ made. outcome_for input plan.now.question ≡ Ok (made_text made)) }
-    ensures err { (fault : MiningFault) → result ≡ Err fault → fault ≢ MineFault.Memory → outcome_for input plan.now.question ≡ Err fault }
+    requires { IsWholeInput plan.now.question.ask input }
+    ensures ok { IfOk result (λ made. outcome_for (said_by input) plan.now.question ≡ Ok (made_text made)) }
+    ensures err { (fault : MiningFault) → result ≡ Err fault → fault ≢ MineFault.Memory → outcome_for (said_by input) plan.now.question ≡ Err fault }
 {
-    let (database, names) = input.into_parts();
-    let style = style_of(&names, plan.sep());
+    match input {
+        Input::Baskets(database, names) => report_baskets(rt, alloc, database, &names, plan),
+        Input::Counts(frequent, names) => report_listing(alloc, frequent, &names, plan),
+    }
+}
+
+/// The report that the plan asks for over baskets.
+fn report_baskets<R: Threads + Sync>(
+    rt: &R,
+    alloc: Global,
+    database: Database,
+    names: &Option<Names>,
+    plan: &Plan,
+) -> Result<Made, MineFault>
+    ensures ok { IfOk result (λ made. outcome_for (OfBaskets database names.now) plan.now.question ≡ Ok (made_text made)) }
+    ensures err { (fault : MiningFault) → result ≡ Err fault → fault ≢ MineFault.Memory → outcome_for (OfBaskets database names.now) plan.now.question ≡ Err fault }
+{
+    let style = style_of(names, plan.layout().separator);
     match plan.ask() {
         Ask::Items => {
             let counts = count_shared(rt, alloc, database.baskets(), cutting(plan), &Open)?;

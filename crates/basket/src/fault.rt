@@ -5,7 +5,7 @@ ghost use Rattle.basket.specs.Status.{status_after};
 
 use basket_core::{Failed, MineFault};
 use basket_read::ReadFault;
-use std::alloc::AllocError;
+use std::alloc::{AllocError, AllocFailed};
 use thiserror::Error;
 
 /// Why a run wrote no whole report.
@@ -14,6 +14,12 @@ pub enum RunFault {
     /// The input was not read.
     #[error(transparent)]
     Input(ReadFault),
+    /// The sets that are to be counted were not read.
+    #[error("in the sets: {0}")]
+    Sets(ReadFault),
+    /// A set that is to be counted has no count in a counted input: the empty set is the first, 0.
+    #[error("the input has no count of set {nth}")]
+    Uncounted { nth: usize },
     /// What was asked for was not found out.
     #[error(transparent)]
     Mine(MineFault),
@@ -26,6 +32,14 @@ impl From<AllocError> for RunFault {
     ghost from_gives = { λ _ fault. fault ≡ Mine Memory };
 
     fn from(_error: AllocError) -> Self {
+        RunFault::Mine(MineFault::Memory)
+    }
+}
+
+impl<T: Drop> From<AllocFailed<T>> for RunFault {
+    ghost from_gives = { λ _ fault. fault ≡ Mine Memory };
+
+    fn from(_error: AllocFailed<T>) -> Self {
         RunFault::Mine(MineFault::Memory)
     }
 }
@@ -43,9 +57,11 @@ pub fn status_of(fault: &RunFault) -> u8
     ensures { result ≡ status_after fault.now }
 {
     match fault {
-        RunFault::Input(ReadFault::Read) | RunFault::Write => 4,
-        RunFault::Input(ReadFault::Memory) | RunFault::Mine(MineFault::Memory) => 6,
+        RunFault::Input(ReadFault::Read) | RunFault::Sets(ReadFault::Read) | RunFault::Write => 4,
+        RunFault::Input(ReadFault::Memory)
+        | RunFault::Sets(ReadFault::Memory)
+        | RunFault::Mine(MineFault::Memory) => 6,
         RunFault::Mine(MineFault::TooMany { .. }) => 5,
-        RunFault::Input(_) => 3,
+        RunFault::Input(_) | RunFault::Sets(_) | RunFault::Uncounted { .. } => 3,
     }
 }

@@ -27,7 +27,7 @@ pub fn report_items<R: Threads + Sync, S: Source>(
 ) -> Result<Made, RunFault>
     requires reader { S.has_failed reader.old ≡ false }
     requires items { plan.now.question.ask ≡ Ask.Items }
-    requires lines { plan.now.question.form ≡ Form.Fimi }
+    requires lines { plan.now.question.layout.form ≡ Form.Fimi }
     ensures { MakesReport plan.now.question (S.left reader.old) (S.left reader.new) (S.has_failed reader.new) result }
 {
     let counts = match count_fimi(alloc, reader) {

@@ -1,7 +1,11 @@
 //! From the bytes of an input to the bytes of a report.
 #![tactic(auto)]
 
+mod asked;
 mod class_miner;
+mod contents;
+mod count;
+mod counted;
 mod engine;
 mod fault;
 mod input;
@@ -9,8 +13,12 @@ mod items;
 mod made;
 mod mining;
 
-pub use basket_plan::{Ask, Form, Miner, Plan, PlanFault, plan_of, plan_status};
+pub use basket_plan::{
+    Ask, CountPlan, Form, Invocation, Layout, Miner, Origin, Plan, PlanFault, Task, invocation_of,
+    plan_status,
+};
 pub use basket_report::{Style, sets_report};
+pub use count::run_count;
 pub use engine::run;
 pub use fault::{RunFault, status_of};
 pub use mine_phases::{Gate, Open};

@@ -4,7 +4,8 @@ ghost use Rattle.std.specs.Io.KnownBytes.{Appends};
 ghost use Rattle.basket_report.specs.Block.{TakesFront};
 ghost use Rattle.basket_report.specs.Report.{report_of};
 ghost use Rattle.basket_report.specs.Style.{wording_of};
-ghost use Rattle.basket_rules.specs.Condensed.{closed_of, maximal_of};
+ghost use Rattle.basket_rules.specs.Condensed.{closed_in, closed_of, maximal_in, maximal_of};
+ghost use Rattle.basket_rules.specs.Consistency.{IsConsistent};
 ghost use Rattle.basket_rules.specs.Listed.{IsListingOf};
 ghost use Rattle.basket_sets.specs.declared.minimum.Minimum.{Minimum as Bound};
 ghost use Rattle.basket_sets.specs.declared.weighted.Weighted.{Weighted as Basket};
@@ -42,7 +43,8 @@ impl Made {
         frequent: Frequent,
         style: Style<'_>,
     ) -> Result<Self, AllocError>
-        ensures { IfOk result (λ made. (baskets : List Basket) (minimum : Bound) → IsListingOf baskets minimum frequent
+        ensures lists { IfOk result (λ made. IsConsistent frequent.sets → made_text made ≡ report_of (wording_of style.entry) (closed_in frequent.sets)) }
+        ensures baskets { IfOk result (λ made. (baskets : List Basket) (minimum : Bound) → IsListingOf baskets minimum frequent
             → made_text made ≡ report_of (wording_of style.entry) (closed_of baskets minimum)) }
     {
         Made::of_sets(alloc, closed(alloc, &frequent)?, style)
@@ -54,7 +56,8 @@ impl Made {
         frequent: Frequent,
         style: Style<'_>,
     ) -> Result<Self, AllocError>
-        ensures { IfOk result (λ made. (baskets : List Basket) (minimum : Bound) → IsListingOf baskets minimum frequent
+        ensures lists { IfOk result (λ made. IsConsistent frequent.sets → made_text made ≡ report_of (wording_of style.entry) (maximal_in frequent.sets)) }
+        ensures baskets { IfOk result (λ made. (baskets : List Basket) (minimum : Bound) → IsListingOf baskets minimum frequent
             → made_text made ≡ report_of (wording_of style.entry) (maximal_of baskets minimum)) }
     {
         Made::of_sets(alloc, maximal(alloc, &frequent)?, style)

@@ -7,14 +7,14 @@ mod stage;
 
 use anyhow::Context;
 use basket::{Ask, Plan, Style, sets_report};
-use basket_core::{Coded, MemSource, Minimum, parse_minimum};
+use basket_core::{Coded, Database, Frequent, MemSource, Minimum, parse_minimum};
 use basket_read::read_fimi;
 use mine_apriori::Levels;
 use shared::print_miners;
 use stage::{Times, print_stages};
 use std::io::Read;
 use std::thread::Threads;
-use std::time::Instant;
+use std::time::{Duration, Instant};
 use std::{env, fs};
 
 const USAGE: &str = "usage: basket_bench MINIMUM RUNS < INPUT
@@ -74,24 +74,10 @@ fn bench<R: Threads + Sync>(
 
 /// Runs each stage once.
 fn timed(rt: &HostRuntime, input: &[u8], minimum: Minimum) -> anyhow::Result<Times> {
-    let alloc = rt.alloc();
-    let start = Instant::now(rt)?;
-    let database = read_fimi(alloc, &mut MemSource::new(input, usize::MAX, None)).context(
-        "the input was not read",
-    )?;
-    let read = start.elapsed(rt)?;
-    let start = Instant::now(rt)?;
-    let coded = Coded::of(alloc, &database, minimum)?.merged(alloc)?;
-    let code = start.elapsed(rt)?;
-    let start = Instant::now(rt)?;
-    let levels = Levels::searched(alloc, &coded, u32::MAX).context("the sets were not found")?;
-    let apriori = start.elapsed(rt)?;
-    let start = Instant::now(rt)?;
-    let frequent = levels.finish(alloc).context("the list was not made")?;
-    let list = start.elapsed(rt)?;
-    let start = Instant::now(rt)?;
-    let _report = sets_report(alloc, frequent.sets(), Style::Numbers)?;
-    let report = start.elapsed(rt)?;
+    let (database, read) = timed_read(rt, input)?;
+    let (coded, code) = timed_code(rt, &database, minimum)?;
+    let (frequent, apriori, list) = timed_search(rt, &coded)?;
+    let report = timed_report(rt, &frequent)?;
     Ok(Times {
         read,
         code,
@@ -99,4 +85,38 @@ fn timed(rt: &HostRuntime, input: &[u8], minimum: Minimum) -> anyhow::Result<Tim
         list,
         report,
     })
+}
+
+fn timed_read(rt: &HostRuntime, input: &[u8]) -> anyhow::Result<(Database, Duration)> {
+    let start = Instant::now(rt)?;
+    let database = read_fimi(rt.alloc(), &mut MemSource::new(input, usize::MAX, None)).context(
+        "the input was not read",
+    )?;
+    Ok((database, start.elapsed(rt)?))
+}
+
+fn timed_code(
+    rt: &HostRuntime,
+    database: &Database,
+    minimum: Minimum,
+) -> anyhow::Result<(Coded, Duration)> {
+    let start = Instant::now(rt)?;
+    let coded = Coded::of(rt.alloc(), database, minimum)?.merged(rt.alloc())?;
+    Ok((coded, start.elapsed(rt)?))
+}
+
+/// The list, how long the search took, and how long the list.
+fn timed_search(rt: &HostRuntime, coded: &Coded) -> anyhow::Result<(Frequent, Duration, Duration)> {
+    let start = Instant::now(rt)?;
+    let levels = Levels::searched(rt.alloc(), coded, u32::MAX).context("the sets were not found")?;
+    let apriori = start.elapsed(rt)?;
+    let start = Instant::now(rt)?;
+    let frequent = levels.finish(rt.alloc()).context("the list was not made")?;
+    Ok((frequent, apriori, start.elapsed(rt)?))
+}
+
+fn timed_report(rt: &HostRuntime, frequent: &Frequent) -> anyhow::Result<Duration> {
+    let start = Instant::now(rt)?;
+    let _report = sets_report(rt.alloc(), frequent.sets(), Style::Numbers)?;
+    Ok(start.elapsed(rt)?)
 }

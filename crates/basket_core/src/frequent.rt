@@ -63,6 +63,13 @@ impl Frequent {
         })
     }
 
+    /// The list of sets that were counted elsewhere, in report order, and the weight of all baskets.
+    pub fn of_counted(sets: CountedSets, total: u64) -> Self
+        ensures { result ≡ record { sets = sets; total = total } }
+    {
+        Frequent { sets, total }
+    }
+
     /// The sets with their supports.
     pub fn sets(&self) -> &CountedSets
         ensures { result.now ≡ self.now.sets }

@@ -5,9 +5,11 @@ mod IdLemmas
 mod FieldLemmas
 mod RecordLemmas
 mod GatheredLemmas
-mod WeightLemmas
+mod NumberLemmas
 mod RowLemmas
 mod BasketLemmas
 mod ReadLemmas
+mod CountLemmas
 mod PairLemmas
 mod LawLemmas
+mod NamedLemmas

@@ -1,5 +1,5 @@
 -- Pairs of an id and a name, one after another.
-use Rattle.std.proofs.Common.{◌≡◌, ℕ, zero, suc, ◌+◌, ◌≤◌, ◌<◌, Bool, true, false, cond, not, ◌&&◌, ◌||◌, List, [], ◌∷◌, ◌++◌, length, map, filter, set, get_or, ltb, Some, None, Result, Ok, Err, refl, sym, ap, ◌∙◌, subst, arith}
+use Rattle.std.proofs.Common.{◌≡◌, ℕ, zero, suc, ◌+◌, ◌≤◌, ◌<◌, Bool, true, false, cond, not, ◌&&◌, ◌||◌, List, [], ◌∷◌, ◌++◌, length, map, filter, set, get_or, ltb, Some, None, Result, Ok, Err, refl, sym, ap, ◌∙◌, subst, append_assoc, arith}
 use Rattle.std.specs.List.{flat_map, list_all, list_any}
 use Rattle.std.specs.Result.{OnOk}
 use Rattle.std.specs.Str.{bytes_eq, is_utf8}
@@ -19,7 +19,7 @@ use Rattle.basket_csv.specs.Field.{trimmed}
 use Rattle.basket_csv.specs.Ids.{HasIds}
 use Rattle.basket_csv.specs.Names.{with_name, in_order, number_in}
 use Rattle.basket_csv.specs.Row.{IsKnownPair}
-use Rattle.basket_csv.specs.Pairs.{HasPairs, added_at, numbers_of, are_among}
+use Rattle.basket_csv.specs.Pairs.{HasPairs, added_at, numbers_of, groups_are_among}
 use Rattle.basket_csv.proofs.BasketLemmas.{no_text_first}
 use Rattle.basket_csv.proofs.RowLemmas.{known_some, nothing_is_text}
 use Rattle.basket_csv.proofs.NamesLemmas.{among, among_more, among_with, numbers_stay, number_stays}
@@ -70,10 +70,10 @@ groups_more names (group ∷ groups) id name = at (bytes_eq id group.0) (groups_
         let next : 1 + number_in (map (λ g. g.0) groups) id ≡ suc (number_in (map (λ g. g.0) groups) id) = omega arith in
         ap (λ place. added_at (map (number_in names) group.1 ∷ numbers_of names groups) place (number_in names name)) next ∙ ap (λ gs. map (number_in names) group.1 ∷ gs) later
 
-groups_stay : (names : List (List ℕ)) (name : List ℕ) (groups : Groups) → are_among names groups ≡ true → numbers_of (with_name names name) groups ≡ numbers_of names groups
+groups_stay : (names : List (List ℕ)) (name : List ℕ) (groups : Groups) → groups_are_among names groups ≡ true → numbers_of (with_name names name) groups ≡ numbers_of names groups
 groups_stay names name [] e = refl
 groups_stay names name (group ∷ groups) e =
-    let h = and_parts (list_all (among names) group.1) (are_among names groups) e in
+    let h = and_parts (list_all (among names) group.1) (groups_are_among names groups) e in
     ap (λ g. g ∷ numbers_of (with_name names name) groups) (numbers_stay names (name ∷ []) group.1 h.0) ∙ ap (λ gs. map (number_in names) group.1 ∷ gs) (groups_stay names name groups h.1)
 
 all_among_more : (names : List (List ℕ)) (name : List ℕ) (some : List (List ℕ)) → list_all (among names) some ≡ true → list_all (among (with_name names name)) some ≡ true
@@ -82,55 +82,57 @@ all_among_more names name (other ∷ some) e =
     let h = and_parts (among names other) (list_all (among names) some) e in
     and_from (among (with_name names name) other) (list_all (among (with_name names name)) some) (among_more names other name h.0) (all_among_more names name some h.1)
 
-among_goes_on : (names : List (List ℕ)) (name : List ℕ) (groups : Groups) → are_among names groups ≡ true → are_among (with_name names name) groups ≡ true
+among_goes_on : (names : List (List ℕ)) (name : List ℕ) (groups : Groups) → groups_are_among names groups ≡ true → groups_are_among (with_name names name) groups ≡ true
 among_goes_on names name [] e = refl
 among_goes_on names name (group ∷ groups) e =
-    let h = and_parts (list_all (among names) group.1) (are_among names groups) e in
-    and_from (list_all (among (with_name names name)) group.1) (are_among (with_name names name) groups) (all_among_more names name group.1 h.0) (among_goes_on names name groups h.1)
+    let h = and_parts (list_all (among names) group.1) (groups_are_among names groups) e in
+    and_from (list_all (among (with_name names name)) group.1) (groups_are_among (with_name names name) groups) (all_among_more names name group.1 h.0) (among_goes_on names name groups h.1)
 
-among_with_pair : (names : List (List ℕ)) (groups : Groups) (id name : List ℕ) → among names name ≡ true → are_among names groups ≡ true → are_among names (with_pair groups (id, name)) ≡ true
+among_with_pair : (names : List (List ℕ)) (groups : Groups) (id name : List ℕ) → among names name ≡ true → groups_are_among names groups ≡ true → groups_are_among names (with_pair groups (id, name)) ≡ true
 among_with_pair names [] id name is e = and_from (among names name && true) true (and_from (among names name) true is refl) refl
 among_with_pair names (group ∷ groups) id name is e =
-    let h = and_parts (list_all (among names) group.1) (are_among names groups) e in
+    let h = and_parts (list_all (among names) group.1) (groups_are_among names groups) e in
     at (bytes_eq id group.0) h.0 h.1 (among_with_pair names groups id name is h.1)
   where
-    at : (b : Bool) → list_all (among names) group.1 ≡ true → are_among names groups ≡ true → are_among names (with_pair groups (id, name)) ≡ true
-        → are_among names (cond b ((group.0, group.1 ++ name ∷ []) ∷ groups) (group ∷ with_pair groups (id, name))) ≡ true
+    at : (b : Bool) → list_all (among names) group.1 ≡ true → groups_are_among names groups ≡ true → groups_are_among names (with_pair groups (id, name)) ≡ true
+        → groups_are_among names (cond b ((group.0, group.1 ++ name ∷ []) ∷ groups) (group ∷ with_pair groups (id, name))) ≡ true
     at true here behind later =
-        and_from (list_all (among names) (group.1 ++ name ∷ [])) (are_among names groups)
+        and_from (list_all (among names) (group.1 ++ name ∷ [])) (groups_are_among names groups)
         (list_all-append (among names) group.1 (name ∷ []) ∙ and_from (list_all (among names) group.1) _ here (and_from (among names name) true is refl)) behind
-    at false here behind later = and_from (list_all (among names) group.1) (are_among names (with_pair groups (id, name))) here later
+    at false here behind later = and_from (list_all (among names) group.1) (groups_are_among names (with_pair groups (id, name))) here later
 
 -- ---- what was read, with one pair more
 
 gather_more : (pairs : List (List ℕ × List ℕ)) (pair : List ℕ × List ℕ) → gather (pairs ++ pair ∷ []) ≡ with_pair (gather pairs) pair
 gather_more pairs pair = fold-append with_pair [] pairs (pair ∷ [])
 
-names_more : (pairs : List (List ℕ × List ℕ)) (pair : List ℕ × List ℕ) → names_of_pairs (pairs ++ pair ∷ []) ≡ with_name (names_of_pairs pairs) pair.1
-names_more pairs pair = ap in_order (map-append (λ p. p.1) pairs (pair ∷ [])) ∙ fold-append with_name [] (map (λ p. p.1) pairs) (pair.1 ∷ [])
+names_more : (known : List (List ℕ)) (pairs : List (List ℕ × List ℕ)) (pair : List ℕ × List ℕ) → names_of_pairs known (pairs ++ pair ∷ []) ≡ with_name (names_of_pairs known pairs) pair.1
+names_more known pairs pair =
+    let names = map (λ (p : List ℕ × List ℕ). p.1) pairs in
+    ap (λ ns. in_order (known ++ ns)) (map-append (λ p. p.1) pairs (pair ∷ [])) ∙ ap in_order (sym (append_assoc known names (pair.1 ∷ []))) ∙ fold-append with_name [] (known ++ names) (pair.1 ∷ [])
 
-pub paired : {S H : Type 0} (old new : Pairs S H) (pairs : List (List ℕ × List ℕ)) (id name : List ℕ) (number place : ℕ)
+pub paired : {S H : Type 0} (old new : Pairs S H) (known : List (List ℕ)) (pairs : List (List ℕ × List ℕ)) (id name : List ℕ) (number place : ℕ)
     → new.names ≡ with_name old.names name → number ≡ number_in new.names name
     → ((ids : List (List ℕ)) → HasIds old.ids ids → HasIds new.ids (with_name ids id)) → ((ids : List (List ℕ)) → HasIds old.ids ids → place ≡ number_in (with_name ids id) id)
     → map (λ group. group.items) new.groups.items ≡ added_at (map (λ group. group.items) old.groups.items) place number
-    → HasPairs old pairs → HasPairs new (pairs ++ (id, name) ∷ [])
-paired old new pairs id name number place a b c d e h =
-    let before = names_of_pairs pairs in
+    → HasPairs old known pairs → HasPairs new known (pairs ++ (id, name) ∷ [])
+paired old new known pairs id name number place a b c d e h =
+    let before = names_of_pairs known pairs in
     let after : new.names ≡ with_name before name = a ∙ ap (λ ns. with_name ns name) h.names in
     let all = gather_more pairs (id, name) in
-    let names = names_more pairs (id, name) in
+    let names = names_more known pairs (id, name) in
     let ids = map (λ g. g.0) (gather pairs) in
     let at_place : place ≡ number_in ids id = d ids h.ids ∙ number_stays ids id in
     let its_number : number ≡ number_in (with_name before name) name = b ∙ ap (λ ns. number_in ns name) after in
-    let stay : map (λ group. group.items) old.groups.items ≡ numbers_of (with_name before name) (gather pairs) = h.groups ∙ sym (groups_stay before name (gather pairs) h.known) in
+    let stay : map (λ group. group.items) old.groups.items ≡ numbers_of (with_name before name) (gather pairs) = h.groups ∙ sym (groups_stay before name (gather pairs) h.among) in
     record {
       names = after ∙ sym names;
       ids = subst (HasIds new.ids) (ids_more (gather pairs) id name ∙ ap (map (λ g. g.0)) (sym all)) (c ids h.ids);
       groups = e ∙ ap (λ gs. added_at gs place number) stay ∙ ap (λ p. added_at (numbers_of (with_name before name) (gather pairs)) p number) at_place
           ∙ ap (added_at (numbers_of (with_name before name) (gather pairs)) (number_in ids id)) its_number
           ∙ groups_more (with_name before name) (gather pairs) id name ∙ ap (λ gs. numbers_of (with_name before name) gs) (sym all) ∙ ap (λ ns. numbers_of ns (gather (pairs ++ (id, name) ∷ []))) (sym names);
-      known = ap (λ ns. are_among ns (gather (pairs ++ (id, name) ∷ []))) names ∙ ap (are_among (with_name before name)) all
-          ∙ among_with_pair (with_name before name) (gather pairs) id name (among_with before name) (among_goes_on before name (gather pairs) h.known);
+      among = ap (λ ns. groups_are_among ns (gather (pairs ++ (id, name) ∷ []))) names ∙ ap (groups_are_among (with_name before name)) all
+          ∙ among_with_pair (with_name before name) (gather pairs) id name (among_with before name) (among_goes_on before name (gather pairs) h.among);
     }
 
 pairs_more : (rows : List (List (List ℕ))) (row : List (List ℕ)) → is_nil (trimmed (field_in row 1)) ≡ false → pairs_of (rows ++ row ∷ []) ≡ pairs_of rows ++ pair_of row ∷ []
@@ -140,26 +142,26 @@ pairs_more rows row some =
     ∙ ap (λ b. pairs_of rows ++ cond (not b) (pair_of row ∷ []) []) some
 
 -- a record whose pair was added
-pub pair_added : {S H X : Type 0} (new : Pairs S H) (rows : List (List (List ℕ))) (row : List (List ℕ)) (id name : List ℕ) (r : Result X ReadFault)
+pub pair_added : {S H X : Type 0} (new : Pairs S H) (known : List (List ℕ)) (rows : List (List (List ℕ))) (row : List (List ℕ)) (id name : List ℕ) (r : Result X ReadFault)
     → id ≡ trimmed (field_in row 0) → name ≡ trimmed (field_in row 1) → is_nil (trimmed (field_in row 1)) ≡ false
-    → OnOk r (HasPairs new (pairs_of rows ++ (id, name) ∷ [])) → OnOk r (HasPairs new (pairs_of (rows ++ row ∷ [])))
-pair_added new rows row id name r a b some h =
-    subst (λ pairs. OnOk r (HasPairs new pairs)) (ap (λ i. pairs_of rows ++ (i, name) ∷ []) a ∙ ap (λ n. pairs_of rows ++ (trimmed (field_in row 0), n) ∷ []) b ∙ sym (pairs_more rows row some)) h
+    → OnOk r (HasPairs new known (pairs_of rows ++ (id, name) ∷ [])) → OnOk r (HasPairs new known (pairs_of (rows ++ row ∷ [])))
+pair_added new known rows row id name r a b some h =
+    subst (λ pairs. OnOk r (HasPairs new known pairs)) (ap (λ i. pairs_of rows ++ (i, name) ∷ []) a ∙ ap (λ n. pairs_of rows ++ (trimmed (field_in row 0), n) ∷ []) b ∙ sym (pairs_more rows row some)) h
 
 -- a record of a known id and a known name, whose numbers were added
-pub known_paired : {S H : Type 0} (old new : Pairs S H) (rows : List (List (List ℕ))) (row : List (List ℕ)) (place number : ℕ)
+pub known_paired : {S H : Type 0} (old new : Pairs S H) (known : List (List ℕ)) (rows : List (List (List ℕ))) (row : List (List ℕ)) (place number : ℕ)
     → new.names ≡ old.names → new.ids ≡ old.ids → map (λ group. group.items) new.groups.items ≡ added_at (map (λ group. group.items) old.groups.items) place number
-    → ((ids : List (List ℕ)) → HasIds old.ids ids → IsKnownPair ids old.names row place number) → HasPairs old (pairs_of rows) → HasPairs new (pairs_of (rows ++ row ∷ []))
-known_paired old new rows row place number names same groups known h =
-    let found = known (map (λ g. g.0) (gather (pairs_of rows))) h.ids in
+    → ((ids : List (List ℕ)) → HasIds old.ids ids → IsKnownPair ids old.names row place number) → HasPairs old known (pairs_of rows) → HasPairs new known (pairs_of (rows ++ row ∷ []))
+known_paired old new known rows row place number names same groups pair h =
+    let found = pair (map (λ g. g.0) (gather (pairs_of rows))) h.ids in
     let name = found.name in
     let name_is = sym name.trimmed in
     let all = pairs_more rows row (known_some old.names (field_in row 1) number name) in
-    subst (HasPairs new) (sym all)
-    (paired old new (pairs_of rows) (trimmed (field_in row 0)) (trimmed (field_in row 1)) number place
+    subst (HasPairs new known) (sym all)
+    (paired old new known (pairs_of rows) (trimmed (field_in row 0)) (trimmed (field_in row 1)) number place
     (names ∙ name.known.stay ∙ ap (with_name old.names) name_is) (name.known.place ∙ ap (λ ns. number_in ns (field_in row 1)) (sym names) ∙ ap (number_in new.names) name_is)
-    (λ ids has. let id = (known ids has).id in subst (HasIds new.ids) (id.known.stay ∙ ap (with_name ids) (sym id.trimmed)) (subst (λ i. HasIds i ids) (sym same) has))
-    (λ ids has. let id = (known ids has).id in id.known.place ∙ ap (λ is. number_in is (field_in row 0)) id.known.stay ∙ ap (λ i. number_in (with_name ids i) i) (sym id.trimmed))
+    (λ ids has. let id = (pair ids has).id in subst (HasIds new.ids) (id.known.stay ∙ ap (with_name ids) (sym id.trimmed)) (subst (λ i. HasIds i ids) (sym same) has))
+    (λ ids has. let id = (pair ids has).id in id.known.place ∙ ap (λ is. number_in is (field_in row 0)) id.known.stay ∙ ap (λ i. number_in (with_name ids i) i) (sym id.trimmed))
     groups h)
 
 -- ---- the baskets of the groups

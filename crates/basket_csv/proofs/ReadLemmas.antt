@@ -1,11 +1,12 @@
 -- What records say as a whole.
-use Rattle.std.proofs.Common.{◌≡◌, ◌≢◌, ℕ, ◌+◌, Bool, true, false, cond, leb, ltb, List, [], ◌∷◌, length, Option, Some, None, Result, Ok, Err, sym, ap, subst}
+use Rattle.std.proofs.Common.{◌≡◌, ◌≢◌, ℕ, ◌+◌, Bool, true, false, cond, leb, ltb, List, [], ◌∷◌, ◌++◌, length, Option, Some, None, Result, Ok, Err, sym, ap, ◌∙◌, subst}
 use Rattle.basket_sets.specs.declared.weighted.Weighted.{Weighted}
 use Rattle.basket_sets.specs.Database.{MOST_WEIGHT}
 use Rattle.basket_sets.specs.Support.{total_of}
 use Rattle.basket_read.specs.declared.fault.ReadFault.{ReadFault}
 use Rattle.basket_read.specs.declared.fault.ReadFault.TheVariants.{Read, NotText, ShortRecord, Heavy}
 use Rattle.basket_read.specs.Fimi.{or_else, if_light}
+use Rattle.basket_read.specs.Text.{Tells}
 use Rattle.basket_csv.specs.Csv.{Named, is_text, weight_of, weight_fault, basket_fault, fault_from, with_names, if_faultless, baskets_in, all_names, say_baskets, pair_fault, pairs_of, baskets_of_pairs, names_of_pairs, say_pairs}
 use Rattle.basket_csv.specs.Names.{in_order}
 use Rattle.basket_csv.specs.Read.{Answers}
@@ -14,6 +15,12 @@ use Rattle.basket_csv.specs.Read.{Answers}
 pub faultless_answer : (answer : Result Named ReadFault) (found : Option ReadFault) (baskets : List Weighted) (names : List (List ℕ))
     → found ≡ None → Answers answer (with_names (if_light baskets) names) → Answers answer (if_faultless found baskets names)
 faultless_answer answer found baskets names e h = subst (λ o. Answers answer (if_faultless o baskets names)) (sym e) h
+
+-- an answer where one has
+pub faulty_answer : (answer : Result Named ReadFault) (told fault : ReadFault) (found : Option ReadFault) (baskets : List Weighted) (names : List (List ℕ))
+    → answer ≡ Err told → told ≡ fault → Tells fault found → Answers answer (if_faultless found baskets names)
+faulty_answer answer told fault found baskets names e f tells =
+    subst (λ o. Answers o (if_faultless found baskets names)) (sym (e ∙ ap Err f)) (λ some. ap (λ o. if_faultless o baskets names) (tells some))
 
 -- ---- no record has the fault of a reader
 
@@ -44,9 +51,9 @@ pub not_answered : (found : Option ReadFault) (baskets : List Weighted) (names :
 not_answered (Some fault) baskets names none e = none (let same : fault ≡ Read = cc in ap Some same)
 not_answered None baskets names none e = light baskets names (leb (total_of baskets) MOST_WEIGHT) e
 
-pub baskets_not_read : (weighted : Bool) (nth : ℕ) (rows : List (List (List ℕ))) → say_baskets weighted nth rows ≢ Err Read
-baskets_not_read weighted nth rows e =
-    not_answered (fault_from (basket_fault weighted) nth rows) (baskets_in weighted rows) (in_order (all_names weighted rows)) (not_found (basket_fault weighted) (not_basket weighted) nth rows) e
+pub baskets_not_read : (weighted : Bool) (nth : ℕ) (known : List (List ℕ)) (rows : List (List (List ℕ))) → say_baskets weighted nth known rows ≢ Err Read
+baskets_not_read weighted nth known rows e =
+    not_answered (fault_from (basket_fault weighted) nth rows) (baskets_in weighted known rows) (in_order (known ++ all_names weighted rows)) (not_found (basket_fault weighted) (not_basket weighted) nth rows) e
 
 not_pair : (nth : ℕ) (row : List (List ℕ)) → pair_fault nth row ≢ Some Read
 not_pair nth row e = at (is_text row) (ltb (length row) 2) e
@@ -56,9 +63,9 @@ not_pair nth row e = at (is_text row) (ltb (length row) 2) e
     at true false e = absurd cc
     at false short e = absurd cc
 
-pub pairs_not_read : (nth : ℕ) (rows : List (List (List ℕ))) → say_pairs nth rows ≢ Err Read
-pairs_not_read nth rows e =
-    not_answered (fault_from pair_fault nth rows) (baskets_of_pairs (pairs_of rows)) (names_of_pairs (pairs_of rows)) (not_found pair_fault not_pair nth rows) e
+pub pairs_not_read : (nth : ℕ) (known : List (List ℕ)) (rows : List (List (List ℕ))) → say_pairs nth known rows ≢ Err Read
+pairs_not_read nth known rows e =
+    not_answered (fault_from pair_fault nth rows) (baskets_of_pairs known (pairs_of rows)) (names_of_pairs known (pairs_of rows)) (not_found pair_fault not_pair nth rows) e
 
 -- an answer that is `Read` can't stand for one that is not
 pub read_refuted : {P : Type 0} (answer said : Result Named ReadFault) → Answers answer said → said ≢ Err Read → answer ≡ Err Read → P

@@ -1,10 +1,10 @@
 -- What the records of a CSV text say: baskets of names, or their first fault. A record is a list of fields, and a field a
 -- list of bytes.
-use Rattle.std.specs.Prelude.{ℕ, ◌+◌, Bool, ◌&&◌, not, nat_le, nat_lt, if◌then◌else◌, List, [], ◌∷◌, ◌++◌, length, map, filter, fold, drop, slice_index_or, Option, Some, None, Result, Ok, Err, unwrap_or}
+use Rattle.std.specs.Prelude.{ℕ, ◌+◌, Bool, not, nat_lt, if◌then◌else◌, List, [], ◌∷◌, ◌++◌, length, map, filter, fold, drop, slice_index_or, Option, Some, None, Result, Ok, Err, unwrap_or}
 use Rattle.std.specs.List.{list_all, flat_map}
 use Rattle.std.specs.Str.{is_utf8, bytes_eq}
 use Rattle.basket_sets.specs.declared.weighted.Weighted.{Weighted}
-use Rattle.basket_sets.specs.Minimum.{is_digit, value_of}
+use Rattle.basket_sets.specs.Minimum.{number_of}
 use Rattle.basket_read.specs.declared.fault.ReadFault.{ReadFault}
 use Rattle.basket_read.specs.declared.fault.ReadFault.TheVariants.{TooLong, NotText, ShortRecord, Weight}
 use Rattle.basket_read.specs.Fimi.{is_nil, or_else, basket_of_numbers, if_light, MOST_NUMBER, MOST_BYTES}
@@ -49,9 +49,14 @@ fields_before weighted = if weighted then 1 else 0
 abbrev pub names_in : Bool → List (List ℕ) → List (List ℕ)
 names_in weighted row = names_of (drop (fields_before weighted) row)
 
+-- a number, if it is at least 1
+abbrev pub positive : Option ℕ → Option ℕ
+positive None = None
+positive (Some number) = if nat_lt 0 number then Some number else None
+
 -- the weight that a text writes: digits of a value from 1 to the greatest weight
 abbrev pub weight_written : List ℕ → Option ℕ
-weight_written text = if list_all is_digit text && (nat_le 1 (value_of text) && nat_le (value_of text) MOST_NUMBER) then Some (value_of text) else None
+weight_written text = positive (number_of MOST_NUMBER text)
 
 -- the weight of a record: that in its first field, where one is asked for, else 1
 abbrev pub weight_of : Bool → List (List ℕ) → Option ℕ
@@ -73,9 +78,9 @@ all_names weighted rows = flat_map (names_in weighted) rows
 abbrev pub basket_of : Bool → List (List ℕ) → List (List ℕ) → List Weighted
 basket_of weighted names row = basket_of_numbers (map (number_in names) (names_in weighted row)) (unwrap_or (weight_of weighted row) 1)
 
--- the baskets of all records, over the names in the order of their first appearance
-abbrev pub baskets_in : Bool → List (List (List ℕ)) → List Weighted
-baskets_in weighted rows = flat_map (basket_of weighted (in_order (all_names weighted rows))) rows
+-- the baskets of all records, over the known names and those of the records in the order of their first appearance
+abbrev pub baskets_in : Bool → List (List ℕ) → List (List (List ℕ)) → List Weighted
+baskets_in weighted known rows = flat_map (basket_of weighted (in_order (known ++ all_names weighted rows))) rows
 
 -- ---- what is read
 
@@ -93,14 +98,15 @@ abbrev pub if_faultless : Option ReadFault → List Weighted → List (List ℕ)
 if_faultless (Some fault) baskets names = Err fault
 if_faultless None baskets names = with_names (if_light baskets) names
 
--- what records say that have a basket each
-abbrev pub say_baskets : Bool → ℕ → List (List (List ℕ)) → Result Named ReadFault
-say_baskets weighted nth rows = if_faultless (fault_from (basket_fault weighted) nth rows) (baskets_in weighted rows) (in_order (all_names weighted rows))
+-- what records say that have a basket each, where some names are known
+abbrev pub say_baskets : Bool → ℕ → List (List ℕ) → List (List (List ℕ)) → Result Named ReadFault
+say_baskets weighted nth known rows =
+    if_faultless (fault_from (basket_fault weighted) nth rows) (baskets_in weighted known rows) (in_order (known ++ all_names weighted rows))
 
--- what the bytes say, read with a separator, with or without a header and weights
-abbrev pub baskets_of_csv : ℕ → Bool → Bool → List ℕ → Result Named ReadFault
-baskets_of_csv separator header weighted bytes =
-    if nat_lt MOST_BYTES (length bytes) then Err TooLong else say_baskets weighted (first_number header) (behind_header header (records_of separator bytes))
+-- what the bytes say, read with a separator, with or without a header and weights, where some names are known
+abbrev pub baskets_of_csv : ℕ → Bool → Bool → List (List ℕ) → List ℕ → Result Named ReadFault
+baskets_of_csv separator header weighted known bytes =
+    if nat_lt MOST_BYTES (length bytes) then Err TooLong else say_baskets weighted (first_number header) known (behind_header header (records_of separator bytes))
 
 -- ---- a basket's id and a name in each record
 
@@ -125,18 +131,19 @@ with_pair (group ∷ groups) pair = if bytes_eq pair.0 group.0 then (group.0, gr
 abbrev pub gather : List (List ℕ × List ℕ) → List (List ℕ × List (List ℕ))
 gather pairs = fold with_pair [] pairs
 
--- the names of pairs in the order of their first appearance
-abbrev pub names_of_pairs : List (List ℕ × List ℕ) → List (List ℕ)
-names_of_pairs pairs = in_order (map (λ pair. pair.1) pairs)
+-- the known names and those of pairs in the order of their first appearance
+abbrev pub names_of_pairs : List (List ℕ) → List (List ℕ × List ℕ) → List (List ℕ)
+names_of_pairs known pairs = in_order (known ++ map (λ pair. pair.1) pairs)
 
 -- a basket for each id
-abbrev pub baskets_of_pairs : List (List ℕ × List ℕ) → List Weighted
-baskets_of_pairs pairs = flat_map (λ group. basket_of_numbers (map (number_in (names_of_pairs pairs)) group.1) 1) (gather pairs)
+abbrev pub baskets_of_pairs : List (List ℕ) → List (List ℕ × List ℕ) → List Weighted
+baskets_of_pairs known pairs = flat_map (λ group. basket_of_numbers (map (number_in (names_of_pairs known pairs)) group.1) 1) (gather pairs)
 
--- what records say that have an id and a name each
-abbrev pub say_pairs : ℕ → List (List (List ℕ)) → Result Named ReadFault
-say_pairs nth rows = if_faultless (fault_from pair_fault nth rows) (baskets_of_pairs (pairs_of rows)) (names_of_pairs (pairs_of rows))
+-- what records say that have an id and a name each, where some names are known
+abbrev pub say_pairs : ℕ → List (List ℕ) → List (List (List ℕ)) → Result Named ReadFault
+say_pairs nth known rows = if_faultless (fault_from pair_fault nth rows) (baskets_of_pairs known (pairs_of rows)) (names_of_pairs known (pairs_of rows))
 
-abbrev pub pairs_of_csv : ℕ → Bool → List ℕ → Result Named ReadFault
-pairs_of_csv separator header bytes =
-    if nat_lt MOST_BYTES (length bytes) then Err TooLong else say_pairs (first_number header) (behind_header header (records_of separator bytes))
+-- what the bytes say
+abbrev pub pairs_of_csv : ℕ → Bool → List (List ℕ) → List ℕ → Result Named ReadFault
+pairs_of_csv separator header known bytes =
+    if nat_lt MOST_BYTES (length bytes) then Err TooLong else say_pairs (first_number header) known (behind_header header (records_of separator bytes))

@@ -8,8 +8,11 @@ pub mod Row
 pub mod Input
 pub mod Ids
 pub mod Gathered
-pub mod Read
+pub mod Collector
 pub mod Baskets
+pub mod Counts
+pub mod Read
 pub mod Pairs
 pub mod Worked
+pub mod Named
 pub mod Laws

@@ -18,12 +18,12 @@ abbrev pub numbers_of : List (List ℕ) → List (List ℕ × List (List ℕ)) �
 numbers_of names groups = map (λ group. map (number_in names) group.1) groups
 
 -- whether each name of each group is among some names
-abbrev pub are_among : List (List ℕ) → List (List ℕ × List (List ℕ)) → Bool
-are_among names groups = list_all (λ group. list_all (λ name. list_any (bytes_eq name) names) group.1) groups
+abbrev pub groups_are_among : List (List ℕ) → List (List ℕ × List (List ℕ)) → Bool
+groups_are_among names groups = list_all (λ group. list_all (λ name. list_any (bytes_eq name) names) group.1) groups
 
--- the names, the ids and the numbers are those of these pairs
-pub record HasPairs {S H : Type 0} (read : Pairs S H) (pairs : List (List ℕ × List ℕ)) : Type 0 where
-  pub names : read.names ≡ names_of_pairs pairs
+-- the names, the ids and the numbers are those of these pairs, where some names are known
+pub record HasPairs {S H : Type 0} (read : Pairs S H) (known : List (List ℕ)) (pairs : List (List ℕ × List ℕ)) : Type 0 where
+  pub names : read.names ≡ names_of_pairs known pairs
   pub ids : HasIds read.ids (map (λ group. group.0) (gather pairs))
-  pub groups : map (λ group. group.items) read.groups.items ≡ numbers_of (names_of_pairs pairs) (gather pairs)
-  pub known : are_among (names_of_pairs pairs) (gather pairs) ≡ true
+  pub groups : map (λ group. group.items) read.groups.items ≡ numbers_of (names_of_pairs known pairs) (gather pairs)
+  pub among : groups_are_among (names_of_pairs known pairs) (gather pairs) ≡ true

@@ -1,10 +1,17 @@
 -- What a reader answers.
-use Rattle.std.specs.Prelude.{◌≡◌, ◌≢◌, Result, Ok, Err}
+use Rattle.std.specs.Prelude.{◌≡◌, ◌≢◌, ℕ, List, Vec, Result, Ok, Err}
+use Rattle.basket_read.specs.declared.counted_line.CountedLine.{CountedLine}
 use Rattle.basket_read.specs.declared.fault.ReadFault.{ReadFault}
 use Rattle.basket_read.specs.declared.fault.ReadFault.TheVariants.{Memory}
+use Rattle.basket_csv.specs.Counts.{NamedCounts}
 use Rattle.basket_csv.specs.Csv.{Named}
 
 -- but for want of memory, the answer is the one that is defined
 abbrev pub Answers : Result Named ReadFault → Result Named ReadFault → Type 0
 Answers (Ok named) answer = answer ≡ Ok named
 Answers (Err fault) answer = fault ≢ Memory → answer ≡ Err fault
+
+-- the same, where counted sets are answered
+abbrev pub AnswersCounts : {A : Type 0} → Result (Vec CountedLine A × List (List ℕ)) ReadFault → Result NamedCounts ReadFault → Type 0
+AnswersCounts (Ok named) answer = answer ≡ Ok (named.0.items, named.1)
+AnswersCounts (Err fault) answer = fault ≢ Memory → answer ≡ Err fault

@@ -1,20 +1,21 @@
 //! Records that have a basket each.
-ghost use Rattle.std.specs.Prelude.{◌≡◌, ◌≤◌, ◌+◌, Bool, List, ℕ, [], ◌∷◌, ◌++◌, length, drop, None, Some, MatchResult, OnOk, IfOk, IfSome, true, false};
+ghost use Rattle.std.specs.Prelude.{◌≡◌, ◌≤◌, List, ℕ, [], ◌++◌, length, drop, MatchResult, IfOk, IfErr, IfSome, false};
 ghost use Rattle.csv.specs.Records.{fields_of};
 ghost use Rattle.basket_read.specs.Fimi.{if_light, MOST_BYTES};
-ghost use Rattle.basket_read.specs.Text.{Tells};
-ghost use Rattle.basket_csv.specs.Csv.{is_text, weight_of, fields_before, basket_fault, fault_from, baskets_in, all_names, with_names, say_baskets, behind_header, first_number};
+ghost use Rattle.basket_csv.specs.Collector.{Start};
+ghost use Rattle.basket_csv.specs.Csv.{is_text, weight_of, fields_before, basket_fault, baskets_in, all_names, with_names, say_baskets, behind_header, first_number};
 ghost use Rattle.basket_csv.specs.Names.{in_order};
 ghost use Rattle.basket_csv.specs.Read.{Answers};
-ghost use Rattle.basket_csv.specs.Records.{records_of, records_left, records_taken, IsReading};
+ghost use Rattle.basket_csv.specs.Records.{records_of};
 ghost use Rattle.basket_csv.specs.Baskets.{HasRead};
 
+use crate::collector::{Collector, add_all};
+use crate::dialect::Dialect;
 use crate::field::trim;
 use crate::gathered::Gathered;
 use crate::names::{Names, Numbering};
-use crate::records::Records;
+use crate::number::weight_in;
 use crate::row::{number_names, text_at};
-use crate::weight::weight_in;
 use basket_read::ReadFault;
 use basket_sets::Database;
 use csv::ByteRecord;
@@ -40,30 +41,21 @@ fn weight_of(weighted: bool, nth: u32, row: &ByteRecord) -> Result<Option<u32>, 
 /// What has been read of such records.
 #[derive(Drop)]
 pub struct Baskets<S: BuildHasher> {
+    weighted: bool,
     names: Numbering<S>,
     gathered: Gathered,
     /// The numbers of the names of one record.
     numbers: Vec<u32>,
 }
 
-impl<S: BuildHasher> Baskets<S> {
-    pub fn new(alloc: Global, hasher: S) -> Self
-        ensures { (weighted : Bool) → HasRead result weighted [] }
-    {
-        Baskets {
-            names: Numbering::new(alloc, hasher),
-            gathered: Gathered::new(alloc),
-            numbers: Vec::new(alloc),
-        }
-    }
+impl<S: BuildHasher> Collector for Baskets<S> {
+    ghost fault_of = { λ start. basket_fault start.weighted };
 
-    /// Adds the basket of a record, if it has a name.
-    fn add(&mut self, weighted: bool, nth: u32, row: &ByteRecord) -> Result<(), ReadFault>
-        ensures fault { MatchResult result (λ _. basket_fault weighted nth (fields_of row.now) ≡ None) (λ fault. Tells fault (basket_fault weighted nth (fields_of row.now))) }
-        ensures read { (rows : List (List (List ℕ))) → HasRead self.old weighted rows → OnOk result (HasRead self.new weighted (rows ++ fields_of row.now ∷ [])) }
-    {
-        let weight = weight_of(weighted, nth, row)?;
-        let first = usize::from(weighted);
+    ghost has_read = { λ baskets start rows. HasRead baskets start rows };
+
+    fn add(&mut self, nth: u32, row: &ByteRecord) -> Result<(), ReadFault> {
+        let weight = weight_of(self.weighted, nth, row)?;
+        let first = usize::from(self.weighted);
         if !number_names(row, first, &mut self.names, &mut self.numbers)? {
             return Err(ReadFault::NotText { nth });
         }
@@ -72,45 +64,26 @@ impl<S: BuildHasher> Baskets<S> {
             None => Err(ReadFault::Weight { nth }),
         }
     }
-
-    /// Adds the baskets of all records but the header, up to the first with a fault.
-    pub fn add_all(
-        &mut self,
-        weighted: bool,
-        header: bool,
-        records: &mut Records<'_>,
-    ) -> Result<(), ReadFault>
-        requires reading { IsReading records.old }
-        requires fresh { records_taken records.old ≡ 0 }
-        ensures fault { let found = fault_from (basket_fault weighted) (first_number header) (behind_header header (records_left records.old)) in
-            MatchResult result (λ _. found ≡ None) (λ fault. Tells fault found) }
-        ensures read { HasRead self.old weighted [] → OnOk result (HasRead self.new weighted (behind_header header (records_left records.old))) }
-    {
-        if !records.pass_header(header)? {
-            return Ok(());
-        }
-        self.add_left(weighted, records)
-    }
-
-    /// Adds the baskets of the records that are left, up to the first with a fault.
-    fn add_left(&mut self, weighted: bool, records: &mut Records<'_>) -> Result<(), ReadFault>
-        requires { IsReading records.old }
-        ensures fault { let found = fault_from (basket_fault weighted) (records_taken records.old + 1) (records_left records.old) in
-            MatchResult result (λ _. found ≡ None) (λ fault. Tells fault found) }
-        ensures read { (rows : List (List (List ℕ))) → HasRead self.old weighted rows → OnOk result (HasRead self.new weighted (rows ++ records_left records.old)) }
-    {
-        'rows: while records.advance()? {
-            self.add(weighted, records.taken(), records.row())?;
-        }
-        Ok(())
-    }
 }
 
 impl<S: BuildHasher + Drop> Baskets<S> {
+    /// Nothing is read yet, and some names are known.
+    pub fn new(alloc: Global, hasher: S, weighted: bool, known: Names) -> Result<Self, ReadFault>
+        ensures read { (start : Start) → start.weighted ≡ weighted → start.known ≡ known → IfOk result (λ baskets. HasRead baskets start []) }
+        ensures err { IfErr result (λ fault. fault ≡ ReadFault.Memory) }
+    {
+        Ok(Baskets {
+            weighted,
+            names: Numbering::of(alloc, hasher, known)?,
+            gathered: Gathered::new(alloc),
+            numbers: Vec::new(alloc),
+        })
+    }
+
     /// All baskets with their names, if the baskets don't weigh too much.
     pub fn finish(self) -> Result<(Database, Names), ReadFault>
-        ensures { (weighted : Bool) (rows : List (List (List ℕ))) → HasRead self weighted rows →
-            Answers result (with_names (if_light (baskets_in weighted rows)) (in_order (all_names weighted rows))) }
+        ensures { (start : Start) (rows : List (List (List ℕ))) → HasRead self start rows →
+            Answers result (with_names (if_light (baskets_in start.weighted start.known rows)) (in_order (start.known ++ all_names start.weighted rows))) }
     {
         let Baskets {
             names,
@@ -126,16 +99,15 @@ impl<S: BuildHasher + Drop> Baskets<S> {
 pub fn say_baskets<S: BuildHasher + Drop>(
     alloc: Global,
     bytes: &[u8],
-    separator: u8,
-    header: bool,
+    dialect: Dialect,
     weighted: bool,
+    known: Names,
     hasher: S,
 ) -> Result<(Database, Names), ReadFault>
     requires { length bytes.now ≤ MOST_BYTES }
-    ensures { Answers result (say_baskets weighted (first_number header) (behind_header header (records_of separator bytes.now))) }
+    ensures { Answers result (say_baskets weighted (first_number dialect.header) known (behind_header dialect.header (records_of dialect.separator bytes.now))) }
 {
-    let mut baskets = Baskets::new(alloc, hasher);
-    let mut records = Records::new(alloc, bytes, separator);
-    baskets.add_all(weighted, header, &mut records)?;
+    let mut baskets = Baskets::new(alloc, hasher, weighted, known)?;
+    add_all(alloc, bytes, dialect, &mut baskets)?;
     baskets.finish()
 }

@@ -2,6 +2,9 @@
 #![tactic(auto)]
 
 mod baskets;
+mod collector;
+mod counts;
+mod dialect;
 mod field;
 mod gathered;
 mod ids;
@@ -9,13 +12,14 @@ mod input;
 mod key;
 pub mod laws;
 mod names;
+mod number;
 mod pairs;
 mod read;
 mod recent;
 mod records;
 mod row;
-mod weight;
 pub mod worked;
 
+pub use dialect::Dialect;
 pub use names::Names;
-pub use read::{read_baskets, read_single};
+pub use read::{read_baskets, read_named_counts, read_single};

@@ -1,7 +1,7 @@
 //! Names, and their numbers by first appearance.
 ghost use Rattle.std.specs.Prelude.{◌≡◌, ◌↔◌, [], length, slice_get, option_map, IsTrue, IfOk, IfErr, IfSome, OnOk};
 ghost use Rattle.basket_csv.specs.Key.{IsKeyOf};
-ghost use Rattle.basket_csv.specs.Names.{number_in, with_name, IsKnown};
+ghost use Rattle.basket_csv.specs.Names.{in_order, number_in, with_name, IsKnown};
 ghost use Rattle.basket_csv.specs.Recent.{IsNumberAt};
 
 use crate::key::Key;
@@ -28,6 +28,14 @@ impl Model for Names {
 }
 
 impl Names {
+    pub fn none(alloc: Global) -> Self
+        ensures { result ≡ [] }
+    {
+        Names {
+            names: Vec::new(alloc),
+        }
+    }
+
     /// The name of an item.
     pub fn get(&self, number: u32) -> Option<&str>
         ensures { option_map (λ name. name.now) result ≡ slice_get self.now number }
@@ -152,6 +160,22 @@ impl<S: BuildHasher> Numbering<S> {
 }
 
 impl<S: BuildHasher + Drop> Numbering<S> {
+    /// The numbering of these names, each of which counts once.
+    pub fn of(alloc: Global, hasher: S, known: Names) -> Result<Self, ReadFault>
+        ensures names { IfOk result (λ numbering. numbering ≡ in_order known) }
+        ensures err { IfErr result (λ fault. fault ≡ ReadFault.Memory) }
+    {
+        let mut names = IndexSet::with_hasher(alloc, hasher);
+        for name in known.names {
+            names.insert_full(name)?;
+        }
+        Ok(Numbering {
+            alloc,
+            names,
+            recent: Recent::new(alloc),
+        })
+    }
+
     /// The names by their numbers.
     pub fn into_names(self) -> Result<Names, AllocError>
         ensures { IfOk result (λ names. names ≡ self) }

@@ -1,22 +1,22 @@
 //! Records that have a basket's id and a name each.
-ghost use Rattle.std.specs.Prelude.{◌≡◌, ◌≤◌, ◌+◌, List, ℕ, [], ◌∷◌, ◌++◌, length, map, None, Some, MatchResult, OnOk, IfOk, IfErr, IfSome};
+ghost use Rattle.std.specs.Prelude.{◌≡◌, ◌≤◌, List, ℕ, [], ◌∷◌, ◌++◌, length, map, None, OnOk, IfOk, IfErr, IfSome};
 ghost use Rattle.std.specs.List.{flat_map};
 ghost use Rattle.csv.specs.Records.{fields_of};
 ghost use Rattle.basket_read.specs.Fimi.{basket_of_numbers, if_light, MOST_BYTES};
-ghost use Rattle.basket_read.specs.Text.{Tells};
-ghost use Rattle.basket_csv.specs.Csv.{pair_fault, pairs_of, fault_from, baskets_of_pairs, names_of_pairs, with_names, say_pairs, behind_header, first_number};
+ghost use Rattle.basket_csv.specs.Csv.{pair_fault, pairs_of, baskets_of_pairs, names_of_pairs, with_names, say_pairs, behind_header, first_number};
 ghost use Rattle.basket_csv.specs.Gathered.{HasGathered};
 ghost use Rattle.basket_csv.specs.Ids.{HasIds};
 ghost use Rattle.basket_csv.specs.Read.{Answers};
-ghost use Rattle.basket_csv.specs.Records.{records_of, records_left, records_taken, IsReading};
+ghost use Rattle.basket_csv.specs.Records.{records_of};
 ghost use Rattle.basket_csv.specs.Row.{IsKnownPair};
 ghost use Rattle.basket_csv.specs.Pairs.{HasPairs, added_at};
 
+use crate::collector::{Collector, add_all};
+use crate::dialect::Dialect;
 use crate::field::{is_name, trim};
 use crate::gathered::Gathered;
 use crate::ids::Ids;
 use crate::names::{Names, Numbering};
-use crate::records::Records;
 use crate::row::{is_text_from, known_number, text_at};
 use basket_read::ReadFault;
 use basket_sets::{Database, INLINE_ITEMS};
@@ -68,23 +68,25 @@ pub struct Pairs<S: BuildHasher> {
     groups: Vec<Group>,
 }
 
-impl<S: BuildHasher + Copy> Pairs<S> {
-    pub fn new(alloc: Global, hasher: S) -> Self
-        ensures { HasPairs result [] }
+impl<S: BuildHasher + Copy + Drop> Pairs<S> {
+    /// Nothing is read yet, and some names are known.
+    pub fn new(alloc: Global, hasher: S, known: Names) -> Result<Self, ReadFault>
+        ensures read { IfOk result (λ pairs. HasPairs pairs known []) }
+        ensures err { IfErr result (λ fault. fault ≡ ReadFault.Memory) }
     {
-        Pairs {
+        Ok(Pairs {
             alloc,
-            names: Numbering::new(alloc, hasher),
+            names: Numbering::of(alloc, hasher, known)?,
             ids: Ids::new(alloc, hasher),
             groups: Vec::new(alloc),
-        }
+        })
     }
 }
 
 impl<S: BuildHasher> Pairs<S> {
     /// Adds a name to the basket with an id.
     fn add_pair(&mut self, id: &str, name: &str) -> Result<(), ReadFault>
-        ensures read { (pairs : List (List ℕ × List ℕ)) → HasPairs self.old pairs → OnOk result (HasPairs self.new (pairs ++ (id.now, name.now) ∷ [])) }
+        ensures read { (known : List (List ℕ)) (pairs : List (List ℕ × List ℕ)) → HasPairs self.old known pairs → OnOk result (HasPairs self.new known (pairs ++ (id.now, name.now) ∷ [])) }
         ensures err { IfErr result (λ fault. fault ≡ ReadFault.Memory) }
     {
         let number = self.names.number(name)?;
@@ -108,12 +110,14 @@ impl<S: BuildHasher> Pairs<S> {
         let number = known_number(row, 1, &self.names)?;
         Some((place, number))
     }
+}
 
-    /// Adds the pair of a record, if it has a name.
-    fn add(&mut self, nth: u32, row: &ByteRecord) -> Result<(), ReadFault>
-        ensures fault { MatchResult result (λ _. pair_fault nth (fields_of row.now) ≡ None) (λ fault. Tells fault (pair_fault nth (fields_of row.now))) }
-        ensures read { (rows : List (List (List ℕ))) → HasPairs self.old (pairs_of rows) → OnOk result (HasPairs self.new (pairs_of (rows ++ fields_of row.now ∷ []))) }
-    {
+impl<S: BuildHasher> Collector for Pairs<S> {
+    ghost fault_of = { λ start. pair_fault };
+
+    ghost has_read = { λ pairs start rows. HasPairs pairs start.known (pairs_of rows) };
+
+    fn add(&mut self, nth: u32, row: &ByteRecord) -> Result<(), ReadFault> {
         if let Some((place, number)) = self.known_pair(row) {
             add_number(self.alloc, &mut self.groups, place as usize, number)?;
             return Ok(());
@@ -136,40 +140,13 @@ impl<S: BuildHasher> Pairs<S> {
         }
         self.add_pair(trim(id), name)
     }
-
-    /// Adds the pairs of all records but the header, up to the first with a fault.
-    pub fn add_all(&mut self, header: bool, records: &mut Records<'_>) -> Result<(), ReadFault>
-        requires reading { IsReading records.old }
-        requires fresh { records_taken records.old ≡ 0 }
-        ensures fault { let found = fault_from pair_fault (first_number header) (behind_header header (records_left records.old)) in
-            MatchResult result (λ _. found ≡ None) (λ fault. Tells fault found) }
-        ensures read { HasPairs self.old [] → OnOk result (HasPairs self.new (pairs_of (behind_header header (records_left records.old)))) }
-    {
-        if !records.pass_header(header)? {
-            return Ok(());
-        }
-        self.add_left(records)
-    }
-
-    /// Adds the pairs of the records that are left, up to the first with a fault.
-    fn add_left(&mut self, records: &mut Records<'_>) -> Result<(), ReadFault>
-        requires { IsReading records.old }
-        ensures fault { let found = fault_from pair_fault (records_taken records.old + 1) (records_left records.old) in
-            MatchResult result (λ _. found ≡ None) (λ fault. Tells fault found) }
-        ensures read { (rows : List (List (List ℕ))) → HasPairs self.old (pairs_of rows) → OnOk result (HasPairs self.new (pairs_of (rows ++ records_left records.old))) }
-    {
-        'rows: while records.advance()? {
-            self.add(records.taken(), records.row())?;
-        }
-        Ok(())
-    }
 }
 
 impl<S: BuildHasher + Drop> Pairs<S> {
     /// A basket for each id, with the names of all.
     pub fn finish(self) -> Result<(Database, Names), ReadFault>
-        ensures { (pairs : List (List ℕ × List ℕ)) → HasPairs self pairs →
-            Answers result (with_names (if_light (baskets_of_pairs pairs)) (names_of_pairs pairs)) }
+        ensures { (known : List (List ℕ)) (pairs : List (List ℕ × List ℕ)) → HasPairs self known pairs →
+            Answers result (with_names (if_light (baskets_of_pairs known pairs)) (names_of_pairs known pairs)) }
     {
         let Pairs {
             alloc,
@@ -188,15 +165,14 @@ impl<S: BuildHasher + Drop> Pairs<S> {
 pub fn say_pairs<S: BuildHasher + Copy + Drop>(
     alloc: Global,
     bytes: &[u8],
-    separator: u8,
-    header: bool,
+    dialect: Dialect,
+    known: Names,
     hasher: S,
 ) -> Result<(Database, Names), ReadFault>
     requires { length bytes.now ≤ MOST_BYTES }
-    ensures { Answers result (say_pairs (first_number header) (behind_header header (records_of separator bytes.now))) }
+    ensures { Answers result (say_pairs (first_number dialect.header) known (behind_header dialect.header (records_of dialect.separator bytes.now))) }
 {
-    let mut pairs = Pairs::new(alloc, hasher);
-    let mut records = Records::new(alloc, bytes, separator);
-    pairs.add_all(header, &mut records)?;
+    let mut pairs = Pairs::new(alloc, hasher, known)?;
+    add_all(alloc, bytes, dialect, &mut pairs)?;
     pairs.finish()
 }

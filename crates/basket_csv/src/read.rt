@@ -1,14 +1,17 @@
 //! Reading a CSV input, over random keys or a fixed seed.
 ghost use Rattle.std.specs.Prelude.{◌≡◌, true, false, IfSome, Err};
 ghost use Rattle.basket_read.specs.declared.fault.ReadFault.TheVariants.{Read};
+ghost use Rattle.basket_csv.specs.Counts.{named_counts_of};
 ghost use Rattle.basket_csv.specs.Csv.{baskets_of_csv, pairs_of_csv};
-ghost use Rattle.basket_csv.specs.Read.{Answers};
+ghost use Rattle.basket_csv.specs.Read.{Answers, AnswersCounts};
 
 use crate::baskets::say_baskets;
+use crate::counts::say_counts;
+use crate::dialect::Dialect;
 use crate::input::take_in;
 use crate::names::Names;
 use crate::pairs::say_pairs;
-use basket_read::ReadFault;
+use basket_read::{CountedLine, ReadFault};
 use basket_sets::Database;
 use basket_stream::Source;
 use std::alloc::Global;
@@ -16,58 +19,88 @@ use std::hash::{BuildHasherDefault, FoldHasher, RandomState};
 use std::random::RandomSource;
 
 /// Reads a CSV input to its end, where each record is a basket of names: its fields, without the
-/// spaces and tabs at their ends and without the empty ones. With `header` the first record is left
-/// out. With `weight` the first field of each other record is the basket's weight.
+/// spaces and tabs at their ends and without the empty ones. With `weight` the first field of each
+/// record but the header is the basket's weight. The known names keep their numbers, and new ones
+/// are numbered behind them.
 pub fn read_baskets<R: RandomSource, S: Source>(
     rt: &R,
     alloc: Global,
     reader: &mut S,
-    sep: u8,
-    header: bool,
+    dialect: Dialect,
     weight: bool,
+    known: Names,
 ) -> Result<(Database, Names), ReadFault>
     requires { S.has_failed reader.old ≡ false }
     // Where the reader doesn't fail, the answer is that of all its bytes.
-    ensures exact { S.has_failed reader.new ≡ false → IfSome (S.left reader.old) (λ bytes. Answers result (baskets_of_csv sep header weight bytes)) }
+    ensures exact { S.has_failed reader.new ≡ false → IfSome (S.left reader.old) (λ bytes. Answers result (baskets_of_csv dialect.separator dialect.header weight known bytes)) }
     // Where it fails, the answer is `Read`, and only there.
     ensures failed { S.has_failed reader.new ≡ true → result ≡ Err Read }
     ensures read_is_failed { result ≡ Err Read → S.has_failed reader.new ≡ true }
 {
     let bytes = take_in(alloc, reader)?;
     match RandomState::new(rt) {
-        Ok(keys) => say_baskets(alloc, &bytes, sep, header, weight, keys),
+        Ok(keys) => say_baskets(alloc, &bytes, dialect, weight, known, keys),
         // The order of the names is the same.
         Err(_) => {
             let seed = BuildHasherDefault::<FoldHasher>::new();
-            say_baskets(alloc, &bytes, sep, header, weight, seed)
+            say_baskets(alloc, &bytes, dialect, weight, known, seed)
         }
     }
 }
 
 /// Reads a CSV input to its end, where each record is a pair: the id of a basket and a name in it,
-/// both without the spaces and tabs at their ends. A record without a name is passed over. With
-/// `header` the first record is left out.
+/// both without the spaces and tabs at their ends. A record without a name is passed over. The known
+/// names keep their numbers, and new ones are numbered behind them.
 pub fn read_single<R: RandomSource, S: Source>(
     rt: &R,
     alloc: Global,
     reader: &mut S,
-    sep: u8,
-    header: bool,
+    dialect: Dialect,
+    known: Names,
 ) -> Result<(Database, Names), ReadFault>
     requires { S.has_failed reader.old ≡ false }
     // Where the reader doesn't fail, the answer is that of all its bytes.
-    ensures exact { S.has_failed reader.new ≡ false → IfSome (S.left reader.old) (λ bytes. Answers result (pairs_of_csv sep header bytes)) }
+    ensures exact { S.has_failed reader.new ≡ false → IfSome (S.left reader.old) (λ bytes. Answers result (pairs_of_csv dialect.separator dialect.header known bytes)) }
     // Where it fails, the answer is `Read`, and only there.
     ensures failed { S.has_failed reader.new ≡ true → result ≡ Err Read }
     ensures read_is_failed { result ≡ Err Read → S.has_failed reader.new ≡ true }
 {
     let bytes = take_in(alloc, reader)?;
     match RandomState::new(rt) {
-        Ok(keys) => say_pairs(alloc, &bytes, sep, header, keys),
+        Ok(keys) => say_pairs(alloc, &bytes, dialect, known, keys),
         // The order of the names is the same.
         Err(_) => {
             let seed = BuildHasherDefault::<FoldHasher>::new();
-            say_pairs(alloc, &bytes, sep, header, seed)
+            say_pairs(alloc, &bytes, dialect, known, seed)
+        }
+    }
+}
+
+/// Reads a CSV input to its end, where each record is a count and a set of names: its first field is
+/// the count, and the others are the names, without the spaces and tabs at their ends and without the
+/// empty ones. The known names keep their numbers, and new ones are numbered behind them. A set's line
+/// is the number of its record, of which the header's is 1.
+pub fn read_named_counts<R: RandomSource, S: Source>(
+    rt: &R,
+    alloc: Global,
+    reader: &mut S,
+    dialect: Dialect,
+    known: Names,
+) -> Result<(Vec<CountedLine>, Names), ReadFault>
+    requires { S.has_failed reader.old ≡ false }
+    // Where the reader doesn't fail, the answer is that of all its bytes.
+    ensures exact { S.has_failed reader.new ≡ false → IfSome (S.left reader.old) (λ bytes. AnswersCounts result (named_counts_of dialect.separator dialect.header known bytes)) }
+    // Where it fails, the answer is `Read`, and only there.
+    ensures failed { S.has_failed reader.new ≡ true → result ≡ Err Read }
+    ensures read_is_failed { result ≡ Err Read → S.has_failed reader.new ≡ true }
+{
+    let bytes = take_in(alloc, reader)?;
+    match RandomState::new(rt) {
+        Ok(keys) => say_counts(alloc, &bytes, dialect, known, keys),
+        // The order of the names is the same.
+        Err(_) => {
+            let seed = BuildHasherDefault::<FoldHasher>::new();
+            say_counts(alloc, &bytes, dialect, known, seed)
         }
     }
 }

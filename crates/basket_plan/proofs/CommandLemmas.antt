@@ -6,7 +6,8 @@ use Rattle.std.specs.List.{list_any}
 use Rattle.std.specs.Str.{bytes_eq}
 use Rattle.std.specs.Str.Parse.{IsNumeral, digits_value, without_leading_plus}
 use Rattle.std.proofs.lemmas.Slice.Eq.{bytes_eq-Decides}
-use Rattle.clap.specs.Words.{App, Row, Text, first_of, first_value, is_simple, one_text, rows_of, subcommand_of}
+use Rattle.clap.specs.Words.{App, Row, Text, first_of, first_value, is_simple, one_text, rows_of, subcommand_name_of, subcommand_of, subcommand_rows_of}
+use Rattle.clap.specs.declared.parser.matches.ArgMatches.{ArgMatches}
 use Rattle.clap.specs.Values.{kind_of}
 use Rattle.clap.specs.Kinds.{HasKind, Kinds}
 use Rattle.clap.specs.Faults.{fault_of, is_simple_and_free}
@@ -19,7 +20,7 @@ use Rattle.clap.proofs.OnLiterals.{clap_on_literals}
 use Rattle.clap.proofs.ValueTestLemmas.{Accepts-accepts, accepts-Accepts}
 use Rattle.clap.proofs.WalkLemmas.{first_value-rows, one_text-rows}
 use Rattle.basket_plan.proofs.HelpLemmas.{help_told}
-use Rattle.basket_plan.specs.Command.{asks_help, is_answer, command_line, flag_in, number_in, number_of, plan_of_command, plan_of_words, where_taken}
+use Rattle.basket_plan.specs.Command.{asks_help, is_answer, command_line, flag_in, number_in, number_of, invocation_of_command, invocation_of_rows, invocation_of_words, where_taken}
 
 -- ---- values
 
@@ -35,7 +36,7 @@ module _ {A : Type 0} (read : Text → Option A) (f : Found) (id : Text) (value 
   read_some text was = sym (from_rows ∙ ap (λ v. option_and_then read (option_map (λ s. s.now) v)) was)
 
 -- a text that isn't a name is not taken for it
-pub skips : {A : Type 0} (text name : Text) (taken rest : Option A) → (text ≡ name → ⊥) → (if bytes_eq text name then taken else rest) ≡ rest
+pub skips : {A : Type 0} (text name : Text) (taken rest : A) → (text ≡ name → ⊥) → (if bytes_eq text name then taken else rest) ≡ rest
 skips text name taken rest never = go (bytes_eq text name) (λ e. never ((bytes_eq-Decides text name).0 e))
   where
     go : (b : Bool) → (b ≡ true → ⊥) → (if b then taken else rest) ≡ rest
@@ -104,6 +105,19 @@ module _ (f : Found) (name : Text) (most : ℕ) where
         go None never = refl
         go (Some text) never = number_unsaid most small text (λ reads _ _. never text refl reads)
 
+-- the command of a name with its matches, as `clap` gives both, is the command that was entered
+map_twice : {A B C : Type 0} (f : B → C) (g : A → B) (o : Option A) → option_map (λ a. f (g a)) o ≡ option_map f (option_map g o)
+map_twice f g None = refl
+map_twice f g (Some a) = refl
+
+pub entered : (m : ArgMatches) (name : Text) (rows : List Row) → Some name ≡ subcommand_name_of m → Some rows ≡ option_map (λ p. p.1) (subcommand_rows_of m)
+    → invocation_of_command (subcommand_rows_of m) ≡ invocation_of_rows name rows
+entered m name rows named listed = go (subcommand_rows_of m) (named ∙ map_twice (λ p. p.0) _ _) listed
+  where
+    go : (o : Option (Text × List Row)) → Some name ≡ option_map (λ p. p.0) o → Some rows ≡ option_map (λ p. p.1) o → invocation_of_command o ≡ invocation_of_rows name rows
+    go None n r = absurd cc
+    go (Some p) n r = ap₂ invocation_of_rows (ap (λ o. unwrap_or o name) (sym n)) (ap (λ o. unwrap_or o rows) (sym r))
+
 -- ---- the line
 
 pub stays_local : (old new global : Bool) → new ≡ (old || global) → global ≡ false → old ≡ false → new ≡ false
@@ -125,16 +139,16 @@ module _ (app : App) (is : app ≡ command_line) (words : List Text) where
   same_faults = ap (λ a. fault_of a words) is
 
   pub plan_taken : (entered : Option (Text × List Row)) → (is_simple_and_free app ≡ true → fault_of app words ≡ [])
-      → (is_simple app ≡ true → entered ≡ subcommand_of app words) → plan_of_words words ≡ plan_of_command entered
+      → (is_simple app ≡ true → entered ≡ subcommand_of app words) → invocation_of_words words ≡ invocation_of_command entered
   plan_taken entered takes enters =
       let faults : fault_of command_line words ≡ [] = sym same_faults ∙ takes simple in
       let found : subcommand_of command_line words ≡ entered = ap (λ a. subcommand_of a words) (sym is) ∙ sym (enters (ap is_simple is ∙ simple_app)) in
-      ap₂ (λ (kinds : Kinds) (e : Option (Text × List Row)). where_taken kinds (plan_of_command e)) faults found
+      ap₂ (λ (kinds : Kinds) (e : Option (Text × List Row)). where_taken kinds (invocation_of_command e)) faults found
 
-  pub plan_refused : (e : Error) → (is_simple_and_free app ≡ true → HasKind (fault_of app words) e) → (kind_of e ≡ OutOfMemory → ⊥) → plan_of_words words ≡ None
+  pub plan_refused : (e : Error) → (is_simple_and_free app ≡ true → HasKind (fault_of app words) e) → (kind_of e ≡ OutOfMemory → ⊥) → invocation_of_words words ≡ None
   plan_refused e fails has_memory = go (fault_of command_line words) (subst (λ (kinds : Kinds). HasKind kinds e) same_faults (fails simple))
     where
-      go : (kinds : Kinds) → HasKind kinds e → where_taken kinds (plan_of_command (subcommand_of command_line words)) ≡ None
+      go : (kinds : Kinds) → HasKind kinds e → where_taken kinds (invocation_of_command (subcommand_of command_line words)) ≡ None
       go [] (inl memory) = absurd (has_memory memory)
       go [] (inr among) = absurd among
       go (k ∷ ks) h = refl

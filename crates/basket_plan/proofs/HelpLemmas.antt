@@ -222,7 +222,7 @@ line_even : (words : List Text) → IsUniform (fault_of command_line words)
 unfolding clap_on_literals
 line_even words =
     let stop = (walk tree.top.rules (names_of tree) nothing_held words).stopped in
-    level_even tree.top refl (names_of tree) nothing_held words (is_some (entered tree stop)) (entered_fault tree stop) (entered_even tree (refl, (refl, (refl, (refl, (refl, tt))))) stop)
+    level_even tree.top refl (names_of tree) nothing_held words (is_some (entered tree stop)) (entered_fault tree stop) (entered_even tree (refl, (refl, (refl, (refl, (refl, (refl, tt)))))) stop)
 
 any_among : (k : ErrorKind) (kinds : Kinds) → IsAmong k kinds → is_answer k ≡ true → list_any is_answer kinds ≡ true
 any_among k [] among e = absurd among

@@ -1,9 +1,9 @@
--- The command line as `clap` sees it, and the plan that words make.
+-- The command line as `clap` sees it, and what words ask for.
 use Rattle.std.specs.Prelude.{◌≡◌, List, [], ◌∷◌, ℕ, Bool, true, false, map, codes, if◌then◌else◌, option_and_then, option_map, unwrap_or, Option, Some, None}
 use Rattle.std.specs.List.{list_any}
 use Rattle.std.specs.Str.{bytes_eq}
 use Rattle.std.specs.Str.Parse.{digits_value, without_leading_plus}
-use Rattle.clap.specs.Words.{App, Row, Rule, Text, first_of, new_rule, one_of, subcommand_of}
+use Rattle.clap.specs.Words.{App, Row, Rule, Text, first_of, new_rule, one_of, subcommand_of, with_rule}
 use Rattle.clap.specs.Simple.{new_shape}
 use Rattle.clap.specs.Kinds.{Kinds}
 use Rattle.clap.specs.Faults.{fault_of}
@@ -14,14 +14,18 @@ use Rattle.clap.specs.declared.error.kind.ErrorKind.{ErrorKind}
 use Rattle.clap.specs.declared.error.kind.ErrorKind.TheVariants as kind
 use Rattle.basket_sets.specs.Minimum.{minimum_of, share_of}
 use Rattle.basket_sets.specs.declared.minimum.Minimum.{Minimum}
-use Rattle.basket_plan.specs.Plan.{GREATEST_LIMIT, Planned}
+use Rattle.basket_plan.specs.Plan.{Counting, GREATEST_LIMIT, Planned}
 use Rattle.basket_plan.specs.declared.command.PlanFault.{PlanFault}
 use Rattle.basket_plan.specs.declared.command.PlanFault.TheVariants.{Memory, Usage, Help}
+use Rattle.basket_plan.specs.declared.invocation.Invocation.{Invocation}
+use Rattle.basket_plan.specs.declared.invocation.Task.{Task}
+use Rattle.basket_plan.specs.declared.invocation.Task.TheVariants.{Report, Count}
 use Rattle.basket_plan.specs.declared.plan.TheConstants.{MOST_PIECES, MOST_WORKERS}
+use Rattle.basket_plan.specs.declared.layout.Layout.{Layout}
 use Rattle.basket_plan.specs.declared.plan.Ask.{Ask}
 use Rattle.basket_plan.specs.declared.plan.Ask.TheVariants.{Items, Sets, Closed, Maximal, Rules}
-use Rattle.basket_plan.specs.declared.plan.Form.{Form}
-use Rattle.basket_plan.specs.declared.plan.Form.TheVariants.{Fimi, Baskets, Single}
+use Rattle.basket_plan.specs.declared.layout.Form.{Form}
+use Rattle.basket_plan.specs.declared.layout.Form.TheVariants.{Fimi, Baskets, Single, Counts, CsvCounts}
 use Rattle.basket_plan.specs.declared.plan.Miner.{Miner}
 use Rattle.basket_plan.specs.declared.plan.Miner.TheVariants.{Apriori, Eclat, EclatDiff, EclatBits, FpGrowth}
 
@@ -47,9 +51,13 @@ flag name = record (new_rule name) { long = Some name; action = Some action.SetT
 abbrev pub number : Text → ℕ → Text → Rule
 number name most default = record (option name) { parser = Some (parser.Unsigned 1 most); defaults = default ∷ [] }
 
--- the options that all commands have, and some more
-abbrev pub options_and : List Rule → List Rule
-options_and more =
+-- a value without the name of an option
+abbrev pub positional : Text → Rule
+positional name = record (new_rule name) { value_names = 1; action = Some action.Set }
+
+-- the options that all commands but `count` have
+abbrev pub options : List Rule
+options =
     required (codes "min")
     ∷ choice (codes "form") (codes "fimi")
     ∷ choice (codes "sep") (codes "comma")
@@ -59,17 +67,32 @@ options_and more =
     ∷ number (codes "limit") GREATEST_LIMIT (codes "4294967295")
     ∷ number (codes "workers") MOST_WORKERS (codes "1")
     ∷ number (codes "pieces") MOST_PIECES (codes "16")
-    ∷ more
+    ∷ positional (codes "file")
+    ∷ []
 
--- a command of a name, with some more options
-abbrev pub command_with : Text → List Rule → App
-command_with name more = record { top = record (new_shape name) { rules = options_and more }; subs = [] }
-
+-- a command of a name with these options, and that of the rules, which has one more
 abbrev pub command_app : Text → App
-command_app name = command_with name []
+command_app name = record { top = record (new_shape name) { rules = options }; subs = [] }
 
 abbrev pub rules_app : App
-rules_app = command_with (codes "rules") (required (codes "conf") ∷ [])
+rules_app = with_rule (command_app (codes "rules")) (required (codes "conf"))
+
+abbrev pub count_app : App
+count_app = record {
+  top = record (new_shape (codes "count")) {
+    rules =
+        required (codes "sets")
+        ∷ choice (codes "form") (codes "fimi")
+        ∷ choice (codes "sep") (codes "comma")
+        ∷ flag (codes "header")
+        ∷ flag (codes "weight")
+        ∷ number (codes "workers") MOST_WORKERS (codes "1")
+        ∷ number (codes "pieces") MOST_PIECES (codes "16")
+        ∷ positional (codes "file")
+        ∷ [];
+  };
+  subs = [];
+}
 
 -- the line without commands
 abbrev pub bare_line : App
@@ -88,6 +111,7 @@ command_line = record {
       ∷ (command_app (codes "closed")).top
       ∷ (command_app (codes "maximal")).top
       ∷ rules_app.top
+      ∷ count_app.top
       ∷ [];
 }
 
@@ -105,7 +129,13 @@ abbrev pub form_of : Text → Option Form
 form_of text =
     if bytes_eq text (codes "fimi") then Some Fimi
     else (if bytes_eq text (codes "baskets") then Some Baskets
-    else (if bytes_eq text (codes "single") then Some Single else None))
+    else (if bytes_eq text (codes "single") then Some Single
+    else (if bytes_eq text (codes "counts") then Some Counts
+    else (if bytes_eq text (codes "csv-counts") then Some CsvCounts else None))))
+
+-- the path of the file of a name: `-` is none, but standard input
+abbrev pub origin_of : Text → Option Text
+origin_of text = if bytes_eq text (codes "-") then None else Some text
 
 -- the byte of a separator
 abbrev pub separator_of : Text → Option ℕ
@@ -128,6 +158,10 @@ miner_in rows = option_and_then miner_of (first_of (codes "miner") rows)
 
 abbrev pub form_in : List Row → Option Form
 form_in rows = option_and_then form_of (first_of (codes "form") rows)
+
+-- the path of the file that an option names, if it names one
+abbrev pub origin_in : Text → List Row → Option Text
+origin_in name rows = option_and_then origin_of (first_of name rows)
 
 abbrev pub sep_in : List Row → Option ℕ
 sep_in rows = option_and_then separator_of (first_of (codes "sep") rows)
@@ -162,26 +196,25 @@ ask_in name rows =
     else (if bytes_eq name (codes "maximal") then Some Maximal
     else (if bytes_eq name (codes "rules") then option_map (λ share. Rules share.0 share.1) (conf_in rows) else None))))
 
+-- how the input is written
+abbrev pub layout_of_rows : List Row → Option Layout
+layout_of_rows rows =
+    option_and_then (λ form.
+    option_map (λ separator. record { form = form; separator = separator; header = flag_in (codes "header") rows; weighted = flag_in (codes "weight") rows })
+    (sep_in rows))
+    (form_in rows)
+
 -- the plan of a command with the matches of its options: none where an option's value says nothing
 abbrev pub plan_of_rows : Text → List Row → Option Planned
 plan_of_rows name rows =
-    option_and_then (λ form.
-    option_and_then (λ separator.
+    option_and_then (λ layout.
     option_and_then (λ miner.
     option_and_then (λ minimum.
     option_and_then (λ ask.
     option_and_then (λ limit.
     option_and_then (λ workers.
     option_map (λ pieces. record {
-      question = record {
-        ask = ask;
-        minimum = minimum;
-        limit = limit;
-        form = form;
-        separator = separator;
-        header = flag_in (codes "header") rows;
-        weighted = flag_in (codes "weight") rows;
-      };
+      question = record { ask = ask; minimum = minimum; limit = limit; layout = layout };
       miner = miner;
       workers = workers;
       pieces = pieces;
@@ -192,21 +225,50 @@ plan_of_rows name rows =
     (ask_in name rows))
     (min_in rows))
     (miner_in rows))
-    (sep_in rows))
-    (form_in rows)
+    (layout_of_rows rows)
 
--- the plan of the command that words enter
-abbrev pub plan_of_command : Option (Text × List Row) → Option Planned
-plan_of_command entered = option_and_then (λ found. plan_of_rows found.0 found.1) entered
+-- the plan of `count` with the matches of its options
+abbrev pub count_plan_of_rows : List Row → Option Counting
+count_plan_of_rows rows =
+    option_and_then (λ layout.
+    option_and_then (λ workers.
+    option_map (λ pieces. record { layout = layout; workers = workers; pieces = pieces })
+    (pieces_in rows))
+    (workers_in rows))
+    (layout_of_rows rows)
+
+-- what is asked for where the sets and the input come from there: not both from standard input
+abbrev pub counting_from : Counting → Option Text → Option Text → Option Invocation
+counting_from plan None None = None
+counting_from plan None (Some input) = Some (record { task = Count plan None; input = Some input })
+counting_from plan (Some sets) input = Some (record { task = Count plan (Some sets); input = input })
+
+-- what `count`, and what another command with the matches of its options asks for
+abbrev pub count_invocation_of_rows : List Row → Option Invocation
+count_invocation_of_rows rows =
+    option_and_then (λ plan. counting_from plan (origin_in (codes "sets") rows) (origin_in (codes "file") rows)) (count_plan_of_rows rows)
+
+abbrev pub reporting : Option Text → Planned → Option Invocation
+reporting input plan = Some (record { task = Report plan; input = input })
+
+abbrev pub report_of_rows : Text → List Row → Option Invocation
+report_of_rows name rows = option_and_then (reporting (origin_in (codes "file") rows)) (plan_of_rows name rows)
+
+abbrev pub invocation_of_rows : Text → List Row → Option Invocation
+invocation_of_rows name rows = if bytes_eq name (codes "count") then count_invocation_of_rows rows else report_of_rows name rows
+
+-- what the command that words enter asks for
+abbrev pub invocation_of_command : Option (Text × List Row) → Option Invocation
+invocation_of_command entered = option_and_then (λ found. invocation_of_rows found.0 found.1) entered
 
 -- `clap` takes the words where no kind of error comes
-abbrev pub where_taken : Kinds → Option Planned → Option Planned
-where_taken [] plan = plan
-where_taken (kind ∷ rest) plan = None
+abbrev pub where_taken : Kinds → Option Invocation → Option Invocation
+where_taken [] invocation = invocation
+where_taken (kind ∷ rest) invocation = None
 
--- the plan that words make, the program's name not among them
-abbrev pub plan_of_words : List Text → Option Planned
-plan_of_words words = where_taken (fault_of command_line words) (plan_of_command (subcommand_of command_line words))
+-- what words ask for, the program's name not among them
+abbrev pub invocation_of_words : List Text → Option Invocation
+invocation_of_words words = where_taken (fault_of command_line words) (invocation_of_command (subcommand_of command_line words))
 
 -- ---- help
 

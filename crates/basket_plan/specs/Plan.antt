@@ -1,23 +1,36 @@
-use Rattle.std.specs.Prelude.{ℕ, Bool, ◌==◌, ◌||◌}
+use Rattle.std.specs.Prelude.{ℕ, Bool, true, false, ◌==◌, ◌||◌}
 use Rattle.basket_plan.specs.declared.plan.Ask.{Ask}
-use Rattle.basket_plan.specs.declared.plan.Form.{Form}
+use Rattle.basket_plan.specs.declared.layout.Form.{Form}
+use Rattle.basket_plan.specs.declared.layout.Form.TheVariants.{Fimi, Baskets, Single, Counts, CsvCounts}
+use Rattle.basket_plan.specs.declared.layout.Layout.{Layout}
 use Rattle.basket_plan.specs.declared.plan.Miner.{Miner}
 use Rattle.basket_sets.specs.declared.minimum.Minimum.{Minimum}
 
--- what a plan asks of an input, and how that is written: in CSV with a byte between fields, with or without a header and weights
+-- whether the items of an input have names
+abbrev pub has_names : Form → Bool
+has_names Fimi = false
+has_names Baskets = true
+has_names Single = true
+has_names Counts = false
+has_names CsvCounts = true
+
+-- what a plan asks of an input, and how that is written
 pub record Question : Type 0 where
   pub ask : Ask
   pub minimum : Minimum
   pub limit : ℕ
-  pub form : Form
-  pub separator : ℕ
-  pub header : Bool
-  pub weighted : Bool
+  pub layout : Layout
 
 -- a question, the miner that is to answer it, how many workers share the mining, and how many pieces it is cut into
 pub record Planned : Type 0 where
   pub question : Question
   pub miner : Miner
+  pub workers : ℕ
+  pub pieces : ℕ
+
+-- how an input is written over which given sets are counted, how many workers share that, and how many pieces it is cut into
+pub record Counting : Type 0 where
+  pub layout : Layout
   pub workers : ℕ
   pub pieces : ℕ
 

@@ -1,17 +1,17 @@
 //! The command line.
 ghost use Rattle.std.specs.Prelude.{◌≡◌, ◌≢◌, IfErr, IfOk, codes, false, map};
-ghost use Rattle.clap.specs.Words.{app_of, kind_of, rule_of};
+ghost use Rattle.clap.specs.Words.{app_of, kind_of};
 ghost use Rattle.clap.specs.declared.builder.command.Command.TheViews.{out-Command as fields_of};
 ghost use Rattle.basket_plan.specs.declared.command.PlanFault.TheVariants.{Memory};
-ghost use Rattle.basket_plan.specs.Command.{asks_help, bare_line, choice, command_app, command_line, flag, is_answer, is_help, number, plan_of_words, required, rules_app};
+ghost use Rattle.basket_plan.specs.Command.{asks_help, bare_line, command_app, command_line, count_app, invocation_of_words, is_answer, is_help, rules_app};
 ghost use Rattle.basket_plan.specs.Status.{plan_status_of};
 
 use crate::help;
-use crate::plan::{MOST_PIECES, MOST_WORKERS, Plan};
-use crate::values::plan_from;
-use clap::builder::ValueParser;
+use crate::invocation::{Invocation, invocation_from};
+use crate::options::{choice, flag, number, positional, required};
+use crate::plan::{MOST_PIECES, MOST_WORKERS};
 use clap::error::ErrorKind;
-use clap::{Arg, ArgAction, Command, Error};
+use clap::{Command, Error};
 use std::alloc::{AllocError, Global};
 
 /// Why words of a command line make no plan.
@@ -43,14 +43,14 @@ pub fn plan_status(fault: &PlanFault) -> u8
     }
 }
 
-/// The plan that the words ask for. The program's name is not among them.
-pub fn plan_of<'a>(alloc: Global, words: &'a [&'a str]) -> Result<Plan, PlanFault>
-    ensures made { IfOk result (λ plan. plan_of_words (map (λ word. word.now) words.now) ≡ Some plan) }
-    ensures refused { IfErr result (λ fault. fault ≢ PlanFault.Memory → plan_of_words (map (λ word. word.now) words.now) ≡ None) }
+/// What the words ask for. The program's name is not among them.
+pub fn invocation_of<'a>(alloc: Global, words: &'a [&'a str]) -> Result<Invocation, PlanFault>
+    ensures made { IfOk result (λ invocation. invocation_of_words (map (λ word. word.now) words.now) ≡ Some invocation) }
+    ensures refused { IfErr result (λ fault. fault ≢ PlanFault.Memory → invocation_of_words (map (λ word. word.now) words.now) ≡ None) }
     ensures help { IfErr result (λ fault. fault ≢ PlanFault.Memory → asks_help (map (λ word. word.now) words.now) ≡ is_help fault) }
 {
     match command_line(alloc)?.try_get_matches_from(words) {
-        Ok(matches) => plan_from(alloc, &matches),
+        Ok(matches) => invocation_from(alloc, &matches),
         Err(error) => Err(fault_of(alloc, &error)?),
     }
 }
@@ -63,7 +63,8 @@ fn command_line<'a>(alloc: Global) -> Result<Command<'a>, AllocError>
         .subcommand(command(alloc, "sets", help::SETS_ABOUT, help::SETS_EXAMPLE)?)?
         .subcommand(command(alloc, "closed", help::CLOSED_ABOUT, help::CLOSED_EXAMPLE)?)?
         .subcommand(command(alloc, "maximal", help::MAXIMAL_ABOUT, help::MAXIMAL_EXAMPLE)?)?
-        .subcommand(rules_command(alloc)?)
+        .subcommand(rules_command(alloc)?)?
+        .subcommand(count_command(alloc)?)
 }
 
 /// The command line without its commands.
@@ -82,7 +83,7 @@ fn bare_line<'a>(alloc: Global) -> Result<Command<'a>, AllocError>
     )
 }
 
-/// A command with its options, which are the same for all.
+/// A command with its options, which are the same for all but `count`.
 fn command<'a>(
     alloc: Global,
     name: &'a str,
@@ -110,7 +111,8 @@ fn command<'a>(
             "4294967295",
         ))?
         .arg(number(alloc, "workers", "W", help::WORKERS_HELP, MOST_WORKERS, "1"))?
-        .arg(number(alloc, "pieces", "P", help::PIECES_HELP, MOST_PIECES, "16"))
+        .arg(number(alloc, "pieces", "P", help::PIECES_HELP, MOST_PIECES, "16"))?
+        .arg(positional(alloc, "file", "FILE", help::FILE_HELP))
 }
 
 fn rules_command<'a>(alloc: Global) -> Result<Command<'a>, AllocError>
@@ -125,68 +127,22 @@ fn rules_command<'a>(alloc: Global) -> Result<Command<'a>, AllocError>
     ))
 }
 
-/// An option that has to be given.
-fn required<'a>(alloc: Global, name: &'a str, value: &'a str, help: &'a str) -> Arg<'a>
-    ensures rule { rule_of result ≡ required name.now }
-    ensures local { result.global ≡ false }
+/// The command that counts given sets.
+fn count_command<'a>(alloc: Global) -> Result<Command<'a>, AllocError>
+    ensures options { IfOk result (λ command. app_of command ≡ count_app) }
+    ensures local { IfOk result (λ command. (fields_of command).has_globals ≡ false) }
 {
-    Arg::new(alloc, name)
-        .long(name)
-        .value_name(value)
-        .help(help)
-        .required(true)
-        .action(ArgAction::Set)
-}
-
-/// An option whose value is one of some names. Which these are is judged with the other values:
-/// `clap`'s own list of names would have the plan depend on where they lie.
-fn choice<'a>(
-    alloc: Global,
-    name: &'a str,
-    value: &'a str,
-    help: &'a str,
-    default: &'a str,
-) -> Arg<'a>
-    ensures rule { rule_of result ≡ choice name.now default.now }
-    ensures local { result.global ≡ false }
-{
-    Arg::new(alloc, name)
-        .long(name)
-        .value_name(value)
-        .help(help)
-        .default_value(default)
-        .action(ArgAction::Set)
-}
-
-fn flag<'a>(alloc: Global, name: &'a str, help: &'a str) -> Arg<'a>
-    ensures rule { rule_of result ≡ flag name.now }
-    ensures local { result.global ≡ false }
-{
-    Arg::new(alloc, name)
-        .long(name)
-        .help(help)
-        .action(ArgAction::SetTrue)
-}
-
-/// An option whose value is a whole number from 1 to the greatest.
-fn number<'a>(
-    alloc: Global,
-    name: &'a str,
-    value: &'a str,
-    help: &'a str,
-    most: u32,
-    default: &'a str,
-) -> Arg<'a>
-    ensures rule { rule_of result ≡ number name.now most default.now }
-    ensures local { result.global ≡ false }
-{
-    Arg::new(alloc, name)
-        .long(name)
-        .value_name(value)
-        .help(help)
-        .value_parser(ValueParser::unsigned(1, u64::from(most)))
-        .default_value(default)
-        .action(ArgAction::Set)
+    Command::new(alloc, "count")
+        .about(help::COUNT_ABOUT)
+        .after_help(help::COUNT_EXAMPLE)
+        .arg(required(alloc, "sets", "FILE", help::SETS_HELP))?
+        .arg(choice(alloc, "form", "F", help::FORM_HELP, "fimi"))?
+        .arg(choice(alloc, "sep", "S", help::SEP_HELP, "comma"))?
+        .arg(flag(alloc, "header", help::HEADER_HELP))?
+        .arg(flag(alloc, "weight", help::WEIGHT_HELP))?
+        .arg(number(alloc, "workers", "W", help::WORKERS_HELP, MOST_WORKERS, "1"))?
+        .arg(number(alloc, "pieces", "P", help::PIECES_HELP, MOST_PIECES, "16"))?
+        .arg(positional(alloc, "file", "FILE", help::FILE_HELP))
 }
 
 fn fault_of(alloc: Global, error: &Error) -> Result<PlanFault, AllocError>

@@ -7,7 +7,7 @@ pub const ABOUT: &str =
     "Lists the items and sets of items that are often bought, and the rules between them, with exact counts.";
 
 pub const INPUT: &str = "\
-Standard input has the baskets, by --form:
+The baskets are in FILE, or on standard input, by --form:
   fimi     a basket a line, the numbers of its items; a line may begin with a weight,
            as `3x` for three such baskets
              1 2 5
@@ -18,6 +18,14 @@ Standard input has the baskets, by --form:
   single   CSV, a record for each item of a basket, the basket's id and the item's name
              r1,bread
              r1,milk
+  counts   no baskets, but sets with their counts, as `count` and `sets` write them: the
+           reports of parts one behind another, equal sets' counts added; the count of
+           the empty set is the number of all baskets
+             (15)
+             1 2 (7)
+  csv-counts  the same as CSV, as `count` and `sets` write it: the count, then the names
+             15
+             7,bread,milk
 In CSV, spaces and tabs at the ends of a field don't count, nor do empty names, and the
 report is CSV as well: the count, then the names. Each command's --help says more.
 
@@ -94,6 +102,32 @@ Example:
   2 => 1 (2) 2/3 1/1
   1 => 2 (2) 1/1 1/1";
 
+pub const COUNT_ABOUT: &str = "Writes given sets with the number of the baskets that have them";
+
+pub const COUNT_EXAMPLE: &str = "\
+The file of --sets has a set a line, with or without a count, as `sets` writes them; for
+CSV, records of a count and names. The empty set comes first, with the number of all
+baskets, then each set in the order of the file. What `count` writes of parts of the
+baskets, one behind another, is an input of --form counts (csv-counts by names), for
+`sets`, `closed`, `maximal`, `rules` and for `count` itself.
+
+Examples:
+  printf '1 2\\n2\\n4\\n' > asked
+  printf '1 2\\n2 1 3\\n2\\n' | basket count --sets asked
+  (3)
+  1 2 (2)
+  2 (3)
+  4 (0)
+  printf '0,milk\\n0,tea,milk\\n' > asked
+  printf 'bread,milk\\nmilk\\n' | basket count --form baskets --sets asked
+  2
+  2,milk
+  0,milk,tea";
+
+pub const SETS_HELP: &str = "The file of the sets to count, or - for standard input";
+
+pub const FILE_HELP: &str = "The file of the input; without it, or with -, standard input";
+
 pub const CONF_HELP: &str = "The least confidence of a rule to be listed: a share, as 60% or 2/3";
 
 pub const MIN_HELP: &str = "The least count of a set to be listed: a number, as 20, \
@@ -112,8 +146,8 @@ pub const WORKERS_HELP: &str =
 pub const PIECES_HELP: &str =
     "How many pieces the mining is cut into, from 1 to 65536; the report doesn't depend on it";
 
-pub const FORM_HELP: &str = "How standard input is written (`basket --help` shows it) \
-[possible values: fimi, baskets, single]";
+pub const FORM_HELP: &str = "How the input is written (`basket --help` shows it) \
+[possible values: fimi, baskets, single, counts, csv-counts]";
 
 pub const SEP_HELP: &str = "What stands between the fields of CSV, also in the report \
 [possible values: comma, semicolon, tab, pipe]";

@@ -2,10 +2,17 @@
 #![tactic(auto)]
 
 mod command;
+mod count_plan;
 mod help;
+mod invocation;
+mod layout;
+mod options;
 mod plan;
 mod values;
 pub mod worked;
 
-pub use command::{PlanFault, plan_of, plan_status};
-pub use plan::{Ask, Form, MOST_PIECES, MOST_WORKERS, Miner, Plan};
+pub use command::{PlanFault, invocation_of, plan_status};
+pub use count_plan::CountPlan;
+pub use invocation::{Invocation, Origin, Task};
+pub use layout::{Form, Layout};
+pub use plan::{Ask, MOST_PIECES, MOST_WORKERS, Miner, Plan};

@@ -3,6 +3,7 @@ ghost use Rattle.basket_plan.specs.Plan.{GREATEST_LIMIT, is_separator};
 ghost use Rattle.basket_plan.specs.declared.plan.TheConstants.{MOST_PIECES, MOST_WORKERS};
 ghost use Rattle.basket_sets.specs.Minimum.{IsMinimum};
 
+use crate::layout::{Form, Layout};
 use basket_sets::Minimum;
 use std::marker::Model;
 
@@ -27,17 +28,6 @@ pub enum Ask {
     Rules(u32, u32),
 }
 
-/// How an input is written.
-#[derive(Clone, Copy, Debug, PartialEq, Eq)]
-pub enum Form {
-    /// Lines of the numbers of items, a basket each.
-    Fimi,
-    /// CSV records of the names of items, a basket each.
-    Baskets,
-    /// CSV records of the id of a basket and the name of an item in it.
-    Single,
-}
-
 /// How the frequent sets are found. No report depends on it.
 #[derive(Clone, Copy, Debug, PartialEq, Eq)]
 pub enum Miner {
@@ -59,12 +49,9 @@ pub struct Plan {
     limit: u32,
     workers: u32,
     pieces: u32,
-    sep: u8,
-    header: bool,
-    weight: bool,
     ask: Ask,
     minimum: Minimum,
-    form: Form,
+    layout: Layout,
     miner: Miner,
 }
 
@@ -77,23 +64,20 @@ impl Model for Plan {
     ghost Value = { Planned };
 
     ghost view = { λ plan. record {
-      question = record { ask = plan.ask; minimum = plan.minimum; limit = plan.limit; form = plan.form; separator = plan.sep; header = plan.header; weighted = plan.weight };
+      question = record { ask = plan.ask; minimum = plan.minimum; limit = plan.limit; layout = plan.layout };
       miner = plan.miner;
       workers = plan.workers;
       pieces = plan.pieces;
     } };
 
-    ghost invariant = { λ plan. IsMinimum plan.minimum × (1 ≤ plan.limit) × IsTrue (is_separator plan.sep)
+    ghost invariant = { λ plan. IsMinimum plan.minimum × (1 ≤ plan.limit) × IsTrue (is_separator plan.layout.separator)
         × (1 ≤ plan.workers) × (plan.workers ≤ MOST_WORKERS) × (1 ≤ plan.pieces) × (plan.pieces ≤ MOST_PIECES) };
 
     ghost inverse = { λ plan. let q = plan.question in record {
       ask = q.ask;
       minimum = q.minimum;
       limit = q.limit;
-      form = q.form;
-      sep = q.separator;
-      header = q.header;
-      weight = q.weighted;
+      layout = q.layout;
       miner = plan.miner;
       workers = plan.workers;
       pieces = plan.pieces;
@@ -106,7 +90,7 @@ impl Plan {
     pub fn of(ask: Ask, minimum: Minimum) -> Self
         requires { IsMinimum minimum }
         ensures { result ≡ record {
-          question = record { ask = ask; minimum = minimum; limit = GREATEST_LIMIT; form = Form.Fimi; separator = 44; header = false; weighted = false };
+          question = record { ask = ask; minimum = minimum; limit = GREATEST_LIMIT; layout = record { form = Form.Fimi; separator = 44; header = false; weighted = false } };
           miner = Miner.Apriori;
           workers = 1;
           pieces = 16;
@@ -118,10 +102,7 @@ impl Plan {
             limit: u32::MAX,
             workers: 1,
             pieces: 16,
-            form: Form::Fimi,
-            sep: b',',
-            header: false,
-            weight: false,
+            layout: Layout::of(Form::Fimi),
             miner: Miner::Apriori,
         }
     }
@@ -153,61 +134,19 @@ impl Plan {
         Plan { limit, ..self }
     }
 
-    pub fn form(&self) -> Form
-        ensures { result ≡ self.now.question.form }
+    /// How the input is written.
+    pub fn layout(&self) -> Layout
+        ensures { result ≡ self.now.question.layout }
     {
-        self.form
+        self.layout
     }
 
-    /// The plan with another form of the input.
-    pub fn with_form(self, form: Form) -> Self
-        ensures { result ≡ record self { question = record self.question { form = form } } }
+    /// The plan with another layout of the input.
+    pub fn with_layout(self, layout: Layout) -> Self
+        requires { IsTrue (is_separator layout.separator) }
+        ensures { result ≡ record self { question = record self.question { layout = layout } } }
     {
-        Plan { form, ..self }
-    }
-
-    /// The byte between the fields of CSV, in the input and in the report: a comma, a semicolon, a
-    /// tab or a bar.
-    pub fn sep(&self) -> u8
-        ensures { result ≡ self.now.question.separator }
-    {
-        self.sep
-    }
-
-    /// The plan with another such byte.
-    pub fn with_sep(self, sep: u8) -> Self
-        requires { IsTrue (is_separator sep) }
-        ensures { result ≡ record self { question = record self.question { separator = sep } } }
-    {
-        Plan { sep, ..self }
-    }
-
-    /// Whether the first record of CSV is left out.
-    pub fn header(&self) -> bool
-        ensures { result ≡ self.now.question.header }
-    {
-        self.header
-    }
-
-    /// The plan with or without a header.
-    pub fn with_header(self, header: bool) -> Self
-        ensures { result ≡ record self { question = record self.question { header = header } } }
-    {
-        Plan { header, ..self }
-    }
-
-    /// Whether the first field of a CSV basket is its weight. It doesn't count for the other forms.
-    pub fn weight(&self) -> bool
-        ensures { result ≡ self.now.question.weighted }
-    {
-        self.weight
-    }
-
-    /// The plan with or without weights.
-    pub fn with_weight(self, weight: bool) -> Self
-        ensures { result ≡ record self { question = record self.question { weighted = weight } } }
-    {
-        Plan { weight, ..self }
+        Plan { layout, ..self }
     }
 
     pub fn miner(&self) -> Miner

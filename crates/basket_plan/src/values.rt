@@ -1,66 +1,91 @@
 //! What the values of the options say.
-ghost use Rattle.std.specs.Prelude.{◌≡◌, ◌≢◌, ◌≤◌, IfErr, IfOk, IfSome, IsTrue, false};
-ghost use Rattle.clap.specs.Words.{found_of, rows_of, subcommand_rows_of};
-ghost use Rattle.basket_plan.specs.Command.{ask_in, conf_in, flag_in, form_in, is_help, min_in, miner_in, number_in, plan_of_command, plan_of_rows, sep_in};
+ghost use Rattle.std.specs.Prelude.{◌≡◌, ◌≤◌, IfErr, IfOk, IfSome, IsTrue};
+ghost use Rattle.clap.specs.Words.{found_of, rows_of};
+ghost use Rattle.basket_plan.specs.Command.{ask_in, conf_in, count_plan_of_rows, flag_in, form_in, layout_of_rows, min_in, miner_in, number_in, origin_in, plan_of_rows, sep_in};
 ghost use Rattle.basket_plan.specs.Plan.{is_separator};
 ghost use Rattle.basket_sets.specs.Minimum.{IsMinimum};
 
-use crate::command::PlanFault;
-use crate::plan::{Ask, Form, MOST_PIECES, MOST_WORKERS, Miner, Plan};
+use crate::count_plan::CountPlan;
+use crate::invocation::Origin;
+use crate::layout::{Form, Layout};
+use crate::plan::{Ask, MOST_PIECES, MOST_WORKERS, Miner, Plan};
 use basket_sets::{Minimum, parse_minimum, parse_share};
 use clap::ArgMatches;
 use std::alloc::{AllocError, Global};
 
-const BAD_FORM: &str = "basket: bad value for --form (fimi, baskets, single)\n";
+const BAD_FORM: &str = "basket: bad value for --form (fimi, baskets, single, counts, csv-counts)\n";
+
+const BAD_WORKERS: &str = "basket: bad value for --workers\n";
+
+const BAD_PIECES: &str = "basket: bad value for --pieces\n";
 
 const BAD_SEP: &str = "basket: bad value for --sep (comma, semicolon, tab, pipe)\n";
 
 const BAD_MINER: &str =
     "basket: bad value for --miner (apriori, eclat, eclat-diff, eclat-bits, fpgrowth)\n";
 
-/// The plan of words that clap has accepted.
-pub fn plan_from(alloc: Global, matches: &ArgMatches<'_>) -> Result<Plan, PlanFault>
-    ensures made { IfOk result (λ plan. plan_of_command (subcommand_rows_of matches.now) ≡ Some plan) }
-    ensures refused { IfErr result (λ fault. fault ≢ PlanFault.Memory → plan_of_command (subcommand_rows_of matches.now) ≡ None) }
-    ensures help { IfErr result (λ fault. is_help fault ≡ false) }
-{
-    let Some((name, options)) = matches.subcommand() else {
-        return Err(usage(alloc, "basket: no command\n")?);
-    };
-    match plan_in(name, options) {
-        Ok(plan) => Ok(plan),
-        Err(text) => Err(usage(alloc, text)?),
-    }
-}
-
 /// The plan of a command with its options, or the text to print of a value that says nothing.
-fn plan_in(name: &str, options: &ArgMatches<'_>) -> Result<Plan, &'static str>
+pub fn plan_in(name: &str, options: &ArgMatches<'_>) -> Result<Plan, &'static str>
     ensures made { IfOk result (λ plan. plan_of_rows name.now (rows_of (found_of options.now)) ≡ Some plan) }
     ensures refused { IfErr result (λ _. plan_of_rows name.now (rows_of (found_of options.now)) ≡ None) }
 {
-    let form = form_in(options).ok_or(BAD_FORM)?;
-    let sep = sep_in(options).ok_or(BAD_SEP)?;
+    let layout = layout_in(options)?;
     let miner = miner_in(options).ok_or(BAD_MINER)?;
     let minimum = min_in(options).ok_or("basket: bad value for --min\n")?;
     let ask = ask_in(name, options).ok_or("basket: bad value for --conf\n")?;
     let limit = number_in("limit", u32::MAX, options).ok_or("basket: bad value for --limit\n")?;
-    let workers = number_in("workers", MOST_WORKERS, options).ok_or(
-        "basket: bad value for --workers\n",
-    )?;
-    let pieces = number_in("pieces", MOST_PIECES, options).ok_or(
-        "basket: bad value for --pieces\n",
-    )?;
+    let workers = number_in("workers", MOST_WORKERS, options).ok_or(BAD_WORKERS)?;
+    let pieces = number_in("pieces", MOST_PIECES, options).ok_or(BAD_PIECES)?;
     Ok(
         Plan::of(ask, minimum)
-            .with_form(form)
-            .with_sep(sep)
-            .with_header(flag_in("header", options))
-            .with_weight(flag_in("weight", options))
+            .with_layout(layout)
             .with_miner(miner)
             .with_workers(workers)
             .with_pieces(pieces)
             .with_limit(limit),
     )
+}
+
+/// The plan of `count` with its options, or the text to print of a value that says nothing.
+pub fn count_plan_in(options: &ArgMatches<'_>) -> Result<CountPlan, &'static str>
+    ensures made { IfOk result (λ plan. count_plan_of_rows (rows_of (found_of options.now)) ≡ Some plan) }
+    ensures refused { IfErr result (λ _. count_plan_of_rows (rows_of (found_of options.now)) ≡ None) }
+{
+    let layout = layout_in(options)?;
+    let workers = number_in("workers", MOST_WORKERS, options).ok_or(BAD_WORKERS)?;
+    let pieces = number_in("pieces", MOST_PIECES, options).ok_or(BAD_PIECES)?;
+    Ok(
+        CountPlan::of(layout)
+            .with_workers(workers)
+            .with_pieces(pieces),
+    )
+}
+
+/// How the input is written, or the text to print of a value that says nothing.
+fn layout_in(options: &ArgMatches<'_>) -> Result<Layout, &'static str>
+    ensures made { IfOk result (λ layout. layout_of_rows (rows_of (found_of options.now)) ≡ Some layout) }
+    ensures in_range { IfOk result (λ layout. IsTrue (is_separator layout.separator)) }
+    ensures refused { IfErr result (λ _. layout_of_rows (rows_of (found_of options.now)) ≡ None) }
+{
+    let form = form_in(options).ok_or(BAD_FORM)?;
+    let separator = sep_in(options).ok_or(BAD_SEP)?;
+    Ok(Layout {
+        form,
+        separator,
+        header: flag_in("header", options),
+        weighted: flag_in("weight", options),
+    })
+}
+
+/// Where the file is from which an option takes bytes, or standard input.
+pub fn origin_in(alloc: Global, name: &str, options: &ArgMatches<'_>) -> Result<Origin, AllocError>
+    ensures { IfOk result (λ origin. origin ≡ origin_in name.now (rows_of (found_of options.now))) }
+{
+    match options.get_str(name) {
+        None => Ok(Origin::standard()),
+        Some("-") => Ok(Origin::standard()),
+        Some(path) => Ok(Origin::file(String::from_str(alloc, path)?)),
+    }
 }
 
 /// What the command of a name asks for.
@@ -113,6 +138,8 @@ fn form_in(options: &ArgMatches<'_>) -> Option<Form>
         "fimi" => Some(Form::Fimi),
         "baskets" => Some(Form::Baskets),
         "single" => Some(Form::Single),
+        "counts" => Some(Form::Counts),
+        "csv-counts" => Some(Form::CsvCounts),
         _ => None,
     }
 }
@@ -149,10 +176,4 @@ fn number_in(name: &str, most: u32, options: &ArgMatches<'_>) -> Option<u32>
         Some(number) if 1 <= number && number <= most => Some(number),
         _ => None,
     }
-}
-
-fn usage(alloc: Global, text: &str) -> Result<PlanFault, AllocError>
-    ensures { IfOk result (λ fault. is_help fault ≡ false) }
-{
-    Ok(PlanFault::Usage(String::from_str(alloc, text)?))
 }

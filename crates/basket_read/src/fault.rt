@@ -33,6 +33,21 @@ pub enum ReadFault {
     /// A CSV record whose first field is no weight, where one is asked for.
     #[error("record {nth}: bad weight")]
     Weight { nth: u32 },
+    /// The digit that takes the count of a set above the bound.
+    #[error("line {line}: count above 1099511627775")]
+    Count { line: u32 },
+    /// A set without a count, or with one that doesn't end, where one is asked for.
+    #[error("line {line}: no count in parentheses")]
+    NoCount { line: u32 },
+    /// The weight of all baskets is asked for, and counted sets don't have it.
+    #[error("no count of the empty set, as (15), which a share and rules need")]
+    NoTotal,
+    /// A set with a subset of one item less that isn't there, or is there with a lower count.
+    #[error("line or record {line}: a subset of one item less is missing or has a lower count")]
+    Subset { line: u32 },
+    /// A CSV record whose first field is no count, where one is asked for.
+    #[error("record {nth}: bad count")]
+    RecordCount { nth: u32 },
 }
 
 impl ReadFault {
@@ -50,6 +65,11 @@ impl ReadFault {
             ReadFault::ShortRecord { .. } => 7,
             ReadFault::Heavy => 8,
             ReadFault::Weight { .. } => 9,
+            ReadFault::Count { .. } => 10,
+            ReadFault::NoCount { .. } => 11,
+            ReadFault::NoTotal => 12,
+            ReadFault::Subset { .. } => 13,
+            ReadFault::RecordCount { .. } => 14,
         }
     }
 }

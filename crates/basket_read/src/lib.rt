@@ -2,6 +2,7 @@
 #![tactic(auto)]
 
 mod class;
+mod counted_line;
 mod fault;
 mod input;
 mod item_counts;
@@ -13,6 +14,7 @@ mod read;
 mod text;
 pub mod worked;
 
+pub use counted_line::CountedLine;
 pub use fault::ReadFault;
 pub use item_counts::ItemCounts;
 pub use parts::FimiParts;

@@ -6,22 +6,17 @@ use Rattle.basket_sets.specs.declared.counted.Counted.{Counted}
 use Rattle.basket_rules.specs.declared.association.Rule.{Rule}
 use Rattle.basket_report.specs.Texts.{ratio_text}
 
--- the items of a set, with one space between
+-- the items of a set with a space behind each
 abbrev pub items_text : List ℕ → List ℕ
-items_text [] = []
-items_text (item ∷ items) = decimal item ++ flat_map (λ other. 32 ∷ decimal other) items
+items_text items = flat_map (λ item. decimal item ++ 32 ∷ []) items
 
--- the items with a space behind each
-abbrev pub spaced_text : List ℕ → List ℕ
-spaced_text items = flat_map (λ item. decimal item ++ 32 ∷ []) items
-
--- the line of a set: its items, a space, the count in parentheses, a line feed
+-- the line of a set: its items, the count in parentheses, a line feed
 abbrev pub set_line : Counted → List ℕ
-set_line counted = items_text counted.set ++ codes " (" ++ decimal counted.count ++ codes ")\n"
+set_line counted = items_text counted.set ++ codes "(" ++ decimal counted.count ++ codes ")\n"
 
 -- the sides of a rule
 abbrev pub sides_text : List ℕ → List ℕ → List ℕ
-sides_text left right = items_text left ++ codes " => " ++ items_text right
+sides_text left right = items_text left ++ codes "=> " ++ items_text right
 
 -- the confidence and the lift of a rule, with a space between
 abbrev pub ratios_text : Ratio → Ratio → List ℕ
@@ -31,6 +26,6 @@ ratios_text confidence lift = ratio_text confidence ++ 32 ∷ ratio_text lift
 abbrev pub count_text : ℕ → List ℕ
 count_text count = 40 ∷ decimal count ++ 41 ∷ []
 
--- the line of a rule: its sides, a space, the count in parentheses, a space, the confidence, a space, the lift, a line feed
+-- the line of a rule: its sides, the count in parentheses, a space, the confidence, a space, the lift, a line feed
 abbrev pub rule_line : Rule → List ℕ
-rule_line rule = sides_text rule.left rule.right ++ codes " (" ++ decimal rule.count ++ codes ") " ++ ratios_text rule.confidence rule.lift ++ 10 ∷ []
+rule_line rule = sides_text rule.left rule.right ++ codes "(" ++ decimal rule.count ++ codes ") " ++ ratios_text rule.confidence rule.lift ++ 10 ∷ []

@@ -2,7 +2,7 @@
 ghost use Rattle.std.specs.Prelude.{◌≡◌, ◌↔◌, ◌≤◌, ◌+◌, ◌++◌, [], ℕ, List, Option, false, length, IfOk, IsOk, OnErr, OnOk};
 ghost use Rattle.std.specs.Io.KnownBytes.{Appends};
 ghost use Rattle.basket_report.specs.Block.{IsOnItsWay, TakesFront};
-ghost use Rattle.basket_report.specs.Lines.{set_line, spaced_text};
+ghost use Rattle.basket_report.specs.Lines.{items_text, set_line};
 ghost use Rattle.basket_report.specs.Report.{set_of};
 
 use crate::count_texts::CountTexts;
@@ -75,7 +75,7 @@ impl Block {
         requires { length items.now ≤ PIECE }
         ensures { (start : Option (List ℕ)) (text : List ℕ)
             → IsOnItsWay start (W.taken writer.old) (W.has_failed writer.old) self.old text
-            → IsOnItsWay start (W.taken writer.new) (W.has_failed writer.new) self.new (text ++ spaced_text items.now) }
+            → IsOnItsWay start (W.taken writer.new) (W.has_failed writer.new) self.new (text ++ items_text items.now) }
     {
         self.make_room(writer, ITEM_TEXT_ROOM * items.len());
         self.waiting = put_items(&mut self.room, self.waiting, texts, items);

@@ -99,23 +99,19 @@ impl Lines {
     }
 }
 
-/// Adds the items with one space between, and a space.
+/// Adds the items with a space behind each.
 fn put_items(report: &mut Vec<u8>, texts: &Texts, items: &[u32]) -> Result<(), AllocError>
-    ensures { OnOk result (report.new.items ≡ report.old.items ++ (items_text items.now ++ 32 ∷ [])) }
+    ensures { OnOk result (report.new.items ≡ report.old.items ++ items_text items.now) }
 {
-    if items.is_empty() {
-        report.push(b' ')?;
-        return Ok(());
-    }
     for item in items {
         texts.put(report, *item)?;
     }
     Ok(())
 }
 
-/// Adds both sides with an arrow between, and a space.
+/// Adds both sides with an arrow between.
 fn put_sides(report: &mut Vec<u8>, texts: &Texts, sides: &Sides) -> Result<(), AllocError>
-    ensures { OnOk result (report.new.items ≡ report.old.items ++ (sides_text sides.now.left.items sides.now.right.items ++ 32 ∷ [])) }
+    ensures { OnOk result (report.new.items ≡ report.old.items ++ sides_text sides.now.left.items sides.now.right.items) }
 {
     put_items(report, texts, &sides.left)?;
     report.extend_from_slice(b"=> ")?;

@@ -1,6 +1,6 @@
 //! Texts that are put into a room, one behind another.
 ghost use Rattle.std.specs.Prelude.{◌≡◌, ◌<◌, ◌≤◌, ◌+◌, ◌*◌, ◌++◌, [], ◌∷◌, decimal, length, take};
-ghost use Rattle.basket_report.specs.Lines.{items_text, set_line, spaced_text};
+ghost use Rattle.basket_report.specs.Lines.{items_text, set_line};
 ghost use Rattle.basket_report.specs.Report.{set_of};
 ghost use Rattle.basket_report.specs.Room.{IsPut};
 ghost use Rattle.basket_report.specs.Texts.{AreTexts};
@@ -57,7 +57,7 @@ fn put_new_item(room: &mut [u8], start: usize, item: u32) -> usize
 /// Puts items with a space behind each.
 pub fn put_items(room: &mut [u8], start: usize, texts: &Texts, items: &[u32]) -> usize
     requires { start + ITEM_TEXT_ROOM * length items.now ≤ length room.old }
-    ensures put { IsPut room.old room.new start (spaced_text items.now) result }
+    ensures put { IsPut room.old room.new start (items_text items.now) result }
     ensures within { result ≤ start + ITEM_TEXT_ROOM * length items.now }
 {
     let texts = texts.all();
@@ -66,18 +66,6 @@ pub fn put_items(room: &mut [u8], start: usize, texts: &Texts, items: &[u32]) ->
         end = put_item(room, end, texts, *item);
     }
     end
-}
-
-/// Puts items with one space between, and a space.
-fn put_set(room: &mut [u8], start: usize, texts: &Texts, items: &[u32]) -> usize
-    requires { start + ITEM_TEXT_ROOM * length items.now < length room.old }
-    ensures put { IsPut room.old room.new start (items_text items.now ++ 32 ∷ []) result }
-    ensures within { result ≤ start + ITEM_TEXT_ROOM * length items.now + 1 }
-{
-    if items.is_empty() {
-        return put_text::<1>(room, start, b" ", 1);
-    }
-    put_items(room, start, texts, items)
 }
 
 /// Puts the line of a set.
@@ -93,6 +81,6 @@ pub fn put_line(
     ensures put { IsPut room.old room.new start (set_line (set_of items.now count)) result }
     ensures within { result ≤ start + ITEM_TEXT_ROOM * length items.now + LINE_ROOM }
 {
-    let end = put_set(room, start, texts, items);
+    let end = put_items(room, start, texts, items);
     counts.put(room, end, count)
 }

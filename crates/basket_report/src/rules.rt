@@ -1,5 +1,8 @@
 //! The report of association rules.
-ghost use Rattle.std.specs.Prelude.{IfOk};
+ghost use Rattle.std.specs.Prelude.{◌≡◌, IfOk};
+ghost use Rattle.basket_rules.specs.Consistency.{IsConsistent};
+ghost use Rattle.basket_rules.specs.Rules.{rules_among};
+ghost use Rattle.basket_report.specs.Report.{rules_report_of};
 ghost use Rattle.basket_report.specs.Rules.{ReportsRules};
 ghost use Rattle.basket_report.specs.Style.{wording_of};
 
@@ -17,7 +20,8 @@ pub fn rules_report(
     confidence: (u32, u32),
     style: Style<'_>,
 ) -> Result<Vec<u8>, AllocError>
-    ensures { IfOk result (λ report. ReportsRules (wording_of style.entry) frequent.now confidence report.items) }
+    ensures baskets { IfOk result (λ report. ReportsRules (wording_of style.entry) frequent.now confidence report.items) }
+    ensures lists { IfOk result (λ report. IsConsistent frequent.now.sets → report.items ≡ rules_report_of (wording_of style.entry) (rules_among frequent.now confidence)) }
 {
     let mut lookups = Lookups::of(alloc, frequent.sets())?;
     let mut report = Report::for_rules(alloc, style, frequent.sets())?;

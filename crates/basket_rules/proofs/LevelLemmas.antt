@@ -1,48 +1,45 @@
 -- Right sides level by level.
 use Rattle.std.specs.Prelude.{bit_or}
-use Rattle.std.proofs.Common.{◌≡◌, ◌≢◌, ℕ, ◌+◌, ◌-◌, ◌<◌, ◌≤◌, ◌^◌, Bool, true, false, cond, ltb, List, [], ◌∷◌, ◌++◌, length, take, get_or, map, filter, Some, None, refl, sym, ap, ◌∙◌, subst, inl, inr, arith, zero, suc, add-one}
+use Rattle.std.proofs.Common.{◌≡◌, ◌≢◌, ℕ, ◌+◌, ◌-◌, ◌<◌, ◌≤◌, ◌^◌, ◌&&◌, Bool, true, false, cond, ltb, List, [], ◌∷◌, ◌++◌, length, take, get_or, map, filter, Some, None, refl, sym, ap, ◌∙◌, subst, arith, add-one}
 use Rattle.std.specs.List.{AllByRecursion, flat_map}
-use Rattle.std.proofs.lemmas.Bool.{lt-ltb, le-ltb}
+use Rattle.std.proofs.lemmas.Bool.{lt-ltb}
 use Rattle.std.proofs.lemmas.List.{append_assoc, append-nil, map-append, take_more, take_all}
 use Rattle.std.proofs.lemmas.List.Concat.{flat_map-append}
-use Rattle.std.proofs.lemmas.List.Elements.{filter-append, filter_more, All-from_recursion}
-use Rattle.std.proofs.Math.Pow.{pow_mono}
-use Rattle.basket_ranks.specs.Depth.{HasSetOfSize}
+use Rattle.std.proofs.lemmas.List.Elements.{filter_more, All-from_recursion}
 use Rattle.basket_core.specs.Listing.{Listing}
-use Rattle.basket_ranks.proofs.theory.Depth.{deep_sets_are_many}
-use Rattle.basket_sets.specs.declared.weighted.Weighted.{Weighted}
 use Rattle.basket_sets.specs.declared.counted.Counted.{Counted}
-use Rattle.basket_sets.specs.declared.minimum.Minimum.{Minimum}
-use Rattle.basket_sets.specs.Frequent.{frequent_of}
 use Rattle.basket_sets.specs.Itemset.{IsRising}
-use Rattle.basket_sets.specs.Subsets.{subsets_of_size, subsets_up_to}
-use Rattle.basket_sets.proofs.theory.Members.{Member, Member-filter, Member-map, All-from_Member}
+use Rattle.basket_sets.specs.Subsets.{subsets_of, subsets_up_to}
+use Rattle.basket_sets.proofs.theory.Members.{Member, Member-filter, Member-map, All-from_Member, at_Member}
 use Rattle.basket_sets.proofs.theory.Rising.{contains_each}
-use Rattle.basket_sets.proofs.theory.Subsets.{IsSubset-from_Member, size_of_Member}
+use Rattle.basket_sets.proofs.theory.Subsets.{IsSubset-from_Member}
 use Rattle.basket_rules.specs.declared.association.Rule.{Rule}
 use Rattle.basket_rules.specs.declared.rights.Right.{Right}
 use Rattle.basket_rules.specs.declared.rights.TheConstants.{MOST_PLACES}
-use Rattle.basket_rules.specs.Listed.{IsListingOf, set_at}
+use Rattle.basket_rules.specs.Consistency.{IsConsistent}
+use Rattle.basket_rules.specs.Listed.{set_at}
 use Rattle.basket_rules.specs.Rights.{chosen, has_parts, has_place, longer, next_sides, no_places, side_of, with_place, words_of}
-use Rattle.basket_rules.specs.Rules.{is_confident, rule_of, right_sides_of, IsRightSide, IsRuleFor, KeepsConfident, AreRulesWith, AreRules, rules_with}
-use Rattle.basket_rules.proofs.CondensedLemmas.{entry}
+use Rattle.basket_rules.specs.Rules.{is_confident_among, rule_among, rules_among_with, rules_among, right_sides_of, IsRightSide, IsRuleFor, KeepsConfident}
 use Rattle.basket_rules.proofs.SearchLemmas.{none, set_is}
-use Rattle.basket_rules.proofs.RuleLemmas.{confidence_falls}
+use Rattle.basket_rules.proofs.SubsetLemmas.{filter_same}
+use Rattle.basket_rules.proofs.RuleLemmas.{is_met, met_falls}
 use Rattle.basket_rules.proofs.PartLemmas.{left_out, parts_pass}
-use Rattle.basket_rules.proofs.RightLemmas.{sides_of, sides_are_subsets, all_longer, first_longer, kept_longer, fewer_longer, side_grows}
+use Rattle.basket_rules.proofs.RightLemmas.{sides_of, sides_are_subsets, all_longer, chosen_rises, first_longer, kept_longer, fewer_longer, side_grows}
+use Rattle.basket_rules.proofs.SizeLemmas.{joined, right_sides_are}
+use Rattle.basket_rules.proofs.theory.Consistency.{set_nonempty}
 
 -- ---- what is kept of a level
 
 module _ (listing : Listing) (confidence : ℕ × ℕ) (number : ℕ) where
   -- the same of the first of the right sides that are tried
   abbrev pub IsKeptUpTo : ℕ → List Right → List Right → List Rule → List Rule → Type 0
-  IsKeptUpTo count tried met old new = (baskets : List Weighted) (minimum : Minimum) → IsListingOf baskets minimum listing
+  IsKeptUpTo count tried met old new = IsConsistent listing.sets
       → AllByRecursion (λ right. IsRightSide listing number (side_of (set_at listing.sets number) right)) tried
-      → (met ≡ filter (λ right. is_confident baskets confidence (set_at listing.sets number) (side_of (set_at listing.sets number) right)) (take count tried))
-      × (new ≡ old ++ map (λ right. rule_of baskets (set_at listing.sets number) (side_of (set_at listing.sets number) right)) met)
+      → (met ≡ filter (λ right. is_confident_among listing confidence (set_at listing.sets number) (side_of (set_at listing.sets number) right)) (take count tried))
+      × (new ≡ old ++ map (λ right. rule_among listing (set_at listing.sets number) (side_of (set_at listing.sets number) right)) met)
 
   pub kept_start : (tried : List Right) (rules : List Rule) → IsKeptUpTo 0 tried [] rules rules
-  kept_start tried rules baskets minimum is all = (refl, sym (append-nil rules))
+  kept_start tried rules consistent all = (refl, sym (append-nil rules))
 
   some_rule : (b : Bool) (rule expected : Rule) → Some rule ≡ cond b (Some expected) None → (b ≡ true) × (rule ≡ expected)
   some_rule true rule expected e = (refl, cc)
@@ -64,12 +61,12 @@ module _ (listing : Listing) (confidence : ℕ × ℕ) (number : ℕ) where
 
     pub kept_one : (met : List Right) (old new : List Rule) (rule : Rule) → IsRuleFor listing confidence number (side_of (set_at listing.sets number) right) (Some rule)
         → IsKeptUpTo count tried met old new → IsKeptUpTo (count + 1) tried (met ++ right ∷ []) old (new ++ rule ∷ [])
-    kept_one met old new rule for so baskets minimum is all =
-        let h = so baskets minimum is all in
+    kept_one met old new rule for so consistent all =
+        let h = so consistent all in
         let union = set_at listing.sets number in
-        let test : Right → Bool = λ r. is_confident baskets confidence union (side_of union r) in
-        let made : Right → Rule = λ r. rule_of baskets union (side_of union r) in
-        let found = some_rule (test right) rule (made right) (for baskets minimum is (tried_one all)) in (
+        let test : Right → Bool = λ r. is_confident_among listing confidence union (side_of union r) in
+        let made : Right → Rule = λ r. rule_among listing union (side_of union r) in
+        let found = some_rule (test right) rule (made right) (for consistent (tried_one all)) in (
           ap (λ l. l ++ right ∷ []) h.0 ∙ sym (filtered test true found.0),
           ap (λ l. l ++ rule ∷ []) h.1 ∙ append_assoc old (map made met) (rule ∷ []) ∙ ap (λ r. old ++ (map made met ++ r ∷ [])) found.1
               ∙ ap (λ l. old ++ l) (sym (map-append made met (right ∷ []))),
@@ -77,38 +74,37 @@ module _ (listing : Listing) (confidence : ℕ × ℕ) (number : ℕ) where
 
     pub kept_none : (met : List Right) (old new : List Rule) → IsRuleFor listing confidence number (side_of (set_at listing.sets number) right) None
         → IsKeptUpTo count tried met old new → IsKeptUpTo (count + 1) tried met old new
-    kept_none met old new for so baskets minimum is all =
-        let h = so baskets minimum is all in
+    kept_none met old new for so consistent all =
+        let h = so consistent all in
         let union = set_at listing.sets number in
-        let test : Right → Bool = λ r. is_confident baskets confidence union (side_of union r) in
-        let fails = no_rule_at (test right) (rule_of baskets union (side_of union right)) (for baskets minimum is (tried_one all)) in
+        let test : Right → Bool = λ r. is_confident_among listing confidence union (side_of union r) in
+        let fails = no_rule_at (test right) (rule_among listing union (side_of union right)) (for consistent (tried_one all)) in
         (h.0 ∙ sym (append-nil (filter test (take count tried))) ∙ sym (filtered test false fails), h.1)
 
   pub kept_all : (count : ℕ) (tried met : List Right) (old new : List Rule) → length tried ≤ count → IsKeptUpTo count tried met old new → KeepsConfident listing confidence number tried met old new
-  kept_all count tried met old new whole so baskets minimum is all =
-      let h = so baskets minimum is all in
-      (h.0 ∙ ap (filter (λ right. is_confident baskets confidence (set_at listing.sets number) (side_of (set_at listing.sets number) right))) (take_all count tried whole), h.1)
+  kept_all count tried met old new whole so consistent all =
+      let h = so consistent all in
+      (h.0 ∙ ap (filter (λ right. is_confident_among listing confidence (set_at listing.sets number) (side_of (set_at listing.sets number) right))) (take_all count tried whole), h.1)
 
 -- ---- the rules of a union, up to a size of their right sides
 
 -- the right sides of a size that are tried, and the rules with smaller ones
-pub record IsLevel (baskets : List Weighted) (confidence : ℕ × ℕ) (union : List ℕ) (size : ℕ) (rights : List Right) (rules : List Rule) : Type 0 where
+pub record IsLevel (listing : Listing) (confidence : ℕ × ℕ) (union : List ℕ) (size : ℕ) (rights : List Right) (rules : List Rule) : Type 0 where
   pub within : (right : Right) → Member right rights → Member right (sides_of size 0 union)
-  pub all : filter (λ right. is_confident baskets confidence union (side_of union right)) rights ≡ filter (λ right. is_confident baskets confidence union (side_of union right)) (sides_of size 0 union)
-  pub smaller : rules ≡ map (rule_of baskets union) (filter (is_confident baskets confidence union) (subsets_up_to (size - 1) union))
+  pub all : filter (λ right. is_met listing confidence union (side_of union right)) rights ≡ filter (λ right. is_met listing confidence union (side_of union right)) (sides_of size 0 union)
+  pub smaller : rules ≡ map (rule_among listing union) (filter (is_met listing confidence union) (subsets_up_to (size - 1) union))
 
 abbrev pub IsLevelAt : Listing → ℕ × ℕ → ℕ → ℕ → List Right → List Rule → Type 0
-IsLevelAt listing confidence number size rights rules = (baskets : List Weighted) (minimum : Minimum) → IsListingOf baskets minimum listing
-    → IsLevel baskets confidence (set_at listing.sets number) size rights rules
+IsLevelAt listing confidence number size rights rules = IsConsistent listing.sets → IsLevel listing confidence (set_at listing.sets number) size rights rules
 
 pub first_level : (listing : Listing) (confidence : ℕ × ℕ) (number : ℕ) → length (set_at listing.sets number) ≤ MOST_PLACES
     → IsLevelAt listing confidence number 1 (longer (length (set_at listing.sets number)) (no_places ∷ [])) []
-first_level listing confidence number few baskets minimum is =
+first_level listing confidence number few consistent =
     let union = set_at listing.sets number in
     let all = first_longer union few in
     record {
       within = λ right m. subst (Member right) all m;
-      all = ap (filter (λ right. is_confident baskets confidence union (side_of union right))) all;
+      all = ap (filter (λ right. is_met listing confidence union (side_of union right))) all;
       smaller = refl;
     }
 
@@ -134,142 +130,111 @@ filtered_sides test made side (right ∷ rights) = at (test (side right)) (filte
     at true e = ap (λ l. made (side right) ∷ l) e
     at false e = e
 
-pub more_level : (listing : Listing) (confidence : ℕ × ℕ) (number size : ℕ) (rights met : List Right) (rules more : List Rule)
-    → number < length listing.sets → length (set_at listing.sets number) ≤ MOST_PLACES → 1 ≤ size → size < length (set_at listing.sets number)
-    → KeepsConfident listing confidence number rights met rules more
-    → IsLevelAt listing confidence number size rights rules → IsLevelAt listing confidence number (size + 1) (longer (length (set_at listing.sets number)) met) more
-more_level listing confidence number size rights met rules more below few some less keeps level baskets minimum is =
-    let union = set_at listing.sets number in
-    let up = (entry baskets minimum listing is number below).0.0 in
-    let l = level baskets minimum is in
-    let test : Right → Bool = λ right. is_confident baskets confidence union (side_of union right) in
-    let kept = keeps baskets minimum is (right_sides listing number size rights up few some less l.within) in
-    let met_is : met ≡ filter test (sides_of size 0 union) = kept.0 ∙ l.all in
-    let next : longer (length union) (sides_of size 0 union) ≡ sides_of (size + 1) 0 union = all_longer size union few ∙ ap (λ n. sides_of n 0 union) (sym (add-one size)) in
-    record {
-      within = λ right m. subst (Member right) next (fewer_longer test (length union) (sides_of size 0 union) right (subst (λ r. Member right (longer (length union) r)) met_is m));
-      all = ap (λ r. filter test (longer (length union) r)) met_is
-          ∙ kept_longer test (λ place right h. confidence_falls baskets confidence union (side_of union (with_place place right)) (side_of union right)
-          (contains_each (side_of union (with_place place right)) (side_of union right) (side_grows union place right)) h) (length union) (sides_of size 0 union)
-          ∙ ap (filter test) next;
-      smaller = kept.1 ∙ (λ i. l.smaller i ++ map (λ right. rule_of baskets union (side_of union right)) (met_is i))
-          ∙ ap (λ r. map (rule_of baskets union) (filter (is_confident baskets confidence union) (subsets_up_to (size - 1) union)) ++ r)
-          (filtered_sides (is_confident baskets confidence union) (rule_of baskets union) (side_of union) (sides_of size 0 union)
-          ∙ ap (λ s. map (rule_of baskets union) (filter (is_confident baskets confidence union) s)) (sides_are_subsets size union few))
-          ∙ joined baskets confidence union size some
-          ∙ ap (λ n. map (rule_of baskets union) (filter (is_confident baskets confidence union) (subsets_up_to n union))) (less_one size);
-    }
-  where
-    less_one : (n : ℕ) → n ≡ n + 1 - 1
-    less_one n = omega arith
+module _ (listing : Listing) (confidence : ℕ × ℕ) (number size : ℕ) (below : number < length listing.sets) (few : length (set_at listing.sets number) ≤ MOST_PLACES) (some : 1 ≤ size)
+    (less : size < length (set_at listing.sets number)) (rights met : List Right) (rules more : List Rule) (keeps : KeepsConfident listing confidence number rights met rules more)
+    (level : IsLevelAt listing confidence number size rights rules) (consistent : IsConsistent listing.sets) where
+  rises : IsRising (set_at listing.sets number)
+  rises = (set_nonempty listing.sets consistent number below).0
 
-    joined : (baskets : List Weighted) (confidence : ℕ × ℕ) (union : List ℕ) (k : ℕ) → 1 ≤ k →
-        map (rule_of baskets union) (filter (is_confident baskets confidence union) (subsets_up_to (k - 1) union)) ++ map (rule_of baskets union) (filter (is_confident baskets confidence union) (subsets_of_size k union))
-        ≡ map (rule_of baskets union) (filter (is_confident baskets confidence union) (subsets_up_to k union))
-    joined baskets confidence union zero some = absurd (omega (arith, some))
-    joined baskets confidence union (suc k) some =
-        let same : suc k - 1 ≡ k = omega arith in
-        ap (λ n. map (rule_of baskets union) (filter (is_confident baskets confidence union) (subsets_up_to n union)) ++ map (rule_of baskets union) (filter (is_confident baskets confidence union) (subsets_of_size (suc k) union))) same
-        ∙ sym (map-append (rule_of baskets union) (filter (is_confident baskets confidence union) (subsets_up_to k union)) (filter (is_confident baskets confidence union) (subsets_of_size (suc k) union)))
-        ∙ ap (map (rule_of baskets union)) (sym (filter-append (is_confident baskets confidence union) (subsets_up_to k union) (subsets_of_size (suc k) union)))
+  -- the sides that are met
+  abbrev test : Right → Bool
+  test right = is_met listing confidence (set_at listing.sets number) (side_of (set_at listing.sets number) right)
 
--- the same of those that are tried
-pub next_level : (listing : Listing) (confidence : ℕ × ℕ) (number size : ℕ) (rights met : List Right) (rules more : List Rule) (every : Bool)
-    → number < length listing.sets → length (set_at listing.sets number) ≤ MOST_PLACES → 1 ≤ size → size < length (set_at listing.sets number)
-    → KeepsConfident listing confidence number rights met rules more
-    → IsLevelAt listing confidence number size rights rules → IsLevelAt listing confidence number (size + 1) (next_sides every (length (set_at listing.sets number)) met) more
-next_level listing confidence number size rights met rules more true below few some less keeps level baskets minimum is =
-    more_level listing confidence number size rights met rules more below few some less keeps level baskets minimum is
-next_level listing confidence number size rights met rules more false below few some less keeps level baskets minimum is =
-    let union = set_at listing.sets number in
-    let up = (entry baskets minimum listing is number below).0.0 in
-    let l = level baskets minimum is in
-    let next = more_level listing confidence number size rights met rules more below few some less keeps level baskets minimum is in
-    let test : Right → Bool = λ right. is_confident baskets confidence union (side_of union right) in
-    let kept : Right → Bool = λ right. has_parts (words_of met) right.places (length union) in
-    let met_is : met ≡ filter test (sides_of size 0 union) = (keeps baskets minimum is (right_sides listing number size rights up few some less l.within)).0 ∙ l.all in
-    let falls : (right part : Right) (i : ℕ) → bit_or part.places (2 ^ i) ≡ right.places → test right ≡ true → test part ≡ true = λ right part i e h.
-    confidence_falls baskets confidence union (side_of union (with_place i part)) (side_of union part)
-    (contains_each (side_of union (with_place i part)) (side_of union part) (side_grows union i part))
-    (ap (λ w. is_confident baskets confidence union (chosen (has_place w) union)) e ∙ h) in
-    let longer_sides = longer (length union) met in
-    record {
-      within = λ right m. next.within right (Member-filter kept right longer_sides m).0;
-      all = left_out test kept longer_sides
-          (λ right m h. ap (λ n. has_parts (words_of n) right.places (length union)) met_is
-          ∙ parts_pass test falls size (length union) union few right (subst (λ n. Member right (sides_of n 0 union)) (add-one size) (next.within right m)) h)
-          ∙ next.all;
-      smaller = next.smaller;
-    }
+  sides_fall : (place : ℕ) (right : Right) → test (with_place place right) ≡ true → test right ≡ true
+  sides_fall place right =
+      let set = set_at listing.sets number in
+      met_falls listing number below consistent confidence (side_of set (with_place place right)) (side_of set right)
+      (chosen_rises (has_place (bit_or right.places (2 ^ place))) 0 set rises) (chosen_rises (has_place right.places) 0 set rises)
+      (contains_each (side_of set (with_place place right)) (side_of set right) (side_grows set place right))
+
+  kept : (met ≡ filter test (sides_of size 0 (set_at listing.sets number))) × (more ≡ rules ++ map (λ right. rule_among listing (set_at listing.sets number) (side_of (set_at listing.sets number) right)) met)
+  kept =
+      let set = set_at listing.sets number in
+      let l = level consistent in
+      let all = right_sides listing number size rights rises few some less l.within in
+      let k = keeps consistent all in (
+        k.0 ∙ filter_same (λ right. is_confident_among listing confidence set (side_of set right)) test rights
+            (λ right m. sym (ap (λ b. b && is_confident_among listing confidence set (side_of set right))
+            (lt-ltb (length (side_of set right)) (length set) (at_Member (λ r. IsRightSide listing number (side_of set r)) right rights all m).1))) ∙ l.all,
+        k.1,
+      )
+
+  more_level : IsLevel listing confidence (set_at listing.sets number) (size + 1) (longer (length (set_at listing.sets number)) met) more
+  more_level =
+      let set = set_at listing.sets number in
+      let sides = sides_of size 0 set in
+      let made = rule_among listing set in
+      let p = is_met listing confidence set in
+      let met_is = kept.0 in
+      let next : longer (length set) sides ≡ sides_of (size + 1) 0 set = all_longer size set few ∙ ap (λ n. sides_of n 0 set) (sym (add-one size)) in
+      record {
+        within = λ right m. subst (Member right) next (fewer_longer test (length set) sides right (subst (λ r. Member right (longer (length set) r)) met_is m));
+        all = ap (λ r. filter test (longer (length set) r)) met_is ∙ kept_longer test sides_fall (length set) sides ∙ ap (filter test) next;
+        smaller = kept.1 ∙ (λ i. (level consistent).smaller i ++ map (λ right. made (side_of set right)) (met_is i))
+            ∙ ap (λ r. map made (filter p (subsets_up_to (size - 1) set)) ++ r)
+            (filtered_sides p made (side_of set) sides ∙ ap (λ s. map made (filter p s)) (sides_are_subsets size set few))
+            ∙ joined made p set size some ∙ ap (λ n. map made (filter p (subsets_up_to n set))) (less_one size);
+      }
+    where
+      less_one : (n : ℕ) → n ≡ n + 1 - 1
+      less_one n = omega arith
+
+  -- the same of those that are tried
+  pub next_level : (every : Bool) → IsLevel listing confidence (set_at listing.sets number) (size + 1) (next_sides every (length (set_at listing.sets number)) met) more
+  next_level true = more_level
+  next_level false =
+      let set = set_at listing.sets number in
+      let has_kept : Right → Bool = λ right. has_parts (words_of met) right.places (length set) in
+      let falls : (right part : Right) (i : ℕ) → bit_or part.places (2 ^ i) ≡ right.places → test right ≡ true → test part ≡ true = λ right part i e h.
+      sides_fall i part (ap (λ w. is_met listing confidence set (chosen (has_place w) set)) e ∙ h) in
+      let longer_sides = longer (length set) met in
+      record {
+        within = λ right m. more_level.within right (Member-filter has_kept right longer_sides m).0;
+        all = left_out test has_kept longer_sides
+            (λ right m h. ap (λ n. has_parts (words_of n) right.places (length set)) kept.0
+            ∙ parts_pass test falls size (length set) set few right (subst (λ n. Member right (sides_of n 0 set)) (add-one size) (more_level.within right m)) h)
+            ∙ more_level.all;
+        smaller = more_level.smaller;
+      }
 
 -- ---- all sizes but the union's own
 
-filter_all : (p : List ℕ → Bool) (xs : List (List ℕ)) → ((x : List ℕ) → Member x xs → p x ≡ true) → filter p xs ≡ xs
-filter_all p [] h = refl
-filter_all p (x ∷ xs) h = ap (λ b. cond b (x ∷ filter p xs) (filter p xs)) (h x (inl refl)) ∙ ap (λ l. x ∷ l) (filter_all p xs (λ y m. h y (inr m)))
-
-filter_none : (p : List ℕ → Bool) (xs : List (List ℕ)) → ((x : List ℕ) → Member x xs → p x ≡ false) → filter p xs ≡ []
-filter_none p [] h = refl
-filter_none p (x ∷ xs) h = ap (λ b. cond b (x ∷ filter p xs) (filter p xs)) (h x (inl refl)) ∙ filter_none p xs (λ y m. h y (inr m))
-
-right_sides_are : (union : List ℕ) → IsRising union → right_sides_of union ≡ subsets_up_to (length union - 1) union
-right_sides_are [] up = refl
-right_sides_are (x ∷ items) up =
-    let union = x ∷ items in
-    let p = λ (right : List ℕ). ltb (length right) (length union) in
-    let same : length items ≡ suc (length items) - 1 = omega arith in
-    filter-append p (subsets_up_to (length items) union) (subsets_of_size (suc (length items)) union)
-    ∙ (λ i. filter_all p (subsets_up_to (length items) union) smaller i ++ filter_none p (subsets_of_size (suc (length items)) union) whole i)
-    ∙ append-nil (subsets_up_to (length items) union)
-    ∙ ap (λ n. subsets_up_to n union) same
-  where
-    smaller : (right : List ℕ) → Member right (subsets_up_to (length items) (x ∷ items)) → ltb (length right) (suc (length items)) ≡ true
-    smaller right m = let s = size_of_Member (length items) (x ∷ items) right up m in
-        lt-ltb (length right) (suc (length items)) (let k = s.1 in let n = s.2.sized in omega arith)
-
-    whole : (right : List ℕ) → Member right (subsets_of_size (suc (length items)) (x ∷ items)) → ltb (length right) (suc (length items)) ≡ false
-    whole right m = let s = IsSubset-from_Member (suc (length items)) (x ∷ items) right up m in
-        le-ltb (length right) (suc (length items)) (let n = s.sized in omega arith)
+-- the right sides are those that are smaller than the union
+met_sides : (listing : Listing) (confidence : ℕ × ℕ) (union : List ℕ) → filter (is_met listing confidence union) (right_sides_of union) ≡ filter (is_confident_among listing confidence union) (right_sides_of union)
+met_sides listing confidence union = filter_same (is_met listing confidence union) (is_confident_among listing confidence union) (right_sides_of union) (λ right m.
+    ap (λ b. b && is_confident_among listing confidence union right) (Member-filter (λ r. ltb (length r) (length union)) right (subsets_of union) m).1)
 
 pub all_levels : (listing : Listing) (confidence : ℕ × ℕ) (number size : ℕ) (rights : List Right) (rules : List Rule) → number < length listing.sets
     → length (set_at listing.sets number) ≤ size → (1 ≤ length (set_at listing.sets number) → size ≤ length (set_at listing.sets number))
-    → IsLevelAt listing confidence number size rights rules → AreRulesWith listing confidence number rules
-all_levels listing confidence number size rights rules below low high level baskets minimum is =
+    → IsLevelAt listing confidence number size rights rules → IsConsistent listing.sets → rules ≡ rules_among_with listing confidence (set_at listing.sets number)
+all_levels listing confidence number size rights rules below low high level consistent =
     let union = set_at listing.sets number in
-    let nonempty = (entry baskets minimum listing is number below).0 in
+    let nonempty = set_nonempty listing.sets consistent number below in
     let at_end : size ≡ length union = (let h = high (some_item union nonempty.1) in omega arith) in
-    (level baskets minimum is).smaller
-    ∙ ap (λ l. map (rule_of baskets union) (filter (is_confident baskets confidence union) l)) (ap (λ n. subsets_up_to (n - 1) union) at_end ∙ sym (right_sides_are union nonempty.0))
+    (level consistent).smaller
+    ∙ ap (λ l. map (rule_among listing union) (filter (is_met listing confidence union) l)) (ap (λ n. subsets_up_to (n - 1) union) at_end ∙ sym (right_sides_are union nonempty.0))
+    ∙ ap (map (rule_among listing union)) (met_sides listing confidence union)
   where
     some_item : (set : List ℕ) → set ≢ [] → 1 ≤ length set
     some_item [] some = absurd (some refl)
     some_item (x ∷ set) some = omega arith
-
--- ---- no larger unions
-
-pub none_so_large : (listing : Listing) (number : ℕ) (set : Counted) → set ≡ get_or listing.sets number set → number < length listing.sets → length listing.sets < 2 ^ 64 → MOST_PLACES < length set.set
-    → (baskets : List Weighted) (minimum : Minimum) → IsListingOf baskets minimum listing → ⊥
-none_so_large listing number set is_here below fits deep baskets minimum is =
-    let many = deep_sets_are_many baskets minimum (length set.set) (subst (λ l. HasSetOfSize l (length set.set)) is.sets (set, (number, below, sym is_here), refl)) in
-    let long : length listing.sets ≡ length (frequent_of baskets minimum) = ap length is.sets in
-    let grows : 2 ^ 65 ≤ 2 ^ length set.set = pow_mono {i = 65} {j = length set.set} (omega (arith, deep)) in
-    omega (arith, many, long, grows, fits)
 
 -- ---- union after union
 
 -- the rules of the sets before a place
 abbrev pub AreRulesUpTo : Listing → ℕ × ℕ → ℕ → List Rule → Type 0
 AreRulesUpTo listing confidence number rules =
-    (baskets : List Weighted) (minimum : Minimum) → IsListingOf baskets minimum listing → rules ≡ flat_map (λ c. rules_with baskets confidence c.set) (take number listing.sets)
+    IsConsistent listing.sets → rules ≡ flat_map (λ c. rules_among_with listing confidence c.set) (take number listing.sets)
 
 pub more_rules : (listing : Listing) (confidence : ℕ × ℕ) (number : ℕ) (rules more : List Rule) → number < length listing.sets → AreRulesUpTo listing confidence number rules
-    → AreRulesWith listing confidence number more → AreRulesUpTo listing confidence (number + 1) (rules ++ more)
-more_rules listing confidence number rules more below so new baskets minimum is =
-    let f = λ (c : Counted). rules_with baskets confidence c.set in
-    (λ i. so baskets minimum is i ++ (new baskets minimum is ∙ ap (rules_with baskets confidence) (set_is listing.sets number none below) ∙ sym (append-nil (f (get_or listing.sets number none)))) i)
+    → (IsConsistent listing.sets → more ≡ rules_among_with listing confidence (set_at listing.sets number)) → AreRulesUpTo listing confidence (number + 1) (rules ++ more)
+more_rules listing confidence number rules more below so new consistent =
+    let f = λ (c : Counted). rules_among_with listing confidence c.set in
+    (λ i. so consistent i ++ (new consistent ∙ ap (rules_among_with listing confidence) (set_is listing.sets number none below) ∙ sym (append-nil (f (get_or listing.sets number none)))) i)
     ∙ sym (flat_map-append f (take number listing.sets) (get_or listing.sets number none ∷ []))
     ∙ ap (flat_map f) (sym (take_more listing.sets number none below))
 
-pub all_rules : (listing : Listing) (confidence : ℕ × ℕ) (number : ℕ) (rules : List Rule) → length listing.sets ≤ number → AreRulesUpTo listing confidence number rules → AreRules listing confidence rules
-all_rules listing confidence number rules whole so baskets minimum is =
-    so baskets minimum is ∙ ap (flat_map (λ (c : Counted). rules_with baskets confidence c.set)) (take_all number listing.sets whole ∙ is.sets)
+pub all_rules : (listing : Listing) (confidence : ℕ × ℕ) (number : ℕ) (rules : List Rule) → length listing.sets ≤ number → AreRulesUpTo listing confidence number rules
+    → IsConsistent listing.sets → rules ≡ rules_among listing confidence
+all_rules listing confidence number rules whole so consistent =
+    so consistent ∙ ap (flat_map (λ (c : Counted). rules_among_with listing confidence c.set)) (take_all number listing.sets whole)

@@ -1,9 +1,11 @@
+pub mod theory
 mod SearchLemmas
 mod SubsetLemmas
 mod CoveredLemmas
-mod CondensedLemmas
+mod MarkLemmas
 mod RuleLemmas
 mod RightLemmas
 mod SideLemmas
 mod PartLemmas
+mod SizeLemmas
 mod LevelLemmas

@@ -9,9 +9,10 @@ use Rattle.std.specs.List.Sorted.{IsBinarySearchResult, IsNonDecreasingBy, IsPar
 use Rattle.std.proofs.lemmas.Bool.{cases_lt}
 use Rattle.std.proofs.lemmas.Cmp.{tied_itself}
 use Rattle.std.proofs.lemmas.Map.Keys.{Less-from_sorted}
-use Rattle.std.proofs.lemmas.List.{get_or-take, get_or-map, length-drop, length-map, length-take-le}
+use Rattle.std.proofs.lemmas.List.{get_or_default, get_or-take, get_or-map, length-drop, length-map, length-take-le}
 use Rattle.basket_sets.specs.declared.counted.Counted.{Counted}
 use Rattle.basket_sets.specs.Order.{report_order, report_order_total, report_order_ties}
+use Rattle.basket_sets.proofs.theory.Members.{Member, Member-from_Contains}
 use Rattle.basket_rules.specs.Listed.{IsSorted, sets_in, set_at, count_at}
 use Rattle.basket_rules.specs.Search.{IsBetween, IsMissing}
 
@@ -42,6 +43,10 @@ count_is list k d below = get_or-map (λ (c : Counted). c.count) list k d 0 belo
 -- what is read where there is no set
 abbrev pub none : Counted
 none = record { set = []; count = 0 }
+
+-- the entry there is a member
+pub entry_listed : (list : List Counted) (k : ℕ) → k < length list → Member (get_or list k none) list
+entry_listed list k below = let c = get_or list k none in Member-from_Contains c list (k, below, sym (get_or_default list k none c below))
 
 equal_sets : (a b : List ℕ) → report_order a b ≡ Equal → a ≡ b
 equal_sets a b e = (bytes_decides a b).0 (report_order_ties a b ∙ ap is_eq e)

@@ -1,14 +1,22 @@
 -- A set without one of its items, and a set with an item more.
-use Rattle.std.proofs.Common.{◌≡◌, ℕ, ◌+◌, ◌-◌, ◌<◌, Bool, true, false, cond, eqb, ltb, List, [], ◌∷◌, ◌++◌, length, take, drop, refl, sym, ap, ◌∙◌, subst, inl, inr, arith, zero, suc, add-one}
-use Rattle.std.specs.List.{list_all}
+use Rattle.std.proofs.Common.{◌≡◌, ℕ, ◌+◌, ◌-◌, ◌<◌, Bool, true, false, not, cond, eqb, ltb, List, [], ◌∷◌, ◌++◌, length, take, drop, get_or, map, filter, refl, sym, ap, ◌∙◌, subst, inl, inr, arith, zero, suc, add-one}
+use Rattle.std.specs.List.{flat_map, list_all}
 use Rattle.std.proofs.lemmas.Bool.{cases_Bool, and_parts, and_from, eqb-true, true≢false, false_from_ne_true}
 use Rattle.std.proofs.lemmas.List.{take_rest}
 use Rattle.basket_sets.specs.Itemset.{IsRising, has, contains, with_item}
 use Rattle.basket_sets.proofs.theory.Members.{Member}
-use Rattle.basket_sets.proofs.theory.Rising.{Member-from_has, has-from_Member, has_each, contains_each, first_below, rest_rises, Member-with_item, Member-into_with_item}
+use Rattle.basket_sets.proofs.theory.Rising.{Member-from_has, has-from_Member, has_each, contains_each, cons_rises, first_below, rest_rises, Member-with_item, Member-into_with_item}
 use Rattle.basket_rules.specs.Subset.{without}
 
--- ---- tests of lists
+-- ---- tests
+
+pub not_true : (b : Bool) → b ≡ false → not b ≡ true
+not_true true e = absurd (true≢false e)
+not_true false e = refl
+
+pub true_not : (b : Bool) → not b ≡ true → b ≡ false
+true_not true e = absurd (true≢false (sym e))
+true_not false e = refl
 
 pub each_passes : {X : Type 0} (p : X → Bool) (xs : List X) → list_all p xs ≡ true → (x : X) → Member x xs → p x ≡ true
 each_passes p [] h x m = absurd m
@@ -18,6 +26,19 @@ each_passes p (y ∷ ys) h x (inr m) = each_passes p ys (and_parts (p y) (list_a
 pub all_pass : {X : Type 0} (p : X → Bool) (xs : List X) → ((x : X) → Member x xs → p x ≡ true) → list_all p xs ≡ true
 all_pass p [] h = refl
 all_pass p (y ∷ ys) h = and_from (p y) (list_all p ys) (h y (inl refl)) (all_pass p ys (λ x m. h x (inr m)))
+
+pub filter_same : {X : Type 0} (p q : X → Bool) (xs : List X) → ((x : X) → Member x xs → p x ≡ q x) → filter p xs ≡ filter q xs
+filter_same p q [] same = refl
+filter_same p q (x ∷ xs) same =
+    ap (λ b. cond b (x ∷ filter p xs) (filter p xs)) (same x (inl refl)) ∙ ap (λ l. cond (q x) (x ∷ l) l) (filter_same p q xs (λ y m. same y (inr m)))
+
+pub map_same : {X Y : Type 0} (f g : X → Y) (xs : List X) → ((x : X) → Member x xs → f x ≡ g x) → map f xs ≡ map g xs
+map_same f g [] same = refl
+map_same f g (x ∷ xs) same = λ i. same x (inl refl) i ∷ map_same f g xs (λ y m. same y (inr m)) i
+
+pub flat_map_same : {X Y : Type 0} (f g : X → List Y) (xs : List X) → ((x : X) → Member x xs → f x ≡ g x) → flat_map f xs ≡ flat_map g xs
+flat_map_same f g [] same = refl
+flat_map_same f g (x ∷ xs) same = λ i. same x (inl refl) i ++ flat_map_same f g xs (λ y m. same y (inr m)) i
 
 -- ---- a place left out
 
@@ -37,6 +58,25 @@ Member-without place [] x m = m
 Member-without zero (y ∷ items) x m = inr m
 Member-without (suc place) (y ∷ items) x (inl e) = inl e
 Member-without (suc place) (y ∷ items) x (inr m) = inr (Member-without place items x m)
+
+-- so does each item that stands at another place
+pub Member-into_without : (place : ℕ) (items : List ℕ) (none x : ℕ) → Member x items → (x ≡ get_or items place none → ⊥) → Member x (without place items)
+Member-into_without place [] none x m other = m
+Member-into_without zero (y ∷ items) none x (inl e) other = absurd (other (sym e))
+Member-into_without zero (y ∷ items) none x (inr m) other = m
+Member-into_without (suc place) (y ∷ items) none x (inl e) other = inl e
+Member-into_without (suc place) (y ∷ items) none x (inr m) other = inr (Member-into_without place items none x m other)
+
+pub length-without : (place : ℕ) (items : List ℕ) → place < length items → length (without place items) + 1 ≡ length items
+length-without place [] below = absurd (omega (arith, below))
+length-without zero (y ∷ items) below = omega arith
+length-without (suc place) (y ∷ items) below = let rest = length-without place items (omega (arith, below)) in omega (arith, rest)
+
+pub without-rises : (place : ℕ) (items : List ℕ) → IsRising items → IsRising (without place items)
+without-rises place [] up = up
+without-rises zero (y ∷ items) up = rest_rises y items up
+without-rises (suc place) (y ∷ items) up =
+    cons_rises y (without place items) (λ x m. first_below y items up x (Member-without place items x m)) (without-rises place items (rest_rises y items up))
 
 -- an item of a rising list is gone when its place is left out
 pub lacks : (place : ℕ) (items : List ℕ) → IsRising items → place < length items → (x : ℕ) × Member x items × (Member x (without place items) → ⊥)

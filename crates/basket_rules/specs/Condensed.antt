@@ -41,6 +41,27 @@ closed_of baskets minimum = filter (λ c. is_closed baskets c.set) (frequent_of 
 abbrev pub maximal_of : List Weighted → Minimum → List Counted
 maximal_of baskets minimum = filter (λ c. is_maximal baskets minimum c.set) (frequent_of baskets minimum)
 
+-- whether a list has no proper superset of the set with its count, and whether it has none at all
+abbrev pub is_closed_in : List Counted → Counted → Bool
+is_closed_in list c = list_all (λ other. not (is_proper_superset other.set c.set && other.count == c.count)) list
+
+abbrev pub is_maximal_in : List Counted → Counted → Bool
+is_maximal_in list c = list_all (λ other. not (is_proper_superset other.set c.set)) list
+
+-- the closed and the maximal ones of the sets of a list
+abbrev pub closed_in : List Counted → List Counted
+closed_in list = filter (is_closed_in list) list
+
+abbrev pub maximal_in : List Counted → List Counted
+maximal_in list = filter (is_maximal_in list) list
+
+-- the list of the frequent sets decides which of them are closed and which are maximal
+abbrev pub ListDecidesClosed : Type 0
+ListDecidesClosed = (baskets : List Weighted) (minimum : Minimum) → closed_of baskets minimum ≡ closed_in (frequent_of baskets minimum)
+
+abbrev pub ListDecidesMaximal : Type 0
+ListDecidesMaximal = (baskets : List Weighted) (minimum : Minimum) → maximal_of baskets minimum ≡ maximal_in (frequent_of baskets minimum)
+
 -- the sets of one more item of the database
 abbrev pub extensions_of : List Weighted → List ℕ → List (List ℕ)
 extensions_of baskets set = map (λ item. with_item item set) (filter (λ item. not (has set item)) (items_of baskets))

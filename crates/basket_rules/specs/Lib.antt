@@ -2,6 +2,7 @@ pub mod Listed
 pub mod Met
 pub mod Search
 pub mod Subset
+pub mod Consistency
 pub mod Covered
 pub mod Condensed
 pub mod Rights

@@ -1,10 +1,11 @@
 //! Association rules (Agrawal and Srikant 1994).
 ghost use Rattle.std.specs.Prelude.{◌≡◌, ◌≤◌, ◌<◌, ◌-◌, ◌*◌, ◌++◌, IfOk, IsTrue, OnOk, length, nat_le};
 ghost use Rattle.basket_sets.specs.Itemset.{IsRising};
+ghost use Rattle.basket_rules.specs.Consistency.{IsConsistent};
 ghost use Rattle.basket_rules.specs.Listed.{set_at};
 ghost use Rattle.basket_rules.specs.Met.{found_rule, rule_from, rules_in};
 ghost use Rattle.basket_rules.specs.Rights.{side_of};
-ghost use Rattle.basket_rules.specs.Rules.{KeepsConfident, AreRules, AreRulesWith, IsRuleFor};
+ghost use Rattle.basket_rules.specs.Rules.{KeepsConfident, AreRules, AreRulesWith, IsRuleFor, rules_among, rules_among_with};
 
 use crate::figures::Figures;
 use crate::hashes::SetHash;
@@ -40,7 +41,8 @@ pub fn rules(
     frequent: &Unpacked,
     confidence: (u32, u32),
 ) -> Result<Vec<Rule>, AllocError>
-    ensures { IfOk result (λ rules. AreRules frequent.now confidence rules.items) }
+    ensures baskets { IfOk result (λ rules. AreRules frequent.now confidence rules.items) }
+    ensures lists { IfOk result (λ rules. IsConsistent frequent.now.sets → rules.items ≡ rules_among frequent.now confidence) }
 {
     let mut lookups = Lookups::of(alloc, frequent.sets())?;
     let mut rules = Vec::new(alloc);
@@ -59,7 +61,8 @@ pub fn rules_with(
     confidence: (u32, u32),
 ) -> Result<Vec<Rule>, AllocError>
     requires { number < length frequent.now.sets }
-    ensures { IfOk result (λ rules. AreRulesWith frequent.now confidence number rules.items) }
+    ensures baskets { IfOk result (λ rules. AreRulesWith frequent.now confidence number rules.items) }
+    ensures lists { IfOk result (λ rules. IsConsistent frequent.now.sets → rules.items ≡ rules_among_with frequent.now confidence (set_at frequent.now.sets number)) }
 {
     let mut lookups = Lookups::none(alloc);
     let met = met_rules(alloc, frequent, number, confidence, &mut lookups)?;
@@ -113,7 +116,8 @@ pub fn met_rules(
     lookups: &mut Lookups,
 ) -> Result<Vec<MetRule>, AllocError>
     requires { number < length frequent.now.sets }
-    ensures { IfOk result (λ rules. AreRulesWith frequent.now confidence number (rules_in frequent.now number rules.items)) }
+    ensures baskets { IfOk result (λ rules. AreRulesWith frequent.now confidence number (rules_in frequent.now number rules.items)) }
+    ensures lists { IfOk result (λ rules. IsConsistent frequent.now.sets → rules_in frequent.now number rules.items ≡ rules_among_with frequent.now confidence (set_at frequent.now.sets number)) }
 {
     let count = frequent.sets()[number].set.len();
     let mut rules = Vec::with_capacity(alloc, 1 << count.min(MOST_ROOM))?;

@@ -1,6 +1,7 @@
 //! Closed and maximal sets.
 ghost use Rattle.std.specs.Prelude.{◌≡◌, ◌<◌, ◌++◌, ◌∷◌, [], IfOk, OnOk, length};
-ghost use Rattle.basket_rules.specs.Condensed.{AreClosed, AreMaximal, AreUnmarked};
+ghost use Rattle.basket_rules.specs.Condensed.{AreClosed, AreMaximal, AreUnmarked, closed_in, maximal_in};
+ghost use Rattle.basket_rules.specs.Consistency.{IsConsistent};
 ghost use Rattle.basket_rules.specs.Listed.{counted_at};
 
 use crate::covered::{Supersets, covered};
@@ -9,7 +10,8 @@ use std::alloc::{AllocError, Global};
 
 /// The sets of which no proper superset has the same support, in report order.
 pub fn closed(alloc: Global, frequent: &Frequent) -> Result<CountedSets, AllocError>
-    ensures { IfOk result (λ closed. AreClosed frequent.now closed) }
+    ensures baskets { IfOk result (λ closed. AreClosed frequent.now closed) }
+    ensures lists { IfOk result (λ closed. IsConsistent frequent.now.sets → closed ≡ closed_in frequent.now.sets) }
 {
     let sets = frequent.sets();
     let marks = covered(alloc, sets, Supersets::SameCount)?;
@@ -18,7 +20,8 @@ pub fn closed(alloc: Global, frequent: &Frequent) -> Result<CountedSets, AllocEr
 
 /// The sets of which no proper superset is frequent, in report order.
 pub fn maximal(alloc: Global, frequent: &Frequent) -> Result<CountedSets, AllocError>
-    ensures { IfOk result (λ maximal. AreMaximal frequent.now maximal) }
+    ensures baskets { IfOk result (λ maximal. AreMaximal frequent.now maximal) }
+    ensures lists { IfOk result (λ maximal. IsConsistent frequent.now.sets → maximal ≡ maximal_in frequent.now.sets) }
 {
     let sets = frequent.sets();
     let marks = covered(alloc, sets, Supersets::All)?;

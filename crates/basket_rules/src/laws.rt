@@ -1,10 +1,32 @@
 //! Laws on the definitions. Each is a function that does nothing: its contract is the law.
-ghost use Rattle.basket_rules.specs.Condensed.{OneItemMoreDecides};
-ghost use Rattle.basket_rules.specs.Rules.{ConfidenceFalls};
+ghost use Rattle.basket_rules.specs.Condensed.{ListDecidesClosed, ListDecidesMaximal, OneItemMoreDecides};
+ghost use Rattle.basket_rules.specs.Consistency.{FrequentIsConsistent};
+ghost use Rattle.basket_rules.specs.Rules.{ConfidenceFalls, ListDecidesRules};
 
 /// Supersets with one item more decide whether a frequent set is closed, and whether it is maximal.
 pub fn one_item_more_decides()
     ensures { OneItemMoreDecides }
+{}
+
+/// The list of the frequent sets is consistent: it has each nonempty subset of its sets, with a count
+/// that is no lower.
+pub fn frequent_is_consistent()
+    ensures { FrequentIsConsistent }
+{}
+
+/// The list of the frequent sets decides which of them are closed, without the baskets.
+pub fn list_decides_closed()
+    ensures { ListDecidesClosed }
+{}
+
+/// It decides which of them are maximal.
+pub fn list_decides_maximal()
+    ensures { ListDecidesMaximal }
+{}
+
+/// With the weight of all baskets it decides their rules.
+pub fn list_decides_rules()
+    ensures { ListDecidesRules }
 {}
 
 /// The confidence of the rules of one union falls as the right side grows (Agrawal and Srikant

@@ -1,6 +1,9 @@
 ghost use Rattle.std.specs.Prelude.{◌≡◌, false};
 
-use basket::{Ask, Gate, Miner, Open, Plan, RunFault, mine, plan_of, run, status_of};
+use basket::{
+    Ask, CountPlan, Form, Gate, Invocation, Miner, Open, Plan, RunFault, Task, invocation_of, mine,
+    run, run_count, status_of,
+};
 use basket_core::{Database, MemSink, MemSource, MineFault, Sink, Source, parse_minimum};
 use basket_read::{ReadFault, read_fimi};
 use itoa::Buffer;
@@ -11,6 +14,7 @@ use std::random::RandomSource;
 use std::test::Fail;
 use std::thread::Threads;
 
+mod counts;
 mod gates;
 mod limits;
 mod mined;
@@ -81,7 +85,10 @@ fn run_words<R: Threads + Sync, S: Source>(
     requires reader { S.has_failed reader.old ≡ false }
     requires writer { ⟦<MemSink as Sink>⟧.has_failed writer.old ≡ false }
 {
-    let plan = plan_of(alloc, words)?;
+    let Invocation { task, .. } = invocation_of(alloc, words)?;
+    let Task::Report(plan) = task else {
+        return Err(Fail::new("the words ask for no report"));
+    };
     match run(&NoRandomBytes(rt), alloc, &plan, reader, writer) {
         Err(RunFault::Input(ReadFault::Memory) | RunFault::Mine(MineFault::Memory)) => {
             match writer.bytes().is_empty() {

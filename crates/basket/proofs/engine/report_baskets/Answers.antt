@@ -1,22 +1,22 @@
-use Rattle.std.proofs.Common.{Err, ap, refl}
-use Rattle.basket.proofs.EngineLemmas.{not_failed, refuses_input, refuses_sets, report_is}
+use Rattle.std.proofs.Common.{◌≡◌, ◌∙◌, Ok, ap, sym}
+use Rattle.basket_report.specs.Items.{items_met}
+use Rattle.basket_report.specs.Report.{report_of}
+use Rattle.basket_report.specs.Style.{wording_of}
+use Rattle.basket_sets.specs.Counts.{item_supports}
+use Rattle.basket_sets.proofs.theory.Items.{frequent_items_are_counted}
+use Rattle.basket_plan.specs.declared.layout.Layout.{Layout}
+use Rattle.basket_plan.specs.declared.plan.Ask.TheVariants.{Items}
+use Rattle.basket.specs.Contents.{wording_with}
 use Rattle.basket.proofs.engine.report_baskets.Goals as goal
 
-pub returns-in-Err : goal.returns-in-Err
-returns-in-Err g c = (
-  λ working. refuses_input (g.S.Source.left c.args.reader.now) c.args.plan.now.question c.in-Err.fault (c.in-Err.ensures.exact working),
-  λ failed. c.in-Err.ensures.failed failed,
-  λ is. c.in-Err.ensures.read_is_failed (ap Err is),
-)
-
-pub returns-in-Ok-report : goal.returns-in-Ok-report
-returns-in-Ok-report g c =
-    let said = c.in-Ok.input in
-    let working = not_failed _ said c.in-Ok.ensures.failed_is_err in
-    (working, report_is (g.S.Source.left c.args.reader.now) c.args.plan.now.question said _ (c.in-Ok.ensures.exact working) c.in-Ok-report.ensures.ok)
-
-pub returns-in-Err-report : goal.returns-in-Err-report
-returns-in-Err-report g c =
-    let said = c.in-Ok.input in
-    let working = not_failed _ said c.in-Ok.ensures.failed_is_err in
-    (working, refuses_sets (g.S.Source.left c.args.reader.now) c.args.plan.now.question said c.in-Err-report.fault (c.in-Ok.ensures.exact working) (c.in-Err-report.ensures.err c.in-Err-report.fault refl))
+pub returns-in_ok-items_report-in-Items-clause-ok : goal.returns-in_ok-items_report-in-Items-clause-ok
+returns-in_ok-items_report-in-Items-clause-ok g c =
+    let database = c.args.database in
+    let question = c.args.plan.now.question in
+    let is : question.ask ≡ Items = sym c.ask.ensures ∙ c.in-Items.is in
+    let wording : wording_of c.style_of-style.result ≡ wording_with question.layout.separator c.args.names.now = c.style_of-style.ensures ∙ ap (λ (l : Layout). wording_with l.separator c.args.names.now) c.layout.ensures in
+    let counts = c.deref.ensures.value ∙ c.in_ok-counts-in-Items.ensures.counts ∙ ap item_supports c.baskets.ensures.baskets in
+    let written = c.in_ok-items_report-in-Items.ensures
+    ∙ (λ i. report_of (wording i) (items_met (counts i) (c.minimum-minimum.ensures i) (c.total.ensures i)))
+    ∙ ap (report_of (wording_with question.layout.separator c.args.names.now)) (sym (frequent_items_are_counted database question.minimum)) in
+    rw is (ap Ok (sym written))

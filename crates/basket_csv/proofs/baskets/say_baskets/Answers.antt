@@ -1,15 +1,30 @@
-use Rattle.std.proofs.Common.{subst}
-use Rattle.basket_csv.specs.Csv.{say_baskets, behind_header, first_number, baskets_in, all_names}
+use Rattle.std.proofs.Common.{◌++◌, refl}
+use Rattle.std.proofs.lemmas.Result.{err_from_is_err_and}
+use Rattle.basket_csv.specs.Collector.{Start}
+use Rattle.basket_csv.specs.Csv.{behind_header, first_number, baskets_in, all_names}
 use Rattle.basket_csv.specs.Names.{in_order}
-use Rattle.basket_csv.specs.Read.{Answers}
-use Rattle.basket_csv.specs.Records.{records_left}
-use Rattle.basket_csv.proofs.ReadLemmas.{faultless_answer}
+use Rattle.basket_csv.specs.Records.{records_of}
+use Rattle.basket_csv.proofs.ReadLemmas.{faultless_answer, faulty_answer}
 use Rattle.basket_csv.proofs.baskets.say_baskets.Goals as goal
+
+pub returns-in_err-add_all : goal.returns-in_err-add_all
+returns-in_err-add_all g c =
+    let weighted = c.args.weighted in
+    let known = c.args.known in
+    let header = c.args.dialect.header in
+    let start : Start = record { first = first_number header; weighted = weighted; known = known } in
+    let rows = behind_header header (records_of c.args.dialect.separator c.args.bytes.now) in
+    let p = err_from_is_err_and c.from_residual-in_err-add_all.result c.from_residual-in_err-add_all.ensures.1 in
+    faulty_answer c.from_residual-in_err-add_all.result p.0 c.in_err-add_all.field-0.0 _ (baskets_in weighted known rows) (in_order (known ++ all_names weighted rows)) p.1 p.2
+    (c.in_err-add_all.ensures.fault start refl (c.in_ok-baskets.ensures.read start refl refl))
 
 pub returns : goal.returns
 returns g c =
     let weighted = c.args.weighted in
-    let rows = behind_header c.args.header (records_left c.new-records.result) in
-    let has = c.finish.ensures weighted rows (c.in_ok-add_all.ensures.read (c.new-baskets.ensures weighted)) in
-    subst (λ all. Answers c.finish.result (say_baskets weighted (first_number c.args.header) (behind_header c.args.header all))) c.new-records.ensures.left
-    (faultless_answer c.finish.result _ (baskets_in weighted rows) (in_order (all_names weighted rows)) c.in_ok-add_all.ensures.fault has)
+    let known = c.args.known in
+    let header = c.args.dialect.header in
+    let start : Start = record { first = first_number header; weighted = weighted; known = known } in
+    let fresh = c.in_ok-baskets.ensures.read start refl refl in
+    let rows = behind_header header (records_of c.args.dialect.separator c.args.bytes.now) in
+    let has = c.finish.ensures start rows (c.in_ok-add_all.ensures.read start refl fresh) in
+    faultless_answer c.finish.result _ (baskets_in weighted known rows) (in_order (known ++ all_names weighted rows)) (c.in_ok-add_all.ensures.fault start refl fresh) has

@@ -1,14 +1,25 @@
-use Rattle.std.proofs.Common.{subst}
-use Rattle.basket_csv.specs.Csv.{say_pairs, behind_header, first_number, pairs_of, baskets_of_pairs, names_of_pairs}
-use Rattle.basket_csv.specs.Read.{Answers}
-use Rattle.basket_csv.specs.Records.{records_left}
-use Rattle.basket_csv.proofs.ReadLemmas.{faultless_answer}
+use Rattle.std.proofs.Common.{false, refl}
+use Rattle.std.proofs.lemmas.Result.{err_from_is_err_and}
+use Rattle.basket_csv.specs.Collector.{Start}
+use Rattle.basket_csv.specs.Csv.{behind_header, first_number, pairs_of, baskets_of_pairs, names_of_pairs}
+use Rattle.basket_csv.specs.Records.{records_of}
+use Rattle.basket_csv.proofs.ReadLemmas.{faultless_answer, faulty_answer}
 use Rattle.basket_csv.proofs.pairs.say_pairs.Goals as goal
+
+pub returns-in_err-add_all : goal.returns-in_err-add_all
+returns-in_err-add_all g c =
+    let known = c.args.known in
+    let header = c.args.dialect.header in
+    let pairs = pairs_of (behind_header header (records_of c.args.dialect.separator c.args.bytes.now)) in
+    let p = err_from_is_err_and c.from_residual-in_err-add_all.result c.from_residual-in_err-add_all.ensures.1 in
+    faulty_answer c.from_residual-in_err-add_all.result p.0 c.in_err-add_all.field-0.0 _ (baskets_of_pairs known pairs) (names_of_pairs known pairs) p.1 p.2 (c.in_err-add_all.ensures.fault (record { first = first_number header; weighted = false; known = known }) refl c.in_ok-pairs.ensures.read)
 
 pub returns : goal.returns
 returns g c =
-    let rows = behind_header c.args.header (records_left c.new-records.result) in
+    let known = c.args.known in
+    let header = c.args.dialect.header in
+    let rows = behind_header header (records_of c.args.dialect.separator c.args.bytes.now) in
     let pairs = pairs_of rows in
-    let has = c.finish.ensures pairs (c.in_ok-add_all.ensures.read c.new-pairs.ensures) in
-    subst (λ all. Answers c.finish.result (say_pairs (first_number c.args.header) (behind_header c.args.header all))) c.new-records.ensures.left
-    (faultless_answer c.finish.result _ (baskets_of_pairs pairs) (names_of_pairs pairs) c.in_ok-add_all.ensures.fault has)
+    let start : Start = record { first = first_number header; weighted = false; known = known } in
+    let has = c.finish.ensures known pairs (c.in_ok-add_all.ensures.read start refl c.in_ok-pairs.ensures.read) in
+    faultless_answer c.finish.result _ (baskets_of_pairs known pairs) (names_of_pairs known pairs) (c.in_ok-add_all.ensures.fault start refl c.in_ok-pairs.ensures.read) has

@@ -16,7 +16,8 @@ returns-clause-options c =
     let sixth = c.in_ok-arg-6.ensures.shape c.choice-3.ensures.local ∙ ap₂ with_rule fifth c.choice-3.ensures.rule in
     let seventh = c.in_ok-arg-7.ensures.shape c.number.ensures.local ∙ ap₂ with_rule sixth c.number.ensures.rule in
     let eighth = c.in_ok-arg-8.ensures.shape c.number-2.ensures.local ∙ ap₂ with_rule seventh c.number-2.ensures.rule in
-    IfOk-weaker c.arg-9.result _ _ (λ command added. added.shape c.number-3.ensures.local ∙ ap₂ with_rule eighth c.number-3.ensures.rule) c.arg-9.ensures
+    let ninth = c.in_ok-arg-9.ensures.shape c.number-3.ensures.local ∙ ap₂ with_rule eighth c.number-3.ensures.rule in
+    IfOk-weaker c.arg-10.result _ _ (λ command added. added.shape c.positional.ensures.local ∙ ap₂ with_rule ninth c.positional.ensures.rule) c.arg-10.ensures
 
 pub returns-clause-local : goal.returns-clause-local
 returns-clause-local c =
@@ -25,4 +26,5 @@ returns-clause-local c =
     let fourth = stays_local _ _ _ c.in_ok-arg-4.ensures.globals c.flag.ensures.local (stays_local _ _ _ c.in_ok-arg-3.ensures.globals c.choice-2.ensures.local second) in
     let sixth = stays_local _ _ _ c.in_ok-arg-6.ensures.globals c.choice-3.ensures.local (stays_local _ _ _ c.in_ok-arg-5.ensures.globals c.flag-2.ensures.local fourth) in
     let eighth = stays_local _ _ _ c.in_ok-arg-8.ensures.globals c.number-2.ensures.local (stays_local _ _ _ c.in_ok-arg-7.ensures.globals c.number.ensures.local sixth) in
-    IfOk-weaker c.arg-9.result _ _ (λ command added. stays_local _ _ _ added.globals c.number-3.ensures.local eighth) c.arg-9.ensures
+    let ninth = stays_local _ _ _ c.in_ok-arg-9.ensures.globals c.number-3.ensures.local eighth in
+    IfOk-weaker c.arg-10.result _ _ (λ command added. stays_local _ _ _ added.globals c.positional.ensures.local ninth) c.arg-10.ensures

@@ -11,5 +11,8 @@ returns c = record {
   bad_limit = refl;
   no_form = refl;
   no_miner = refl;
+  no_sets = refl;
+  both_standard = refl;
+  two_files = refl;
   twice = refl;
 }

@@ -1,21 +1,28 @@
 use Rattle.std.proofs.Common.{arith, ◌≡◌, ◌≤◌, ◌<◌, ◌+◌, ◌-◌, ◌^◌, [], ◌∷◌, length, get_or, sym, ap, ◌∙◌, subst}
-use Rattle.basket_sets.specs.declared.counted.Counted.{Counted}
 use Rattle.basket_rules.specs.declared.rights.TheConstants.{MOST_PLACES}
+use Rattle.basket_rules.specs.Consistency.{IsConsistent}
 use Rattle.basket_rules.specs.Listed.{set_at}
 use Rattle.basket_rules.specs.Rights.{longer, next_sides, no_places}
 use Rattle.basket_rules.specs.Met.{rules_in}
-use Rattle.basket_rules.specs.Rules.{KeepsConfident}
+use Rattle.basket_rules.specs.Rules.{KeepsConfident, rules_among_with}
 use Rattle.basket_rules.proofs.SearchLemmas.{set_is}
-use Rattle.basket_rules.proofs.LevelLemmas.{IsLevelAt, first_level, next_level, all_levels, none_so_large}
+use Rattle.basket_rules.proofs.LevelLemmas.{IsLevelAt, first_level, next_level, all_levels}
+use Rattle.basket_rules.proofs.SizeLemmas.{none_so_large}
+use Rattle.basket_rules.proofs.theory.Rules.{rules_with_of_baskets}
 use Rattle.basket_rules.proofs.association.met_rules.Goals as goal
 
 pub returns-then-count-gt-MOST_PLACES : goal.returns-then-count-gt-MOST_PLACES
-returns-then-count-gt-MOST_PLACES c = λ baskets minimum is.
+returns-then-count-gt-MOST_PLACES c =
+    let listing = c.args.frequent.now in
+    let number = c.args.number in
     let same = c.sets.ensures in
     let entry = c.index-sets-number.result in
-    let deep : MOST_PLACES < length entry.set = subst (λ (x : Counted). MOST_PLACES < length x.set) (sym c.index-sets-number.is) (subst (λ n. MOST_PLACES < n) c.len-count.ensures c.if-count-gt-MOST_PLACES.true) in
-    absurd (none_so_large c.args.frequent.now c.args.number entry (subst (λ l. entry ≡ get_or l c.args.number entry) same c.index-sets-number.is) c.requires
-    (subst (λ l. length l < 2 ^ 64) same c.sets.type_inv.0) deep baskets minimum is)
+    let set : set_at listing.sets number ≡ (get_or c.sets.result.now number entry).set = ap (λ l. set_at l number) (sym same) ∙ set_is c.sets.result.now number entry (subst (λ l. number < length l) (sym same) c.requires) in
+    let deep : MOST_PLACES < length (set_at listing.sets number) = subst (λ n. MOST_PLACES < n) (c.len-count.ensures ∙ ap length (sym set)) c.if-count-gt-MOST_PLACES.true in
+    let rules = rules_in listing number c.in_ok-rules.rules.items in
+    let lists : IsConsistent listing.sets → rules ≡ rules_among_with listing c.args.confidence (set_at listing.sets number) = λ consistent.
+    absurd (none_so_large listing.sets consistent number c.requires (subst (λ l. length l < 2 ^ 64) same c.sets.type_inv.0) deep) in
+    record { baskets = rules_with_of_baskets listing c.args.confidence number rules c.requires lists; lists = lists }
 
 pub loop-size-init : goal.loop-size-init
 loop-size-init c =
@@ -49,8 +56,8 @@ loop-size-preserved c =
     let some : 1 ≤ size = omega arith in
     let less : size < length (set_at listing.sets number) = omega (arith, most, c.loop-size-test.true) in
     subst (λ l. IsLevelAt listing c.args.confidence number (size + 1) l (rules_in listing number c.keep_confident.new.rules.items)) (sym made)
-    (next_level listing c.args.confidence number size c.loop-size.rights.items met (rules_in listing number c.loop-size.rules.items) (rules_in listing number c.keep_confident.new.rules.items) every
-    c.requires few some less (subst (λ r. KeepsConfident listing c.args.confidence number r met (rules_in listing number c.loop-size.rules.items) (rules_in listing number c.keep_confident.new.rules.items)) c.deref.ensures.value c.in_ok-met.ensures) c.loop-size.invariant)
+    (λ consistent. next_level listing c.args.confidence number size c.requires few some less c.loop-size.rights.items met (rules_in listing number c.loop-size.rules.items) (rules_in listing number c.keep_confident.new.rules.items)
+    (subst (λ r. KeepsConfident listing c.args.confidence number r met (rules_in listing number c.loop-size.rules.items) (rules_in listing number c.keep_confident.new.rules.items)) c.deref.ensures.value c.in_ok-met.ensures) c.loop-size.invariant consistent every)
 
 pub returns : goal.returns
 returns c =
@@ -63,5 +70,7 @@ returns c =
     let sized : c.len-count.result ≡ length (set_at listing.sets number) = c.len-count.ensures ∙ ap length (sym set) in
     let size = c.loop-size.size in
     let most : c.most_right_items-size-end.result ≡ length (set_at listing.sets number) - 1 = c.most_right_items-size-end.ensures ∙ ap (λ n. n - 1) sized in
-    all_levels listing c.args.confidence number (size + 1) c.loop-size.rights.items (rules_in listing number c.loop-size.rules.items) c.requires
-    (omega (arith, most, c.loop-size-test.false)) (λ some. omega (arith, most, c.loop-size.auto.size-end)) c.loop-size.invariant
+    let rules = rules_in listing number c.loop-size.rules.items in
+    let lists = all_levels listing c.args.confidence number (size + 1) c.loop-size.rights.items rules c.requires
+    (omega (arith, most, c.loop-size-test.false)) (λ some. omega (arith, most, c.loop-size.auto.size-end)) c.loop-size.invariant in
+    record { baskets = rules_with_of_baskets listing c.args.confidence number rules c.requires lists; lists = lists }

@@ -1,13 +1,20 @@
-use Rattle.std.proofs.Common.{List, Bool, subst}
+use Rattle.std.proofs.Common.{◌≡◌, List, Bool, subst}
 use Rattle.std.proofs.lemmas.Result.{IfOk-weaker}
-use Rattle.basket_rules.specs.Condensed.{AreClosed, AreUnmarked}
-use Rattle.basket_rules.proofs.CondensedLemmas.{are_closed}
+use Rattle.basket_rules.specs.Consistency.{IsConsistent}
+use Rattle.basket_rules.specs.Condensed.{closed_in, AreClosed, AreUnmarked}
+use Rattle.basket_rules.proofs.MarkLemmas.{are_closed}
+use Rattle.basket_rules.proofs.theory.Condensed.{closed_of_baskets}
 use Rattle.basket_rules.proofs.condensed.closed.Goals as goal
 
-pub returns : goal.returns
-returns c =
+pub returns-clause-lists : goal.returns-clause-lists
+returns-clause-lists c =
     let listing = c.args.frequent.now in
     let list = c.sets-sets.result.now in
-    IfOk-weaker c.unmarked.result (AreUnmarked list c.deref.result.now) (AreClosed listing)
+    IfOk-weaker c.unmarked.result (AreUnmarked list c.deref.result.now) (λ kept. IsConsistent listing.sets → kept ≡ closed_in listing.sets)
     (λ kept so. are_closed listing list c.in_ok-marks.marks.items kept c.sets-sets.ensures c.in_ok-marks.ensures
     (subst (λ (marks : List Bool). AreUnmarked list marks kept) c.deref.ensures.value so)) c.unmarked.ensures
+
+pub returns-clause-baskets : goal.returns-clause-baskets
+returns-clause-baskets c =
+    let listing = c.args.frequent.now in
+    IfOk-weaker c.unmarked.result (λ kept. IsConsistent listing.sets → kept ≡ closed_in listing.sets) (AreClosed listing) (closed_of_baskets listing) (returns-clause-lists c)

@@ -1,5 +1,5 @@
 use Rattle.std.proofs.Common.{◌<◌, ◌+◌, length, sym, ◌∙◌, subst, arith}
-use Rattle.basket_rules.proofs.CondensedLemmas.{IsKept, dropped_more, kept_more}
+use Rattle.basket_rules.proofs.MarkLemmas.{IsKept, dropped_more, kept_more}
 use Rattle.basket_rules.proofs.condensed.unmarked.Goals as goal
 use Rattle.basket_rules.proofs.condensed.unmarked.Goals.{then-not-marks-number+in_ok-keep, else-not-marks-number}
 

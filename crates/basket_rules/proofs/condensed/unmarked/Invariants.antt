@@ -1,4 +1,4 @@
-use Rattle.basket_rules.proofs.CondensedLemmas.{IsKept}
+use Rattle.basket_rules.proofs.MarkLemmas.{IsKept}
 use Rattle.basket_rules.proofs.condensed.unmarked.Given as goal
 
 abbrev pub invariant-loop-number : goal.invariant-loop-number

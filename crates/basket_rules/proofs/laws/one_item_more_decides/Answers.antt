@@ -1,4 +1,4 @@
-use Rattle.basket_rules.proofs.CondensedLemmas.{one_item_more_decides}
+use Rattle.basket_rules.proofs.theory.Condensed.{one_item_more_decides}
 use Rattle.basket_rules.proofs.laws.one_item_more_decides.Goals as goal
 
 pub returns : goal.returns

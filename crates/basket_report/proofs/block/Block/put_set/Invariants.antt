@@ -1,14 +1,13 @@
-use Rattle.std.proofs.Common.{◌≤◌, ◌<◌, ◌-◌, ◌++◌, ℕ, List, Option, length, take}
+use Rattle.std.proofs.Common.{◌≤◌, ◌-◌, ◌++◌, ℕ, List, Option, length, take}
 use Rattle.basket_report.specs.Block.{IsOnItsWay}
-use Rattle.basket_report.specs.Lines.{spaced_text}
+use Rattle.basket_report.specs.Lines.{items_text}
 use Rattle.basket_report.proofs.block.Block.put_set.Given as goal
 
 abbrev pub invariant-loop-start : goal.invariant-loop-start
 invariant-loop-start g l = record {
   within : l.start ≤ length l.items;
-  left : 0 < l.start → l.start < length l.items;
   way : (start : Option (List ℕ)) (text : List ℕ) → IsOnItsWay start (g.W.Sink.taken l.fn.writer) (g.W.Sink.has_failed l.fn.writer) l.fn.self text
-      → IsOnItsWay start (g.W.Sink.taken l.writer) (g.W.Sink.has_failed l.writer) l.self (text ++ spaced_text (take l.start l.items));
+      → IsOnItsWay start (g.W.Sink.taken l.writer) (g.W.Sink.has_failed l.writer) l.self (text ++ items_text (take l.start l.items));
 }
 
 abbrev pub decreases-loop-start : goal.decreases-loop-start

@@ -1,0 +1,138 @@
+-- The counts of given sets.
+use Rattle.std.proofs.Common.{◌≡◌, ◌≢◌, ◌∙◌, ◌<◌, ◌≤◌, ◌+◌, ℕ, zero, suc, Bool, true, false, List, [], ◌∷◌, Option, Some, None, Result, Ok, Err, Global, ap, arith, cond, drop, get_or, length, refl, subst, take}
+use Rattle.std.specs.Prelude.{IfSome, MatchResult}
+use Rattle.std.specs.Io.KnownBytes.{Appends}
+use Rattle.basket_parts.specs.Together.{count_if, count_in, has_set}
+use Rattle.basket_plan.specs.declared.layout.Layout.{Layout}
+use Rattle.basket_read.specs.declared.counted_line.CountedLine.{CountedLine}
+use Rattle.basket_read.specs.declared.fault.ReadFault.{ReadFault}
+use Rattle.basket_read.specs.declared.fault.ReadFault.TheVariants.{Memory, Read}
+use Rattle.basket.specs.declared.contents.Contents.{Contents}
+use Rattle.basket.specs.declared.fault.RunFault.{RunFault}
+use Rattle.basket.specs.declared.fault.RunFault.TheVariants.{Input, Sets, Uncounted, Mine, Write}
+use Rattle.basket.specs.declared.made.Made.{Made}
+use Rattle.basket.specs.Contents.{Answers, AskedAnswers, asked_in, contents_of}
+use Rattle.basket.specs.Count.{IsCountsFault, MakesCounts, OfBoth, WritesCounts, WritesCountsFront, count_outcome, counts_in, first_uncounted, of_asked, of_contents}
+use Rattle.basket.specs.Made.{made_text}
+use Rattle.mine_sets.specs.Asked.{asked_of}
+
+-- ---- sums of counts
+
+-- a set that has a sum is there
+pub sum_there : (lines : List CountedLine) (set : List ℕ) (count : ℕ) → Some count ≡ count_if lines set → (has_set lines set ≡ true) × (count ≡ count_in lines set)
+sum_there lines set count e = go (has_set lines set) e
+  where
+    go : (b : Bool) → Some count ≡ cond b (Some (count_in lines set)) None → (b ≡ true) × (count ≡ count_in lines set)
+    go true e = (refl, ap (some_or count) e)
+      where
+        some_or : ℕ → Option ℕ → ℕ
+        some_or other (Some n) = n
+        some_or other None = other
+    go false e = absurd cc
+
+-- one that has none is not
+pub sum_missing : (lines : List CountedLine) (set : List ℕ) → None ≡ count_if lines set → has_set lines set ≡ false
+sum_missing lines set e = go (has_set lines set) e
+  where
+    go : (b : Bool) → None ≡ cond b (Some (count_in lines set)) None → b ≡ false
+    go true e = absurd cc
+    go false e = refl
+
+-- the rest of the sets from a place on
+rest_from : (sets : List (List ℕ)) (place : ℕ) → place < length sets → drop place sets ≡ get_or sets place [] ∷ drop (place + 1) sets
+rest_from [] place below = absurd (omega (arith, below))
+rest_from (set ∷ sets) zero below = refl
+rest_from (set ∷ sets) (suc place) below =
+    let one_more : suc (place + 1) ≡ suc place + 1 = omega arith in
+    rest_from sets place (omega (arith, below)) ∙ ap (λ n. get_or sets place [] ∷ drop n (set ∷ sets)) one_more
+
+-- where a set is there, the first that is not is one behind it
+pub uncounted_behind : (lines : List CountedLine) (sets : List (List ℕ)) (place : ℕ) → place < length sets → has_set lines (get_or sets place []) ≡ true
+    → first_uncounted lines place (drop place sets) ≡ first_uncounted lines (place + 1) (drop (place + 1) sets)
+uncounted_behind lines sets place below there =
+    ap (first_uncounted lines place) (rest_from sets place below)
+    ∙ ap (λ b. cond b (first_uncounted lines (place + 1) (drop (place + 1) sets)) (Some place)) there
+
+pub uncounted_here : (lines : List CountedLine) (sets : List (List ℕ)) (place : ℕ) → place < length sets → has_set lines (get_or sets place []) ≡ false
+    → first_uncounted lines place (drop place sets) ≡ Some place
+uncounted_here lines sets place below missing =
+    ap (first_uncounted lines place) (rest_from sets place below)
+    ∙ ap (λ b. cond b (first_uncounted lines (place + 1) (drop (place + 1) sets)) (Some place)) missing
+
+abbrev pub was_read : {X : Type 0} → X → Result X ReadFault
+was_read x = Ok x
+
+abbrev pub was_refused : {X : Type 0} → ReadFault → Result X ReadFault
+was_refused fault = Err fault
+
+-- a reader from which something was read has not failed
+pub not_broken : {X : Type 0} (failed : Bool) (x : X) → (failed ≡ true → was_read x ≡ was_refused Read) → failed ≡ false
+not_broken true x broken = absurd (let no = broken refl in cc)
+not_broken false x broken = refl
+
+abbrev fault_of : {X : Type 0} → ReadFault → Result X ReadFault → ReadFault
+fault_of other (Ok x) = other
+fault_of other (Err fault) = fault
+
+pub fault_is_read : {X : Type 0} (fault : ReadFault) → was_refused {X = X} fault ≡ was_refused Read → fault ≡ Read
+fault_is_read fault e = ap (fault_of fault) e
+
+-- ---- both readers
+
+pub sets_refuse : (layout : Layout) (asked left : Option (List ℕ)) (fault : ReadFault) → IfSome asked (λ bytes. AskedAnswers {A = Global} (Err fault) (asked_in layout bytes))
+    → OfBoth asked left (λ sets bytes. fault ≢ Memory → count_outcome layout sets bytes ≡ Err (Sets fault))
+sets_refuse layout None left fault read = tt
+sets_refuse layout (Some sets) None fault read = tt
+sets_refuse layout (Some sets) (Some bytes) fault read = λ other. ap (of_asked layout bytes) (read other)
+
+module _ (layout : Layout) (asked : Option (List ℕ)) (sets names : List (List ℕ)) (read : IfSome asked (λ bytes. asked_in layout bytes ≡ Ok (sets, names))) where
+  abbrev OfOutcome : Option (List ℕ) → Result (List ℕ) RunFault → Type 0
+  OfOutcome left answer = OfBoth asked left (λ s bytes. count_outcome layout s bytes ≡ answer)
+
+  pub contents_refuse : (left : Option (List ℕ)) (fault : ReadFault) → IfSome left (λ bytes. Answers (Err fault) (contents_of layout names bytes))
+      → OfBoth asked left (λ s bytes. fault ≢ Memory → count_outcome layout s bytes ≡ Err (Input fault))
+  contents_refuse left fault refused = go asked read left refused
+    where
+      go : (asked : Option (List ℕ)) → IfSome asked (λ bytes. asked_in layout bytes ≡ Ok (sets, names)) → (left : Option (List ℕ)) → IfSome left (λ bytes. Answers (Err fault) (contents_of layout names bytes))
+          → OfBoth asked left (λ s bytes. fault ≢ Memory → count_outcome layout s bytes ≡ Err (Input fault))
+      go None read left refused = tt
+      go (Some s) read None refused = tt
+      go (Some s) read (Some bytes) refused = λ other. ap (of_asked layout bytes) read ∙ ap (of_contents layout (asked_of sets)) (refused other)
+
+  -- what was counted is the outcome
+  outcome_is : (left : Option (List ℕ)) (contents : Contents) → IfSome left (λ bytes. Answers (Ok contents) (contents_of layout names bytes)) → OfOutcome left (counts_in layout (asked_of sets) contents)
+  outcome_is left contents said = go asked read left said
+    where
+      go : (asked : Option (List ℕ)) → IfSome asked (λ bytes. asked_in layout bytes ≡ Ok (sets, names)) → (left : Option (List ℕ)) → IfSome left (λ bytes. Answers (Ok contents) (contents_of layout names bytes))
+          → OfBoth asked left (λ s bytes. count_outcome layout s bytes ≡ counts_in layout (asked_of sets) contents)
+      go None read left said = tt
+      go (Some s) read None said = tt
+      go (Some s) read (Some bytes) said = ap (of_asked layout bytes) read ∙ ap (of_contents layout (asked_of sets)) said
+
+  module _ (asked_failed failed : Bool) (left after : Option (List ℕ)) (contents : Contents) (asked_works : asked_failed ≡ false) (works : failed ≡ false)
+      (said : IfSome left (λ bytes. Answers (Ok contents) (contents_of layout names bytes))) where
+    told : (answer : Result (List ℕ) RunFault) → counts_in layout (asked_of sets) contents ≡ answer → OfOutcome left answer
+    told answer is = subst (OfOutcome left) is (outcome_is left contents said)
+
+    pub counts_make : (result : Result Made RunFault) → MatchResult result (λ made. counts_in layout (asked_of sets) contents ≡ Ok (made_text made)) (IsCountsFault (counts_in layout (asked_of sets) contents))
+        → MakesCounts layout asked asked_failed left after failed result
+    counts_make (Ok made) is = (told (Ok (made_text made)) is, asked_works, works)
+    counts_make (Err (Uncounted nth)) is = ((told (Err (Uncounted nth)) is, asked_works, works), λ e. cc)
+    counts_make (Err (Mine fault)) is = ((is, asked_works, works), λ e. cc)
+    counts_make (Err (Input fault)) is = absurd is
+    counts_make (Err (Sets fault)) is = absurd is
+    counts_make (Err Write) is = absurd is
+
+-- ---- the writer
+
+pub writes_counts : (layout : Layout) (asked left before after : Option (List ℕ)) (text : List ℕ) → OfBoth asked left (λ sets bytes. count_outcome layout sets bytes ≡ Ok text)
+    → Appends before after text → WritesCounts layout asked left before after
+writes_counts layout None left before after text is taken = tt
+writes_counts layout (Some sets) None before after text is taken = tt
+writes_counts layout (Some sets) (Some bytes) before after text is taken = (text, is, taken)
+
+pub writes_counts_front : (layout : Layout) (asked left before after : Option (List ℕ)) (text : List ℕ) → OfBoth asked left (λ sets bytes. count_outcome layout sets bytes ≡ Ok text)
+    → ((n : ℕ) × (n ≤ length text) × Appends before after (take n text)) → WritesCountsFront layout asked left before after
+writes_counts_front layout None left before after text is front = tt
+writes_counts_front layout (Some sets) None before after text is front = tt
+writes_counts_front layout (Some sets) (Some bytes) before after text is (n, small, front) = (text, n, is, small, front)

@@ -1,0 +1,81 @@
+-- What an input says, by its layout, whatever is asked of it.
+use Rattle.std.specs.Prelude.{◌≡◌, ◌≢◌, ℕ, List, [], Vec, map, false, Option, Some, None, Result, Ok, Err, if◌then◌else◌}
+use Rattle.basket_counts.specs.Counts.{counts_of, sets_of_bytes}
+use Rattle.basket_csv.specs.Counts.{named_counts_of}
+use Rattle.basket_csv.specs.Csv.{baskets_of_csv, pairs_of_csv}
+use Rattle.basket_parts.specs.Together.{together_of}
+use Rattle.basket_plan.specs.declared.layout.Form.{Form}
+use Rattle.basket_plan.specs.declared.layout.Form.TheVariants.{Fimi, Baskets, Single, Counts, CsvCounts}
+use Rattle.basket_plan.specs.declared.layout.Layout.{Layout}
+use Rattle.basket_plan.specs.Plan.{has_names}
+use Rattle.basket_read.specs.declared.counted_line.CountedLine.{CountedLine}
+use Rattle.basket_read.specs.declared.fault.ReadFault.{ReadFault}
+use Rattle.basket_read.specs.declared.fault.ReadFault.TheVariants.{Memory, Read}
+use Rattle.basket_read.specs.Fimi.{fimi_of}
+use Rattle.basket_read.specs.Read.{FailsAfter}
+use Rattle.basket_report.specs.Style.{Wording, Numbered, Named as ByNames}
+use Rattle.basket.specs.declared.contents.Contents.{Contents}
+use Rattle.basket.specs.declared.contents.Contents.TheVariants as contents
+
+-- what follows of what was read, or its fault
+abbrev pub where_read : {A B : Type 0} → (A → Result B ReadFault) → Result A ReadFault → Result B ReadFault
+where_read next (Ok read) = next read
+where_read next (Err fault) = Err fault
+
+-- but for want of memory, the answer is the one that is defined
+abbrev pub Answers : {A : Type 0} → Result A ReadFault → Result A ReadFault → Type 0
+Answers (Ok read) answer = answer ≡ Ok read
+Answers (Err fault) answer = fault ≢ Memory → answer ≡ Err fault
+
+-- contents whose items are numbers, and whose items have names
+abbrev pub by_numbers : {A : Type 0} → (A → Option (List (List ℕ)) → Contents) → Result A ReadFault → Result Contents ReadFault
+by_numbers say read = where_read (λ a. Ok (say a None)) read
+
+abbrev pub by_names : {A : Type 0} → (A → Option (List (List ℕ)) → Contents) → Result (A × List (List ℕ)) ReadFault → Result Contents ReadFault
+by_names say read = where_read (λ both. Ok (say both.0 (Some both.1))) read
+
+-- counted sets of names put together
+abbrev pub with_names : {A : Type 0} → List (List ℕ) → Result A ReadFault → Result (A × List (List ℕ)) ReadFault
+with_names names read = where_read (λ a. Ok (a, names)) read
+
+abbrev pub named_together_of : List CountedLine × List (List ℕ) → Result (List CountedLine × List (List ℕ)) ReadFault
+named_together_of both = with_names both.1 (together_of both.0)
+
+-- what the bytes say in a form, or their fault, where these names have numbers beforehand
+abbrev pub contents_in : Form → Layout → List (List ℕ) → List ℕ → Result Contents ReadFault
+contents_in Fimi layout known bytes = by_numbers contents.Baskets (fimi_of bytes)
+contents_in Baskets layout known bytes = by_names contents.Baskets (baskets_of_csv layout.separator layout.header layout.weighted known bytes)
+contents_in Single layout known bytes = by_names contents.Baskets (pairs_of_csv layout.separator layout.header known bytes)
+contents_in Counts layout known bytes = by_numbers contents.Counts (where_read together_of (counts_of bytes))
+contents_in CsvCounts layout known bytes = by_names contents.Counts (where_read named_together_of (named_counts_of layout.separator layout.header known bytes))
+
+abbrev pub contents_of : Layout → List (List ℕ) → List ℕ → Result Contents ReadFault
+contents_of layout known bytes = contents_in layout.form layout known bytes
+
+-- what a reader that failed answers: in FIMI the fault in the bytes that it gave, else `Read`; in the other forms `Read`
+abbrev pub FailsIn : Form → List ℕ → Option (List ℕ) → ReadFault → Type 0
+FailsIn Fimi bytes left fault = FailsAfter bytes left (Err fault)
+FailsIn _ bytes left fault = fault ≡ Read
+
+-- how a report writes items: as the input does
+abbrev pub wording_with : ℕ → Option (List (List ℕ)) → Wording
+wording_with separator None = Numbered
+wording_with separator (Some names) = ByNames separator names
+
+-- ---- the sets that are asked for
+
+-- the sets among counted ones, with the names of their items
+abbrev pub sets_without_counts : List CountedLine × List (List ℕ) → Result (List (List ℕ) × List (List ℕ)) ReadFault
+sets_without_counts both = Ok (map (λ (line : CountedLine). line.set) both.0, both.1)
+
+abbrev pub named_sets_of : ℕ → List ℕ → Result (List (List ℕ) × List (List ℕ)) ReadFault
+named_sets_of separator bytes = where_read sets_without_counts (named_counts_of separator false [] bytes)
+
+-- the sets that some bytes list, and the names of their items, of which numbers have none; or the fault of the bytes
+abbrev pub asked_in : Layout → List ℕ → Result (List (List ℕ) × List (List ℕ)) ReadFault
+asked_in layout bytes = if has_names layout.form then named_sets_of layout.separator bytes else with_names [] (sets_of_bytes bytes)
+
+-- but for want of memory, the answer is the one that is defined
+abbrev pub AskedAnswers : {A : Type 0} → Result (Vec (List ℕ) A × List (List ℕ)) ReadFault → Result (List (List ℕ) × List (List ℕ)) ReadFault → Type 0
+AskedAnswers (Ok both) answer = answer ≡ Ok (both.0.items, both.1)
+AskedAnswers (Err fault) answer = fault ≢ Memory → answer ≡ Err fault

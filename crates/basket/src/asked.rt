@@ -1,0 +1,63 @@
+//! The sets that are asked for.
+ghost use Rattle.std.specs.Prelude.{◌≡◌, true, false, Err, IfOk, IfSome, map};
+ghost use Rattle.basket.specs.Contents.{AskedAnswers, asked_in, named_sets_of};
+
+use basket_core::{Itemset, Source};
+use basket_counts::read_sets;
+use basket_csv::{Dialect, Names, read_named_counts};
+use basket_plan::Layout;
+use basket_read::{CountedLine, ReadFault};
+use std::alloc::{AllocError, Global};
+use std::random::RandomSource;
+
+/// Reads sets to their end, in numbers or in CSV as the layout has items, with the names of their items;
+/// numbers have none. Where they have counts, these mean nothing.
+pub fn read_asked<R: RandomSource, S: Source>(
+    rt: &R,
+    alloc: Global,
+    layout: Layout,
+    reader: &mut S,
+) -> Result<(Vec<Itemset>, Names), ReadFault>
+    requires { S.has_failed reader.old ≡ false }
+    ensures exact { S.has_failed reader.new ≡ false → IfSome (S.left reader.old) (λ bytes. AskedAnswers result (asked_in layout bytes)) }
+    ensures failed { S.has_failed reader.new ≡ true → result ≡ Err ReadFault.Read }
+    ensures read_is_failed { result ≡ Err ReadFault.Read → S.has_failed reader.new ≡ true }
+{
+    if layout.form.has_names() {
+        return read_named_sets(rt, alloc, layout.separator, reader);
+    }
+    match read_sets(alloc, reader) {
+        Ok(sets) => Ok((sets, Names::none(alloc))),
+        Err(fault) => Err(fault),
+    }
+}
+
+/// The same in CSV, where each record has a count before its names.
+fn read_named_sets<R: RandomSource, S: Source>(
+    rt: &R,
+    alloc: Global,
+    separator: u8,
+    reader: &mut S,
+) -> Result<(Vec<Itemset>, Names), ReadFault>
+    requires { S.has_failed reader.old ≡ false }
+    ensures exact { S.has_failed reader.new ≡ false → IfSome (S.left reader.old) (λ bytes. AskedAnswers result (named_sets_of separator bytes)) }
+    ensures failed { S.has_failed reader.new ≡ true → result ≡ Err ReadFault.Read }
+    ensures read_is_failed { result ≡ Err ReadFault.Read → S.has_failed reader.new ≡ true }
+{
+    let dialect = Dialect {
+        separator,
+        header: false,
+    };
+    let (lines, names) = match read_named_counts(rt, alloc, reader, dialect, Names::none(alloc)) {
+        Ok(read) => read,
+        Err(fault) => return Err(fault),
+    };
+    Ok((without_counts(alloc, lines)?, names))
+}
+
+/// The sets of the lines.
+fn without_counts(alloc: Global, lines: Vec<CountedLine>) -> Result<Vec<Itemset>, AllocError>
+    ensures { IfOk result (λ sets. sets.items ≡ map (λ line. line.set) lines.items) }
+{
+    lines.into_iter().map(|line| line.set).collect(alloc)
+}

@@ -1,0 +1,134 @@
+//! What an input says, whatever is asked of it.
+ghost use Rattle.std.specs.Prelude.{◌≡◌, true, false, Err, IfErr, IfSome, IsErr};
+ghost use Rattle.basket_counts.specs.Counts.{counts_of};
+ghost use Rattle.basket_csv.specs.Counts.{named_counts_of};
+ghost use Rattle.basket_parts.specs.Together.{together_of};
+ghost use Rattle.basket.specs.declared.contents.Contents.TheVariants as contents;
+ghost use Rattle.basket.specs.Contents.{Answers, FailsIn, by_names, by_numbers, contents_of, named_together_of, where_read, wording_with};
+ghost use Rattle.basket_report.specs.Style.{wording_of};
+
+use basket_core::{Database, Source};
+use basket_counts::read_counts;
+use basket_csv::{Dialect, Names, read_baskets, read_named_counts, read_single};
+use basket_parts::Together;
+use basket_plan::{Form, Layout};
+use basket_read::{ReadFault, read_fimi};
+use basket_report::Style;
+use std::alloc::Global;
+use std::random::RandomSource;
+
+/// What an input says, and of CSV the names of its items.
+#[derive(Debug, Drop)]
+pub enum Contents {
+    Baskets(Database, Option<Names>),
+    /// Sets with their counts.
+    Counts(Together, Option<Names>),
+}
+
+impl Contents {
+    /// Reads an input to its end. In CSV the known names have the first numbers.
+    pub fn read<R: RandomSource, S: Source>(
+        rt: &R,
+        alloc: Global,
+        layout: Layout,
+        known: Names,
+        reader: &mut S,
+    ) -> Result<Self, ReadFault>
+        requires { S.has_failed reader.old ≡ false }
+        ensures exact { S.has_failed reader.new ≡ false → IfSome (S.left reader.old) (λ bytes. Answers result (contents_of layout known bytes)) }
+        ensures failed { S.has_failed reader.new ≡ true → IfErr result (λ fault. IfSome (S.left reader.old) (λ bytes. FailsIn layout.form bytes (S.left reader.new) fault)) }
+        ensures failed_is_err { S.has_failed reader.new ≡ true → IsErr result }
+        ensures read_is_failed { result ≡ Err ReadFault.Read → S.has_failed reader.new ≡ true }
+    {
+        let dialect = Dialect {
+            separator: layout.separator,
+            header: layout.header,
+        };
+        match layout.form {
+            Form::Fimi => numbered(read_fimi(alloc, reader)),
+            Form::Baskets => named(read_baskets(
+                rt,
+                alloc,
+                reader,
+                dialect,
+                layout.weighted,
+                known,
+            )),
+            Form::Single => named(read_single(rt, alloc, reader, dialect, known)),
+            Form::Counts => counted(read_together(alloc, reader)),
+            Form::CsvCounts => named_counts(read_named_together(rt, alloc, reader, dialect, known)),
+        }
+    }
+}
+
+/// How a report writes items: as the input does, with this byte between the fields of CSV.
+pub fn style_of(names: &Option<Names>, separator: u8) -> Style<'_>
+    ensures { wording_of result ≡ wording_with separator names.now }
+{
+    match names {
+        Some(names) => Style::Names { names, separator },
+        None => Style::Numbers,
+    }
+}
+
+/// Reads counted sets to their end, and puts them together.
+fn read_together<S: Source>(alloc: Global, reader: &mut S) -> Result<Together, ReadFault>
+    requires { S.has_failed reader.old ≡ false }
+    ensures exact { S.has_failed reader.new ≡ false → IfSome (S.left reader.old) (λ bytes. Answers result (where_read together_of (counts_of bytes))) }
+    ensures failed { S.has_failed reader.new ≡ true → result ≡ Err ReadFault.Read }
+    ensures read_is_failed { result ≡ Err ReadFault.Read → S.has_failed reader.new ≡ true }
+{
+    match read_counts(alloc, reader) {
+        Ok(lines) => Together::of(alloc, lines),
+        Err(fault) => Err(fault),
+    }
+}
+
+/// Reads counted sets of names to their end, and puts them together.
+fn read_named_together<R: RandomSource, S: Source>(
+    rt: &R,
+    alloc: Global,
+    reader: &mut S,
+    dialect: Dialect,
+    known: Names,
+) -> Result<(Together, Names), ReadFault>
+    requires { S.has_failed reader.old ≡ false }
+    ensures exact { S.has_failed reader.new ≡ false → IfSome (S.left reader.old) (λ bytes. Answers result (where_read named_together_of (named_counts_of dialect.separator dialect.header known bytes))) }
+    ensures failed { S.has_failed reader.new ≡ true → result ≡ Err ReadFault.Read }
+    ensures read_is_failed { result ≡ Err ReadFault.Read → S.has_failed reader.new ≡ true }
+{
+    let (lines, names) = match read_named_counts(rt, alloc, reader, dialect, known) {
+        Ok(read) => read,
+        Err(fault) => return Err(fault),
+    };
+    match Together::of(alloc, lines) {
+        Ok(together) => Ok((together, names)),
+        Err(fault) => Err(fault),
+    }
+}
+
+fn numbered(read: Result<Database, ReadFault>) -> Result<Contents, ReadFault>
+    ensures { result ≡ by_numbers contents.Baskets read }
+{
+    Ok(Contents::Baskets(read?, None))
+}
+
+fn named(read: Result<(Database, Names), ReadFault>) -> Result<Contents, ReadFault>
+    ensures { result ≡ by_names contents.Baskets read }
+{
+    let (database, names) = read?;
+    Ok(Contents::Baskets(database, Some(names)))
+}
+
+fn counted(read: Result<Together, ReadFault>) -> Result<Contents, ReadFault>
+    ensures { result ≡ by_numbers contents.Counts read }
+{
+    Ok(Contents::Counts(read?, None))
+}
+
+fn named_counts(read: Result<(Together, Names), ReadFault>) -> Result<Contents, ReadFault>
+    ensures { result ≡ by_names contents.Counts read }
+{
+    let (together, names) = read?;
+    Ok(Contents::Counts(together, Some(names)))
+}

@@ -1,0 +1,136 @@
+//! Counting given sets over an input.
+ghost use Rattle.std.specs.Prelude.{◌≡◌, ◌≢◌, ◌↔◌, true, false, Ok, Err, IfErr, IfOk, MatchResult, OnOk};
+ghost use Rattle.std.specs.Io.KnownBytes.{Keeps};
+ghost use Rattle.basket_report.specs.Report.{report_of};
+ghost use Rattle.basket.specs.Contents.{wording_with};
+ghost use Rattle.basket.specs.Count.{IsCountFault, IsCountsFault, IsSumsFault, MakesCounts, WritesCounts, WritesCountsFront, counts_in, counts_over};
+ghost use Rattle.basket.specs.Made.{made_text};
+ghost use Rattle.mine_sets.specs.Asked.{asked_of};
+
+use crate::asked::read_asked;
+use crate::contents::{Contents, style_of};
+use crate::fault::RunFault;
+use crate::made::Made;
+use basket_core::{Counted, CountedSets, Itemset, Sink, Source};
+use basket_csv::Names;
+use basket_parts::Together;
+use basket_plan::CountPlan;
+use mine_phases::{Cutting, Open};
+use mine_sets::{asked_for, count_sets};
+use std::alloc::{AllocError, Global};
+use std::random::RandomSource;
+use std::thread::Threads;
+
+/// Reads sets and an input to their ends, and writes the sets with their counts: the empty set first,
+/// whose count is the weight of all baskets, then the others in their order, each once. Once its first
+/// byte is written nothing but the writer can refuse the others, and a flush ends the run.
+pub fn run_count<R: RandomSource + Threads + Sync, S: Source, T: Source, W: Sink>(
+    rt: &R,
+    alloc: Global,
+    plan: &CountPlan,
+    sets: &mut S,
+    reader: &mut T,
+    writer: &mut W,
+) -> Result<(), RunFault>
+    requires sets { S.has_failed sets.old ≡ false }
+    requires reader { T.has_failed reader.old ≡ false }
+    requires writer { W.has_failed writer.old ≡ false }
+
+    // What is written, for readers and a writer that tell their bytes.
+    ensures report { OnOk result (WritesCounts plan.now.layout (S.left sets.old) (T.left reader.old) (W.taken writer.old) (W.taken writer.new)) }
+    ensures front { result ≡ Err RunFault.Write → WritesCountsFront plan.now.layout (S.left sets.old) (T.left reader.old) (W.taken writer.old) (W.taken writer.new) }
+    ensures nothing { IfErr result (λ fault. fault ≢ RunFault.Write → Keeps (W.taken writer.old) (W.taken writer.new)) }
+
+    // When each fault comes.
+    ensures fault { IfErr result (IsCountFault plan.now.layout (S.left sets.old) (S.has_failed sets.new) (T.left reader.old) (T.left reader.new) (T.has_failed reader.new)) }
+    ensures write { (result ≡ Err RunFault.Write) ↔ (W.has_failed writer.new ≡ true) }
+{
+    let made = match counts(rt, alloc, plan, sets, reader) {
+        Ok(made) => made,
+        Err(fault) => return Err(fault),
+    };
+    made.write(writer)?;
+    Ok(())
+}
+
+/// The sets with their counts, made and not written yet.
+fn counts<R: RandomSource + Threads + Sync, S: Source, T: Source>(
+    rt: &R,
+    alloc: Global,
+    plan: &CountPlan,
+    sets: &mut S,
+    reader: &mut T,
+) -> Result<Made, RunFault>
+    requires sets { S.has_failed sets.old ≡ false }
+    requires reader { T.has_failed reader.old ≡ false }
+    ensures { MakesCounts plan.now.layout (S.left sets.old) (S.has_failed sets.new) (T.left reader.old) (T.left reader.new) (T.has_failed reader.new) result }
+{
+    let (sets, names) = match read_asked(rt, alloc, plan.layout(), sets) {
+        Ok(asked) => asked,
+        Err(fault) => return Err(RunFault::Sets(fault)),
+    };
+    let contents = match Contents::read(rt, alloc, plan.layout(), names, reader) {
+        Ok(contents) => contents,
+        Err(fault) => return Err(RunFault::Input(fault)),
+    };
+    counted(rt, alloc, plan, sets, contents)
+}
+
+/// The sets with their counts over what the input says.
+fn counted<R: RandomSource + Threads + Sync>(
+    rt: &R,
+    alloc: Global,
+    plan: &CountPlan,
+    sets: Vec<Itemset>,
+    contents: Contents,
+) -> Result<Made, RunFault>
+    ensures { let answer = counts_in plan.now.layout (asked_of sets.items) contents in
+        MatchResult result (λ made. answer ≡ Ok (made_text made)) (IsCountsFault answer) }
+{
+    let separator = plan.layout().separator;
+    match contents {
+        Contents::Baskets(database, names) => {
+            let cutting = Cutting::new(plan.workers(), plan.pieces());
+            let counted = count_sets(rt, alloc, &database, sets, cutting, &Open)?;
+            Ok(listed(alloc, &counted, &names, separator)?)
+        }
+        Contents::Counts(together, names) => {
+            let asked = asked_for(rt, alloc, sets)?;
+            let counted = match sums(alloc, &together, &asked) {
+                Ok(counted) => counted,
+                Err(fault) => return Err(fault),
+            };
+            Ok(listed(alloc, &counted, &names, separator)?)
+        }
+    }
+}
+
+/// The report of the sets.
+fn listed(
+    alloc: Global,
+    counted: &[Counted],
+    names: &Option<Names>,
+    separator: u8,
+) -> Result<Made, AllocError>
+    ensures { IfOk result (λ made. made_text made ≡ report_of (wording_with separator names.now) counted.now) }
+{
+    let list = CountedSets::of_sets(alloc, counted)?;
+    Made::of_sets(alloc, list, style_of(names, separator))
+}
+
+/// The sets with the sums of their counts, or the first that has none.
+fn sums(alloc: Global, together: &Together, sets: &[Itemset]) -> Result<Vec<Counted>, RunFault>
+    ensures { MatchResult result (λ list. counts_over together.now sets.now ≡ Ok list.items) (IsSumsFault together.now sets.now) }
+{
+    let mut counted = Vec::with_capacity(alloc, sets.len())?;
+    for (nth, set) in sets.iter().enumerate() {
+        let Some(count) = together.count_of(set.items()) else {
+            return Err(RunFault::Uncounted { nth });
+        };
+        counted.push(Counted {
+            set: set.copied(alloc)?,
+            count,
+        })?;
+    }
+    Ok(counted)
+}

@@ -1,0 +1,104 @@
+//! Sets with their counts for a plan.
+ghost use Rattle.std.specs.Prelude.{◌≡◌, ◌≢◌, ◌==◌, Ok, Err, IfOk, filter, length};
+ghost use Rattle.basket_core.specs.declared.fault.MineFault.{MineFault as MiningFault};
+ghost use Rattle.basket.specs.Contents.{Answers};
+ghost use Rattle.basket.specs.Counted.{IsWhole, gap_in, listing_in, needs_subsets, needs_total};
+ghost use Rattle.basket.specs.Made.{made_text};
+ghost use Rattle.basket.specs.Outcome.{outcome_for};
+ghost use Rattle.basket.specs.Input.{OfCounts};
+
+use crate::contents::style_of;
+use crate::made::Made;
+use basket_core::{CountedSets, Frequent, MineFault};
+use basket_csv::Names;
+use basket_parts::Together;
+use basket_plan::{Ask, Plan};
+use basket_read::ReadFault;
+use basket_report::rules_report;
+use basket_sets::Minimum;
+use std::alloc::{AllocError, Global};
+
+/// Of counted sets that are put together those that meet the minimum, where all is there that matters.
+pub fn listing(alloc: Global, plan: &Plan, together: &Together) -> Result<Frequent, ReadFault>
+    ensures exact { Answers result (listing_in plan.now.question together.now) }
+    ensures not_read { result ≢ Err ReadFault.Read }
+    ensures whole { IfOk result (IsWhole plan.now.question.ask) }
+{
+    let minimum = plan.minimum();
+    if needs_total(plan.ask(), minimum) && together.total().is_none() {
+        return Err(ReadFault::NoTotal);
+    }
+    match gap(alloc, plan, together)? {
+        Some(fault) => Err(fault),
+        None => Ok(together.frequent(alloc, minimum)?),
+    }
+}
+
+/// The first of the sets that meet the minimum which lacks a subset, where that matters.
+fn gap(alloc: Global, plan: &Plan, together: &Together) -> Result<Option<ReadFault>, AllocError>
+    ensures { IfOk result (λ gap. gap ≡ gap_in plan.now.question together.now) }
+{
+    if needs_subsets(plan.ask()) {
+        together.first_gap(alloc, plan.minimum())
+    } else {
+        Ok(None)
+    }
+}
+
+/// Whether the weight of all baskets matters: a share is one of it, and so is a lift.
+fn needs_total(ask: Ask, minimum: Minimum) -> bool
+    ensures { result ≡ needs_total ask minimum }
+{
+    matches!(ask, Ask::Rules(..)) || matches!(minimum, Minimum::Share(..))
+}
+
+/// Whether the subsets of the sets matter.
+fn needs_subsets(ask: Ask) -> bool
+    ensures { result ≡ needs_subsets ask }
+{
+    !matches!(ask, Ask::Items | Ask::Sets)
+}
+
+/// The report that the plan asks for of counted sets that meet the minimum.
+pub fn report_listing(
+    alloc: Global,
+    frequent: Frequent,
+    names: &Option<Names>,
+    plan: &Plan,
+) -> Result<Made, MineFault>
+    requires { IsWhole plan.now.question.ask frequent }
+    ensures ok { IfOk result (λ made. outcome_for (OfCounts frequent names.now) plan.now.question ≡ Ok (made_text made)) }
+    ensures err { (fault : MiningFault) → result ≡ Err fault → fault ≢ MineFault.Memory → outcome_for (OfCounts frequent names.now) plan.now.question ≡ Err fault }
+{
+    let style = style_of(names, plan.layout().separator);
+    let limit = plan.limit();
+    if let Ask::Items = plan.ask() {
+        let items = single_items(alloc, frequent.sets())?;
+        return Ok(Made::of_sets(alloc, items, style)?);
+    }
+    if frequent.sets().len() > limit as usize {
+        return Err(MineFault::TooMany { limit });
+    }
+    Ok(match plan.ask() {
+        Ask::Items | Ask::Sets => Made::of_sets(alloc, frequent.into_sets(), style)?,
+        Ask::Closed => Made::of_closed(alloc, frequent, style)?,
+        Ask::Maximal => Made::of_maximal(alloc, frequent, style)?,
+        Ask::Rules(above, below) => {
+            let frequent = frequent.unpacked(alloc)?;
+            Made::Text(rules_report(alloc, &frequent, (above, below), style)?)
+        }
+    })
+}
+
+/// Those of the sets that have one item.
+fn single_items(alloc: Global, sets: &CountedSets) -> Result<CountedSets, AllocError>
+    ensures { IfOk result (λ items. items ≡ filter (λ c. length c.set == 1) sets.now) }
+{
+    let mut items = CountedSets::empty(alloc);
+    for place in 0..sets.len() {
+        if sets.size(place) == 1 {
+            items.push(sets.set(alloc, place)?, sets.count(place))?;
+        }
+    }
+    Ok(items)
+}

@@ -1,0 +1,275 @@
+-- Counted sets that are written are read back.
+use Rattle.std.proofs.Common.{◌≡◌, ℕ, ◌+◌, ◌%◌, ◌^◌, ◌<◌, ◌≤◌, Bool, true, false, ◌&&◌, not, leb, eqb, List, [], ◌∷◌, ◌++◌, length, map, filter, take, drop, codes, decimal, suc, cond, Some, None, Ok, refl, sym, ap, ◌∙◌, append_assoc, arith, nat_eq}
+use Rattle.std.specs.Prelude.{All}
+use Rattle.std.specs.List.{list_all, flat_map}
+use Rattle.std.specs.Cmp.Lexicographic.{pointwise}
+use Rattle.std.proofs.lemmas.Bool.{and_parts, and_from, le-leb, le-ltb, leb-true, ne_eqb}
+use Rattle.std.proofs.lemmas.Fmt.{decimal_by_steps}
+use Rattle.std.proofs.lemmas.List.{append-nil, take_all}
+use Rattle.basket_sets.specs.declared.counted.Counted.{Counted}
+use Rattle.basket_sets.specs.Database.{MOST_WEIGHT}
+use Rattle.basket_sets.specs.Minimum.{is_digit, value_of}
+use Rattle.basket_sets.proofs.theory.Rising.{rising-rising}
+use Rattle.basket_read.specs.declared.fault.ReadFault.TheVariants.{TooLong}
+use Rattle.basket_read.specs.Cut.{Cut, cut_at}
+use Rattle.basket_read.specs.Fimi.{is_blank, is_line_feed, is_nil, is_number, are_numbers, numbers_of, text_of, or_else, MOST_NUMBER, MOST_BYTES}
+use Rattle.basket_counts.specs.Counts.{is_open, is_close, is_count, is_tail_of, is_tail, is_line_of, is_line, is_good, first_fault, fault_in, entry, count_before, entry_of_parts, entry_of, entries_from, entries_of, counted_before, counts_among, counts_said}
+use Rattle.basket_counts.specs.Laws.{items_text, set_line, IsWritten, lines_from, ListsAreReadBack}
+use Rattle.basket_counts.proofs.CutLemmas.{cut, cut_ended, cut_joined}
+use Rattle.basket_counts.proofs.NumberLemmas.{all_push, value_push, and_true, within}
+use Rattle.basket_counts.proofs.LineLemmas.{digit_is_no_other}
+use Rattle.basket_counts.proofs.GrammarLemmas.{good_is_faultless}
+
+-- ---- the digits of a number
+
+record IsNumeral (number : ℕ) (word : List ℕ) : Type 0 where
+  digits : list_all is_digit word ≡ true
+  value : value_of word ≡ number
+  some : is_nil word ≡ false
+
+digit_is : (byte : ℕ) → 48 ≤ byte → byte ≤ 57 → is_digit byte ≡ true
+digit_is byte low high = and_from (leb 48 byte) (leb byte 57) (le-leb 48 byte low) (le-leb byte 57 high)
+
+numeral : (n : ℕ) → n < 2 ^ 64 → IsNumeral n (decimal n)
+numeral = decimal_by_steps IsNumeral
+    (λ m l. record { digits = and_true (is_digit (48 + m)) ∙ digit_is (48 + m) (omega arith) (omega arith); value = omega arith; some = refl })
+    (λ m ds l h. record {
+      digits = all_push is_digit ds (48 + m % 10) ∙ and_from (list_all is_digit ds) (is_digit (48 + m % 10)) h.digits (digit_is (48 + m % 10) (omega arith) (omega arith));
+      value = value_push ds (48 + m % 10) ∙ (let e = h.value in omega arith);
+      some = more ds (48 + m % 10);
+    })
+  where
+    more : (word : List ℕ) (byte : ℕ) → is_nil (word ++ byte ∷ []) ≡ false
+    more [] byte = refl
+    more (d ∷ word) byte = refl
+
+number_is : (n bound : ℕ) → n ≤ bound → n < 2 ^ 64 → within bound (decimal n) ≡ true
+number_is n bound below small =
+    let d = numeral n small in let e = d.value in
+    and_from (list_all is_digit (decimal n)) (leb (value_of (decimal n)) bound) d.digits (le-leb (value_of (decimal n)) bound (omega arith))
+
+-- ---- cuts of texts without a separator
+
+abbrev free : (ℕ → Bool) → List ℕ → Bool
+free p xs = list_all (λ x. not (p x)) xs
+
+was_false : (b : Bool) → not b ≡ true → b ≡ false
+was_false true e = absurd cc
+was_false false e = refl
+
+cut_free : (p : ℕ → Bool) (xs ys : List ℕ) → free p ys ≡ true → cut_at p (xs ++ ys) ≡ cut (cut_at p xs).ended ((cut_at p xs).last ++ ys)
+cut_free p xs [] h = ap (cut_at p) (append-nil xs) ∙ ap (λ l. cut (cut_at p xs).ended l) (sym (append-nil (cut_at p xs).last))
+cut_free p xs (y ∷ ys) h =
+    let q = and_parts (not (p y)) (free p ys) h in
+    let joined = cut_joined p xs y (was_false (p y) q.0) in
+    ap (cut_at p) (sym (append_assoc xs (y ∷ []) ys)) ∙ cut_free p (xs ++ y ∷ []) ys q.1
+    ∙ ap (λ (k : Cut). cut k.ended (k.last ++ ys)) joined ∙ ap (λ l. cut (cut_at p xs).ended l) (append_assoc (cut_at p xs).last (y ∷ []) ys)
+
+free-append : (p : ℕ → Bool) (xs ys : List ℕ) → free p xs ≡ true → free p ys ≡ true → free p (xs ++ ys) ≡ true
+free-append p [] ys h k = k
+free-append p (x ∷ xs) ys h k =
+    let q = and_parts (not (p x)) (free p xs) h in and_from (not (p x)) (free p (xs ++ ys)) q.0 (free-append p xs ys q.1 k)
+
+-- a class of bytes that digits and spaces are not in
+record Spares (p : ℕ → Bool) : Type 0 where
+  digit : (byte : ℕ) → is_digit byte ≡ true → p byte ≡ false
+
+digits_free : (p : ℕ → Bool) → Spares p → (word : List ℕ) → list_all is_digit word ≡ true → free p word ≡ true
+digits_free p s [] h = refl
+digits_free p s (byte ∷ word) h =
+    let q = and_parts (is_digit byte) (list_all is_digit word) h in
+    and_from (not (p byte)) (free p word) (ap not (s.digit byte q.0)) (digits_free p s word q.1)
+
+spares : (k : ℕ) → k < 48 → Spares (λ byte. eqb byte k)
+spares k low = record { digit = λ byte d. let least = leb-true 48 byte (and_parts (leb 48 byte) (leb byte 57) d).0 in ne_eqb byte k (λ e. absurd (omega arith)) }
+
+-- texts that each end with a separator
+cut_texts : {X : Type 0} (p : ℕ → Bool) (text : X → List ℕ) (sep : ℕ) → p sep ≡ true → (items : List X) (xs : List ℕ) → list_all (λ x. free p (text x)) items ≡ true → (cut_at p xs).last ≡ []
+    → cut_at p (xs ++ flat_map (λ x. text x ++ sep ∷ []) items) ≡ cut ((cut_at p xs).ended ++ map text items) []
+cut_texts p text sep s [] xs h e = ap (cut_at p) (append-nil xs) ∙ (λ i. cut (sym (append-nil (cut_at p xs).ended) i) (e i))
+cut_texts p text sep s (x ∷ items) xs h e =
+    let q = and_parts (free p (text x)) (list_all (λ x. free p (text x)) items) h in
+    let ended = (cut_at p xs).ended in
+    let rest = flat_map (λ x. text x ++ sep ∷ []) items in
+    let word : cut_at p (xs ++ text x) ≡ cut ended (text x) = cut_free p xs (text x) q.0 ∙ ap (λ l. cut ended (l ++ text x)) e in
+    let one : cut_at p ((xs ++ text x) ++ sep ∷ []) ≡ cut (ended ++ text x ∷ []) [] = cut_ended p (xs ++ text x) sep s ∙ ap (λ (k : Cut). cut (k.ended ++ k.last ∷ []) []) word in
+    ap (λ l. cut_at p (xs ++ l)) (append_assoc (text x) (sep ∷ []) rest)
+    ∙ ap (cut_at p) (sym (append_assoc (xs ++ text x) (sep ∷ []) rest ∙ append_assoc xs (text x) (sep ∷ rest)))
+    ∙ cut_texts p text sep s items ((xs ++ text x) ++ sep ∷ []) q.1 (ap (λ (k : Cut). k.last) one)
+    ∙ ap (λ (k : Cut). cut (k.ended ++ map text items) []) one ∙ ap (λ l. cut l []) (append_assoc ended (text x ∷ []) (map text items))
+
+all_head : {X : Type 0} (P : X → Type 0) (x : X) (xs : List X) → All P (x ∷ xs) → P x
+all_head P x xs h = h 0 x (omega arith)
+
+all_tail : {X : Type 0} (P : X → Type 0) (x : X) (xs : List X) → All P (x ∷ xs) → All P xs
+all_tail P x xs h = λ k d below. h (suc k) d (omega (arith, below))
+
+all_pass : {X : Type 0} (P : X → Type 0) (test : X → Bool) → ((x : X) → P x → test x ≡ true) → (xs : List X) → All P xs → list_all test xs ≡ true
+all_pass P test step [] h = refl
+all_pass P test step (x ∷ xs) h = and_from (test x) (list_all test xs) (step x (all_head P x xs h)) (all_pass P test step xs (all_tail P x xs h))
+
+all_map : {X Y : Type 0} (test : Y → Bool) (f : X → Y) (xs : List X) → list_all (λ x. test (f x)) xs ≡ true → list_all test (map f xs) ≡ true
+all_map test f [] h = refl
+all_map test f (x ∷ xs) h =
+    let q = and_parts (test (f x)) (list_all (λ x. test (f x)) xs) h in and_from (test (f x)) (list_all test (map f xs)) q.0 (all_map test f xs q.1)
+
+-- ---- the items of a set
+
+abbrev IsItem : ℕ → Type 0
+IsItem item = item ≤ MOST_NUMBER
+
+item_numeral : (item : ℕ) → IsItem item → IsNumeral item (decimal item)
+item_numeral item h = numeral item (omega (arith, h))
+
+items_free : (p : ℕ → Bool) → Spares p → p 32 ≡ false → (items : List ℕ) → All IsItem items → free p (items_text items) ≡ true
+items_free p s e [] h = refl
+items_free p s e (item ∷ items) h =
+    let word = digits_free p s (decimal item) (item_numeral item (all_head IsItem item items h)).digits in
+    free-append p (decimal item ++ 32 ∷ []) (items_text items) (free-append p (decimal item) (32 ∷ []) word (and_from (not (p 32)) true (ap not e) refl))
+    (items_free p s e items (all_tail IsItem item items h))
+
+-- a text of these numbers, which may stand before a count
+record Says (items text : List ℕ) : Type 0 where
+  numbers : are_numbers text ≡ true
+  values : numbers_of text ≡ items
+  no_open : free is_open text ≡ true
+  no_feed : free is_line_feed text ≡ true
+
+words_are : (items : List ℕ) → All IsItem items → map value_of (filter (λ word. not (is_nil word)) (map decimal items ++ [] ∷ [])) ≡ items
+words_are [] h = refl
+words_are (item ∷ items) h =
+    let n = item_numeral item (all_head IsItem item items h) in
+    let rest = filter (λ word. not (is_nil word)) (map decimal items ++ [] ∷ []) in
+    ap (λ b. map value_of (cond (not b) (decimal item ∷ rest) rest)) n.some ∙ (λ i. n.value i ∷ words_are items (all_tail IsItem item items h) i)
+
+blank_spares : Spares is_blank
+blank_spares = record { digit = λ byte d. (digit_is_no_other byte d).0 }
+
+items_say : (items : List ℕ) → All IsItem items → Says items (items_text items)
+items_say items h =
+    let words : cut_at is_blank (items_text items) ≡ cut (map decimal items) [] =
+    cut_texts is_blank decimal 32 refl items [] (all_pass IsItem (λ item. free is_blank (decimal item)) (λ item small. digits_free is_blank blank_spares (decimal item) (item_numeral item small).digits) items h) refl in
+    record {
+      numbers = ap (λ (k : Cut). list_all is_number (k.ended ++ k.last ∷ [])) words ∙ all_push is_number (map decimal items) []
+          ∙ and_from (list_all is_number (map decimal items)) true
+          (all_map is_number decimal items (all_pass IsItem (λ item. is_number (decimal item)) (λ item small. number_is item MOST_NUMBER small (omega (arith, small))) items h)) refl;
+      values = ap (λ (k : Cut). map value_of (filter (λ word. not (is_nil word)) (k.ended ++ k.last ∷ []))) words ∙ words_are items h;
+      no_open = items_free is_open (spares 40 (omega arith)) refl items h;
+      no_feed = items_free is_line_feed (spares 10 (omega arith)) refl items h;
+    }
+
+-- ---- a line
+
+abbrev tail_of : ℕ → List ℕ
+tail_of count = decimal count ++ 41 ∷ []
+
+abbrev body : Counted → List ℕ
+body counted = items_text counted.set ++ 40 ∷ tail_of counted.count
+
+line_is : (counted : Counted) → set_line counted ≡ body counted ++ 10 ∷ []
+line_is counted = sym (parts (items_text counted.set) (decimal counted.count))
+  where
+    parts : (items count : List ℕ) → (items ++ 40 ∷ (count ++ 41 ∷ [])) ++ 10 ∷ [] ≡ items ++ codes "(" ++ count ++ codes ")\n"
+    parts items count = simp append_assoc
+
+module _ (counted : Counted) (written : IsWritten counted) where
+  abbrev front : List ℕ
+  front = items_text counted.set
+
+  says : Says counted.set front
+  says = items_say counted.set written.items
+
+  count_numeral : IsNumeral counted.count (decimal counted.count)
+  count_numeral = numeral counted.count (let e = written.count in omega arith)
+
+  tail_free : (p : ℕ → Bool) → Spares p → p 41 ≡ false → free p (tail_of counted.count) ≡ true
+  tail_free p s e = free-append p (decimal counted.count) (41 ∷ []) (digits_free p s (decimal counted.count) count_numeral.digits) (and_from (not (p 41)) true (ap not e) refl)
+
+  tail_cut : cut_at is_close (tail_of counted.count) ≡ cut (decimal counted.count ∷ []) []
+  tail_cut =
+      cut_ended is_close (decimal counted.count) 41 refl
+      ∙ ap (λ (k : Cut). cut (k.ended ++ k.last ∷ []) []) (cut_free is_close [] (decimal counted.count) (digits_free is_close (spares 41 (omega arith)) (decimal counted.count) count_numeral.digits))
+
+  body_cut : cut_at is_open (body counted) ≡ cut (front ∷ []) (tail_of counted.count)
+  body_cut =
+      ap (cut_at is_open) (sym (append_assoc front (40 ∷ []) (tail_of counted.count)))
+      ∙ cut_free is_open (front ++ 40 ∷ []) (tail_of counted.count) (tail_free is_open (spares 40 (omega arith)) refl)
+      ∙ ap (λ (k : Cut). cut k.ended (k.last ++ tail_of counted.count))
+      (cut_ended is_open front 40 refl ∙ ap (λ (k : Cut). cut (k.ended ++ k.last ∷ []) []) (cut_free is_open [] front says.no_open))
+
+  body_good : is_line (body counted) ≡ true
+  body_good =
+      ap (λ (k : Cut). is_line_of k.ended k.last) body_cut
+      ∙ and_from (are_numbers front) (is_tail (tail_of counted.count)) says.numbers
+      (ap (λ (k : Cut). is_tail_of k.ended k.last) tail_cut
+      ∙ and_from (not (is_nil (decimal counted.count)) && is_count (decimal counted.count)) true
+      (and_from (not (is_nil (decimal counted.count))) (is_count (decimal counted.count)) (ap not count_numeral.some)
+      (number_is counted.count MOST_WEIGHT written.count (let e = written.count in omega arith))) refl)
+
+  body_says : (line : ℕ) → entry_of (body counted) line ≡ record { set = counted.set; count = Some counted.count; line = line } ∷ []
+  body_says line =
+      ap (λ (k : Cut). entry_of_parts k.ended k.last line) body_cut
+      ∙ ap (λ (k : Cut). entry (numbers_of front) (count_before k.ended) line ∷ []) tail_cut
+      ∙ (λ i. entry (says.values i) (Some (count_numeral.value i)) line ∷ [])
+      ∙ ap (λ set. record { set = set; count = Some counted.count; line = line } ∷ []) (rising-rising counted.set written.rising)
+
+  body_free : free is_line_feed (body counted) ≡ true
+  body_free = free-append is_line_feed front (40 ∷ tail_of counted.count) says.no_feed (tail_free is_line_feed (spares 10 (omega arith)) refl)
+
+-- ---- a text
+
+abbrev text : List Counted → List ℕ
+text sets = flat_map set_line sets
+
+text_cut : (sets : List Counted) → All IsWritten sets → cut_at is_line_feed (text sets) ≡ cut (map body sets) []
+text_cut sets written =
+    (λ i. cut_at is_line_feed (flat_map (λ counted. line_is counted i) sets))
+    ∙ cut_texts is_line_feed body 10 refl sets [] (all_pass IsWritten (λ counted. free is_line_feed (body counted)) body_free sets written) refl
+
+text_good : (sets : List Counted) → All IsWritten sets → is_good (text sets) ≡ true
+text_good sets written =
+    ap (λ (k : Cut). list_all is_line (k.ended ++ k.last ∷ [])) (text_cut sets written) ∙ all_push is_line (map body sets) []
+    ∙ and_from (list_all is_line (map body sets)) true (all_map is_line body sets (all_pass IsWritten (λ counted. is_line (body counted)) body_good sets written)) refl
+
+lines_say : (line : ℕ) (sets : List Counted) → All IsWritten sets → counts_among (entries_from line (map body sets ++ [] ∷ [])) ≡ Ok (lines_from line sets)
+lines_say line [] written = refl
+lines_say line (counted ∷ sets) written =
+    ap (λ l. counts_among (l ++ entries_from (line + 1) (map body sets ++ [] ∷ []))) (body_says counted (all_head IsWritten counted sets written) line)
+    ∙ ap (counted_before counted.set (Some counted.count) line) (lines_say (line + 1) sets (all_tail IsWritten counted sets written))
+
+-- a text that begins with a digit or a parenthesis has no mark
+plain : (word rest : List ℕ) → list_all is_digit word ≡ true → is_nil word ≡ false → text_of (word ++ rest) ≡ word ++ rest
+plain [] rest d some = absurd cc
+plain (byte ∷ word) rest d some =
+    let range = and_parts (leb 48 byte) (leb byte 57) (and_parts (is_digit byte) (list_all is_digit word) d).0 in
+    let high = leb-true byte 57 range.1 in
+    ap (λ x. cond (x && pointwise nat_eq (187 ∷ 191 ∷ []) (take 2 (word ++ rest))) (drop 2 (word ++ rest)) (byte ∷ (word ++ rest))) (ne_eqb 239 byte (λ same. absurd (omega arith)))
+
+items_plain : (items rest : List ℕ) → All IsItem items → text_of (items_text items ++ 40 ∷ rest) ≡ items_text items ++ 40 ∷ rest
+items_plain [] rest h = refl
+items_plain (item ∷ items) rest h =
+    let n = item_numeral item (all_head IsItem item items h) in
+    let same = first_item (decimal item) (items_text items) rest in
+    ap text_of same ∙ plain (decimal item) (32 ∷ (items_text items ++ 40 ∷ rest)) n.digits n.some ∙ sym same
+  where
+    first_item : (word items rest : List ℕ) → ((word ++ 32 ∷ []) ++ items) ++ 40 ∷ rest ≡ word ++ 32 ∷ (items ++ 40 ∷ rest)
+    first_item word items rest = simp append_assoc
+
+first_count : (items count rest : List ℕ) → (items ++ codes "(" ++ count ++ codes ")\n") ++ rest ≡ items ++ 40 ∷ (count ++ 41 ∷ 10 ∷ rest)
+first_count items count rest = simp append_assoc
+
+text_plain : (sets : List Counted) → All IsWritten sets → text_of (text sets) ≡ text sets
+text_plain [] written = refl
+text_plain (counted ∷ sets) written =
+    let same = first_count (items_text counted.set) (decimal counted.count) (text sets) in
+    ap text_of same ∙ items_plain counted.set (decimal counted.count ++ 41 ∷ 10 ∷ text sets) (all_head IsWritten counted sets written).items ∙ sym same
+
+pub lists_are_read_back : ListsAreReadBack
+lists_are_read_back sets written few =
+    let all = take_all MOST_BYTES (text sets) few in
+    let same = text_plain sets written in
+    let none : fault_in (text sets) ≡ None =
+    ap (λ b. or_else (first_fault (text_of (take MOST_BYTES (text sets)))) (cond b (Some TooLong) None)) (le-ltb MOST_BYTES (length (text sets)) few)
+    ∙ ap (λ l. or_else (first_fault l) None) (ap text_of all ∙ same) ∙ ap (λ f. or_else f None) ((good_is_faultless (text sets)).0 (text_good sets written)) in
+    (λ i. counts_said (none i) (entries_of (same i)))
+    ∙ ap (λ (k : Cut). counts_among (entries_from 1 (k.ended ++ k.last ∷ []))) (text_cut sets written) ∙ lines_say 1 sets written

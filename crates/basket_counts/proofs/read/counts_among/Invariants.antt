@@ -1,0 +1,12 @@
+use Rattle.std.proofs.Common.{◌≡◌}
+use Rattle.std.specs.Vec.Iter.{into_iter_items}
+use Rattle.basket_counts.specs.Counts.{counts_among}
+use Rattle.basket_counts.specs.Read.{counts_behind}
+use Rattle.basket_counts.proofs.read.counts_among.Given as goal
+
+abbrev pub invariant-loop-entry : goal.invariant-loop-entry
+invariant-loop-entry l = record {
+  can : goal.iterator-loop-entry.can_next l.entry-iterator;
+  ends : goal.iterator-loop-entry.is_finite l.entry-iterator;
+  whole : counts_behind l.counted.items (counts_among (into_iter_items l.entry-iterator)) ≡ counts_among l.fn.entries.items;
+}

@@ -1,0 +1,8 @@
+pub mod Counts
+pub mod Digits
+pub mod Line
+pub mod Text
+pub mod Input
+pub mod Read
+pub mod Laws
+pub mod Worked

@@ -1,0 +1,27 @@
+//! Laws on the grammar of counted sets and on their faults.
+ghost use Rattle.basket_counts.specs.Laws.{LineFrontsAreGood, FrontsAreGood, GoodIsFaultless, FirstFaultIsExact, ListsAreReadBack};
+
+/// Each front of a good line is one.
+pub fn line_fronts_are_good()
+    ensures { LineFrontsAreGood }
+{}
+
+/// Each front of a good text is good.
+pub fn fronts_are_good()
+    ensures { FrontsAreGood }
+{}
+
+/// A text is good, or it has a first fault, and not both.
+pub fn good_is_faultless()
+    ensures { GoodIsFaultless }
+{}
+
+/// The first fault is that of the one byte that ends a good text badly.
+pub fn first_fault_is_exact()
+    ensures { FirstFaultIsExact }
+{}
+
+/// Counted sets that are written a line each are read back.
+pub fn lists_are_read_back()
+    ensures { ListsAreReadBack }
+{}

@@ -1,0 +1,108 @@
+//! A text of which not all has been read.
+ghost use Rattle.std.specs.Prelude.{◌≡◌, ◌≢◌, ◌<◌, ◌≤◌, ◌+◌, ℕ, List, [], ◌∷◌, ◌++◌, length, None, OnOk, MatchResult, if◌then◌else◌};
+ghost use Rattle.basket_sets.specs.Minimum.{is_digit};
+ghost use Rattle.basket_read.specs.Fimi.{MOST_BYTES};
+ghost use Rattle.basket_read.specs.Text.{Tells};
+ghost use Rattle.basket_counts.specs.Counts.{first_fault, entries_of};
+ghost use Rattle.basket_counts.specs.Line.{line_state, line_at, said_at, digit_fault_at};
+ghost use Rattle.basket_counts.specs.Text.{IsTextSoFar};
+
+use crate::entry::Entry;
+use crate::line::Line;
+use basket_read::ReadFault;
+use basket_sets::Itemset;
+use std::alloc::{AllocError, Global};
+
+/// What has been read of a text: how many lines have ended, what they say, and the line after them.
+#[derive(Debug, Drop)]
+pub struct Text {
+    alloc: Global,
+    ended: u32,
+    entries: Vec<Entry>,
+    line: Line,
+}
+
+impl Text {
+    fn new(alloc: Global) -> Self
+        ensures { IsTextSoFar result [] }
+    {
+        Text {
+            alloc,
+            ended: 0,
+            entries: Vec::new(alloc),
+            line: Line::new(alloc),
+        }
+    }
+
+    /// Takes a byte.
+    #[inline(always)]
+    fn take(&mut self, byte: u8) -> Result<(), ReadFault>
+        requires { self.old.ended < MOST_BYTES }
+        ensures { (bytes : List ℕ) → IsTextSoFar self.old bytes →
+            MatchResult result (λ _. IsTextSoFar self.new (bytes ++ byte ∷ [])) (λ fault. Tells fault (first_fault (bytes ++ byte ∷ []))) }
+    {
+        if byte == b'\n' {
+            self.end_line()?;
+            self.ended += 1;
+            return Ok(());
+        }
+        if !self.line.take(byte)? {
+            return Err(self.fault_at(byte));
+        }
+        Ok(())
+    }
+
+    /// The fault of a byte that can't stand here.
+    fn fault_at(&self, byte: u8) -> ReadFault
+        requires { self.now.ended < MOST_BYTES }
+        ensures { result ≡ (if is_digit byte then digit_fault_at (line_state self.now.line).place (self.now.ended + 1) byte else ReadFault.Byte (self.now.ended + 1) byte) }
+    {
+        let line = self.ended + 1;
+        if byte.is_ascii_digit() {
+            self.line.digit_fault(line, byte)
+        } else {
+            ReadFault::Byte { line, byte }
+        }
+    }
+
+    /// Adds what the line says, and begins a new line.
+    fn end_line(&mut self) -> Result<(), AllocError>
+        requires { line_state self.old.line ≢ line_at [] → self.old.ended < MOST_BYTES }
+        ensures line { OnOk result (line_state self.new.line ≡ line_at []) }
+        ensures ended { self.new.ended ≡ self.old.ended }
+        ensures entries { OnOk result (self.new.entries.items ≡ self.old.entries.items ++ said_at (line_state self.old.line) (self.old.ended + 1)) }
+    {
+        self.line.end_number()?;
+        let numbers = self.line.numbers();
+        if self.line.is_behind_open() || !numbers.is_empty() {
+            let set = Itemset::from_items(self.alloc, numbers)?;
+            self.entries.push(Entry {
+                set,
+                count: self.line.count(),
+                line: self.ended + 1,
+            })?;
+        }
+        self.line.clear();
+        Ok(())
+    }
+}
+
+/// What a text says, or its first fault.
+pub fn entries_of(alloc: Global, bytes: &[u8]) -> Result<Vec<Entry>, ReadFault>
+    requires { length bytes.now ≤ MOST_BYTES }
+    ensures { MatchResult result (λ entries. (first_fault bytes.now ≡ None) × (entries.items ≡ entries_of bytes.now)) (λ fault. Tells fault (first_fault bytes.now)) }
+{
+    let mut text = Text::new(alloc);
+    let mut taken = 0;
+    loop {
+        taken += text.line.take_digits(&bytes[taken..]);
+        match bytes.get(taken) {
+            Some(byte) => text.take(*byte)?,
+            None => {
+                text.end_line()?;
+                return Ok(text.entries);
+            }
+        }
+        taken += 1;
+    }
+}

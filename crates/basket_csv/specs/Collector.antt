@@ -1,0 +1,8 @@
+-- What records are added to.
+use Rattle.std.specs.Prelude.{ℕ, Bool, List}
+
+-- what is settled before the first record: its number, whether records have weights, and the names that are known
+pub record Start : Type 0 where
+  pub first : ℕ
+  pub weighted : Bool
+  pub known : List (List ℕ)

@@ -1,0 +1,67 @@
+//! Adding the records of a text, one after another.
+ghost use Rattle.std.specs.Prelude.{◌≡◌, ◌≤◌, ◌+◌, List, ℕ, [], ◌∷◌, ◌++◌, length, Option, None, MatchResult, OnOk};
+ghost use Rattle.csv.specs.Records.{fields_of};
+ghost use Rattle.basket_read.specs.declared.fault.ReadFault.{ReadFault};
+ghost use Rattle.basket_read.specs.Fimi.{MOST_BYTES};
+ghost use Rattle.basket_read.specs.Text.{Tells};
+ghost use Rattle.basket_csv.specs.Collector.{Start};
+ghost use Rattle.basket_csv.specs.Csv.{fault_from, behind_header, first_number};
+ghost use Rattle.basket_csv.specs.Records.{records_of, records_left, records_taken, IsReading};
+
+use crate::dialect::Dialect;
+use crate::records::Records;
+use basket_read::ReadFault;
+use csv::ByteRecord;
+use std::alloc::Global;
+
+/// What records are added to.
+pub trait Collector {
+    // The fault of a record with this number.
+    ghost fault_of: { Start → ℕ → List (List ℕ) → Option ReadFault };
+
+    // These are the records that were added.
+    ghost has_read: { Self → Start → List (List (List ℕ)) → Type 0 };
+
+    /// Adds a record by its number.
+    fn add(&mut self, nth: u32, row: &ByteRecord) -> Result<(), ReadFault>
+        ensures fault { (start : Start) (rows : List (List (List ℕ))) → has_read self.old start rows →
+            MatchResult result (λ _. fault_of start nth (fields_of row.now) ≡ None) (λ fault. Tells fault (fault_of start nth (fields_of row.now))) }
+        ensures read { (start : Start) (rows : List (List (List ℕ))) → start.first + length rows ≡ nth → has_read self.old start rows →
+            OnOk result (has_read self.new start (rows ++ fields_of row.now ∷ [])) };
+}
+
+/// Adds all records of the bytes but the header, up to the first with a fault.
+pub fn add_all<C: Collector>(
+    alloc: Global,
+    bytes: &[u8],
+    dialect: Dialect,
+    collector: &mut C,
+) -> Result<(), ReadFault>
+    requires { length bytes.now ≤ MOST_BYTES }
+    ensures fault { (start : Start) → start.first ≡ first_number dialect.header → C.has_read collector.old start [] →
+        let found = fault_from (C.fault_of start) (first_number dialect.header) (behind_header dialect.header (records_of dialect.separator bytes.now)) in
+        MatchResult result (λ _. found ≡ None) (λ fault. Tells fault found) }
+    ensures read { (start : Start) → start.first ≡ first_number dialect.header → C.has_read collector.old start [] →
+        OnOk result (C.has_read collector.new start (behind_header dialect.header (records_of dialect.separator bytes.now))) }
+{
+    let mut records = Records::new(alloc, bytes, dialect.separator);
+    if !records.pass_header(dialect.header)? {
+        return Ok(());
+    }
+    add_left(collector, &mut records)
+}
+
+/// Adds the records that are left, up to the first with a fault.
+fn add_left<C: Collector>(collector: &mut C, records: &mut Records<'_>) -> Result<(), ReadFault>
+    requires { IsReading records.old }
+    ensures fault { (start : Start) (rows : List (List (List ℕ))) → start.first + length rows ≡ records_taken records.old + 1 → C.has_read collector.old start rows →
+        let found = fault_from (C.fault_of start) (records_taken records.old + 1) (records_left records.old) in
+        MatchResult result (λ _. found ≡ None) (λ fault. Tells fault found) }
+    ensures read { (start : Start) (rows : List (List (List ℕ))) → start.first + length rows ≡ records_taken records.old + 1 → C.has_read collector.old start rows →
+        OnOk result (C.has_read collector.new start (rows ++ records_left records.old)) }
+{
+    'rows: while records.advance()? {
+        collector.add(records.taken(), records.row())?;
+    }
+    Ok(())
+}

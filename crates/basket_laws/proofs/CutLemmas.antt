@@ -1,0 +1,217 @@
+-- FIMI texts that are cut behind line feeds.
+use Rattle.std.proofs.Common.{◌≡◌, ◌∙◌, ◌≤◌, ◌++◌, ℕ, Bool, true, false, cond, List, [], ◌∷◌, Option, Some, None, Result, Ok, Err, ap, arith, drop, length, refl, subst, sym, take}
+use Rattle.std.specs.Prelude.{◌&&◌, fold, nat_eq, nat_le, nat_lt}
+use Rattle.std.specs.Cmp.Lexicographic.{pointwise}
+use Rattle.std.specs.List.{flat_map, list_all, starts_with}
+use Rattle.std.proofs.lemmas.Bool.{false≢true}
+use Rattle.std.proofs.lemmas.Bool.Decides.{nat_tests}
+use Rattle.std.proofs.lemmas.List.{append_assoc, append-nil, length-append, take_all}
+use Rattle.std.proofs.lemmas.List.Concat.{flat_map-append}
+use Rattle.std.proofs.lemmas.List.Folds.{list_all-append}
+use Rattle.std.proofs.lemmas.List.Sums.{fold-append}
+use Rattle.basket_read.specs.declared.fault.ReadFault.{ReadFault}
+use Rattle.basket_read.specs.declared.fault.ReadFault.TheVariants.{Heavy, TooLong}
+use Rattle.basket_read.specs.Cut.{Cut, cut_at, cut_more, parts_of}
+use Rattle.basket_read.specs.Fimi.{MARK, MOST_BYTES, answer_of, basket_of, baskets_of, fimi_of, first_fault, is_good, is_line, is_line_feed, or_else, text_of}
+use Rattle.basket_read.specs.Laws.{FrontsAreGood, GoodIsFaultless}
+use Rattle.basket_sets.specs.declared.weighted.Weighted.{Weighted}
+use Rattle.basket_sets.specs.Database.{MOST_WEIGHT}
+use Rattle.basket_sets.specs.Support.{total_of}
+use Rattle.basket_sets.proofs.theory.Support.{support-append}
+use Rattle.basket_laws.specs.Cuts.{CutsAreParts, text_cut, with_line_feed}
+
+both : (a b : Bool) → (a && b) ≡ true → (a ≡ true) × (b ≡ true)
+both true b e = (refl, e)
+both false b e = absurd (false≢true e)
+
+-- ---- lines
+
+-- parts that have ended before
+abbrev behind : List (List ℕ) → Cut → Cut
+behind ended cut = record { ended = ended ++ cut.ended; last = cut.last }
+
+fold_behind : (p : ℕ → Bool) (before ended : List (List ℕ)) (last xs : List ℕ)
+    → fold (cut_more p) (record { ended = before ++ ended; last = last }) xs ≡ behind before (fold (cut_more p) (record { ended = ended; last = last }) xs)
+fold_behind p before ended last [] = refl
+fold_behind p before ended last (x ∷ xs) =
+    go (p x)
+    (ap (λ e. fold (cut_more p) (record { ended = e; last = [] }) xs) (append_assoc before ended (last ∷ [])) ∙ fold_behind p before (ended ++ last ∷ []) [] xs)
+    (fold_behind p before ended (last ++ x ∷ []) xs)
+  where
+    go : (b : Bool)
+        → fold (cut_more p) (record { ended = (before ++ ended) ++ last ∷ []; last = [] }) xs ≡ behind before (fold (cut_more p) (record { ended = ended ++ last ∷ []; last = [] }) xs)
+        → fold (cut_more p) (record { ended = before ++ ended; last = last ++ x ∷ [] }) xs ≡ behind before (fold (cut_more p) (record { ended = ended; last = last ++ x ∷ [] }) xs)
+        → fold (cut_more p) (cond b (record { ended = (before ++ ended) ++ last ∷ []; last = [] }) (record { ended = before ++ ended; last = last ++ x ∷ [] })) xs
+        ≡ behind before (fold (cut_more p) (cond b (record { ended = ended ++ last ∷ []; last = [] }) (record { ended = ended; last = last ++ x ∷ [] })) xs)
+    go true ends joins = ends
+    go false ends joins = joins
+
+-- the lines of a text that ends with a line feed, without the empty one behind that
+abbrev lines_of : List ℕ → List (List ℕ)
+lines_of front = (cut_at is_line_feed front).ended ++ (cut_at is_line_feed front).last ∷ []
+
+cut_front : (front : List ℕ) → cut_at is_line_feed (with_line_feed front) ≡ record { ended = lines_of front; last = [] }
+cut_front front = fold-append (cut_more is_line_feed) (record { ended = []; last = [] }) front (10 ∷ [])
+
+cut_both : (front rest : List ℕ) → cut_at is_line_feed (with_line_feed front ++ rest) ≡ behind (lines_of front) (cut_at is_line_feed rest)
+cut_both front rest =
+    fold-append (cut_more is_line_feed) (record { ended = []; last = [] }) (with_line_feed front) rest
+    ∙ ap (λ c. fold (cut_more is_line_feed) c rest) (cut_front front)
+    ∙ ap (λ e. fold (cut_more is_line_feed) (record { ended = e; last = [] }) rest) (sym (append-nil (lines_of front)))
+    ∙ fold_behind is_line_feed (lines_of front) [] [] rest
+
+parts_both : (front rest : List ℕ) → parts_of is_line_feed (with_line_feed front ++ rest) ≡ lines_of front ++ parts_of is_line_feed rest
+parts_both front rest =
+    ap (λ (c : Cut). c.ended ++ c.last ∷ []) (cut_both front rest) ∙ append_assoc (lines_of front) (cut_at is_line_feed rest).ended ((cut_at is_line_feed rest).last ∷ [])
+
+parts_front : (front : List ℕ) → parts_of is_line_feed (with_line_feed front) ≡ lines_of front ++ [] ∷ []
+parts_front front = ap (λ (c : Cut). c.ended ++ c.last ∷ []) (cut_front front)
+
+good_both : (front rest : List ℕ) → is_good (with_line_feed front ++ rest) ≡ true → (list_all is_line (lines_of front) ≡ true) × (is_good rest ≡ true)
+good_both front rest good =
+    both (list_all is_line (lines_of front)) (is_good rest)
+    (sym (ap (list_all is_line) (parts_both front rest) ∙ list_all-append is_line (lines_of front) (parts_of is_line_feed rest)) ∙ good)
+
+good_front : (front : List ℕ) → list_all is_line (lines_of front) ≡ true → is_good (with_line_feed front) ≡ true
+good_front front lines = ap (list_all is_line) (parts_front front) ∙ list_all-append is_line (lines_of front) ([] ∷ []) ∙ ap (λ b. b && true) lines
+
+said_both : (front rest : List ℕ) → baskets_of (with_line_feed front) ++ baskets_of rest ≡ baskets_of (with_line_feed front ++ rest)
+said_both front rest =
+    ap (λ baskets. baskets ++ baskets_of rest) (ap (flat_map basket_of) (parts_front front) ∙ flat_map-append basket_of (lines_of front) ([] ∷ []) ∙ append-nil (flat_map basket_of (lines_of front)))
+    ∙ sym (ap (flat_map basket_of) (parts_both front rest) ∙ flat_map-append basket_of (lines_of front) (parts_of is_line_feed rest))
+
+-- ---- the mark
+
+record HasText (front : List ℕ) : Type 0 where
+  text : List ℕ
+  alone : text_of (with_line_feed front) ≡ with_line_feed text
+  before : (rest : List ℕ) → text_of (with_line_feed front ++ rest) ≡ with_line_feed text ++ rest
+
+and_false : (b : Bool) → (b && false) ≡ false
+and_false true = refl
+and_false false = refl
+
+chosen : (bytes other : List ℕ) (b : Bool) → b ≡ false → cond b other bytes ≡ bytes
+chosen bytes other true e = absurd (false≢true (sym e))
+chosen bytes other false e = refl
+
+has_text : (front : List ℕ) → HasText front
+has_text [] = record { text = []; alone = refl; before = λ rest. refl }
+has_text (a ∷ []) = record {
+  text = a ∷ [];
+  alone = chosen _ _ _ (and_false _);
+  before = λ rest. chosen _ _ _ (and_false _);
+}
+has_text (a ∷ b ∷ []) = record {
+  text = a ∷ b ∷ [];
+  alone = chosen _ _ _ (ap (λ e. nat_eq 239 a && e) (and_false (nat_eq 187 b)) ∙ and_false _);
+  before = λ rest. chosen _ _ _ (ap (λ e. nat_eq 239 a && e) (and_false (nat_eq 187 b)) ∙ and_false _);
+}
+has_text (a ∷ b ∷ c ∷ front) = go (starts_with nat_eq (a ∷ b ∷ c ∷ []) MARK) refl
+  where
+    go : (m : Bool) → starts_with nat_eq (a ∷ b ∷ c ∷ []) MARK ≡ m → HasText (a ∷ b ∷ c ∷ front)
+    go true is = record {
+      text = front;
+      alone = ap (λ m. cond m (with_line_feed front) (with_line_feed (a ∷ b ∷ c ∷ front))) is;
+      before = λ rest. ap (λ m. cond m (with_line_feed front ++ rest) (with_line_feed (a ∷ b ∷ c ∷ front) ++ rest)) is;
+    }
+    go false is = record {
+      text = a ∷ b ∷ c ∷ front;
+      alone = ap (λ m. cond m (with_line_feed front) (with_line_feed (a ∷ b ∷ c ∷ front))) is;
+      before = λ rest. ap (λ m. cond m (with_line_feed front ++ rest) (with_line_feed (a ∷ b ∷ c ∷ front) ++ rest)) is;
+    }
+
+module _ (fronts_are_good : FrontsAreGood) (good_is_faultless : GoodIsFaultless) where
+  -- a good text has no mark
+  unmarked : (bytes : List ℕ) → is_good bytes ≡ true → text_of bytes ≡ bytes
+  unmarked [] good = refl
+  unmarked (byte ∷ bytes) good = go (starts_with nat_eq (byte ∷ bytes) MARK) refl
+    where
+      first : starts_with nat_eq (byte ∷ bytes) MARK ≡ true → byte ≡ 239
+      first e =
+          let q : nat_eq 239 byte ≡ true = (both (nat_eq 239 byte) (pointwise nat_eq (187 ∷ 191 ∷ []) (take 2 bytes)) e).0 in
+          grind (arith, nat_tests, q)
+
+      go : (m : Bool) → starts_with nat_eq (byte ∷ bytes) MARK ≡ m → cond m (drop 3 (byte ∷ bytes)) (byte ∷ bytes) ≡ byte ∷ bytes
+      go false is = refl
+      go true is = absurd (false≢true (subst (λ b. is_good (b ∷ []) ≡ true) (first is) (fronts_are_good (byte ∷ []) bytes good)))
+
+  -- ---- inputs
+
+  pub record Says (bytes : List ℕ) (baskets : List Weighted) : Type 0 where
+    pub few : length bytes ≤ MOST_BYTES
+    pub good : is_good (text_of bytes) ≡ true
+    pub said : baskets_of (text_of bytes) ≡ baskets
+    pub light : total_of baskets ≤ MOST_WEIGHT
+
+  pub from_ok : (bytes : List ℕ) (baskets : List Weighted) → fimi_of bytes ≡ Ok baskets → Says bytes baskets
+  from_ok bytes baskets e = at (first_fault (text_of (take MOST_BYTES bytes))) refl (nat_lt MOST_BYTES (length bytes)) refl e
+    where
+      of_result : Result (List Weighted) ReadFault → List Weighted
+      of_result (Ok b) = b
+      of_result (Err fault) = []
+
+      light_one : (b : Bool) → nat_le (total_of (baskets_of (text_of bytes))) MOST_WEIGHT ≡ b → cond b (Ok (baskets_of (text_of bytes))) (Err Heavy) ≡ Ok baskets
+          → (baskets_of (text_of bytes) ≡ baskets) × (total_of (baskets_of (text_of bytes)) ≤ MOST_WEIGHT)
+      light_one true is e = (ap of_result e, grind (arith, nat_tests, is))
+      light_one false is e = absurd (let no : Err Heavy ≡ Ok baskets = e in cc)
+
+      at : (fault : Option ReadFault) → first_fault (text_of (take MOST_BYTES bytes)) ≡ fault → (long : Bool) → nat_lt MOST_BYTES (length bytes) ≡ long
+          → answer_of (or_else fault (cond long (Some TooLong) None)) (baskets_of (text_of bytes)) ≡ Ok baskets → Says bytes baskets
+      at (Some fault) told long is e = absurd (let no : Err fault ≡ Ok baskets = e in cc)
+      at None told true is e = absurd (let no : Err TooLong ≡ Ok baskets = e in cc)
+      at None told false is e =
+          let few : length bytes ≤ MOST_BYTES = grind (arith, nat_tests, is) in
+          let none : first_fault (text_of bytes) ≡ None = ap (λ b. first_fault (text_of b)) (sym (take_all MOST_BYTES bytes few)) ∙ told in
+          let q = light_one (nat_le (total_of (baskets_of (text_of bytes))) MOST_WEIGHT) refl e in
+          record {
+            few = few;
+            good = (good_is_faultless (text_of bytes)).1 none;
+            said = q.0;
+            light = subst (λ b. total_of b ≤ MOST_WEIGHT) q.0 q.1;
+          }
+
+  into_ok : (bytes : List ℕ) → length bytes ≤ MOST_BYTES → is_good (text_of bytes) ≡ true → total_of (baskets_of (text_of bytes)) ≤ MOST_WEIGHT → fimi_of bytes ≡ Ok (baskets_of (text_of bytes))
+  into_ok bytes few good light =
+      let none : first_fault (text_of (take MOST_BYTES bytes)) ≡ None = ap (λ b. first_fault (text_of b)) (take_all MOST_BYTES bytes few) ∙ (good_is_faultless (text_of bytes)).0 good in
+      let short : nat_lt MOST_BYTES (length bytes) ≡ false = grind (arith, nat_tests, few) in
+      let weighs : nat_le (total_of (baskets_of (text_of bytes))) MOST_WEIGHT ≡ true = grind (arith, nat_tests, light) in
+      (λ i. answer_of (or_else (none i) (cond (short i) (Some TooLong) None)) (baskets_of (text_of bytes)))
+      ∙ ap (λ b. cond b (Ok (baskets_of (text_of bytes))) (Err Heavy)) weighs
+
+  record Halves (front rest : List ℕ) (baskets : List Weighted) : Type 0 where
+    first : List Weighted
+    second : List Weighted
+    of_first : fimi_of (with_line_feed front) ≡ Ok first
+    of_second : fimi_of rest ≡ Ok second
+    both_are : first ++ second ≡ baskets
+
+  halves : (front rest : List ℕ) (baskets : List Weighted) → fimi_of (with_line_feed front ++ rest) ≡ Ok baskets → Halves front rest baskets
+  halves front rest baskets e =
+      let s = from_ok (with_line_feed front ++ rest) baskets e in
+      let t = has_text front in
+      let good = good_both t.text rest (ap is_good (sym (t.before rest)) ∙ s.good) in
+      let plain = unmarked rest good.1 in
+      let first = baskets_of (with_line_feed t.text) in
+      let second = baskets_of rest in
+      let whole : first ++ second ≡ baskets = said_both t.text rest ∙ ap baskets_of (sym (t.before rest)) ∙ s.said in
+      let long = length-append (with_line_feed front) rest in
+      let weight = support-append first second [] in
+      let all : total_of (first ++ second) ≤ MOST_WEIGHT = subst (λ b. total_of b ≤ MOST_WEIGHT) (sym whole) s.light in
+      let few = s.few in
+      record {
+        first = first;
+        second = second;
+        of_first = into_ok (with_line_feed front) (omega (arith, long, few)) (ap is_good t.alone ∙ good_front t.text good.0)
+            (subst (λ b. total_of b ≤ MOST_WEIGHT) (ap baskets_of (sym t.alone)) (omega (arith, weight, all))) ∙ ap (λ text. Ok (baskets_of text)) t.alone;
+        of_second = into_ok rest (omega (arith, long, few)) (ap is_good plain ∙ good.1)
+            (subst (λ b. total_of b ≤ MOST_WEIGHT) (ap baskets_of (sym plain)) (omega (arith, weight, all))) ∙ ap (λ text. Ok (baskets_of text)) plain;
+        both_are = whole;
+      }
+
+  pub cuts_are_parts : CutsAreParts
+  cuts_are_parts [] last baskets e = (baskets ∷ [], ap (λ r. r ∷ []) e, append-nil baskets)
+  cuts_are_parts (front ∷ fronts) last baskets e =
+      let h = halves front (text_cut fronts last) baskets (ap fimi_of (sym (append_assoc (with_line_feed front) (flat_map with_line_feed fronts) last)) ∙ e) in
+      let more = cuts_are_parts fronts last h.second h.of_second in
+      (h.first ∷ more.0, (λ i. h.of_first i ∷ more.1 i), ap (λ b. h.first ++ b) more.2 ∙ h.both_are)

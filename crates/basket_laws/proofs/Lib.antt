@@ -1,0 +1,9 @@
+mod ShareLemmas
+mod CountLemmas
+mod PartLemmas
+mod TextLemmas
+mod OutcomeLemmas
+mod CutLemmas
+mod RunLemmas
+mod NameLemmas
+mod NamedLemmas

@@ -1,0 +1,195 @@
+-- Questions to counts of parts.
+use Rattle.std.proofs.Common.{◌≡◌, ◌≢◌, ◌∙◌, inl, inr, ◌≤◌, ◌-◌, ℕ, Bool, true, false, cond, List, [], ◌∷◌, Option, Some, None, Ok, Err, ap, ap₂, arith, length, map, refl, subst, sym}
+use Rattle.std.specs.Prelude.{All, IsTrue, ◌&&◌, ◌||◌, find, nat_lt, not, option_map}
+use Rattle.std.specs.List.{Contains, list_any}
+use Rattle.std.proofs.lemmas.Bool.Decides.{nat_tests}
+use Rattle.std.proofs.lemmas.List.Elements.{recursion_from_All}
+use Rattle.basket.specs.Counted.{gap_in, listing_in, needs_subsets, needs_total, unless_fault}
+use Rattle.basket.specs.Contents.{by_names, by_numbers, named_together_of, where_read, with_names, wording_with}
+use Rattle.basket.specs.Input.{OfBaskets, OfCounts, listed as as_said, said_for}
+use Rattle.basket.specs.declared.contents.Contents.TheVariants as contents
+use Rattle.basket.specs.Outcome.{of_mining, outcome, outcome_for, outcome_of}
+use Rattle.basket_core.specs.declared.fault.MineFault.TheVariants.{TooMany}
+use Rattle.basket_core.specs.Listing.{Listing}
+use Rattle.basket_counts.specs.Counts.{counts_of}
+use Rattle.basket_counts.specs.Laws.{lines_from}
+use Rattle.basket_csv.specs.Counts.{named_counts_of}
+use Rattle.basket_parts.specs.Gap.{first_gap, has_gap, is_gap}
+use Rattle.basket_parts.specs.Laws.{TogetherKeepsCounts, TogetherKeepsFrequent, TogetherKeepsSets}
+use Rattle.basket_parts.specs.Together.{count_if, count_in, frequent_in, has_set, is_heavy, line_for, sets_of, together, together_of, total_in}
+use Rattle.basket_plan.specs.declared.plan.Ask.{Ask}
+use Rattle.basket_plan.specs.declared.plan.Ask.TheVariants.{Items, Sets, Closed, Maximal, Rules}
+use Rattle.basket_plan.specs.Plan.{Question}
+use Rattle.basket_read.specs.declared.counted_line.CountedLine.{CountedLine}
+use Rattle.basket_read.specs.declared.fault.ReadFault.TheVariants.{Heavy, NoTotal}
+use Rattle.basket_read.specs.Fimi.{MOST_BYTES}
+use Rattle.basket_report.specs.Report.{report_of, rules_report_of}
+use Rattle.basket_report.specs.Style.{Numbered}
+use Rattle.basket_rules.proofs.theory.Condensed.{list_decides_closed, list_decides_maximal}
+use Rattle.basket_rules.proofs.theory.Rules.{list_decides_rules}
+use Rattle.basket_sets.specs.declared.counted.Counted.{Counted}
+use Rattle.basket_sets.specs.declared.minimum.Minimum.{Minimum}
+use Rattle.basket_sets.specs.declared.minimum.Minimum.TheVariants.{Share}
+use Rattle.basket_sets.specs.declared.weighted.Weighted.{Weighted}
+use Rattle.basket_sets.specs.Database.{MOST_WEIGHT}
+use Rattle.basket_sets.specs.Frequent.{IsNonemptySet, frequent_of}
+use Rattle.basket_sets.specs.Itemset.{IsRising}
+use Rattle.basket_sets.specs.Subsets.{subsets_of_size}
+use Rattle.basket_sets.specs.Support.{support_of, total_of}
+use Rattle.basket_sets.proofs.theory.Frequent.{IsSound, lists_frequent}
+use Rattle.basket_sets.proofs.theory.Members.{Member, Member-from_map, at_Member}
+use Rattle.basket_sets.proofs.theory.Rising.{contains_each}
+use Rattle.basket_sets.proofs.theory.Subsets.{IsSubset-from_Member}
+use Rattle.basket_sets.proofs.theory.Support.{subsets_are_frequent, support_falls}
+use Rattle.basket_laws.specs.Outcomes.{PartsAnswerAsTheWhole, of_counts_at}
+use Rattle.basket_laws.specs.Names.{of_named_counts_at}
+use Rattle.basket_laws.specs.Parts.{counts_of_parts, is_frequent_in_some, said_of, whole_of}
+use Rattle.basket_laws.specs.Texts.{texts_of_parts}
+use Rattle.basket_laws.proofs.CountLemmas.{any, any_asked, has_among, has_in_parts}
+use Rattle.basket_laws.proofs.PartLemmas.{count_is, count_of_asked, frequent_is_asked, has_is, same_list, total_is}
+use Rattle.basket_laws.proofs.TextLemmas.{reports_are_read_back, said_again, texts_are}
+use Rattle.mine_sets.specs.Asked.{asked_of}
+
+-- ---- nothing is found
+
+none_found : {A : Type 0} (p : A → Bool) (list : List A) → ((x : A) → Member x list → p x ≡ false) → find p list ≡ None
+none_found p [] h = refl
+none_found p (x ∷ list) h = ap (λ b. cond b (Some x) (find p list)) (h x (inl refl)) ∙ none_found p list (λ y m. h y (inr m))
+
+none_any : {A : Type 0} (p : A → Bool) (list : List A) → ((x : A) → Member x list → p x ≡ false) → list_any p list ≡ false
+none_any p [] h = refl
+none_any p (x ∷ list) h = ap (λ b. b || list_any p list) (h x (inl refl)) ∙ none_any p list (λ y m. h y (inr m))
+
+not_below : (a b : ℕ) → b ≤ a → nat_lt a b ≡ false
+not_below a b h = grind (arith, nat_tests, h)
+
+-- ---- what the list of the frequent sets decides
+
+module _ (whole : List Weighted) (question : Question) where
+  abbrev listing : Listing
+  listing = record { sets = frequent_of whole question.minimum; total = total_of whole }
+
+  same_text : (names : Option (List (List ℕ))) (ask : Ask) → question.ask ≡ ask → outcome_for (OfCounts listing names) question ≡ outcome_for (OfBaskets whole names) question
+  same_text names Items is = rw is refl
+  same_text names Sets is = rw is refl
+  same_text names Closed is = rw is (ap (λ sets. cond (nat_lt question.limit (length (frequent_of whole question.minimum))) (Err (TooMany question.limit)) (Ok (report_of (wording_with question.layout.separator names) sets))) (sym (list_decides_closed whole question.minimum)))
+  same_text names Maximal is = rw is (ap (λ sets. cond (nat_lt question.limit (length (frequent_of whole question.minimum))) (Err (TooMany question.limit)) (Ok (report_of (wording_with question.layout.separator names) sets))) (sym (list_decides_maximal whole question.minimum)))
+  same_text names (Rules above below) is = rw is (ap (λ rules. cond (nat_lt question.limit (length (frequent_of whole question.minimum))) (Err (TooMany question.limit)) (Ok (rules_report_of (wording_with question.layout.separator names) rules))) (sym (list_decides_rules whole question.minimum (above, below))))
+
+-- ---- counts of parts
+
+module _
+    (keeps_sets : TogetherKeepsSets) (keeps_counts : TogetherKeepsCounts) (keeps_frequent : TogetherKeepsFrequent)
+    (parts : List (List Weighted)) (numerator denominator : ℕ) (sets : List (List ℕ)) (lines : List CountedLine)
+    (rise : All IsRising sets)
+    (listed : (set : List ℕ) → IsNonemptySet set → IsTrue (is_frequent_in_some parts (Share numerator denominator) set) → Contains sets set)
+    (said : map said_of lines ≡ counts_of_parts parts sets)
+    (some : parts ≢ []) (light : total_of (whole_of parts) ≤ MOST_WEIGHT) where
+  abbrev minimum : Minimum
+  minimum = Share numerator denominator
+
+  abbrev whole : List Weighted
+  whole = whole_of parts
+
+  in_lines : (set : List ℕ) → any set (asked_of sets) ≡ true → has_set lines set ≡ true
+  in_lines set there = has_is parts numerator denominator sets lines rise listed said set ∙ go parts some
+    where
+      go : (parts : List (List Weighted)) → parts ≢ [] → has_among (counts_of_parts parts sets) set ≡ true
+      go [] some = absurd (some refl)
+      go (part ∷ parts) some = has_in_parts part parts sets set there
+
+  count_together : (set : List ℕ) → any set (asked_of sets) ≡ true → count_if (together lines) set ≡ Some (support_of whole set)
+  count_together set there =
+      ap₂ (λ b n. cond b (Some n) None) (keeps_sets lines set ∙ in_lines set there) (keeps_counts lines set ∙ count_of_asked parts numerator denominator sets lines rise listed said set there)
+
+  at_most_all : (set : List ℕ) → count_in lines set ≤ total_of whole
+  at_most_all set = subst (λ n. n ≤ total_of whole) (sym (count_is parts numerator denominator sets lines rise listed said set)) (go (any set (asked_of sets)))
+    where
+      go : (b : Bool) → cond b (support_of whole set) 0 ≤ total_of whole
+      go true = support_falls whole set [] refl
+      go false = omega arith
+
+  not_heavy : together_of lines ≡ Ok (together lines)
+  not_heavy =
+      let none = none_any is_heavy (together lines) (λ line m.
+      let p = Member-from_map (line_for lines) line (sets_of lines) m in
+      subst (λ (l : CountedLine). is_heavy l ≡ false) p.2 (not_below MOST_WEIGHT (count_in lines p.0) (let most = at_most_all p.0 in omega (arith, most, light)))) in
+      ap (λ b. cond b (Err Heavy) (Ok (together lines))) none
+
+  -- no set has a gap
+  no_gap : (c : Counted) → Member c (frequent_of whole minimum) → has_gap (together lines) c.set ≡ false
+  no_gap c m =
+      let sound = at_Member (IsSound whole minimum) c (frequent_of whole minimum) (recursion_from_All (IsSound whole minimum) (frequent_of whole minimum) (lists_frequent whole minimum).sound) m in
+      let set = c.set in
+      let nonempty = sound.0 in
+      let met = sound.1 in
+      let count = keeps_counts lines set ∙ count_of_asked parts numerator denominator sets lines rise listed said set (frequent_is_asked parts numerator denominator sets lines rise listed said set nonempty met) in
+      none_any (λ subset. is_gap (count_in (together lines) set) subset (count_if (together lines) subset)) (subsets_of_size (length set - 1) set) (λ subset inside.
+      let s = IsSubset-from_Member (length set - 1) set subset nonempty.0 inside in
+      let within = contains_each set subset s.within in
+      let there = asked_subset subset s.rises (λ full. (frequent_is_asked parts numerator denominator sets lines rise listed said subset (s.rises, full) (subsets_are_frequent whole minimum set subset within met))) in
+      ap₂ (λ n o. is_gap n subset o) count (count_together subset there) ∙ not_below (support_of whole subset) (support_of whole set) (support_falls whole set subset within))
+    where
+      asked_subset : (subset : List ℕ) → IsRising subset → (subset ≢ [] → any subset (asked_of sets) ≡ true) → any subset (asked_of sets) ≡ true
+      asked_subset [] up h = any_asked [] sets
+      asked_subset (item ∷ items) up h = h (λ e. cc)
+
+  same_sets : frequent_in (together lines) minimum ≡ frequent_of whole minimum
+  same_sets = keeps_frequent lines minimum ∙ same_list parts numerator denominator sets lines rise listed said
+
+  whole_lines : first_gap (together lines) minimum ≡ None
+  whole_lines =
+      ap (option_map _) (none_found (λ (c : Counted). has_gap (together lines) c.set) (frequent_in (together lines) minimum)
+      (λ c m. no_gap c (subst (Member c) same_sets m)))
+
+  same_total : total_in (together lines) ≡ total_of whole
+  same_total = keeps_counts lines [] ∙ total_is parts numerator denominator sets lines rise listed said
+
+  module _ (question : Question) where
+    abbrev asked : Question
+    asked = of_counts_at question numerator denominator
+
+    same_listing : listing_in asked (together lines) ≡ Ok (listing whole asked)
+    same_listing =
+        let there : has_set (together lines) [] ≡ true = keeps_sets lines [] ∙ in_lines [] (any_asked [] sets) in
+        ap (λ b. cond (needs_total question.ask minimum && not b) (Err NoTotal) (unless_fault (gap_in asked (together lines)) (record { sets = frequent_in (together lines) minimum; total = total_in (together lines) }))) there
+        ∙ no_total (needs_total question.ask minimum)
+        ∙ (λ i. unless_fault (none i) (record { sets = same_sets i; total = same_total i }))
+      where
+        no_total : (b : Bool) → cond (b && false) (Err NoTotal) (unless_fault (gap_in asked (together lines)) (record { sets = frequent_in (together lines) minimum; total = total_in (together lines) }))
+            ≡ unless_fault (gap_in asked (together lines)) (record { sets = frequent_in (together lines) minimum; total = total_in (together lines) })
+        no_total true = refl
+        no_total false = refl
+
+        none_where : (b : Bool) → cond b (first_gap (together lines) minimum) None ≡ None
+        none_where true = whole_lines
+        none_where false = refl
+
+        none : gap_in asked (together lines) ≡ None
+        none = none_where (needs_subsets question.ask)
+
+    answers : (bytes : List ℕ) → counts_of bytes ≡ Ok lines → outcome bytes asked ≡ of_mining (outcome_for (OfBaskets whole None) asked)
+    answers bytes read =
+        ap (λ r. outcome_of (where_read (said_for asked) (by_numbers contents.Counts (where_read together_of r))) asked) read
+        ∙ ap (λ r. outcome_of (where_read (said_for asked) (by_numbers contents.Counts r)) asked) not_heavy
+        ∙ ap (λ r. outcome_of (as_said None r) asked) same_listing
+        ∙ ap of_mining (same_text whole asked None question.ask refl)
+
+    abbrev asked_by_names : Question
+    asked_by_names = of_named_counts_at question numerator denominator
+
+    -- the same of lines by names
+    pub answers_by_names : (names : List (List ℕ)) (bytes : List ℕ) → named_counts_of question.layout.separator question.layout.header [] bytes ≡ Ok (lines, names)
+        → outcome bytes asked_by_names ≡ of_mining (outcome_for (OfBaskets whole (Some names)) asked_by_names)
+    answers_by_names names bytes read =
+        ap (λ r. outcome_of (where_read (said_for asked_by_names) (by_names contents.Counts (where_read named_together_of r))) asked_by_names) read
+        ∙ ap (λ r. outcome_of (where_read (said_for asked_by_names) (by_names contents.Counts (with_names names r))) asked_by_names) not_heavy
+        ∙ ap (λ r. outcome_of (as_said (Some names) r) asked_by_names) same_listing
+        ∙ ap of_mining (same_text whole asked_by_names (Some names) question.ask refl)
+
+pub parts_answer_as_the_whole : TogetherKeepsSets → TogetherKeepsCounts → TogetherKeepsFrequent → PartsAnswerAsTheWhole
+parts_answer_as_the_whole keeps_sets keeps_counts keeps_frequent parts numerator denominator sets question some light rise listed written few =
+    let list = counts_of_parts parts sets in
+    let same = texts_are parts sets in
+    answers keeps_sets keeps_counts keeps_frequent parts numerator denominator sets (lines_from 1 list) rise listed (said_again 1 list) some light question (texts_of_parts parts sets)
+    (ap counts_of same ∙ reports_are_read_back list written (subst (λ text. length text ≤ MOST_BYTES) same few))

@@ -1,0 +1,5 @@
+use Rattle.basket_laws.proofs.OutcomeLemmas.{parts_answer_as_the_whole}
+use Rattle.basket_laws.proofs.outcomes.parts_answer_as_the_whole.Goals as goal
+
+pub returns : goal.returns
+returns c = parts_answer_as_the_whole c.together_keeps_sets.ensures c.together_keeps_counts.ensures c.together_keeps_frequent.ensures

@@ -1,0 +1,13 @@
+//! Laws on texts that are cut.
+ghost use Rattle.basket_laws.specs.Cuts.{CutsAreParts};
+
+use basket_read::laws::{fronts_are_good, good_is_faultless};
+
+/// Each part of a FIMI input that is cut behind line feeds is an input, and the baskets of the parts, one
+/// part behind another, are those of the whole.
+pub fn cuts_are_parts()
+    ensures { CutsAreParts }
+{
+    fronts_are_good();
+    good_is_faultless();
+}

@@ -1,0 +1,20 @@
+//! The law of parts.
+ghost use Rattle.basket_laws.specs.Parts.{CountIsShare, PartsMakeTheWhole, SomePartHasIt};
+
+/// A set that is frequent in all parts together, at a share, is frequent at that share in one of them
+/// (Savasere, Omiecinski and Navathe 1995).
+pub fn some_part_has_it()
+    ensures { SomePartHasIt }
+{}
+
+/// What is counted in each part of some sets that have each set which is frequent in some part, put
+/// together, lists exactly the frequent sets of all parts one behind another, with their counts, in
+/// report order.
+pub fn parts_make_the_whole()
+    ensures { PartsMakeTheWhole }
+{}
+
+/// A minimum that is a count is the share that it has of all baskets.
+pub fn count_is_share()
+    ensures { CountIsShare }
+{}

@@ -1,0 +1,5 @@
+pub mod Together
+pub mod Merge
+pub mod Frequent
+pub mod Gap
+pub mod Laws

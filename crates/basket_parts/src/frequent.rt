@@ -1,0 +1,57 @@
+//! The sets that meet a minimum.
+ghost use Rattle.std.specs.Prelude.{◌≡◌, All, IfOk, filter, map};
+ghost use Rattle.basket_parts.specs.Frequent.{HasRisingSet, counted_of, is_frequent_line};
+ghost use Rattle.basket_parts.specs.Together.{frequent_in, total_in};
+
+use crate::together::Together;
+use basket_core::{CountedSets, Frequent, Minimum};
+use basket_read::CountedLine;
+use std::alloc::{AllocError, Global};
+
+impl Together {
+    /// The nonempty sets that meet the minimum, where the weight of all baskets is the count of the empty
+    /// set, or 0 where that isn't there.
+    pub fn frequent(&self, alloc: Global, minimum: Minimum) -> Result<Frequent, AllocError>
+        ensures frequent { IfOk result (λ frequent. frequent ≡ record { sets = frequent_in self.now minimum; total = total_in self.now }) }
+        ensures rising { All HasRisingSet self.now }
+    {
+        let lines = self.lines();
+        know_rising(lines);
+        let total = self.weight();
+        let sets = frequent_sets(alloc, lines, minimum, total)?;
+        Ok(Frequent::of_counted(sets, total))
+    }
+}
+
+/// Whether the line's set has an item, and its count meets the minimum.
+pub fn is_frequent(line: &CountedLine, minimum: Minimum, total: u64) -> bool
+    ensures { result ≡ is_frequent_line minimum total line.now }
+{
+    !line.set.is_empty() && minimum.met(line.count, total)
+}
+
+fn frequent_sets(
+    alloc: Global,
+    lines: &[CountedLine],
+    minimum: Minimum,
+    total: u64,
+) -> Result<CountedSets, AllocError>
+    ensures { IfOk result (λ sets. sets ≡ map counted_of (filter (is_frequent_line minimum total) lines.now)) }
+{
+    let mut sets = CountedSets::empty(alloc);
+    for line in lines {
+        if is_frequent(line, minimum, total) {
+            sets.push(line.set.copied(alloc)?, line.count)?;
+        }
+    }
+    Ok(sets)
+}
+
+/// Does nothing: the items of each set rise, by its type, and this says so of all of them.
+fn know_rising(lines: &[CountedLine])
+    ensures { All HasRisingSet lines.now }
+{
+    for line in lines {
+        let _items = line.set.items();
+    }
+}

@@ -1,0 +1,163 @@
+-- Which sets of a consistent list are marked, and what is kept of them.
+use Rattle.std.proofs.Common.{◌≡◌, ℕ, ◌+◌, ◌<◌, ◌≤◌, Bool, true, false, not, eqb, ◌&&◌, List, [], ◌∷◌, ◌++◌, length, take, get_or, cond, filter, sym, ap, ◌∙◌, subst, inl, inr, arith}
+use Rattle.std.specs.List.{list_all}
+use Rattle.std.proofs.lemmas.Bool.{cases_Bool, and_parts, and_from, eqb-true, eq-eqb, true≢false, false_from_ne_true}
+use Rattle.std.proofs.lemmas.List.{take_more, append-nil}
+use Rattle.std.proofs.lemmas.List.Elements.{filter-append}
+use Rattle.basket_core.specs.Listing.{Listing}
+use Rattle.basket_sets.specs.declared.counted.Counted.{Counted}
+use Rattle.basket_sets.specs.Itemset.{contains, with_item}
+use Rattle.basket_sets.proofs.theory.Members.{Contains-from_Member}
+use Rattle.basket_sets.proofs.theory.Rising.{same_test}
+use Rattle.basket_rules.specs.Consistency.{IsConsistent}
+use Rattle.basket_rules.specs.Listed.{set_at, count_at}
+use Rattle.basket_rules.specs.Subset.{without, IsWithout}
+use Rattle.basket_rules.specs.declared.covered.Supersets.{Supersets}
+use Rattle.basket_rules.specs.declared.covered.Supersets.TheVariants.{All, SameCount}
+use Rattle.basket_rules.specs.Covered.{AreMarks, HasSuperset, IsBefore, IsMark}
+use Rattle.basket_rules.specs.Condensed.{is_proper_superset, is_closed_in, is_maximal_in, closed_in, maximal_in, AreUnmarked, PassesUnmarked}
+use Rattle.basket_rules.proofs.SubsetLemmas.{not_true, true_not, each_passes, all_pass, contains_without, without_lacks, placed, item_more, contains_less, contains_with_item}
+use Rattle.basket_rules.proofs.SearchLemmas.{none, set_is, count_is, entry_listed, stands_once}
+use Rattle.basket_rules.proofs.theory.Condensed.{with_item_nonempty}
+use Rattle.basket_rules.proofs.theory.Consistency.{set_nonempty, subset_stands}
+
+-- ---- the entries of a list
+
+module _ (list : List Counted) where
+  abbrev entry : ℕ → Counted
+  entry k = record { set = set_at list k; count = count_at list k }
+
+  entry_is : (k : ℕ) (d : Counted) → k < length list → entry k ≡ get_or list k d
+  entry_is k d below = λ i. record { set = set_is list k d below i; count = count_is list k d below i }
+
+  -- what a test says of all entries
+  each_entry : (test : Counted → Bool) → list_all test list ≡ true → (k : ℕ) → k < length list → test (entry k) ≡ true
+  each_entry test h k below =
+      subst (λ x. test x ≡ true) (sym (entry_is k none below)) (each_passes test list h (get_or list k none) (entry_listed list k below))
+
+  all_entries : (test : Counted → Bool) → ((k : ℕ) → k < length list → test (entry k) ≡ true) → list_all test list ≡ true
+  all_entries test h = all_pass test list (λ c m. let p = Contains-from_Member c list m in subst (λ x. test x ≡ true) (entry_is p.0 c p.1 ∙ p.2) (h p.0 p.1))
+
+-- ---- the marks
+
+module _ (list : List Counted) (consistent : IsConsistent list) where
+  -- a set with one item more is a proper superset
+  above_is_superset : (supersets : Supersets) (k : ℕ) → (a : HasSuperset list supersets k) → is_proper_superset (set_at list a.above) (set_at list k) ≡ true
+  above_is_superset supersets k a =
+      let other = set_at list a.above in
+      and_from (contains other (set_at list k)) (not (contains (set_at list k) other))
+      (subst (λ t. contains other t ≡ true) a.without.is (contains_without a.place other))
+      (not_true _ (subst (λ t. contains t other ≡ false) a.without.is (without_lacks a.place other (set_nonempty list consistent a.above a.without.listed).0 a.without.within)))
+
+  -- the list has a set with one item more, whose count is between those of both
+  pub record IsOneMore (k j : ℕ) : Type 0 where
+    pub above : ℕ
+    pub place : ℕ
+    pub without : IsWithout list above place k
+    pub no_lower : count_at list j ≤ count_at list above
+    pub no_higher : count_at list above ≤ count_at list k
+
+  -- it has where it has a proper superset
+  one_more : (k j : ℕ) → k < length list → j < length list → is_proper_superset (set_at list j) (set_at list k) ≡ true → IsOneMore k j
+  one_more k j below there h =
+      let set = set_at list k in
+      let other = set_at list j in
+      let tests = and_parts (contains other set) (not (contains set other)) h in
+      let more = item_more set other (true_not (contains set other) tests.1) in
+      let nonempty = set_nonempty list consistent k below in
+      let s = subset_stands list consistent j (with_item more.0 set) there (with_item_nonempty more.0 set nonempty.0) (contains_with_item more.0 set other more.1 tests.0) in
+      let p = placed more.0 set more.2 in
+      let back = subset_stands list consistent s.place set s.listed nonempty (subst (λ t. contains t set ≡ true) (sym s.is) (contains_less more.0 set)) in
+      let same = ap (count_at list) (stands_once list back.place k consistent.in_order back.listed below back.is) in
+      record {
+        above = s.place;
+        place = p.0;
+        without = record { listed = s.listed; within = subst (λ t. p.0 < length t) (sym s.is) p.1; is = ap (without p.0) s.is ∙ p.2 };
+        no_lower = s.enough;
+        no_higher = omega (arith, same, back.enough);
+      }
+
+  closed_at : (k : ℕ) (mark : Bool) → k < length list → IsMark list SameCount (IsBefore (length list)) k mark → is_closed_in list (entry list k) ≡ not mark
+  closed_at k mark below m = same_test _ _ into back
+    where
+      into : is_closed_in list (entry list k) ≡ true → not mark ≡ true
+      into h = elim (cases_Bool mark) [
+        | inl told ↦ absurd (
+            let a = m.some told in
+            let fails = true_not _ (each_entry list (λ o. not (is_proper_superset o.set (set_at list k) && eqb o.count (count_at list k))) h a.above a.without.listed) in
+            let holds = and_from (is_proper_superset (set_at list a.above) (set_at list k)) (eqb (count_at list a.above) (count_at list k)) (above_is_superset SameCount k a) (eq-eqb (count_at list a.above) (count_at list k) a.matters) in
+            true≢false (sym holds ∙ fails))
+        | inr unmarked ↦ not_true mark unmarked
+      ]
+
+      back : not mark ≡ true → is_closed_in list (entry list k) ≡ true
+      back h = all_entries list (λ o. not (is_proper_superset o.set (set_at list k) && eqb o.count (count_at list k))) (λ j there. not_true _ (false_from_ne_true _ (λ e.
+          let tests = and_parts (is_proper_superset (set_at list j) (set_at list k)) (eqb (count_at list j) (count_at list k)) e in
+          let o = one_more k j below there tests.0 in
+          let same = eqb-true (count_at list j) (count_at list k) tests.1 in
+          let low = o.no_lower in
+          let high = o.no_higher in
+          true≢false (sym (m.each consistent.in_order o.above o.place o.without.listed o.without (omega (arith, same, low, high))) ∙ true_not mark h))))
+
+  maximal_at : (k : ℕ) (mark : Bool) → k < length list → IsMark list All (IsBefore (length list)) k mark → is_maximal_in list (entry list k) ≡ not mark
+  maximal_at k mark below m = same_test _ _ into back
+    where
+      into : is_maximal_in list (entry list k) ≡ true → not mark ≡ true
+      into h = elim (cases_Bool mark) [
+        | inl told ↦ absurd (
+            let a = m.some told in
+            let fails = true_not _ (each_entry list (λ o. not (is_proper_superset o.set (set_at list k))) h a.above a.without.listed) in
+            true≢false (sym (above_is_superset All k a) ∙ fails))
+        | inr unmarked ↦ not_true mark unmarked
+      ]
+
+      back : not mark ≡ true → is_maximal_in list (entry list k) ≡ true
+      back h = all_entries list (λ o. not (is_proper_superset o.set (set_at list k))) (λ j there. not_true _ (false_from_ne_true _ (λ e.
+          let o = one_more k j below there e in
+          true≢false (sym (m.each consistent.in_order o.above o.place o.without.listed o.without tt) ∙ true_not mark h))))
+
+-- ---- the loops
+
+-- so far those were kept that aren't marked
+abbrev pub IsKept : List Bool → List Counted → ℕ → List Counted → Type 0
+IsKept marks list number kept = (test : Counted → Bool) → PassesUnmarked list marks test → kept ≡ filter test (take number list)
+
+pub kept_more : (marks : List Bool) (list : List Counted) (number : ℕ) (kept : List Counted) → IsKept marks list number kept → number < length list
+    → get_or marks number false ≡ false → IsKept marks list (number + 1) (kept ++ get_or list number none ∷ [])
+kept_more marks list number kept so below unmarked test passes =
+    let c = get_or list number none in
+    let e : test c ≡ true = passes number none below ∙ not_true (get_or marks number false) unmarked in
+    ap (λ l. l ++ c ∷ []) (so test passes)
+    ∙ ap (λ l. filter test (take number list) ++ l) (sym (ap (λ b. cond b (c ∷ []) []) e))
+    ∙ sym (filter-append test (take number list) (c ∷ []))
+    ∙ ap (filter test) (sym (take_more list number none below))
+
+pub dropped_more : (marks : List Bool) (list : List Counted) (number : ℕ) (kept : List Counted) → IsKept marks list number kept → number < length list
+    → get_or marks number false ≡ true → IsKept marks list (number + 1) kept
+dropped_more marks list number kept so below marked test passes =
+    let c = get_or list number none in
+    let e : test c ≡ false = passes number none below ∙ ap not marked in
+    so test passes ∙ sym (append-nil (filter test (take number list)))
+    ∙ ap (λ l. filter test (take number list) ++ l) (sym (ap (λ b. cond b (c ∷ []) []) e))
+    ∙ sym (filter-append test (take number list) (c ∷ []))
+    ∙ ap (filter test) (sym (take_more list number none below))
+
+-- ---- all sets
+
+all_closed : (list : List Counted) (marks : List Bool) (kept : List Counted) → AreMarks list SameCount (IsBefore (length list)) marks
+    → AreUnmarked list marks kept → IsConsistent list → kept ≡ closed_in list
+all_closed list marks kept marked so consistent = so (is_closed_in list) (λ k d below.
+    ap (is_closed_in list) (sym (entry_is list k d below)) ∙ closed_at list consistent k (get_or marks k false) below (marked.each k below))
+
+all_maximal : (list : List Counted) (marks : List Bool) (kept : List Counted) → AreMarks list All (IsBefore (length list)) marks
+    → AreUnmarked list marks kept → IsConsistent list → kept ≡ maximal_in list
+all_maximal list marks kept marked so consistent = so (is_maximal_in list) (λ k d below.
+    ap (is_maximal_in list) (sym (entry_is list k d below)) ∙ maximal_at list consistent k (get_or marks k false) below (marked.each k below))
+
+pub are_closed : (listing : Listing) (list : List Counted) (marks : List Bool) (kept : List Counted) → list ≡ listing.sets
+    → AreMarks list SameCount (IsBefore (length list)) marks → AreUnmarked list marks kept → IsConsistent listing.sets → kept ≡ closed_in listing.sets
+are_closed listing list marks kept e marked so = subst (λ l. IsConsistent l → kept ≡ closed_in l) e (all_closed list marks kept marked so)
+
+pub are_maximal : (listing : Listing) (list : List Counted) (marks : List Bool) (kept : List Counted) → list ≡ listing.sets
+    → AreMarks list All (IsBefore (length list)) marks → AreUnmarked list marks kept → IsConsistent listing.sets → kept ≡ maximal_in listing.sets
+are_maximal listing list marks kept e marked so = subst (λ l. IsConsistent l → kept ≡ maximal_in l) e (all_maximal list marks kept marked so)

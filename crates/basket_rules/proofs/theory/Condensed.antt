@@ -1,0 +1,174 @@
+-- Supersets with one item more decide which frequent sets are closed and which are maximal, and so does the list of the frequent sets.
+use Rattle.std.proofs.Common.{◌≡◌, ℕ, Bool, true, false, not, eqb, ◌&&◌, List, filter, refl, sym, ap, ◌∙◌, subst, inl, inr, arith}
+use Rattle.std.specs.List.{list_all}
+use Rattle.std.proofs.lemmas.Bool.{and_parts, and_from, eqb-true, eq-eqb, true≢false, false_from_ne_true}
+use Rattle.basket_core.specs.Listing.{Listing}
+use Rattle.basket_sets.specs.declared.weighted.Weighted.{Weighted}
+use Rattle.basket_sets.specs.declared.counted.Counted.{Counted}
+use Rattle.basket_sets.specs.declared.minimum.Minimum.{Minimum}
+use Rattle.basket_sets.specs.Frequent.{is_frequent, counted, frequent_of, IsNonemptySet}
+use Rattle.basket_sets.specs.Itemset.{IsRising, has, contains, with_item}
+use Rattle.basket_sets.specs.Minimum.{meets}
+use Rattle.basket_sets.specs.Subsets.{subsets_of}
+use Rattle.basket_sets.specs.Support.{support_of, total_of, items_of, all_items}
+use Rattle.basket_sets.proofs.theory.Members.{Member, Member-filter, Member-from_filter, Member-map, Member-from_map}
+use Rattle.basket_sets.proofs.theory.Rising.{rising-rises, same_test, with_item-rises, Member-with_item, Member-into_with_item}
+use Rattle.basket_sets.proofs.theory.Subsets.{subset_from_Member, Member-subsets}
+use Rattle.basket_sets.proofs.theory.Support.{support_falls, subsets_are_frequent, frequent_items}
+use Rattle.basket_rules.specs.Consistency.{IsConsistent}
+use Rattle.basket_rules.specs.Condensed.{is_proper_superset, supersets_of, none_supported_alike, none_frequent, is_closed, is_maximal, is_closed_in, is_maximal_in, closed_in, maximal_in, extensions_of, OneItemMoreDecides, ListDecidesClosed, ListDecidesMaximal, AreClosed, AreMaximal}
+use Rattle.basket_rules.proofs.SubsetLemmas.{not_true, true_not, each_passes, all_pass, filter_same, item_more, contains_less, contains_with_item, with_item_lacks}
+use Rattle.basket_rules.proofs.theory.Consistency.{frequent_is_consistent, sound_of, frequent_is_listed}
+
+-- a set with an item more is a nonempty set
+pub with_item_nonempty : (item : ℕ) (set : List ℕ) → IsRising set → IsNonemptySet (with_item item set)
+with_item_nonempty item set up = (with_item-rises item set up, λ e. subst (Member item) e (Member-into_with_item item set item (inl refl)))
+
+-- ---- supersets with one item more
+
+module _ (baskets : List Weighted) (minimum : Minimum) where
+  items_rise : IsRising (items_of baskets)
+  items_rise = rising-rises (all_items baskets)
+
+  -- a frequent set of items that properly contains another is one of its supersets
+  is_superset : (set other : List ℕ) → IsNonemptySet other → ((item : ℕ) → Member item other → Member item (items_of baskets))
+      → contains other set ≡ true → contains set other ≡ false → Member other (supersets_of baskets set)
+  is_superset set other nonempty within h lack =
+      Member-from_filter (λ o. is_proper_superset o set) other (subsets_of (items_of baskets))
+      (Member-subsets (items_of baskets) other items_rise nonempty.0 nonempty.1 within)
+      (and_from (contains other set) (not (contains set other)) h (not_true (contains set other) lack))
+
+  -- a superset has an item of the database that the set lacks
+  pub record HasMore (set other : List ℕ) : Type 0 where
+    pub item : ℕ
+    pub of_database : Member item (items_of baskets)
+    pub lacks : has set item ≡ false
+    pub within : contains other (with_item item set) ≡ true
+
+  has_more : (set other : List ℕ) → Member other (supersets_of baskets set) → HasMore set other
+  has_more set other m =
+      let p = Member-filter (λ o. is_proper_superset o set) other (subsets_of (items_of baskets)) m in
+      let tests = and_parts (contains other set) (not (contains set other)) p.1 in
+      let more = item_more set other (true_not (contains set other) tests.1) in
+      let s = subset_from_Member (items_of baskets) other items_rise p.0 in
+      record { item = more.0; of_database = s.2 more.0 more.1; lacks = more.2; within = contains_with_item more.0 set other more.1 tests.0 }
+
+  -- an extension by an item of the database is a proper superset
+  extension_is_superset : (set other : List ℕ) → IsRising set → ((item : ℕ) → Member item set → Member item (items_of baskets))
+      → Member other (extensions_of baskets set) → Member other (supersets_of baskets set)
+  extension_is_superset set other up within m =
+      let p = Member-from_map (λ item. with_item item set) other (filter (λ item. not (has set item)) (items_of baskets)) m in
+      let q = Member-filter (λ item. not (has set item)) p.0 (items_of baskets) p.1 in
+      subst (λ o. Member o (supersets_of baskets set)) p.2
+      (is_superset set (with_item p.0 set) (with_item_nonempty p.0 set up)
+      (λ item n. elim (Member-with_item p.0 set item n) [ inl e ↦ subst (λ y. Member y (items_of baskets)) e q.0 | inr k ↦ within item k ])
+      (contains_less p.0 set) (with_item_lacks p.0 set (true_not (has set p.0) q.1)))
+
+  into_extensions : (set : List ℕ) (item : ℕ) → Member item (items_of baskets) → has set item ≡ false → Member (with_item item set) (extensions_of baskets set)
+  into_extensions set item m lack =
+      Member-map (λ y. with_item y set) item (filter (λ y. not (has set y)) (items_of baskets))
+      (Member-from_filter (λ y. not (has set y)) item (items_of baskets) m (not_true (has set item) lack))
+
+  -- between a set and a superset of the same support all sets have that support
+  support_between : (set other : List ℕ) (more : HasMore set other) → eqb (support_of baskets other) (support_of baskets set) ≡ true
+      → support_of baskets (with_item more.item set) ≡ support_of baskets set
+  support_between set other more e =
+      let same = eqb-true (support_of baskets other) (support_of baskets set) e in
+      let low = support_falls baskets (with_item more.item set) set (contains_less more.item set) in
+      let high = support_falls baskets other (with_item more.item set) more.within in
+      omega arith
+
+  -- what a test says of each superset, it says of each set with one item more, and the other way round where it is kept in between
+  by_extensions : (test : List ℕ → Bool) (set : List ℕ) → IsRising set → ((item : ℕ) → Member item set → Member item (items_of baskets))
+      → ((other : List ℕ) (more : HasMore set other) → test other ≡ true → test (with_item more.item set) ≡ true)
+      → list_all (λ o. not (test o)) (supersets_of baskets set) ≡ list_all (λ o. not (test o)) (extensions_of baskets set)
+  by_extensions test set up within kept = same_test _ _
+      (λ h. all_pass (λ o. not (test o)) (extensions_of baskets set)
+      (λ o m. each_passes (λ p. not (test p)) (supersets_of baskets set) h o (extension_is_superset set o up within m)))
+      (λ h. all_pass (λ o. not (test o)) (supersets_of baskets set) (λ o m. not_true (test o) (false_from_ne_true (test o) (λ e.
+      let more = has_more set o m in
+      let fails = true_not (test (with_item more.item set)) (each_passes (λ p. not (test p)) (extensions_of baskets set) h (with_item more.item set) (into_extensions set more.item more.of_database more.lacks)) in
+      true≢false (sym (kept o more e) ∙ fails)))))
+
+  closed_by_extensions : (set : List ℕ) → IsRising set → ((item : ℕ) → Member item set → Member item (items_of baskets))
+      → is_closed baskets set ≡ none_supported_alike baskets set (extensions_of baskets set)
+  closed_by_extensions set up within = by_extensions (λ o. eqb (support_of baskets o) (support_of baskets set)) set up within
+      (λ other more e. eq-eqb (support_of baskets (with_item more.item set)) (support_of baskets set) (support_between set other more e))
+
+  maximal_by_extensions : (set : List ℕ) → IsRising set → ((item : ℕ) → Member item set → Member item (items_of baskets))
+      → is_maximal baskets minimum set ≡ none_frequent baskets minimum (extensions_of baskets set)
+  maximal_by_extensions set up within = by_extensions (is_frequent baskets minimum) set up within
+      (λ other more e. subsets_are_frequent baskets minimum other (with_item more.item set) more.within e)
+
+pub one_item_more_decides : OneItemMoreDecides
+one_item_more_decides baskets minimum set nonempty often =
+    let within = frequent_items baskets minimum set often in
+    (closed_by_extensions baskets minimum set nonempty.0 within, maximal_by_extensions baskets minimum set nonempty.0 within)
+
+-- ---- the list decides
+
+module _ (baskets : List Weighted) (minimum : Minimum) (c : Counted) (here : Member c (frequent_of baskets minimum)) where
+  -- a superset in the list is one of the database
+  listed_superset : (other : Counted) → Member other (frequent_of baskets minimum) → is_proper_superset other.set c.set ≡ true → Member other.set (supersets_of baskets c.set)
+  listed_superset other m h =
+      let sound = sound_of baskets minimum other m in
+      let tests = and_parts (contains other.set c.set) (not (contains c.set other.set)) h in
+      is_superset baskets minimum c.set other.set sound.0 (frequent_items baskets minimum other.set sound.1) tests.0 (true_not (contains c.set other.set) tests.1)
+
+  -- a frequent superset of the database is in the list
+  superset_listed : (other : List ℕ) → Member other (supersets_of baskets c.set) → is_frequent baskets minimum other ≡ true
+      → Member (counted baskets other) (frequent_of baskets minimum) × (is_proper_superset other c.set ≡ true)
+  superset_listed other m often =
+      let p = Member-filter (λ o. is_proper_superset o c.set) other (subsets_of (items_of baskets)) m in
+      let s = subset_from_Member (items_of baskets) other (items_rise baskets minimum) p.0 in
+      (frequent_is_listed baskets minimum other (s.0, s.1) often, p.1)
+
+  closed_by_list : is_closed baskets c.set ≡ is_closed_in (frequent_of baskets minimum) c
+  closed_by_list = same_test _ _ into back
+    where
+      own : c.count ≡ support_of baskets c.set
+      own = (sound_of baskets minimum c here).2
+
+      into : is_closed baskets c.set ≡ true → is_closed_in (frequent_of baskets minimum) c ≡ true
+      into h = all_pass (λ o. not (is_proper_superset o.set c.set && eqb o.count c.count)) (frequent_of baskets minimum) (λ o m. not_true _ (false_from_ne_true _ (λ e.
+          let tests = and_parts (is_proper_superset o.set c.set) (eqb o.count c.count) e in
+          let same = sym (sound_of baskets minimum o m).2 ∙ eqb-true o.count c.count tests.1 ∙ own in
+          let fails = true_not _ (each_passes (λ t. not (eqb (support_of baskets t) (support_of baskets c.set))) (supersets_of baskets c.set) h o.set (listed_superset o m tests.0)) in
+          true≢false (sym (eq-eqb (support_of baskets o.set) (support_of baskets c.set) same) ∙ fails))))
+
+      back : is_closed_in (frequent_of baskets minimum) c ≡ true → is_closed baskets c.set ≡ true
+      back h = all_pass (λ t. not (eqb (support_of baskets t) (support_of baskets c.set))) (supersets_of baskets c.set) (λ t m. not_true _ (false_from_ne_true _ (λ e.
+          let same = eqb-true (support_of baskets t) (support_of baskets c.set) e in
+          let p = superset_listed t m (ap (λ n. meets minimum n (total_of baskets)) same ∙ (sound_of baskets minimum c here).1) in
+          let fails = true_not _ (each_passes (λ o. not (is_proper_superset o.set c.set && eqb o.count c.count)) (frequent_of baskets minimum) h (counted baskets t) p.0) in
+          true≢false (sym (and_from (is_proper_superset t c.set) (eqb (support_of baskets t) c.count) p.1 (eq-eqb (support_of baskets t) c.count (same ∙ sym own))) ∙ fails))))
+
+  maximal_by_list : is_maximal baskets minimum c.set ≡ is_maximal_in (frequent_of baskets minimum) c
+  maximal_by_list = same_test _ _ into back
+    where
+      into : is_maximal baskets minimum c.set ≡ true → is_maximal_in (frequent_of baskets minimum) c ≡ true
+      into h = all_pass (λ o. not (is_proper_superset o.set c.set)) (frequent_of baskets minimum) (λ o m. not_true _ (false_from_ne_true _ (λ e.
+          let fails = true_not _ (each_passes (λ t. not (is_frequent baskets minimum t)) (supersets_of baskets c.set) h o.set (listed_superset o m e)) in
+          true≢false (sym (sound_of baskets minimum o m).1 ∙ fails))))
+
+      back : is_maximal_in (frequent_of baskets minimum) c ≡ true → is_maximal baskets minimum c.set ≡ true
+      back h = all_pass (λ t. not (is_frequent baskets minimum t)) (supersets_of baskets c.set) (λ t m. not_true _ (false_from_ne_true _ (λ e.
+          let p = superset_listed t m e in
+          let fails = true_not _ (each_passes (λ o. not (is_proper_superset o.set c.set)) (frequent_of baskets minimum) h (counted baskets t) p.0) in
+          true≢false (sym p.1 ∙ fails))))
+
+pub list_decides_closed : ListDecidesClosed
+list_decides_closed baskets minimum = filter_same (λ c. is_closed baskets c.set) (is_closed_in (frequent_of baskets minimum)) (frequent_of baskets minimum) (closed_by_list baskets minimum)
+
+pub list_decides_maximal : ListDecidesMaximal
+list_decides_maximal baskets minimum =
+    filter_same (λ c. is_maximal baskets minimum c.set) (is_maximal_in (frequent_of baskets minimum)) (frequent_of baskets minimum) (maximal_by_list baskets minimum)
+
+-- so the closed and the maximal ones of a list are those of baskets whose list it is
+pub closed_of_baskets : (listing : Listing) (kept : List Counted) → (IsConsistent listing.sets → kept ≡ closed_in listing.sets) → AreClosed listing kept
+closed_of_baskets listing kept so baskets minimum is =
+    so (subst IsConsistent (sym is.sets) (frequent_is_consistent baskets minimum)) ∙ ap closed_in is.sets ∙ sym (list_decides_closed baskets minimum)
+
+pub maximal_of_baskets : (listing : Listing) (kept : List Counted) → (IsConsistent listing.sets → kept ≡ maximal_in listing.sets) → AreMaximal listing kept
+maximal_of_baskets listing kept so baskets minimum is =
+    so (subst IsConsistent (sym is.sets) (frequent_is_consistent baskets minimum)) ∙ ap maximal_in is.sets ∙ sym (list_decides_maximal baskets minimum)

@@ -1,0 +1,136 @@
+-- The confidence of rules falls as the right side grows, and the list of the frequent sets decides their rules.
+use Rattle.std.proofs.Common.{leb, ◌≡◌, ◌≢◌, ℕ, ◌*◌, ◌<◌, ◌≤◌, true, false, not, ltb, List, [], length, map, filter, get_or, sym, ap, ◌∙◌, subst, inl, inr, arith}
+use Rattle.std.proofs.lemmas.Bool.{cases_Bool, leb-true, le-leb, ltb-true, true≢false, false_from_ne_true}
+use Rattle.std.proofs.lemmas.List.Kept.{IsStrictlySortedBy-filter}
+use Rattle.std.specs.Ordering.{nat_cmp}
+use Rattle.basket_core.specs.Fraction.{lowest}
+use Rattle.basket_core.specs.Listing.{Listing}
+use Rattle.basket_sets.specs.declared.weighted.Weighted.{Weighted}
+use Rattle.basket_sets.specs.declared.minimum.Minimum.{Minimum}
+use Rattle.basket_sets.specs.Frequent.{is_frequent, frequent_of, IsNonemptySet}
+use Rattle.basket_sets.specs.Itemset.{IsRising, has, contains}
+use Rattle.basket_sets.specs.Subsets.{subsets_of}
+use Rattle.basket_sets.specs.Support.{support_of, total_of}
+use Rattle.basket_sets.proofs.theory.Members.{Member, Member-filter, Member-from_filter}
+use Rattle.basket_sets.proofs.theory.Rising.{has_each, contains_each, has-from_Member, Member-from_has, length-le-contains}
+use Rattle.basket_sets.proofs.theory.Subsets.{subset_from_Member}
+use Rattle.basket_sets.proofs.theory.Support.{support_falls, subsets_are_frequent}
+use Rattle.basket_rules.specs.declared.association.Rule.{Rule}
+use Rattle.basket_rules.specs.Consistency.{count_in, IsConsistent}
+use Rattle.basket_rules.specs.Listed.{IsListingOf, set_at}
+use Rattle.basket_rules.specs.Rules.{difference, right_sides_of, is_confident, rule_of, rules_with, is_confident_among, rule_among, rules_among_with, rules_among, ConfidenceFalls, ListDecidesRules, AreRules, AreRulesWith}
+use Rattle.basket_rules.proofs.SearchLemmas.{none, set_is, entry_listed}
+use Rattle.basket_rules.proofs.SubsetLemmas.{not_true, true_not, filter_same, map_same, flat_map_same}
+use Rattle.basket_rules.proofs.theory.Consistency.{count_is_support, frequent_is_consistent, sound_of}
+
+-- ---- what is left of a set
+
+Member-difference : (set other : List ℕ) (item : ℕ) → Member item (difference set other) → Member item set × (has other item ≡ false)
+Member-difference set other item m = let p = Member-filter (λ i. not (has other i)) item set m in (p.0, true_not (has other item) p.1)
+
+into_difference : (set other : List ℕ) (item : ℕ) → Member item set → has other item ≡ false → Member item (difference set other)
+into_difference set other item m lack = Member-from_filter (λ i. not (has other i)) item set m (not_true (has other item) lack)
+
+pub difference-rises : (set other : List ℕ) → IsRising set → IsRising (difference set other)
+difference-rises set other up = IsStrictlySortedBy-filter nat_cmp (λ i. not (has other i)) set up
+
+-- the larger what is taken away, the smaller what is left
+pub difference_falls : (set larger smaller : List ℕ) → contains larger smaller ≡ true → contains (difference set smaller) (difference set larger) ≡ true
+difference_falls set larger smaller h = contains_each (difference set smaller) (difference set larger) (λ item m.
+    let p = Member-difference set larger item m in
+    into_difference set smaller item p.0 (false_from_ne_true (has smaller item) (λ e.
+    true≢false (sym (has-from_Member larger item (has_each larger smaller h item (Member-from_has smaller item e))) ∙ p.1))))
+
+pub contains_difference : (set other : List ℕ) → contains set (difference set other) ≡ true
+contains_difference set other = contains_each set (difference set other) (λ item m. (Member-difference set other item m).0)
+
+-- something is left of a larger set
+pub difference_left : (set other : List ℕ) → IsRising set → IsRising other → length other < length set → difference set other ≢ []
+difference_left set other up over less e =
+    let long = length-le-contains set other up over (λ item m. elim (cases_Bool (has other item)) [
+      | inl h ↦ Member-from_has other item h
+      | inr h ↦ absurd (subst (Member item) e (into_difference set other item m h))
+    ]) in
+    omega arith
+
+-- ---- confidence
+
+pub scaled : (p s t c : ℕ) → s ≤ t → p * t ≤ c → p * s ≤ c
+scaled p s t c le h = grind arith
+
+pub confidence_falls : ConfidenceFalls
+confidence_falls baskets confidence union right part h k =
+    let bound = support_falls baskets (difference union part) (difference union right) (difference_falls union right part h) in
+    le-leb (confidence.0 * support_of baskets (difference union part)) (support_of baskets union * confidence.1)
+    (scaled confidence.0 (support_of baskets (difference union part)) (support_of baskets (difference union right)) (support_of baskets union * confidence.1) bound
+    (leb-true (confidence.0 * support_of baskets (difference union right)) (support_of baskets union * confidence.1) k))
+
+-- ---- the list decides
+
+abbrev listing_of : List Weighted → Minimum → Listing
+listing_of baskets minimum = record { sets = frequent_of baskets minimum; total = total_of baskets }
+
+module _ (baskets : List Weighted) (minimum : Minimum) (union : List ℕ) (nonempty : IsNonemptySet union) (often : is_frequent baskets minimum union ≡ true) where
+  -- the counts of the union and of the sides of its rules are supports
+  pub record AreSupports (right : List ℕ) : Type 0 where
+    pub whole : support_of baskets union ≡ count_in (frequent_of baskets minimum) union
+    pub rest : support_of baskets (difference union right) ≡ count_in (frequent_of baskets minimum) (difference union right)
+    pub side : support_of baskets right ≡ count_in (frequent_of baskets minimum) right
+
+  are_supports : (right : List ℕ) → Member right (right_sides_of union) → AreSupports right
+  are_supports right m =
+      let p = Member-filter (λ r. ltb (length r) (length union)) right (subsets_of union) m in
+      let s = subset_from_Member union right nonempty.0 p.0 in
+      let left = difference union right in
+      let some = difference_left union right nonempty.0 s.0 (ltb-true (length right) (length union) p.1) in
+      record {
+        whole = sym (count_is_support baskets minimum union nonempty often);
+        rest = sym (count_is_support baskets minimum left (difference-rises union right nonempty.0, some) (subsets_are_frequent baskets minimum union left (contains_difference union right) often));
+        side = sym (count_is_support baskets minimum right (s.0, s.1) (subsets_are_frequent baskets minimum union right (contains_each union right s.2) often));
+      }
+
+  pub rules_with_by_list : (confidence : ℕ × ℕ) → rules_with baskets confidence union ≡ rules_among_with (listing_of baskets minimum) confidence union
+  rules_with_by_list confidence =
+      map_same (rule_of baskets union) (rule_among (listing_of baskets minimum) union) (filter (is_confident baskets confidence union) (right_sides_of union))
+      (λ right m. rule right (are_supports right (Member-filter (is_confident baskets confidence union) right (right_sides_of union) m).0))
+      ∙ ap (map (rule_among (listing_of baskets minimum) union))
+      (filter_same (is_confident baskets confidence union) (is_confident_among (listing_of baskets minimum) confidence union) (right_sides_of union)
+      (λ right m. test right (are_supports right m)))
+    where
+      rule : (right : List ℕ) → AreSupports right → rule_of baskets union right ≡ rule_among (listing_of baskets minimum) union right
+      rule right are = λ i. record {
+        left = difference union right;
+        right = right;
+        count = are.whole i;
+        confidence = lowest (are.whole i) (are.rest i);
+        lift = lowest (are.whole i * total_of baskets) (are.rest i * are.side i);
+      }
+
+      test : (right : List ℕ) → AreSupports right → is_confident baskets confidence union right ≡ is_confident_among (listing_of baskets minimum) confidence union right
+      test right are = λ i. leb (confidence.0 * are.rest i) (are.whole i * confidence.1)
+
+pub list_decides_rules : ListDecidesRules
+list_decides_rules baskets minimum confidence =
+    flat_map_same (λ c. rules_with baskets confidence c.set) (λ c. rules_among_with (listing_of baskets minimum) confidence c.set) (frequent_of baskets minimum)
+    (λ c m. let sound = sound_of baskets minimum c m in rules_with_by_list baskets minimum c.set sound.0 sound.1 confidence)
+
+-- ---- so the rules of a listing are those of baskets whose listing it is
+
+listing_is : (baskets : List Weighted) (minimum : Minimum) (listing : Listing) → IsListingOf baskets minimum listing → listing ≡ listing_of baskets minimum
+listing_is baskets minimum listing is = λ i. record { sets = is.sets i; total = is.total i }
+
+pub rules_of_baskets : (listing : Listing) (confidence : ℕ × ℕ) (rules : List Rule) → (IsConsistent listing.sets → rules ≡ rules_among listing confidence) → AreRules listing confidence rules
+rules_of_baskets listing confidence rules so baskets minimum is =
+    so (subst IsConsistent (sym is.sets) (frequent_is_consistent baskets minimum))
+    ∙ ap (λ l. rules_among l confidence) (listing_is baskets minimum listing is) ∙ sym (list_decides_rules baskets minimum confidence)
+
+pub rules_with_of_baskets : (listing : Listing) (confidence : ℕ × ℕ) (number : ℕ) (rules : List Rule) → number < length listing.sets
+    → (IsConsistent listing.sets → rules ≡ rules_among_with listing confidence (set_at listing.sets number)) → AreRulesWith listing confidence number rules
+rules_with_of_baskets listing confidence number rules below so baskets minimum is =
+    let union = set_at listing.sets number in
+    let c = get_or listing.sets number none in
+    let sound = sound_of baskets minimum c (subst (Member c) is.sets (entry_listed listing.sets number below)) in
+    let here = sym (set_is listing.sets number none below) in
+    so (subst IsConsistent (sym is.sets) (frequent_is_consistent baskets minimum))
+    ∙ ap (λ l. rules_among_with l confidence union) (listing_is baskets minimum listing is)
+    ∙ sym (rules_with_by_list baskets minimum union (subst IsNonemptySet here sound.0) (subst (λ t. is_frequent baskets minimum t ≡ true) here sound.1) confidence)

@@ -1,0 +1,96 @@
+//! Counts of given sets, from two readers.
+ghost use Rattle.std.specs.Prelude.{◌≡◌, false};
+
+use super::*;
+
+const SETS: &[u8] = b"2 1 (7)\n3\n1 2\n\n9 4294967295 (1)\n";
+
+/// The sets by hand: 1 and 2 are together in the baskets 1, 4, 8 and 9.
+const COUNTS: &[u8] = b"(9)\n1 2 (4)\n3 (6)\n9 4294967295 (0)\n";
+
+#[test]
+fn counts_are_the_same_however_bytes_are_given_and_baskets_shared(
+    rt: HostRuntime,
+) -> Result<(), Fail> {
+    for step in [1, 7, 65_536] {
+        for workers in [1, 4] {
+            let plan = CountPlan::of(Layout::of(Form::Fimi)).with_workers(workers);
+            let mut sets = MemSource::new(SETS, step, None);
+            let mut reader = MemSource::new(NINE_BASKETS, step, None);
+            let mut writer = MemSink::new(rt.alloc(), 100, step, false)?;
+            let result = counted(&rt, rt.alloc(), &plan, &mut sets, &mut reader, &mut writer)?;
+            assert_eq!(rt; result, Ok(()), "by {step} and {workers} workers");
+            assert_eq!(rt; writer.bytes(), COUNTS, "by {step} and {workers} workers");
+        }
+    }
+    Ok(())
+}
+
+#[test]
+fn counts_of_parts_one_behind_another_are_added_up(rt: HostRuntime) -> Result<(), Fail> {
+    let parts = b"(4)\n1 2 (2)\n9 4294967295 (0)\n3 (1)\n3 (5)\n1 2 (2)\n(5)\n9 4294967295 (0)\n";
+    let plan = CountPlan::of(Layout::of(Form::Counts));
+    let mut sets = MemSource::new(SETS, 100, None);
+    let mut reader = MemSource::new(parts, 100, None);
+    let mut writer = MemSink::new(rt.alloc(), 100, 100, false)?;
+    let result = counted(&rt, rt.alloc(), &plan, &mut sets, &mut reader, &mut writer)?;
+    assert_eq!(rt; result, Ok(()));
+    assert_eq!(rt; writer.bytes(), COUNTS);
+    Ok(())
+}
+
+#[test]
+fn each_reader_that_fails_is_told_and_nothing_is_written(rt: HostRuntime) -> Result<(), Fail> {
+    let cases = [
+        (Some(3), None, RunFault::Sets(ReadFault::Read)),
+        (Some(0), Some(0), RunFault::Sets(ReadFault::Read)),
+        (None, Some(3), RunFault::Input(ReadFault::Read)),
+    ];
+    for (before_sets, before_input, fault) in cases {
+        for plan in [CountPlan::of(Layout::of(Form::Fimi)), CountPlan::of(Layout::of(Form::Counts))] {
+            let mut sets = MemSource::new(SETS, 1, before_sets);
+            let mut reader = MemSource::new(b"1 2 3", 1, before_input);
+            let mut writer = MemSink::new(rt.alloc(), 100, 100, false)?;
+            let result = counted(&rt, rt.alloc(), &plan, &mut sets, &mut reader, &mut writer)?;
+            assert_eq!(rt; result, Err(fault));
+            assert_eq!(rt; writer.bytes(), b"".as_slice());
+            assert_eq!(rt; status_of(&fault), 4);
+        }
+    }
+    Ok(())
+}
+
+#[test]
+fn a_set_without_a_count_is_told_by_its_place(rt: HostRuntime) -> Result<(), Fail> {
+    let plan = CountPlan::of(Layout::of(Form::Counts));
+    let mut sets = MemSource::new(SETS, 100, None);
+    let mut reader = MemSource::new(b"(9)\n1 2 (4)\n", 100, None);
+    let mut writer = MemSink::new(rt.alloc(), 100, 100, false)?;
+    let result = counted(&rt, rt.alloc(), &plan, &mut sets, &mut reader, &mut writer)?;
+    assert_eq!(rt; result, Err(RunFault::Uncounted { nth: 2 }));
+    assert_eq!(rt; writer.bytes(), b"".as_slice());
+    Ok(())
+}
+
+/// Counts the sets. Want of memory is a failure of its own.
+fn counted<R: Threads + Sync, S: Source, T: Source>(
+    rt: &R,
+    alloc: Global,
+    plan: &CountPlan,
+    sets: &mut S,
+    reader: &mut T,
+    writer: &mut MemSink,
+) -> Result<Result<(), RunFault>, Fail>
+    requires sets { S.has_failed sets.old ≡ false }
+    requires reader { T.has_failed reader.old ≡ false }
+    requires writer { ⟦<MemSink as Sink>⟧.has_failed writer.old ≡ false }
+{
+    match run_count(&NoRandomBytes(rt), alloc, plan, sets, reader, writer) {
+        Err(
+            RunFault::Sets(ReadFault::Memory)
+            | RunFault::Input(ReadFault::Memory)
+            | RunFault::Mine(MineFault::Memory),
+        ) => Err(Fail::from(AllocError)),
+        result => Ok(result),
+    }
+}

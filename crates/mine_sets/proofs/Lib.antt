@@ -1,0 +1,2 @@
+mod SortLemmas
+mod PlaceLemmas

@@ -1,0 +1,67 @@
+"""Frequent itemsets and association rules, exactly counted by the program basket.
+
+`items`, `sets`, `closed`, `maximal`, `rules` and `count` run the program and answer data frames
+in the order of its report. All take the baskets as one of these:
+
+- a data frame with a row for each item of a basket: `basket=` and `item=` name its columns,
+  and `weight=` one with the weight of the row's basket, if there is one. Rows may stand in
+  any order, and repeated rows count once;
+- a data frame with a row for each basket and a column of true and false (or 1 and 0, also
+  sparse) for each item; `weight=` names a column that is no item;
+- an iterable of baskets, each an iterable of hashable labels;
+- a matrix of `scipy.sparse` with a row for each basket; `names=` are the labels of its columns;
+- the path of a file: `form=` "fimi", or of CSV "baskets" (a basket a record) or "single" (a
+  basket's id and an item a record), with `sep=`, `header=` and `weighted=` (a record begins
+  with its weight) as the program has them.
+
+Labels come back as they were given; those of a FIMI file are `int`, those of CSV `str`. A weight
+is a whole number from 1 to 4,294,967,295, and stands for that many equal baskets. Missing values
+are refused (`DataError`), and with `missing="drop"` left out. A basket without an item is none:
+it counts in no support and no share. Rows of an answer stand in the order of the program's
+report, where items are numbered by their first appearance, or by the places of their columns.
+
+`minimum`, the least support, is a count of baskets as an `int` from 1 on, or a share of all
+baskets: a `float` from 0 to 1, which means the decimal that it prints (0.005 is 1/200 exactly), a
+`fractions.Fraction`, or a text as the program takes it: "20", "5%", "1/200". So 1 is one basket,
+and 1.0 is all of them. A share that is no fraction of numbers up to 4,294,967,295 is refused.
+
+More keywords: `miner` ("apriori", the program's default, "eclat", "eclat-diff", "eclat-bits",
+"fpgrowth") and `workers` (threads, from 1 to 64) change time and memory, and no answer; `limit`
+is how many itemsets there may be at most; `exact` adds columns of `fractions.Fraction` beside
+the floats, which are those nearest to the exact values; `progress` tells each second on standard
+error what runs, where that is a terminal or a notebook. An interrupt ends the program.
+
+`basket_miner.frequent_patterns` has the calls of mlxtend.
+
+All errors are of the family `BasketError`.
+"""
+
+from ._errors import (
+    BasketError,
+    DataError,
+    FileError,
+    InputError,
+    OutOfMemory,
+    ProgramMissing,
+    TooManySets,
+    UsageError,
+)
+from ._itemsets import closed, items, maximal, sets
+from ._rules import count, rules
+
+__all__ = [
+    "BasketError",
+    "DataError",
+    "FileError",
+    "InputError",
+    "OutOfMemory",
+    "ProgramMissing",
+    "TooManySets",
+    "UsageError",
+    "closed",
+    "count",
+    "items",
+    "maximal",
+    "rules",
+    "sets",
+]

@@ -1,0 +1,97 @@
+"""Baskets as the program reads them, and the labels that its numbers stand for."""
+
+from collections.abc import Hashable, Sequence
+from dataclasses import dataclass
+from pathlib import Path
+from typing import Any
+
+import numpy as np
+
+from ._errors import DataError
+
+Labels = Sequence[Hashable]
+Array = np.ndarray[Any, np.dtype[Any]]
+
+MOST_WEIGHT = 2**32 - 1
+_TOKENS_AT_ONCE = 1 << 22
+
+
+@dataclass(frozen=True)
+class Baskets:
+    """An input of the program.
+
+    Args:
+        source: its bytes, or its file.
+        words: the options that say how it is written.
+        labels: the label of each item by its number; without them the report's own items,
+            numbers or names, are the labels.
+        weight: what all baskets weigh together, where it is known without the program.
+        separator: of a report that is CSV, else nothing.
+    """
+
+    source: bytes | Path
+    words: tuple[str, ...] = ()
+    labels: Labels | None = None
+    weight: int | None = None
+    separator: str | None = None
+
+
+def baskets_of(
+    places: Array, numbers: Array, labels: Labels, weights: Array | None = None
+) -> Baskets:
+    """Baskets from pairs of a basket's place and an item's number.
+
+    Args:
+        places: for each pair the place of its basket; the pairs of one basket are neighbours.
+        numbers: for each pair the number of its item, below the number of labels.
+        labels: of the items.
+        weights: by place, where baskets have weights.
+    """
+    ends = np.ones(len(places), dtype=bool)
+    ends[:-1] = places[1:] != places[:-1]
+    given = None if weights is None else weights[places[ends]]
+    weight = int(ends.sum()) if given is None else int(given.sum())
+    return Baskets(_fimi(numbers, ends, len(labels), given), (), labels, weight)
+
+
+def _fimi(numbers: Array, ends: Array, size: int, weights: Array | None) -> bytes:
+    """The lines of baskets, whose last numbers are those at `ends`, all below `size`.
+
+    Each number with what stands behind it, and each weight, is taken from a table of texts
+    that the zero bytes behind them make equally long.
+    """
+    texts = [b"%d " % number for number in range(size)]
+    texts += [b"%d\n" % number for number in range(size)]
+    tokens = numbers + size * ends
+    if weights is not None:
+        distinct, places = np.unique(weights, return_inverse=True)
+        starts = np.flatnonzero(np.r_[True, ends][:-1])
+        tokens = np.insert(tokens, starts, len(texts) + places)
+        texts += [b"%dx " % weight for weight in distinct]
+    table = np.array(texts, dtype=bytes)
+    portions = (
+        table[tokens[start : start + _TOKENS_AT_ONCE]].tobytes().translate(None, b"\0")
+        for start in range(0, len(tokens), _TOKENS_AT_ONCE)
+    )
+    return b"".join(portions)
+
+
+def grouped(places: Array, numbers: Array) -> tuple[Array, Array]:
+    """The pairs of places, below 2**31, and numbers, below 2**32, with equal places together.
+
+    A pair is sorted as one number, which takes a third of the time of an order by places.
+    """
+    pairs = (places.astype(np.int64, copy=False) << 32) | numbers
+    pairs.sort()
+    return pairs >> 32, pairs & (2**32 - 1)
+
+
+def checked_weights(values: Array) -> Array:
+    """Weights as whole numbers, or `DataError` where one is none from 1 to 4,294,967,295."""
+    is_number = values.dtype.kind in "iuf"
+    if not is_number or not ((values >= 1) & (values <= MOST_WEIGHT)).all():
+        raise DataError(f"weights are whole numbers from 1 to {MOST_WEIGHT}")
+    whole = values.astype(np.int64)
+    if not (whole == values).all():
+        raise DataError(f"weights are whole numbers from 1 to {MOST_WEIGHT}")
+    return whole

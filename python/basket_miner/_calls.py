@@ -1,0 +1,117 @@
+"""How the public calls run the program."""
+
+import csv
+import io
+import numbers
+import tempfile
+from collections.abc import Hashable, Iterable
+from dataclasses import dataclass
+from typing import Any, Literal
+
+import pandas as pd
+
+from ._baskets import Baskets
+from ._data import Data, Layout, read
+from ._errors import DataError
+from ._paths import weight_of
+from ._program import run
+from ._report import rules_frame, sets_frame
+
+Miner = Literal["apriori", "eclat", "eclat-diff", "eclat-bits", "fpgrowth"]
+
+_ITEMS = range(2**32)
+
+
+@dataclass(frozen=True)
+class Work:
+    """How the program shall work, and what the answer shall have beside it."""
+
+    miner: Miner | None = None
+    workers: int = 1
+    limit: int | None = None
+    exact: bool = False
+    progress: bool = False
+
+    def words(self) -> list[str]:
+        """The options of the program."""
+        words = [f"--workers={self.workers}"]
+        words += [] if self.miner is None else [f"--miner={self.miner}"]
+        words += [] if self.limit is None else [f"--limit={self.limit}"]
+        return words
+
+
+def asked(
+    command: str, data: Data, words: list[str], layout: Layout, work: Work
+) -> pd.DataFrame:
+    """The frame of the report of a command over the caller's data."""
+    baskets = read(data, layout)
+    report = run(
+        [command, *words, *work.words(), *baskets.words],
+        baskets.source,
+        progress=work.progress,
+    )
+    weight = weight_of(baskets)
+    if command == "rules":
+        return rules_frame(report, baskets, weight, exact=work.exact)
+    return sets_frame(report, baskets, weight, exact=work.exact)
+
+
+def counted(
+    data: Data, sets: Iterable[Iterable[Hashable]], layout: Layout, work: Work
+) -> pd.DataFrame:
+    """The frame of what the program counts of some sets over the caller's data."""
+    baskets = read(data, layout)
+    given = [_itemset(itemset) for itemset in sets]
+    if baskets.separator is None:
+        baskets, text = _as_numbers(baskets, given)
+    else:
+        text = _as_names(given, baskets.separator)
+    with tempfile.NamedTemporaryFile(prefix="basket-sets-") as file:
+        file.write(text)
+        file.flush()
+        words = ["count", f"--sets={file.name}", *work.words(), *baskets.words]
+        report = run(words, baskets.source, progress=work.progress)
+    return sets_frame(report, baskets, exact=work.exact)
+
+
+def _itemset(itemset: Any) -> list[Hashable]:
+    if isinstance(itemset, (str, bytes)):
+        raise DataError(f"an itemset is an iterable of items, not {itemset!r}")
+    try:
+        return list(dict.fromkeys(itemset))
+    except TypeError as fault:
+        raise DataError(f"an itemset is an iterable of items: {fault}") from fault
+
+
+def _as_numbers(baskets: Baskets, sets: list[list[Hashable]]) -> tuple[Baskets, bytes]:
+    """The text of the sets by numbers, and the baskets with all their labels.
+
+    A label that is in no basket gets a number behind the others, and the count 0.
+    """
+    if baskets.labels is None:
+        for itemset in sets:
+            for item in itemset:
+                is_whole = isinstance(item, numbers.Integral)
+                if not is_whole or isinstance(item, bool) or item not in _ITEMS:
+                    raise DataError(f"an item of a FIMI file is a number, not {item!r}")
+        return baskets, b"".join(b"%s\n" % _joined(itemset) for itemset in sets)
+    numbering = {label: number for number, label in enumerate(baskets.labels)}
+    lines = [
+        b"%s\n"
+        % _joined(numbering.setdefault(item, len(numbering)) for item in itemset)
+        for itemset in sets
+    ]
+    known = Baskets(baskets.source, baskets.words, [*numbering], baskets.weight)
+    return known, b"".join(lines)
+
+
+def _joined(items: Iterable[object]) -> bytes:
+    return " ".join(map(str, items)).encode()
+
+
+def _as_names(sets: list[list[Hashable]], separator: str) -> bytes:
+    """The records of the sets by names, as reports have them: a count first, here always 0."""
+    text = io.StringIO(newline="")
+    writer = csv.writer(text, delimiter=separator, lineterminator="\n")
+    writer.writerows([0, *itemset] for itemset in sets)
+    return text.getvalue().encode()

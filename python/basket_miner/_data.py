@@ -1,0 +1,140 @@
+"""What a caller may give as baskets."""
+
+import itertools
+import os
+from collections.abc import Hashable, Mapping
+from dataclasses import dataclass, fields
+from pathlib import Path
+from typing import Any, Literal
+
+import numpy as np
+import pandas as pd
+
+from ._baskets import Baskets, Labels, baskets_of
+from ._errors import DataError
+from ._frames import is_missing, long_frame, matrix, wide_frame
+
+# A data frame, a sparse matrix, an iterable of iterables of labels, or a path.
+Data = Any
+Missing = Literal["refuse", "drop"]
+Form = Literal["fimi", "baskets", "single"]
+
+_SEPARATORS = {"comma": ",", "semicolon": ";", "tab": "\t", "pipe": "|"}
+_SEPARATOR_WORDS = {character: word for word, character in _SEPARATORS.items()}
+_CSV_ENDINGS = (".csv", ".tsv")
+
+
+@dataclass(frozen=True)
+class Layout:
+    """How the baskets lie in what the caller gave: the keywords of the public calls."""
+
+    basket: Hashable | None = None
+    item: Hashable | None = None
+    weight: Hashable | None = None
+    names: Labels | None = None
+    missing: Missing = "refuse"
+    form: Form | None = None
+    sep: str | None = None
+    header: bool = False
+    weighted: bool = False
+
+
+def read(data: Data, layout: Layout) -> Baskets:
+    """The baskets of whatever a public call takes.
+
+    Raises:
+        DataError: the data are none of these, or a keyword does not go with them.
+    """
+    if layout.missing not in ("refuse", "drop"):
+        raise DataError(f'missing is "refuse" or "drop", not {layout.missing!r}')
+    drop = layout.missing == "drop"
+    if isinstance(data, (str, os.PathLike)):
+        _refuse_others(layout, "form sep header weighted", "a path")
+        return _file(Path(data).expanduser(), layout)
+    if isinstance(data, pd.DataFrame):
+        if layout.basket is None and layout.item is None:
+            _refuse_others(layout, "weight missing", "a frame with a column an item")
+            return wide_frame(data, layout.weight, drop)
+        _refuse_others(layout, "basket item weight missing", "a frame")
+        if layout.basket is None or layout.item is None:
+            raise DataError("a frame with a row an item needs both basket= and item=")
+        return long_frame(data, layout.basket, layout.item, layout.weight, drop)
+    if hasattr(data, "tocsr"):
+        _refuse_others(layout, "names", "a sparse matrix")
+        return matrix(data, layout.names)
+    _refuse_others(layout, "missing", "an iterable of baskets")
+    return _iterable(data, drop)
+
+
+def _refuse_others(layout: Layout, allowed: str, what: str) -> None:
+    for field in fields(Layout):
+        given = getattr(layout, field.name)
+        is_default = given is None or (
+            isinstance(given, (bool, str)) and given == field.default
+        )
+        if not is_default and field.name not in allowed.split():
+            raise DataError(f"{field.name}= does not go with {what}")
+
+
+def _file(path: Path, layout: Layout) -> Baskets:
+    form = layout.form
+    if form is None:
+        if path.suffix.lower() in _CSV_ENDINGS:
+            raise DataError(
+                f'{path} ends like CSV: give form="baskets" (a basket a record), '
+                'form="single" (a basket\'s id and an item a record) or form="fimi"'
+            )
+        form = "fimi"
+    if form not in ("fimi", "baskets", "single"):
+        raise DataError(f"form is fimi, baskets or single, not {form!r}")
+    if form == "fimi":
+        _refuse_others(layout, "form", "a FIMI file")
+        return Baskets(path)
+    sep = _SEPARATOR_WORDS.get(layout.sep or ",", layout.sep)
+    if sep not in _SEPARATORS:
+        raise DataError(f"sep is one of {', '.join(_SEPARATORS)}, not {sep!r}")
+    for name in ("header", "weighted"):
+        if not isinstance(getattr(layout, name), bool):
+            raise DataError(f"{name} is True or False, not {getattr(layout, name)!r}")
+    if layout.weighted and form == "single":
+        raise DataError('weighted= does not go with form="single"')
+    words = [f"--form={form}", f"--sep={sep}"]
+    words += ["--header"] * layout.header + ["--weight"] * layout.weighted
+    return Baskets(path, tuple(words), separator=_SEPARATORS[sep])
+
+
+def _iterable(baskets: Any, drop: bool) -> Baskets:
+    """Baskets of an iterable of iterables of labels, which are numbered as they come."""
+    is_table = isinstance(baskets, np.ndarray) and baskets.ndim > 1
+    if is_table or isinstance(baskets, (Mapping, bytes)):
+        raise DataError(
+            f"{type(baskets).__name__} is no iterable of baskets; a table of true and "
+            "false is given as a pandas.DataFrame"
+        )
+    numbering: dict[Hashable, int] = {}
+    numbers: list[int] = []
+    sizes: list[int] = []
+    try:
+        for basket in baskets:
+            if isinstance(basket, (str, bytes, Mapping)):
+                raise DataError(f"a basket is an iterable of items, not {basket!r}")
+            before = len(numbers)
+            numbers += [numbering.setdefault(item, len(numbering)) for item in basket]
+            sizes.append(len(numbers) - before)
+    except TypeError as fault:
+        raise DataError(f"baskets are iterables of hashable items: {fault}") from fault
+    places = np.repeat(np.arange(len(sizes)), sizes)
+    return _without_missing(places, np.array(numbers, np.int64), [*numbering], drop)
+
+
+def _without_missing(
+    places: Any, numbers: Any, labels: list[Hashable], drop: bool
+) -> Baskets:
+    is_good = np.array([not is_missing(label) for label in labels], dtype=bool)
+    if is_good.all():
+        return baskets_of(places, numbers, labels)
+    if not drop:
+        raise DataError('a basket has a missing item; missing="drop" leaves them out')
+    kept = is_good[numbers]
+    left = list(itertools.compress(labels, is_good))
+    return baskets_of(places[kept], (is_good.cumsum() - 1)[numbers[kept]], left)

@@ -1,0 +1,190 @@
+"""Baskets from data frames and sparse matrices."""
+
+from collections.abc import Hashable, Iterable
+from typing import Any
+
+import numpy as np
+import pandas as pd
+
+from ._baskets import Array, Baskets, Labels, baskets_of, checked_weights, grouped
+from ._errors import DataError
+
+
+def long_frame(
+    frame: pd.DataFrame,
+    basket: Hashable,
+    item: Hashable,
+    weight: Hashable | None,
+    drop: bool,
+) -> Baskets:
+    """Baskets of a frame with a row for each item of a basket.
+
+    Rows of one basket need not stand together. Items are numbered by their first rows.
+    """
+    names = [basket, item] if weight is None else [basket, item, weight]
+    columns = [column_of(frame, name) for name in names]
+    places, ids = _numbered(columns[0], basket)
+    numbers, items = _numbered(columns[1], item)
+    are_there = [places >= 0, numbers >= 0]
+    are_there += [_there(column) for column in columns[2:]]
+    _refuse_gaps(are_there, names, drop)
+    if not all(is_there.all() for is_there in are_there):
+        kept = frame[np.logical_and.reduce(are_there)]
+        return long_frame(kept, basket, item, weight, drop)
+    _refuse_zero_bytes(columns[0], places, ids)
+    _refuse_zero_bytes(columns[1], numbers, items)
+    weights = None
+    if weight is not None:
+        weights = _weights_by_place(places, checked_weights(_plain(columns[2])), weight)
+    if (places[1:] < places[:-1]).any():
+        places, numbers = grouped(places, numbers)
+    return baskets_of(places, numbers, items.tolist(), weights)
+
+
+def wide_frame(frame: pd.DataFrame, weight: Hashable | None, drop: bool) -> Baskets:
+    """Baskets of a frame with a row for each basket and a column of truth for each item."""
+    weights = None
+    if weight is not None:
+        column = column_of(frame, weight)
+        _refuse_gaps([_there(column)], [weight], False)
+        weights = checked_weights(_plain(column))
+        frame = frame.drop(columns=[weight])
+    labels = distinct(frame.columns.tolist(), "column")
+    if not labels:
+        raise DataError("the frame has no column of an item")
+    trues = [_trues(frame.iloc[:, at], drop) for at in range(len(labels))]
+    numbers = np.repeat(np.arange(len(labels)), [len(places) for places in trues])
+    places, numbers = grouped(np.concatenate(trues), numbers)
+    return baskets_of(places, numbers, labels, weights)
+
+
+def matrix(values: Any, names: Labels | None) -> Baskets:
+    """Baskets of a `scipy.sparse` matrix of ones, a row a basket and a column an item."""
+    rows = values.tocsr()
+    if not rows.has_canonical_format:
+        rows = rows.copy()
+        rows.sum_duplicates()
+    labels: Labels = range(rows.shape[1])
+    if names is not None:
+        labels = distinct(list(names), "name")
+    if len(labels) != rows.shape[1]:
+        raise DataError(f"{len(labels)} names for {rows.shape[1]} columns")
+    is_in = _ones(rows.data, "the matrix")
+    places = np.repeat(np.arange(rows.shape[0]), np.diff(rows.indptr))
+    return baskets_of(places[is_in], rows.indices[is_in], labels)
+
+
+def column_of(frame: pd.DataFrame, name: Hashable) -> pd.Series:
+    """The column of a name, or `DataError` where there is none or several."""
+    found = [at for at, label in enumerate(frame.columns) if label == name]
+    if len(found) != 1:
+        how_many = "several columns" if found else "no column"
+        raise DataError(f"the frame has {how_many} {name!r}")
+    return frame.iloc[:, found[0]]
+
+
+def distinct(labels: list[Hashable], what: str) -> list[Hashable]:
+    """The labels, or `DataError` where one is missing or stands twice."""
+    seen: set[Hashable] = set()
+    for label in labels:
+        if is_missing(label):
+            raise DataError(f"a {what} has no label, but {label}")
+        if label in seen:
+            raise DataError(f"{what} {label!r} stands twice")
+        seen.add(label)
+    return labels
+
+
+def is_missing(label: object) -> bool:
+    """Whether a label is what pandas takes for missing: `None`, `NaN`, `NaT`, `NA`."""
+    return pd.api.types.is_scalar(label) and bool(pd.isna(label))
+
+
+def _there(column: pd.Series) -> Array:
+    """For each row whether the column has a value."""
+    return np.asarray(column.notna())
+
+
+def _refuse_gaps(
+    are_there: Iterable[Array], names: Iterable[Hashable], drop: bool
+) -> None:
+    """`DataError` where a column misses values that are not to be dropped."""
+    for is_there, name in zip(are_there, names):
+        if not drop and not is_there.all():
+            raise DataError(
+                f"column {name!r} has missing values, {(~is_there).sum()} of them; "
+                'missing="drop" leaves them out'
+            )
+
+
+def _numbered(column: pd.Series, name: Hashable) -> tuple[Array, pd.Index]:
+    """For each row the number of its value by first appearance, below 0 where it is missing,
+    and the values by number."""
+    try:
+        numbers, values = pd.factorize(column)
+    except TypeError as fault:
+        raise DataError(
+            f"column {name!r} has values without a hash: {fault}"
+        ) from fault
+    return numbers, values
+
+
+def _refuse_zero_bytes(column: pd.Series, numbers: Array, values: pd.Index) -> None:
+    """`DataError` where two texts got one number.
+
+    pandas numbers texts by what stands before a zero byte: "a" and "a\\0b" alike.
+    """
+    if not len(values) or not (
+        column.dtype == object or isinstance(column.dtype, pd.StringDtype)
+    ):
+        return
+    texts = np.asarray(values, dtype=object)[numbers]
+    if not (texts == np.asarray(column, dtype=object)).all():
+        raise DataError(f"column {column.name!r} has texts with a zero byte")
+
+
+def _plain(column: pd.Series) -> Array:
+    """The values of a column without missing ones, by a type of numpy."""
+    values: Array = column.to_numpy()
+    return np.array(values.tolist(), dtype=None) if values.dtype == object else values
+
+
+def _weights_by_place(places: Array, values: Array, name: Hashable) -> Array:
+    weights = np.zeros(places.max(initial=-1) + 1, dtype=np.int64)
+    weights[places] = values
+    if (weights[places] != values).any():
+        raise DataError(f"column {name!r} has several weights in one basket")
+    return weights
+
+
+def _trues(column: pd.Series, drop: bool) -> Array:
+    """The places of the rows where the column is true, or 1."""
+    if not isinstance(column.dtype, pd.SparseDtype) or column.dtype.fill_value:
+        return np.flatnonzero(_truth(column, drop))
+    held = column.array
+    is_true = _truth(pd.Series(held.sp_values, name=column.name), drop)
+    return np.asarray(held.sp_index.to_int_index().indices[is_true])
+
+
+def _truth(column: pd.Series, drop: bool) -> Array:
+    """For each row whether the column is true there, or 1."""
+    if column.dtype == bool:
+        return np.asarray(column)
+    is_there = _there(column)
+    _refuse_gaps([is_there], [column.name], drop)
+    values = column.to_numpy() if column.dtype.kind in "biuf" else None
+    if values is None or isinstance(column.dtype, pd.api.extensions.ExtensionDtype):
+        values = np.asarray(column, dtype=object)
+    try:
+        return _ones(np.where(is_there, values, 0), f"column {column.name!r}")
+    except DataError as fault:
+        hint = "a frame with a row for each item of a basket needs basket= and item="
+        raise DataError(f"{fault}; {hint}") from None
+
+
+def _ones(values: Array, what: str) -> Array:
+    """For each value whether it is one, or true."""
+    is_one = values == 1
+    if not (is_one | (values == 0)).all():
+        raise DataError(f"{what} has values other than 0 and 1, false and true")
+    return np.asarray(is_one, dtype=bool)

@@ -1,0 +1,218 @@
+"""The program's reports as data frames."""
+
+import contextlib
+import csv
+import gc
+import io
+from collections.abc import Iterable, Iterator, Sequence
+from dataclasses import dataclass
+from fractions import Fraction
+from typing import Any
+
+import numpy as np
+import pandas as pd
+
+from ._baskets import Array, Baskets, Labels
+
+Itemset = frozenset[Any]
+# Numerators and denominators, place by place.
+Fractions = tuple[Array, Array]
+
+_BLANKS = bytes.maketrans(b"()/=>", b"     ")
+# Below it, products of two weights are whole numbers that a float holds.
+_MOST_WEIGHT_OF_FLOATS = 2**26
+
+
+@dataclass(frozen=True)
+class _Rules:
+    antecedents: list[Itemset]
+    consequents: list[Itemset]
+    counts: Array
+    confidences: Fractions
+    lifts: Fractions
+
+
+@contextlib.contextmanager
+def _without_collections() -> Iterator[None]:
+    """Keeps Python from looking for cycles, as it does again and again while many objects are
+    made, which takes more time than to make the sets of a report. They have no cycles.
+    """
+    was_enabled = gc.isenabled()
+    gc.disable()
+    try:
+        yield
+    finally:
+        if was_enabled:
+            gc.enable()
+
+
+@_without_collections()
+def sets_frame(
+    report: bytes, baskets: Baskets, weight: int | None = None, *, exact: bool = False
+) -> pd.DataFrame:
+    """The frame of a report of `items`, `sets`, `closed`, `maximal` or `count`.
+
+    Args:
+        report: its bytes.
+        baskets: what was asked; their labels stand in the frame.
+        weight: of all baskets, which supports are shares of; else the first count of the
+            report, as `count` writes it.
+        exact: adds `exact_support`, of `Fraction`.
+
+    The columns are `itemsets` (`frozenset`), `count` (`int64`) and `support` (`float64`, the
+    float nearest to the exact share). The rows stand as in the report.
+    """
+    if baskets.separator is None:
+        itemsets, counts = _numbered_sets(report, baskets.labels)
+    else:
+        itemsets, counts = _named_sets(report, baskets.separator)
+    whole = int(counts[0]) if weight is None else weight
+    columns = {"itemsets": _objects(itemsets), **_supports(counts, whole)}
+    if exact:
+        columns["exact_support"] = _exact(counts, whole)
+    return pd.DataFrame(columns)
+
+
+@_without_collections()
+def rules_frame(
+    report: bytes, baskets: Baskets, weight: int, *, exact: bool = False
+) -> pd.DataFrame:
+    """The frame of a report of `rules`.
+
+    The columns are `antecedents` and `consequents` (`frozenset`), `count` (`int64`) and
+    `support`, `confidence` and `lift` (`float64`, the floats nearest to the exact values); with
+    `exact` also `exact_support`, `exact_confidence` and `exact_lift`, of `Fraction`.
+    """
+    if baskets.separator is None:
+        found = _numbered_rules(report, baskets.labels, weight)
+    else:
+        found = _named_rules(report, baskets.separator)
+    columns = {
+        "antecedents": _objects(found.antecedents),
+        "consequents": _objects(found.consequents),
+        **_supports(found.counts, weight),
+        "confidence": _quotients(found.confidences),
+        "lift": _quotients(found.lifts),
+    }
+    if exact:
+        columns["exact_support"] = _exact(found.counts, weight)
+        columns["exact_confidence"] = _fractions(found.confidences)
+        columns["exact_lift"] = _fractions(found.lifts)
+    return pd.DataFrame(columns)
+
+
+def _numbered_sets(report: bytes, labels: Labels | None) -> tuple[list[Itemset], Array]:
+    """Sets and counts of lines as `1 2 (7)`."""
+    blanks, ends = _places(report, b" "), _places(report, b"\n")
+    sizes = np.diff(np.searchsorted(blanks, ends), prepend=0)
+    numbers = _numbers(report)
+    counts_at = np.cumsum(sizes + 1) - 1
+    items = np.delete(numbers, counts_at)
+    return _split(items, sizes, labels), numbers[counts_at]
+
+
+def _numbered_rules(report: bytes, labels: Labels | None, weight: int) -> _Rules:
+    """Rules of lines as `1 2 => 3 (7) 7/10 7/8`."""
+    blanks, ends = _places(report, b" "), _places(report, b"\n")
+    until_end = np.searchsorted(blanks, ends)
+    until_arrow = np.searchsorted(blanks, _places(report, b"="))
+    in_line = np.diff(until_end, prepend=0)
+    left = until_arrow - (until_end - in_line)
+    right = in_line - left - 3
+    numbers = _numbers(report, is_large=weight >= _MOST_WEIGHT_OF_FLOATS)
+    stops = np.cumsum(left + right + 5)
+    figures = [numbers[stops - back] for back in (5, 4, 3, 2, 1)]
+    figures_at = (stops[:, None] - np.arange(5, 0, -1)).ravel()
+    items = np.delete(numbers, figures_at)
+    sides = _split(items, np.column_stack((left, right)).ravel(), labels)
+    return _Rules(
+        sides[0::2],
+        sides[1::2],
+        figures[0].astype(np.int64),
+        (figures[1], figures[2]),
+        (figures[3], figures[4]),
+    )
+
+
+def _places(report: bytes, byte: bytes) -> Array:
+    return np.flatnonzero(np.frombuffer(report, dtype=np.uint8) == byte[0])
+
+
+def _numbers(report: bytes, is_large: bool = False) -> Array:
+    """All numbers of a report of numbers, of 64 bits or as large as they come."""
+    if not report:
+        return np.empty(0, dtype=np.int64)
+    text = report.translate(_BLANKS)
+    if is_large:
+        return np.array([int(word) for word in text.split()], dtype=object)
+    return np.fromstring(text, dtype=np.int64, sep=" ")
+
+
+def _split(items: Array, sizes: Array, labels: Labels | None) -> list[Itemset]:
+    """The labels of items, cut into sets of these sizes."""
+    values = items.tolist()
+    if labels is not None:
+        values = [*map(labels.__getitem__, values)]
+    stops = np.cumsum(sizes)
+    starts = stops - sizes
+    return [
+        frozenset(values[start:stop])
+        for start, stop in zip(starts.tolist(), stops.tolist())
+    ]
+
+
+def _named_sets(report: bytes, separator: str) -> tuple[list[Itemset], Array]:
+    """Sets and counts of records as `7,bread,milk`."""
+    rows = list(_records(report, separator))
+    counts = np.array([int(row[0]) for row in rows], dtype=np.int64)
+    return [frozenset(row[1:]) for row in rows], counts
+
+
+def _named_rules(report: bytes, separator: str) -> _Rules:
+    """Rules of records as `7,7/10,7/8,1,bread,milk`."""
+    rows = list(_records(report, separator))
+    lefts = [int(row[3]) for row in rows]
+    return _Rules(
+        [frozenset(row[4 : 4 + left]) for row, left in zip(rows, lefts)],
+        [frozenset(row[4 + left :]) for row, left in zip(rows, lefts)],
+        np.array([int(row[0]) for row in rows], dtype=np.int64),
+        _parts(row[1] for row in rows),
+        _parts(row[2] for row in rows),
+    )
+
+
+def _records(report: bytes, separator: str) -> Iterable[list[str]]:
+    text = io.StringIO(report.decode(), newline="")
+    return csv.reader(text, delimiter=separator)
+
+
+def _parts(texts: Iterable[str]) -> Fractions:
+    pairs = [text.split("/") for text in texts]
+    tops = np.array([int(top) for top, _ in pairs], dtype=object)
+    return tops, np.array([int(bottom) for _, bottom in pairs], dtype=object)
+
+
+def _objects(values: Sequence[object]) -> Any:
+    return pd.Series(values, dtype=object)
+
+
+def _supports(counts: Array, weight: int) -> dict[str, Any]:
+    # Without baskets a support is not a number.
+    with np.errstate(invalid="ignore"):
+        return {"count": counts, "support": counts / weight}
+
+
+def _exact(counts: Array, weight: int) -> Any:
+    if weight == 0:
+        return _objects([None] * len(counts))
+    return _objects([Fraction(count, weight) for count in counts.tolist()])
+
+
+def _quotients(fractions: Fractions) -> Array:
+    """The floats nearest to fractions: whole numbers of Python divide so, whatever their size."""
+    return np.asarray(fractions[0] / fractions[1], dtype=np.float64)
+
+
+def _fractions(fractions: Fractions) -> Any:
+    tops, bottoms = (part.tolist() for part in fractions)
+    return _objects([*map(Fraction, tops, bottoms)])

@@ -1,0 +1,83 @@
+"""The calls that list rules, and that count given itemsets."""
+
+from collections.abc import Hashable, Iterable
+
+import pandas as pd
+
+from ._baskets import Labels
+from ._calls import Miner, Work, asked, counted
+from ._data import Data, Form, Layout, Missing
+from ._frames import column_of
+from ._minimum import Confidence, Minimum, confidence_word, minimum_word
+
+
+def rules(
+    data: Data,
+    minimum: Minimum,
+    confidence: Confidence,
+    *,
+    basket: Hashable | None = None,
+    item: Hashable | None = None,
+    weight: Hashable | None = None,
+    names: Labels | None = None,
+    missing: Missing = "refuse",
+    form: Form | None = None,
+    sep: str | None = None,
+    header: bool = False,
+    weighted: bool = False,
+    miner: Miner | None = None,
+    workers: int = 1,
+    limit: int | None = None,
+    exact: bool = False,
+    progress: bool = False,
+) -> pd.DataFrame:
+    """The association rules between the two sides of frequent itemsets.
+
+    Takes and raises what `sets` does. `confidence` is the least confidence of a rule: a share as
+    a `float` (the decimal that it prints), a `Fraction`, or a text as "60%" or "2/3".
+
+    Answers a row for each rule: `antecedents` and `consequents` (each a `frozenset`), `count`
+    (of the baskets that have both sides), `support` (this count as a share of all baskets),
+    `confidence` (as a share of those that have the antecedents) and `lift` (the confidence over
+    the share of all baskets that have the consequents), and with `exact` also
+    `exact_support`, `exact_confidence` and `exact_lift`.
+
+    Agrawal and Srikant, 1994; the lift is the interest of Brin, Motwani, Ullman and Tsur, 1997.
+    """
+    layout = Layout(basket, item, weight, names, missing, form, sep, header, weighted)
+    work = Work(miner, workers, limit, exact, progress)
+    words = ["--min=" + minimum_word(minimum), "--conf=" + confidence_word(confidence)]
+    return asked("rules", data, words, layout, work)
+
+
+def count(
+    data: Data,
+    sets: pd.DataFrame | Iterable[Iterable[Hashable]],
+    *,
+    basket: Hashable | None = None,
+    item: Hashable | None = None,
+    weight: Hashable | None = None,
+    names: Labels | None = None,
+    missing: Missing = "refuse",
+    form: Form | None = None,
+    sep: str | None = None,
+    header: bool = False,
+    weighted: bool = False,
+    workers: int = 1,
+    exact: bool = False,
+    progress: bool = False,
+) -> pd.DataFrame:
+    """The supports of given itemsets, frequent or not.
+
+    Takes the baskets as `sets` does, and itemsets of their labels, or a frame that has them in
+    its column `itemsets`. A label that no basket has is no error: its count is 0.
+
+    Answers the columns of `sets`. The first row is the empty itemset, whose count is the weight
+    of all baskets; then comes each other itemset once, in the order given.
+
+    Raises `DataError` where the data or the itemsets do not fit, else what the program ends with.
+    """
+    layout = Layout(basket, item, weight, names, missing, form, sep, header, weighted)
+    given = column_of(sets, "itemsets") if isinstance(sets, pd.DataFrame) else sets
+    work = Work(workers=workers, exact=exact, progress=progress)
+    return counted(data, given, layout, work)

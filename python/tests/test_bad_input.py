@@ -1,0 +1,185 @@
+"""What is refused, with the exception's type and what it says."""
+
+from collections.abc import Callable
+from pathlib import Path
+from typing import Any
+
+import numpy as np
+import pandas as pd
+import pytest
+import scipy.sparse
+
+import basket_miner as miner
+
+ROWS = pd.DataFrame({"receipt": [1, 1, 2], "product": ["tea", None, "jam"]})
+LONG: Any = {"basket": "receipt", "item": "product"}
+
+
+def weighted(*weights: object) -> pd.DataFrame:
+    return pd.DataFrame({"receipt": [1, 1], "product": ["a", "b"], "times": weights})
+
+
+def refused(said: str, data: object, **options: Any) -> None:
+    with pytest.raises(miner.DataError, match=said):
+        miner.sets(data, 1, **options)
+
+
+@pytest.mark.parametrize("gone", [None, np.nan, float("nan"), pd.NA, pd.NaT], ids=str)
+def test_a_missing_item_is_refused_or_dropped_and_never_a_name(gone: Any) -> None:
+    rows = ROWS.assign(product=pd.Series(["tea", gone, "jam"], dtype=object))
+    refused("'product' has missing values, 1 of them", rows, **LONG)
+    found = miner.sets(rows, 1, missing="drop", **LONG)
+    assert found["itemsets"].tolist() == [frozenset(["tea"]), frozenset(["jam"])]
+    assert found["support"].tolist() == [0.5, 0.5]
+    refused("a basket has a missing item", [["tea", gone], ["jam"]])
+    found = miner.sets([["tea", gone], ["jam"], [gone]], 1, missing="drop")
+    assert found["itemsets"].tolist() == [frozenset(["tea"]), frozenset(["jam"])]
+    assert found["support"].tolist() == [0.5, 0.5]
+
+
+def test_a_missing_basket_id_or_weight_is_refused_or_dropped() -> None:
+    rows = pd.DataFrame({"receipt": [1, None, 2], "product": ["a", "a", "b"]})
+    refused("'receipt' has missing values", rows, **LONG)
+    found = miner.sets(rows, 1, missing="drop", **LONG)
+    assert found["count"].tolist() == [1, 1]
+    refused("'times' has missing values", weighted(2, None), weight="times", **LONG)
+
+
+def test_a_missing_truth_is_refused_or_taken_for_false() -> None:
+    for gone in (None, np.nan):
+        wide = pd.DataFrame({"tea": [True, gone], "jam": [True, True]})
+        refused("'tea' has missing values", wide)
+        found = miner.sets(wide, 2, missing="drop")
+        assert found["itemsets"].tolist() == [frozenset(["jam"])]
+
+
+@pytest.mark.parametrize("value", [2, 0.5, -1, "yes", np.inf], ids=str)
+def test_values_other_than_0_and_1_are_refused(value: object) -> None:
+    wide = pd.DataFrame({"tea": [1, value], "jam": [0, 1]})
+    refused("column 'tea' has values other than 0 and 1", wide)
+    if isinstance(value, (int, float)):
+        kind = pd.SparseDtype(float, 0.0)
+        refused("column 'tea' has values other", wide.astype(float).astype(kind))
+        matrix = scipy.sparse.csr_matrix(wide.astype(float))
+        refused("the matrix has values other than 0 and 1", matrix)
+
+
+def test_a_frame_with_a_row_an_item_needs_the_names_of_its_columns() -> None:
+    refused("'receipt' has values other .* basket= and item=", ROWS.dropna())
+
+
+def test_a_matrix_that_names_a_place_twice_is_refused() -> None:
+    ones, places = [1, 1], ([0, 0], [0, 0])
+    refused("other than 0 and 1", scipy.sparse.coo_matrix((ones, places)))
+    refused("2 names for 1 columns", scipy.sparse.eye(1), names=["a", "b"])
+    refused("name 'a' stands twice", scipy.sparse.eye(2), names=["a", "a"])
+
+
+def test_columns_that_are_missing_or_stand_twice_are_refused() -> None:
+    refused("no column 'basket'", ROWS, basket="basket", item="product")
+    twice = pd.concat([ROWS, ROWS[["product"]]], axis=1)
+    refused("several columns 'product'", twice, **LONG)
+    refused("column 'a' stands twice", pd.DataFrame([[1, 0]], columns=["a", "a"]))
+    refused("has no label, but nan", pd.DataFrame([[1]], columns=[np.nan]))
+    refused("both basket= and item=", ROWS, basket="receipt")
+
+
+@pytest.mark.parametrize(
+    "weights",
+    [(0, 0), (1.5, 1.5), (-1, -1), (2**32, 2**32), ("2", "2"), (True, True)],
+)
+def test_weights_other_than_whole_numbers_from_1_are_refused(weights: Any) -> None:
+    refused("weights are whole numbers", weighted(*weights), weight="times", **LONG)
+
+
+def test_several_weights_in_one_basket_are_refused() -> None:
+    refused("'times' has several weights", weighted(1, 2), weight="times", **LONG)
+
+
+def test_an_empty_frame_has_no_itemset_and_one_without_columns_is_refused() -> None:
+    found = miner.sets(ROWS.iloc[:0], 0.5, **LONG)
+    assert len(found) == 0
+    assert found.dtypes.astype(str).tolist() == ["object", "int64", "float64"]
+    assert len(miner.sets(pd.DataFrame({"tea": []}, dtype=bool), 0.5)) == 0
+    assert len(miner.rules([], 0.5, 0.5)) == 0
+    refused("no column of an item", pd.DataFrame())
+
+
+@pytest.mark.parametrize(
+    ("said", "data"),
+    [
+        ("a basket is an iterable of items, not 'tea'", ["tea", "jam"]),
+        ("iterables of hashable items", [[["tea"]]]),
+        ("iterables of hashable items", [1, 2]),
+        ("iterables of hashable items", 7),
+        ("ndarray is no iterable of baskets", np.eye(2)),
+        ("dict is no iterable of baskets", {"r1": ["tea"]}),
+    ],
+)
+def test_what_is_no_iterable_of_baskets_is_refused(said: str, data: object) -> None:
+    refused(said, data)
+
+
+def test_items_without_a_hash_are_refused() -> None:
+    rows = pd.DataFrame({"receipt": [1], "product": [["tea", "jam"]]})
+    refused("'product' has values without a hash", rows, **LONG)
+
+
+@pytest.mark.parametrize("kind", ["object", "string"])
+def test_texts_that_pandas_takes_for_the_same_are_refused(kind: str) -> None:
+    texts = pd.Series(["tea", "tea\0green"], dtype=kind)
+    refused("a zero byte", pd.DataFrame({"receipt": 1, "product": texts}), **LONG)
+
+
+@pytest.mark.parametrize(
+    ("said", "options"),
+    [
+        ("form= does not go with an iterable", {"form": "fimi"}),
+        ("basket= does not go with an iterable", {"basket": "receipt"}),
+        ('missing is "refuse" or "drop"', {"missing": "ignore"}),
+    ],
+)
+def test_keywords_that_do_not_fit_are_refused(said: str, options: Any) -> None:
+    refused(said, [["tea"]], **options)
+
+
+@pytest.mark.parametrize(
+    ("said", "name", "options"),
+    [
+        ("ends like CSV: give form=", "shop.csv", {}),
+        ("form is fimi, baskets or single", "shop.csv", {"form": "wide"}),
+        ("sep is one of comma", "shop.csv", {"form": "single", "sep": "!"}),
+        ("header= does not go with a FIMI", "shop.dat", {"header": True}),
+        ("header is True or False", "shop.csv", {"form": "single", "header": 0}),
+        ("weighted= does not go", "shop.csv", {"form": "single", "weighted": True}),
+        ("item= does not go with a path", "shop.dat", {"item": "product"}),
+    ],
+)
+def test_words_of_a_path_that_do_not_fit_are_refused(
+    said: str, name: str, options: Any
+) -> None:
+    refused(said, Path(name), **options)
+
+
+@pytest.mark.parametrize(
+    ("call", "kind", "said"),
+    [
+        (lambda path: miner.sets(path, 1), miner.InputError, "line 1: byte 0x2D"),
+        (
+            lambda path: miner.sets(path, 1, form="baskets", weighted=True),
+            miner.InputError,
+            "record 1: bad weight",
+        ),
+        (lambda _: miner.sets("none.dat", 1), miner.FileError, "cannot open none.dat"),
+        (lambda _: miner.sets([["a", "b"]], 1, limit=2), miner.TooManySets, "than 2"),
+        (lambda _: miner.sets([["a"]], "1.5"), miner.UsageError, "value for --min"),
+        (lambda _: miner.sets([["a"]], 1, workers=65), miner.UsageError, "workers"),
+    ],
+)
+def test_what_the_program_refuses_is_its_exception(
+    tmp_path: Path, call: Callable[[Path], Any], kind: type[Exception], said: str
+) -> None:
+    path = tmp_path / "shop.dat"
+    path.write_text("-1\n")
+    with pytest.raises(kind, match=said):
+        call(path)

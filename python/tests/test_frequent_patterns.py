@@ -1,0 +1,187 @@
+"""The calls of mlxtend answer as its documentation shows.
+
+The examples are those of the user guide's pages `apriori`, `fpgrowth`, `fpmax` and
+`association_rules`, https://rasbt.github.io/mlxtend/user_guide/frequent_patterns/, typed here with
+what they print.
+"""
+
+import itertools
+import random
+from typing import Any
+
+import brute
+import pandas as pd
+import pytest
+
+from basket_miner import DataError
+from basket_miner.frequent_patterns import (
+    apriori,
+    association_rules,
+    fpgrowth,
+    fpmax,
+)
+
+DATASET = [
+    ["Milk", "Onion", "Nutmeg", "Kidney Beans", "Eggs", "Yogurt"],
+    ["Dill", "Onion", "Nutmeg", "Kidney Beans", "Eggs", "Yogurt"],
+    ["Milk", "Apple", "Kidney Beans", "Eggs"],
+    ["Milk", "Unicorn", "Corn", "Kidney Beans", "Yogurt"],
+    ["Corn", "Onion", "Onion", "Kidney Beans", "Ice cream", "Eggs"],
+]
+COLUMNS = sorted({*itertools.chain.from_iterable(DATASET)})
+FRAME = pd.DataFrame([[name in row for name in COLUMNS] for row in DATASET])
+FRAME.columns = pd.Index(COLUMNS)
+
+# `apriori(df, min_support=0.6)` and the same with `use_colnames=True`.
+BY_PLACE: list[tuple[float, set[Any]]] = [
+    *[(0.8, {3}), (1.0, {5}), (0.6, {6}), (0.6, {8}), (0.6, {10}), (0.8, {3, 5})],
+    *[(0.6, {8, 3}), (0.6, {5, 6}), (0.6, {8, 5}), (0.6, {10, 5}), (0.6, {8, 3, 5})],
+]
+BY_NAME: list[tuple[float, set[Any]]] = [
+    *[(0.8, {"Eggs"}), (1.0, {"Kidney Beans"}), (0.6, {"Milk"}), (0.6, {"Onion"})],
+    *[(0.6, {"Yogurt"}), (0.8, {"Kidney Beans", "Eggs"}), (0.6, {"Onion", "Eggs"})],
+    *[(0.6, {"Milk", "Kidney Beans"}), (0.6, {"Onion", "Kidney Beans"})],
+    *[(0.6, {"Yogurt", "Kidney Beans"}), (0.6, {"Onion", "Kidney Beans", "Eggs"})],
+]
+# `fpmax(df, min_support=0.6, use_colnames=True)`.
+LARGEST: list[tuple[float, set[Any]]] = [
+    *[(0.6, {"Milk", "Kidney Beans"}), (0.6, {"Yogurt", "Kidney Beans"})],
+    (0.6, {"Eggs", "Kidney Beans", "Onion"}),
+]
+# `association_rules(frequent_itemsets, metric="confidence", min_threshold=0.7)`: both sides, the
+# supports of antecedents, consequents and both, confidence and lift.
+RULES: list[tuple[str, str, float, float, float, float, float]] = [
+    ("Kidney Beans", "Eggs", 1.0, 0.8, 0.8, 0.80, 1.00),
+    ("Eggs", "Kidney Beans", 0.8, 1.0, 0.8, 1.00, 1.00),
+    ("Eggs", "Onion", 0.8, 0.6, 0.6, 0.75, 1.25),
+    ("Onion", "Eggs", 0.6, 0.8, 0.6, 1.00, 1.25),
+    ("Milk", "Kidney Beans", 0.6, 1.0, 0.6, 1.00, 1.00),
+    ("Onion", "Kidney Beans", 0.6, 1.0, 0.6, 1.00, 1.00),
+    ("Yogurt", "Kidney Beans", 0.6, 1.0, 0.6, 1.00, 1.00),
+    ("Eggs,Onion", "Kidney Beans", 0.6, 1.0, 0.6, 1.00, 1.00),
+    ("Eggs,Kidney Beans", "Onion", 0.8, 0.6, 0.6, 0.75, 1.25),
+    ("Kidney Beans,Onion", "Eggs", 0.6, 0.8, 0.6, 1.00, 1.25),
+    ("Eggs", "Kidney Beans,Onion", 0.8, 0.6, 0.6, 0.75, 1.25),
+    ("Onion", "Eggs,Kidney Beans", 0.6, 0.8, 0.6, 1.00, 1.25),
+]
+NAMES = ["antecedent support", "consequent support", "support", "confidence", "lift"]
+
+
+def pairs(frame: pd.DataFrame) -> list[tuple[float, set[Any]]]:
+    return list(zip(frame["support"], frame["itemsets"]))
+
+
+def sides_and_figures(frame: pd.DataFrame) -> dict[Any, Any]:
+    sides = zip(frame["antecedents"], frame["consequents"])
+    return dict(zip(sides, frame[NAMES].itertuples(index=False, name=None)))
+
+
+def documented(least_lift: float = 0.0) -> dict[Any, Any]:
+    return {
+        (frozenset(left.split(",")), frozenset(right.split(","))): tuple(figures)
+        for left, right, *figures in RULES
+        if figures[-1] >= least_lift
+    }
+
+
+def test_apriori_answers_the_documented_frame() -> None:
+    found = apriori(FRAME, min_support=0.6)
+    assert list(found.columns) == ["support", "itemsets"]
+    assert pairs(found) == BY_PLACE
+    assert pairs(apriori(FRAME, min_support=0.6, use_colnames=True)) == BY_NAME
+    assert pairs(apriori(FRAME.astype(int), 0.6, True, low_memory=True)) == BY_NAME
+
+
+def test_fpgrowth_answers_the_same_itemsets_and_fpmax_the_largest() -> None:
+    assert pairs(fpgrowth(FRAME, min_support=0.6, use_colnames=True)) == BY_NAME
+    found = fpmax(FRAME, min_support=0.6, use_colnames=True)
+    assert pairs(found) == LARGEST
+
+
+def test_association_rules_answers_the_documented_frame() -> None:
+    itemsets = apriori(FRAME, min_support=0.6, use_colnames=True)
+    found = association_rules(itemsets, metric="confidence", min_threshold=0.7)
+    assert list(found.columns) == ["antecedents", "consequents", *NAMES]
+    assert sides_and_figures(found) == documented()
+    found = association_rules(itemsets, metric="lift", min_threshold=1.2)
+    assert sides_and_figures(found) == documented(1.2)
+    found = association_rules(itemsets, metric="support", min_threshold=0.8)
+    eggs, beans = frozenset(["Eggs"]), frozenset(["Kidney Beans"])
+    assert [*sides_and_figures(found)] == [(beans, eggs), (eggs, beans)]
+    found = association_rules(itemsets, return_metrics=["lift", "support"])
+    assert list(found.columns) == ["antecedents", "consequents", "lift", "support"]
+
+
+def test_a_frame_of_mlxtend_needs_the_number_of_its_rows() -> None:
+    itemsets = pd.DataFrame(BY_NAME, columns=["support", "itemsets"])
+    itemsets["itemsets"] = itemsets["itemsets"].map(list)
+    with pytest.raises(DataError, match="give num_itemsets="):
+        association_rules(itemsets, min_threshold=0.7)
+    found = association_rules(itemsets, num_itemsets=5, min_threshold=0.7)
+    assert sides_and_figures(found) == documented()
+    with pytest.raises(DataError, match="no shares of 4"):
+        association_rules(itemsets, num_itemsets=4)
+    with pytest.raises(DataError, match="an itemset twice"):
+        association_rules(pd.concat([itemsets, itemsets[:1]]), num_itemsets=5)
+
+
+def test_rows_without_an_item_are_baskets_as_in_mlxtend() -> None:
+    rows = pd.DataFrame({"a": [1, 1, 0, 0], "b": [1, 0, 0, 0]}, dtype=bool)
+    found = apriori(rows, min_support=0.25, use_colnames=True)
+    assert pairs(found) == [(0.5, {"a"}), (0.25, {"b"}), (0.25, {"a", "b"})]
+    rules = association_rules(found, metric="lift", min_threshold=0)
+    assert rules["lift"].tolist() == [2.0, 2.0]
+
+
+@pytest.mark.parametrize("top", range(1, 7))
+def test_a_support_meets_a_minimum_as_a_float(top: int) -> None:
+    rows = pd.DataFrame({"a": [True] * top + [False] * (6 - top)})
+    assert len(apriori(rows, min_support=top / 6)) == 1
+    assert len(apriori(rows, min_support=min(top / 6 + 1e-15, 1))) == (top == 6)
+
+
+@pytest.mark.parametrize("metric", ["support", "confidence", "lift"])
+def test_rules_at_a_threshold_are_those_of_brute_force(metric: str) -> None:
+    chance = random.Random(5)
+    baskets = [chance.sample("abcdef", chance.randint(1, 4)) for _ in range(42)]
+    rows = pd.DataFrame([[item in basket for item in "abcdef"] for basket in baskets])
+    rows.columns = pd.Index([*"abcdef"])
+    found = association_rules(
+        apriori(rows, 1 / 42, use_colnames=True), metric=metric, min_threshold=2 / 3
+    )
+    expected = {}
+    for sides, (count, confidence, lift) in brute.rules(baskets, 1, 0).items():  # type: ignore[arg-type]
+        figures = {"support": count / 42, "confidence": float(confidence)}
+        figures["lift"] = float(lift)
+        if figures[metric] >= 2 / 3:
+            expected[sides] = tuple(figures.values())
+    assert {
+        sides: figures[2:] for sides, figures in sides_and_figures(found).items()
+    } == expected
+
+
+@pytest.mark.parametrize(
+    ("said", "call"),
+    [
+        ("max_len is not here", lambda: apriori(FRAME, max_len=2)),  # type: ignore[arg-type]
+        ("null_values and df_orig are not", lambda: fpgrowth(FRAME, null_values=True)),
+        ("above 0 and at most 1", lambda: apriori(FRAME, min_support=0.0)),
+        ("pandas.DataFrame is needed", lambda: fpmax(DATASET)),
+        ("values other than 0 and 1", lambda: apriori(FRAME.astype(int) * 2)),
+        (
+            "metric 'leverage' is not here",
+            lambda: association_rules(FRAME, metric="leverage"),
+        ),
+        ("support_only is not", lambda: association_rules(FRAME, support_only=True)),
+        ("no column", lambda: association_rules(FRAME, 5)),
+        (
+            "by name",
+            lambda: association_rules(apriori(FRAME), "confidence"),  # type: ignore[arg-type]
+        ),
+        ("made from 5 rows", lambda: association_rules(apriori(FRAME), 1)),
+        ("not of fpmax", lambda: association_rules(fpmax(FRAME))),
+    ],
+)
+def test_what_only_mlxtend_has_is_refused_with_what_to_do(said: str, call: Any) -> None:
+    with pytest.raises(DataError, match=said):
+        call()

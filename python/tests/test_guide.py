@@ -1,0 +1,106 @@
+"""The blocks of docs/GUIDE.md, run in their order beside what the guide shows that they print."""
+
+import contextlib
+import importlib.util
+import io
+import os
+import re
+import shutil
+import subprocess
+from collections.abc import Iterator
+from dataclasses import dataclass
+from fractions import Fraction
+from pathlib import Path
+from typing import Any
+
+import matplotlib
+import pytest
+
+from basket_miner._program import find
+
+matplotlib.use("agg")
+
+ROOT = Path(__file__).parents[2]
+GUIDE = (ROOT / "docs/GUIDE.md").read_text(encoding="utf-8")
+FENCE = re.compile(
+    r"^```(\w+) ?(\w*)\n(.*?)^```\n(?:\n```text\n(.*?)^```\n)?", re.M | re.S
+)
+
+
+@dataclass(frozen=True)
+class Block:
+    """A block of code, what it needs beside the package, and what it shall print."""
+
+    line: int
+    language: str
+    needed: str
+    code: str
+    printed: str | None
+
+
+def blocks() -> list[Block]:
+    return [
+        Block(GUIDE.count("\n", 0, found.start()) + 2, *found.groups())
+        for found in FENCE.finditer(GUIDE)
+    ]
+
+
+@pytest.fixture(scope="module")
+def place(tmp_path_factory: pytest.TempPathFactory) -> Iterator[Path]:
+    """A folder with the examples, and the program on the path."""
+    folder = tmp_path_factory.mktemp("guide")
+    (folder / "examples").symlink_to(ROOT / "examples")
+    (folder / "basket").symlink_to(find().resolve())
+    with pytest.MonkeyPatch.context() as patch:
+        patch.chdir(folder)
+        patch.setenv("PATH", f"{folder}:{os.environ['PATH']}")
+        yield folder
+
+
+@pytest.fixture(scope="module")
+def names() -> dict[str, Any]:
+    """What the blocks of Python have named so far."""
+    return {"__name__": "guide"}
+
+
+def printed_by(block: Block, names: dict[str, Any]) -> str:
+    if block.language == "python":
+        with contextlib.redirect_stdout(io.StringIO()) as printed:
+            exec(compile(block.code, f"GUIDE.md:{block.line}", "exec"), names)
+        return printed.getvalue()
+    words = {"sh": ["bash", "-euc"], "r": ["Rscript", "-e"]}[block.language]
+    run = subprocess.run(
+        [*words, block.code], capture_output=True, text=True, check=True
+    )
+    return run.stdout
+
+
+@pytest.mark.parametrize("block", blocks(), ids=lambda block: f"line {block.line}")
+def test_a_block_prints_what_the_guide_shows(
+    block: Block, place: Path, names: dict[str, Any]
+) -> None:
+    if block.needed and importlib.util.find_spec(block.needed) is None:
+        pytest.skip(f"{block.needed} is not here")
+    if block.language == "r" and shutil.which("Rscript") is None:
+        pytest.skip("R is not here")
+    assert printed_by(block, names) == (block.printed or "")
+
+
+def test_the_pictures_that_the_guide_shows_are_there() -> None:
+    shown = re.findall(r"!\[[^]]+\]\(([^)]+)\)", GUIDE)
+    assert len(shown) == 3
+    assert [name for name in shown if not (ROOT / "docs" / name).is_file()] == []
+
+
+def test_the_first_block_gives_the_rules_that_readme_shows(place: Path) -> None:
+    names: dict[str, Any] = {}
+    printed_by(blocks()[0], names)
+    readme = (ROOT / "README.md").read_text(encoding="utf-8")
+    shown = readme.partition("--header examples/receipts.csv\n")[2].partition("\n\n")[0]
+    wanted = []
+    for line in shown.split():
+        count, confidence, lift, _, left, right = line.split(",")
+        figures = int(count), float(Fraction(confidence)), float(Fraction(lift))
+        wanted.append((frozenset({left}), frozenset({right}), *figures))
+    found = names["found"].drop(columns="support")
+    assert list(found.itertuples(index=False, name=None)) == wanted

@@ -1,0 +1,144 @@
+"""What the pictures show, beside the numbers that were given."""
+
+import itertools
+import subprocess
+import sys
+from fractions import Fraction
+from pathlib import Path
+
+import matplotlib
+import numpy as np
+import pandas as pd
+import pytest
+
+import brute
+from basket_miner import DataError, plot, rules, sets
+from basket_miner._minimum import Minimum
+
+matplotlib.use("agg")
+
+ROOT = Path(__file__).parents[2]
+# Each letter is an item.
+BASKETS = ["abcdefg", "abc", "ab", "abd", "cd", "c", "bcd", "abcdef", "a", "abe"]
+
+
+def frame_of(*rows: tuple[str, str, float, float, float]) -> pd.DataFrame:
+    names = ["antecedents", "consequents", "support", "confidence", "lift"]
+    sides = [(frozenset(left), frozenset(right), *rest) for left, right, *rest in rows]
+    return pd.DataFrame(sides, columns=names)
+
+
+RULES = frame_of(
+    ("a", "b", 0.25, 0.5, 0.75),
+    ("b", "c", 0.5, 1.0, 2.0),
+    ("bd", "c", 0.125, 0.75, 1.5),
+    ("a", "cd", 0.125, 0.25, 2.0),
+)
+
+
+def overlapping(texts: list[matplotlib.text.Text]) -> list[tuple[str, str]]:
+    """The pairs of texts on a drawn figure whose boxes share a place."""
+    boxes = [(text.get_text(), text.get_window_extent()) for text in texts]
+    pairs = itertools.combinations([box for box in boxes if box[0]], 2)
+    return [(one[0], two[0]) for one, two in pairs if one[1].overlaps(two[1])]
+
+
+def test_each_rule_is_a_dot_and_those_of_a_lift_below_1_are_triangles() -> None:
+    low, high = plot.rules(RULES).collections[:2]
+    assert low.get_offsets().tolist() == [[25, 50]]
+    assert low.get_array().tolist() == [0.75]
+    assert high.get_offsets().tolist() == [[12.5, 75], [50, 100], [12.5, 25]]
+    assert high.get_array().tolist() == [1.5, 2.0, 2.0]
+    assert len(low.get_paths()[0].vertices) < len(high.get_paths()[0].vertices)
+
+
+def test_lines_are_the_numbers_of_sets_of_each_size_that_meet_a_minimum() -> None:
+    counts = brute.supports(BASKETS)
+    minimums = [1, 2, 3, 4, 6, 7]
+    axes = plot.minimums(map(list, BASKETS), reversed(minimums))
+    names = [line.get_label() for line in axes.lines]
+    assert names == ["all", "1", "2", "3", "4", "5 or more"]
+    for line, name in zip(axes.lines, names):
+        sizes = {"all": range(1, 8), "5 or more": range(5, 8)}.get(name) or [int(name)]
+        wanted = [
+            sum(
+                count >= least for items, count in counts.items() if len(items) in sizes
+            )
+            for least in minimums
+        ]
+        shown = line.get_ydata().tolist()
+        assert shown == wanted[: len(shown)]
+        assert not any(wanted[len(shown) :])
+
+
+def test_a_share_is_exactly_the_share_of_all_baskets() -> None:
+    counts = brute.supports(BASKETS)
+    shares: list[Minimum] = ["1/10", 0.2, Fraction(3, 10), "1/3", "2/3", 0.7, 1.0]
+    line = plot.minimums(sets(map(list, BASKETS), 1), shares).lines[0]
+    wanted = [
+        sum(10 * count >= tenths for items, count in counts.items() if items)
+        for tenths in (10, 20, 30, 33.3, 66.7, 70, 100)
+    ]
+    assert line.get_ydata().tolist() == wanted
+
+
+def test_the_matrix_has_the_strongest_rules_at_their_sides() -> None:
+    axes = plot.strongest(RULES, most=3)
+    assert [text.get_text() for text in axes.get_yticklabels()] == ["b", "a", "b, d"]
+    assert [text.get_text() for text in axes.get_xticklabels()] == ["c", "c, d"]
+    lifts = axes.collections[0].get_array().reshape(3, 2)
+    assert lifts.filled(0).tolist() == [[2.0, 0], [0, 2.0], [1.5, 0]]
+    texts = {text.get_text(): text.get_position() for text in axes.texts}
+    assert texts == {
+        "2\n100%": (0.5, 0.5),
+        "2\n25%": (1.5, 1.5),
+        "1.5\n75%": (0.5, 2.5),
+    }
+
+
+def test_a_picture_is_drawn_on_the_axis_that_is_given() -> None:
+    figure, axes = matplotlib.pyplot.subplots(3)
+    frame = sets(map(list, BASKETS), 1)
+    assert plot.rules(RULES, axes[0]) is axes[0]
+    assert plot.minimums(frame, [1, 2], axes[1]) is axes[1]
+    assert plot.strongest(RULES, axes[2]) is axes[2]
+    assert all(one.has_data() for one in axes)
+
+
+def test_labels_and_cells_do_not_lie_over_each_other() -> None:
+    path = ROOT / "examples/receipts.csv"
+    found = rules(path, 2, "1/4", form="single", header=True)
+    for axes in (
+        plot.rules(found),
+        plot.minimums(path, range(1, 40), form="single", header=True),
+        plot.strongest(found),
+    ):
+        axes.figure.canvas.draw()
+        assert overlapping([*axes.get_xticklabels(), *axes.texts]) == []
+        assert overlapping([*axes.get_yticklabels(), *axes.texts]) == []
+
+
+def test_frames_and_minimums_that_cannot_be_drawn_are_refused() -> None:
+    with pytest.raises(DataError, match="no rule"):
+        plot.rules(RULES.head(0))
+    with pytest.raises(DataError, match="no column 'lift'"):
+        plot.strongest(RULES.drop(columns="lift"))
+    with pytest.raises(DataError, match="at least 1"):
+        plot.strongest(RULES, most=0)
+    refused: list[list[Minimum]] = [[], [1, 0.5], ["one"], ["1/0"]]
+    for minimums in refused:
+        with pytest.raises(DataError):
+            plot.minimums(map(list, BASKETS), minimums)
+
+
+def test_the_pictures_of_the_documents_are_those_that_the_script_makes(
+    tmp_path: Path,
+) -> None:
+    subprocess.run([sys.executable, ROOT / "tools/pictures.py", tmp_path], check=True)
+    made = sorted(tmp_path.iterdir())
+    assert [file.name for file in made] == [
+        *("minimums.png", "rules.png", "strongest.png")
+    ]
+    for file in made:
+        shown = matplotlib.image.imread(ROOT / "docs/pictures" / file.name)
+        assert np.array_equal(matplotlib.image.imread(file), shown), file.name

@@ -1,0 +1,91 @@
+"""A wheel, and the package as pip installs it, run in a virtual environment without this repository."""
+
+import os
+import subprocess
+import sys
+import zipfile
+from importlib import metadata
+from pathlib import Path
+
+import pytest
+
+from basket_miner import _program
+
+ROOT = Path(__file__).parents[2]
+PIP = ("-m", "pip", "--disable-pip-version-check", "install", "--no-index", "--no-deps")
+SCRIPT = """
+import basket_miner
+from pathlib import Path
+print(basket_miner._program.find().relative_to(Path(basket_miner.__file__).parent))
+print(basket_miner.sets([["tea", "jam"], ["tea"]], 0.6)["support"].tolist())
+"""
+
+
+def fresh(folder: Path) -> Path:
+    """The Python of a new virtual environment that has the system's packages, as pandas and pip."""
+    words = ["-m", "venv", "--system-site-packages", "--without-pip", str(folder)]
+    subprocess.run([sys.executable, *words], check=True)
+    return folder / "bin/python"
+
+
+def output_of(*words: str | Path, folder: Path, program: str | None = None) -> str:
+    """What a command prints in a folder, where nothing but `BASKET` may lead to the program."""
+    environment = {"PATH": "/usr/bin:/bin", "HOME": str(folder)}
+    environment |= {} if program is None else {"BASKET": program}
+    return subprocess.run(
+        [*map(str, words)],
+        cwd=folder,
+        env=environment,
+        stdout=subprocess.PIPE,
+        text=True,
+        check=True,
+    ).stdout
+
+
+@pytest.fixture(name="wheel", scope="module")
+def made_wheel(tmp_path_factory: pytest.TempPathFactory) -> Path:
+    environment = {**os.environ, "BASKET": str(_program.find())}
+    words = [sys.executable, "tools/wheel.py", str(tmp_path_factory.mktemp("dist"))]
+    made = subprocess.run(
+        words, cwd=ROOT, env=environment, stdout=subprocess.PIPE, text=True, check=True
+    )
+    return Path(made.stdout.strip())
+
+
+def test_a_wheel_has_the_program_and_needs_nothing_of_the_repository(
+    wheel: Path, tmp_path: Path
+) -> None:
+    python = fresh(tmp_path / "fresh")
+    output_of(python, *PIP, wheel, folder=tmp_path)
+    said = output_of(python, "-c", SCRIPT, folder=tmp_path)
+    assert said.splitlines() == ["bin/basket", "[1.0]"]
+
+
+def test_the_tag_of_a_wheel_is_that_of_the_oldest_c_library(wheel: Path) -> None:
+    program = _program.find().read_bytes()
+    _, _, version = wheel.stem.rpartition("manylinux_")
+    major, minor, machine = version.split("_", 2)
+    assert machine == "x86_64"
+    asked = f"GLIBC_{major}.{minor}\0".encode()
+    later = [f"GLIBC_2.{more}\0".encode() for more in range(int(minor) + 1, 99)]
+    assert asked in program
+    assert not any(symbol in program for symbol in later)
+    with zipfile.ZipFile(wheel) as parts:
+        assert parts.read("basket_miner/bin/basket") == program
+
+
+def test_pip_installs_the_package_beside_a_program(tmp_path: Path) -> None:
+    python = fresh(tmp_path / "fresh")
+    sources = tmp_path / "python"
+    words = ["cp", "-r", str(ROOT / "python"), str(sources)]
+    subprocess.run(words, check=True)
+    output_of(python, *PIP, "--no-build-isolation", sources, folder=tmp_path)
+    script = SCRIPT.replace(".relative_to(Path(basket_miner.__file__).parent)", "")
+    program = str(_program.find().resolve())
+    said = output_of(python, "-c", script, folder=tmp_path, program=program)
+    assert said.splitlines() == [program, "[1.0]"]
+
+
+def test_the_package_has_the_version_of_the_program(wheel: Path) -> None:
+    (found,) = metadata.distributions(name="basket-miner", path=[str(wheel)])
+    assert f"basket {found.version}" == _program.run(["--version"]).decode().strip()

@@ -1,0 +1,38 @@
+#!/usr/bin/env python3
+"""Makes the pictures of README and docs/GUIDE.md from examples/.
+
+usage: tools/pictures.py [FOLDER]    at the top of the repository; FOLDER is docs/pictures by default
+
+It needs Debian's packages (tools/python-packages) and the program. One version of matplotlib writes the
+same bytes each time.
+"""
+
+import os
+import sys
+from pathlib import Path
+
+ROOT = Path(__file__).resolve().parents[1]
+sys.path.insert(0, str(ROOT / "python"))
+os.environ["MPLBACKEND"] = "agg"
+
+from basket_miner import plot, rules  # noqa: E402
+
+RECEIPTS = ROOT / "examples/receipts.csv"
+
+
+def main(words: list[str]) -> None:
+    folder = Path(words[0]) if words else ROOT / "docs/pictures"
+    folder.mkdir(parents=True, exist_ok=True)
+    found = rules(RECEIPTS, 2, "1/4", form="single", header=True)
+    counts = [1, 2, 3, 4, 5, 6, 8, 10, 12]
+    pictures = {
+        "rules": plot.rules(found),
+        "minimums": plot.minimums(RECEIPTS, counts, form="single", header=True),
+        "strongest": plot.strongest(found),
+    }
+    for name, axes in pictures.items():
+        axes.figure.savefig(folder / f"{name}.png", metadata={"Software": None})
+
+
+if __name__ == "__main__":
+    main(sys.argv[1:])

@@ -1,0 +1,83 @@
+#!/usr/bin/env python3
+"""Makes a wheel of the Python package with the proved program in it, under dist/.
+
+usage: tools/wheel.py [FOLDER]    at the top of the repository, after `make`; FOLDER instead of dist
+
+`BASKET` names another program. The wheel's tag is that of the oldest C library that has all symbols which
+the program asks for. It needs `setuptools`, `wheel` and `pip` of the Python that runs this, `objdump`, and no
+network. The same program and commit give the same bytes.
+"""
+
+import os
+import re
+import shutil
+import subprocess
+import sys
+import tempfile
+from pathlib import Path
+
+PROGRAM = Path(os.environ.get("BASKET", "crates/basket_cli/out/basket_cli"))
+PACKAGE = Path("python")
+# The oldest C library that a tag can name: a static program asks for none.
+LEAST = (2, 5)
+
+
+def output_of(*words: str) -> str:
+    return subprocess.run(
+        words, stdout=subprocess.PIPE, text=True, check=True
+    ).stdout.strip()
+
+
+def platform() -> str:
+    """The tag's platform: that of the oldest C library which has all that the program calls."""
+    words = ["objdump", "-T", str(PROGRAM)]
+    asked = subprocess.run(words, capture_output=True, text=True, check=False)
+    if asked.returncode != 0 and "not a dynamic object" not in asked.stderr:
+        sys.exit(asked.stderr)
+    called = re.findall(r"GLIBC_(\d+)\.(\d+)", asked.stdout)
+    versions = [(int(major), int(minor)) for major, minor in called]
+    major, minor = max([LEAST, *versions])
+    return f"manylinux_{major}_{minor}_x86_64"
+
+
+def copy_package(folder: Path) -> None:
+    """The package's sources in a folder, with the program among them."""
+    for name in ("pyproject.toml", "README.md"):
+        shutil.copy(PACKAGE / name, folder)
+    shutil.copytree(
+        PACKAGE / "basket_miner",
+        folder / "basket_miner",
+        ignore=shutil.ignore_patterns("__pycache__", "bin"),
+    )
+    place = folder / "basket_miner/bin/basket"
+    place.parent.mkdir()
+    shutil.copyfile(PROGRAM, place)
+    place.chmod(0o755)
+
+
+def build(source: Path, folder: Path) -> Path:
+    """The wheel of a package's sources, in a folder."""
+    time = output_of("git", "log", "-1", "--format=%ct")
+    words = [sys.executable, "-m", "pip", "wheel", "--quiet", "--no-index", "--no-deps"]
+    words += ["--no-build-isolation", f"--wheel-dir={folder}"]
+    words += [f"--config-settings=--build-option=--plat-name={platform()}", str(source)]
+    environment = {**os.environ, "SOURCE_DATE_EPOCH": time, "PYTHONWARNINGS": "ignore"}
+    subprocess.run(words, env=environment, check=True)
+    (made,) = folder.glob("*.whl")
+    return made
+
+
+def main(words: list[str]) -> int:
+    folder = Path(words[0] if words else "dist")
+    folder.mkdir(parents=True, exist_ok=True)
+    with tempfile.TemporaryDirectory(prefix="basket-wheel-") as name:
+        source, built = Path(name, "source"), Path(name, "built")
+        source.mkdir()
+        copy_package(source)
+        made = build(source, built)
+        print(shutil.copy(made, folder))
+    return 0
+
+
+if __name__ == "__main__":
+    sys.exit(main(sys.argv[1:]))
