@@ -1,8 +1,8 @@
 ghost use Rattle.std.specs.Prelude.{◌≡◌, false};
 
 use basket::{
-    Ask, CountPlan, Form, Gate, Invocation, Miner, Open, Plan, RunFault, Task, invocation_of, mine,
-    run, run_count, status_of,
+    Ask, CountPlan, Form, Gate, Invocation, Layout, Miner, Open, Plan, RunFault, Task,
+    invocation_of, mine, run, run_count, status_of,
 };
 use basket_core::{Database, MemSink, MemSource, MineFault, Sink, Source, parse_minimum};
 use basket_read::{ReadFault, read_fimi};
