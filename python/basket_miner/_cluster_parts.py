@@ -16,8 +16,8 @@ from dask.delayed import delayed
 from distributed import Client, Future
 
 from ._baskets import baskets_of, checked_weights, grouped
-from ._cluster_passes import awaited, tree
-from ._data import Layout, read
+from ._cluster_tasks import awaited, tree
+from ._data import SEPARATOR_WORDS, Layout, read
 from ._errors import DataError
 
 Labels = list[Hashable]
@@ -34,10 +34,21 @@ class Parts:
     Args:
         texts: for each part its file, or the future of its FIMI text.
         labels: the label of each number in a report, from 0 on; nothing where parts are files.
+        words: the options of the program that say how files are written.
+        separator: of a report that is CSV, else nothing.
     """
 
     texts: Sequence[Path | Future]
     labels: Labels | None = None
+    words: tuple[str, ...] = ()
+    separator: str | None = None
+
+    @property
+    def counts(self) -> tuple[str, ...]:
+        """The options that say how the counts of parts are written."""
+        if self.separator is None:
+            return ("--form=counts",)
+        return "--form=csv-counts", f"--sep={SEPARATOR_WORDS[self.separator]}"
 
 
 def prepared(
@@ -72,13 +83,14 @@ def _files(names: list[Any], layout: Layout) -> Parts:
     for name in names:
         if not isinstance(name, (str, os.PathLike)):
             raise DataError(f"a part is the name of a file, not {type(name).__name__}")
-        is_csv = layout.form is None and Path(name).suffix.lower() in (".csv", ".tsv")
-        if is_csv or read(name, layout).separator is not None:
-            raise DataError(
-                "the parts of CSV files are not counted by names yet: read them as a Dask data "
-                "frame (dask.dataframe.read_csv) or as a dask.bag of baskets"
-            )
-    return Parts([Path(os.path.abspath(name)) for name in names])
+    if layout.form == "single":
+        raise DataError(
+            "files of a row an item may cut a basket: read them as a Dask data frame "
+            "(dask.dataframe.read_csv), which brings the rows of a basket together"
+        )
+    read_so = [read(name, layout) for name in names]
+    files = [Path(os.path.abspath(name)) for name in names]
+    return Parts(files, words=read_so[0].words, separator=read_so[0].separator)
 
 
 def _bag(bag: Any, client: Client, layout: Layout, progress: bool) -> Parts:

@@ -11,21 +11,20 @@ import tempfile
 from collections.abc import Callable, Sequence
 from dataclasses import dataclass
 from fractions import Fraction
-from importlib import import_module
+from functools import partial
 from pathlib import Path
 from typing import Any
 
 from distributed import Client, Future
-from distributed import progress as engine_bar
 
+from ._cluster_parts import Parts
 from ._cluster_question import Question
+from ._cluster_tasks import awaited, tree
 from ._errors import BasketError
 from ._program import run
 
 # The greatest denominator of a share that the program reads.
 MOST = 4_294_967_295
-# How many texts one task puts together.
-WIDTH = 8
 
 
 @dataclass(frozen=True)
@@ -37,9 +36,9 @@ class Answer:
 
 
 def answered(
-    client: Client, parts: Sequence[Any], question: Question, progress: bool = False
+    client: Client, parts: Parts, question: Question, progress: bool = False
 ) -> Answer:
-    """The answer over all parts, each a path or the future of bytes.
+    """The answer over all parts.
 
     Raises:
         BasketError: as the program ends over a part, which is told, or over the counts.
@@ -48,51 +47,36 @@ def answered(
     return answer
 
 
-def awaited(future: Future, progress: bool) -> Any:
-    """What a future gives. It is cancelled where it is waited for no longer."""
-    try:
-        # In a terminal the engine's bar ends with the work; in a notebook it is a widget.
-        if progress and (bar := engine_bar(future)) is not None:
-            import_module("IPython.display").display(bar)
-        return future.result()
-    except BaseException:
-        future.cancel()
-        raise
-
-
-def _submitted(client: Client, parts: Sequence[Any], question: Question) -> Future:
+def _submitted(client: Client, parts: Parts, question: Question) -> Future:
     """The future of the answer."""
-    names = [f"part {number} of {len(parts)}" for number in range(1, len(parts) + 1)]
+    size = len(parts.texts)
+    names = [f"part {number} of {size}" for number in range(1, size + 1)]
 
     def over_parts(task: Callable[..., bytes], *given: Any) -> list[Future]:
         return [
             client.submit(task, part, name, *given, pure=False)
-            for part, name in zip(parts, names)
+            for part, name in zip(parts.texts, names)
         ]
 
+    counting = (*parts.words, *question.counting)
+    added, united = partial(_added, parts.counts), partial(_united, parts.words)
     share: Future | str = question.minimum
     if question.minimum.isdecimal():
-        weights = over_parts(_counted, b"", question.counting)
-        weight = tree(client, _added, weights)
+        weight = tree(client, added, over_parts(_counted, b"", counting))
         share = client.submit(_share, question.minimum, weight, pure=False)
-    words = (question.first, *question.mining)
-    asked = tree(client, _united, over_parts(_found, share, words))
-    counts = tree(client, _added, over_parts(_counted, asked, question.counting))
-    last: Future = client.submit(_answered, question, counts, pure=False)
+    mining = (question.first, *parts.words, *question.mining)
+    # All names of a part come first, since a report's order goes by where names first appear.
+    naming = None if parts.separator is None else ("items", "--min=0%", *parts.words)
+    found = over_parts(_found, share, mining, naming)
+    asked = tree(client, united, found)
+    counts = tree(client, added, over_parts(_counted, asked, counting))
+    last: Future = client.submit(_answered, question, parts.counts, counts, pure=False)
     return last
 
 
-def tree(client: Client, merge: Callable[..., Any], futures: list[Future]) -> Future:
-    """The future of neighbours put together, and again, until there is one."""
-    while len(futures) > 1:
-        groups = [futures[at : at + WIDTH] for at in range(0, len(futures), WIDTH)]
-        futures = [client.submit(merge, *group, pure=False) for group in groups]
-    return futures[0]
-
-
 def _total(counts: bytes) -> int:
-    """The count of the empty set, which `count` writes first, as `(15)`."""
-    return int(counts[1 : counts.index(b")")])
+    """The count of the empty set, which `count` writes first, as `(15)`, and by names as `15`."""
+    return int(counts.partition(b"\n")[0].strip(b"()"))
 
 
 def _named(part: bytes | Path, name: str, words: list[str]) -> bytes:
@@ -104,14 +88,23 @@ def _named(part: bytes | Path, name: str, words: list[str]) -> bytes:
         raise type(error)(f"{error} ({where})") from None
 
 
-def _found(part: bytes | Path, name: str, share: str, words: Sequence[str]) -> bytes:
-    """The sets that are frequent in a part; none, where there is no share."""
-    return _named(part, name, [*words, "--min", share]) if share else b""
+def _found(
+    part: bytes | Path,
+    name: str,
+    share: str,
+    mining: Sequence[str],
+    naming: Sequence[str] | None,
+) -> bytes:
+    """The sets that are frequent in a part, behind its names; none, where there is no share."""
+    if not share:
+        return b""
+    names = b"" if naming is None else _named(part, name, [*naming])
+    return names + _named(part, name, [*mining, "--min", share])
 
 
-def _united(*reports: bytes) -> bytes:
+def _united(words: Sequence[str], *reports: bytes) -> bytes:
     """The sets of some reports, each once, by counting them in no baskets."""
-    return run(["count", "--sets", "-", os.devnull], b"".join(reports))
+    return run(["count", "--sets", "-", *words, os.devnull], b"".join(reports))
 
 
 def _counted(
@@ -124,9 +117,8 @@ def _counted(
         return _named(part, name, ["count", "--sets", file.name, *words])
 
 
-def _added(*counts: bytes) -> bytes:
+def _added(words: Sequence[str], *counts: bytes) -> bytes:
     """The counts of some parts, all of which have the same sets, added up."""
-    words = ("--form", "counts")
     return _counted(b"".join(counts), "the counts of parts", counts[0], words)
 
 
@@ -145,7 +137,7 @@ def _share(count: str, weights: bytes) -> str:
     return f"{share.numerator}/{share.denominator}"
 
 
-def _answered(question: Question, counts: bytes) -> Answer:
+def _answered(question: Question, words: Sequence[str], counts: bytes) -> Answer:
     """The report of the question over the counts of all parts."""
-    words = [question.command, *question.deciding, "--form=counts"]
-    return Answer(run(words, counts), _total(counts))
+    command = [question.command, *question.deciding, *words]
+    return Answer(run(command, counts), _total(counts))

@@ -6,6 +6,7 @@ from collections.abc import Sequence
 from dataclasses import dataclass
 from typing import NoReturn
 
+from ._data import Layout
 from ._errors import UsageError
 from ._program import run
 
@@ -23,6 +24,7 @@ class Question:
         deciding: the options that decide the report: `--min`, `--conf`, `--limit`.
         mining: those by which the sets of a part are found: `--miner`, `--workers`, `--pieces`.
         counting: those by which they are counted: `--workers`, `--pieces`.
+        layout: how files are written: `--form`, `--sep`, `--header`, `--weight`.
     """
 
     command: str
@@ -30,6 +32,7 @@ class Question:
     deciding: tuple[str, ...]
     mining: tuple[str, ...]
     counting: tuple[str, ...]
+    layout: Layout
 
     @property
     def first(self) -> str:
@@ -52,7 +55,10 @@ def question_of(words: Sequence[str]) -> Question:
     """
     parser = _Words(add_help=False, allow_abbrev=False)
     parser.add_argument("command", choices=_COMMANDS)
-    parser.add_argument("--form", choices=["fimi"])
+    parser.add_argument("--form", choices=["fimi", "baskets", "single"])
+    parser.add_argument("--sep")
+    for name in ("header", "weight"):
+        parser.add_argument(f"--{name}", action="store_true")
     for name in _OPTIONS:
         parser.add_argument(f"--{name}", required=name == "min")
     given = vars(parser.parse_args(words))
@@ -67,6 +73,12 @@ def question_of(words: Sequence[str]) -> Question:
         kept("min", "conf", "limit"),
         kept("miner", "workers", "pieces"),
         kept("workers", "pieces"),
+        Layout(
+            form=given["form"],
+            sep=given["sep"],
+            header=given["header"],
+            weighted=given["weight"],
+        ),
     )
     _tried(question)
     return question

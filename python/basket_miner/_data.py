@@ -20,7 +20,7 @@ Missing = Literal["refuse", "drop"]
 Form = Literal["fimi", "baskets", "single"]
 
 _SEPARATORS = {"comma": ",", "semicolon": ";", "tab": "\t", "pipe": "|"}
-_SEPARATOR_WORDS = {character: word for word, character in _SEPARATORS.items()}
+SEPARATOR_WORDS = {character: word for word, character in _SEPARATORS.items()}
 _CSV_ENDINGS = (".csv", ".tsv")
 
 
@@ -90,7 +90,7 @@ def _file(path: Path, layout: Layout) -> Baskets:
     if form == "fimi":
         _refuse_others(layout, "form", "a FIMI file")
         return Baskets(path)
-    sep = _SEPARATOR_WORDS.get(layout.sep or ",", layout.sep)
+    sep = SEPARATOR_WORDS.get(layout.sep or ",", layout.sep)
     if sep not in _SEPARATORS:
         raise DataError(f"sep is one of {', '.join(_SEPARATORS)}, not {sep!r}")
     for name in ("header", "weighted"):

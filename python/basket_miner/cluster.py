@@ -1,7 +1,7 @@
 # mypy: allow-untyped-calls
 """The package's questions over parts of the baskets, on a cluster of Dask's distributed engine.
 
-Parts are a list of FIMI files that all workers can read by these names, a `dask.bag` of
+Parts are a list of files, FIMI or CSV, that all workers can read by these names, a `dask.bag` of
 baskets, or a Dask data frame with a row for each item of a basket, which is shuffled by its
 baskets first, so that no basket is cut. The workers need this package and the program, of one
 version everywhere: the wheel of `make wheel` has both.
@@ -15,8 +15,8 @@ one run to the next. A minimum that is a count takes a pass more, in front: the 
 parts, whose sum makes a share of the count.
 
 Items of bags and frames are numbered before the passes, from 0, by first appearance over the
-parts in their order. A worker that is lost is the engine's to handle: it runs the lost steps
-again.
+parts in their order. Names of CSV files stay names. A worker that is lost is the engine's to
+handle: it runs the lost steps again.
 """
 
 from collections.abc import Hashable
@@ -46,6 +46,9 @@ def prepare(
     weight: Hashable | None = None,
     missing: Missing = "refuse",
     form: Form | None = None,
+    sep: str | None = None,
+    header: bool = False,
+    weighted: bool = False,
     progress: bool = False,
 ) -> Parts:
     """Parts that several questions can be asked of, without being read and shuffled again.
@@ -55,7 +58,8 @@ def prepare(
         client: of the cluster.
         basket, item, weight, missing: of a data frame, as `basket_miner.sets` takes them;
             `missing` of a bag too.
-        form: of files; those of CSV are refused for now.
+        form, sep, header, weighted: of files, all alike, as `basket_miner.sets` takes them, but
+            for `form="single"`, whose files may cut a basket. Each file has its own header.
         progress: shows the engine's bar while a bag or a frame is read.
 
     Returns:
@@ -66,7 +70,7 @@ def prepare(
         DataError: the parts are none of these, there is none, they have bad values, or a keyword
             does not go with them.
     """
-    layout = Layout(basket, item, weight, missing=missing, form=form)
+    layout = Layout(basket, item, weight, None, missing, form, sep, header, weighted)
     return prepared(parts, client, layout, progress)
 
 
@@ -76,8 +80,9 @@ def report(parts: Any, *words: str, client: Client, progress: bool = False) -> b
     Args:
         parts: files, a bag, or what `prepare` answers.
         words: those of the program without a file, as `"rules", "--min", "1%", "--conf", "1/2"`.
-            `--miner`, `--workers` and `--pieces` are how each part is mined; `--limit` bounds
-            the sets of the whole.
+            `--form`, `--sep`, `--header` and `--weight` are how files are written; `--miner`,
+            `--workers` and `--pieces` how each part is mined; `--limit` bounds the sets of the
+            whole.
         client: of the cluster.
         progress: shows the engine's bar.
 
@@ -86,8 +91,8 @@ def report(parts: Any, *words: str, client: Client, progress: bool = False) -> b
         BasketError: as the program ends over a part, which is told, or over the counts.
     """
     question = question_of(words)
-    ready = prepared(parts, client, Layout(), progress)
-    return answered(client, ready.texts, question, progress).report
+    ready = prepared(parts, client, question.layout, progress)
+    return answered(client, ready, question, progress).report
 
 
 def sets(
@@ -100,6 +105,9 @@ def sets(
     weight: Hashable | None = None,
     missing: Missing = "refuse",
     form: Form | None = None,
+    sep: str | None = None,
+    header: bool = False,
+    weighted: bool = False,
     miner: Miner | None = None,
     workers: int = 1,
     limit: int | None = None,
@@ -112,7 +120,7 @@ def sets(
         parts: as this module says, or what `prepare` answers.
         minimum: a count or a share of all baskets, as `basket_miner.sets` takes it.
         client: of the cluster.
-        basket, item, weight, missing, form: as `prepare` takes them.
+        basket, item, weight, missing, form, sep, header, weighted: as `prepare` takes them.
         miner: how the program mines each part.
         workers: its threads in each step, from 1 to 64.
         limit: how many sets there may be in the whole.
@@ -122,7 +130,7 @@ def sets(
     Raises:
         BasketError: as `prepare` and `report` do; `TooManySets` above the limit.
     """
-    layout = Layout(basket, item, weight, missing=missing, form=form)
+    layout = Layout(basket, item, weight, None, missing, form, sep, header, weighted)
     work = Work(miner, workers, limit, exact, progress)
     words = ["sets", "--min=" + minimum_word(minimum)]
     return _frame(words, prepared(parts, client, layout, progress), client, work)
@@ -138,6 +146,9 @@ def closed(
     weight: Hashable | None = None,
     missing: Missing = "refuse",
     form: Form | None = None,
+    sep: str | None = None,
+    header: bool = False,
+    weighted: bool = False,
     miner: Miner | None = None,
     workers: int = 1,
     limit: int | None = None,
@@ -145,7 +156,7 @@ def closed(
     progress: bool = False,
 ) -> pd.DataFrame:
     """The closed itemsets over all parts, as `basket_miner.closed`; arguments as in `sets`."""
-    layout = Layout(basket, item, weight, missing=missing, form=form)
+    layout = Layout(basket, item, weight, None, missing, form, sep, header, weighted)
     work = Work(miner, workers, limit, exact, progress)
     words = ["closed", "--min=" + minimum_word(minimum)]
     return _frame(words, prepared(parts, client, layout, progress), client, work)
@@ -161,6 +172,9 @@ def maximal(
     weight: Hashable | None = None,
     missing: Missing = "refuse",
     form: Form | None = None,
+    sep: str | None = None,
+    header: bool = False,
+    weighted: bool = False,
     miner: Miner | None = None,
     workers: int = 1,
     limit: int | None = None,
@@ -168,7 +182,7 @@ def maximal(
     progress: bool = False,
 ) -> pd.DataFrame:
     """The maximal itemsets over all parts, as `basket_miner.maximal`; arguments as in `sets`."""
-    layout = Layout(basket, item, weight, missing=missing, form=form)
+    layout = Layout(basket, item, weight, None, missing, form, sep, header, weighted)
     work = Work(miner, workers, limit, exact, progress)
     words = ["maximal", "--min=" + minimum_word(minimum)]
     return _frame(words, prepared(parts, client, layout, progress), client, work)
@@ -185,6 +199,9 @@ def rules(
     weight: Hashable | None = None,
     missing: Missing = "refuse",
     form: Form | None = None,
+    sep: str | None = None,
+    header: bool = False,
+    weighted: bool = False,
     miner: Miner | None = None,
     workers: int = 1,
     limit: int | None = None,
@@ -192,7 +209,7 @@ def rules(
     progress: bool = False,
 ) -> pd.DataFrame:
     """The rules over all parts, as `basket_miner.rules`; other arguments as in `sets`."""
-    layout = Layout(basket, item, weight, missing=missing, form=form)
+    layout = Layout(basket, item, weight, None, missing, form, sep, header, weighted)
     work = Work(miner, workers, limit, exact, progress)
     words = ["rules", "--min=" + minimum_word(minimum)]
     words += ["--conf=" + confidence_word(confidence)]
@@ -201,8 +218,8 @@ def rules(
 
 def _frame(words: list[str], parts: Parts, client: Client, work: Work) -> pd.DataFrame:
     question = question_of([*words, *work.words()])
-    answer = answered(client, parts.texts, question, work.progress)
-    baskets = Baskets(b"", labels=parts.labels)
+    answer = answered(client, parts, question, work.progress)
+    baskets = Baskets(b"", labels=parts.labels, separator=parts.separator)
     if question.command == "rules":
         return rules_frame(answer.report, baskets, answer.total, exact=work.exact)
     return sets_frame(answer.report, baskets, answer.total, exact=work.exact)

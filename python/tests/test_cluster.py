@@ -7,7 +7,7 @@ import random
 import subprocess
 import sys
 import time
-from collections.abc import Iterator, Sequence
+from collections.abc import Sequence
 from fractions import Fraction
 from pathlib import Path
 from typing import Any
@@ -17,46 +17,22 @@ import pytest
 from dask.bag.core import from_delayed
 from dask.dataframe.io.io import from_pandas
 from dask.delayed import delayed
-from distributed import Client, LocalCluster
+from distributed import Client
 
 import basket_miner
 from basket_miner import BasketError, DataError, InputError, TooManySets, UsageError
 from basket_miner import cluster
 from basket_miner._program import run
+from parts import cut, written
 
 ROOT = Path(__file__).parents[2]
 QUESTIONS = ("sets", "closed", "maximal", "rules --conf=1/2")
 SHOP = (ROOT / "examples/shop.dat").read_bytes()
 
 
-@pytest.fixture(scope="module")
-def client() -> Iterator[Client]:
-    with started() as engine, Client(engine) as found:
-        yield found
-
-
-def started() -> LocalCluster:
-    return LocalCluster(n_workers=3, threads_per_worker=1, dashboard_address=None)
-
-
-def written(folder: Path, texts: Sequence[bytes]) -> list[Path]:
-    """The files of some parts."""
-    files = [folder / f"part {number}" for number in range(len(texts))]
-    for file, text in zip(files, texts):
-        file.write_bytes(text)
-    return files
-
-
 def whole(texts: Sequence[bytes]) -> bytes:
     """All parts one behind another, each ended by a line feed."""
     return b"".join(text if text.endswith(b"\n") else text + b"\n" for text in texts)
-
-
-def cut(text: bytes, *ends: int) -> list[bytes]:
-    """The lines of a text in parts that end before these lines."""
-    lines = text.splitlines(keepends=True)
-    pairs = itertools.pairwise([0, *ends, len(lines)])
-    return [b"".join(lines[start:end]) for start, end in pairs]
 
 
 def test_seven_parts_of_100000_baskets_have_the_bytes_of_one_run(
@@ -215,17 +191,16 @@ def test_what_cannot_be_asked_of_parts_is_refused(
         ([good], "sets --min=1 --miner=none", UsageError, "--miner"),
         ([good], "sets", UsageError, "--min"),
         ([good], "count --min=1", UsageError, "count"),
-        ([good], "sets --min=1 --form=single", UsageError, "--form"),
+        ([good], "sets --min=1 --form=counts", UsageError, "--form"),
         ([good], f"sets --min=1 {good.name}", UsageError, good.name.split()[0]),
         ([], "sets --min=1", DataError, "no part"),
-        ([tmp_path / "a.csv"], "sets --min=1", DataError, "CSV"),
+        ([tmp_path / "a.csv"], "sets --min=1", DataError, "form="),
+        ([good], "sets --min=1 --form=single", DataError, "cut a basket"),
         ([["bread"]], "sets --min=1", DataError, "list"),
     ]
     for parts, words, kind, said in rows:
         with pytest.raises(kind, match=said):
             cluster.report(parts, *words.split(), client=client)
-    with pytest.raises(DataError, match="CSV"):
-        cluster.sets([good], 1, client=client, form="baskets")
     for parts in (str(good), 7, delayed(good)):
         with pytest.raises(DataError, match="list of files"):
             cluster.sets(parts, 1, client=client)
