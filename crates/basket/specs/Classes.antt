@@ -3,11 +3,11 @@ use Rattle.std.specs.Prelude.{◌≡◌, ℕ}
 use Rattle.basket_ranks.specs.Codes.{Coding}
 use Rattle.mine_classes.specs.Mined.{RanksAreFrequent}
 use Rattle.mine_fp.specs.Trees.{class_trees}
-use Rattle.mine_vertical.specs.Part.{numbered_joins}
+use Rattle.mine_vertical.specs.Joins.{class_joins}
 
--- the joins that Eclat makes for a part, where each class is cut into so many
-abbrev pub IsJoins : Coding → ℕ → ℕ → ℕ → Type 0
-IsJoins coding cut part joins = RanksAreFrequent coding → joins ≡ numbered_joins coding cut part
+-- the joins that Eclat makes for a class
+abbrev pub IsJoins : Coding → ℕ → ℕ → Type 0
+IsJoins coding rank joins = RanksAreFrequent coding → joins ≡ class_joins coding rank
 
 -- the conditional trees that FP-growth builds for a class
 abbrev pub IsTrees : Coding → ℕ → ℕ → Type 0

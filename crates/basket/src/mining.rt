@@ -15,7 +15,7 @@ use mine_classes::laws::coded_ranks_are_frequent;
 use mine_fp::Forest;
 use mine_fp::laws::class_trees_add_up;
 use mine_phases::{Cutting, Gate, apriori_shared, count_shared, mine_shared, runs_shared};
-use mine_vertical::laws::part_joins_add_up;
+use mine_vertical::laws::class_joins_add_up;
 use mine_vertical::{BitRow, DiffList, Row, TidList, Vertical};
 use std::alloc::{AllocError, Global};
 use std::marker::PhantomData;
@@ -189,12 +189,10 @@ fn by_eclat<R: Threads + Sync, G: Gate + Sync, T: Row + Sync>(
     ensures too_many { (most : ℕ) → result ≡ Err (TooMany most) → (most ≡ limit) × (limit < length (frequent_of_coding coded.now)) }
 {
     coded_ranks_are_frequent();
-    part_joins_add_up();
+    class_joins_add_up();
     let runs = runs_shared(rt, alloc, coded, cutting)?;
-    let cut = cutting.class_parts(coded.ranks());
     let miner = Joining::<T> {
         vertical: Vertical::of_runs(coded, runs),
-        cut,
         rows: PhantomData,
     };
     let (frequent, joins) = mine_shared(rt, alloc, coded, miner, limit, cutting, gate)?;
@@ -219,7 +217,7 @@ fn by_fp_growth<R: Threads + Sync, G: Gate + Sync>(
     let _coding = coded.baskets();
     let runs = runs_shared(rt, alloc, coded, cutting)?;
     let forest = Forest::of_runs(alloc, coded, runs)?;
-    let miner = Growth { coded, forest };
+    let miner = Growth(forest);
     let (frequent, trees) = mine_shared(rt, alloc, coded, miner, limit, cutting, gate)?;
     Ok((frequent, Work::of_trees(trees)))
 }

@@ -1,2 +1,1 @@
 mod FractionLemmas
-mod DivisorLemmas

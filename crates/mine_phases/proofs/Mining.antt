@@ -1,13 +1,15 @@
--- The lists of some parts, and of the parts in a piece.
+-- The classes of some ranks, and of the ranks of a piece.
 use Rattle.std.proofs.Common.{◌≡◌, ◌≤◌, ◌<◌, ◌+◌, ◌-◌, ◌++◌, ℕ, zero, suc, List, [], ◌∷◌, take, drop, length, refl, ap, sym, ◌∙◌, subst, arith}
 use Rattle.std.specs.Prelude.{slice_range}
 use Rattle.std.specs.List.{range_with_len, sum_by}
 use Rattle.std.proofs.lemmas.List.{length-append}
 use Rattle.std.proofs.lemmas.List.FromFn.{length-range_with_len}
 use Rattle.std.proofs.lemmas.List.Sums.{sum_by-append, sum_by_push}
+use Rattle.basket_ranks.specs.Codes.{Coding}
 use Rattle.basket_ranks.specs.Shards.{shard_start}
 use Rattle.basket_sets.specs.declared.counted.Counted.{Counted}
-use Rattle.mine_phases.specs.Classes.{AreMined, parts_in}
+use Rattle.mine_classes.specs.Mined.{ListsClassItems}
+use Rattle.mine_phases.specs.Classes.{AreMined, ranks_of}
 
 -- ---- numbers one after another
 
@@ -56,40 +58,43 @@ sum_more f start count all le =
     let t = ap (sum_by f) (range_split start count (all - count)) in
     let u = sum_by-append f (range_with_len start count) (range_with_len (start + count) (all - count)) in omega (arith, s, t, u)
 
--- what was told before a part and the part itself are no more than all of them
+-- what was told before a class and the class itself are no more than all of them
 pub sum_fits : (f : ℕ → ℕ) (start count all : ℕ) → count < all → sum_by f (range_with_len start count) + f (start + count) ≤ sum_by f (range_with_len start all)
 sum_fits f start count all below =
     let s = sum_next f start count in
     let m = sum_more f start (count + 1) all (omega arith) in omega (arith, s, m)
 
--- ---- the parts in a piece
+-- ---- the ranks of a piece
 
-pub parts_are : (parts pieces piece low high : ℕ) → low ≡ shard_start piece pieces parts → high ≡ shard_start (piece + 1) pieces parts
-    → low ≤ high → high ≤ parts → parts_in parts pieces piece ≡ range_with_len low (high - low)
-parts_are parts pieces piece low high start end rises within =
-    ap (λ m. slice_range (range_with_len 0 parts) (shard_start piece pieces m) (shard_start (piece + 1) pieces m)) (length-range_with_len 0 parts)
-    ∙ ap (λ m. slice_range (range_with_len 0 parts) m (shard_start (piece + 1) pieces parts)) (sym start)
-    ∙ ap (slice_range (range_with_len 0 parts) low) (sym end)
-    ∙ slice_of_range low high parts rises within
+pub ranks_are : (coding : Coding) (pieces piece low high ranks : ℕ) → ranks ≡ length coding.items → low ≡ shard_start piece pieces ranks → high ≡ shard_start (piece + 1) pieces ranks
+    → low ≤ high → high ≤ ranks → ranks_of coding pieces piece ≡ range_with_len low (high - low)
+ranks_are coding pieces piece low high ranks all start end rises within =
+    let n = length coding.items in
+    let long : length (range_with_len 0 n) ≡ ranks = length-range_with_len 0 n ∙ sym all in
+    let fits : high ≤ n = omega (arith, all, within) in
+    ap (λ m. slice_range (range_with_len 0 n) (shard_start piece pieces m) (shard_start (piece + 1) pieces m)) long
+    ∙ ap (λ m. slice_range (range_with_len 0 n) m (shard_start (piece + 1) pieces ranks)) (sym start)
+    ∙ ap (slice_range (range_with_len 0 n) low) (sym end)
+    ∙ slice_of_range low high n rises fits
 
--- ---- the lists of some parts
+-- ---- classes of some ranks
 
-module _ (lists_part : ℕ → List Counted → Type 0) (is_work : ℕ → ℕ → Type 0) where
-  pub mined_append : (parts others : List ℕ) (lists more : List (List Counted × ℕ)) → AreMined lists_part is_work parts lists → AreMined lists_part is_work others more
-      → AreMined lists_part is_work (parts ++ others) (lists ++ more)
+module _ (coding : Coding) (is_work : ℕ → ℕ → Type 0) where
+  pub mined_append : (ranks others : List ℕ) (classes more : List (List Counted × ℕ)) → AreMined coding is_work ranks classes → AreMined coding is_work others more
+      → AreMined coding is_work (ranks ++ others) (classes ++ more)
   mined_append [] others [] more mined rest = rest
-  mined_append [] others (list ∷ lists) more mined rest = absurd mined
-  mined_append (part ∷ parts) others [] more mined rest = absurd mined
-  mined_append (part ∷ parts) others (list ∷ lists) more mined rest = (mined.0, mined.1, mined_append parts others lists more mined.2 rest)
+  mined_append [] others (class ∷ classes) more mined rest = absurd mined
+  mined_append (rank ∷ ranks) others [] more mined rest = absurd mined
+  mined_append (rank ∷ ranks) others (class ∷ classes) more mined rest = (mined.0, mined.1, mined_append ranks others classes more mined.2 rest)
 
-  -- the next list behind those before it
-  pub mined_next : (start : ℕ) (lists now : List (List Counted × ℕ)) (list : List Counted × ℕ) (part : ℕ) → start + length lists ≡ part → now ≡ lists ++ list ∷ []
-      → AreMined lists_part is_work (range_with_len start (length lists)) lists → lists_part part list.0 → is_work part list.1
-      → AreMined lists_part is_work (range_with_len start (length now)) now
-  mined_next start lists now list part at is mined listed work =
-      let long : length now ≡ length lists + 1 = ap length is ∙ length-append lists (list ∷ []) in
-      let parts : range_with_len start (length now) ≡ range_with_len start (length lists) ++ part ∷ [] =
-      ap (range_with_len start) long ∙ range_split start (length lists) 1 ∙ ap (λ p. range_with_len start (length lists) ++ p ∷ []) at in
-      subst (λ ps. AreMined lists_part is_work ps now) (sym parts)
-      (subst (AreMined lists_part is_work (range_with_len start (length lists) ++ part ∷ [])) (sym is)
-      (mined_append (range_with_len start (length lists)) (part ∷ []) lists (list ∷ []) mined (listed, work, tt)))
+  -- the next class behind those before it
+  pub mined_next : (start : ℕ) (classes now : List (List Counted × ℕ)) (class : List Counted × ℕ) (rank : ℕ) → start + length classes ≡ rank → now ≡ classes ++ class ∷ []
+      → AreMined coding is_work (range_with_len start (length classes)) classes → ListsClassItems coding rank class.0 → is_work rank class.1
+      → AreMined coding is_work (range_with_len start (length now)) now
+  mined_next start classes now class rank at is mined listed work =
+      let long : length now ≡ length classes + 1 = ap length is ∙ length-append classes (class ∷ []) in
+      let ranks : range_with_len start (length now) ≡ range_with_len start (length classes) ++ rank ∷ [] =
+      ap (range_with_len start) long ∙ range_split start (length classes) 1 ∙ ap (λ r. range_with_len start (length classes) ++ r ∷ []) at in
+      subst (λ rs. AreMined coding is_work rs now) (sym ranks)
+      (subst (AreMined coding is_work (range_with_len start (length classes) ++ rank ∷ [])) (sym is)
+      (mined_append (range_with_len start (length classes)) (rank ∷ []) classes (class ∷ []) mined (listed, work, tt)))

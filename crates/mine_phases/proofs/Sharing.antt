@@ -1,23 +1,25 @@
--- What all workers of a phase of classes have told and mined together, part by part.
+-- What all workers of a phase of classes have told and mined together.
 use Rattle.std.proofs.Common.{◌≡◌, ◌≤◌, ◌<◌, ◌+◌, ◌++◌, ◌⊎◌, ℕ, suc, zero, List, [], ◌∷◌, map, fold, get_or, length, min, Option, Some, None, Ok, Err, Result, refl, reverse, ap, sym, ◌∙◌, subst, inl, inr, arith, zero-add}
 use Rattle.std.specs.Prelude.{All, IsPermutation, Vec, slice_index}
 use Rattle.std.specs.Global.{Global}
 use Rattle.std.specs.List.{flat_map, range_with_len, sum, sum_by}
 use Rattle.std.proofs.lemmas.List.{length-map, map-append, reverse-append}
 use Rattle.std.proofs.lemmas.List.Elements.{All-head, All-tail}
+use Rattle.std.proofs.lemmas.List.Folds.{flat_map-map}
 use Rattle.std.proofs.lemmas.List.Sorted.{IsPermutation-map, IsPermutation-refl, IsPermutation-reverse, IsPermutation-sym, IsPermutation-trans, sum_by-IsPermutation}
 use Rattle.std.proofs.lemmas.List.Sums.{sum_by-append, sum_by-cons}
 use Rattle.basket_ranks.proofs.theory.Shards.{range_more, shards_are_all}
-use Rattle.basket_ranks.specs.Codes.{Coding, baskets_of}
+use Rattle.basket_ranks.specs.Codes.{Coding, IsCoding, baskets_of, frequent_of_coding}
 use Rattle.basket_core.specs.declared.fault.MineFault.{MineFault}
 use Rattle.basket_core.specs.declared.fault.MineFault.TheVariants.{Memory, TooMany}
 use Rattle.basket_sets.specs.declared.counted.Counted.{Counted}
 use Rattle.basket_sets.specs.Frequent.{ListsOnce}
+use Rattle.mine_classes.specs.Mined.{ClassItemsAreAll, ClassSizesAddUp, ListsClassItems, class_size}
 use Rattle.mine_round.specs.RoundView.{RoundView}
 use Rattle.mine_round.specs.SeatView.{SeatView}
 use Rattle.mine_round.specs.Totals.{added_by, claimed_by, seen_by}
 use Rattle.mine_phases.specs.declared.share.Share.{Share}
-use Rattle.mine_phases.specs.Classes.{AreMined, AreParts, HasLargePart, IsClassShare, IsWorkOfAll, MOST_WORK, claimed_size, parts_in, piece_from_end, piece_size}
+use Rattle.mine_phases.specs.Classes.{AreMined, HasLargeClass, IsClassShare, IsWorkOfAll, MOST_WORK, claimed_size, piece_from_end, piece_size, ranks_of}
 use Rattle.mine_phases.specs.Share.{fault_after, fault_of}
 use Rattle.mine_phases.proofs.Mining.{mined_append, sum_fits, sum_more}
 
@@ -110,129 +112,132 @@ sum_by-flat_map : {X Y : Type 0} (f : Y → ℕ) (g : X → List Y) (xs : List X
 sum_by-flat_map f g [] = refl
 sum_by-flat_map f g (x ∷ xs) = sum_by-append f (g x) (flat_map g xs) ∙ ap (λ n. sum_by f (g x) + n) (sum_by-flat_map f g xs) ∙ sym (sum_by-cons (λ y. sum_by f (g y)) x xs)
 
-module _ (part_size : ℕ → ℕ) (parts pieces all : ℕ) (some : 1 ≤ pieces) (add_up : sum_by part_size (range_with_len 0 parts) ≡ all) where
-  pub pieces_are_all : sum_by (claimed_size part_size parts pieces) (range_with_len 0 pieces) ≡ all
+module _ (coding : Coding) (pieces : ℕ) (some : 1 ≤ pieces) (is : IsCoding coding) (sizes : ClassSizesAddUp) where
+  pub pieces_are_all : sum_by (claimed_size coding pieces) (range_with_len 0 pieces) ≡ length (frequent_of_coding coding)
   pieces_are_all =
       let range = range_with_len 0 pieces in
-      let size = piece_size part_size parts pieces in
-      sym (sum_by-map size (piece_from_end pieces) range)
-      ∙ sym (sum_by-IsPermutation size (map (piece_from_end pieces) range) range (all_from_end pieces range (IsPermutation-refl range)))
-      ∙ sym (sum_by-flat_map part_size (parts_in parts pieces) range)
-      ∙ ap (sum_by part_size) (shards_are_all pieces (range_with_len 0 parts) some)
-      ∙ add_up
+      sym (sum_by-map (piece_size coding pieces) (piece_from_end pieces) range)
+      ∙ sym (sum_by-IsPermutation (piece_size coding pieces) (map (piece_from_end pieces) range) range (all_from_end pieces range (IsPermutation-refl range)))
+      ∙ sym (sum_by-flat_map (class_size coding) (ranks_of coding pieces) range)
+      ∙ ap (sum_by (class_size coding)) (shards_are_all pieces (range_with_len 0 (length coding.items)) some)
+      ∙ sizes coding is
 
   -- the pieces that are claimed have no more sets than there are
   pub claimed_have_at_most : (claimed : List ℕ) (count : ℕ) → IsPermutation claimed (range_with_len 0 count) → count ≤ pieces
-      → sum_by (claimed_size part_size parts pieces) claimed ≤ all
+      → sum_by (claimed_size coding pieces) claimed ≤ length (frequent_of_coding coding)
   claimed_have_at_most claimed count same within =
-      let p = sum_by-IsPermutation (claimed_size part_size parts pieces) claimed (range_with_len 0 count) same in
-      let m = sum_more (claimed_size part_size parts pieces) 0 count pieces within in
+      let p = sum_by-IsPermutation (claimed_size coding pieces) claimed (range_with_len 0 count) same in
+      let m = sum_more (claimed_size coding pieces) 0 count pieces within in
       let a = pieces_are_all in omega (arith, p, m, a)
 
-  pub all_claimed_have : (claimed : List ℕ) → IsPermutation claimed (range_with_len 0 pieces) → sum_by (claimed_size part_size parts pieces) claimed ≡ all
-  all_claimed_have claimed same = sym (sum_by-IsPermutation (claimed_size part_size parts pieces) claimed (range_with_len 0 pieces) same) ∙ pieces_are_all
+  pub all_claimed_have : (claimed : List ℕ) → IsPermutation claimed (range_with_len 0 pieces) → sum_by (claimed_size coding pieces) claimed ≡ length (frequent_of_coding coding)
+  all_claimed_have claimed same = sym (sum_by-IsPermutation (claimed_size coding pieces) claimed (range_with_len 0 pieces) same) ∙ pieces_are_all
 
-  pub large_part_is_too_many : (limit : ℕ) → HasLargePart part_size parts limit → limit < all
-  large_part_is_too_many limit large =
-      let f = sum_fits part_size 0 large.part parts large.within in
-      let e : 0 + large.part ≡ large.part = omega arith in
-      let s = ap part_size e in
-      let l = large.large in omega (arith, f, s, add_up, l)
+  pub large_class_is_too_many : (limit : ℕ) → HasLargeClass coding limit → limit < length (frequent_of_coding coding)
+  large_class_is_too_many limit large =
+      let f = sum_fits (class_size coding) 0 large.rank (length coding.items) large.within in
+      let e : 0 + large.rank ≡ large.rank = omega arith in
+      let s = ap (class_size coding) e in
+      let a = sizes coding is in
+      let l = large.large in omega (arith, f, s, a, l)
 
--- ---- the lists of the parts in all pieces
+-- ---- the classes of all pieces
 
-module _ (lists_part : ℕ → List Counted → Type 0) (is_work : ℕ → ℕ → Type 0) where
-  mined_flat : (parts : ℕ → List ℕ) (first : ℕ) (values : List (Vec (List Counted × ℕ) Global))
-      → ((k : ℕ) (d : Vec (List Counted × ℕ) Global) → k < length values → AreMined lists_part is_work (parts (first + k)) (get_or values k d).items)
-      → AreMined lists_part is_work (flat_map parts (range_with_len first (length values))) (flat_map (λ value. value.items) values)
-  mined_flat parts first [] each = tt
-  mined_flat parts first (value ∷ values) each =
+module _ (coding : Coding) (is_work : ℕ → ℕ → Type 0) where
+  mined_flat : (ranks : ℕ → List ℕ) (first : ℕ) (values : List (Vec (List Counted × ℕ) Global))
+      → ((k : ℕ) (d : Vec (List Counted × ℕ) Global) → k < length values → AreMined coding is_work (ranks (first + k)) (get_or values k d).items)
+      → AreMined coding is_work (flat_map ranks (range_with_len first (length values))) (flat_map (λ value. value.items) values)
+  mined_flat ranks first [] each = tt
+  mined_flat ranks first (value ∷ values) each =
       let here : first + 0 ≡ first = omega arith in
       let next : (k : ℕ) → first + suc k ≡ (first + 1) + k = λ k. omega arith in
-      mined_append lists_part is_work (parts first) (flat_map parts (range_with_len (first + 1) (length values))) value.items (flat_map (λ v. v.items) values)
-      (subst (λ n. AreMined lists_part is_work (parts n) value.items) here (each 0 value (omega arith)))
-      (mined_flat parts (first + 1) values (λ k d below. subst (λ n. AreMined lists_part is_work (parts n) (get_or values k d).items) (next k) (each (suc k) d (omega arith))))
+      mined_append coding is_work (ranks first) (flat_map ranks (range_with_len (first + 1) (length values))) value.items (flat_map (λ v. v.items) values)
+      (subst (λ n. AreMined coding is_work (ranks n) value.items) here (each 0 value (omega arith)))
+      (mined_flat ranks (first + 1) values (λ k d below. subst (λ n. AreMined coding is_work (ranks n) (get_or values k d).items) (next k) (each (suc k) d (omega arith))))
 
-  pub mined_pieces : (parts pieces : ℕ) (values : List (Vec (List Counted × ℕ) Global)) → 1 ≤ pieces → length values ≡ pieces
-      → ((k : ℕ) (d : Vec (List Counted × ℕ) Global) → k < length values → AreMined lists_part is_work (parts_in parts pieces k) (get_or values k d).items)
-      → AreMined lists_part is_work (range_with_len 0 parts) (flat_map (λ value. value.items) values)
-  mined_pieces parts pieces values some long each =
+  pub mined_pieces : (pieces : ℕ) (values : List (Vec (List Counted × ℕ) Global)) → 1 ≤ pieces → length values ≡ pieces
+      → ((k : ℕ) (d : Vec (List Counted × ℕ) Global) → k < length values → AreMined coding is_work (ranks_of coding pieces k) (get_or values k d).items)
+      → AreMined coding is_work (range_with_len 0 (length coding.items)) (flat_map (λ value. value.items) values)
+  mined_pieces pieces values some long each =
       let zero_more : (k : ℕ) → k ≡ 0 + k = λ k. omega arith in
-      subst (λ ps. AreMined lists_part is_work ps (flat_map (λ value. value.items) values))
-      (ap (λ n. flat_map (parts_in parts pieces) (range_with_len 0 n)) long ∙ shards_are_all pieces (range_with_len 0 parts) some)
-      (mined_flat (parts_in parts pieces) 0 values (λ k d below. subst (λ n. AreMined lists_part is_work (parts_in parts pieces n) (get_or values k d).items) (zero_more k) (each k d below)))
+      subst (λ ranks. AreMined coding is_work ranks (flat_map (λ value. value.items) values))
+      (ap (λ n. flat_map (ranks_of coding pieces) (range_with_len 0 n)) long ∙ shards_are_all pieces (range_with_len 0 (length coding.items)) some)
+      (mined_flat (ranks_of coding pieces) 0 values (λ k d below. subst (λ n. AreMined coding is_work (ranks_of coding pieces n) (get_or values k d).items) (zero_more k) (each k d below)))
 
-  mined_long : (first count : ℕ) (lists : List (List Counted × ℕ)) → AreMined lists_part is_work (range_with_len first count) lists → length lists ≡ count
+  mined_long : (first count : ℕ) (classes : List (List Counted × ℕ)) → AreMined coding is_work (range_with_len first count) classes → length classes ≡ count
   mined_long first zero [] mined = refl
-  mined_long first zero (list ∷ lists) mined = absurd mined
+  mined_long first zero (class ∷ classes) mined = absurd mined
   mined_long first (suc count) [] mined = absurd mined
-  mined_long first (suc count) (list ∷ lists) mined = ap suc (mined_long (first + 1) count lists mined.2)
+  mined_long first (suc count) (class ∷ classes) mined = ap suc (mined_long (first + 1) count classes mined.2)
 
-  works_at : (first count : ℕ) (lists : List (List Counted × ℕ)) → AreMined lists_part is_work (range_with_len first count) lists
-      → (k : ℕ) → k < count → is_work (first + k) (get_or (map (λ list. list.1) lists) k 0)
-  works_at first zero lists mined k below = absurd (omega arith)
+  works_at : (first count : ℕ) (classes : List (List Counted × ℕ)) → AreMined coding is_work (range_with_len first count) classes
+      → (k : ℕ) → k < count → is_work (first + k) (get_or (map (λ class. class.1) classes) k 0)
+  works_at first zero classes mined k below = absurd (omega arith)
   works_at first (suc count) [] mined k below = absurd mined
-  works_at first (suc count) (list ∷ lists) mined zero below = let e : first ≡ first + zero = omega arith in subst (λ n. is_work n list.1) e mined.1
-  works_at first (suc count) (list ∷ lists) mined (suc k) below =
+  works_at first (suc count) (class ∷ classes) mined zero below = let e : first ≡ first + zero = omega arith in subst (λ n. is_work n class.1) e mined.1
+  works_at first (suc count) (class ∷ classes) mined (suc k) below =
       let e : (first + 1) + k ≡ first + suc k = omega arith in
-      subst (λ n. is_work n (get_or (map (λ list. list.1) lists) k 0)) e (works_at (first + 1) count lists mined.2 k (omega arith))
+      subst (λ n. is_work n (get_or (map (λ class. class.1) classes) k 0)) e (works_at (first + 1) count classes mined.2 k (omega arith))
 
-  lists_at : (first count : ℕ) (lists : List (List Counted × ℕ)) → AreMined lists_part is_work (range_with_len first count) lists
-      → (k : ℕ) → k < count → lists_part (first + k) (get_or (map (λ list. list.0) lists) k [])
-  lists_at first zero lists mined k below = absurd (omega arith)
+  lists_at : (first count : ℕ) (classes : List (List Counted × ℕ)) → AreMined coding is_work (range_with_len first count) classes
+      → (k : ℕ) → k < count → ListsClassItems coding (first + k) (get_or (map (λ class. class.0) classes) k [])
+  lists_at first zero classes mined k below = absurd (omega arith)
   lists_at first (suc count) [] mined k below = absurd mined
-  lists_at first (suc count) (list ∷ lists) mined zero below = let e : first ≡ first + zero = omega arith in subst (λ n. lists_part n list.0) e mined.0
-  lists_at first (suc count) (list ∷ lists) mined (suc k) below =
+  lists_at first (suc count) (class ∷ classes) mined zero below = let e : first ≡ first + zero = omega arith in subst (λ n. ListsClassItems coding n class.0) e mined.0
+  lists_at first (suc count) (class ∷ classes) mined (suc k) below =
       let e : (first + 1) + k ≡ first + suc k = omega arith in
-      subst (λ n. lists_part n (get_or (map (λ list. list.0) lists) k [])) e (lists_at (first + 1) count lists mined.2 k (omega arith))
+      subst (λ n. ListsClassItems coding n (get_or (map (λ class. class.0) classes) k [])) e (lists_at (first + 1) count classes mined.2 k (omega arith))
 
-  pub work_of_all : (parts : ℕ) (lists : List (List Counted × ℕ)) (total : ℕ) → AreMined lists_part is_work (range_with_len 0 parts) lists
-      → total ≡ min (sum (map (λ list. list.1) lists)) MOST_WORK → IsWorkOfAll is_work parts total
-  work_of_all parts lists total mined added = record {
-    each = map (λ list. list.1) lists;
-    long = length-map lists (λ list. list.1) ∙ mined_long 0 parts lists mined;
-    works = λ k below. let e : 0 + k ≡ k = omega arith in subst (λ n. is_work n (get_or (map (λ list. list.1) lists) k 0)) e (works_at 0 parts lists mined k below);
+  pub work_of_all : (classes : List (List Counted × ℕ)) (total : ℕ) → AreMined coding is_work (range_with_len 0 (length coding.items)) classes
+      → total ≡ min (sum (map (λ class. class.1) classes)) MOST_WORK → IsWorkOfAll is_work (length coding.items) total
+  work_of_all classes total mined added = record {
+    each = map (λ class. class.1) classes;
+    long = length-map classes (λ class. class.1) ∙ mined_long 0 (length coding.items) classes mined;
+    works = λ k below. let e : 0 + k ≡ k = omega arith in subst (λ n. is_work n (get_or (map (λ class. class.1) classes) k 0)) e (works_at 0 (length coding.items) classes mined k below);
     added = added;
   }
 
-  pub once_of_all : (coding : Coding) (part_size : ℕ → ℕ) (parts : ℕ) (mined : List (List Counted × ℕ)) → AreParts coding lists_part part_size parts
-      → AreMined lists_part is_work (range_with_len 0 parts) mined
-      → ListsOnce (baskets_of coding) coding.minimum (flat_map (λ (list : List Counted). list) (map (λ list. list.0) mined))
-  once_of_all coding part_size parts mined are is =
-      let lists = map (λ (list : List Counted × ℕ). list.0) mined in
-      let long : length lists ≡ parts = length-map mined (λ list. list.0) ∙ mined_long 0 parts mined is in
-      are.all lists long (λ k below. let e : 0 + k ≡ k = omega arith in
-      subst (λ n. lists_part n (get_or lists k [])) e (lists_at 0 parts mined is k (omega (arith, long, below))))
+  pub once_of_all : (classes : List (List Counted × ℕ)) → ClassItemsAreAll → IsCoding coding → AreMined coding is_work (range_with_len 0 (length coding.items)) classes
+      → ListsOnce (baskets_of coding) coding.minimum (flat_map (λ (class : List Counted). class) (map (λ class. class.0) classes))
+  once_of_all classes law is mined =
+      let lists = map (λ (class : List Counted × ℕ). class.0) classes in
+      let long : length lists ≡ length coding.items = length-map classes (λ class. class.0) ∙ mined_long 0 (length coding.items) classes mined in
+      let flat : flat_map (λ (list : List Counted). list) lists ≡ flat_map (λ (class : List Counted). class) (map (λ class. class.0) classes) =
+      flat_map-map (λ (list : List Counted). list) (λ (class : List Counted × ℕ). class.0) classes
+      ∙ sym (flat_map-map (λ (class : List Counted). class) (λ (class : List Counted × ℕ). class.0) classes) in
+      subst (ListsOnce (baskets_of coding) coding.minimum) flat
+      (law coding lists is long (λ k below. let e : 0 + k ≡ k = omega arith in
+      subst (λ n. ListsClassItems coding n (get_or lists k [])) e (lists_at 0 (length coding.items) classes mined k (omega (arith, long, below)))))
 
 -- ---- too many sets
 
-module _ (round : RoundView) (lists_part : ℕ → List Counted → Type 0) (part_size : ℕ → ℕ) (is_work : ℕ → ℕ → Type 0) (parts limit pieces : ℕ) where
+module _ (round : RoundView) (coding : Coding) (is_work : ℕ → ℕ → Type 0) (limit pieces : ℕ) where
   seen_at_most : {X : Type 0} (shares : List (Share X)) (k : ℕ) (d : Share X) → k < length shares → slice_index (get_or shares k d).seat.held.seen 0 ≤ seen_by (map (λ share. share.seat) shares) 0
   seen_at_most [] k d below = absurd (omega arith)
   seen_at_most (share ∷ shares) zero d below = omega arith
   seen_at_most (share ∷ shares) (suc k) d below = let rest = seen_at_most shares k d (omega arith) in omega (arith, rest)
 
   -- the fault to tell is that there are too many only where there are
-  pub too_many_are : (shares : List (Share (Vec (ℕ × Vec (List Counted × ℕ) Global) Global))) (seats : List SeatView) (most total count sets : ℕ)
-      → 1 ≤ pieces → sum_by part_size (range_with_len 0 parts) ≡ sets → seats ≡ map (λ share. share.seat) shares → All (IsClassShare round lists_part part_size is_work parts limit pieces) shares
+  pub too_many_are : (shares : List (Share (Vec (ℕ × Vec (List Counted × ℕ) Global) Global))) (seats : List SeatView) (most total count : ℕ)
+      → 1 ≤ pieces → IsCoding coding → ClassSizesAddUp → seats ≡ map (λ share. share.seat) shares → All (IsClassShare round coding is_work limit pieces) shares
       → IsPermutation (claimed_by seats) (range_with_len 0 count) → count ≤ pieces → total ≡ added_by seats 0 → total ≡ seen_by seats 0
-      → fault_of (map (λ share. share.values) shares) ≡ Some (TooMany most) → (most ≡ limit) × (limit < sets)
-  too_many_are shares seats most total count sets some add_up are all same within sum greatest fault =
+      → fault_of (map (λ share. share.values) shares) ≡ Some (TooMany most) → (most ≡ limit) × (limit < length (frequent_of_coding coding))
+  too_many_are shares seats most total count some is sizes are all same within sum greatest fault =
       let seen = greatest ∙ ap (λ l. seen_by l 0) are in
       let added = sum ∙ ap (λ l. added_by l 0) are in
-      let told = told_at_most (claimed_size part_size parts pieces) shares (λ k d below. (all k d below).at_most) in
-      let claimed = claimed_have_at_most part_size parts pieces sets some add_up (claimed_by seats) count same within in
-      let moved = ap (λ l. sum_by (claimed_size part_size parts pieces) (claimed_by l)) are in
-      let low : total ≤ sets = omega (arith, added, told, claimed, moved) in
-      let Told : Share (Vec (ℕ × Vec (List Counted × ℕ) Global) Global) → Type 0 = λ share. IsClassShare round lists_part part_size is_work parts limit pieces share × (slice_index share.seat.held.seen 0 ≤ total) in
-      let Too : Type 0 = (most ≡ limit) × (limit < sets) in
+      let told = told_at_most (claimed_size coding pieces) shares (λ k d below. (all k d below).at_most) in
+      let claimed = claimed_have_at_most coding pieces some is sizes (claimed_by seats) count same within in
+      let moved = ap (λ l. sum_by (claimed_size coding pieces) (claimed_by l)) are in
+      let low : total ≤ length (frequent_of_coding coding) = omega (arith, added, told, claimed, moved) in
+      let Told : Share (Vec (ℕ × Vec (List Counted × ℕ) Global) Global) → Type 0 = λ share. IsClassShare round coding is_work limit pieces share × (slice_index share.seat.held.seen 0 ≤ total) in
+      let Too : Type 0 = (most ≡ limit) × (limit < length (frequent_of_coding coding)) in
       elim (fault_from Told Too most
       (λ share says here.
       let t = says.0.too_many most here in (
         t.0,
         elim t.1 [
           | inl over ↦ omega (arith, over, says.1, low)
-          | inr large ↦ large_part_is_too_many part_size parts pieces sets some add_up limit large
+          | inr large ↦ large_class_is_too_many coding pieces some is sizes limit large
         ],
       ))
       shares None (λ k d below. (all k d below, let s = seen_at_most shares k d below in omega (arith, s, seen))) fault) [
@@ -241,10 +246,10 @@ module _ (round : RoundView) (lists_part : ℕ → List Counted → Type 0) (par
       ]
 
 -- where all workers ended well, there are no more sets than the limit
-pub no_more_than_limit : (part_size : ℕ → ℕ) (parts limit pieces : ℕ) (seats : List SeatView) (total sets : ℕ) → 1 ≤ pieces → sum_by part_size (range_with_len 0 parts) ≡ sets
-    → All (ToldAll (claimed_size part_size parts pieces) limit) seats → IsPermutation (claimed_by seats) (range_with_len 0 pieces) → total ≡ added_by seats 0 → total ≡ seen_by seats 0
-    → sets ≤ limit
-no_more_than_limit part_size parts limit pieces seats total sets some add_up all same sum greatest =
-    let told = told_by_all (claimed_size part_size parts pieces) limit seats all in
-    let seen = seen_within (claimed_size part_size parts pieces) limit seats all in
-    let have = all_claimed_have part_size parts pieces sets some add_up (claimed_by seats) same in omega (arith, told, seen, have, sum, greatest)
+pub no_more_than_limit : (coding : Coding) (limit pieces : ℕ) (seats : List SeatView) (total : ℕ) → 1 ≤ pieces → IsCoding coding → ClassSizesAddUp
+    → All (ToldAll (claimed_size coding pieces) limit) seats → IsPermutation (claimed_by seats) (range_with_len 0 pieces) → total ≡ added_by seats 0 → total ≡ seen_by seats 0
+    → length (frequent_of_coding coding) ≤ limit
+no_more_than_limit coding limit pieces seats total some is sizes all same sum greatest =
+    let told = told_by_all (claimed_size coding pieces) limit seats all in
+    let seen = seen_within (claimed_size coding pieces) limit seats all in
+    let have = all_claimed_have coding pieces some is sizes (claimed_by seats) same in omega (arith, told, seen, have, sum, greatest)

@@ -1,4 +1,4 @@
-//! The phase that mines the classes part by part, with one limit over all workers.
+//! The phase that mines class by class, with one limit over all workers.
 ghost use Rattle.std.specs.Prelude.{◌≡◌, ◌≤◌, ◌<◌, ◌+◌, ◌⊎◌, ℕ, Err, IfOk, IsTrue, false, length, nat_lt, slice_index};
 ghost use Rattle.std.specs.List.{flat_map};
 ghost use Rattle.basket_core.specs.declared.fault.MineFault.TheVariants.{TooMany};
@@ -6,18 +6,19 @@ ghost use Rattle.basket_ranks.specs.Codes.{baskets_of, frequent_of_coding};
 ghost use Rattle.basket_core.specs.Listing.{listing_of};
 ghost use Rattle.basket_sets.specs.Frequent.{ListsOnce};
 ghost use Rattle.mine_round.specs.Record.{unused};
-ghost use Rattle.mine_phases.specs.Classes.{AreMined, AreParts, HasLargePart, IsClassShare, IsWorkOfAll, parts_in, piece_size};
+ghost use Rattle.mine_phases.specs.Classes.{AreMined, HasLargeClass, IsClassShare, IsWorkOfAll, piece_size, ranks_of};
 ghost use Rattle.mine_phases.specs.Found.{CountsSets, still};
 
 use crate::class_miner::ClassMiner;
 use crate::cutting::Cutting;
 use crate::found::{Found, Start};
 use crate::gate::Gate;
-use crate::joined::{Mined, joined};
+use crate::joined::{Class, joined};
 use crate::placed::collected;
 use crate::share::{Share, by_workers, claim_piece};
 use basket_core::{Coded, CountedSets, Frequent, MineFault, Tally, shard};
 use mine_classes::Tables;
+use mine_classes::laws::{class_items_are_all, class_sizes_add_up, lists_have_class_size};
 use mine_round::{Round, RoundSeat};
 use std::alloc::Global;
 use std::marker::Brand;
@@ -32,24 +33,21 @@ struct Classes<'a, M, G> {
     round: &'a Round,
     pieces: u32,
     ranks: u32,
-    parts: usize,
     miner: &'a M,
     limit: u32,
     gate: &'a G,
 }
 
 impl<M: ClassMiner, G: Gate> Classes<'_, M, G> {
-    /// What a worker does: it mines the parts in each piece that it claims, until none is left, or
+    /// What a worker does: it mines the classes of each piece that it claims, until none is left, or
     /// it sees more sets than the limit, or it finds no memory.
-    fn share(&self, alloc: Global, worker: u32, seat: RoundSeat) -> Share<Vec<(u32, Vec<Mined>)>>
+    fn share(&self, alloc: Global, worker: u32, seat: RoundSeat) -> Share<Vec<(u32, Vec<Class>)>>
         requires own { seat.round ≡ self.now.round.now.id }
         requires unused { seat.held ≡ unused 1 1 }
         requires pieces { (1 ≤ self.now.pieces) × (self.now.round.now.pieces ≡ self.now.pieces) }
         requires counter { self.now.round.now.counters ≡ 1 }
         requires ranks { self.now.ranks ≡ length (M.coding_of self.now.miner.now).items }
-        requires count { self.now.parts ≡ M.parts_of self.now.miner.now }
-        requires parts { AreParts (M.coding_of self.now.miner.now) (M.lists_part self.now.miner.now) (M.part_size self.now.miner.now) (M.parts_of self.now.miner.now) }
-        ensures { IsClassShare self.now.round.now (M.lists_part self.now.miner.now) (M.part_size self.now.miner.now) (M.is_work self.now.miner.now) self.now.parts self.now.limit self.now.pieces result }
+        ensures { IsClassShare self.now.round.now (M.coding_of self.now.miner.now) (M.is_work self.now.miner.now) self.now.limit self.now.pieces result }
     {
         let mut seat = seat;
         let mut values = Vec::new(alloc);
@@ -60,18 +58,18 @@ impl<M: ClassMiner, G: Gate> Classes<'_, M, G> {
                     values: Ok(values),
                 };
             };
-            // The parts of the greatest ranks are the largest, so they are mined first.
+            // The classes of the greatest ranks are the largest, so they are mined first.
             let piece = self.pieces - 1 - claimed;
             let (back, mined) = self.piece::<Brand>(alloc, piece, seat);
             seat = back;
-            let lists = match mined {
-                Ok(lists) => lists,
+            let classes = match mined {
+                Ok(classes) => classes,
                 Err(fault) => return Share {
                     seat,
                     values: Err(fault),
                 },
             };
-            let Ok(()) = values.push((piece, lists)) else {
+            let Ok(()) = values.push((piece, classes)) else {
                 return Share {
                     seat,
                     values: Err(MineFault::Memory),
@@ -95,65 +93,62 @@ impl<M: ClassMiner, G: Gate> Classes<'_, M, G> {
         self.round.read(seat, 0) > u64::from(self.limit)
     }
 
-    /// The lists of the parts in a piece, told by a seat.
+    /// The classes of a piece, told by a seat.
     fn piece<S: Start>(
         &self,
         alloc: Global,
         piece: u32,
         seat: RoundSeat,
-    ) -> (RoundSeat, Result<Vec<Mined>, MineFault>)
+    ) -> (RoundSeat, Result<Vec<Class>, MineFault>)
         requires start { seat ≡ S.start }
         requires counts { CountsSets self.now.round.now seat }
         requires few { slice_index seat.held.seen 0 ≤ self.now.limit }
         requires piece { piece < self.now.pieces }
         requires ranks { self.now.ranks ≡ length (M.coding_of self.now.miner.now).items }
-        requires count { self.now.parts ≡ M.parts_of self.now.miner.now }
-        requires parts { AreParts (M.coding_of self.now.miner.now) (M.lists_part self.now.miner.now) (M.part_size self.now.miner.now) (M.parts_of self.now.miner.now) }
         ensures counts { CountsSets self.now.round.now result.0 }
         ensures same { still result.0 ≡ still seat }
-        ensures mined { IfOk result.1 (λ lists. AreMined (M.lists_part self.now.miner.now) (M.is_work self.now.miner.now) (parts_in self.now.parts self.now.pieces piece) lists.items) }
-        ensures told { IfOk result.1 (λ _. slice_index result.0.held.added 0 ≡ slice_index seat.held.added 0 + piece_size (M.part_size self.now.miner.now) self.now.parts self.now.pieces piece) }
-        ensures at_most { slice_index result.0.held.added 0 ≤ slice_index seat.held.added 0 + piece_size (M.part_size self.now.miner.now) self.now.parts self.now.pieces piece }
+        ensures mined { IfOk result.1 (λ classes. AreMined (M.coding_of self.now.miner.now) (M.is_work self.now.miner.now) (ranks_of (M.coding_of self.now.miner.now) self.now.pieces piece) classes.items) }
+        ensures told { IfOk result.1 (λ _. slice_index result.0.held.added 0 ≡ slice_index seat.held.added 0 + piece_size (M.coding_of self.now.miner.now) self.now.pieces piece) }
+        ensures at_most { slice_index result.0.held.added 0 ≤ slice_index seat.held.added 0 + piece_size (M.coding_of self.now.miner.now) self.now.pieces piece }
         ensures too_many { (most : ℕ) → result.1 ≡ Err (TooMany most)
-            → (most ≡ self.now.limit) × ((self.now.limit < slice_index result.0.held.seen 0) ⊎ HasLargePart (M.part_size self.now.miner.now) self.now.parts self.now.limit) }
+            → (most ≡ self.now.limit) × ((self.now.limit < slice_index result.0.held.seen 0) ⊎ HasLargeClass (M.coding_of self.now.miner.now) self.now.limit) }
     {
         let mut tally = Found::<S>::new(self.round, seat, self.limit);
-        let lists = self.classes(alloc, piece, &mut tally);
-        (tally.into_seat(), lists)
+        let classes = self.classes(alloc, piece, &mut tally);
+        (tally.into_seat(), classes)
     }
 
-    /// The lists of the parts in a piece, told to a tally.
+    /// The classes of a piece, told to a tally.
     fn classes<T: Tally>(
         &self,
         alloc: Global,
         piece: u32,
         tally: &mut T,
-    ) -> Result<Vec<Mined>, MineFault>
+    ) -> Result<Vec<Class>, MineFault>
         requires going { T.is_over tally.old ≡ false }
         requires piece { piece < self.now.pieces }
         requires ranks { self.now.ranks ≡ length (M.coding_of self.now.miner.now).items }
-        requires count { self.now.parts ≡ M.parts_of self.now.miner.now }
-        requires parts { AreParts (M.coding_of self.now.miner.now) (M.lists_part self.now.miner.now) (M.part_size self.now.miner.now) (M.parts_of self.now.miner.now) }
-        ensures mined { IfOk result (λ lists. AreMined (M.lists_part self.now.miner.now) (M.is_work self.now.miner.now) (parts_in self.now.parts self.now.pieces piece) lists.items) }
-        ensures told { IfOk result (λ _. T.told_of tally.new ≡ T.told_of tally.old + piece_size (M.part_size self.now.miner.now) self.now.parts self.now.pieces piece) }
+        ensures mined { IfOk result (λ classes. AreMined (M.coding_of self.now.miner.now) (M.is_work self.now.miner.now) (ranks_of (M.coding_of self.now.miner.now) self.now.pieces piece) classes.items) }
+        ensures told { IfOk result (λ _. T.told_of tally.new ≡ T.told_of tally.old + piece_size (M.coding_of self.now.miner.now) self.now.pieces piece) }
         ensures going_on { IfOk result (λ _. T.is_over tally.new ≡ false) }
         ensures too_many { (most : ℕ) → result ≡ Err (TooMany most)
-            → (most ≡ T.limit_of tally.old) × (IsTrue (T.is_over tally.new) ⊎ HasLargePart (M.part_size self.now.miner.now) self.now.parts most) }
-        ensures at_most { T.told_of tally.new ≤ T.told_of tally.old + piece_size (M.part_size self.now.miner.now) self.now.parts self.now.pieces piece }
+            → (most ≡ T.limit_of tally.old) × (IsTrue (T.is_over tally.new) ⊎ HasLargeClass (M.coding_of self.now.miner.now) most) }
+        ensures at_most { T.told_of tally.new ≤ T.told_of tally.old + piece_size (M.coding_of self.now.miner.now) self.now.pieces piece }
         ensures limit { T.limit_of tally.new ≡ T.limit_of tally.old }
     {
-        let (start, end) = shard(piece, self.pieces, self.parts);
-        let mut lists = Vec::with_capacity(alloc, end - start)?;
+        lists_have_class_size();
+        let (start, end) = shard(piece, self.pieces, self.ranks as usize);
+        let mut classes = Vec::with_capacity(alloc, end - start)?;
         let mut tables = Tables::new(alloc, self.ranks)?;
-        for part in start..end {
-            let mined = self.miner.part(alloc, &mut tables, part, tally)?;
-            lists.push_reserved(mined);
+        for rank in start..end {
+            let class = self.miner.class(alloc, &mut tables, rank as u32, tally)?;
+            classes.push_reserved(class);
         }
-        Ok(lists)
+        Ok(classes)
     }
 }
 
-/// The sets of each part, mined by so many workers over so many pieces of the parts, where they are no
+/// The sets of each class, mined by so many workers over so many pieces of the ranks, where they are no
 /// more than the limit, and how much work that took. The workers share one count of the sets that they
 /// find, and each stops where it sees more than the limit.
 fn mined_classes<'a, R: Threads + Sync, G: Gate + Sync, M: ClassMiner + Sync>(
@@ -166,18 +161,19 @@ fn mined_classes<'a, R: Threads + Sync, G: Gate + Sync, M: ClassMiner + Sync>(
     gate: &'a G,
 ) -> Result<(Vec<CountedSets>, u64), MineFault>
     requires coding { M.coding_of miner.now ≡ coded.now }
-    ensures once { IfOk result (λ mined. ListsOnce (baskets_of coded.now) coded.now.minimum (flat_map (λ list. list) mined.0.items)) }
+    ensures once { IfOk result (λ mined. ListsOnce (baskets_of coded.now) coded.now.minimum (flat_map (λ class. class) mined.0.items)) }
     ensures within { IfOk result (λ _. length (frequent_of_coding coded.now) ≤ limit) }
-    ensures work { IfOk result (λ mined. IsWorkOfAll (M.is_work miner.now) (M.parts_of miner.now) mined.1) }
+    ensures work { IfOk result (λ mined. IsWorkOfAll (M.is_work miner.now) (length coded.now.items) mined.1) }
     ensures too_many { (most : ℕ) → result ≡ Err (TooMany most) → (most ≡ limit) × (limit < length (frequent_of_coding coded.now)) }
 {
-    let parts = miner.parts();
+    class_items_are_all();
+    class_sizes_add_up();
+    let _baskets = coded.baskets();
     let (round, seats) = Round::new(alloc, cutting.pieces, 1, cutting.workers)?;
     let classes = Classes {
         round: &round,
         pieces: cutting.pieces,
         ranks: coded.ranks(),
-        parts,
         miner,
         limit,
         gate,
@@ -187,21 +183,25 @@ fn mined_classes<'a, R: Threads + Sync, G: Gate + Sync, M: ClassMiner + Sync>(
         rt,
         alloc,
         seats,
-        &|job: (u32, RoundSeat)| -> Share<Vec<(u32, Vec<Mined>)>>
-            requires { (job.1.round ≡ lent.now.round.now.id) × (job.1.held ≡ unused 1 1) × (1 ≤ lent.now.pieces) × (lent.now.round.now.pieces ≡ lent.now.pieces) × (lent.now.round.now.counters ≡ 1) × (lent.now.ranks ≡ length (M.coding_of lent.now.miner.now).items) × (lent.now.parts ≡ M.parts_of lent.now.miner.now) × AreParts (M.coding_of lent.now.miner.now) (M.lists_part lent.now.miner.now) (M.part_size lent.now.miner.now) (M.parts_of lent.now.miner.now) }
-            ensures { IsClassShare lent.entry.now.round.now (M.lists_part lent.entry.now.miner.now) (M.part_size lent.entry.now.miner.now) (M.is_work lent.entry.now.miner.now) lent.entry.now.parts lent.entry.now.limit lent.entry.now.pieces result }
+        &|job: (u32, RoundSeat)| -> Share<Vec<(u32, Vec<Class>)>>
+            requires { (job.1.round ≡ lent.now.round.now.id) × (job.1.held ≡ unused 1 1) × (1 ≤ lent.now.pieces) × (lent.now.round.now.pieces ≡ lent.now.pieces) × (lent.now.round.now.counters ≡ 1) × (lent.now.ranks ≡ length (M.coding_of lent.now.miner.now).items) }
+            ensures { IsClassShare lent.entry.now.round.now (M.coding_of lent.entry.now.miner.now) (M.is_work lent.entry.now.miner.now) lent.entry.now.limit lent.entry.now.pieces result }
         { lent.share(alloc, job.0, job.1) },
     )?;
     let Ok(_) = round.close(seats) else {
         unreachable!()
     };
     let values = values?;
-    let (lists, work) = joined(alloc, collected(alloc, cutting.pieces, values)?, parts)?;
-    Ok((lists, work))
+    let (classes, work) = joined(
+        alloc,
+        collected(alloc, cutting.pieces, values)?,
+        coded.ranks(),
+    )?;
+    Ok((classes, work))
 }
 
-/// The list of the frequent sets, mined part by part by so many workers over so many pieces of the
-/// parts, where it is no longer than the limit, and how much work that took. What the parts are mined
+/// The list of the frequent sets, mined class by class by so many workers over so many pieces of the
+/// ranks, where it is no longer than the limit, and how much work that took. What the classes are mined
 /// from is dropped before the list is made.
 pub fn mine_shared<R: Threads + Sync, G: Gate + Sync, M: ClassMiner + Sync + Drop>(
     rt: &R,
@@ -215,11 +215,11 @@ pub fn mine_shared<R: Threads + Sync, G: Gate + Sync, M: ClassMiner + Sync + Dro
     requires coding { M.coding_of miner ≡ coded.now }
     ensures list { IfOk result (λ mined. mined.0 ≡ listing_of coded.now) }
     ensures within { IfOk result (λ mined. length mined.0.sets ≤ limit) }
-    ensures work { IfOk result (λ mined. IsWorkOfAll (M.is_work miner) (M.parts_of miner) mined.1) }
+    ensures work { IfOk result (λ mined. IsWorkOfAll (M.is_work miner) (length coded.now.items) mined.1) }
     ensures too_many { (most : ℕ) → result ≡ Err (TooMany most) → (most ≡ limit) × (limit < length (frequent_of_coding coded.now)) }
 {
-    let (lists, work) = mined_classes(rt, alloc, coded, &miner, limit, cutting, gate)?;
+    let (classes, work) = mined_classes(rt, alloc, coded, &miner, limit, cutting, gate)?;
     drop(miner);
-    let list = Frequent::of_classes_shared(rt, alloc, coded, lists, cutting.workers)?;
+    let list = Frequent::of_classes_shared(rt, alloc, coded, classes, cutting.workers)?;
     Ok((list, work))
 }

@@ -18,15 +18,4 @@ impl Cutting {
     {
         Cutting { workers, pieces }
     }
-
-    /// Into how many parts each class is cut, so that there is a part for each piece; a single worker
-    /// cuts none.
-    pub fn class_parts(self, ranks: u32) -> u32
-        ensures { 1 ≤ result }
-    {
-        if self.workers == 1 {
-            return 1;
-        }
-        self.pieces.div_ceil(ranks.max(1))
-    }
 }

@@ -1,4 +1,4 @@
-//! The parts of pieces, put together.
+//! The classes of pieces, put together.
 ghost use Rattle.std.specs.Prelude.{◌≡◌, ◌+◌, ◌++◌, IfOk, map, min, sum};
 ghost use Rattle.std.specs.List.{flat_map};
 ghost use Rattle.mine_phases.specs.Classes.{MOST_WORK};
@@ -6,38 +6,37 @@ ghost use Rattle.mine_phases.specs.Classes.{MOST_WORK};
 use basket_core::CountedSets;
 use std::alloc::{AllocError, Global};
 
-/// The sets of a part as items, and the work that they took.
-pub type Mined = (CountedSets, u64);
+/// The class of a rank as items, and the work that it took.
+pub type Class = (CountedSets, u64);
 
-/// The lists of the parts of all pieces, one after another, and their work, added up as far as it
-/// goes. There is room for so many parts.
+/// The classes of all pieces, one after another, and their work, added up as far as it goes.
 pub fn joined(
     alloc: Global,
-    pieces: Vec<Vec<Mined>>,
-    parts: usize,
+    pieces: Vec<Vec<Class>>,
+    ranks: u32,
 ) -> Result<(Vec<CountedSets>, u64), AllocError>
-    ensures lists { IfOk result (λ joined. joined.0.items ≡ map (λ mined. mined.0) (flat_map (λ piece. piece.items) pieces.items)) }
-    ensures work { IfOk result (λ joined. joined.1 ≡ min (sum (map (λ mined. mined.1) (flat_map (λ piece. piece.items) pieces.items))) MOST_WORK) }
+    ensures classes { IfOk result (λ joined. joined.0.items ≡ map (λ class. class.0) (flat_map (λ piece. piece.items) pieces.items)) }
+    ensures work { IfOk result (λ joined. joined.1 ≡ min (sum (map (λ class. class.1) (flat_map (λ piece. piece.items) pieces.items))) MOST_WORK) }
 {
-    let mut lists = Vec::with_capacity(alloc, parts)?;
+    let mut classes = Vec::with_capacity(alloc, ranks as usize)?;
     let mut work = 0;
     for piece in pieces {
-        work = join_piece(&mut lists, work, piece)?;
+        work = join_piece(&mut classes, work, piece)?;
     }
-    Ok((lists, work))
+    Ok((classes, work))
 }
 
-/// Joins the lists of the parts of a piece to those before them. The answer is the work of all.
+/// Joins the classes of a piece to those before it. The answer is the work of all.
 fn join_piece(
-    lists: &mut Vec<CountedSets>,
+    classes: &mut Vec<CountedSets>,
     mut work: u64,
-    piece: Vec<Mined>,
+    piece: Vec<Class>,
 ) -> Result<u64, AllocError>
-    ensures lists { IfOk result (λ _. lists.new.items ≡ lists.old.items ++ map (λ mined. mined.0) piece.items) }
-    ensures work { IfOk result (λ all. all ≡ min (work + sum (map (λ mined. mined.1) piece.items)) MOST_WORK) }
+    ensures classes { IfOk result (λ _. classes.new.items ≡ classes.old.items ++ map (λ class. class.0) piece.items) }
+    ensures work { IfOk result (λ all. all ≡ min (work + sum (map (λ class. class.1) piece.items)) MOST_WORK) }
 {
-    for (list, done) in piece {
-        lists.push(list)?;
+    for (class, done) in piece {
+        classes.push(class)?;
         work = work.saturating_add(done);
     }
     Ok(work)

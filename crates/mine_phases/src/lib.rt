@@ -1,10 +1,10 @@
 //! The phases of mining that workers share. Each is a round of pieces, which the workers claim: the
-//! baskets, the ranks or the parts of the classes are cut into so many of them, and what is found
-//! doesn't depend on which worker takes which.
+//! baskets or the ranks are cut into so many parts, and what is found doesn't depend on which
+//! worker takes which.
 //!
 //! `counting` counts the items. Of `apriori`, `triangle` counts the pairs of few ranks, `pairs` finds
 //! the frequent pairs of many, and `level` counts the candidates of a level. `runs` makes ready what
-//! `classes` mines part by part with a `class_miner`, whose sets are told to the tally `found`. `share`
+//! `classes` mines class by class with a `class_miner`, whose sets are told to the tally `found`. `share`
 //! is what a worker hands back, `placed` puts the values of pieces in their order, and workers pass a
 //! `gate` with each piece.
 #![tactic(auto)]

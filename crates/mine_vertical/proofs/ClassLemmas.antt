@@ -1,5 +1,5 @@
 -- A class as a search lists it.
-use Rattle.std.proofs.Common.{◌≡◌, ℕ, ◌<◌, ◌≤◌, Bool, true, false, ◌&&◌, List, [], ◌∷◌, length, map, leb, refl, sym, ap, ◌∙◌, subst, inl, inr, arith}
+use Rattle.std.proofs.Common.{◌≡◌, ℕ, ◌+◌, ◌<◌, ◌≤◌, Bool, true, false, ◌&&◌, List, [], ◌∷◌, suc, length, map, leb, refl, sym, ap, ◌∙◌, subst, inl, inr, arith}
 use Rattle.std.specs.List.{Contains}
 use Rattle.std.proofs.lemmas.Bool.{le-leb, leb-true, lt-leb, true≢false}
 use Rattle.std.proofs.lemmas.List.Elements.{All-weaker}
@@ -14,19 +14,30 @@ use Rattle.basket_sets.specs.Support.{support_of, total_of}
 use Rattle.basket_sets.proofs.theory.Members.{Member}
 use Rattle.basket_sets.proofs.theory.Rising.{Member-from_has}
 use Rattle.basket_sets.proofs.theory.Support.{support_falls}
-use Rattle.mine_classes.specs.Classes.{ClassesAreConditional, ListsClass, SupportsSettleFrequent, ends_in, extended, with_rank}
+use Rattle.mine_classes.specs.Classes.{ClassesAreConditional, ListsClass, RareRanksHaveNoClass, SupportsSettleFrequent, ends_in, extended, with_rank}
 use Rattle.mine_classes.specs.Conditional.{ConditionalSupports, conditional}
-use Rattle.mine_classes.specs.Mined.{RanksAreFrequent}
+use Rattle.mine_classes.specs.Mined.{ListsClassItems, RanksAreFrequent, ListsHaveClassSize, class_size}
 use Rattle.mine_classes.specs.ListBaskets.{HaveSameWeights}
 use Rattle.mine_vertical.specs.declared.search.Sibling.{Sibling}
-use Rattle.mine_vertical.specs.Search.{IsNode, found_at, is_met, top}
+use Rattle.mine_vertical.specs.Search.{IsNode, Node, found_at, is_met}
 use Rattle.mine_vertical.specs.Siblings.{AreClassSiblings}
-use Rattle.mine_vertical.specs.Walk.{sets_below}
+use Rattle.mine_vertical.specs.Joins.{class_joins}
+use Rattle.mine_vertical.specs.Walk.{joins_below, sets_below}
 use Rattle.mine_vertical.proofs.FoundLemmas.{lists_once}
+use Rattle.mine_vertical.proofs.JoinLemmas.{class_joins_are, same_joins}
 use Rattle.mine_vertical.proofs.SearchLemmas.{met}
 use Rattle.mine_vertical.proofs.SiblingLemmas.{lower}
 
-pub same_found : (items : List ℕ) (baskets : List Weighted) (rank : ℕ) (found : List (List ℕ))
+-- the node of a class that has its rank alone
+abbrev pub top : List Weighted → ℕ → Node
+top baskets rank = record { baskets = baskets; shared = rank ∷ []; set = []; below = rank }
+
+-- the sets of a class as items: the rank alone, and what is found below it
+abbrev pub whole : List ℕ → List Weighted → ℕ → ℕ → ℕ → List Counted
+whole items baskets least rank support =
+    record { set = decoded items (rank ∷ []); count = support } ∷ map (found_at items (top baskets rank)) (sets_below (is_met baskets least) rank [])
+
+same_found : (items : List ℕ) (baskets : List Weighted) (rank : ℕ) (found : List (List ℕ))
     → map (found_at items (top baskets rank)) found ≡ map (decoded_set items) (map (with_rank rank) (map (counted baskets) found))
 same_found items baskets rank [] = refl
 same_found items baskets rank (set ∷ found) = ap (λ l. found_at items (top baskets rank) set ∷ l) (same_found items baskets rank found)
@@ -47,17 +58,14 @@ module _ (coding : Coding) (least : ℕ) (all : List Weighted) (is : IsLeastSupp
       one_test false true h = h refl
       one_test false false h = refl
 
-  -- a rank of less support is not frequent
-  pub rare_test : (rank : ℕ) → support_of all (rank ∷ []) < least → is_frequent coding.baskets coding.minimum (rank ∷ []) ≡ false
-  rare_test rank rare = sym (tests (rank ∷ [])) ∙ ap (λ b. leb 1 (support_of all (rank ∷ [])) && b) (lt-leb least (support_of all (rank ∷ [])) rare) ∙ and_false (leb 1 (support_of all (rank ∷ [])))
+  -- so no such coding has a rank of less support
+  pub rare_rank : (rank : ℕ) → RanksAreFrequent coding → rank < length coding.items → support_of all (rank ∷ []) < least → ⊥
+  rare_rank rank each here rare =
+      true≢false (sym (tests (rank ∷ []) ∙ each rank here) ∙ ap (λ b. leb 1 (support_of all (rank ∷ [])) && b) (lt-leb least (support_of all (rank ∷ [])) rare) ∙ and_false (leb 1 (support_of all (rank ∷ []))))
     where
       and_false : (b : Bool) → (b && false) ≡ false
       and_false true = refl
       and_false false = refl
-
-  -- so no such coding has it
-  pub rare_rank : (rank : ℕ) → RanksAreFrequent coding → rank < length coding.items → support_of all (rank ∷ []) < least → ⊥
-  rare_rank rank each here rare = true≢false (sym (each rank here) ∙ rare_test rank rare)
 
   -- a list of a class of other baskets with the same weights, and of a least support, is one of the class
   class_is : (rank : ℕ) (list : List Counted) → ListsClass all (Count least) rank list → ListsClass coding.baskets coding.minimum rank list
@@ -69,16 +77,49 @@ module _ (coding : Coding) (least : ℕ) (all : List Weighted) (is : IsLeastSupp
     complete = λ set n ends h. subst (λ count. Contains list (record { set = set; count = count })) (sym (supports set)) (lists.complete set n ends (tests set ∙ h));
   }
 
-  -- the rank alone, and what a search finds below it with the rank added, is one
-  pub extended_lists : SupportsSettleFrequent → ClassesAreConditional → ConditionalSupports → (rank : ℕ) (baskets : List Weighted)
-      → ((set : List ℕ) → support_of baskets set ≡ support_of (conditional least all rank) set) → least ≤ support_of all (rank ∷ [])
-      → ListsClass coding.baskets coding.minimum rank (extended rank (support_of all (rank ∷ [])) (map (counted baskets) (sets_below (is_met baskets least) rank [])))
-  extended_lists settle classes conditionals rank baskets same enough =
-      let list = map (counted baskets) (sets_below (is_met baskets least) rank []) in
-      let some = is.some in
-      class_is rank (extended rank (support_of all (rank ∷ [])) list)
-      (classes all least rank list (met all least (rank ∷ []) some enough)
-      (settle baskets (conditional least all rank) least list (λ set n. same set) (lists_once baskets least rank (lower conditionals all least rank baskets same))))
+  -- a rank of less support has no class
+  pub rare_class : RareRanksHaveNoClass → (rank : ℕ) (list : List Counted) → support_of all (rank ∷ []) < least → list ≡ [] → ListsClassItems coding rank list
+  rare_class law rank list rare none = record {
+    sets = [];
+    listed = law coding.baskets coding.minimum rank (sym (tests (rank ∷ [])) ∙ ap (λ b. leb 1 (support_of all (rank ∷ [])) && b) (lt-leb least (support_of all (rank ∷ [])) rare) ∙ and_false (leb 1 (support_of all (rank ∷ []))));
+    decoded = none;
+  }
+    where
+      and_false : (b : Bool) → (b && false) ≡ false
+      and_false true = refl
+      and_false false = refl
+
+  module _ (conditionals : ConditionalSupports) (settle : SupportsSettleFrequent) (classes : ClassesAreConditional) (sizes : ListsHaveClassSize)
+      (rank : ℕ) (baskets : List Weighted) (same : (set : List ℕ) → support_of baskets set ≡ support_of (conditional least all rank) set) (enough : least ≤ support_of all (rank ∷ [])) where
+    pub whole_lists : ListsClassItems coding rank (whole coding.items baskets least rank (support_of all (rank ∷ [])))
+    whole_lists =
+        let found = sets_below (is_met baskets least) rank [] in
+        let list = map (counted baskets) found in
+        let some = is.some in
+        record {
+          sets = extended rank (support_of all (rank ∷ [])) list;
+          listed = class_is rank (extended rank (support_of all (rank ∷ [])) list)
+              (classes all least rank list (met all least (rank ∷ []) some enough)
+              (settle baskets (conditional least all rank) least list (λ set n. same set) (lists_once baskets least rank (lower conditionals all least rank baskets same))));
+          decoded = ap (λ l. record { set = decoded coding.items (rank ∷ []); count = support_of all (rank ∷ []) } ∷ l) (same_found coding.items baskets rank found);
+        }
+
+    pub whole_size : class_size coding rank ≡ 1 + length (sets_below (is_met baskets least) rank [])
+    whole_size =
+        let size = sizes coding rank (whole coding.items baskets least rank (support_of all (rank ∷ []))) whole_lists in
+        let long = as_many (sets_below (is_met baskets least) rank []) in omega arith
+      where
+        as_many : (found : List (List ℕ)) → length (map (found_at coding.items (top baskets rank)) found) ≡ length found
+        as_many [] = refl
+        as_many (set ∷ found) = ap suc (as_many found)
+
+-- and the joins that it makes, with one for each rank below, are those of the class
+pub whole_joins : (coding : Coding) (least : ℕ) (all : List Weighted) → IsLeastSupport coding.minimum (total_of coding.baskets) least → HaveSameWeights coding.baskets all → ConditionalSupports
+    → (rank : ℕ) (baskets : List Weighted) → ((set : List ℕ) → support_of baskets set ≡ support_of (conditional least all rank) set) → RanksAreFrequent coding → rank < length coding.items
+    → class_joins coding rank ≡ rank + joins_below (is_met baskets least) rank []
+whole_joins coding least all is weights law rank baskets same each here =
+    class_joins_are coding rank each here
+    ∙ ap (λ n. rank + n) (sym (same_joins law all least rank baskets same coding.baskets coding.minimum (tests coding least all is weights) rank (omega arith) [] (λ item m. absurd m)))
 
 -- the search of a class begins at its rank
 pub top_is : {R : Type 0} (stands : List ℕ → List ℕ → List ℕ → R → Type 0) (all : List Weighted) (least rank : ℕ) (weights : List ℕ) (siblings : List (Sibling R)) (baskets : List Weighted) (set items : List ℕ)

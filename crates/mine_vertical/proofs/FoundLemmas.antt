@@ -22,7 +22,7 @@ apart : (a b : List ℕ) → a ≢ b → pointwise nat_eq a b ≡ false
 apart a b differ = elim (cases_Bool (pointwise nat_eq a b)) [ inl e ↦ absurd (differ ((bytes_decides a b).0 e)) | inr e ↦ e ]
 
 -- lists without equal elements, none of which is in both
-pub distinct-append : (xs ys : List (List ℕ)) → IsDistinct (pointwise nat_eq) xs → IsDistinct (pointwise nat_eq) ys → ((a b : List ℕ) → Member a xs → Member b ys → a ≢ b) → IsDistinct (pointwise nat_eq) (xs ++ ys)
+distinct-append : (xs ys : List (List ℕ)) → IsDistinct (pointwise nat_eq) xs → IsDistinct (pointwise nat_eq) ys → ((a b : List ℕ) → Member a xs → Member b ys → a ≢ b) → IsDistinct (pointwise nat_eq) (xs ++ ys)
 unfolding IsDistinct
 distinct-append [] ys one two across = two
 distinct-append (x ∷ xs) ys one two across = (

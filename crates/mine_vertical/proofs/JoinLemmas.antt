@@ -142,7 +142,7 @@ module _ (law : ConditionalSupports) (all : List Weighted) (least rank : ℕ) (b
   with_lower first set less lower item (inl e) = omega arith
   with_lower first set less lower item (inr m) = lower item m
 
-  pub same_kept : (below : ℕ) → below ≤ rank → (set : List ℕ) → ((item : ℕ) → Member item set → item < rank)
+  same_kept : (below : ℕ) → below ≤ rank → (set : List ℕ) → ((item : ℕ) → Member item set → item < rank)
       → kept_below (is_met baskets least) below set ≡ kept_below (is_frequent others minimum) below (set ++ rank ∷ [])
   same_kept zero within set lower = refl
   same_kept (suc first) within set lower =

@@ -4,9 +4,6 @@ mod RowLemmas
 mod SearchLemmas
 mod NodeLemmas
 mod FoundLemmas
-mod PartLemmas
-mod PartNodeLemmas
-mod PartListLemmas
 mod SiblingLemmas
 mod ClassLemmas
 mod JoinLemmas

@@ -18,15 +18,19 @@ use Rattle.basket_sets.proofs.theory.Rising.{Member-from_has, has-from_Member, h
 use Rattle.basket_sets.proofs.theory.Support.{subsets_are_frequent}
 use Rattle.mine_vertical.specs.declared.search.Sibling.{Sibling}
 use Rattle.basket_lists.specs.CountedSets.{set_at}
-use Rattle.mine_vertical.specs.Search.{IsLonger, IsNode, IsSibling, Node, child, found_at, is_met, ranks_at, sibling_rank}
-use Rattle.mine_vertical.specs.Walk.{branch, branch_joins, joins_below, kept_below, sets_below}
+use Rattle.mine_vertical.specs.Search.{IsNode, IsSibling, Node, found_at, is_met, ranks_at}
+use Rattle.mine_vertical.specs.Walk.{joins_below, kept_below, sets_below}
 use Rattle.basket_lists.proofs.theory.Places.{set_kept}
 use Rattle.mine_vertical.proofs.SearchLemmas.{ranks}
-use Rattle.mine_vertical.proofs.WalkLemmas.{joins_are_branches, kept_before, kept_few, kept_lower, kept_with, sets_are_branches}
+use Rattle.mine_vertical.proofs.WalkLemmas.{branch, branch_joins, joins_are_branches, kept_before, kept_few, kept_lower, kept_with, sets_are_branches}
 
 pub as_many : {R : Type 0} (siblings : List (Sibling R)) → length (map (λ (s : Sibling R). s.rank) siblings) ≡ length siblings
 as_many [] = refl
 as_many (s ∷ siblings) = ap suc (as_many siblings)
+
+-- the node of a set with one more rank
+abbrev pub child : Node → ℕ → Node
+child node rank = record { baskets = node.baskets; shared = node.shared; set = rank ∷ node.set; below = rank }
 
 -- what is frequent with two ranks is frequent with one
 falls : (baskets : List Weighted) (least rank : ℕ) (set : List ℕ) (other : ℕ) → is_met baskets least (other ∷ rank ∷ set) ≡ true → is_met baskets least (other ∷ set) ≡ true
@@ -176,30 +180,6 @@ module _ {R : Type 0} (stands : List ℕ → List ℕ → List ℕ → R → Typ
       ∙ append_assoc (before ++ so_far) (found_at items node (rank ∷ node.set) ∷ []) more ∙ append_assoc before so_far (found_at items node (rank ∷ node.set) ∷ more)
       ∙ sym (ap (λ l. before ++ map (found_at items node) l) (found_more i rank here at)
       ∙ ap (λ l. before ++ l) (map-append (found_at items node) (found_by (take i kept)) (branch test node.set rank)))
-
--- a set with the rank of a sibling more than a node's
-module _ {R : Type 0} (stands : List ℕ → List ℕ → List ℕ → R → Type 0) (weights : List ℕ) (least : ℕ) (siblings : List (Sibling R)) (items : List ℕ) (node : Node)
-    (i : ℕ) (here : i < length siblings) (sibling : Sibling R) (at : sibling ≡ get_or siblings i sibling) where
-  pub longer_rank : sibling_rank siblings i ≡ sibling.rank
-  longer_rank = get_or-map (λ (s : Sibling R). s.rank) siblings i sibling 0 here ∙ ap (λ (s : Sibling R). s.rank) (sym at)
-
-  pub longer_from : (set longer : List ℕ) → IsNode stands weights least siblings set items node → longer ≡ with_item (get_or items sibling.rank 0) set → IsLonger stands weights least siblings i longer items node
-  longer_from set longer is with_one = record {
-    of_node = subst (λ s. IsNode stands weights least siblings s items node) is.of_set is;
-    longer = with_one ∙ child_set stands weights least siblings set items node is sibling.rank ∙ ap (λ r. decoded items (r ∷ ranks_at node node.set)) (sym longer_rank);
-  }
-
-  -- the siblings that are kept with it are those of its node
-  pub longer_node : (longer : List ℕ) (below : List (Sibling R)) → IsLonger stands weights least siblings i longer items node
-      → ranks stands below ≡ filter (λ other. is_met node.baskets least (other ∷ sibling.rank ∷ node.set)) (ranks stands (take i siblings))
-      → All (IsSibling stands node.baskets (sibling.rank ∷ node.set)) below → IsNode stands weights least below longer items (child node (sibling_rank siblings i))
-  longer_node longer below is kept_are rows =
-      let set = decoded items (ranks_at node node.set) in
-      let same : with_item (get_or items sibling.rank 0) set ≡ longer =
-      child_set stands weights least siblings set items node is.of_node sibling.rank ∙ sym (is.longer ∙ ap (λ r. decoded items (r ∷ ranks_at node node.set)) longer_rank) in
-      subst (λ r. IsNode stands weights least below longer items (child node r)) (sym longer_rank)
-      (subst (λ s. IsNode stands weights least below s items (child node sibling.rank)) same
-      (child_is stands weights least siblings set items node is.of_node i sibling.rank (take i siblings) below here (rank_at stands weights least siblings set items node is.of_node i sibling here at) refl kept_are rows))
 
 -- nothing is found below a node without siblings
 module _ {R : Type 0} (stands : List ℕ → List ℕ → List ℕ → R → Type 0) (weights : List ℕ) (least : ℕ) (siblings : List (Sibling R)) (set items : List ℕ) (node : Node)

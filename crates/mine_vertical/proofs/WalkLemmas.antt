@@ -8,29 +8,37 @@ use Rattle.std.proofs.lemmas.List.Elements.{filter-append}
 use Rattle.std.proofs.Math.Seq.{get_or-append_seam, take-append_seam}
 use Rattle.std.proofs.lemmas.List.Sums.{sum_by-append, sum_by-cons}
 use Rattle.basket_sets.proofs.theory.Members.{Member, Member-append}
-use Rattle.mine_vertical.specs.Walk.{branch, branch_joins, kept_below, sets_below, joins_below}
+use Rattle.mine_vertical.specs.Walk.{kept_below, sets_below, joins_below}
 
 module _ (test : List ℕ → Bool) where
-  pub sets_are_branches : (below : ℕ) (set : List ℕ) → sets_below test below set ≡ flat_map (branch test set) (kept_below test below set)
+  -- what the search finds by one rank: the set with the rank, and the sets that extend that
+  abbrev pub branch : List ℕ → ℕ → List (List ℕ)
+  branch set rank = (rank ∷ set) ∷ sets_below test rank (rank ∷ set)
+
+  -- the joins of one rank and of the sets that extend it
+  abbrev pub branch_joins : List ℕ → ℕ → ℕ
+  branch_joins set rank = length (kept_below test rank set) + joins_below test rank (rank ∷ set)
+
+  pub sets_are_branches : (below : ℕ) (set : List ℕ) → sets_below test below set ≡ flat_map (branch set) (kept_below test below set)
   sets_are_branches zero set = refl
   sets_are_branches (suc rank) set =
-      ap (λ l. l ++ cond (test (rank ∷ set)) (branch test set rank) []) (sets_are_branches rank set)
-      ∙ ap (λ l. flat_map (branch test set) (kept_below test rank set) ++ l) (one (test (rank ∷ set)))
-      ∙ sym (flat_map-append (branch test set) (kept_below test rank set) (cond (test (rank ∷ set)) (rank ∷ []) []))
+      ap (λ l. l ++ cond (test (rank ∷ set)) (branch set rank) []) (sets_are_branches rank set)
+      ∙ ap (λ l. flat_map (branch set) (kept_below test rank set) ++ l) (one (test (rank ∷ set)))
+      ∙ sym (flat_map-append (branch set) (kept_below test rank set) (cond (test (rank ∷ set)) (rank ∷ []) []))
     where
-      one : (b : Bool) → cond b (branch test set rank) [] ≡ flat_map (branch test set) (cond b (rank ∷ []) [])
-      one true = sym (append-nil (branch test set rank))
+      one : (b : Bool) → cond b (branch set rank) [] ≡ flat_map (branch set) (cond b (rank ∷ []) [])
+      one true = sym (append-nil (branch set rank))
       one false = refl
 
-  pub joins_are_branches : (below : ℕ) (set : List ℕ) → joins_below test below set ≡ sum_by (branch_joins test set) (kept_below test below set)
+  pub joins_are_branches : (below : ℕ) (set : List ℕ) → joins_below test below set ≡ sum_by (branch_joins set) (kept_below test below set)
   joins_are_branches zero set = refl
   joins_are_branches (suc rank) set =
-      ap (λ n. n + cond (test (rank ∷ set)) (branch_joins test set rank) 0) (joins_are_branches rank set)
-      ∙ ap (λ n. sum_by (branch_joins test set) (kept_below test rank set) + n) (one (test (rank ∷ set)))
-      ∙ sym (sum_by-append (branch_joins test set) (kept_below test rank set) (cond (test (rank ∷ set)) (rank ∷ []) []))
+      ap (λ n. n + cond (test (rank ∷ set)) (branch_joins set rank) 0) (joins_are_branches rank set)
+      ∙ ap (λ n. sum_by (branch_joins set) (kept_below test rank set) + n) (one (test (rank ∷ set)))
+      ∙ sym (sum_by-append (branch_joins set) (kept_below test rank set) (cond (test (rank ∷ set)) (rank ∷ []) []))
     where
-      one : (b : Bool) → cond b (branch_joins test set rank) 0 ≡ sum_by (branch_joins test set) (cond b (rank ∷ []) [])
-      one true = omega (arith, sum_by-cons (branch_joins test set) rank [])
+      one : (b : Bool) → cond b (branch_joins set rank) 0 ≡ sum_by (branch_joins set) (cond b (rank ∷ []) [])
+      one true = omega (arith, sum_by-cons (branch_joins set) rank [])
       one false = refl
 
   -- the ranks before one of those that extend a set are those below it that do

@@ -148,7 +148,7 @@ words_and p q a zero = refl
 words_and p q a (suc n) =
     ap (λ w. w ∷ zip2 bit_and (words_from p (a + 64) n) (words_from q (a + 64) n)) (at_and p q a) ∙ ap (λ l. word_at (λ t. p t && q t) a ∷ l) (words_and p q (a + 64) n)
 
-pub range-append : (a m k : ℕ) → range_with_len a (m + k) ≡ range_with_len a m ++ range_with_len (a + m) k
+range-append : (a m k : ℕ) → range_with_len a (m + k) ≡ range_with_len a m ++ range_with_len (a + m) k
 range-append a zero k = let e : 0 + k ≡ k = omega arith in let f : a ≡ a + 0 = omega arith in ap (range_with_len a) e ∙ ap (λ b. range_with_len b k) f
 range-append a (suc m) k =
     let e : suc m + k ≡ suc (m + k) = omega arith in

@@ -1,7 +1,6 @@
 pub mod Cover
 pub mod Weights
 pub mod Walk
-pub mod Part
 pub mod Rows
 pub mod Search
 pub mod Vertical

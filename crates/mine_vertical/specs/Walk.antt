@@ -16,11 +16,3 @@ abbrev pub joins_below : (List ℕ → Bool) → ℕ → List ℕ → ℕ
 joins_below test zero set = 0
 joins_below test (suc rank) set =
     joins_below test rank set + (if test (rank ∷ set) then length (kept_below test rank set) + joins_below test rank (rank ∷ set) else 0)
-
--- what is found by one rank: the set with the rank, and the sets that extend that
-abbrev pub branch : (List ℕ → Bool) → List ℕ → ℕ → List (List ℕ)
-branch test set rank = (rank ∷ set) ∷ sets_below test rank (rank ∷ set)
-
--- the joins of one rank and of the sets that extend it
-abbrev pub branch_joins : (List ℕ → Bool) → List ℕ → ℕ → ℕ
-branch_joins test set rank = length (kept_below test rank set) + joins_below test rank (rank ∷ set)

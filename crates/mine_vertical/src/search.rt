@@ -1,21 +1,19 @@
 //! The search for the frequent sets of a class, depth first.
 ghost use Rattle.std.specs.Prelude.{◌≡◌, ◌≤◌, ◌<◌, ◌+◌, ◌*◌, ◌++◌, [], ◌∷◌, ℕ, List, ◌⊎◌, All, Err, IfOk, IsTrue, false, OnOk, filter, length, map, take};
-ghost use Rattle.basket_ranks.specs.Codes.{decoded};
 ghost use Rattle.basket_core.specs.declared.fault.MineFault.TheVariants.{TooMany};
 ghost use Rattle.basket_sets.specs.declared.weighted.Weighted.{Weighted as Basket};
 ghost use Rattle.mine_vertical.specs.Cover.{common, cover_weight, weights_of};
 ghost use Rattle.mine_vertical.specs.Marks.{IsMarked};
 ghost use Rattle.basket_lists.specs.CountedSets.{set_at};
-ghost use Rattle.mine_vertical.specs.Search.{EachLonger, EachNode, EachTop, FewJoins, IsLonger, IsNode, IsSibling, Node, found_at, is_met, joins_at, part_joins_at, part_sets_at, sets_at, top};
+ghost use Rattle.mine_vertical.specs.Search.{EachNode, FewJoins, IsNode, IsSibling, Node, found_at, is_met, joins_at, sets_at};
 
 use crate::marks::Marks;
 use crate::mined::Mined;
-use crate::part::Part;
 use crate::remade::remade;
 use crate::room::Room;
 use crate::row::Row;
 use crate::weights::Weights;
-use basket_core::{Coded, Itemset, MineFault, Tally};
+use basket_core::{Coded, MineFault, Tally};
 use std::alloc::{AllocError, Global};
 
 /// An extension of a set: its rank, and the row of the set with the rank.
@@ -78,7 +76,6 @@ impl Search<'_> {
     /// The frequent extensions of the set with the sibling's rank, in place of the first siblings of a
     /// list: the sibling's row joined with those of other siblings, each join counted. The answer is how
     /// many they are.
-    #[inline(always)]
     fn joined<R: Row>(
         &self,
         alloc: Global,
@@ -150,59 +147,19 @@ impl Search<'_> {
         for (at, sibling) in siblings.iter().enumerate() {
             let item = self.coded.item(sibling.rank);
             let longer = mined.add_longer(alloc, place, item, sibling.row.count(), tally)?;
-            self.extend_by(alloc, siblings, at, longer, &mut list, mined, tally, room)?;
+            let others = &siblings[..at];
+            let marks = &mut room.marks;
+            let kept = self.joined(alloc, sibling, others, &mut list, marks, &mut mined.joins)?;
+            if kept > 0 {
+                let is_large = sibling.row.is_large(kept, at, self.weights);
+                self.extend_set(alloc, &list[..kept], is_large, longer, mined, tally, room)?;
+            }
         }
         room.take_back(list);
         Ok(())
     }
 
-    /// Adds the frequent sets that extend the set at a place, which has the sibling at a place more than
-    /// the siblings' set, by the siblings before that one and by what extends those. The list gives room.
-    // Inlined into both callers, with what it calls: calls took 4% of a run over dense data.
-    #[inline(always)]
-    #[cycle(search)]
-    fn extend_by<R: Row, T: Tally>(
-        &self,
-        alloc: Global,
-        siblings: &[Sibling<R>],
-        at: usize,
-        longer: usize,
-        list: &mut Vec<Sibling<R>>,
-        mined: &mut Mined,
-        tally: &mut T,
-        room: &mut Room<R>,
-    ) -> Result<(), MineFault>
-        requires node { (node : Node) × IsLonger R.stands self.now.weights.now self.now.least siblings.now at (set_at mined.old.sets longer) self.now.coded.now.items node }
-        requires at { at < length siblings.now }
-        requires found { longer < length mined.old.sets }
-        requires some { 1 ≤ self.now.least }
-        requires going { T.is_over tally.old ≡ false }
-        requires few { (mined.old.joins ≤ length mined.old.sets * 4294967295) × (length mined.old.sets ≤ 4294967295) }
-        requires clear { IsMarked self.now.weights.now [] room.old.marks }
-        ensures sets { OnOk result (EachLonger R.stands self.now.weights.now self.now.least siblings.now at (set_at mined.old.sets longer) self.now.coded.now.items (λ node. mined.new.sets ≡ mined.old.sets ++ map (found_at self.now.coded.now.items node) (sets_at self.now.least node))) }
-        ensures joins { OnOk result (EachLonger R.stands self.now.weights.now self.now.least siblings.now at (set_at mined.old.sets longer) self.now.coded.now.items (λ node. mined.new.joins ≡ mined.old.joins + (at + joins_at self.now.least node))) }
-        ensures told { OnOk result (T.told_of tally.new + length mined.old.sets ≡ T.told_of tally.old + length mined.new.sets) }
-        ensures going_on { OnOk result (T.is_over tally.new ≡ false) }
-        ensures few { OnOk result (FewJoins mined.new.joins (length mined.new.sets)) }
-        ensures too_many { (limit : ℕ) → result ≡ Err (TooMany limit) → (limit ≡ T.limit_of tally.old)
-            × EachLonger R.stands self.now.weights.now self.now.least siblings.now at (set_at mined.old.sets longer) self.now.coded.now.items (λ node. IsTrue (T.is_over tally.new) ⊎ (limit < length mined.old.sets + length (sets_at self.now.least node))) }
-        ensures at_most { EachLonger R.stands self.now.weights.now self.now.least siblings.now at (set_at mined.old.sets longer) self.now.coded.now.items (λ node. T.told_of tally.new ≤ T.told_of tally.old + length (sets_at self.now.least node)) }
-        ensures limit { T.limit_of tally.new ≡ T.limit_of tally.old }
-        ensures clear { OnOk result (IsMarked self.now.weights.now [] room.new.marks) }
-    {
-        let sibling = &siblings[at];
-        let others = &siblings[..at];
-        let marks = &mut room.marks;
-        let kept = self.joined(alloc, sibling, others, list, marks, &mut mined.joins)?;
-        if kept > 0 {
-            let is_large = sibling.row.is_large(kept, at, self.weights);
-            self.extend_set(alloc, &list[..kept], is_large, longer, mined, tally, room)?;
-        }
-        Ok(())
-    }
-
     /// The same by siblings of one set, whose database is made anew where it is large.
-    #[inline(always)]
     #[cycle(search)]
     fn extend_set<R: Row, T: Tally>(
         &self,
@@ -245,46 +202,5 @@ impl Search<'_> {
             }
             None => self.extend(alloc, siblings, place, mined, tally, room),
         }
-    }
-
-    /// Adds the frequent sets of a part of the class of a rank that have two ranks or more, by the siblings
-    /// that the class begins with. Each set is told to the tally once it is known to be frequent.
-    pub fn extend_part<R: Row, T: Tally>(
-        &self,
-        alloc: Global,
-        siblings: &[Sibling<R>],
-        rank: u32,
-        part: Part,
-        mined: &mut Mined,
-        tally: &mut T,
-        room: &mut Room<R>,
-    ) -> Result<(), MineFault>
-        requires node { (baskets : List Basket) × IsNode R.stands self.now.weights.now self.now.least siblings.now (decoded self.now.coded.now.items (rank ∷ [])) self.now.coded.now.items (top baskets rank) }
-        requires rank { rank < length self.now.coded.now.items }
-        requires some { 1 ≤ self.now.least }
-        requires going { T.is_over tally.old ≡ false }
-        requires few { FewJoins mined.old.joins (length mined.old.sets) }
-        requires clear { IsMarked self.now.weights.now [] room.old.marks }
-        ensures sets { OnOk result (EachTop R.stands self.now.weights.now self.now.least siblings.now rank self.now.coded.now.items (λ node. mined.new.sets ≡ mined.old.sets ++ map (found_at self.now.coded.now.items node) (part_sets_at self.now.least part.cut part.place node))) }
-        ensures joins { OnOk result (EachTop R.stands self.now.weights.now self.now.least siblings.now rank self.now.coded.now.items (λ node. mined.new.joins ≡ mined.old.joins + part_joins_at self.now.least part.cut part.place node)) }
-        ensures told { OnOk result (T.told_of tally.new + length mined.old.sets ≡ T.told_of tally.old + length mined.new.sets) }
-        ensures going_on { OnOk result (T.is_over tally.new ≡ false) }
-        ensures too_many { (limit : ℕ) → result ≡ Err (TooMany limit) → (limit ≡ T.limit_of tally.old)
-            × EachTop R.stands self.now.weights.now self.now.least siblings.now rank self.now.coded.now.items (λ node. IsTrue (T.is_over tally.new) ⊎ (limit < length mined.old.sets + length (part_sets_at self.now.least part.cut part.place node))) }
-        ensures at_most { EachTop R.stands self.now.weights.now self.now.least siblings.now rank self.now.coded.now.items (λ node. T.told_of tally.new ≤ T.told_of tally.old + length (part_sets_at self.now.least part.cut part.place node)) }
-        ensures limit { T.limit_of tally.new ≡ T.limit_of tally.old }
-    {
-        let mut list = room.list(alloc);
-        for (at, sibling) in siblings.iter().enumerate() {
-            if part.has(sibling.rank) {
-                let items = [self.coded.item(sibling.rank), self.coded.item(rank)];
-                let longer = mined.sets.len();
-                let set = Itemset::from_items(alloc, &items)?;
-                mined.add(set, sibling.row.count(), tally)?;
-                self.extend_by(alloc, siblings, at, longer, &mut list, mined, tally, room)?;
-            }
-        }
-        room.take_back(list);
-        Ok(())
     }
 }

@@ -1,4 +1,4 @@
-use Rattle.std.proofs.Common.{◌∙◌, ◌*◌, length, subst}
+use Rattle.std.proofs.Common.{◌∙◌, length, subst}
 use Rattle.basket.specs.Classes.{IsJoins}
 use Rattle.mine_phases.specs.Classes.{IsWorkOfAll}
 use Rattle.basket.proofs.MiningLemmas.{joins_are}
@@ -6,7 +6,6 @@ use Rattle.basket.proofs.mining.by_eclat.Goals as goal
 
 pub returns-clause-work : goal.returns-clause-work
 returns-clause-work g c database minimum made =
-    let cut = c.class_parts-cut.result in
-    let work = subst (λ k. IsWorkOfAll (IsJoins k cut) (length k.items * cut) c.in_ok-frequent.joins) c.of_runs.ensures c.in_ok-frequent.ensures.work in
-    let count = joins_are database minimum c.args.coded.now made cut c.in_ok-frequent.joins c.class_parts-cut.ensures c.coded_ranks_are_frequent.ensures c.part_joins_add_up.ensures work in
+    let work = subst (λ k. IsWorkOfAll (IsJoins k) (length c.args.coded.now.items) c.in_ok-frequent.joins) c.of_runs.ensures c.in_ok-frequent.ensures.work in
+    let count = joins_are database minimum c.args.coded.now made c.in_ok-frequent.joins c.coded_ranks_are_frequent.ensures c.class_joins_add_up.ensures work in
     c.of_joins.ensures ∙ (λ i. record { candidates = 0; joins = count i; trees = 0 })

@@ -5,14 +5,14 @@ use Rattle.std.specs.Global.{Global}
 use Rattle.std.proofs.lemmas.List.{length-map}
 use Rattle.std.proofs.lemmas.List.Elements.{All-map, All-same}
 use Rattle.std.proofs.lemmas.Result.{IfOk-weaker, err_from_is_err_and}
-use Rattle.basket_ranks.specs.Codes.{Coding, baskets_of, frequent_of_coding}
+use Rattle.basket_ranks.specs.Codes.{Coding, IsCoding, baskets_of, frequent_of_coding}
 use Rattle.basket_core.specs.declared.fault.MineFault.TheVariants.{TooMany}
 use Rattle.basket_sets.specs.declared.counted.Counted.{Counted}
 use Rattle.basket_sets.specs.Frequent.{ListsOnce}
 use Rattle.mine_round.specs.SeatView.{SeatView}
 use Rattle.mine_round.specs.Totals.{claimed_by}
 use Rattle.mine_phases.specs.declared.share.Share.{Share}
-use Rattle.mine_phases.specs.Classes.{AreMined, AreParts, IsClassShare, IsWorkOfAll, MinesPieces, claimed_size, parts_in, piece_from_end}
+use Rattle.mine_phases.specs.Classes.{AreMined, IsClassShare, IsWorkOfAll, MinesPieces, claimed_size, piece_from_end, ranks_of}
 use Rattle.mine_phases.specs.Placed.{placed}
 use Rattle.mine_phases.specs.Share.{fault_of, pieces_of}
 use Rattle.mine_phases.proofs.Placing.{each_value}
@@ -20,7 +20,7 @@ use Rattle.mine_phases.proofs.Shares.{Says, all_values, each_seat, pieces_are_cl
 use Rattle.mine_phases.proofs.Sharing.{ToldAll, all_from_end, map-flat_map, mined_pieces, no_more_than_limit, once_of_all, too_many_are, work_of_all}
 use Rattle.mine_phases.proofs.classes.mined_classes.Goals as goal
 
--- what a worker hands back: the lists of the parts in its pieces
+-- what a worker hands back: the classes of its pieces
 abbrev Pieces : Type 0
 Pieces = Share (Vec (ℕ × Vec (List Counted × ℕ) Global) Global)
 
@@ -33,8 +33,6 @@ by_workers-requires-clause-accepted g c κs within worker i seat below is =
       c.in_ok-round.ensures.round.0,
       c.in_ok-round.ensures.round.1,
       c.ranks.ensures ∙ ap (λ (k : Coding). length k.items) (sym c.requires.coding),
-      c.parts-parts.ensures.count,
-      c.parts-parts.ensures.parts,
     )
 
 pub close-requires : goal.close-requires
@@ -49,13 +47,8 @@ close-requires g c = record {
 pub returns-in_err-values-clause-too_many : goal.returns-in_err-values-clause-too_many
 returns-in_err-values-clause-too_many g c most e =
     let coding : Coding = g.M.ClassMiner.coding_of c.args.miner.now in
-    let lists_part = g.M.ClassMiner.lists_part c.args.miner.now in
-    let part_size = g.M.ClassMiner.part_size c.args.miner.now in
-    let is_work = g.M.ClassMiner.is_work c.args.miner.now in
-    let parts = c.parts-parts.result in
-    let are : AreParts coding lists_part part_size parts = subst (AreParts coding lists_part part_size) (sym c.parts-parts.ensures.count) c.parts-parts.ensures.parts in
     let shares = c.in_ok-seats.ensures.shares in
-    let all : All (IsClassShare c.in_ok-round.round lists_part part_size is_work parts c.args.limit c.args.cutting.pieces) shares =
+    let all : All (IsClassShare c.in_ok-round.round coding (g.M.ClassMiner.is_work c.args.miner.now) c.args.limit c.args.cutting.pieces) shares =
     λ k d below. (c.in_ok-seats.ensures.each k d below).call.met.1 in
     let p = err_from_is_err_and c.from_residual-in_err-values.result c.from_residual-in_err-values.ensures.1 in
     let both = sym p.1 ∙ e in
@@ -63,8 +56,8 @@ returns-in_err-values-clause-too_many g c most e =
     let told : fault_of (map (λ (s : Pieces). s.values) shares) ≡ Some (TooMany most) = rw (c.in_err-values.was ∙ ap Err (sym p.2 ∙ fault)) at c.in_ok-seats.ensures.fault in
     let first : 0 < length c.in-Ok.field-0.counters.items = omega (arith, c.in-Ok.ensures.counters, c.in-Ok.field-0.counters.ok, c.in_ok-round.ensures.round.1) in
     subst (λ k. (most ≡ c.args.limit) × (c.args.limit < length (frequent_of_coding k))) c.requires.coding
-    (too_many_are c.in_ok-round.round lists_part part_size is_work parts c.args.limit c.args.cutting.pieces shares c.in_ok-seats.seats.items most _ c.in-Ok.field-0.claimed _
-    c.args.cutting.some_pieces.0 are.add_up c.in_ok-seats.ensures.seats all c.in-Ok.ensures.claimed
+    (too_many_are c.in_ok-round.round coding (g.M.ClassMiner.is_work c.args.miner.now) c.args.limit c.args.cutting.pieces shares c.in_ok-seats.seats.items most _ c.in-Ok.field-0.claimed
+    c.args.cutting.some_pieces.0 (subst IsCoding (sym c.requires.coding) c.baskets-baskets.ensures.coding) c.class_sizes_add_up.ensures c.in_ok-seats.ensures.seats all c.in-Ok.ensures.claimed
     (omega (arith, c.in-Ok.ensures.within, c.in_ok-round.ensures.round.0)) (c.in-Ok.ensures.sums 0 first) (c.in-Ok.ensures.greatest 0 first) told)
 
 pub collected-requires : goal.collected-requires
@@ -72,11 +65,7 @@ collected-requires g c =
     let shares = c.in_ok-seats.ensures.shares in
     let lists = c.in_ok-values.values.items in
     let pieces = c.args.cutting.pieces in
-    let lists_part = g.M.ClassMiner.lists_part c.args.miner.now in
-    let part_size = g.M.ClassMiner.part_size c.args.miner.now in
-    let is_work = g.M.ClassMiner.is_work c.args.miner.now in
-    let parts = c.parts-parts.result in
-    let P = MinesPieces lists_part part_size is_work parts c.args.limit pieces in
+    let P = MinesPieces (g.M.ClassMiner.coding_of c.args.miner.now) (g.M.ClassMiner.is_work c.args.miner.now) c.args.limit pieces in
     let says : All (Says P) shares = λ k d below. (c.in_ok-seats.ensures.each k d below).call.met.1.values in
     let all : map Ok lists ≡ map (λ (s : Pieces). s.values) shares = rw c.in_ok-values.was at c.in_ok-seats.ensures.lists in
     let seats = c.in_ok-seats.ensures.seats in
@@ -91,44 +80,36 @@ collected-requires g c =
     subst (λ l. IsPermutation l (range_with_len 0 pieces)) mined
     (all_from_end pieces claimed (subst (λ n. IsPermutation claimed (range_with_len 0 n)) whole c.in-Ok.ensures.claimed))
 
--- the lists by piece are the lists of all parts
-mined_all : (lists_part : ℕ → List Counted → Type 0) (part_size : ℕ → ℕ) (is_work : ℕ → ℕ → Type 0) (parts limit pieces : ℕ) (shares : List Pieces)
+-- the classes by piece are the classes of all ranks
+mined_all : (coding : Coding) (is_work : ℕ → ℕ → Type 0) (limit pieces : ℕ) (shares : List Pieces)
     (lists : List (Vec (ℕ × Vec (List Counted × ℕ) Global) Global)) (values : List (Vec (List Counted × ℕ) Global)) → 1 ≤ pieces → length values ≡ pieces
-    → map Ok lists ≡ map (λ share. share.values) shares → All (Says (MinesPieces lists_part part_size is_work parts limit pieces)) shares → map Some values ≡ placed (replicate pieces None) (flat_map (λ list. list.items) lists)
-    → AreMined lists_part is_work (range_with_len 0 parts) (flat_map (λ value. value.items) values)
-mined_all lists_part part_size is_work parts limit pieces shares lists values some count all says is =
-    let Mined : ℕ × Vec (List Counted × ℕ) Global → Type 0 = λ value. AreMined lists_part is_work (parts_in parts pieces value.0) value.1.items in
-    mined_pieces lists_part is_work parts pieces values some count
+    → map Ok lists ≡ map (λ share. share.values) shares → All (Says (MinesPieces coding is_work limit pieces)) shares → map Some values ≡ placed (replicate pieces None) (flat_map (λ list. list.items) lists)
+    → AreMined coding is_work (range_with_len 0 (length coding.items)) (flat_map (λ value. value.items) values)
+mined_all coding is_work limit pieces shares lists values some count all says is =
+    let Mined : ℕ × Vec (List Counted × ℕ) Global → Type 0 = λ value. AreMined coding is_work (ranks_of coding pieces value.0) value.1.items in
+    mined_pieces coding is_work pieces values some count
     (λ piece d below. each_value Mined (replicate pieces None) pieces (flat_map (λ list. list.items) lists) values refl is
-    (all_values (MinesPieces lists_part part_size is_work parts limit pieces) Mined (λ seat values says. says.mined) shares lists all says) piece d below)
+    (all_values (MinesPieces coding is_work limit pieces) Mined (λ seat values says. says.mined) shares lists all says) piece d below)
 
 pub returns-clause-once : goal.returns-clause-once
 returns-clause-once g c =
     let coding : Coding = g.M.ClassMiner.coding_of c.args.miner.now in
-    let lists_part = g.M.ClassMiner.lists_part c.args.miner.now in
-    let part_size = g.M.ClassMiner.part_size c.args.miner.now in
     let is_work = g.M.ClassMiner.is_work c.args.miner.now in
-    let parts = c.parts-parts.result in
-    let are : AreParts coding lists_part part_size parts = subst (AreParts coding lists_part part_size) (sym c.parts-parts.ensures.count) c.parts-parts.ensures.parts in
-    let mined = mined_all lists_part part_size is_work parts c.args.limit c.args.cutting.pieces c.in_ok-seats.ensures.shares c.in_ok-values.values.items c.in_ok-collected.field-0.items
+    let mined = mined_all coding is_work c.args.limit c.args.cutting.pieces c.in_ok-seats.ensures.shares c.in_ok-values.values.items c.in_ok-collected.field-0.items
     c.args.cutting.some_pieces.0 (omega (arith, c.in_ok-collected.ensures.count, c.in_ok-collected.field-0.ok)) (rw c.in_ok-values.was at c.in_ok-seats.ensures.lists)
     (λ k d below. (c.in_ok-seats.ensures.each k d below).call.met.1.values) c.in_ok-collected.ensures.values in
-    let once = once_of_all lists_part is_work coding part_size parts _ are mined in
-    subst (λ (k : Coding). ListsOnce (baskets_of k) k.minimum (flat_map (λ (list : List Counted). list) c.in_ok-lists.lists.items)) c.requires.coding
-    (subst (λ (l : List (List Counted)). ListsOnce (baskets_of coding) coding.minimum (flat_map (λ (list : List Counted). list) l)) (sym c.in_ok-lists.ensures.lists) once)
+    let once = once_of_all coding is_work _ c.class_items_are_all.ensures (subst IsCoding (sym c.requires.coding) c.baskets-baskets.ensures.coding) mined in
+    subst (λ (k : Coding). ListsOnce (baskets_of k) k.minimum (flat_map (λ (class : List Counted). class) c.in_ok-classes.classes.items)) c.requires.coding
+    (subst (λ (l : List (List Counted)). ListsOnce (baskets_of coding) coding.minimum (flat_map (λ (class : List Counted). class) l)) (sym c.in_ok-classes.ensures.classes) once)
 
 pub returns-clause-within : goal.returns-clause-within
 returns-clause-within g c =
     let coding : Coding = g.M.ClassMiner.coding_of c.args.miner.now in
-    let lists_part = g.M.ClassMiner.lists_part c.args.miner.now in
-    let part_size = g.M.ClassMiner.part_size c.args.miner.now in
-    let parts = c.parts-parts.result in
-    let are : AreParts coding lists_part part_size parts = subst (AreParts coding lists_part part_size) (sym c.parts-parts.ensures.count) c.parts-parts.ensures.parts in
     let pieces = c.args.cutting.pieces in
     let shares = c.in_ok-seats.ensures.shares in
     let lists = c.in_ok-values.values.items in
     let seats = c.in_ok-seats.seats.items in
-    let Told : SeatView → Type 0 = ToldAll (claimed_size part_size parts pieces) c.args.limit in
+    let Told : SeatView → Type 0 = ToldAll (claimed_size coding pieces) c.args.limit in
     let all : map Ok lists ≡ map (λ (s : Pieces). s.values) shares = rw c.in_ok-values.was at c.in_ok-seats.ensures.lists in
     let told : All Told (map (λ (s : Pieces). s.seat) shares) = each_seat Told shares lists all
     (λ k d below. IfOk-weaker (get_or shares k d).values _ (λ values. Told (get_or shares k d).seat) (λ values says. record { ended = says.ended; told = says.told; within = says.within })
@@ -145,18 +126,16 @@ returns-clause-within g c =
     let ended = c.in-Ok.ensures.ended (some_seat Told (λ s. 0 < s.held.past) (λ seat says. says.ended) seats some by_seats) ∙ c.in_ok-round.ensures.round.0 in
     let claimed = subst (λ n. IsPermutation (claimed_by seats) (range_with_len 0 n)) ended c.in-Ok.ensures.claimed in
     let first : 0 < length c.in-Ok.field-0.counters.items = omega (arith, c.in-Ok.ensures.counters, c.in-Ok.field-0.counters.ok, c.in_ok-round.ensures.round.1) in
-    let few = no_more_than_limit part_size parts c.args.limit pieces seats _ _ c.args.cutting.some_pieces.0 are.add_up by_seats claimed
+    let few = no_more_than_limit coding c.args.limit pieces seats _ c.args.cutting.some_pieces.0 (subst IsCoding (sym c.requires.coding) c.baskets-baskets.ensures.coding) c.class_sizes_add_up.ensures by_seats claimed
     (c.in-Ok.ensures.sums 0 first) (c.in-Ok.ensures.greatest 0 first) in
     let same = ap (λ (k : Coding). length (frequent_of_coding k)) c.requires.coding in
     omega (arith, few, same)
 
 pub returns-clause-work : goal.returns-clause-work
 returns-clause-work g c =
-    let lists_part = g.M.ClassMiner.lists_part c.args.miner.now in
-    let part_size = g.M.ClassMiner.part_size c.args.miner.now in
+    let coding : Coding = g.M.ClassMiner.coding_of c.args.miner.now in
     let is_work = g.M.ClassMiner.is_work c.args.miner.now in
-    let parts = c.parts-parts.result in
-    let mined = mined_all lists_part part_size is_work parts c.args.limit c.args.cutting.pieces c.in_ok-seats.ensures.shares c.in_ok-values.values.items c.in_ok-collected.field-0.items
+    let mined = mined_all coding is_work c.args.limit c.args.cutting.pieces c.in_ok-seats.ensures.shares c.in_ok-values.values.items c.in_ok-collected.field-0.items
     c.args.cutting.some_pieces.0 (omega (arith, c.in_ok-collected.ensures.count, c.in_ok-collected.field-0.ok)) (rw c.in_ok-values.was at c.in_ok-seats.ensures.lists)
     (λ k d below. (c.in_ok-seats.ensures.each k d below).call.met.1.values) c.in_ok-collected.ensures.values in
-    subst (λ n. IsWorkOfAll is_work n c.in_ok-lists.work) c.parts-parts.ensures.count (work_of_all lists_part is_work parts _ _ mined c.in_ok-lists.ensures.work)
+    subst (λ (k : Coding). IsWorkOfAll is_work (length k.items) c.in_ok-classes.work) c.requires.coding (work_of_all coding is_work _ _ mined c.in_ok-classes.ensures.work)

@@ -8,7 +8,7 @@ abbrev pub invariant-loop-piece : goal.invariant-loop-piece
 invariant-loop-piece l = record {
   can : (goal.iterator-loop-piece).can_next l.piece-iterator;
   ends : (goal.iterator-loop-piece).is_finite l.piece-iterator;
-  lists : l.lists.items ++ map (λ mined. mined.0) (flat_map (λ piece. piece.items) (into_iter_items l.piece-iterator)) ≡ map (λ mined. mined.0) (flat_map (λ piece. piece.items) l.fn.pieces.items);
-  work : min (l.work + sum (map (λ mined. mined.1) (flat_map (λ piece. piece.items) (into_iter_items l.piece-iterator)))) MOST_WORK ≡ min (sum (map (λ mined. mined.1) (flat_map (λ piece. piece.items) l.fn.pieces.items))) MOST_WORK;
+  classes : l.classes.items ++ map (λ class. class.0) (flat_map (λ piece. piece.items) (into_iter_items l.piece-iterator)) ≡ map (λ class. class.0) (flat_map (λ piece. piece.items) l.fn.pieces.items);
+  work : min (l.work + sum (map (λ class. class.1) (flat_map (λ piece. piece.items) (into_iter_items l.piece-iterator)))) MOST_WORK ≡ min (sum (map (λ class. class.1) (flat_map (λ piece. piece.items) l.fn.pieces.items))) MOST_WORK;
   fits : l.work ≤ MOST_WORK;
 }

@@ -5,9 +5,10 @@ use Rattle.std.specs.List.{sum_by}
 use Rattle.std.proofs.lemmas.List.{map-append}
 use Rattle.std.proofs.lemmas.List.Elements.{All-push, All-same}
 use Rattle.std.proofs.lemmas.List.Sums.{sum_by_push}
+use Rattle.basket_ranks.specs.Codes.{Coding}
 use Rattle.basket_sets.specs.declared.counted.Counted.{Counted}
 use Rattle.mine_round.specs.SeatView.{SeatView}
-use Rattle.mine_phases.specs.Classes.{AreMined, claimed_size, parts_in, piece_from_end, piece_size}
+use Rattle.mine_phases.specs.Classes.{AreMined, claimed_size, piece_from_end, piece_size, ranks_of}
 use Rattle.mine_phases.specs.Share.{pieces_of}
 use Rattle.mine_phases.proofs.Claims.{behind, behind-le, behind_push}
 use Rattle.mine_phases.proofs.classes.Classes.share.Goals as goal
@@ -27,12 +28,10 @@ loop-alloc-smaller g c =
 
 pub loop-alloc-preserved : goal.loop-alloc-preserved
 loop-alloc-preserved g c =
-    let lists_part = g.M.ClassMiner.lists_part c.args.self.now.miner.now in
-    let part_size = g.M.ClassMiner.part_size c.args.self.now.miner.now in
+    let coding : Coding = g.M.ClassMiner.coding_of c.args.self.now.miner.now in
     let is_work = g.M.ClassMiner.is_work c.args.self.now.miner.now in
-    let parts = c.args.self.now.parts in
     let pieces = c.args.self.now.pieces in
-    let Mined : ℕ × Vec (List Counted × ℕ) Global → Type 0 = λ value. AreMined lists_part is_work (parts_in parts pieces value.0) value.1.items in
+    let Mined : ℕ × Vec (List Counted × ℕ) Global → Type 0 = λ value. AreMined coding is_work (ranks_of coding pieces value.0) value.1.items in
     let before : List ℕ = c.loop-alloc.seat.held.claimed in
     let was = c.loop-alloc.invariant in
     let number = c.in-Some.claimed in
@@ -45,9 +44,9 @@ loop-alloc-preserved g c =
     let pushed = c.in-Ok-push.ensures.items in
     let added = ap (λ h. slice_index h.added 0) c.in-Some.ensures.piece.1 in
     let same = ap (λ l. slice_index l 0) c.is_over.ensures.added in
-    let told : slice_index c.piece-back.result.0.held.added 0 ≡ slice_index c.claim_piece.new.seat.held.added 0 + piece_size part_size parts pieces (piece_from_end pieces number) = rw c.in-Ok.is at c.piece-back.ensures.told in
-    let sum = ap (sum_by (claimed_size part_size parts pieces)) claimed in
-    let push = sum_by_push (claimed_size part_size parts pieces) before number in
+    let told : slice_index c.piece-back.result.0.held.added 0 ≡ slice_index c.claim_piece.new.seat.held.added 0 + piece_size coding pieces (piece_from_end pieces number) = rw c.in-Ok.is at c.piece-back.ensures.told in
+    let sum = ap (sum_by (claimed_size coding pieces)) claimed in
+    let push = sum_by_push (claimed_size coding pieces) before number in
     record {
       counts = c.piece-back.ensures.counts;
       within = omega (arith, high, within, c.requires.pieces.1);

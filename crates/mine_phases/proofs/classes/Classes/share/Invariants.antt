@@ -1,7 +1,7 @@
 use Rattle.std.proofs.Common.{◌≡◌, ◌≤◌, ◌-◌, map, slice_index}
 use Rattle.std.specs.Prelude.{All}
 use Rattle.std.specs.List.{sum_by}
-use Rattle.mine_phases.specs.Classes.{AreMined, claimed_size, parts_in, piece_from_end}
+use Rattle.mine_phases.specs.Classes.{AreMined, claimed_size, piece_from_end, ranks_of}
 use Rattle.mine_phases.specs.Found.{CountsSets}
 use Rattle.mine_phases.specs.Share.{pieces_of}
 use Rattle.mine_phases.proofs.Claims.{behind}
@@ -12,8 +12,8 @@ invariant-loop-alloc g l = record {
   counts : CountsSets l.self.round.now l.seat;
   within : behind l.seat.held.claimed ≤ l.self.pieces;
   claimed : pieces_of l.values.items ≡ map (piece_from_end l.self.pieces) l.seat.held.claimed;
-  mined : All (λ value. AreMined (g.M.ClassMiner.lists_part l.self.miner.now) (g.M.ClassMiner.is_work l.self.miner.now) (parts_in l.self.parts l.self.pieces value.0) value.1.items) l.values.items;
-  told : slice_index l.seat.held.added 0 ≡ sum_by (claimed_size (g.M.ClassMiner.part_size l.self.miner.now) l.self.parts l.self.pieces) l.seat.held.claimed;
+  mined : All (λ value. AreMined (g.M.ClassMiner.coding_of l.self.miner.now) (g.M.ClassMiner.is_work l.self.miner.now) (ranks_of (g.M.ClassMiner.coding_of l.self.miner.now) l.self.pieces value.0) value.1.items) l.values.items;
+  told : slice_index l.seat.held.added 0 ≡ sum_by (claimed_size (g.M.ClassMiner.coding_of l.self.miner.now) l.self.pieces) l.seat.held.claimed;
 }
 
 abbrev pub decreases-loop-alloc : goal.decreases-loop-alloc

@@ -1,23 +1,25 @@
-use Rattle.std.proofs.Common.{◌≡◌, ◌≤◌, ◌+◌, ◌++◌, ◌∷◌, [], Err, length, map, take, subst, refl, sym, ap, ◌∙◌, inl, inr, arith, length-append}
+use Rattle.std.proofs.Common.{◌≡◌, ◌≤◌, ◌+◌, ◌++◌, ◌∷◌, [], Err, get_or, length, map, take, subst, refl, sym, ap, ◌∙◌, inl, inr, arith, length-append}
 use Rattle.std.specs.List.{sum_by}
 use Rattle.std.proofs.lemmas.List.{append-nil, length-take-le, take_all}
 use Rattle.std.proofs.lemmas.List.Elements.{All-take}
 use Rattle.std.proofs.lemmas.Result.{err_from_is_err_and}
-use Rattle.basket_ranks.specs.Codes.{decoded}
 use Rattle.basket_core.specs.declared.fault.MineFault.TheVariants.{TooMany}
 use Rattle.basket_sets.specs.Itemset.{IsRising, with_item}
 use Rattle.basket_sets.proofs.theory.Rising.{has-from_Member}
 use Rattle.basket_sets.specs.declared.counted.Counted.{Counted}
 use Rattle.mine_vertical.specs.Cover.{cover_of}
+use Rattle.mine_vertical.specs.declared.marks.Marks.{Marks}
+use Rattle.mine_vertical.specs.Marks.{IsMarked}
 use Rattle.basket_lists.specs.CountedSets.{set_at}
-use Rattle.mine_vertical.specs.Search.{IsNode, IsSibling, child, found_at, is_met, ranks_at, sibling_rank}
-use Rattle.mine_vertical.specs.Walk.{branch_joins, joins_below, kept_below, sets_below}
+use Rattle.mine_vertical.specs.Search.{FewJoins, IsNode, IsSibling, found_at, is_met, ranks_at}
+use Rattle.mine_vertical.specs.Walk.{joins_below, kept_below, sets_below}
 use Rattle.basket_lists.proofs.theory.Places.{set_added}
 use Rattle.mine_vertical.proofs.SearchLemmas.{counted_row, sibling_at}
-use Rattle.mine_vertical.proofs.WalkLemmas.{joins_are_branches, sets_are_branches}
-use Rattle.mine_vertical.proofs.NodeLemmas.{as_many, child_known, child_set, fewer, found_by, joins_more, long, longer_from, longer_node, longer_rank, longer_set, no_joins, no_sets, part_more, part_within, place_few, rank_at, sets_long, sets_more, told_is}
+use Rattle.mine_vertical.proofs.WalkLemmas.{branch_joins, joins_are_branches, sets_are_branches}
+use Rattle.mine_vertical.proofs.NodeLemmas.{as_many, child, child_is, child_known, child_set, fewer, found_by, joins_more, long, longer_set, no_joins, no_sets, part_more, part_within, place_few, rank_at, sets_long, sets_more, told_is}
 use Rattle.mine_vertical.proofs.RemadeLemmas.{goes_on, kept_rises, over}
 use Rattle.mine_vertical.proofs.search.Search.+search.Goals as goal
+use Rattle.mine_vertical.proofs.search.Search.+search.Goals.{extend-then-kept-gt0+in_ok-extend_set, extend-else-kept-gt0}
 
 pub extend-returns-clause-at_most : goal.extend-returns-clause-at_most
 extend-returns-clause-at_most g t c = λ node is.
@@ -65,6 +67,23 @@ extend-returns-in_err-longer-clause-at_most g t c = λ node is.
     let more = part_more stands weights search.least siblings set items node is i sibling.rank here at in
     omega (arith, c.add_longer.ensures.at_most)
 
+pub extend-returns-in_err-kept-clause-at_most : goal.extend-returns-in_err-kept-clause-at_most
+extend-returns-in_err-kept-clause-at_most g t c = λ node is.
+    let search = c.args.self.now in
+    let stands = g.R.Row.stands in
+    let weights = search.weights.now in
+    let siblings = c.args.siblings.now in
+    let set = set_at c.args.mined.now.sets c.args.place in
+    let items = search.coded.now.items in
+    let i = c.loop-at.at in
+    let here = c.loop-at-test.true in
+    let sibling = c.index-siblings-at.result in
+    let at = rank_at stands weights search.least siblings set items node is i sibling here c.index-siblings-at.is in
+    let told = told_is stands weights search.least siblings set items node is (g.T.Tally.told_of c.loop-at.tally) (g.T.Tally.told_of c.args.tally.now) i
+    c.loop-at.mined.sets c.args.mined.now.sets c.loop-at.invariant.told (c.loop-at.invariant.sets node is) in
+    let more = part_more stands weights search.least siblings set items node is i sibling.rank here at in
+    omega (arith, c.in_ok-longer.ensures.told)
+
 pub extend-returns-in_err-longer-clause-too_many : goal.extend-returns-in_err-longer-clause-too_many
 extend-returns-in_err-longer-clause-too_many g t c = λ limit e.
     let p = err_from_is_err_and c.from_residual.result c.from_residual.ensures.1 in
@@ -87,8 +106,20 @@ extend-returns-in_err-longer-clause-too_many g t c = λ limit e.
           elim why [ inl over ↦ inl over | inr less ↦ inr (omega arith) ],
     )
 
-pub extend-extend_by-requires : goal.extend-extend_by-requires
-extend-extend_by-requires g t c = λ κs lives.
+pub extend-joined-requires-clause-rows : goal.extend-joined-requires-clause-rows
+extend-joined-requires-clause-rows g t c =
+    let (node, is) = c.requires.node in
+    let stands = g.R.Row.stands in
+    let siblings = c.args.siblings.now in
+    let i = c.loop-at.at in
+    let here = c.loop-at-test.true in
+    let sibling = c.index-siblings-at.result in
+    let all = All-take (IsSibling stands node.baskets node.set) i siblings is.rows in
+    let one = sibling_at stands node.baskets node.set siblings i sibling here c.index-siblings-at.is is.rows in
+    (node.baskets, node.set, is.weighs, one, all)
+
+pub extend-joined-requires-clause-few : goal.extend-joined-requires-clause-few
+extend-joined-requires-clause-few g t c =
     let (node, is) = c.requires.node in
     let search = c.args.self.now in
     let stands = g.R.Row.stands in
@@ -99,32 +130,15 @@ extend-extend_by-requires g t c = λ κs lives.
     let i = c.loop-at.at in
     let here = c.loop-at-test.true in
     let sibling = c.index-siblings-at.result in
-    let with_one = longer_set stands weights search.least siblings set items node is i sibling.rank c.item-item.result c.args.place c.args.mined.now.sets c.loop-at.mined.sets c.requires.found refl (c.loop-at.invariant.sets node is) c.item-item.ensures in
-    let longer_is = set_added c.loop-at.mined.sets c.add_longer.new.self.sets (record { set = with_item c.item-item.result (set_at c.loop-at.mined.sets c.args.place); count = c.count.result }) c.in_ok-longer.longer
-    c.in_ok-longer.ensures.place c.in_ok-longer.ensures.sets ∙ with_one in
-    let longer = longer_from stands weights search.least siblings items node i here sibling c.index-siblings-at.is set (set_at c.add_longer.new.self.sets c.in_ok-longer.longer) is longer_is in
-    let one_more = ap length c.in_ok-longer.ensures.sets ∙ length-append c.loop-at.mined.sets (record { set = with_item c.item-item.result (set_at c.loop-at.mined.sets c.args.place); count = c.count.result } ∷ []) in (
-      omega (arith, c.decreases),
-      (
-        lives.0,
-        (
-          lives.1,
-          (
-            (node, longer),
-            (
-              here,
-              (
-                omega (arith, c.in_ok-longer.ensures.place, one_more),
-                (c.requires.some, (c.in_ok-longer.ensures.going_on, ((omega (arith, c.add_longer.ensures.joins, c.loop-at.invariant.few, one_more), c.in_ok-longer.ensures.few), c.loop-at.invariant.clear))),
-              ),
-            ),
-          ),
-        ),
-      ),
-    )
+    let few = place_few stands weights search.least siblings set items node is i here in
+    let most : i ≤ length siblings = omega arith in
+    let before = length-take-le i siblings most in
+    let one_more = ap length c.in_ok-longer.ensures.sets ∙ length-append c.loop-at.mined.sets (record { set = with_item c.item-item.result (set_at c.loop-at.mined.sets c.args.place); count = c.count.result } ∷ []) in
+    omega (arith, c.add_longer.ensures.joins, c.in_ok-longer.ensures.few, c.loop-at.invariant.few)
 
-pub extend-returns-in_err-extend_by-clause-at_most : goal.extend-returns-in_err-extend_by-clause-at_most
-extend-returns-in_err-extend_by-clause-at_most g t c = λ node is.
+pub extend-extend_set-requires : goal.extend-extend_set-requires
+extend-extend_set-requires g t c = λ κs lives.
+    let (node, is) = c.requires.node in
     let search = c.args.self.now in
     let stands = g.R.Row.stands in
     let weights = search.weights.now in
@@ -135,22 +149,70 @@ extend-returns-in_err-extend_by-clause-at_most g t c = λ node is.
     let here = c.loop-at-test.true in
     let sibling = c.index-siblings-at.result in
     let at = rank_at stands weights search.least siblings set items node is i sibling here c.index-siblings-at.is in
+    let all = All-take (IsSibling stands node.baskets node.set) i siblings is.rows in
+    let one = sibling_at stands node.baskets node.set siblings i sibling here c.index-siblings-at.is is.rows in
+    let kept_are = c.in_ok-kept.ensures.ranks node.baskets node.set is.weighs one all in
     let with_one = longer_set stands weights search.least siblings set items node is i sibling.rank c.item-item.result c.args.place c.args.mined.now.sets c.loop-at.mined.sets c.requires.found refl (c.loop-at.invariant.sets node is) c.item-item.ensures in
     let longer_is = set_added c.loop-at.mined.sets c.add_longer.new.self.sets (record { set = with_item c.item-item.result (set_at c.loop-at.mined.sets c.args.place); count = c.count.result }) c.in_ok-longer.longer
     c.in_ok-longer.ensures.place c.in_ok-longer.ensures.sets ∙ with_one in
-    let longer = longer_from stands weights search.least siblings items node i here sibling c.index-siblings-at.is set (set_at c.add_longer.new.self.sets c.in_ok-longer.longer) is longer_is in
-    let rank = longer_rank stands weights search.least siblings items node i here sibling c.index-siblings-at.is in
+    let rows = c.in_ok-kept.ensures.rows node.baskets node.set is.weighs one all in
+    let made = child_is stands weights search.least siblings set items node is i sibling.rank (take i siblings) (take c.in_ok-kept.kept c.joined.new.list.items) here at refl kept_are rows in
+    let inner = subst (λ s. IsNode stands weights search.least (take c.in_ok-kept.kept c.deref.result.now) s items (child node sibling.rank)) (sym longer_is)
+    (subst (λ s. IsNode stands weights search.least s (with_item (get_or items sibling.rank 0) set) items (child node sibling.rank)) (sym (ap (take c.in_ok-kept.kept) c.deref.ensures.value)) made) in
+    let less = fewer stands weights search.least siblings set items node is i sibling.rank (take i siblings) (take c.in_ok-kept.kept c.joined.new.list.items) here refl kept_are in
+    let short = ap (λ l. length (take c.in_ok-kept.kept l)) c.deref.ensures.value in
+    let few = place_few stands weights search.least siblings set items node is i here in
+    let most : i ≤ length siblings = omega arith in
+    let before = length-take-le i siblings most in
+    let one_more = ap length c.in_ok-longer.ensures.sets ∙ length-append c.loop-at.mined.sets (record { set = with_item c.item-item.result (set_at c.loop-at.mined.sets c.args.place); count = c.count.result } ∷ []) in (
+      omega (arith, c.decreases, less, short),
+      (
+        lives.0,
+        (
+          lives.1,
+          (
+            (child node sibling.rank, inner),
+            (
+              omega (arith, c.in_ok-longer.ensures.place, one_more),
+              (c.requires.some, (c.in_ok-longer.ensures.going_on, (omega (arith, c.in_ok-kept.ensures.joins, c.add_longer.ensures.joins, c.loop-at.invariant.few), c.in_ok-kept.ensures.clear))),
+            ),
+          ),
+        ),
+      ),
+    )
+
+pub extend-returns-in_err-extend_set-clause-at_most : goal.extend-returns-in_err-extend_set-clause-at_most
+extend-returns-in_err-extend_set-clause-at_most g t c = λ node is.
+    let search = c.args.self.now in
+    let stands = g.R.Row.stands in
+    let weights = search.weights.now in
+    let siblings = c.args.siblings.now in
+    let set = set_at c.args.mined.now.sets c.args.place in
+    let items = search.coded.now.items in
+    let i = c.loop-at.at in
+    let here = c.loop-at-test.true in
+    let sibling = c.index-siblings-at.result in
+    let at = rank_at stands weights search.least siblings set items node is i sibling here c.index-siblings-at.is in
+    let all = All-take (IsSibling stands node.baskets node.set) i siblings is.rows in
+    let one = sibling_at stands node.baskets node.set siblings i sibling here c.index-siblings-at.is is.rows in
+    let kept_are = c.in_ok-kept.ensures.ranks node.baskets node.set is.weighs one all in
+    let with_one = longer_set stands weights search.least siblings set items node is i sibling.rank c.item-item.result c.args.place c.args.mined.now.sets c.loop-at.mined.sets c.requires.found refl (c.loop-at.invariant.sets node is) c.item-item.ensures in
+    let longer_is = set_added c.loop-at.mined.sets c.add_longer.new.self.sets (record { set = with_item c.item-item.result (set_at c.loop-at.mined.sets c.args.place); count = c.count.result }) c.in_ok-longer.longer
+    c.in_ok-longer.ensures.place c.in_ok-longer.ensures.sets ∙ with_one in
+    let rows = c.in_ok-kept.ensures.rows node.baskets node.set is.weighs one all in
+    let made = child_is stands weights search.least siblings set items node is i sibling.rank (take i siblings) (take c.in_ok-kept.kept c.joined.new.list.items) here at refl kept_are rows in
+    let inner = subst (λ s. IsNode stands weights search.least (take c.in_ok-kept.kept c.deref.result.now) s items (child node sibling.rank)) (sym longer_is)
+    (subst (λ s. IsNode stands weights search.least s (with_item (get_or items sibling.rank 0) set) items (child node sibling.rank)) (sym (ap (take c.in_ok-kept.kept) c.deref.ensures.value)) made) in
     let told = told_is stands weights search.least siblings set items node is (g.T.Tally.told_of c.loop-at.tally) (g.T.Tally.told_of c.args.tally.now) i
     c.loop-at.mined.sets c.args.mined.now.sets c.loop-at.invariant.told (c.loop-at.invariant.sets node is) in
     let more = part_more stands weights search.least siblings set items node is i sibling.rank here at in
-    let deeper = ap (λ r. length (sets_below (is_met node.baskets search.least) r (r ∷ node.set))) rank in
-    omega (arith, c.in_ok-longer.ensures.told, deeper, c.extend_by.ensures.at_most node longer)
+    omega (arith, c.in_ok-longer.ensures.told, c.extend_set.ensures.at_most (child node sibling.rank) inner)
 
-pub extend-returns-in_err-extend_by-clause-too_many : goal.extend-returns-in_err-extend_by-clause-too_many
-extend-returns-in_err-extend_by-clause-too_many g t c = λ limit e.
-    let p = err_from_is_err_and c.from_residual-in_err-extend_by.result c.from_residual-in_err-extend_by.ensures.1 in
+pub extend-returns-in_err-extend_set-clause-too_many : goal.extend-returns-in_err-extend_set-clause-too_many
+extend-returns-in_err-extend_set-clause-too_many g t c = λ limit e.
+    let p = err_from_is_err_and c.from_residual-in_err-extend_set.result c.from_residual-in_err-extend_set.ensures.1 in
     let both = sym p.1 ∙ e in let fault : p.0 ≡ TooMany limit = cc in
-    let (same, why) = c.extend_by.ensures.too_many limit (c.in_err-extend_by.was ∙ ap Err (sym p.2 ∙ fault)) in (
+    let (same, why) = c.extend_set.ensures.too_many limit (c.in_err-extend_set.was ∙ ap Err (sym p.2 ∙ fault)) in (
       same ∙ c.add_longer.ensures.limit ∙ c.loop-at.invariant.limit,
       λ node is.
           let search = c.args.self.now in
@@ -163,16 +225,20 @@ extend-returns-in_err-extend_by-clause-too_many g t c = λ limit e.
           let here = c.loop-at-test.true in
           let sibling = c.index-siblings-at.result in
           let at = rank_at stands weights search.least siblings set items node is i sibling here c.index-siblings-at.is in
+          let all = All-take (IsSibling stands node.baskets node.set) i siblings is.rows in
+          let one = sibling_at stands node.baskets node.set siblings i sibling here c.index-siblings-at.is is.rows in
+          let kept_are = c.in_ok-kept.ensures.ranks node.baskets node.set is.weighs one all in
           let with_one = longer_set stands weights search.least siblings set items node is i sibling.rank c.item-item.result c.args.place c.args.mined.now.sets c.loop-at.mined.sets c.requires.found refl (c.loop-at.invariant.sets node is) c.item-item.ensures in
           let longer_is = set_added c.loop-at.mined.sets c.add_longer.new.self.sets (record { set = with_item c.item-item.result (set_at c.loop-at.mined.sets c.args.place); count = c.count.result }) c.in_ok-longer.longer
           c.in_ok-longer.ensures.place c.in_ok-longer.ensures.sets ∙ with_one in
-          let longer = longer_from stands weights search.least siblings items node i here sibling c.index-siblings-at.is set (set_at c.add_longer.new.self.sets c.in_ok-longer.longer) is longer_is in
-          let rank = longer_rank stands weights search.least siblings items node i here sibling c.index-siblings-at.is in
+          let rows = c.in_ok-kept.ensures.rows node.baskets node.set is.weighs one all in
+          let made = child_is stands weights search.least siblings set items node is i sibling.rank (take i siblings) (take c.in_ok-kept.kept c.joined.new.list.items) here at refl kept_are rows in
+          let inner = subst (λ s. IsNode stands weights search.least (take c.in_ok-kept.kept c.deref.result.now) s items (child node sibling.rank)) (sym longer_is)
+          (subst (λ s. IsNode stands weights search.least s (with_item (get_or items sibling.rank 0) set) items (child node sibling.rank)) (sym (ap (take c.in_ok-kept.kept) c.deref.ensures.value)) made) in
           let more = part_more stands weights search.least siblings set items node is i sibling.rank here at in
-          let deeper = ap (λ r. length (sets_below (is_met node.baskets search.least) r (r ∷ node.set))) rank in
           let long = sets_long stands weights search.least siblings set items node is i c.loop-at.mined.sets c.args.mined.now.sets (c.loop-at.invariant.sets node is) in
           let one_more = ap length c.in_ok-longer.ensures.sets ∙ length-append c.loop-at.mined.sets (record { set = with_item c.item-item.result (set_at c.loop-at.mined.sets c.args.place); count = c.count.result } ∷ []) in
-          elim (why node longer) [ inl over ↦ inl over | inr less ↦ inr (omega arith) ],
+          elim (why (child node sibling.rank) inner) [ inl over ↦ inl over | inr less ↦ inr (omega arith) ],
     )
 
 pub extend-loop-at-preserved : goal.extend-loop-at-preserved
@@ -186,40 +252,70 @@ extend-loop-at-preserved g t c =
     let i = c.loop-at.at in
     let here = c.loop-at-test.true in
     let sibling = c.index-siblings-at.result in
-    let one_more = ap length c.in_ok-longer.ensures.sets ∙ length-append c.loop-at.mined.sets (record { set = with_item c.item-item.result (set_at c.loop-at.mined.sets c.args.place); count = c.count.result } ∷ []) in
+    let one_set : Counted = record { set = with_item c.item-item.result (set_at c.loop-at.mined.sets c.args.place); count = c.count.result } in
+    let one_more = ap length c.in_ok-longer.ensures.sets ∙ length-append c.loop-at.mined.sets (one_set ∷ []) in
+    let most : i ≤ length siblings = omega arith in
+    let before = length-take-le i siblings most in
     record {
-      clear = c.in_ok-extend_by.ensures.clear;
-      going = c.in_ok-extend_by.ensures.going_on;
-      limit = c.extend_by.ensures.limit ∙ c.add_longer.ensures.limit ∙ c.loop-at.invariant.limit;
-      told = omega (arith, c.in_ok-extend_by.ensures.told, c.in_ok-longer.ensures.told, c.loop-at.invariant.told, one_more);
-      few = c.in_ok-extend_by.ensures.few;
+      clear = elim c.if-kept-gt0.branch [
+        | extend-then-kept-gt0+in_ok-extend_set w ↦ subst (λ (marks : Marks). IsMarked weights [] marks) (sym (ap (λ room. room.marks) w.room-is)) w.in_ok-extend_set.ensures.clear
+        | extend-else-kept-gt0 w ↦ subst (λ (marks : Marks). IsMarked weights [] marks) (sym (ap (λ room. room.marks) w.room-is)) c.in_ok-kept.ensures.clear
+      ];
+      going = elim c.if-kept-gt0.branch [
+        | extend-then-kept-gt0+in_ok-extend_set w ↦ ap (λ tally. g.T.Tally.is_over tally) w.tally-is ∙ w.in_ok-extend_set.ensures.going_on
+        | extend-else-kept-gt0 w ↦ ap (λ tally. g.T.Tally.is_over tally) w.tally-is ∙ c.in_ok-longer.ensures.going_on
+      ];
+      limit = elim c.if-kept-gt0.branch [
+        | extend-then-kept-gt0+in_ok-extend_set w ↦ ap (λ tally. g.T.Tally.limit_of tally) w.tally-is ∙ w.extend_set.ensures.limit ∙ c.add_longer.ensures.limit ∙ c.loop-at.invariant.limit
+        | extend-else-kept-gt0 w ↦ ap (λ tally. g.T.Tally.limit_of tally) w.tally-is ∙ c.add_longer.ensures.limit ∙ c.loop-at.invariant.limit
+      ];
+      told = elim c.if-kept-gt0.branch [
+        | extend-then-kept-gt0+in_ok-extend_set w ↦ omega (arith, ap (λ tally. g.T.Tally.told_of tally) w.tally-is, ap (λ mined. length mined.sets) w.mined-is, w.in_ok-extend_set.ensures.told, c.in_ok-longer.ensures.told, c.loop-at.invariant.told, one_more)
+        | extend-else-kept-gt0 w ↦ omega (arith, ap (λ tally. g.T.Tally.told_of tally) w.tally-is, ap (λ mined. length mined.sets) w.mined-is, c.in_ok-longer.ensures.told, c.loop-at.invariant.told, one_more)
+      ];
+      few = elim c.if-kept-gt0.branch [
+        | extend-then-kept-gt0+in_ok-extend_set w ↦ subst (λ mined. FewJoins mined.joins (length mined.sets)) (sym w.mined-is) w.in_ok-extend_set.ensures.few
+        | extend-else-kept-gt0 w ↦ (let (known, first) = c.requires.node in let few = place_few stands weights search.least siblings set items known first i here in subst (λ mined. FewJoins mined.joins (length mined.sets)) (sym w.mined-is) (omega (arith, c.in_ok-kept.ensures.joins, c.add_longer.ensures.joins, c.loop-at.invariant.few, one_more, few, before)))
+      ];
       sets = λ node is.
-          let at = rank_at stands weights search.least siblings set items node is i sibling here c.index-siblings-at.is in
           let with_one = longer_set stands weights search.least siblings set items node is i sibling.rank c.item-item.result c.args.place c.args.mined.now.sets c.loop-at.mined.sets c.requires.found refl (c.loop-at.invariant.sets node is) c.item-item.ensures in
-          let longer_is = set_added c.loop-at.mined.sets c.add_longer.new.self.sets (record { set = with_item c.item-item.result (set_at c.loop-at.mined.sets c.args.place); count = c.count.result }) c.in_ok-longer.longer
-          c.in_ok-longer.ensures.place c.in_ok-longer.ensures.sets ∙ with_one in
-          let longer = longer_from stands weights search.least siblings items node i here sibling c.index-siblings-at.is set (set_at c.add_longer.new.self.sets c.in_ok-longer.longer) is longer_is in
-          let rank = longer_rank stands weights search.least siblings items node i here sibling c.index-siblings-at.is in
-          let test = is_met node.baskets search.least in
+          let longer_is = set_added c.loop-at.mined.sets c.add_longer.new.self.sets one_set c.in_ok-longer.longer c.in_ok-longer.ensures.place c.in_ok-longer.ensures.sets ∙ with_one in
+          let at = rank_at stands weights search.least siblings set items node is i sibling here c.index-siblings-at.is in
+          let all = All-take (IsSibling stands node.baskets node.set) i siblings is.rows in
           let one = sibling_at stands node.baskets node.set siblings i sibling here c.index-siblings-at.is is.rows in
+          let kept_are = c.in_ok-kept.ensures.ranks node.baskets node.set is.weighs one all in
+          let rows = c.in_ok-kept.ensures.rows node.baskets node.set is.weighs one all in
+          let made = child_is stands weights search.least siblings set items node is i sibling.rank (take i siblings) (take c.in_ok-kept.kept c.joined.new.list.items) here at refl kept_are rows in
+          let test = is_met node.baskets search.least in
           let counts = counted_row stands node.baskets (cover_of node.baskets node.set) (sibling.rank ∷ node.set) sibling.row c.count.result c.count.ensures one in
           let is_set = with_one ∙ child_set stands weights search.least siblings set items node is sibling.rank in
-          let one_set : Counted = record { set = with_item c.item-item.result (set_at c.loop-at.mined.sets c.args.place); count = c.count.result } in
           let found : one_set ≡ found_at items node (sibling.rank ∷ node.set) = λ k. record { set = is_set k; count = counts k } in
           let with_set = c.add_longer.new.self.sets in
-          let deeper = subst (λ r. c.extend_by.new.mined.sets ≡ with_set ++ map (found_at items node) (sets_below test r (r ∷ node.set))) rank (c.in_ok-extend_by.ensures.sets node longer) in
-          sets_more stands weights search.least siblings set items node is i sibling.rank c.args.mined.now.sets c.loop-at.mined.sets with_set c.extend_by.new.mined.sets
+          let deeper : c.if-kept-gt0.mined.sets ≡ with_set ++ map (found_at items node) (sets_below test sibling.rank (sibling.rank ∷ node.set)) = elim c.if-kept-gt0.branch [
+            | extend-then-kept-gt0+in_ok-extend_set w ↦ ap (λ mined. mined.sets) w.mined-is ∙ w.in_ok-extend_set.ensures.sets (child node sibling.rank) (subst (λ s. IsNode stands weights search.least (take c.in_ok-kept.kept w.deref.result.now) s items (child node sibling.rank)) (sym longer_is)
+                (subst (λ s. IsNode stands weights search.least s (with_item (get_or items sibling.rank 0) set) items (child node sibling.rank)) (sym (ap (take c.in_ok-kept.kept) w.deref.ensures.value)) made))
+            | extend-else-kept-gt0 w ↦ ap (λ mined. mined.sets) w.mined-is ∙ sym (ap (λ l. with_set ++ map (found_at items node) l)
+                (no_sets stands weights search.least (take c.in_ok-kept.kept c.joined.new.list.items) (with_item (get_or items sibling.rank 0) set) items (child node sibling.rank) made (let none = length-take-le c.in_ok-kept.kept c.joined.new.list.items c.in_ok-kept.ensures.within in let low = w.if-kept-gt0.false in omega arith)) ∙ append-nil with_set)
+          ] in
+          sets_more stands weights search.least siblings set items node is i sibling.rank c.args.mined.now.sets c.loop-at.mined.sets with_set c.if-kept-gt0.mined.sets
           one_set here at (c.loop-at.invariant.sets node is) c.in_ok-longer.ensures.sets found deeper;
       joins = λ node is.
-          let at = rank_at stands weights search.least siblings set items node is i sibling here c.index-siblings-at.is in
           let with_one = longer_set stands weights search.least siblings set items node is i sibling.rank c.item-item.result c.args.place c.args.mined.now.sets c.loop-at.mined.sets c.requires.found refl (c.loop-at.invariant.sets node is) c.item-item.ensures in
-          let longer_is = set_added c.loop-at.mined.sets c.add_longer.new.self.sets (record { set = with_item c.item-item.result (set_at c.loop-at.mined.sets c.args.place); count = c.count.result }) c.in_ok-longer.longer
-          c.in_ok-longer.ensures.place c.in_ok-longer.ensures.sets ∙ with_one in
-          let longer = longer_from stands weights search.least siblings items node i here sibling c.index-siblings-at.is set (set_at c.add_longer.new.self.sets c.in_ok-longer.longer) is longer_is in
-          let rank = longer_rank stands weights search.least siblings items node i here sibling c.index-siblings-at.is in
-          let deeper = ap (λ r. joins_below (is_met node.baskets search.least) r (r ∷ node.set)) rank in
+          let longer_is = set_added c.loop-at.mined.sets c.add_longer.new.self.sets one_set c.in_ok-longer.longer c.in_ok-longer.ensures.place c.in_ok-longer.ensures.sets ∙ with_one in
+          let at = rank_at stands weights search.least siblings set items node is i sibling here c.index-siblings-at.is in
+          let all = All-take (IsSibling stands node.baskets node.set) i siblings is.rows in
+          let one = sibling_at stands node.baskets node.set siblings i sibling here c.index-siblings-at.is is.rows in
+          let kept_are = c.in_ok-kept.ensures.ranks node.baskets node.set is.weighs one all in
+          let rows = c.in_ok-kept.ensures.rows node.baskets node.set is.weighs one all in
+          let made = child_is stands weights search.least siblings set items node is i sibling.rank (take i siblings) (take c.in_ok-kept.kept c.joined.new.list.items) here at refl kept_are rows in
+          let test = is_met node.baskets search.least in
           let more = joins_more stands weights search.least siblings set items node is i sibling.rank here at in
-          omega (arith, deeper, c.in_ok-extend_by.ensures.joins node longer, c.add_longer.ensures.joins, c.loop-at.invariant.joins node is, more);
+          let deeper : c.if-kept-gt0.mined.joins ≡ c.joined.new.joins + joins_below test sibling.rank (sibling.rank ∷ node.set) = elim c.if-kept-gt0.branch [
+            | extend-then-kept-gt0+in_ok-extend_set w ↦ ap (λ mined. mined.joins) w.mined-is ∙ w.in_ok-extend_set.ensures.joins (child node sibling.rank) (subst (λ s. IsNode stands weights search.least (take c.in_ok-kept.kept w.deref.result.now) s items (child node sibling.rank)) (sym longer_is)
+                (subst (λ s. IsNode stands weights search.least s (with_item (get_or items sibling.rank 0) set) items (child node sibling.rank)) (sym (ap (take c.in_ok-kept.kept) w.deref.ensures.value)) made))
+            | extend-else-kept-gt0 w ↦ omega (arith, ap (λ mined. mined.joins) w.mined-is, no_joins stands weights search.least (take c.in_ok-kept.kept c.joined.new.list.items) (with_item (get_or items sibling.rank 0) set) items (child node sibling.rank) made (let none = length-take-le c.in_ok-kept.kept c.joined.new.list.items c.in_ok-kept.ensures.within in let low = w.if-kept-gt0.false in omega arith))
+          ] in
+          omega (arith, deeper, c.in_ok-kept.ensures.joins, c.add_longer.ensures.joins, c.loop-at.invariant.joins node is, more, before);
     }
 
 pub extend-returns-clause-sets : goal.extend-returns-clause-sets
@@ -251,240 +347,6 @@ extend-returns-clause-joins g t c = λ node is.
     c.loop-at.invariant.joins node is
     ∙ ap (λ n. c.args.mined.now.joins + n)
     (ap (sum_by (branch_joins (is_met node.baskets search.least) node.set)) all ∙ sym (joins_are_branches (is_met node.baskets search.least) node.below node.set))
-
-pub extend_by-joined-requires-clause-rows : goal.extend_by-joined-requires-clause-rows
-extend_by-joined-requires-clause-rows g t c =
-    let (node, is) = c.requires.node in
-    let stands = g.R.Row.stands in
-    let siblings = c.args.siblings.now in
-    let i = c.args.at in
-    let all = All-take (IsSibling stands node.baskets node.set) i siblings is.of_node.rows in
-    let one = sibling_at stands node.baskets node.set siblings i c.index-siblings-at.result c.requires.at c.index-siblings-at.is is.of_node.rows in
-    (node.baskets, node.set, is.of_node.weighs, one, all)
-
-pub extend_by-joined-requires-clause-few : goal.extend_by-joined-requires-clause-few
-extend_by-joined-requires-clause-few g t c =
-    let (node, is) = c.requires.node in
-    let search = c.args.self.now in
-    let stands = g.R.Row.stands in
-    let weights = search.weights.now in
-    let siblings = c.args.siblings.now in
-    let set = set_at c.args.mined.now.sets c.args.longer in
-    let items = search.coded.now.items in
-    let i = c.args.at in
-    let here = c.requires.at in
-    let base = decoded items (ranks_at node node.set) in
-    let few = place_few stands weights search.least siblings base items node is.of_node i here in
-    let most : i ≤ length siblings = omega arith in
-    let before = length-take-le i siblings most in
-    omega (arith, few, before, c.requires.few)
-
-pub extend_by-extend_set-requires : goal.extend_by-extend_set-requires
-extend_by-extend_set-requires g t c = λ κs lives.
-    let (node, is) = c.requires.node in
-    let search = c.args.self.now in
-    let stands = g.R.Row.stands in
-    let weights = search.weights.now in
-    let siblings = c.args.siblings.now in
-    let set = set_at c.args.mined.now.sets c.args.longer in
-    let items = search.coded.now.items in
-    let i = c.args.at in
-    let here = c.requires.at in
-    let base = decoded items (ranks_at node node.set) in
-    let sibling = c.index-siblings-at.result in
-    let all = All-take (IsSibling stands node.baskets node.set) i siblings is.of_node.rows in
-    let one = sibling_at stands node.baskets node.set siblings i sibling here c.index-siblings-at.is is.of_node.rows in
-    let kept = take c.in_ok-kept.kept c.joined.new.list.items in
-    let kept_are = c.in_ok-kept.ensures.ranks node.baskets node.set is.of_node.weighs one all in
-    let rows = c.in_ok-kept.ensures.rows node.baskets node.set is.of_node.weighs one all in
-    let made = longer_node stands weights search.least siblings items node i here sibling c.index-siblings-at.is set kept is kept_are rows in
-    let inner = subst (λ s. IsNode stands weights search.least s set items (child node (sibling_rank siblings i))) (sym (ap (take c.in_ok-kept.kept) c.deref.ensures.value)) made in
-    let few = place_few stands weights search.least siblings base items node is.of_node i here in
-    let most : i ≤ length siblings = omega arith in
-    let before = length-take-le i siblings most in
-    let less = fewer stands weights search.least siblings base items node is.of_node i sibling.rank (take i siblings) kept here refl kept_are in
-    let short = ap (λ l. length (take c.in_ok-kept.kept l)) c.deref.ensures.value in (
-      omega (arith, c.decreases, less, short),
-      (
-        lives.0,
-        (
-          lives.1,
-          (
-            (child node (sibling_rank siblings i), inner),
-            (c.requires.found, (c.requires.some, (c.requires.going, (omega (arith, few, before, c.in_ok-kept.ensures.joins, c.requires.few), c.in_ok-kept.ensures.clear)))),
-          ),
-        ),
-      ),
-    )
-
-pub extend_by-returns-in_err-extend_set-clause-at_most : goal.extend_by-returns-in_err-extend_set-clause-at_most
-extend_by-returns-in_err-extend_set-clause-at_most g t c = λ node is.
-    let search = c.args.self.now in
-    let stands = g.R.Row.stands in
-    let weights = search.weights.now in
-    let siblings = c.args.siblings.now in
-    let set = set_at c.args.mined.now.sets c.args.longer in
-    let items = search.coded.now.items in
-    let i = c.args.at in
-    let here = c.requires.at in
-    let sibling = c.index-siblings-at.result in
-    let all = All-take (IsSibling stands node.baskets node.set) i siblings is.of_node.rows in
-    let one = sibling_at stands node.baskets node.set siblings i sibling here c.index-siblings-at.is is.of_node.rows in
-    let kept = take c.in_ok-kept.kept c.joined.new.list.items in
-    let kept_are = c.in_ok-kept.ensures.ranks node.baskets node.set is.of_node.weighs one all in
-    let rows = c.in_ok-kept.ensures.rows node.baskets node.set is.of_node.weighs one all in
-    let made = longer_node stands weights search.least siblings items node i here sibling c.index-siblings-at.is set kept is kept_are rows in
-    let inner = subst (λ s. IsNode stands weights search.least s set items (child node (sibling_rank siblings i))) (sym (ap (take c.in_ok-kept.kept) c.deref.ensures.value)) made in
-    c.extend_set.ensures.at_most (child node (sibling_rank siblings i)) inner
-
-pub extend_by-returns-in_err-extend_set-clause-too_many : goal.extend_by-returns-in_err-extend_set-clause-too_many
-extend_by-returns-in_err-extend_set-clause-too_many g t c = λ limit e.
-    let p = err_from_is_err_and c.from_residual-in_err-extend_set.result c.from_residual-in_err-extend_set.ensures.1 in
-    let both = sym p.1 ∙ e in let fault : p.0 ≡ TooMany limit = cc in
-    let (same, why) = c.extend_set.ensures.too_many limit (c.in_err-extend_set.was ∙ ap Err (sym p.2 ∙ fault)) in (
-      same,
-      λ node is.
-          let search = c.args.self.now in
-          let stands = g.R.Row.stands in
-          let weights = search.weights.now in
-          let siblings = c.args.siblings.now in
-          let set = set_at c.args.mined.now.sets c.args.longer in
-          let items = search.coded.now.items in
-          let i = c.args.at in
-          let here = c.requires.at in
-          let sibling = c.index-siblings-at.result in
-          let all = All-take (IsSibling stands node.baskets node.set) i siblings is.of_node.rows in
-          let one = sibling_at stands node.baskets node.set siblings i sibling here c.index-siblings-at.is is.of_node.rows in
-          let kept = take c.in_ok-kept.kept c.joined.new.list.items in
-          let kept_are = c.in_ok-kept.ensures.ranks node.baskets node.set is.of_node.weighs one all in
-          let rows = c.in_ok-kept.ensures.rows node.baskets node.set is.of_node.weighs one all in
-          let made = longer_node stands weights search.least siblings items node i here sibling c.index-siblings-at.is set kept is kept_are rows in
-          let inner = subst (λ s. IsNode stands weights search.least s set items (child node (sibling_rank siblings i))) (sym (ap (take c.in_ok-kept.kept) c.deref.ensures.value)) made in
-          why (child node (sibling_rank siblings i)) inner,
-    )
-
-pub extend_by-returns-in_ok-extend_set-clause-at_most : goal.extend_by-returns-in_ok-extend_set-clause-at_most
-extend_by-returns-in_ok-extend_set-clause-at_most g t c = λ node is.
-    let search = c.args.self.now in
-    let stands = g.R.Row.stands in
-    let weights = search.weights.now in
-    let siblings = c.args.siblings.now in
-    let set = set_at c.args.mined.now.sets c.args.longer in
-    let items = search.coded.now.items in
-    let i = c.args.at in
-    let here = c.requires.at in
-    let sibling = c.index-siblings-at.result in
-    let all = All-take (IsSibling stands node.baskets node.set) i siblings is.of_node.rows in
-    let one = sibling_at stands node.baskets node.set siblings i sibling here c.index-siblings-at.is is.of_node.rows in
-    let kept = take c.in_ok-kept.kept c.joined.new.list.items in
-    let kept_are = c.in_ok-kept.ensures.ranks node.baskets node.set is.of_node.weighs one all in
-    let rows = c.in_ok-kept.ensures.rows node.baskets node.set is.of_node.weighs one all in
-    let made = longer_node stands weights search.least siblings items node i here sibling c.index-siblings-at.is set kept is kept_are rows in
-    let inner = subst (λ s. IsNode stands weights search.least s set items (child node (sibling_rank siblings i))) (sym (ap (take c.in_ok-kept.kept) c.deref.ensures.value)) made in
-    c.extend_set.ensures.at_most (child node (sibling_rank siblings i)) inner
-
-pub extend_by-returns-in_ok-extend_set-clause-sets : goal.extend_by-returns-in_ok-extend_set-clause-sets
-extend_by-returns-in_ok-extend_set-clause-sets g t c = λ node is.
-    let search = c.args.self.now in
-    let stands = g.R.Row.stands in
-    let weights = search.weights.now in
-    let siblings = c.args.siblings.now in
-    let set = set_at c.args.mined.now.sets c.args.longer in
-    let items = search.coded.now.items in
-    let i = c.args.at in
-    let here = c.requires.at in
-    let sibling = c.index-siblings-at.result in
-    let all = All-take (IsSibling stands node.baskets node.set) i siblings is.of_node.rows in
-    let one = sibling_at stands node.baskets node.set siblings i sibling here c.index-siblings-at.is is.of_node.rows in
-    let kept = take c.in_ok-kept.kept c.joined.new.list.items in
-    let kept_are = c.in_ok-kept.ensures.ranks node.baskets node.set is.of_node.weighs one all in
-    let rows = c.in_ok-kept.ensures.rows node.baskets node.set is.of_node.weighs one all in
-    let made = longer_node stands weights search.least siblings items node i here sibling c.index-siblings-at.is set kept is kept_are rows in
-    let inner = subst (λ s. IsNode stands weights search.least s set items (child node (sibling_rank siblings i))) (sym (ap (take c.in_ok-kept.kept) c.deref.ensures.value)) made in
-    c.in_ok-extend_set.ensures.sets (child node (sibling_rank siblings i)) inner
-
-pub extend_by-returns-in_ok-extend_set-clause-joins : goal.extend_by-returns-in_ok-extend_set-clause-joins
-extend_by-returns-in_ok-extend_set-clause-joins g t c = λ node is.
-    let search = c.args.self.now in
-    let stands = g.R.Row.stands in
-    let weights = search.weights.now in
-    let siblings = c.args.siblings.now in
-    let set = set_at c.args.mined.now.sets c.args.longer in
-    let items = search.coded.now.items in
-    let i = c.args.at in
-    let here = c.requires.at in
-    let sibling = c.index-siblings-at.result in
-    let all = All-take (IsSibling stands node.baskets node.set) i siblings is.of_node.rows in
-    let one = sibling_at stands node.baskets node.set siblings i sibling here c.index-siblings-at.is is.of_node.rows in
-    let kept = take c.in_ok-kept.kept c.joined.new.list.items in
-    let kept_are = c.in_ok-kept.ensures.ranks node.baskets node.set is.of_node.weighs one all in
-    let rows = c.in_ok-kept.ensures.rows node.baskets node.set is.of_node.weighs one all in
-    let made = longer_node stands weights search.least siblings items node i here sibling c.index-siblings-at.is set kept is kept_are rows in
-    let inner = subst (λ s. IsNode stands weights search.least s set items (child node (sibling_rank siblings i))) (sym (ap (take c.in_ok-kept.kept) c.deref.ensures.value)) made in
-    let most : i ≤ length siblings = omega arith in
-    let before = length-take-le i siblings most in
-    omega (arith, before, c.in_ok-kept.ensures.joins, c.in_ok-extend_set.ensures.joins (child node (sibling_rank siblings i)) inner)
-
-pub extend_by-returns-else-kept-gt0-clause-few : goal.extend_by-returns-else-kept-gt0-clause-few
-extend_by-returns-else-kept-gt0-clause-few g t c =
-    let (node, is) = c.requires.node in
-    let search = c.args.self.now in
-    let stands = g.R.Row.stands in
-    let weights = search.weights.now in
-    let siblings = c.args.siblings.now in
-    let set = set_at c.args.mined.now.sets c.args.longer in
-    let items = search.coded.now.items in
-    let i = c.args.at in
-    let here = c.requires.at in
-    let base = decoded items (ranks_at node node.set) in
-    let few = place_few stands weights search.least siblings base items node is.of_node i here in
-    let most : i ≤ length siblings = omega arith in
-    let before = length-take-le i siblings most in
-    omega (arith, few, before, c.in_ok-kept.ensures.joins, c.requires.few)
-
-pub extend_by-returns-else-kept-gt0-clause-sets : goal.extend_by-returns-else-kept-gt0-clause-sets
-extend_by-returns-else-kept-gt0-clause-sets g t c = λ node is.
-    let search = c.args.self.now in
-    let stands = g.R.Row.stands in
-    let weights = search.weights.now in
-    let siblings = c.args.siblings.now in
-    let set = set_at c.args.mined.now.sets c.args.longer in
-    let items = search.coded.now.items in
-    let i = c.args.at in
-    let here = c.requires.at in
-    let sibling = c.index-siblings-at.result in
-    let all = All-take (IsSibling stands node.baskets node.set) i siblings is.of_node.rows in
-    let one = sibling_at stands node.baskets node.set siblings i sibling here c.index-siblings-at.is is.of_node.rows in
-    let kept = take c.in_ok-kept.kept c.joined.new.list.items in
-    let kept_are = c.in_ok-kept.ensures.ranks node.baskets node.set is.of_node.weighs one all in
-    let rows = c.in_ok-kept.ensures.rows node.baskets node.set is.of_node.weighs one all in
-    let made = longer_node stands weights search.least siblings items node i here sibling c.index-siblings-at.is set kept is kept_are rows in
-    let none = length-take-le c.in_ok-kept.kept c.joined.new.list.items c.in_ok-kept.ensures.within in
-    sym (ap (λ l. c.args.mined.now.sets ++ map (found_at items node) l)
-    (no_sets stands weights search.least kept set items (child node (sibling_rank siblings i)) made (let low = c.if-kept-gt0.false in omega arith)) ∙ append-nil c.args.mined.now.sets)
-
-pub extend_by-returns-else-kept-gt0-clause-joins : goal.extend_by-returns-else-kept-gt0-clause-joins
-extend_by-returns-else-kept-gt0-clause-joins g t c = λ node is.
-    let search = c.args.self.now in
-    let stands = g.R.Row.stands in
-    let weights = search.weights.now in
-    let siblings = c.args.siblings.now in
-    let set = set_at c.args.mined.now.sets c.args.longer in
-    let items = search.coded.now.items in
-    let i = c.args.at in
-    let here = c.requires.at in
-    let sibling = c.index-siblings-at.result in
-    let all = All-take (IsSibling stands node.baskets node.set) i siblings is.of_node.rows in
-    let one = sibling_at stands node.baskets node.set siblings i sibling here c.index-siblings-at.is is.of_node.rows in
-    let kept = take c.in_ok-kept.kept c.joined.new.list.items in
-    let kept_are = c.in_ok-kept.ensures.ranks node.baskets node.set is.of_node.weighs one all in
-    let rows = c.in_ok-kept.ensures.rows node.baskets node.set is.of_node.weighs one all in
-    let made = longer_node stands weights search.least siblings items node i here sibling c.index-siblings-at.is set kept is kept_are rows in
-    let none = length-take-le c.in_ok-kept.kept c.joined.new.list.items c.in_ok-kept.ensures.within in
-    let most : i ≤ length siblings = omega arith in
-    let before = length-take-le i siblings most in
-    let nothing = no_joins stands weights search.least kept set items (child node (sibling_rank siblings i)) made (let low = c.if-kept-gt0.false in omega arith) in
-    omega (arith, before, nothing, c.in_ok-kept.ensures.joins)
 
 pub extend_set-remade-requires-clause-rises : goal.extend_set-remade-requires-clause-rises
 extend_set-remade-requires-clause-rises g t c =

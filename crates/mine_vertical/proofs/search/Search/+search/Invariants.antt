@@ -3,17 +3,15 @@ use Rattle.std.specs.List.{flat_map, sum_by}
 use Rattle.mine_vertical.specs.Marks.{IsMarked}
 use Rattle.basket_lists.specs.CountedSets.{set_at}
 use Rattle.mine_vertical.specs.Search.{FewJoins, IsNode, Node, found_at, is_met}
-use Rattle.mine_vertical.specs.Walk.{branch, branch_joins, kept_below}
+use Rattle.mine_vertical.specs.Walk.{kept_below}
+use Rattle.mine_vertical.proofs.WalkLemmas.{branch, branch_joins}
 use Rattle.mine_vertical.proofs.search.Search.+search.Given as goal
 
 abbrev pub decreases-extend : goal.decreases-extend
-decreases-extend g l = 3 * length l.siblings.now + 1
+decreases-extend g l = 2 * length l.siblings.now
 
 abbrev pub decreases-extend_set : goal.decreases-extend_set
-decreases-extend_set g l = 3 * length l.siblings.now + 2
-
-abbrev pub decreases-extend_by : goal.decreases-extend_by
-decreases-extend_by g l = 3 * length l.siblings.now
+decreases-extend_set g l = 2 * length l.siblings.now + 1
 
 abbrev pub invariant-extend-loop-at : goal.invariant-extend-loop-at
 invariant-extend-loop-at g l = record {

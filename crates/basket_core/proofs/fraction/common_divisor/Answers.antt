@@ -1,6 +1,6 @@
 use Rattle.std.proofs.Common.{arith}
 use Rattle.std.proofs.lemmas.Nat.Gcd.{IsGcd-from_zero, IsGcd-from_mod}
-use Rattle.basket_core.proofs.fraction.long_divisor.Goals as goal
+use Rattle.basket_core.proofs.fraction.common_divisor.Goals as goal
 
 pub loop-less-preserved : goal.loop-less-preserved
 loop-less-preserved c g h = c.loop-less.invariant g (IsGcd-from_mod _ _ g h)

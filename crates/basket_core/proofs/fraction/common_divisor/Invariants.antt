@@ -1,6 +1,6 @@
 use Rattle.std.proofs.Common.{ℕ}
 use Rattle.std.specs.Int.{IsGcd}
-use Rattle.basket_core.proofs.fraction.long_divisor.Given as goal
+use Rattle.basket_core.proofs.fraction.common_divisor.Given as goal
 
 abbrev pub invariant-loop-less : goal.invariant-loop-less
 invariant-loop-less l = (g : ℕ) → IsGcd l.greater l.less g → IsGcd l.fn.a l.fn.b g
