@@ -51,6 +51,12 @@ impl<M: ClassMiner, G: Gate> Classes<'_, M, G> {
     {
         let mut seat = seat;
         let mut values = Vec::new(alloc);
+        let Ok(mut tables) = Tables::new(alloc, self.ranks) else {
+            return Share {
+                seat,
+                values: Err(MineFault::Memory),
+            };
+        };
         while !self.is_over(&mut seat) {
             let Some(claimed) = claim_piece(self.round, &mut seat, self.gate, PHASE, worker) else {
                 return Share {
@@ -60,7 +66,7 @@ impl<M: ClassMiner, G: Gate> Classes<'_, M, G> {
             };
             // The classes of the greatest ranks are the largest, so they are mined first.
             let piece = self.pieces - 1 - claimed;
-            let (back, mined) = self.piece::<Brand>(alloc, piece, seat);
+            let (back, mined) = self.piece::<Brand>(alloc, &mut tables, piece, seat);
             seat = back;
             let classes = match mined {
                 Ok(classes) => classes,
@@ -97,16 +103,21 @@ impl<M: ClassMiner, G: Gate> Classes<'_, M, G> {
     fn piece<S: Start>(
         &self,
         alloc: Global,
+        tables: &mut Tables,
         piece: u32,
         seat: RoundSeat,
     ) -> (RoundSeat, Result<Vec<Class>, MineFault>)
         requires start { seat ≡ S.start }
         requires counts { CountsSets self.now.round.now seat }
         requires few { slice_index seat.held.seen 0 ≤ self.now.limit }
+        requires sums { tables.old.sums ≡ self.now.ranks }
+        requires places { tables.old.places ≡ self.now.ranks }
         requires piece { piece < self.now.pieces }
         requires ranks { self.now.ranks ≡ length (M.coding_of self.now.miner.now).items }
         ensures counts { CountsSets self.now.round.now result.0 }
         ensures same { still result.0 ≡ still seat }
+        ensures sums { IfOk result.1 (λ _. tables.new.sums ≡ tables.old.sums) }
+        ensures places { IfOk result.1 (λ _. tables.new.places ≡ tables.old.places) }
         ensures mined { IfOk result.1 (λ classes. AreMined (M.coding_of self.now.miner.now) (M.is_work self.now.miner.now) (ranks_of (M.coding_of self.now.miner.now) self.now.pieces piece) classes.items) }
         ensures told { IfOk result.1 (λ _. slice_index result.0.held.added 0 ≡ slice_index seat.held.added 0 + piece_size (M.coding_of self.now.miner.now) self.now.pieces piece) }
         ensures at_most { slice_index result.0.held.added 0 ≤ slice_index seat.held.added 0 + piece_size (M.coding_of self.now.miner.now) self.now.pieces piece }
@@ -114,18 +125,21 @@ impl<M: ClassMiner, G: Gate> Classes<'_, M, G> {
             → (most ≡ self.now.limit) × ((self.now.limit < slice_index result.0.held.seen 0) ⊎ HasLargeClass (M.coding_of self.now.miner.now) self.now.limit) }
     {
         let mut tally = Found::<S>::new(self.round, seat, self.limit);
-        let classes = self.classes(alloc, piece, &mut tally);
+        let classes = self.classes(alloc, tables, piece, &mut tally);
         (tally.into_seat(), classes)
     }
 
-    /// The classes of a piece, told to a tally.
+    /// The classes of a piece, told to a tally. The tables are used again from piece to piece.
     fn classes<T: Tally>(
         &self,
         alloc: Global,
+        tables: &mut Tables,
         piece: u32,
         tally: &mut T,
     ) -> Result<Vec<Class>, MineFault>
         requires going { T.is_over tally.old ≡ false }
+        requires sums { tables.old.sums ≡ self.now.ranks }
+        requires places { tables.old.places ≡ self.now.ranks }
         requires piece { piece < self.now.pieces }
         requires ranks { self.now.ranks ≡ length (M.coding_of self.now.miner.now).items }
         ensures mined { IfOk result (λ classes. AreMined (M.coding_of self.now.miner.now) (M.is_work self.now.miner.now) (ranks_of (M.coding_of self.now.miner.now) self.now.pieces piece) classes.items) }
@@ -135,13 +149,14 @@ impl<M: ClassMiner, G: Gate> Classes<'_, M, G> {
             → (most ≡ T.limit_of tally.old) × (IsTrue (T.is_over tally.new) ⊎ HasLargeClass (M.coding_of self.now.miner.now) most) }
         ensures at_most { T.told_of tally.new ≤ T.told_of tally.old + piece_size (M.coding_of self.now.miner.now) self.now.pieces piece }
         ensures limit { T.limit_of tally.new ≡ T.limit_of tally.old }
+        ensures sums { IfOk result (λ _. tables.new.sums ≡ tables.old.sums) }
+        ensures places { IfOk result (λ _. tables.new.places ≡ tables.old.places) }
     {
         lists_have_class_size();
         let (start, end) = shard(piece, self.pieces, self.ranks as usize);
         let mut classes = Vec::with_capacity(alloc, end - start)?;
-        let mut tables = Tables::new(alloc, self.ranks)?;
         for rank in start..end {
-            let class = self.miner.class(alloc, &mut tables, rank as u32, tally)?;
+            let class = self.miner.class(alloc, tables, rank as u32, tally)?;
             classes.push_reserved(class);
         }
         Ok(classes)

@@ -10,6 +10,8 @@ use Rattle.mine_phases.proofs.classes.Classes.share.Given as goal
 abbrev pub invariant-loop-alloc : goal.invariant-loop-alloc
 invariant-loop-alloc g l = record {
   counts : CountsSets l.self.round.now l.seat;
+  sums : l.tables.sums ≡ l.self.ranks;
+  places : l.tables.places ≡ l.self.ranks;
   within : behind l.seat.held.claimed ≤ l.self.pieces;
   claimed : pieces_of l.values.items ≡ map (piece_from_end l.self.pieces) l.seat.held.claimed;
   mined : All (λ value. AreMined (g.M.ClassMiner.coding_of l.self.miner.now) (g.M.ClassMiner.is_work l.self.miner.now) (ranks_of (g.M.ClassMiner.coding_of l.self.miner.now) l.self.pieces value.0) value.1.items) l.values.items;
