@@ -19,7 +19,6 @@ mod places;
 mod room;
 mod run_lists;
 mod runs;
-mod short_words;
 mod span;
 mod tables;
 mod word_baskets;

@@ -10,7 +10,6 @@ ghost use Rattle.mine_classes.specs.Span.{IsWithin, baskets_at};
 ghost use Rattle.mine_classes.specs.Words.{AreBits, bits_in, has_rank, ranks_in, word_places};
 
 use crate::places::place_of;
-use crate::short_words::ShortWords;
 use crate::span::{BASKETS_AHEAD, Span, read_ahead};
 use std::alloc::{AllocError, Global};
 
@@ -178,8 +177,8 @@ pub fn add(words: &mut Vec<Word>, word: Word) -> Result<(), AllocError>
     Ok(())
 }
 
-/// The baskets, which are parts of a list of ranks, as the bits of the places of their ranks. Those of
-/// at most one such rank are merged, and so are equal neighbours.
+/// The baskets, which are parts of a list of ranks, as the bits of the places of their ranks, equal
+/// neighbours merged.
 pub fn words_of(
     alloc: Global,
     of: &[u64],
@@ -197,7 +196,6 @@ pub fn words_of(
     ensures weights { IfOk result (λ words. HaveSameWeights (map (placed kept.now) (baskets_at ranks.now baskets.now)) (word_places (length kept.now) words.items)) }
 {
     let mut words = Vec::with_capacity(alloc, baskets.len())?;
-    let mut short = ShortWords::new(alloc, baskets.len())?;
     let mut end_ranks = [0u32; BASKETS_AHEAD];
     for (place, basket) in baskets.iter().enumerate() {
         if place % BASKETS_AHEAD == 0 {
@@ -205,12 +203,8 @@ pub fn words_of(
         }
         let bits = bits_of(of, kept, basket.of(ranks), end_ranks[place % BASKETS_AHEAD]);
         let weight = basket.weight;
-        let word = Word { bits, weight };
-        if !short.take_in(word) {
-            add(&mut words, word)?;
-        }
+        add(&mut words, Word { bits, weight })?;
     }
-    short.add_to(&mut words)?;
     Ok(words)
 }
 

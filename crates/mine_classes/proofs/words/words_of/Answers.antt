@@ -15,12 +15,8 @@ use Rattle.mine_classes.specs.Span.{basket_at, baskets_at}
 use Rattle.mine_classes.specs.Words.{bits_in, ranks_in, word_places}
 use Rattle.mine_classes.proofs.BitLemmas.{bits_are}
 use Rattle.mine_classes.proofs.RunLoopLemmas.{basket_more, rank_basket_at}
-use Rattle.mine_classes.proofs.WordLemmas.{no_weights, word_added, word_taken_in}
+use Rattle.mine_classes.proofs.WordLemmas.{word_more}
 use Rattle.mine_classes.proofs.words.words_of.Goals as goal
-use Rattle.mine_classes.proofs.words.words_of.Goals.{then-not-take_in+in_ok-add, else-not-take_in}
-
-abbrev weigh : Word → ℕ
-weigh word = word.weight
 
 abbrev none : Span
 none = record { start = 0; end = 0; weight = 0 }
@@ -46,24 +42,14 @@ add-requires-clause-light c =
     let weight = ap (λ (p : Weighted). p.weight) (get_or-map (basket_at c.args.ranks.now) c.args.baskets.now i none d c.loop-place-test.true) in
     omega (arith, more, weight, c.loop-place.invariant.light, c.requires.ranked.1.light)
 
-pub take_in-requires : goal.take_in-requires
-take_in-requires c =
-    let all = baskets_at c.args.ranks.now c.args.baskets.now in
-    let i = c.loop-place.place in
-    let d = basket_at c.args.ranks.now none in
-    let more = sum_by_more_le (weight_at []) all i d (omega (arith, length-map c.args.baskets.now (basket_at c.args.ranks.now), c.loop-place-test.true)) in
-    let weight = ap (λ (p : Weighted). p.weight) (get_or-map (basket_at c.args.ranks.now) c.args.baskets.now i none d c.loop-place-test.true) in
-    omega (arith, more, weight, c.loop-place.invariant.light, c.requires.ranked.1.light)
-
 pub loop-place-init : goal.loop-place-init
 loop-place-init c =
     let empty = c.in_ok-words.ensures.items in
     let count = length c.args.kept.now in
-    let short = c.in_ok-short.short.words.items in
     record {
       some = subst (All (λ (word : Word). 1 ≤ word.weight)) (sym empty) (λ k d here. absurd (omega arith));
-      light = omega (arith, ap (sum_by (λ (word : Word). word.weight)) empty, c.in_ok-short.ensures);
-      weights = λ test. sym (ap (λ l. weight_where test (word_places count (l ++ short))) empty ∙ no_weights test count short c.in_ok-short.ensures);
+      light = ap (sum_by (λ (word : Word). word.weight)) empty;
+      weights = λ test. sym (ap (λ l. weight_where test (word_places count l)) empty);
     }
 
 pub loop-place-preserved : goal.loop-place-preserved
@@ -85,29 +71,10 @@ loop-place-preserved c =
     let before = map (placed kept) (take i all) in
     let longer = sym (map-append (placed kept) (take i all) (basket ∷ [])) ∙ ap (map (placed kept)) next in
     let count = length kept in
-    let words = c.loop-place.words.items in
-    let short = c.loop-place.short.words.items in
-    let words' = c.if-not-take_in.words.items in
-    let short' = c.take_in.new.self.words.items in
-    elim c.if-not-take_in.branch [
-      | then-not-take_in+in_ok-add w ↦
-          (let new = w.add.new.words.items in
-          let moved : words' ≡ new = ap (λ v. v.items) w.words-is in
-          let left : short' ≡ short = w.if-not-take_in.ensures.same refl in
-          record {
-            some = subst (All (λ (word : Word). 1 ≤ word.weight)) (sym moved) w.in_ok-add.ensures.some;
-            light = omega (arith, ap (sum_by weigh) moved, ap (sum_by weigh) left, w.in_ok-add.ensures.light, c.loop-place.invariant.light, grown, one);
-            weights = subst (λ l. HaveSameWeights l (word_places count (words' ++ short'))) longer
-                (λ test. word_added count before (placed kept basket) word same words new short c.loop-place.invariant.weights (w.in_ok-add.ensures.weights count) test
-                ∙ ap (λ l. weight_where test (word_places count l)) (sym (ap (λ l. l ++ short') moved ∙ ap (λ l. new ++ l) left)));
-          })
-      | else-not-take_in w ↦
-          (let moved : words' ≡ words = ap (λ v. v.items) w.words-is in
-          record {
-            some = subst (All (λ (word : Word). 1 ≤ word.weight)) (sym moved) c.loop-place.invariant.some;
-            light = omega (arith, ap (sum_by weigh) moved, w.if-not-take_in.ensures.light refl, c.loop-place.invariant.light, grown, one);
-            weights = subst (λ l. HaveSameWeights l (word_places count (words' ++ short'))) longer
-                (λ test. word_taken_in count before (placed kept basket) word same words short short' c.loop-place.invariant.weights (w.if-not-take_in.ensures.weights refl count) test
-                ∙ ap (λ l. weight_where test (word_places count (l ++ short'))) (sym moved));
-          })
-    ]
+    let new = c.add.new.words.items in
+    record {
+      some = c.in_ok-add.ensures.some;
+      light = omega (arith, c.in_ok-add.ensures.light, c.loop-place.invariant.light, grown, one);
+      weights = subst (λ l. HaveSameWeights l (word_places count new)) longer
+          (word_more count before (placed kept basket) c.loop-place.words.items new word same c.loop-place.invariant.weights (c.in_ok-add.ensures.weights count));
+    }

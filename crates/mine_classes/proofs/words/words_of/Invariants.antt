@@ -1,4 +1,4 @@
-use Rattle.std.proofs.Common.{◌≡◌, ◌≤◌, ◌+◌, ◌++◌, length, map, take}
+use Rattle.std.proofs.Common.{◌≡◌, ◌≤◌, length, map, take}
 use Rattle.std.specs.Prelude.{All}
 use Rattle.std.specs.List.{sum_by}
 use Rattle.basket_sets.specs.Support.{total_of}
@@ -12,6 +12,6 @@ use Rattle.mine_classes.proofs.words.words_of.Given as goal
 abbrev pub invariant-loop-place : goal.invariant-loop-place
 invariant-loop-place l = record {
   some : All (λ (word : Word). 1 ≤ word.weight) l.words.items;
-  light : sum_by (λ (word : Word). word.weight) l.words.items + sum_by (λ (word : Word). word.weight) l.short.words.items ≡ total_of (take l.place (baskets_at l.ranks l.baskets));
-  weights : HaveSameWeights (map (placed l.kept) (take l.place (baskets_at l.ranks l.baskets))) (word_places (length l.kept) (l.words.items ++ l.short.words.items));
+  light : sum_by (λ (word : Word). word.weight) l.words.items ≡ total_of (take l.place (baskets_at l.ranks l.baskets));
+  weights : HaveSameWeights (map (placed l.kept) (take l.place (baskets_at l.ranks l.baskets))) (word_places (length l.kept) l.words.items);
 }
