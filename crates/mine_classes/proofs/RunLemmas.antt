@@ -1,9 +1,9 @@
 -- Runs of ranks.
-use Rattle.std.proofs.Common.{◌≡◌, ℕ, ◌+◌, ◌-◌, ◌<◌, Bool, true, false, List, [], ◌∷◌, ◌++◌, length, drop, get_or, set, cond, ltb, refl, sym, ap, ◌∙◌, subst, inl, inr, arith, zero, suc}
+use Rattle.std.proofs.Common.{◌≡◌, ℕ, ◌+◌, ◌-◌, ◌<◌, Bool, true, false, List, [], ◌∷◌, ◌++◌, length, drop, get_or, set, take, cond, ltb, refl, sym, ap, ◌∙◌, subst, inl, inr, arith, zero, suc}
 use Rattle.std.proofs.lemmas.Bool.{cases_lt}
 use Rattle.std.specs.List.{slice_range}
 use Rattle.mine_classes.specs.Span.{IsWithin}
-use Rattle.std.proofs.lemmas.List.{length-drop, length-take, get_or-set_same, get_or-set_other, length-set}
+use Rattle.std.proofs.lemmas.List.{append-nil, drop_all, length-drop, length-take, get_or-set_same, get_or-set_other, length-set, take_all}
 use Rattle.basket_sets.specs.Counts.{AllBelow}
 use Rattle.basket_sets.specs.Itemset.{IsRising}
 use Rattle.basket_sets.proofs.theory.Members.{Member}
@@ -24,6 +24,11 @@ same_run run runs same e = ap (λ b. cond b (with_last_heavier run.weight runs) 
 
 pub other_run : (run : Span) (runs : List Span) (same : Bool) → same ≡ false → runs ++ run ∷ [] ≡ with_run same run runs
 other_run run runs same e = ap (λ b. cond b (with_last_heavier run.weight runs) (runs ++ run ∷ [])) (sym e)
+
+-- a list as a slice of the whole of it was left
+pub written : {X : Type 0} (len : ℕ) (was now : List X) → length was ≡ len → length now ≡ len → take len (now ++ drop (length now) was) ≡ now
+written len was now long as_long =
+    ap (take len) (ap (λ l. now ++ l) (drop_all (length now) was (omega arith)) ∙ append-nil now) ∙ take_all len now (omega arith)
 
 -- ---- members of a rising list
 
