@@ -4,10 +4,8 @@ mod TogetherLemmas
 mod EntryLemmas
 mod OrderedLemmas
 mod RunLemmas
-mod RunListLemmas
 mod RunStepLemmas
 mod RunLoopLemmas
-mod NewPartLemmas
 mod PairLemmas
 mod SumLemmas
 mod PlaceLemmas

@@ -17,7 +17,6 @@ mod list_baskets;
 mod pairs;
 mod places;
 mod room;
-mod run_lists;
 mod runs;
 mod span;
 mod tables;

@@ -1,11 +1,10 @@
 //! Supports of pairs of ranks.
-ghost use Rattle.std.specs.Prelude.{◌≡◌, ◌≤◌, ◌<◌, ◌+◌, ℕ, [], All, IfOk, OnOk, filter, length, map, replicate, slice_index};
+ghost use Rattle.std.specs.Prelude.{◌≡◌, ◌≤◌, ◌<◌, ℕ, [], All, IfOk, OnOk, filter, length, map, replicate, slice_index};
 ghost use Rattle.std.specs.List.{range_with_len};
 ghost use Rattle.basket_sets.specs.Counts.{AllBelow};
-ghost use Rattle.basket_sets.specs.Database.{MOST_WEIGHT};
-ghost use Rattle.basket_sets.specs.Itemset.{IsRising, rising};
+ghost use Rattle.basket_sets.specs.Itemset.{rising};
 ghost use Rattle.mine_classes.specs.ListBaskets.{AreRankBaskets};
-ghost use Rattle.mine_classes.specs.Pairs.{AreSums, WithBasket, is_met, ranks_met, weight_with};
+ghost use Rattle.mine_classes.specs.Pairs.{AreSums, is_met, ranks_met, weight_with};
 ghost use Rattle.mine_classes.specs.Span.{IsWithin, baskets_at};
 
 use crate::found::Found;
@@ -90,30 +89,6 @@ fn add_up(
         found.add_basket(sums, basket.of(ranks), basket.weight, end_rank)?;
     }
     Ok(())
-}
-
-/// The same with no list of the ranks.
-pub fn add_all(sums: &mut [u64], ranks: &[u32], baskets: &[Span])
-    requires zero { sums.old ≡ replicate (length sums.old) 0 }
-    requires within { All (IsWithin (length ranks.now)) baskets.now }
-    requires ranked { AreRankBaskets (record { ranks = length sums.old; baskets = baskets_at ranks.now baskets.now }) }
-    ensures { (rank : ℕ) → rank < length sums.old → slice_index sums.new rank ≡ weight_with rank (baskets_at ranks.now baskets.now) }
-{
-    for basket in baskets {
-        add_weight(sums, basket.of(ranks), basket.weight);
-    }
-}
-
-/// Adds a weight to the sum of each rank of a basket.
-fn add_weight(sums: &mut [u64], basket: &[u32], weight: u64)
-    requires rises { IsRising basket.now }
-    requires below { AllBelow (length sums.old) basket.now }
-    requires light { (rank : ℕ) → rank < length sums.old → slice_index sums.old rank + weight ≤ MOST_WEIGHT }
-    ensures { WithBasket basket.now weight sums.old sums.new }
-{
-    for rank in basket {
-        sums[*rank as usize] += weight;
-    }
 }
 
 /// The ranks whose sums are at least so much, with their sums.

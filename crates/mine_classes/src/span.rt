@@ -35,19 +35,6 @@ impl Span {
         Span { end, ..*self }
     }
 
-    /// What is behind so many of its first ranks, of weight 1.
-    pub fn rest(&self, depth: usize) -> Span
-        requires { self.now.start + depth ≤ self.now.end }
-        ensures { result ≡ record { start = self.now.start + depth; end = self.now.end; weight = 1 } }
-    {
-        let end = self.end;
-        Span {
-            start: self.start + depth as u32,
-            end,
-            weight: 1,
-        }
-    }
-
     /// A part of another list with the same weight.
     pub fn moved(&self, start: u32, end: u32) -> Span
         ensures { result ≡ record { start = start; end = end; weight = self.now.weight } }
