@@ -2,7 +2,7 @@ mod ConditionalLemmas
 mod ClassLemmas
 mod TogetherLemmas
 mod EntryLemmas
-mod OrderedLemmas
+mod MergedLemmas
 mod RunLemmas
 mod RunStepLemmas
 mod RunLoopLemmas
@@ -13,5 +13,4 @@ mod BitLemmas
 mod BitRankLemmas
 mod WordLemmas
 mod CodedLemmas
-mod OrderLemmas
 mod MinedLemmas

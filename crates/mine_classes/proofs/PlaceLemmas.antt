@@ -20,7 +20,7 @@ use Rattle.mine_classes.specs.Entries.{entry_place, entry_places}
 use Rattle.mine_classes.specs.ListBaskets.{AreRankBaskets, IsRankBasket}
 use Rattle.mine_classes.specs.Places.{ArePlaces, by_table, table_places}
 use Rattle.mine_classes.specs.Span.{IsWithin, basket_at, baskets_at}
-use Rattle.mine_classes.proofs.OrderedLemmas.{pushed_basket}
+use Rattle.mine_classes.proofs.MergedLemmas.{pushed_basket}
 use Rattle.mine_classes.proofs.PairLemmas.{has_more}
 use Rattle.mine_classes.proofs.RunLemmas.{Member-at, rising_at}
 

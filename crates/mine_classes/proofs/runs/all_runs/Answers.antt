@@ -8,7 +8,7 @@ use Rattle.mine_classes.specs.declared.span.Span.{Span}
 use Rattle.mine_classes.specs.ListBaskets.{repeats_last}
 use Rattle.mine_classes.specs.Runs.{AreRunsOf, HaveAllRuns, HaveRuns, lists_in}
 use Rattle.mine_classes.specs.Span.{basket_at, baskets_at}
-use Rattle.mine_classes.proofs.OrderedLemmas.{some_repeats}
+use Rattle.mine_classes.proofs.MergedLemmas.{some_repeats}
 use Rattle.mine_classes.proofs.RunLemmas.{length-lists_in, length-range, written}
 use Rattle.mine_classes.proofs.RunLoopLemmas.{basket_more, next_again, next_are, rank_basket_at, runs_light, shared_again}
 use Rattle.mine_classes.proofs.runs.all_runs.Goals as goal
