@@ -15,8 +15,6 @@ use Rattle.basket_sets.specs.Itemset.{IsRising, has}
 use Rattle.basket_sets.proofs.theory.Members.{Member, Contains-from_Member}
 use Rattle.basket_sets.proofs.theory.Rising.{Member-from_has, has-from_Member, cons_rises, first_below, nil_rises, rest_rises, same_rising}
 use Rattle.mine_classes.specs.declared.span.Span.{Span}
-use Rattle.mine_classes.specs.declared.entries.Entry.{Entry}
-use Rattle.mine_classes.specs.Entries.{entry_place, entry_places}
 use Rattle.mine_classes.specs.ListBaskets.{AreRankBaskets, IsRankBasket}
 use Rattle.mine_classes.specs.Places.{ArePlaces, by_table, table_places}
 use Rattle.mine_classes.specs.Span.{IsWithin, basket_at, baskets_at}
@@ -248,10 +246,3 @@ placed_more ranks locals of baskets spans i d span here within more is start end
     ∙ sym (ap (map (by_table of)) (take_more (baskets_at ranks baskets) i (basket_at ranks d) (omega (arith, length-map baskets (basket_at ranks))))
     ∙ map-append (by_table of) (take i (baskets_at ranks baskets)) (get_or (baskets_at ranks baskets) i (basket_at ranks d) ∷ [])
     ∙ ap (λ p. map (by_table of) (take i (baskets_at ranks baskets)) ++ by_table of p ∷ []) (get_or-map (basket_at ranks) baskets i d (basket_at ranks d) here))
-
-pub entries_at_more : (ranks : List ℕ) (spans : List Span) (i : ℕ) (d : Span) (entries : List Entry) (entry : Entry) → i < length spans
-    → entry_place entry ≡ basket_at ranks (get_or spans i d) → entry_places entries ≡ take i (baskets_at ranks spans) → entry_places (entries ++ entry ∷ []) ≡ take (i + 1) (baskets_at ranks spans)
-entries_at_more ranks spans i d entries entry here same so_far =
-    map-append entry_place entries (entry ∷ []) ∙ ap (λ l. l ++ entry_place entry ∷ []) so_far ∙ ap (λ p. take i (baskets_at ranks spans) ++ p ∷ []) same
-    ∙ ap (λ p. take i (baskets_at ranks spans) ++ p ∷ []) (sym (get_or-map (basket_at ranks) spans i d (basket_at ranks d) here))
-    ∙ sym (take_more (baskets_at ranks spans) i (basket_at ranks d) (omega (arith, length-map spans (basket_at ranks))))
