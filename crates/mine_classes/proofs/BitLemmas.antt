@@ -1,22 +1,24 @@
 -- The places of a basket's ranks as bits.
-use Rattle.std.proofs.Common.{◌≡◌, ◌≢◌, ℕ, ◌+◌, ◌-◌, ◌^◌, ◌<◌, ◌≤◌, ◌⊎◌, Bool, true, false, ◌||◌, List, [], ◌∷◌, Option, Some, None, length, take, get_or, set, cond, eqb, refl, sym, ap, ◌∙◌, inl, inr, arith, zero, suc}
-use Rattle.std.specs.Prelude.{bit_or, max}
+use Rattle.std.proofs.Common.{◌≡◌, ◌≢◌, ℕ, ◌+◌, ◌-◌, ◌^◌, ◌<◌, ◌≤◌, ◌⊎◌, Bool, true, false, ◌||◌, List, [], ◌∷◌, Option, Some, None, length, map, take, get_or, set, cond, eqb, refl, sym, ap, ◌∙◌, inl, inr, arith, zero, suc}
+use Rattle.std.specs.Prelude.{All, bit_or, max}
 use Rattle.std.specs.Int.{bit_at}
-use Rattle.std.specs.Int.Bits.{or_zero_r}
-use Rattle.std.specs.List.{fold, range_with_len}
+use Rattle.std.specs.List.{AllByRecursion, fold, range_with_len}
 use Rattle.std.proofs.lemmas.Bool.{cases_Bool, cases_eq, cases_lt, eq-eqb, or_cases, true≢false}
 use Rattle.std.proofs.lemmas.List.{get_or_past, get_or-set_same, get_or-set_other, length-set, take_all}
+use Rattle.std.proofs.lemmas.List.Elements.{recursion_from_All}
 use Rattle.std.proofs.lemmas.Nat.Bits.{bit_at-lt, bit_at-pow_other, bit_at-pow_same, bit_at-zero, bit_at_or}
-use Rattle.basket_ranks.specs.Codes.{rank_of}
+use Rattle.basket_ranks.specs.Codes.{coded_place, rank_of}
+use Rattle.basket_sets.specs.declared.weighted.Weighted.{Weighted}
 use Rattle.basket_sets.specs.Counts.{AllBelow}
+use Rattle.basket_sets.specs.Database.{weighted}
 use Rattle.basket_sets.specs.Itemset.{IsRising, has}
 use Rattle.basket_sets.proofs.theory.Members.{Member, Member-filter, Member-from_filter}
 use Rattle.basket_sets.proofs.theory.Rising.{Member-from_has, has-from_Member, same_rising}
-use Rattle.mine_classes.specs.Places.{places_in}
 use Rattle.mine_classes.specs.declared.words.TheConstants.{WORD_RANKS}
-use Rattle.mine_classes.specs.Words.{AreBits, bits_in, has_rank, option_bit, place_bit, rank_bits, ranks_in}
+use Rattle.mine_classes.specs.ListBaskets.{IsRankBasket}
+use Rattle.mine_classes.specs.Words.{AreBits, has_rank, option_bit, place_bit, rank_bits, ranks_in, table_bits, table_word, word_places}
 use Rattle.mine_classes.proofs.PairLemmas.{apart_eqb, has_more, or_false, or_true}
-use Rattle.mine_classes.proofs.PlaceLemmas.{from_places, into_places, places_rise, rank_at, rank_from_none, stands}
+use Rattle.mine_classes.proofs.PlaceLemmas.{all_coded, from_places, into_places, placed, places_in, places_rise, rank_at, rank_from_none, stands}
 use Rattle.mine_classes.proofs.SumLemmas.{Member-into_range, Member-range, filtered_range_rises}
 
 -- ---- the bits of two words together
@@ -81,6 +83,10 @@ rank_bits_are count basket few rises below = same_rising (ranks_in count bits) b
 
 -- ---- the bit of a place
 
+-- the bits of the places of those ranks of a basket that have one
+abbrev bits_in : List ℕ → List ℕ → ℕ
+bits_in kept basket = fold (λ bits rank. bit_or bits (place_bit kept rank)) 0 basket
+
 module _ (kept : List ℕ) (up : IsRising kept) (few : length kept ≤ WORD_RANKS) where
   place_has : (rank place : ℕ) → rank_of kept rank ≡ Some place → has_rank (place_bit kept rank) place ≡ true
   place_has rank place is = ap (λ o. has_rank (option_bit o) place) is ∙ ap (λ n. eqb n 1) (bit_at-pow_same (63 - place))
@@ -123,7 +129,7 @@ module _ (kept : List ℕ) (up : IsRising kept) (few : length kept ≤ WORD_RANK
   into_bits (first ∷ basket) bits rank place (inr m) is = into_bits basket (with_bit bits first) rank place m is
 
   -- they are those of its places
-  pub bits_are : (basket : List ℕ) → IsRising basket → ranks_in (length kept) (bits_in kept basket) ≡ places_in kept basket
+  bits_are : (basket : List ℕ) → IsRising basket → ranks_in (length kept) (bits_in kept basket) ≡ places_in kept basket
   bits_are basket rises = same_rising (ranks_in count bits) (places_in kept basket) (filtered_range_rises (has_rank bits) 0 count) (places_rise kept up basket rises) into back
     where
       count : ℕ
@@ -171,10 +177,6 @@ bit_more kept at of up here inside so_far rank below = elim (cases_eq rank (get_
       ∙ so_far rank (omega (arith, below, length-set of (get_or kept at 0) (2 ^ (63 - at)))) ∙ bit_stays kept at rank here differ
 ]
 
--- a rank that has no slot
-pub bit_missed : (kept : List ℕ) (at : ℕ) (of : List ℕ) → at < length kept → length of ≤ get_or kept at 0 → HasBits kept at of → HasBits kept (at + 1) of
-bit_missed kept at of here outside so_far rank below = so_far rank below ∙ bit_stays kept at rank here (λ e. absurd (omega arith))
-
 pub bits_whole : (kept : List ℕ) (at : ℕ) (of : List ℕ) → length kept ≤ at → HasBits kept at of → AreBits kept of
 bits_whole kept at of past so_far rank below =
     so_far rank below ∙ ap (λ l. cond (has l rank) (place_bit kept rank) 0) (take_all at kept past) ∙ whole (has kept rank) refl
@@ -183,19 +185,9 @@ bits_whole kept at of past so_far rank below =
     whole true e = refl
     whole false e = sym (ap option_bit (rank_from_none 0 kept rank e))
 
--- the bits of a basket where no rank is kept
-pub no_bits : (kept basket : List ℕ) → length kept ≡ 0 → bits_in kept basket ≡ 0
-no_bits [] basket empty = none basket 0
-  where
-    none : (ranks : List ℕ) (bits : ℕ) → fold (λ bits rank. bit_or bits (place_bit [] rank)) bits ranks ≡ bits
-    none [] bits = refl
-    none (first ∷ ranks) bits = none ranks (bit_or bits 0) ∙ or_zero_r bits
-no_bits (rank ∷ kept) basket empty = absurd (omega arith)
-
--- the bits by a table that has a slot for each rank of the basket
-pub table_bits : (kept of basket : List ℕ) → AreBits kept of → ((rank : ℕ) → Member rank basket → rank < length of)
-    → fold (λ bits rank. bit_or bits (get_or of rank 0)) 0 basket ≡ bits_in kept basket
-table_bits kept of basket are below = go basket 0 below
+-- they are those of the places, where the table has a slot for each rank of the basket
+table_bits_are : (kept of basket : List ℕ) → AreBits kept of → ((rank : ℕ) → Member rank basket → rank < length of) → table_bits of basket ≡ bits_in kept basket
+table_bits_are kept of basket are below = go basket 0 below
   where
     go : (ranks : List ℕ) (bits : ℕ) → ((rank : ℕ) → Member rank ranks → rank < length of)
         → fold (λ bits rank. bit_or bits (get_or of rank 0)) bits ranks ≡ fold (λ bits rank. bit_or bits (place_bit kept rank)) bits ranks
@@ -203,6 +195,20 @@ table_bits kept of basket are below = go basket 0 below
     go (first ∷ ranks) bits inside =
         go ranks (bit_or bits (get_or of first 0)) (λ rank m. inside rank (inr m))
         ∙ ap (λ n. fold (λ bits rank. bit_or bits (place_bit kept rank)) (bit_or bits n) ranks) (are first (inside first (inl refl)))
+
+words_each : (kept of : List ℕ) (baskets : List Weighted) → IsRising kept → length kept ≤ WORD_RANKS → AreBits kept of → AllByRecursion (IsRankBasket (length of)) baskets
+    → word_places (length kept) (map (table_word of) baskets) ≡ map (placed kept) baskets
+words_each kept of [] up few are all = refl
+words_each kept of (place ∷ baskets) up few are all =
+    ap (λ l. weighted l place.weight ∷ word_places (length kept) (map (table_word of) baskets))
+    (ap (ranks_in (length kept)) (table_bits_are kept of place.basket are (λ rank m. all.0.below rank (has-from_Member place.basket rank m))) ∙ bits_are kept up few place.basket all.0.rises)
+    ∙ ap (λ rest. placed kept place ∷ rest) (words_each kept of baskets up few are all.1)
+
+-- the words by the table are the baskets coded by the list
+pub table_words_coded : (kept of : List ℕ) (baskets : List Weighted) → IsRising kept → length kept ≤ WORD_RANKS → AreBits kept of → All (IsRankBasket (length of)) baskets
+    → word_places (length kept) (map (table_word of) baskets) ≡ map (coded_place kept) baskets
+table_words_coded kept of baskets up few are all =
+    words_each kept of baskets up few are (recursion_from_All (IsRankBasket (length of)) baskets all) ∙ all_coded kept up (length of) baskets all
 
 -- a table whose bits were taken away, by what it was before
 pub nothing_left : (kept of new : List ℕ) → AreBits kept of → length new ≡ length of → ((rank : ℕ) → has kept rank ≡ true → get_or new rank 0 ≡ 0)

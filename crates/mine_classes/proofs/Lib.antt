@@ -2,12 +2,10 @@ mod ConditionalLemmas
 mod ClassLemmas
 mod TogetherLemmas
 mod EntryLemmas
-mod OrderedLemmas
+mod MergedLemmas
 mod RunLemmas
-mod RunListLemmas
 mod RunStepLemmas
 mod RunLoopLemmas
-mod NewPartLemmas
 mod PairLemmas
 mod SumLemmas
 mod PlaceLemmas
@@ -15,5 +13,4 @@ mod BitLemmas
 mod BitRankLemmas
 mod WordLemmas
 mod CodedLemmas
-mod OrderLemmas
 mod MinedLemmas

@@ -1,5 +1,5 @@
 -- Places of ranks in a rising list.
-use Rattle.std.proofs.Common.{◌≡◌, ◌≢◌, ℕ, unwrap_or, ◌+◌, ◌<◌, ◌≤◌, Bool, true, false, ◌||◌, List, [], ◌∷◌, ◌++◌, Option, Some, None, length, take, get_or, set, map, cond, eqb, refl, sym, ap, ◌∙◌, subst, inl, inr, arith, add-zero, zero-add, zero, suc}
+use Rattle.std.proofs.Common.{◌≡◌, ℕ, unwrap_or, ◌+◌, ◌<◌, ◌≤◌, Bool, true, false, ◌||◌, List, [], ◌∷◌, ◌++◌, Option, Some, None, length, take, get_or, set, map, cond, eqb, refl, sym, ap, ◌∙◌, subst, inl, inr, arith, add-zero, zero-add, zero, suc}
 use Rattle.std.specs.Prelude.{All, replicate}
 use Rattle.std.specs.List.{AllByRecursion, cons_option, filter_map}
 use Rattle.std.specs.Option.{is_some, option_to_list}
@@ -15,12 +15,10 @@ use Rattle.basket_sets.specs.Itemset.{IsRising, has}
 use Rattle.basket_sets.proofs.theory.Members.{Member, Contains-from_Member}
 use Rattle.basket_sets.proofs.theory.Rising.{Member-from_has, has-from_Member, cons_rises, first_below, nil_rises, rest_rises, same_rising}
 use Rattle.mine_classes.specs.declared.span.Span.{Span}
-use Rattle.mine_classes.specs.declared.entries.Entry.{Entry}
-use Rattle.mine_classes.specs.Entries.{entry_place, entry_places}
 use Rattle.mine_classes.specs.ListBaskets.{AreRankBaskets, IsRankBasket}
-use Rattle.mine_classes.specs.Places.{ArePlaces, placed, places_in}
+use Rattle.mine_classes.specs.Places.{ArePlaces, by_table, table_places}
 use Rattle.mine_classes.specs.Span.{IsWithin, basket_at, baskets_at}
-use Rattle.mine_classes.proofs.OrderedLemmas.{pushed_basket}
+use Rattle.mine_classes.proofs.MergedLemmas.{pushed_basket}
 use Rattle.mine_classes.proofs.PairLemmas.{has_more}
 use Rattle.mine_classes.proofs.RunLemmas.{Member-at, rising_at}
 
@@ -52,19 +50,13 @@ rank_from_none number (x ∷ kept) rank missing =
 pub rank_at : (kept : List ℕ) (k : ℕ) → IsRising kept → k < length kept → rank_of kept (get_or kept k 0) ≡ Some k
 rank_at kept k up here = rank_from_at 0 kept k up here ∙ ap Some (zero-add k)
 
-pub rank_missing : (kept : List ℕ) (rank : ℕ) → ((k : ℕ) → k < length kept → get_or kept k 0 ≢ rank) → rank_of kept rank ≡ None
-rank_missing kept rank nowhere = elim (cases_Bool (has kept rank)) [
-  | inl e ↦ (let c = Contains-from_Member rank kept (Member-from_has kept rank e) in absurd (nowhere c.0 c.1 (get_or_default kept c.0 0 rank c.1 ∙ c.2)))
-  | inr e ↦ rank_from_none 0 kept rank e
-]
-
--- it is in the table where that has a slot for it
-pub slot_is : (kept : List ℕ) (places : List (Option ℕ)) (rank : ℕ) → IsRising kept → ArePlaces kept places → rank < length places → get_or places rank None ≡ rank_of kept rank
-slot_is kept places rank up are inside = elim (cases_Bool (has kept rank)) [
+-- it is in the table
+slot_is : (kept : List ℕ) (places : List (Option ℕ)) (rank : ℕ) → IsRising kept → ArePlaces kept places → get_or places rank None ≡ rank_of kept rank
+slot_is kept places rank up are = elim (cases_Bool (has kept rank)) [
   | inl e ↦
       (let c = Contains-from_Member rank kept (Member-from_has kept rank e) in
       let at : get_or kept c.0 0 ≡ rank = get_or_default kept c.0 0 rank c.1 ∙ c.2 in
-      ap (λ r. get_or places r None) (sym at) ∙ are.at c.0 c.1 (subst (λ r. r < length places) (sym at) inside) ∙ sym (ap (rank_of kept) (sym at) ∙ rank_at kept c.0 up c.1))
+      ap (λ r. get_or places r None) (sym at) ∙ are.at c.0 c.1 ∙ sym (ap (rank_of kept) (sym at) ∙ rank_at kept c.0 up c.1))
   | inr e ↦ are.none rank e ∙ sym (rank_from_none 0 kept rank e)
 ]
 
@@ -73,32 +65,19 @@ slot_is kept places rank up are inside = elim (cases_Bool (has kept rank)) [
 pub place_more : (kept : List ℕ) (i : ℕ) (places : List (Option ℕ)) → IsRising kept → i < length kept → get_or kept i 0 < length places → ArePlaces (take i kept) places
     → ArePlaces (take (i + 1) kept) (set places (get_or kept i 0) (Some i))
 place_more kept i places up here inside are = record {
-  at = λ k below slot. (let within : k < i + 1 = omega (arith, below, length-take (i + 1) kept) in
+  at = λ k below. (let within : k < i + 1 = omega (arith, below, length-take (i + 1) kept) in
       let same = get_or-take (i + 1) kept k 0 within in
       ap (λ r. get_or (set places (get_or kept i 0) (Some i)) r None) same ∙ (elim (cases_lt k i) [
         | inl less ↦ (let rises = rising_at kept k i up less here in
             let before = get_or-take i kept k 0 less in
             get_or-set_other places (get_or kept i 0) (get_or kept k 0) (Some i) None (λ e. absurd (omega arith))
-            ∙ ap (λ r. get_or places r None) (sym before) ∙ are.at k (omega (arith, length-take i kept)) (omega (arith, rises, before, inside)))
+            ∙ ap (λ r. get_or places r None) (sym before) ∙ are.at k (omega (arith, length-take i kept)))
         | inr last ↦ (let is : i ≡ k = omega arith in
             subst (λ j. get_or (set places (get_or kept i 0) (Some i)) (get_or kept j 0) None ≡ Some j) is (get_or-set_same places (get_or kept i 0) (Some i) None inside))
       ]));
   none = λ rank missing.
       let both = neither (has (take i kept) rank) (eqb (get_or kept i 0) rank) (sym (has_more kept i rank here) ∙ missing) in
       get_or-set_other places (get_or kept i 0) rank (Some i) None (λ same. true≢false (sym (eq-eqb (get_or kept i 0) rank (sym same)) ∙ both.1)) ∙ are.none rank both.0;
-}
-
--- a rank that has no slot
-pub place_missed : (kept : List ℕ) (i : ℕ) (places : List (Option ℕ)) → i < length kept → length places ≤ get_or kept i 0 → ArePlaces (take i kept) places → ArePlaces (take (i + 1) kept) places
-place_missed kept i places here outside are = record {
-  at = λ k below slot. (let within : k < i + 1 = omega (arith, below, length-take (i + 1) kept) in
-      let same = get_or-take (i + 1) kept k 0 within in
-      elim (cases_lt k i) [
-        | inl less ↦ (let before = get_or-take i kept k 0 less in
-            ap (λ r. get_or places r None) (same ∙ sym before) ∙ are.at k (omega (arith, length-take i kept)) (omega (arith, same, before, slot)))
-        | inr last ↦ (let is : i ≡ k = omega arith in let at = ap (λ j. get_or kept j 0) is in absurd (omega arith))
-      ]);
-  none = λ rank missing. are.none rank (neither (has (take i kept) rank) (eqb (get_or kept i 0) rank) (sym (has_more kept i rank here) ∙ missing)).0;
 }
 
 pub all_none : (count : ℕ) (places : List (Option ℕ)) → length places ≡ count → ((rank : ℕ) → get_or places rank None ≡ None) → places ≡ replicate count None
@@ -137,6 +116,13 @@ slot_put now front len (Some y) more room count before =
     ap (λ n. take n (set now len y)) one ∙ take_more_set now len y room ∙ ap (λ l. l ++ y ∷ []) before
 
 -- ---- places as a coding
+
+-- the places of those ranks of a basket that have one
+abbrev pub places_in : List ℕ → List ℕ → List ℕ
+places_in kept basket = filter_map (rank_of kept) basket
+
+abbrev pub placed : List ℕ → Weighted → Weighted
+placed kept place = weighted (places_in kept place.basket) place.weight
 
 module _ (kept : List ℕ) (up : IsRising kept) where
   -- a rank that has a place stands there
@@ -223,6 +209,10 @@ module _ (kept : List ℕ) (up : IsRising kept) where
   pub all_coded : (count : ℕ) (baskets : List Weighted) → All (IsRankBasket count) baskets → map (placed kept) baskets ≡ map (coded_place kept) baskets
   all_coded count baskets all = coded_each count baskets (recursion_from_All (IsRankBasket count) baskets all)
 
+  -- and so are the places by a table
+  pub table_coded : (of : List (Option ℕ)) (count : ℕ) (baskets : List Weighted) → ArePlaces kept of → All (IsRankBasket count) baskets → map (by_table of) baskets ≡ map (coded_place kept) baskets
+  table_coded of count baskets are all = (λ i. map (λ place. weighted (filter_map (λ rank. slot_is kept of rank up are i) place.basket) place.weight) baskets) ∙ all_coded count baskets all
+
 -- coded baskets of ranks are baskets of ranks
 pub coded_rank_baskets : (kept : List ℕ) (count : ℕ) (baskets : List Weighted) → AreRankBaskets (record { ranks = count; baskets = baskets })
     → AreRankBaskets (record { ranks = length kept; baskets = map (coded_place kept) baskets })
@@ -244,22 +234,15 @@ within_push n m spans span le all one = All-from_recursion (IsWithin m) (spans +
     go [] each = (one, tt)
     go (x ∷ xs) each = (record { ordered = each.0.ordered; within = (let inside = each.0.within in omega arith) }, go xs each.1)
 
-pub placed_more : (ranks locals kept : List ℕ) (baskets spans : List Span) (i : ℕ) (d span : Span) → i < length baskets → All (IsWithin (length locals)) spans
-    → (more : List ℕ) → more ≡ places_in kept (basket_at ranks (get_or baskets i d)).basket → span.start ≡ length locals → span.end ≡ length locals + length more → span.weight ≡ (get_or baskets i d).weight
-    → baskets_at locals spans ≡ map (placed kept) (take i (baskets_at ranks baskets))
-    → baskets_at (locals ++ more) (spans ++ span ∷ []) ≡ map (placed kept) (take (i + 1) (baskets_at ranks baskets))
-placed_more ranks locals kept baskets spans i d span here within more is start end weight so_far =
+pub placed_more : (ranks locals : List ℕ) (of : List (Option ℕ)) (baskets spans : List Span) (i : ℕ) (d span : Span) → i < length baskets → All (IsWithin (length locals)) spans
+    → (more : List ℕ) → more ≡ table_places of (basket_at ranks (get_or baskets i d)).basket → span.start ≡ length locals → span.end ≡ length locals + length more → span.weight ≡ (get_or baskets i d).weight
+    → baskets_at locals spans ≡ map (by_table of) (take i (baskets_at ranks baskets))
+    → baskets_at (locals ++ more) (spans ++ span ∷ []) ≡ map (by_table of) (take (i + 1) (baskets_at ranks baskets))
+placed_more ranks locals of baskets spans i d span here within more is start end weight so_far =
     pushed_basket locals more spans span within start end
     ∙ ap (λ l. l ++ weighted more span.weight ∷ []) so_far
-    ∙ ap (λ l. map (placed kept) (take i (baskets_at ranks baskets)) ++ weighted l span.weight ∷ []) is
-    ∙ ap (λ w. map (placed kept) (take i (baskets_at ranks baskets)) ++ weighted (places_in kept (basket_at ranks (get_or baskets i d)).basket) w ∷ []) weight
-    ∙ sym (ap (map (placed kept)) (take_more (baskets_at ranks baskets) i (basket_at ranks d) (omega (arith, length-map baskets (basket_at ranks))))
-    ∙ map-append (placed kept) (take i (baskets_at ranks baskets)) (get_or (baskets_at ranks baskets) i (basket_at ranks d) ∷ [])
-    ∙ ap (λ p. map (placed kept) (take i (baskets_at ranks baskets)) ++ placed kept p ∷ []) (get_or-map (basket_at ranks) baskets i d (basket_at ranks d) here))
-
-pub entries_at_more : (ranks : List ℕ) (spans : List Span) (i : ℕ) (d : Span) (entries : List Entry) (entry : Entry) → i < length spans
-    → entry_place entry ≡ basket_at ranks (get_or spans i d) → entry_places entries ≡ take i (baskets_at ranks spans) → entry_places (entries ++ entry ∷ []) ≡ take (i + 1) (baskets_at ranks spans)
-entries_at_more ranks spans i d entries entry here same so_far =
-    map-append entry_place entries (entry ∷ []) ∙ ap (λ l. l ++ entry_place entry ∷ []) so_far ∙ ap (λ p. take i (baskets_at ranks spans) ++ p ∷ []) same
-    ∙ ap (λ p. take i (baskets_at ranks spans) ++ p ∷ []) (sym (get_or-map (basket_at ranks) spans i d (basket_at ranks d) here))
-    ∙ sym (take_more (baskets_at ranks spans) i (basket_at ranks d) (omega (arith, length-map spans (basket_at ranks))))
+    ∙ ap (λ l. map (by_table of) (take i (baskets_at ranks baskets)) ++ weighted l span.weight ∷ []) is
+    ∙ ap (λ w. map (by_table of) (take i (baskets_at ranks baskets)) ++ weighted (table_places of (basket_at ranks (get_or baskets i d)).basket) w ∷ []) weight
+    ∙ sym (ap (map (by_table of)) (take_more (baskets_at ranks baskets) i (basket_at ranks d) (omega (arith, length-map baskets (basket_at ranks))))
+    ∙ map-append (by_table of) (take i (baskets_at ranks baskets)) (get_or (baskets_at ranks baskets) i (basket_at ranks d) ∷ [])
+    ∙ ap (λ p. map (by_table of) (take i (baskets_at ranks baskets)) ++ by_table of p ∷ []) (get_or-map (basket_at ranks) baskets i d (basket_at ranks d) here))

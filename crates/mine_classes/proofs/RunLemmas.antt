@@ -1,15 +1,17 @@
 -- Runs of ranks.
-use Rattle.std.proofs.Common.{◌≡◌, ℕ, ◌+◌, ◌-◌, ◌<◌, Bool, true, false, List, [], ◌∷◌, ◌++◌, length, drop, get_or, set, cond, ltb, refl, sym, ap, ◌∙◌, subst, inl, inr, arith, zero, suc}
+use Rattle.std.proofs.Common.{◌≡◌, ℕ, ◌+◌, ◌-◌, ◌<◌, Bool, true, false, List, [], ◌∷◌, ◌++◌, length, drop, get_or, set, take, cond, ltb, refl, sym, ap, ◌∙◌, subst, inl, inr, arith, zero, suc}
 use Rattle.std.proofs.lemmas.Bool.{cases_lt}
+use Rattle.std.specs.declared.alloc.Global.{Global}
+use Rattle.std.specs.declared.vec.Vec.{Vec}
 use Rattle.std.specs.List.{slice_range}
 use Rattle.mine_classes.specs.Span.{IsWithin}
-use Rattle.std.proofs.lemmas.List.{length-drop, length-take, get_or-set_same, get_or-set_other, length-set}
+use Rattle.std.proofs.lemmas.List.{append-nil, drop_all, length-drop, length-take, get_or-map, get_or-set_same, get_or-set_other, length-map, length-set, map-set, take_all}
 use Rattle.basket_sets.specs.Counts.{AllBelow}
 use Rattle.basket_sets.specs.Itemset.{IsRising}
 use Rattle.basket_sets.proofs.theory.Members.{Member}
 use Rattle.basket_sets.proofs.theory.Rising.{first_below, has-from_Member, rest_rises}
 use Rattle.mine_classes.specs.declared.span.Span.{Span}
-use Rattle.mine_classes.specs.Runs.{HaveRuns, run_at, with_last_heavier, with_run}
+use Rattle.mine_classes.specs.Runs.{HaveRuns, lists_in, run_at, with_last_heavier, with_run}
 
 pub heavier_is : (runs : List Span) (i : ℕ) (last : Span) (weight : ℕ) → i + 1 ≡ length runs → last ≡ get_or runs i last
     → set runs i (record { start = last.start; end = last.end; weight = last.weight + weight }) ≡ with_last_heavier weight runs
@@ -24,6 +26,11 @@ same_run run runs same e = ap (λ b. cond b (with_last_heavier run.weight runs) 
 
 pub other_run : (run : Span) (runs : List Span) (same : Bool) → same ≡ false → runs ++ run ∷ [] ≡ with_run same run runs
 other_run run runs same e = ap (λ b. cond b (with_last_heavier run.weight runs) (runs ++ run ∷ [])) (sym e)
+
+-- a list as a slice of the whole of it was left
+pub written : {X : Type 0} (len : ℕ) (was now : List X) → length was ≡ len → length now ≡ len → take len (now ++ drop (length now) was) ≡ now
+written len was now long as_long =
+    ap (take len) (ap (λ l. now ++ l) (drop_all (length now) was (omega arith)) ∙ append-nil now) ∙ take_all len now (omega arith)
 
 -- ---- members of a rising list
 
@@ -40,6 +47,17 @@ rising_at (x ∷ xs) (suc j) (suc k) up less below = rising_at xs j k (rest_rise
 
 pub all_below_at : (n : ℕ) (xs : List ℕ) (k : ℕ) → AllBelow n xs → k < length xs → get_or xs k 0 < n
 all_below_at n xs k below here = below (get_or xs k 0) (has-from_Member xs (get_or xs k 0) (Member-at xs k here))
+
+-- ---- lists of runs
+
+pub list_at : (of : List (Vec Span Global)) (rank : ℕ) (d : Vec Span Global) → rank < length of → get_or (lists_in of) rank [] ≡ (get_or of rank d).items
+list_at of rank d below = get_or-map (λ (v : Vec Span Global). v.items) of rank d [] below
+
+pub lists_in-set : (of : List (Vec Span Global)) (rank : ℕ) (v : Vec Span Global) → lists_in (set of rank v) ≡ set (lists_in of) rank v.items
+lists_in-set of rank v = map-set (λ (w : Vec Span Global). w.items) of rank v
+
+pub length-lists_in : (of : List (Vec Span Global)) → length (lists_in of) ≡ length of
+length-lists_in of = length-map of (λ (v : Vec Span Global). v.items)
 
 -- ---- the runs of each rank
 

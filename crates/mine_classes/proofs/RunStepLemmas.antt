@@ -18,7 +18,7 @@ use Rattle.mine_classes.specs.Conditional.{kept_place}
 use Rattle.mine_classes.specs.ListBaskets.{IsRankBasket, repeats_last, weight_where, with_last_raised}
 use Rattle.mine_classes.specs.Runs.{AreRunsOf, below, with_last_heavier}
 use Rattle.mine_classes.specs.Span.{IsWithin, basket_at, baskets_at}
-use Rattle.mine_classes.proofs.OrderedLemmas.{raised_all, raised_weight, pushed_all}
+use Rattle.mine_classes.proofs.MergedLemmas.{raised_all, raised_weight, pushed_all}
 use Rattle.mine_classes.proofs.RunLemmas.{Member-at}
 
 -- ---- the ranks before a rank

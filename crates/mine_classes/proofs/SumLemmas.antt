@@ -1,30 +1,25 @@
 -- Sums by rank as weights, and the supports of pairs.
-use Rattle.std.proofs.Common.{◌≡◌, ℕ, ◌+◌, ◌<◌, ◌≤◌, Bool, true, false, ◌&&◌, List, [], ◌∷◌, length, take, drop, get_or, map, cond, leb, ltb, refl, sym, ap, ◌∙◌, inl, inr, arith, add-one, add-zero, drop-cons, zero, suc}
-use Rattle.std.specs.List.{All, AllByRecursion, filter, range_with_len, sum_by}
+use Rattle.std.proofs.Common.{◌≡◌, ℕ, ◌+◌, ◌<◌, ◌≤◌, Bool, true, false, ◌&&◌, List, [], ◌∷◌, length, take, get_or, map, cond, leb, ltb, refl, sym, ap, ◌∙◌, inl, inr, arith, add-zero, zero, suc}
+use Rattle.std.specs.List.{filter, range_with_len, sum_by}
 use Rattle.std.specs.Ordering.{nat_cmp}
 use Rattle.std.proofs.lemmas.Bool.{and_parts, cases_eq, leb-true, ltb-true}
 use Rattle.std.proofs.lemmas.List.{take_more}
-use Rattle.std.proofs.lemmas.List.Elements.{All-weaker, recursion_from_All}
+use Rattle.std.proofs.lemmas.List.Elements.{All-weaker}
 use Rattle.std.proofs.lemmas.List.Kept.{IsStrictlySortedBy-filter}
 use Rattle.std.proofs.lemmas.List.Sums.{sum_by-cons, sum_by-append, sum_by-le-sum_by, sum_by_more_le}
-use Rattle.std.proofs.lemmas.Simd.{map-map}
-use Rattle.basket_ranks.specs.Codes.{coded_place}
-use Rattle.basket_ranks.proofs.theory.Coding.{coded_support}
 use Rattle.basket_sets.specs.declared.weighted.Weighted.{Weighted}
 use Rattle.basket_sets.specs.declared.minimum.Minimum.TheVariants.{Count}
 use Rattle.basket_sets.specs.Database.{MOST_WEIGHT}
 use Rattle.basket_sets.specs.Frequent.{is_frequent}
-use Rattle.basket_sets.specs.Counts.{AllBelow}
 use Rattle.basket_sets.specs.Itemset.{IsRising, contains, has, rising}
-use Rattle.basket_sets.specs.Support.{all_items, items_of, support_of, total_of, weight_at}
-use Rattle.basket_sets.proofs.theory.Items.{filter-map}
-use Rattle.basket_sets.proofs.theory.Members.{Member, Member-append, Member-filter, Member-from_filter, Member-from_map}
+use Rattle.basket_sets.specs.Support.{support_of, total_of, weight_at}
+use Rattle.basket_sets.proofs.theory.Members.{Member, Member-filter, Member-from_filter}
 use Rattle.basket_sets.proofs.theory.Rising.{Member-from_has, has-from_Member, Member-rising, Member-into_rising, cons_rises, nil_rises, rising-rises, same_rising}
-use Rattle.basket_sets.proofs.theory.Support.{in_items, support_falls}
+use Rattle.basket_sets.proofs.theory.Support.{support_falls}
 use Rattle.mine_classes.specs.declared.span.Span.{Span}
 use Rattle.mine_classes.specs.Conditional.{is_kept}
 use Rattle.mine_classes.specs.ListBaskets.{AreRankBaskets, IsRankBasket}
-use Rattle.mine_classes.specs.Pairs.{AreSums, is_met, items_met, kept_ranks, named_pair, pairs_of, ranks_met, weight_with}
+use Rattle.mine_classes.specs.Pairs.{AreSums, is_met, kept_ranks, pairs_of, ranks_met, weight_with}
 use Rattle.mine_classes.specs.Runs.{AreRunsOf, below}
 use Rattle.mine_classes.specs.Span.{baskets_at}
 use Rattle.mine_classes.proofs.ConditionalLemmas.{kept_support}
@@ -112,7 +107,7 @@ met_is count least sums found baskets are added =
         Member-into_rising (filter summed found) rank
         (Member-from_filter summed rank found (Member-from_has found rank (are.listed rank (let one = one_of_met least (get_or sums rank 0) test in omega arith))) test)
 
--- ---- the ranks that are met among those that stand in the baskets
+-- ---- two sums over the same baskets
 
 same_sums : (f g : Weighted → ℕ) (places : List Weighted) → ((place : Weighted) → f place ≡ g place) → sum_by f places ≡ sum_by g places
 same_sums f g [] same = refl
@@ -122,92 +117,6 @@ same_sums f g (place ∷ places) same =
 and_every : (b : Bool) → (b && true) ≡ b
 and_every true = refl
 and_every false = refl
-
--- the weight with a rank is its support
-weight_is_support : (rank : ℕ) (baskets : List Weighted) → weight_with rank baskets ≡ support_of baskets (rank ∷ [])
-weight_is_support rank baskets = same_sums (weigh rank) (weight_at (rank ∷ [])) baskets (λ place. ap (λ b. cond b place.weight 0) (sym (and_every (has place.basket rank))))
-
-ranks_below : (count : ℕ) (places : List Weighted) → AllByRecursion (IsRankBasket count) places → (rank : ℕ) → Member rank (all_items places) → rank < count
-ranks_below count [] all rank m = absurd m
-ranks_below count (place ∷ places) all rank m = elim (Member-append rank place.basket (all_items places) m) [
-  | inl here ↦ all.0.below rank (has-from_Member place.basket rank here)
-  | inr later ↦ ranks_below count places all.1 rank later
-]
-
-pub items_met_are : (count least : ℕ) (baskets : List Weighted) → All (IsRankBasket count) baskets → items_met least baskets ≡ ranks_met count least baskets
-items_met_are count least baskets are =
-    ap (map (λ rank. (rank, weight_with rank baskets)))
-    (same_rising (filter met (items_of baskets)) (filter met (range_with_len 0 count)) (IsStrictlySortedBy-filter nat_cmp met (items_of baskets) (rising-rises (all_items baskets))) (filtered_range_rises met 0 count)
-    (λ rank m.
-    let p = Member-filter met rank (items_of baskets) m in
-    let less = ranks_below count baskets (recursion_from_All (IsRankBasket count) baskets are) rank (Member-rising (all_items baskets) rank p.0) in
-    Member-from_filter met rank (range_with_len 0 count) (Member-into_range 0 count rank (omega arith) (omega arith)) p.1)
-    (λ rank m.
-    let p = Member-filter met rank (range_with_len 0 count) m in
-    let some = one_of_met least (weight_with rank baskets) p.1 in
-    let is = weight_is_support rank baskets in
-    Member-from_filter met rank (items_of baskets) (Member-into_rising (all_items baskets) rank (in_items baskets (rank ∷ []) (omega arith) rank (inl refl))) p.1))
-  where
-    met : ℕ → Bool
-    met rank = is_met least (weight_with rank baskets)
-
-range_lists : (list : List ℕ) (a : ℕ) (others : List ℕ) → length others + a ≡ length list → drop a list ≡ others → map (λ k. get_or list k 0) (range_with_len a (length others)) ≡ others
-range_lists list a [] long is = refl
-range_lists list a (x ∷ others) long is =
-    let here : a < length list = omega arith in
-    let cut = sym (drop-cons list a 0 here) ∙ is in
-    let first : get_or list a 0 ≡ x = cc in
-    let rest : drop (suc a) list ≡ others = cc in
-    ap (λ y. y ∷ map (λ k. get_or list k 0) (range_with_len (a + 1) (length others))) first
-    ∙ ap (λ l. x ∷ l) (range_lists list (a + 1) others (omega arith) (ap (λ n. drop n list) (add-one a) ∙ rest))
-
--- sums for the places of these ranks are sums for the ranks
-pub coded_met : (least : ℕ) (baskets : List Weighted)
-    → map (named_pair (items_of baskets)) (ranks_met (length (items_of baskets)) least (map (coded_place (items_of baskets)) baskets)) ≡ items_met least baskets
-coded_met least baskets =
-    map-map (named_pair list) (λ at. (at, weight_with at coded_baskets)) (filter at_met (range_with_len 0 (length list)))
-    ∙ map_members (λ at. (get_or list at 0, weight_with at coded_baskets)) (λ at. (get_or list at 0, weight_with (get_or list at 0) baskets)) (filter at_met (range_with_len 0 (length list)))
-    (λ at m. λ i. (get_or list at 0, same_weight at (inside at (Member-filter at_met at (range_with_len 0 (length list)) m).0) i))
-    ∙ ap (map (λ at. (get_or list at 0, weight_with (get_or list at 0) baskets))) (same_filter (range_with_len 0 (length list)) (λ at m. ap (is_met least) (same_weight at (inside at m))))
-    ∙ sym (map-map (λ rank. (rank, weight_with rank baskets)) (λ at. get_or list at 0) (filter (λ at. met (get_or list at 0)) (range_with_len 0 (length list))))
-    ∙ ap (map (λ rank. (rank, weight_with rank baskets))) (sym (filter-map (λ at. get_or list at 0) met (range_with_len 0 (length list))) ∙ ap (filter met) (range_lists list 0 list (omega arith) refl))
-  where
-    list : List ℕ
-    list = items_of baskets
-
-    coded_baskets : List Weighted
-    coded_baskets = map (coded_place list) baskets
-
-    met : ℕ → Bool
-    met rank = is_met least (weight_with rank baskets)
-
-    at_met : ℕ → Bool
-    at_met at = is_met least (weight_with at coded_baskets)
-
-    inside : (at : ℕ) → Member at (range_with_len 0 (length list)) → at < length list
-    inside at m = let r = Member-range 0 (length list) at m in let high = r.1 in omega arith
-
-    same_weight : (at : ℕ) → at < length list → weight_with at coded_baskets ≡ weight_with (get_or list at 0) baskets
-    same_weight at here = weight_is_support at coded_baskets ∙ coded_support list baskets at here ∙ sym (weight_is_support (get_or list at 0) baskets)
-
-    same_filter : (ats : List ℕ) → ((at : ℕ) → Member at ats → at_met at ≡ met (get_or list at 0)) → filter at_met ats ≡ filter (λ at. met (get_or list at 0)) ats
-    same_filter [] same = refl
-    same_filter (at ∷ ats) same =
-        ap (λ b. cond b (at ∷ filter at_met ats) (filter at_met ats)) (same at (inl refl))
-        ∙ ap (λ l. cond (met (get_or list at 0)) (at ∷ l) l) (same_filter ats (λ other m. same other (inr m)))
-
--- the places that are met are below the length of the list
-pub met_below : (count least : ℕ) (baskets : List Weighted) → AllBelow count (map (λ (pair : ℕ × ℕ). pair.0) (ranks_met count least baskets))
-met_below count least baskets rank h =
-    let m = Member-from_map (λ (pair : ℕ × ℕ). pair.0) rank (ranks_met count least baskets) (Member-from_has (map (λ (pair : ℕ × ℕ). pair.0) (ranks_met count least baskets)) rank h) in
-    let n = Member-from_map (λ other. (other, weight_with other baskets)) m.0 (filter met (range_with_len 0 count)) m.1 in
-    let r = Member-range 0 count n.0 (Member-filter met n.0 (range_with_len 0 count) n.1).0 in
-    let high = r.1 in
-    let same : n.0 ≡ rank = ap (λ (pair : ℕ × ℕ). pair.0) n.2 ∙ m.2 in
-    omega arith
-  where
-    met : ℕ → Bool
-    met other = is_met least (weight_with other baskets)
 
 -- ---- the pairs of a rank
 

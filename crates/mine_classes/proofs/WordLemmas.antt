@@ -1,5 +1,5 @@
 -- Words with weights.
-use Rattle.std.proofs.Common.{◌≡◌, ℕ, ◌+◌, ◌<◌, ◌≤◌, Bool, true, false, List, [], ◌∷◌, ◌++◌, length, take, get_or, set, cond, refl, sym, ap, ◌∙◌, subst, arith}
+use Rattle.std.proofs.Common.{◌≡◌, ℕ, ◌+◌, ◌<◌, ◌≤◌, Bool, List, [], ◌∷◌, ◌++◌, length, take, get_or, set, cond, refl, sym, ap, ◌∙◌, subst, arith}
 use Rattle.std.specs.Prelude.{All}
 use Rattle.std.specs.List.{range_with_len, sum_by}
 use Rattle.std.specs.List.Sorted.{IsPermutation}
@@ -86,43 +86,3 @@ word_more count before place old new word is so_far added test =
     ∙ ap (λ p. weight_where test (word_places count old) + weight_where test (p ∷ [])) is
     ∙ sym (ap (weight_where test) (map-append (word_place count) old (word ∷ [])) ∙ sum_by-append (weigh test) (word_places count old) (word_place count word ∷ []))
     ∙ added test
-
--- words that weigh nothing together
-pub no_weights : (test : List ℕ → Bool) (count : ℕ) (words : List Word) → sum_by (λ word. word.weight) words ≡ 0 → weight_where test (word_places count words) ≡ 0
-no_weights test count [] none = refl
-no_weights test count (word ∷ words) none =
-    let all = sum_by-cons (λ (w : Word). w.weight) word words in
-    let first : word.weight ≡ 0 = omega arith in
-    let rest = no_weights test count words (omega arith) in
-    sum_by-cons (weigh test) (word_place count word) (word_places count words)
-    ∙ ap (λ n. cond (test (ranks_in count word.bits)) n 0 + weight_where test (word_places count words)) first
-    ∙ ap (λ n. n + weight_where test (word_places count words)) (either (test (ranks_in count word.bits)) 0)
-    ∙ (let none_left : 0 + weight_where test (word_places count words) ≡ 0 = omega (arith, rest) in none_left)
-  where
-    either : (b : Bool) (n : ℕ) → cond b n n ≡ n
-    either true n = refl
-    either false n = refl
-
--- one basket more beside two lists of words, as a word that was added to the first or to the second
-module _ (count : ℕ) (before : List Weighted) (place : Weighted) (word : Word) (is : place ≡ word_place count word) where
-  words_parts : (test : List ℕ → Bool) (first second : List Word) → weight_where test (word_places count (first ++ second)) ≡ weight_where test (word_places count first) + weight_where test (word_places count second)
-  words_parts test first second = ap (weight_where test) (map-append (word_place count) first second) ∙ sum_by-append (weigh test) (word_places count first) (word_places count second)
-
-  before_more : (test : List ℕ → Bool) → weight_where test (before ++ place ∷ []) ≡ weight_where test before + weight_where test (word_places count (word ∷ []))
-  before_more test = sum_by-append (weigh test) before (place ∷ []) ∙ ap (λ p. weight_where test before + weight_where test (p ∷ [])) is
-
-  pub word_added : (old new short : List Word) → HaveSameWeights before (word_places count (old ++ short)) → HaveSameWeights (word_places count (old ++ word ∷ [])) (word_places count new)
-      → HaveSameWeights (before ++ place ∷ []) (word_places count (new ++ short))
-  word_added old new short so_far added test =
-      let all = so_far test ∙ words_parts test old short in
-      let more = sym (words_parts test old (word ∷ [])) ∙ added test in
-      before_more test ∙ (let sums : weight_where test before + weight_where test (word_places count (word ∷ [])) ≡ weight_where test (word_places count new) + weight_where test (word_places count short) = omega arith in sums)
-      ∙ sym (words_parts test new short)
-
-  pub word_taken_in : (words old new : List Word) → HaveSameWeights before (word_places count (words ++ old)) → HaveSameWeights (word_places count (old ++ word ∷ [])) (word_places count new)
-      → HaveSameWeights (before ++ place ∷ []) (word_places count (words ++ new))
-  word_taken_in words old new so_far added test =
-      let all = so_far test ∙ words_parts test words old in
-      let more = sym (words_parts test old (word ∷ [])) ∙ added test in
-      before_more test ∙ (let sums : weight_where test before + weight_where test (word_places count (word ∷ [])) ≡ weight_where test (word_places count words) + weight_where test (word_places count new) = omega arith in sums)
-      ∙ sym (words_parts test words new)

@@ -4,7 +4,6 @@ pub mod Span
 pub mod ListBaskets
 pub mod Entries
 pub mod Runs
-pub mod RunLists
 pub mod Pairs
 pub mod Places
 pub mod Words

@@ -1,10 +1,6 @@
 -- Baskets as lists of ranks: side by side with those that are equal, and each distinct one once.
-use Rattle.std.specs.Prelude.{◌≡◌, ◌≤◌, ◌+◌, ◌++◌, ℕ, Bool, false, List, [], ◌∷◌, fold, map, All, if◌then◌else◌, nat_eq}
-use Rattle.std.specs.declared.cmp.Ordering.{Ordering}
-use Rattle.std.specs.declared.cmp.Ordering.TheVariants.{Less}
-use Rattle.std.specs.Cmp.Lexicographic.{pointwise, slice_cmp}
-use Rattle.std.specs.List.Sorted.{IsStrictlySortedBy}
-use Rattle.std.specs.Ordering.{nat_cmp}
+use Rattle.std.specs.Prelude.{◌≡◌, ◌≤◌, ◌+◌, ◌++◌, ℕ, Bool, false, List, [], ◌∷◌, fold, All, if◌then◌else◌, nat_eq}
+use Rattle.std.specs.Cmp.Lexicographic.{pointwise}
 use Rattle.std.specs.List.{sum_by}
 use Rattle.basket_sets.specs.declared.weighted.Weighted.{Weighted}
 use Rattle.basket_sets.specs.Counts.{AllBelow}
@@ -42,18 +38,6 @@ repeats_last [] basket = false
 repeats_last (place ∷ []) basket = pointwise nat_eq place.basket basket
 repeats_last (place ∷ next ∷ places) basket = repeats_last (next ∷ places) basket
 
--- the order of the last basket and this one
-abbrev pub last_order : List Weighted → List ℕ → Ordering
-last_order [] basket = Less
-last_order (place ∷ []) basket = slice_cmp nat_cmp place.basket basket
-last_order (place ∷ next ∷ places) basket = last_order (next ∷ places) basket
-
--- each basket is lexicographically before its neighbour
-abbrev pub NeighboursRise : List Weighted → Type 0
-NeighboursRise [] = Unit {0}
-NeighboursRise (place ∷ []) = Unit {0}
-NeighboursRise (place ∷ next ∷ places) = (slice_cmp nat_cmp place.basket next.basket ≡ Less) × NeighboursRise (next ∷ places)
-
 -- the baskets with more weight at the last
 abbrev pub with_last_raised : ℕ → List Weighted → List Weighted
 with_last_raised weight [] = []
@@ -67,7 +51,3 @@ with_basket places place = if repeats_last places place.basket then with_last_ra
 -- equal neighbours made one, with their weights added
 abbrev pub neighbours_merged : List Weighted → List Weighted
 neighbours_merged baskets = fold with_basket [] baskets
-
--- each basket is lexicographically before the next, so no two are equal
-abbrev pub IsLexicographic : List Weighted → Type 0
-IsLexicographic baskets = IsStrictlySortedBy (slice_cmp nat_cmp) (map (λ place. place.basket) baskets)

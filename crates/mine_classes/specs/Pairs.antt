@@ -4,7 +4,7 @@ use Rattle.std.specs.List.{range_with_len}
 use Rattle.basket_sets.specs.declared.weighted.Weighted.{Weighted}
 use Rattle.basket_sets.specs.Counts.{AllBelow}
 use Rattle.basket_sets.specs.Itemset.{has}
-use Rattle.basket_sets.specs.Support.{items_of, support_of}
+use Rattle.basket_sets.specs.Support.{support_of}
 use Rattle.mine_classes.specs.Conditional.{is_kept}
 use Rattle.mine_classes.specs.ListBaskets.{weight_where}
 
@@ -37,10 +37,6 @@ weight_with rank baskets = weight_where (λ basket. has basket rank) baskets
 -- the ranks below a number that stand in baskets of at least so much weight, each with that weight
 abbrev pub ranks_met : ℕ → ℕ → List Weighted → List (ℕ × ℕ)
 ranks_met count least baskets = map (λ rank. (rank, weight_with rank baskets)) (filter (λ rank. is_met least (weight_with rank baskets)) (range_with_len 0 count))
-
--- the same of the ranks that stand in the baskets
-abbrev pub items_met : ℕ → List Weighted → List (ℕ × ℕ)
-items_met least baskets = map (λ rank. (rank, weight_with rank baskets)) (filter (λ rank. is_met least (weight_with rank baskets)) (items_of baskets))
 
 -- a pair with the rank that stands at its place in a list
 abbrev pub named_pair : List ℕ → ℕ × ℕ → ℕ × ℕ

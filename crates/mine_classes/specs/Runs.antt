@@ -1,5 +1,5 @@
 -- The runs of a rank: the places where it stands in baskets that lie one after another.
-use Rattle.std.specs.Prelude.{◌≡◌, ◌≤◌, ◌<◌, ◌+◌, ◌-◌, ◌++◌, ℕ, zero, suc, Bool, List, [], ◌∷◌, All, length, nat_lt, if◌then◌else◌, slice_index, slice_index_or, take}
+use Rattle.std.specs.Prelude.{◌≡◌, ◌<◌, ◌+◌, ◌++◌, ℕ, Bool, List, [], ◌∷◌, All, length, map, nat_lt, if◌then◌else◌, slice_index, slice_index_or}
 use Rattle.std.specs.List.{flat_map}
 use Rattle.std.specs.declared.vec.Vec.{Vec}
 use Rattle.std.specs.declared.alloc.Global.{Global}
@@ -8,7 +8,7 @@ use Rattle.mine_classes.specs.declared.span.Span.{Span}
 use Rattle.mine_classes.specs.Conditional.{kept_place}
 use Rattle.mine_classes.specs.ListBaskets.{HaveSameWeights, IsRankBasket}
 use Rattle.mine_classes.specs.Pairs.{pairs_of}
-use Rattle.mine_classes.specs.Span.{IsWithin, basket_at, baskets_at}
+use Rattle.mine_classes.specs.Span.{IsWithin, baskets_at}
 
 -- the baskets that have a rank, kept to the ranks below it
 abbrev pub below : ℕ → List Weighted → List Weighted
@@ -35,28 +35,9 @@ pub record HaveRuns (ranks : List ℕ) (basket : Span) (shared depth : ℕ) (old
       → slice_index_or new (slice_index ranks k) [] ≡ with_run (nat_lt k shared) (run_at basket k) (slice_index_or old (slice_index ranks k) [])
   pub off : (rank : ℕ) → ((k : ℕ) → k < depth → slice_index ranks k ≡ rank → ⊥) → slice_index_or new rank [] ≡ slice_index_or old rank []
 
--- where no part is
-abbrev pub no_span : Span
-no_span = record { start = 0; end = 0; weight = 0 }
-
--- the ranks of the basket before a place
-abbrev pub path_before : List ℕ → List Span → ℕ → List ℕ
-path_before ranks baskets zero = []
-path_before ranks baskets (suc place) = (basket_at ranks (slice_index_or baskets place no_span)).basket
-
--- the part of a basket that begins where it differs from the one before, of weight 1
-pub record IsNewPart (last path : List ℕ) (basket part : Span) : Type 0 where
-  pub starts : basket.start ≤ part.start
-  pub ordered : part.start ≤ part.end
-  pub ends : part.end ≡ basket.end
-  pub weighs : part.weight ≡ 1
-  pub within_last : part.start - basket.start ≤ length last
-  pub same : take (part.start - basket.start) last ≡ take (part.start - basket.start) path
-
-pub record AreNewParts (ranks : List ℕ) (baskets parts : List Span) : Type 0 where
-  pub long : length parts ≡ length baskets
-  pub are : (i : ℕ) → i < length baskets
-      → IsNewPart (path_before ranks baskets i) (basket_at ranks (slice_index_or baskets i no_span)).basket (slice_index_or baskets i no_span) (slice_index_or parts i no_span)
+-- the lists of runs that vectors have
+abbrev pub lists_in : List (Vec Span Global) → List (List Span)
+lists_in of = map (λ runs. runs.items) of
 
 -- the baskets that have the rank are those that end in its runs
 pub record AreRunsOf (ranks : List ℕ) (baskets : List Weighted) (rank : ℕ) (runs : List Span) : Type 0 where

@@ -35,10 +35,14 @@ option_bit (Some rank) = 2 ^ (63 - rank)
 abbrev pub place_bit : List ℕ → ℕ → ℕ
 place_bit kept rank = option_bit (rank_of kept rank)
 
--- the bits of the places of those ranks of a basket that have one
-abbrev pub bits_in : List ℕ → List ℕ → ℕ
-bits_in kept basket = fold (λ bits rank. bit_or bits (place_bit kept rank)) 0 basket
-
--- a table has the bit of each rank's place in a list, where it has a slot for the rank
+-- a table has the bit of each rank's place in a list
 abbrev pub AreBits : List ℕ → List ℕ → Type 0
 AreBits kept of = (rank : ℕ) → rank < length of → slice_index of rank ≡ place_bit kept rank
+
+-- the bits that a table has for the ranks of a basket
+abbrev pub table_bits : List ℕ → List ℕ → ℕ
+table_bits of basket = fold (λ bits rank. bit_or bits (slice_index of rank)) 0 basket
+
+-- a basket as the word of these bits
+abbrev pub table_word : List ℕ → Weighted → Word
+table_word of place = record { bits = table_bits of place.basket; weight = place.weight }

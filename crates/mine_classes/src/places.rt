@@ -1,45 +1,40 @@
 //! Baskets of the ranks that stand in a list, by their places there.
 ghost use Rattle.std.specs.Prelude.{◌≡◌, ◌≤◌, ◌+◌, ◌++◌, [], None, All, IfOk, length, map, replicate, take};
-ghost use Rattle.basket_ranks.specs.Codes.{coded_place, rank_of};
+ghost use Rattle.basket_ranks.specs.Codes.{coded_place};
 ghost use Rattle.basket_sets.specs.Counts.{AllBelow};
 ghost use Rattle.basket_sets.specs.Itemset.{IsRising};
 ghost use Rattle.mine_classes.specs.Form.{form_baskets};
 ghost use Rattle.mine_classes.specs.ListBaskets.{AreRankBaskets, HaveSameWeights};
-ghost use Rattle.mine_classes.specs.Places.{ArePlaces, placed, places_in};
+ghost use Rattle.mine_classes.specs.Places.{ArePlaces, by_table, table_places};
 ghost use Rattle.mine_classes.specs.Span.{IsWithin, baskets_at};
 
 use crate::form::Form;
 use crate::list_baskets::ListBaskets;
 use crate::room::make_room;
-use crate::span::{BASKETS_AHEAD, Span, place, read_ahead, table_pays};
+use crate::span::{BASKETS_AHEAD, Span, place, read_ahead};
 use crate::word_baskets::WordBaskets;
 use crate::words::{WORD_RANKS, clear_bits, set_bits, words_of};
 use std::alloc::{AllocError, Global};
 use std::marker::Model;
 
-/// A place for each rank, used again from rank to rank. The places stand in a table once it is worth
-/// its cost. Before that, each is searched for.
+/// A place for each rank, used again from rank to rank.
 #[derive(Debug, Drop)]
 pub struct Places {
-    count: u32,
-    /// How many ranks were looked up while there was no table.
-    seen: usize,
-    /// An empty slot for each rank, or nothing where there is no table yet.
+    /// An empty slot for each rank.
     of: Vec<Option<u32>>,
-    /// No bits for each rank, or nothing where there is no table yet.
+    /// No bits for each rank.
     bits: Vec<u64>,
 }
 
 impl Model for Places {
-    ghost use Rattle.std.specs.Prelude.{ℕ, None, ◌≡◌, ◌<◌, length, replicate};
+    ghost use Rattle.std.specs.Prelude.{ℕ, None, ◌≡◌, length, replicate};
 
     ghost Value = { ℕ };
 
-    ghost view = { λ p. p.count };
+    ghost view = { λ p. length p.of.items };
 
-    ghost invariant = { λ p. (0 < length p.of.items → length p.of.items ≡ p.count)
-        × (p.of.items ≡ replicate (length p.of.items) None)
-        × (0 < length p.bits.items → length p.bits.items ≡ p.count)
+    ghost invariant = { λ p. (p.of.items ≡ replicate (length p.of.items) None)
+        × (length p.bits.items ≡ length p.of.items)
         × (p.bits.items ≡ replicate (length p.bits.items) 0) };
 }
 
@@ -49,10 +44,8 @@ impl Places {
         ensures { IfOk result (λ places. places ≡ count) }
     {
         Ok(Places {
-            count,
-            seen: 0,
-            of: Vec::new(alloc),
-            bits: Vec::new(alloc),
+            of: vec![in alloc; None; count as usize]?,
+            bits: vec![in alloc; 0; count as usize]?,
         })
     }
 
@@ -100,12 +93,9 @@ impl Places {
         ensures weights { IfOk result (λ lists. HaveSameWeights (map (coded_place kept.now) (baskets_at ranks.now baskets.now)) lists.baskets) }
         ensures places { self.new ≡ self.old }
     {
-        if self.of.is_empty() && table_pays(self.count, &mut self.seen, baskets) {
-            self.of = vec![in alloc; None; self.count as usize]?;
-        }
         put(&mut self.of, kept);
         let mut locals = Vec::new(alloc);
-        let coded = coded_spans(alloc, &mut locals, &self.of, kept, ranks, baskets);
+        let coded = coded_spans(alloc, &mut locals, &self.of, ranks, baskets);
         take_away(&mut self.of, kept);
         let count = place(kept.len())?;
         Ok(ListBaskets::of_spans(count, locals, coded?))
@@ -129,105 +119,67 @@ impl Places {
         ensures weights { IfOk result (λ words. HaveSameWeights (map (coded_place kept.now) (baskets_at ranks.now baskets.now)) words.baskets) }
         ensures places { self.new ≡ self.old }
     {
-        let looked_at = !kept.is_empty() && self.bits.is_empty();
-        if looked_at && table_pays(self.count, &mut self.seen, baskets) {
-            self.bits = vec![in alloc; 0; self.count as usize]?;
-        }
         set_bits(&mut self.bits, kept);
-        let words = words_of(alloc, &self.bits, kept, ranks, baskets);
+        let words = words_of(alloc, &self.bits, ranks, baskets);
         clear_bits(&mut self.bits, kept);
         WordBaskets::of(alloc, kept.len() as u32, words?)
     }
 }
 
-/// Puts the place of each rank of the list that the table has a slot for.
+/// Puts the place of each rank of the list.
 fn put(of: &mut [Option<u32>], kept: &[u32])
     requires none { of.old ≡ replicate (length of.old) None }
     requires rises { IsRising kept.now }
+    requires below { AllBelow (length of.old) kept.now }
     ensures { ArePlaces kept.now of.new }
 {
     for (at, rank) in kept.iter().enumerate() {
-        if (*rank as usize) < of.len() {
-            of[*rank as usize] = Some(at as u32);
-        }
+        of[*rank as usize] = Some(at as u32);
     }
 }
 
 /// Takes the places away.
 fn take_away(of: &mut [Option<u32>], kept: &[u32])
-    requires { ArePlaces kept.now of.old }
+    requires places { ArePlaces kept.now of.old }
+    requires below { AllBelow (length of.old) kept.now }
     ensures { of.new ≡ replicate (length of.old) None }
 {
     for rank in kept {
-        if (*rank as usize) < of.len() {
-            of[*rank as usize] = None;
-        }
-    }
-}
-
-/// The place of a rank in the list.
-pub fn place_of(kept: &[u32], rank: u32) -> Option<u32>
-    requires { IsRising kept.now }
-    ensures { result ≡ rank_of kept.now rank }
-{
-    match kept.binary_search(&rank) {
-        Ok(at) => Some(at as u32),
-        Err(_) => None,
-    }
-}
-
-/// The place of a rank in the list, read from the table where that has a slot for the rank.
-fn place_in(of: &[Option<u32>], kept: &[u32], rank: u32) -> Option<u32>
-    requires places { ArePlaces kept.now of.now }
-    requires rises { IsRising kept.now }
-    ensures { result ≡ rank_of kept.now rank }
-{
-    match of.get(rank as usize) {
-        Some(slot) => *slot,
-        None => place_of(kept, rank),
+        of[*rank as usize] = None;
     }
 }
 
 /// Puts the places of those ranks of a basket that have one behind the first places of a list. Answers how
 /// many these are then. A place is put down for each rank, and the next one over it where the rank has
 /// none: which have one can't be predicted, so a branch would cost more.
-fn put_places(
-    locals: &mut [u32],
-    count: usize,
-    of: &[Option<u32>],
-    kept: &[u32],
-    basket: &[u32],
-) -> usize
+fn put_places(locals: &mut [u32], count: usize, of: &[Option<u32>], basket: &[u32]) -> usize
     requires room { count + length basket.now ≤ length locals.old }
-    requires places { ArePlaces kept.now of.now }
-    requires rises { IsRising kept.now }
+    requires below { AllBelow (length of.now) basket.now }
     ensures within { result ≤ length locals.old }
-    ensures places { take result locals.new ≡ take count locals.old ++ places_in kept.now basket.now }
+    ensures places { take result locals.new ≡ take count locals.old ++ table_places of.now basket.now }
 {
     let mut end = count;
     for rank in basket {
-        let place = place_in(of, kept, *rank);
+        let place = of[*rank as usize];
         locals[end] = place.unwrap_or(0);
         end += usize::from(place.is_some());
     }
     end
 }
 
-/// The baskets as places in the list, one after another, and where each stands.
-pub fn coded_spans(
+/// The baskets as the places that a table has for their ranks, one after another, and where each stands.
+fn coded_spans(
     alloc: Global,
     locals: &mut Vec<u32>,
     of: &[Option<u32>],
-    kept: &[u32],
     ranks: &[u32],
     baskets: &[Span],
 ) -> Result<Vec<Span>, AllocError>
     requires none { locals.old.items ≡ [] }
-    requires places { ArePlaces kept.now of.now }
-    requires rises { IsRising kept.now }
     requires within { All (IsWithin (length ranks.now)) baskets.now }
+    requires ranked { AreRankBaskets (record { ranks = length of.now; baskets = baskets_at ranks.now baskets.now }) }
     ensures within { IfOk result (λ spans. All (IsWithin (length locals.new.items)) spans.items) }
-    ensures placed { IfOk result (λ spans. baskets_at locals.new.items spans.items ≡ map (placed kept.now) (baskets_at ranks.now baskets.now)) }
+    ensures placed { IfOk result (λ spans. baskets_at locals.new.items spans.items ≡ map (by_table of.now) (baskets_at ranks.now baskets.now)) }
 {
     let mut spans = Vec::with_capacity(alloc, baskets.len())?;
     let mut end_ranks = [0u32; BASKETS_AHEAD];
@@ -236,13 +188,12 @@ pub fn coded_spans(
         if number % BASKETS_AHEAD == 0 {
             end_ranks = read_ahead(ranks, &baskets[number..]);
         }
-        // What was read has a slot: it never decides.
-        let end_rank = end_ranks[number % BASKETS_AHEAD] as usize;
-        let slots = if end_rank < of.len() { of } else { &of[..0] };
+        // What was read has a slot: it never asks for room.
+        let no_slot = usize::from(end_ranks[number % BASKETS_AHEAD] as usize >= of.len());
         let basket_ranks = basket.of(ranks);
-        make_room(locals, end, basket_ranks.len())?;
+        make_room(locals, end, basket_ranks.len().max(no_slot))?;
         let start = place(end)?;
-        end = put_places(locals, end, slots, kept, basket_ranks);
+        end = put_places(locals, end, of, basket_ranks);
         spans.push(basket.moved(start, place(end)?))?;
     }
     locals.truncate(end);

@@ -1,18 +1,17 @@
 //! The places where each rank stands in baskets that lie one after another.
-ghost use Rattle.std.specs.Prelude.{◌≡◌, ◌≤◌, ◌<◌, ◌+◌, ◌-◌, ℕ, [], All, IfOk, length, take, slice_index, slice_index_or, sum_by};
+ghost use Rattle.std.specs.Prelude.{◌≡◌, ◌≤◌, ◌<◌, ◌+◌, ◌-◌, ℕ, [], All, IfOk, IsTrue, OnOk, length, replicate, take, slice_index, slice_index_or, sum_by};
 ghost use Rattle.std.specs.List.{slice_range};
 ghost use Rattle.basket_sets.specs.Counts.{AllBelow};
 ghost use Rattle.basket_sets.specs.Database.{MOST_WEIGHT};
 ghost use Rattle.basket_sets.specs.Itemset.{IsRising};
 ghost use Rattle.mine_classes.specs.declared.span.Span.{Span as Run};
 ghost use Rattle.mine_classes.specs.ListBaskets.{AreRankBaskets};
-ghost use Rattle.mine_classes.specs.Pairs.{pairs_of, weight_with};
-ghost use Rattle.mine_classes.specs.Runs.{ArePairsOf, AreNewParts, AreRunsOf, HaveAllRuns, HaveRuns};
+ghost use Rattle.mine_classes.specs.Pairs.{pairs_of};
+ghost use Rattle.mine_classes.specs.Runs.{ArePairsOf, AreRunsOf, HaveAllRuns, HaveRuns, lists_in, with_run};
 ghost use Rattle.mine_classes.specs.Span.{IsWithin, baskets_at};
 
 use crate::list_baskets::ListBaskets;
-use crate::pairs::{Sums, add_all};
-use crate::run_lists::RunLists;
+use crate::pairs::Sums;
 use crate::span::Span;
 use std::alloc::{AllocError, Global};
 use std::marker::Model;
@@ -26,7 +25,8 @@ pub struct Runs {
     count: u32,
     ranks: Vec<u32>,
     baskets: Vec<Span>,
-    of: RunLists,
+    /// The runs of each rank.
+    of: Vec<Vec<Span>>,
     /// The frequent pairs of each rank by a least support, or of none.
     pairs: Vec<Vec<(u32, u64)>>,
     least: u64,
@@ -34,7 +34,7 @@ pub struct Runs {
 
 impl Model for Runs {
     ghost use Rattle.mine_classes.specs.ListBaskets.{RankBaskets, AreRankBaskets};
-    ghost use Rattle.mine_classes.specs.Runs.{ArePairsOf, AreRunsOf, HaveAllRuns};
+    ghost use Rattle.mine_classes.specs.Runs.{ArePairsOf, AreRunsOf, HaveAllRuns, lists_in};
     ghost use Rattle.mine_classes.specs.Span.{baskets_at};
 
     ghost Value = { RankBaskets };
@@ -42,7 +42,7 @@ impl Model for Runs {
     ghost view = { λ r. record { ranks = r.count; baskets = baskets_at r.ranks.items r.baskets.items } };
 
     ghost invariant = { λ r. AreRankBaskets (record { ranks = r.count; baskets = baskets_at r.ranks.items r.baskets.items })
-        × HaveAllRuns r.count r.ranks.items (baskets_at r.ranks.items r.baskets.items) r.of.lists
+        × HaveAllRuns r.count r.ranks.items (baskets_at r.ranks.items r.baskets.items) (lists_in r.of.items)
         × ArePairsOf (baskets_at r.ranks.items r.baskets.items) r.least r.pairs.items };
 }
 
@@ -87,7 +87,7 @@ impl Runs {
         ensures runs { AreRunsOf result.0.now self.now.baskets rank result.1.now }
         ensures ranked { AreRankBaskets self.now }
     {
-        (&self.ranks, self.of.of_rank(rank))
+        (&self.ranks, &self.of[rank as usize])
     }
 
     /// The ranks below the rank that are frequent together with it, by a least support, each with
@@ -114,57 +114,34 @@ impl Runs {
     }
 }
 
-/// The part of each basket that the basket before doesn't begin with, of weight 1: each of its ranks
-/// begins a run there.
-fn new_parts(alloc: Global, ranks: &[u32], baskets: &[Span]) -> Result<Vec<Span>, AllocError>
-    requires { All (IsWithin (length ranks.now)) baskets.now }
-    ensures { IfOk result (λ parts. AreNewParts ranks.now baskets.now parts.items) }
-{
-    let mut parts = Vec::with_capacity(alloc, baskets.len())?;
-    let mut last = &ranks[..0];
-    for basket in baskets {
-        let path = basket.of(ranks);
-        let same = shared(last, path);
-        parts.push(basket.rest(same))?;
-        last = path;
-    }
-    Ok(parts)
-}
-
-/// How many runs each rank gets.
-fn run_counts(
-    alloc: Global,
-    count: u32,
-    ranks: &[u32],
-    parts: &[Span],
-) -> Result<Vec<u64>, AllocError>
-    requires within { All (IsWithin (length ranks.now)) parts.now }
-    requires ranked { AreRankBaskets (record { ranks = count; baskets = baskets_at ranks.now parts.now }) }
-    ensures length { IfOk result (λ counts. length counts.items ≡ count) }
-    ensures counts { IfOk result (λ counts. (rank : ℕ) → rank < count → slice_index counts.items rank ≡ weight_with rank (baskets_at ranks.now parts.now)) }
-{
-    let mut counts = vec![in alloc; 0; count as usize]?;
-    add_all(&mut counts, ranks, parts);
-    Ok(counts)
-}
-
 /// The runs of each rank.
 fn all_runs(
     alloc: Global,
     count: u32,
     ranks: &[u32],
     baskets: &[Span],
-) -> Result<RunLists, AllocError>
+) -> Result<Vec<Vec<Span>>, AllocError>
     requires within { All (IsWithin (length ranks.now)) baskets.now }
     requires ranked { AreRankBaskets (record { ranks = count; baskets = baskets_at ranks.now baskets.now }) }
-    ensures { IfOk result (λ of. HaveAllRuns count ranks.now (baskets_at ranks.now baskets.now) of.lists) }
+    ensures { IfOk result (λ of. HaveAllRuns count ranks.now (baskets_at ranks.now baskets.now) (lists_in of.items)) }
 {
-    let parts = new_parts(alloc, ranks, baskets)?;
-    let counts = run_counts(alloc, count, ranks, &parts)?;
-    let mut of = RunLists::with_room(alloc, &counts)?;
-    for (number, basket) in baskets.iter().enumerate() {
-        let shared = parts[number].start - basket.start;
-        add_runs(&mut of, ranks, *basket, shared);
+    let mut of = no_runs(alloc, count)?;
+    let mut last = &ranks[..0];
+    for basket in baskets {
+        let path = basket.of(ranks);
+        add_runs(&mut of, ranks, *basket, shared(last, path))?;
+        last = path;
+    }
+    Ok(of)
+}
+
+/// An empty list for each rank.
+fn no_runs(alloc: Global, count: u32) -> Result<Vec<Vec<Span>>, AllocError>
+    ensures { IfOk result (λ of. lists_in of.items ≡ replicate count []) }
+{
+    let mut of = Vec::with_capacity(alloc, count as usize)?;
+    for _rank in 0..count {
+        of.push(Vec::new(alloc))?;
     }
     Ok(of)
 }
@@ -185,21 +162,39 @@ fn shared(a: &[u32], b: &[u32]) -> usize
 }
 
 /// Adds the runs of a basket that shares its first ranks with the basket before.
-fn add_runs(of: &mut RunLists, ranks: &[u32], basket: Span, shared: u32)
+fn add_runs(
+    of: &mut [Vec<Span>],
+    ranks: &[u32],
+    basket: Span,
+    shared: usize,
+) -> Result<(), AllocError>
     requires within { IsWithin (length ranks.now) basket }
     requires rises { IsRising (slice_range ranks.now basket.start basket.end) }
-    requires below { AllBelow (length of.old.lists) (slice_range ranks.now basket.start basket.end) }
+    requires below { AllBelow (length of.old) (slice_range ranks.now basket.start basket.end) }
     requires there { (k : ℕ) → k < shared → k < basket.end - basket.start
-        → 0 < length (slice_index_or of.old.lists (slice_index (slice_range ranks.now basket.start basket.end) k) []) }
-    requires room { (k : ℕ) → shared ≤ k → k < basket.end - basket.start
-        → length (slice_index_or of.old.lists (slice_index (slice_range ranks.now basket.start basket.end) k) []) < slice_index of.old.rooms (slice_index (slice_range ranks.now basket.start basket.end) k) }
-    requires light { (rank : ℕ) → rank < length of.old.lists → sum_by (λ (other : Run). other.weight) (slice_index_or of.old.lists rank []) + basket.weight ≤ MOST_WEIGHT }
-    ensures runs { HaveRuns (slice_range ranks.now basket.start basket.end) basket shared (basket.end - basket.start) of.old.lists of.new.lists }
-    ensures rooms { of.new.rooms ≡ of.old.rooms }
+        → 0 < length (slice_index_or (lists_in of.old) (slice_index (slice_range ranks.now basket.start basket.end) k) []) }
+    requires light { (rank : ℕ) → rank < length of.old → sum_by (λ (other : Run). other.weight) (slice_index_or (lists_in of.old) rank []) + basket.weight ≤ MOST_WEIGHT }
+    ensures { OnOk result (HaveRuns (slice_range ranks.now basket.start basket.end) basket shared (basket.end - basket.start) (lists_in of.old) (lists_in of.new)) }
 {
     let path = basket.of(ranks);
     for (depth, rank) in path.iter().enumerate() {
         let run = basket.first(depth as u32);
-        of.add(*rank, run, (depth as u32) < shared);
+        add_run(&mut of[*rank as usize], run, depth < shared)?;
     }
+    Ok(())
+}
+
+/// Adds a run to those of a rank, or its weight to the last one where that is the same.
+fn add_run(runs: &mut Vec<Span>, run: Span, same: bool) -> Result<(), AllocError>
+    requires some { IsTrue same → 0 < length runs.old.items }
+    requires light { sum_by (λ (other : Run). other.weight) runs.old.items + run.weight ≤ MOST_WEIGHT }
+    ensures { OnOk result (runs.new.items ≡ with_run same run runs.old.items) }
+{
+    if same {
+        let last = runs.len() - 1;
+        runs[last].add_weight(run.weight);
+        return Ok(());
+    }
+    runs.push(run)?;
+    Ok(())
 }

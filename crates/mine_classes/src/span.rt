@@ -1,4 +1,4 @@
-ghost use Rattle.std.specs.Prelude.{◌≡◌, ◌≤◌, ◌+◌, ℕ, All, IfOk, length};
+ghost use Rattle.std.specs.Prelude.{◌≡◌, ◌≤◌, ◌+◌, IfOk, length};
 ghost use Rattle.std.specs.List.{slice_range};
 ghost use Rattle.basket_sets.specs.Database.{MOST_WEIGHT};
 ghost use Rattle.mine_classes.specs.Runs.{run_at};
@@ -8,9 +8,6 @@ use std::alloc::AllocError;
 
 /// Of how many baskets the ends are read ahead.
 pub const BASKETS_AHEAD: usize = 16;
-
-/// How many slots a table may have for each rank that is looked up in it.
-const SLOTS_PER_RANK: usize = 16;
 
 /// A part of a list of ranks, from `start` up to `end`, and the weight of a basket that it is.
 #[derive(Clone, Copy, Debug, PartialEq, Eq)]
@@ -36,19 +33,6 @@ impl Span {
     {
         let end = self.start + depth;
         Span { end, ..*self }
-    }
-
-    /// What is behind so many of its first ranks, of weight 1.
-    pub fn rest(&self, depth: usize) -> Span
-        requires { self.now.start + depth ≤ self.now.end }
-        ensures { result ≡ record { start = self.now.start + depth; end = self.now.end; weight = 1 } }
-    {
-        let end = self.end;
-        Span {
-            start: self.start + depth as u32,
-            end,
-            weight: 1,
-        }
     }
 
     /// A part of another list with the same weight.
@@ -79,21 +63,6 @@ pub fn place(len: usize) -> Result<u32, AllocError>
         return Err(AllocError);
     }
     Ok(len as u32)
-}
-
-/// Whether a table with so many slots is worth its cost: where they are not far more than the ranks
-/// that were seen, to which those of the baskets are added.
-pub fn table_pays(slots: u32, seen: &mut usize, baskets: &[Span]) -> bool
-    requires { (count : ℕ) × All (IsWithin count) baskets.now }
-{
-    let enough = slots as usize / SLOTS_PER_RANK;
-    for basket in baskets {
-        if *seen >= enough {
-            break;
-        }
-        *seen = seen.saturating_add((basket.end - basket.start) as usize);
-    }
-    *seen >= enough
 }
 
 /// The greater of the ranks at the ends of each of the next baskets. These lie far apart, and such reads

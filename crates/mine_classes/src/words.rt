@@ -1,16 +1,13 @@
 //! Baskets of up to 64 ranks, each as the bits of a word.
-ghost use Rattle.std.specs.Prelude.{◌≡◌, ◌≤◌, ◌<◌, ◌+◌, ◌-◌, ◌^◌, ◌++◌, [], ◌∷◌, ℕ, All, IfOk, IsTrue, OnOk, bit_or, fold, length, map, replicate, slice_index, slice_index_or, sum_by};
+ghost use Rattle.std.specs.Prelude.{◌≡◌, ◌≤◌, ◌<◌, ◌+◌, ◌-◌, ◌^◌, ◌++◌, [], ◌∷◌, ℕ, All, IfOk, IsTrue, OnOk, length, map, replicate, slice_index_or, sum_by};
 ghost use Rattle.basket_sets.specs.Counts.{AllBelow};
 ghost use Rattle.basket_sets.specs.Database.{MOST_WEIGHT};
 ghost use Rattle.basket_sets.specs.Itemset.{IsRising};
 ghost use Rattle.mine_classes.specs.declared.words.Word.{Word as Bits};
 ghost use Rattle.mine_classes.specs.ListBaskets.{AreRankBaskets, HaveSameWeights};
-ghost use Rattle.mine_classes.specs.Places.{placed};
 ghost use Rattle.mine_classes.specs.Span.{IsWithin, baskets_at};
-ghost use Rattle.mine_classes.specs.Words.{AreBits, bits_in, has_rank, ranks_in, word_places};
+ghost use Rattle.mine_classes.specs.Words.{AreBits, has_rank, ranks_in, table_bits, table_word, word_places};
 
-use crate::places::place_of;
-use crate::short_words::ShortWords;
 use crate::span::{BASKETS_AHEAD, Span, read_ahead};
 use std::alloc::{AllocError, Global};
 
@@ -78,77 +75,40 @@ pub fn bit_of(rank: usize) -> u64
     1 << (63 - rank)
 }
 
-/// Sets the bit of each rank's place in the list, where the table has a slot for the rank.
+/// Sets the bit of each rank's place in the list.
 pub fn set_bits(of: &mut [u64], kept: &[u32])
     requires none { of.old ≡ replicate (length of.old) 0 }
     requires rises { IsRising kept.now }
     requires few { length kept.now ≤ WORD_RANKS }
+    requires below { AllBelow (length of.old) kept.now }
     ensures { AreBits kept.now of.new }
 {
     for (at, rank) in kept.iter().enumerate() {
-        if (*rank as usize) < of.len() {
-            of[*rank as usize] = bit_of(at);
-        }
+        of[*rank as usize] = bit_of(at);
     }
 }
 
 /// Takes the bits away.
 pub fn clear_bits(of: &mut [u64], kept: &[u32])
-    requires { AreBits kept.now of.old }
+    requires bits { AreBits kept.now of.old }
+    requires below { AllBelow (length of.old) kept.now }
     ensures { of.new ≡ replicate (length of.old) 0 }
 {
     for rank in kept {
-        if (*rank as usize) < of.len() {
-            of[*rank as usize] = 0;
-        }
+        of[*rank as usize] = 0;
     }
 }
 
-/// The bits of the places of a basket's ranks, each by a search.
-fn bits_by_search(kept: &[u32], basket: &[u32]) -> u64
-    requires rises { IsRising kept.now }
-    requires few { length kept.now ≤ WORD_RANKS }
-    ensures { result ≡ bits_in kept.now basket.now }
-{
-    let mut bits = 0;
-    for rank in basket {
-        match place_of(kept, *rank) {
-            Some(at) => bits |= bit_of(at as usize),
-            None => {}
-        }
-    }
-    bits
-}
-
-/// The bits that the table has for the ranks of a basket.
-fn bits_by_table(of: &[u64], basket: &[u32]) -> u64
+/// The bits that a table has for the ranks of a basket.
+fn bits_of(of: &[u64], basket: &[u32]) -> u64
     requires { AllBelow (length of.now) basket.now }
-    ensures { result ≡ fold (λ bits rank. bit_or bits (slice_index of.now rank)) 0 basket.now }
+    ensures { result ≡ table_bits of.now basket.now }
 {
     let mut bits = 0;
     for rank in basket {
         bits |= of[*rank as usize];
     }
     bits
-}
-
-/// The bits of the places of a basket's ranks. A basket is not looked at where no rank is kept. A rank
-/// near the basket was read before, which has a slot where there is a table: it never decides.
-fn bits_of(of: &[u64], kept: &[u32], basket: &[u32], end_rank: u32) -> u64
-    requires bits { AreBits kept.now of.now }
-    requires rises { IsRising kept.now }
-    requires few { length kept.now ≤ WORD_RANKS }
-    requires below { 0 < length of.now → AllBelow (length of.now) basket.now }
-    ensures { result ≡ bits_in kept.now basket.now }
-{
-    if kept.is_empty() {
-        return 0;
-    }
-    if end_rank as usize >= of.len() {
-        bits_by_search(kept, basket)
-    } else {
-        bits_by_table(of, basket)
-    }
 }
 
 /// Whether the last word has these bits.
@@ -178,39 +138,32 @@ pub fn add(words: &mut Vec<Word>, word: Word) -> Result<(), AllocError>
     Ok(())
 }
 
-/// The baskets, which are parts of a list of ranks, as the bits of the places of their ranks. Those of
-/// at most one such rank are merged, and so are equal neighbours.
+/// The baskets, which are parts of a list of ranks, as the bits that a table has for their ranks, equal
+/// neighbours merged.
 pub fn words_of(
     alloc: Global,
     of: &[u64],
-    kept: &[u32],
     ranks: &[u32],
     baskets: &[Span],
 ) -> Result<Vec<Word>, AllocError>
-    requires bits { AreBits kept.now of.now }
-    requires rises { IsRising kept.now }
-    requires few { length kept.now ≤ WORD_RANKS }
     requires within { All (IsWithin (length ranks.now)) baskets.now }
-    requires ranked { (count : ℕ) × AreRankBaskets (record { ranks = count; baskets = baskets_at ranks.now baskets.now }) × (0 < length of.now → length of.now ≡ count) }
+    requires ranked { AreRankBaskets (record { ranks = length of.now; baskets = baskets_at ranks.now baskets.now }) }
     ensures some { IfOk result (λ words. All (λ (word : Bits). 1 ≤ word.weight) words.items) }
     ensures light { IfOk result (λ words. sum_by (λ (word : Bits). word.weight) words.items ≤ MOST_WEIGHT) }
-    ensures weights { IfOk result (λ words. HaveSameWeights (map (placed kept.now) (baskets_at ranks.now baskets.now)) (word_places (length kept.now) words.items)) }
+    ensures weights { IfOk result (λ words. (count : ℕ) → HaveSameWeights (word_places count (map (table_word of.now) (baskets_at ranks.now baskets.now))) (word_places count words.items)) }
 {
     let mut words = Vec::with_capacity(alloc, baskets.len())?;
-    let mut short = ShortWords::new(alloc, baskets.len())?;
     let mut end_ranks = [0u32; BASKETS_AHEAD];
     for (place, basket) in baskets.iter().enumerate() {
         if place % BASKETS_AHEAD == 0 {
             end_ranks = read_ahead(ranks, &baskets[place..]);
         }
-        let bits = bits_of(of, kept, basket.of(ranks), end_ranks[place % BASKETS_AHEAD]);
+        // What was read has bits in the table: it never asks for room.
+        words.reserve(usize::from(end_ranks[place % BASKETS_AHEAD] as usize >= of.len()))?;
+        let bits = bits_of(of, basket.of(ranks));
         let weight = basket.weight;
-        let word = Word { bits, weight };
-        if !short.take_in(word) {
-            add(&mut words, word)?;
-        }
+        add(&mut words, Word { bits, weight })?;
     }
-    short.add_to(&mut words)?;
     Ok(words)
 }
 

@@ -1,19 +1,22 @@
-use Rattle.std.proofs.Common.{◌≡◌, ◌≤◌, ℕ, ◌+◌, List, ◌++◌, [], ◌∷◌, length, take, drop, get_or, refl, subst, sym, ap, ◌∙◌, arith}
+use Rattle.std.proofs.Common.{◌≡◌, ◌≤◌, ◌+◌, ◌++◌, [], ◌∷◌, length, take, drop, get_or, refl, subst, sym, ap, ◌∙◌, arith}
 use Rattle.std.specs.Prelude.{All}
-use Rattle.std.proofs.lemmas.List.{append-nil, drop_all, length-append, length-take-le, take_all}
+use Rattle.std.proofs.lemmas.List.{length-append, length-take-le}
+use Rattle.basket_sets.specs.Counts.{AllBelow}
 use Rattle.mine_classes.specs.declared.span.Span.{Span}
-use Rattle.mine_classes.specs.Places.{places_in}
+use Rattle.mine_classes.specs.Places.{table_places}
 use Rattle.mine_classes.specs.Span.{IsWithin, baskets_at}
 use Rattle.mine_classes.proofs.PlaceLemmas.{placed_more, within_push}
+use Rattle.mine_classes.proofs.RunLemmas.{written}
+use Rattle.mine_classes.proofs.RunLoopLemmas.{rank_basket_at}
 use Rattle.mine_classes.proofs.places.coded_spans.Goals as goal
 
 abbrev none : Span
 none = record { start = 0; end = 0; weight = 0 }
 
--- a list as a slice of the whole of it was left
-written : (len : ℕ) (was now : List ℕ) → length was ≡ len → length now ≡ len → take len (now ++ drop (length now) was) ≡ now
-written len was now long as_long =
-    ap (take len) (ap (λ l. now ++ l) (drop_all (length now) was (omega arith)) ∙ append-nil now) ∙ take_all len now (omega arith)
+pub put_places-end-requires-clause-below : goal.put_places-end-requires-clause-below
+put_places-end-requires-clause-below c =
+    let is = rank_basket_at c.args.ranks.now (length c.args.of.now) c.args.baskets.now c.loop-number.number none c.requires.ranked.places c.loop-number-test.true in
+    subst (AllBelow (length c.args.of.now)) (sym c.of-basket_ranks.ensures) is.below
 
 pub loop-number-preserved : goal.loop-number-preserved
 loop-number-preserved c =
@@ -24,7 +27,7 @@ loop-number-preserved c =
     let now = c.put_places-end.new.locals in
     let i = c.loop-number.number in
     let was = c.loop-number.invariant in
-    let more = places_in c.args.kept.now c.of-basket_ranks.result.now in
+    let more = table_places c.args.of.now c.of-basket_ranks.result.now in
     let made = c.make_room.new.list in
     let same : take made.len (now ++ drop (length now) made.items) ≡ now = written made.len made.items now (omega (arith, made.ok)) (omega (arith, made.ok, c.put_places-end.auto.locals, c.deref_mut.ensures.len)) in
     let grown : take c.put_places-end.result now ≡ locals ++ more = c.put_places-end.ensures.places
@@ -41,6 +44,6 @@ loop-number-preserved c =
           (within_push first c.put_places-end.result spans span (omega (arith, long)) was.within inside);
       placed = ap (λ l. baskets_at (take c.put_places-end.result l) c.push.new.self.items) same
           ∙ ap (λ l. baskets_at l c.push.new.self.items) grown ∙ ap (baskets_at (locals ++ more)) pushed
-          ∙ placed_more ranks locals c.args.kept.now c.args.baskets.now spans i none span c.loop-number-test.true (subst (λ n. All (IsWithin n) spans) (sym front) was.within)
-          more (ap (places_in c.args.kept.now) c.of-basket_ranks.ensures) (c.in_ok-start.ensures ∙ sym front) (c.in_ok-place.ensures ∙ long ∙ ap (λ n. n + length more) (sym front)) refl was.placed;
+          ∙ placed_more ranks locals c.args.of.now c.args.baskets.now spans i none span c.loop-number-test.true (subst (λ n. All (IsWithin n) spans) (sym front) was.within)
+          more (ap (table_places c.args.of.now) c.of-basket_ranks.ensures) (c.in_ok-start.ensures ∙ sym front) (c.in_ok-place.ensures ∙ long ∙ ap (λ n. n + length more) (sym front)) refl was.placed;
     }

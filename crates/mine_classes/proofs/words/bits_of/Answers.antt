@@ -1,14 +1,13 @@
-use Rattle.std.proofs.Common.{◌<◌, length, sym, ◌∙◌, arith}
-use Rattle.std.proofs.lemmas.Bool.{eqb-true}
-use Rattle.basket_sets.proofs.theory.Rising.{has-from_Member}
-use Rattle.mine_classes.proofs.BitLemmas.{no_bits, table_bits}
+use Rattle.std.proofs.Common.{length, get_or, sym, ap, ◌∙◌}
+use Rattle.std.specs.Prelude.{bit_or}
+use Rattle.std.proofs.lemmas.List.Sums.{fold_more}
+use Rattle.mine_classes.proofs.RunLemmas.{all_below_at}
 use Rattle.mine_classes.proofs.words.bits_of.Goals as goal
 
-pub returns-then-is_empty : goal.returns-then-is_empty
-returns-then-is_empty c = sym (no_bits c.args.kept.now c.args.basket.now (eqb-true (length c.args.kept.now) 0 (sym c.if-is_empty.ensures)))
+pub bounds-of-rank : goal.bounds-of-rank
+bounds-of-rank c = all_below_at (length c.args.of.now) c.args.basket.now c.loop-rank.rank-index c.requires c.loop-rank-test.true
 
-pub returns-else-end_rank-of : goal.returns-else-end_rank-of
-returns-else-end_rank-of c =
-    let of = c.args.of.now in
-    let some : 0 < length of = omega arith in
-    c.bits_by_table.ensures ∙ table_bits c.args.kept.now of c.args.basket.now c.requires.bits (λ rank m. c.requires.below some rank (has-from_Member c.args.basket.now rank m))
+pub loop-rank-preserved : goal.loop-rank-preserved
+loop-rank-preserved c =
+    ap (λ n. bit_or n (get_or c.args.of.now (get_or c.args.basket.now c.loop-rank.rank-index 0) 0)) c.loop-rank.invariant
+    ∙ sym (fold_more (λ bits rank. bit_or bits (get_or c.args.of.now rank 0)) 0 c.args.basket.now c.loop-rank.rank-index 0 c.loop-rank-test.true)

@@ -1,17 +1,16 @@
-use Rattle.std.proofs.Common.{◌≡◌, ◌≤◌, ◌+◌, ◌++◌, length, map, take}
+use Rattle.std.proofs.Common.{◌≡◌, ◌≤◌, ℕ, map, take}
 use Rattle.std.specs.Prelude.{All}
 use Rattle.std.specs.List.{sum_by}
 use Rattle.basket_sets.specs.Support.{total_of}
 use Rattle.mine_classes.specs.declared.words.Word.{Word}
 use Rattle.mine_classes.specs.ListBaskets.{HaveSameWeights}
-use Rattle.mine_classes.specs.Places.{placed}
 use Rattle.mine_classes.specs.Span.{baskets_at}
-use Rattle.mine_classes.specs.Words.{word_places}
+use Rattle.mine_classes.specs.Words.{table_word, word_places}
 use Rattle.mine_classes.proofs.words.words_of.Given as goal
 
 abbrev pub invariant-loop-place : goal.invariant-loop-place
 invariant-loop-place l = record {
   some : All (λ (word : Word). 1 ≤ word.weight) l.words.items;
-  light : sum_by (λ (word : Word). word.weight) l.words.items + sum_by (λ (word : Word). word.weight) l.short.words.items ≡ total_of (take l.place (baskets_at l.ranks l.baskets));
-  weights : HaveSameWeights (map (placed l.kept) (take l.place (baskets_at l.ranks l.baskets))) (word_places (length l.kept) (l.words.items ++ l.short.words.items));
+  light : sum_by (λ (word : Word). word.weight) l.words.items ≡ total_of (take l.place (baskets_at l.ranks l.baskets));
+  weights : (count : ℕ) → HaveSameWeights (word_places count (map (table_word l.of) (take l.place (baskets_at l.ranks l.baskets)))) (word_places count l.words.items);
 }

@@ -1,17 +1,20 @@
-use Rattle.std.proofs.Common.{◌<◌, [], get_or, subst, sym, arith}
+use Rattle.std.proofs.Common.{◌≡◌, ◌<◌, [], get_or, length, subst, sym, ap, ◌∙◌, arith}
+use Rattle.std.specs.declared.alloc.Global.{Global}
+use Rattle.std.specs.declared.vec.Vec.{Vec}
+use Rattle.mine_classes.specs.declared.span.Span.{Span}
 use Rattle.mine_classes.specs.ListBaskets.{RankBaskets}
-use Rattle.mine_classes.specs.Runs.{AreRunsOf}
+use Rattle.mine_classes.specs.Runs.{AreRunsOf, lists_in}
+use Rattle.mine_classes.proofs.RunLemmas.{length-lists_in, list_at}
 use Rattle.mine_classes.proofs.runs.Runs.of_rank.Goals as goal
-
-pub of_rank-requires : goal.of_rank-requires
-of_rank-requires c =
-    let here : c.args.rank < c.self.inside.count = subst (λ (v : RankBaskets). c.args.rank < v.ranks) (sym c.self.view_is) c.requires in
-    omega (arith, here, c.self.invariant.1.long)
 
 pub returns-clause-runs : goal.returns-clause-runs
 returns-clause-runs c =
     let inside = c.self.inside in
-    let here : c.args.rank < inside.count = subst (λ (v : RankBaskets). c.args.rank < v.ranks) (sym c.self.view_is) c.requires in
+    let rank = c.args.rank in
+    let here : rank < inside.count = subst (λ (v : RankBaskets). rank < v.ranks) (sym c.self.view_is) c.requires in
+    let below : rank < length inside.of.items = omega (arith, here, c.self.invariant.1.long, length-lists_in inside.of.items) in
+    let list : c.deref-2.result.now ≡ get_or (lists_in inside.of.items) rank [] =
+    c.deref-2.ensures.value ∙ ap (λ (v : Vec Span Global). v.items) c.index.ensures ∙ sym (list_at inside.of.items rank c.index.result.now below) in
     rw c.deref.ensures.value
-    (subst (AreRunsOf inside.ranks.items c.args.self.now.baskets c.args.rank) (sym c.of_rank.ensures)
-    (subst (λ (v : RankBaskets). AreRunsOf inside.ranks.items v.baskets c.args.rank (get_or inside.of.lists c.args.rank [])) c.self.view_is (c.self.invariant.1.are c.args.rank here)))
+    (subst (AreRunsOf inside.ranks.items c.args.self.now.baskets rank) (sym list)
+    (subst (λ (v : RankBaskets). AreRunsOf inside.ranks.items v.baskets rank (get_or (lists_in inside.of.items) rank [])) c.self.view_is (c.self.invariant.1.are rank here)))

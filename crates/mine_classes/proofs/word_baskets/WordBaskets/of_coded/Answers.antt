@@ -1,4 +1,4 @@
-use Rattle.mine_classes.proofs.OrderedLemmas.{coded_rank_baskets}
+use Rattle.mine_classes.proofs.MergedLemmas.{coded_rank_baskets}
 use Rattle.mine_classes.proofs.word_baskets.WordBaskets.of_coded.Goals as goal
 
 pub words_of_ranks-requires-clause-ranked : goal.words_of_ranks-requires-clause-ranked
