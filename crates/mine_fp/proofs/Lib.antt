@@ -10,7 +10,6 @@ mod StraightLemmas
 mod InnerLemmas
 mod TreesLemmas
 mod NameLemmas
-mod PairLemmas
 mod PathLemmas
 mod ChoiceLemmas
 mod WordLemmas

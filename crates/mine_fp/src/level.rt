@@ -93,13 +93,6 @@ impl Level {
             found.trees += 1;
             return Ok(());
         }
-        if pairs.len() == 1 {
-            // The class is the rank alone and the pair. Its tree is a single branch, of which nothing is made.
-            let (other, together) = pairs[0];
-            choose(alloc, place, self.item(other), together, found, tally)?;
-            found.trees += 1;
-            return Ok(());
-        }
         let places = &mut tables.places;
         let inner = self.below(alloc, rank, place, places, pairs, &mut found.trees)?;
         inner.classes(alloc, found, tally)

@@ -16,9 +16,8 @@ use Rattle.mine_fp.specs.Trees.{has_tree, inner_trees, rank_trees}
 use Rattle.mine_fp.proofs.ClassLemmas.{alone_is_one, all_once, class_grown, class_long, class_some, classes_fit, deeper, frequent_of_size, inner_has_fewer, met_by, more_all, more_classes, rare_by}
 use Rattle.mine_fp.proofs.LeafLemmas.{leaf_grown, leaf_trees, nothing_in}
 use Rattle.mine_fp.proofs.NameLemmas.{inner_is_level}
-use Rattle.mine_fp.proofs.PairLemmas.{one_in, other_below, pair_grown, pair_long, pair_trees}
 use Rattle.mine_fp.proofs.SuffixLemmas.{same_items, suffix_added, suffix_is, suffix_kept}
-use Rattle.mine_fp.proofs.TreesLemmas.{class_trees_are, more_trees, ranked_plain, rare_trees, trees_of_ranks}
+use Rattle.mine_fp.proofs.TreesLemmas.{class_trees_are, more_trees, rare_trees, trees_of_ranks}
 use Rattle.mine_fp.proofs.level.Level.+growth.Goals as goal
 
 pub class-returns-then-support-self-clause-listed :
@@ -98,52 +97,6 @@ class-returns-then-is_empty-clause-at_most g t c =
     let some = class_some level.paths.baskets level.least c.args.rank c.classes_are_listed.ensures met in
     let most = c.in_ok-tell_rank.ensures.at_most in
     omega arith
-
-pub class-item-requires : goal.class-item-requires
-class-item-requires g t c =
-    let level = c.args.self.now in
-    let pair = c.index.result.now in
-    let met = met_by level.paths.baskets level.least c.args.rank c.support-support.result c.support-support.ensures c.requires.level.some c.if-support-self.false in
-    let one = sym c.in_ok-pairs.ensures.pairs ∙ one_in c.in_ok-pairs.pairs.items pair (omega (arith, c.if-len-eq1.true, c.in_ok-pairs.pairs.ok.0)) c.index.ensures in
-    let less = other_below level.paths.baskets level.least c.args.rank pair one c.classes_are_conditional.ensures c.conditional_supports.ensures met in
-    omega (arith, less, c.requires.rank, c.requires.level.names.long, level.names.ok.0)
-
-pub class-returns-in_err-choose-clause-at_most : goal.class-returns-in_err-choose-clause-at_most
-class-returns-in_err-choose-clause-at_most g t c =
-    let level = c.args.self.now in
-    let pair = c.index.result.now in
-    let met = met_by level.paths.baskets level.least c.args.rank c.support-support.result c.support-support.ensures c.requires.level.some c.if-support-self.false in
-    let one = sym c.in_ok-pairs.ensures.pairs ∙ one_in c.in_ok-pairs.pairs.items pair (omega (arith, c.if-len-eq1.true, c.in_ok-pairs.pairs.ok.0)) c.index.ensures in
-    let two = pair_long level.paths.baskets level.least c.args.rank pair one c.classes_are_conditional.ensures c.conditional_supports.ensures met c.lists_have_class_size.ensures in
-    omega (arith, two, c.in_err-choose.ensures.at_most, c.in_ok-tell_rank.ensures.told)
-
-pub class-returns-then-len-eq1-clause-listed : goal.class-returns-then-len-eq1-clause-listed
-class-returns-then-len-eq1-clause-listed g t c =
-    let level = c.args.self.now in
-    let pair = c.index.result.now in
-    let met = met_by level.paths.baskets level.least c.args.rank c.support-support.result c.support-support.ensures c.requires.level.some c.if-support-self.false in
-    let one = sym c.in_ok-pairs.ensures.pairs ∙ one_in c.in_ok-pairs.pairs.items pair (omega (arith, c.if-len-eq1.true, c.in_ok-pairs.pairs.ok.0)) c.index.ensures in
-    pair_grown level c.args.rank pair one c.classes_are_conditional.ensures c.conditional_supports.ensures met c.args.found.now.sets c.tell_rank.new.found.sets c.choose.new.found.sets
-    c.len-place.result c.support-support.result c.item.result c.requires.stands.rises c.support-support.ensures c.len-place.ensures c.in_ok-tell_rank.ensures.added
-    c.item.ensures c.in_ok-choose.ensures.added
-
-pub class-returns-then-len-eq1-clause-trees : goal.class-returns-then-len-eq1-clause-trees
-class-returns-then-len-eq1-clause-trees g t c =
-    let level = c.args.self.now in
-    let pair = c.index.result.now in
-    let met = met_by level.paths.baskets level.least c.args.rank c.support-support.result c.support-support.ensures c.requires.level.some c.if-support-self.false in
-    let one = sym c.in_ok-pairs.ensures.pairs ∙ one_in c.in_ok-pairs.pairs.items pair (omega (arith, c.if-len-eq1.true, c.in_ok-pairs.pairs.ok.0)) c.index.ensures in
-    let own = pair_trees level.paths.baskets level.least c.args.rank pair one c.classes_are_conditional.ensures c.conditional_supports.ensures met (ranked_plain level.paths c.requires.level.ranked) c.classes_are_listed.ensures in
-    omega (arith, own, c.in_ok-choose.ensures.trees, c.in_ok-tell_rank.ensures.trees)
-
-pub class-returns-then-len-eq1-clause-at_most : goal.class-returns-then-len-eq1-clause-at_most
-class-returns-then-len-eq1-clause-at_most g t c =
-    let level = c.args.self.now in
-    let pair = c.index.result.now in
-    let met = met_by level.paths.baskets level.least c.args.rank c.support-support.result c.support-support.ensures c.requires.level.some c.if-support-self.false in
-    let one = sym c.in_ok-pairs.ensures.pairs ∙ one_in c.in_ok-pairs.pairs.items pair (omega (arith, c.if-len-eq1.true, c.in_ok-pairs.pairs.ok.0)) c.index.ensures in
-    let two = pair_long level.paths.baskets level.least c.args.rank pair one c.classes_are_conditional.ensures c.conditional_supports.ensures met c.lists_have_class_size.ensures in
-    omega (arith, two, c.in_ok-choose.ensures.at_most, c.in_ok-tell_rank.ensures.told)
 
 pub class-returns-in_err-inner-clause-at_most : goal.class-returns-in_err-inner-clause-at_most
 class-returns-in_err-inner-clause-at_most g t c =
