@@ -14,5 +14,5 @@ mod PathLemmas
 mod ChoiceLemmas
 mod WordLemmas
 mod LeafLemmas
-mod ShiftLemmas
+mod BitLemmas
 mod SuffixLemmas
