@@ -16,3 +16,4 @@ mod WordLemmas
 mod LeafLemmas
 mod BitLemmas
 mod SuffixLemmas
+mod FoundLemmas
