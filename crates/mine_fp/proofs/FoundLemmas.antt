@@ -86,3 +86,5 @@ module _ (level : Level) (rank : ℕ) (old now : List Counted) (has : HasClasses
 
     pub found_long : rank ≡ level.paths.ranks → length now ≡ length old + length (frequent_of level.paths.baskets (Count level.least))
     found_long last = let size = once_is_as_long level.paths.baskets (Count level.least) all (whole last) in omega (arith, size, long)
+
+pub ruleset found_classes = (found_suffix, found_lower, found_all)

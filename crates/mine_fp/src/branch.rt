@@ -19,6 +19,7 @@ use std::alloc::Global;
 impl Level {
     /// The frequent sets, read off a single branch: each choice of its nodes, with the least count
     /// among them (Han, Pei and Yin 2000). Each is told as soon as it is known.
+    #[tactic(auto, using(crate::proofs::FoundLemmas::found_classes))]
     pub fn read_off<T: Tally>(
         &self,
         alloc: Global,

@@ -101,6 +101,7 @@ impl Level {
 
     /// The classes of all ranks, each set as items, added at the end of those found.
     #[cycle(growth)]
+    #[tactic(auto, using(crate::proofs::FoundLemmas::found_classes))]
     fn classes<T: Tally>(
         &self,
         alloc: Global,

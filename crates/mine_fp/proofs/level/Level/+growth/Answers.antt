@@ -13,7 +13,7 @@ use Rattle.mine_classes.specs.Classes.{class_of}
 use Rattle.mine_fp.specs.Level.{items_of, missing, suffix_of}
 use Rattle.mine_fp.specs.Trees.{has_tree, inner_trees, rank_trees}
 use Rattle.mine_fp.proofs.ClassLemmas.{alone_is_one, class_grown, class_long, deeper, frequent_of_size, inner_has_fewer, met_by, rare_by}
-use Rattle.mine_fp.proofs.FoundLemmas.{found_all, found_fit, found_long, found_more, found_suffix, no_classes}
+use Rattle.mine_fp.proofs.FoundLemmas.{found_fit, found_long, found_more, found_suffix, no_classes}
 use Rattle.mine_fp.proofs.LeafLemmas.{leaf_grown, leaf_trees, nothing_in}
 use Rattle.mine_fp.proofs.NameLemmas.{inner_is_level}
 use Rattle.mine_fp.proofs.SuffixLemmas.{suffix_added, suffix_is}
@@ -203,11 +203,6 @@ classes-loop-rank-preserved g t c =
       going_on = now.going_on;
       limit = now.limit ∙ so_far.limit;
     }
-
-pub classes-returns-clause-listed : goal.classes-returns-clause-listed
-classes-returns-clause-listed g t c =
-    let last : c.loop-rank.rank ≡ c.args.self.now.paths.ranks = omega (arith, c.loop-rank-test.false, c.ranks-rank-end.ensures, c.loop-rank.auto.rank-end) in
-    found_all c.args.self.now c.loop-rank.rank c.args.found.now.sets c.loop-rank.found.sets c.loop-rank.invariant.listed c.classes_are_all.ensures c.classes_are_listed.ensures c.requires.level last
 
 pub classes-returns-clause-at_most : goal.classes-returns-clause-at_most
 classes-returns-clause-at_most g t c =

@@ -1,13 +1,6 @@
 use Rattle.std.proofs.Common.{◌≡◌, ◌∙◌, arith}
-use Rattle.mine_fp.proofs.FoundLemmas.{found_all, found_fit, found_long, found_lower, found_more, found_suffix}
+use Rattle.mine_fp.proofs.FoundLemmas.{found_fit, found_long, found_more}
 use Rattle.mine_fp.proofs.level.Level.read_off.Goals as goal
-
-pub choices-requires-clause-stands : goal.choices-requires-clause-stands
-choices-requires-clause-stands g c = found_suffix c.args.self.now c.loop-last.last c.args.found.now.sets c.loop-last.found.sets c.loop-last.invariant.listed c.requires.stands
-
-pub choices-requires-clause-lower : goal.choices-requires-clause-lower
-choices-requires-clause-lower g c =
-    found_lower c.args.self.now c.loop-last.last c.args.found.now.sets c.loop-last.found.sets c.loop-last.invariant.listed c.len-start.result c.len-start.ensures c.requires.stands
 
 pub returns-in_err-choices-clause-at_most : goal.returns-in_err-choices-clause-at_most
 returns-in_err-choices-clause-at_most g c =
@@ -27,11 +20,6 @@ loop-last-preserved g c =
       going_on = now.going_on;
       limit = now.limit ∙ so_far.limit;
     }
-
-pub returns-clause-listed : goal.returns-clause-listed
-returns-clause-listed g c =
-    let last : c.loop-last.last ≡ c.args.self.now.paths.ranks = omega (arith, c.loop-last-test.false, c.ranks-last-end.ensures, c.loop-last.auto.last-end) in
-    found_all c.args.self.now c.loop-last.last c.args.found.now.sets c.loop-last.found.sets c.loop-last.invariant.listed c.classes_are_all.ensures c.classes_are_listed.ensures c.requires.level last
 
 pub returns-clause-at_most : goal.returns-clause-at_most
 returns-clause-at_most g c =
