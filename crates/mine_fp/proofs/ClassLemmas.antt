@@ -3,7 +3,7 @@ use Rattle.std.proofs.Common.{◌≡◌, ℕ, ◌+◌, ◌-◌, ◌<◌, ◌≤�
 use Rattle.std.specs.List.{AllByRecursion, flat_map, range_with_len}
 use Rattle.std.proofs.lemmas.Bool.{and_from, and_parts, cases_Bool, cases_lt, eq-eqb, le-leb, leb-true}
 use Rattle.std.proofs.lemmas.Grind.{flat_map-append}
-use Rattle.std.proofs.lemmas.List.{append-nil, get_or_append_left, get_or-append_right, length-append, length-map, map-append}
+use Rattle.std.proofs.lemmas.List.{get_or_append_left, get_or-append_right, length-append, length-map}
 use Rattle.std.proofs.lemmas.List.Elements.{All-from_recursion, recursion_from_All}
 use Rattle.std.proofs.lemmas.List.FromFn.{get_or-map-range_with_len, length-map-range_with_len}
 use Rattle.basket_ranks.specs.Codes.{Coding, IsCodedPlace, IsCoding, decoded_set, decoded}
@@ -30,16 +30,6 @@ use Rattle.mine_fp.specs.Level.{IsBelow, ListsAllAsItems, ListsClassAsItems, as_
 use Rattle.mine_fp.proofs.LevelLemmas.{alone_as_items, inner_as_items, kept_rises, kept_short, length-decoded, named_ranks}
 
 -- ---- lists of classes
-
-pub more_classes : (baskets : List Weighted) (least : ℕ) (classes : List (List Counted)) (class : List Counted) → ListClasses baskets (Count least) classes
-    → ListsClass baskets (Count least) (length classes) class → ListClasses baskets (Count least) (classes ++ class ∷ [])
-more_classes baskets least classes class lists last rank below = elim (cases_lt rank (length classes)) [
-  | inl here ↦ subst (ListsClass baskets (Count least) rank) (sym (get_or_append_left classes (class ∷ []) [] rank here)) (lists rank here)
-  | inr past ↦
-      (let same : rank ≡ length classes = omega (arith, below, length-append classes (class ∷ [])) in
-      let at : get_or (classes ++ class ∷ []) rank [] ≡ class = get_or-append_right classes (class ∷ []) (length classes) rank [] refl past ∙ (let none : rank - length classes ≡ 0 = omega arith in ap (λ k. get_or (class ∷ []) k []) none) in
-      subst (ListsClass baskets (Count least) rank) (sym at) (subst (λ r. ListsClass baskets (Count least) r class) (sym same) last))
-]
 
 -- the classes of the ranks below one, and its own, have no more sets than are frequent
 module _ (all : ClassesAreAll) (listed : ClassesAreListed) (value : RankBaskets) (are : AreRankBaskets value) (least : ℕ) where
@@ -210,17 +200,11 @@ rare_by baskets least rank support is less = elim (cases_Bool (is_frequent baske
 ]
 
 -- a class of a frequent rank has a set
-pub class_some : (baskets : List Weighted) (least rank : ℕ) → ClassesAreListed → is_frequent baskets (Count least) (rank ∷ []) ≡ true → 1 ≤ length (class_of baskets (Count least) rank)
-class_some baskets least rank listed met = let one = (alone_is_one baskets least rank listed met).1 in let here = one.1 in omega arith
-
--- one set more in a class, with the list of the sets of other classes
-pub more_all : (names suffix : List ℕ) (old now new : List Counted) (classes : List (List Counted)) (class : List Counted) → now ≡ old ++ map (as_items names suffix) (flat_map (λ c. c) classes)
-    → new ≡ now ++ map (as_items names suffix) class → new ≡ old ++ map (as_items names suffix) (flat_map (λ c. c) (classes ++ class ∷ []))
-more_all names suffix old now new classes class before after =
-    let f = as_items names suffix in
-    let all = flat_map (λ (c : List Counted). c) classes in
-    after ∙ ap (λ l. l ++ map f class) before ∙ append_assoc old (map f all) (map f class) ∙ ap (λ l. old ++ l) (sym (map-append f all class))
-    ∙ ap (λ l. old ++ map f l) (ap (λ l. all ++ l) (sym (append-nil class)) ∙ sym (flat_map-append (λ c. c) classes (class ∷ [])))
+pub class_has_one : (baskets : List Weighted) (least rank : ℕ) → ClassesAreListed → 1 ≤ least → least ≤ support_of baskets (rank ∷ []) → 1 ≤ length (class_of baskets (Count least) rank)
+class_has_one baskets least rank listed some more =
+    let one = (alone_is_one baskets least rank listed (met_by baskets least rank (support_of baskets (rank ∷ [])) refl some more)).1 in
+    let here = one.1 in
+    omega arith
 
 -- ---- levels
 

@@ -10,10 +10,10 @@ mod StraightLemmas
 mod InnerLemmas
 mod TreesLemmas
 mod NameLemmas
-mod PairLemmas
 mod PathLemmas
 mod ChoiceLemmas
 mod WordLemmas
 mod LeafLemmas
-mod ShiftLemmas
+mod BitLemmas
 mod SuffixLemmas
+mod FoundLemmas

@@ -17,7 +17,6 @@ use Rattle.mine_classes.specs.declared.span.Span.{Span}
 use Rattle.mine_classes.specs.ListBaskets.{AreRankBaskets, IsRankBasket, RankBaskets, weight_where}
 use Rattle.mine_classes.specs.Runs.{AreRunsOf, below}
 use Rattle.mine_classes.specs.Span.{IsWithin, basket_at, baskets_at}
-use Rattle.mine_fp.specs.Level.{IsOrdered}
 use Rattle.mine_fp.specs.Trees.{is_branch}
 use Rattle.mine_fp.proofs.LevelLemmas.{range_rises, range_within}
 use Rattle.mine_fp.proofs.StraightLemmas.{AreHeavy, all_of, each_of, from_picked, into_picked}
@@ -94,9 +93,6 @@ pub full_from_branch : (baskets : List Weighted) → is_branch baskets ≡ true 
 full_from_branch baskets h rank place m here =
     each_of (λ r. contains place.basket (range_with_len 0 r)) place.basket
     (each_of (λ (p : Weighted). list_all (λ r. contains p.basket (range_with_len 0 r)) p.basket) baskets h place m) rank (Member-from_has place.basket rank here)
-
-pub run_ordered : (count : ℕ) (run : Span) → IsWithin count run → IsOrdered run
-run_ordered count run within = within.ordered
 
 length-part : (ranks : List ℕ) (run : Span) → IsWithin (length ranks) run → length (slice_range ranks run.start run.end) ≡ run.end - run.start
 length-part ranks run within =

@@ -1,5 +1,5 @@
 -- Where the set of a level stands among the sets that were found.
-use Rattle.std.proofs.Common.{◌≡◌, ◌<◌, ℕ, List, [], ◌∷◌, ◌++◌, Option, Some, None, length, map, refl, sym, ap, ◌∙◌, subst, arith}
+use Rattle.std.proofs.Common.{◌≡◌, ◌<◌, ℕ, List, [], ◌∷◌, ◌++◌, Option, Some, None, length, refl, sym, ap, ◌∙◌, subst, arith}
 use Rattle.std.proofs.lemmas.List.{length-append}
 use Rattle.std.proofs.lemmas.Option.{none-some, same_Some}
 use Rattle.basket_lists.proofs.theory.Places.{set_added, set_kept}
@@ -7,7 +7,7 @@ use Rattle.basket_sets.specs.declared.counted.Counted.{Counted}
 use Rattle.basket_sets.specs.Itemset.{IsRising}
 use Rattle.basket_sets.proofs.theory.Rising.{nil_rises}
 use Rattle.mine_fp.specs.declared.level.Level.{Level}
-use Rattle.mine_fp.specs.Level.{HasSuffix, as_items, items_of, set_from, suffix_of}
+use Rattle.mine_fp.specs.Level.{HasSuffix, set_from, suffix_of}
 
 -- it is the same where more are added
 pub suffix_same : (level : Level) (before more sets : List Counted) → HasSuffix level before → sets ≡ before ++ more → suffix_of level sets ≡ suffix_of level before
@@ -22,12 +22,6 @@ suffix_kept level before more sets has are = record {
   inside = λ place is. let here = has.inside place is in omega (arith, here, ap length are, length-append before more);
   rises = subst IsRising (sym (suffix_same level before more sets has are)) has.rises;
 }
-
--- sets that were added behind more of them get its items
-pub same_items : (level : Level) (before more sets new list : List Counted) → HasSuffix level before → sets ≡ before ++ more
-    → new ≡ sets ++ map (as_items (items_of level) (suffix_of level sets)) list → new ≡ sets ++ map (as_items (items_of level) (suffix_of level before)) list
-same_items level before more sets new list has are added =
-    added ∙ ap (λ suffix. sets ++ map (as_items (items_of level) suffix) list) (suffix_same level before more sets has are)
 
 -- the set that was added last is that of a level whose place is behind the others
 pub suffix_is : (inner : Level) (before sets : List Counted) (one : Counted) (place : ℕ) → place ≡ length before → sets ≡ before ++ one ∷ []

@@ -4,4 +4,3 @@ pub mod Tree
 pub mod Trees
 pub mod Words
 pub mod Paths
-pub mod Shift

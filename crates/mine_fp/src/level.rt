@@ -43,6 +43,7 @@ impl Level {
     /// The class of a rank, each set as items, added at the end of those found. Each set is told as
     /// soon as it is known to be frequent.
     #[cycle(growth)]
+    #[tactic(auto, using(crate::proofs::ClassLemmas::class_has_one))]
     pub fn class<T: Tally>(
         &self,
         alloc: Global,
@@ -93,13 +94,6 @@ impl Level {
             found.trees += 1;
             return Ok(());
         }
-        if pairs.len() == 1 {
-            // The class is the rank alone and the pair. Its tree is a single branch, of which nothing is made.
-            let (other, together) = pairs[0];
-            choose(alloc, place, self.item(other), together, found, tally)?;
-            found.trees += 1;
-            return Ok(());
-        }
         let places = &mut tables.places;
         let inner = self.below(alloc, rank, place, places, pairs, &mut found.trees)?;
         inner.classes(alloc, found, tally)
@@ -107,6 +101,7 @@ impl Level {
 
     /// The classes of all ranks, each set as items, added at the end of those found.
     #[cycle(growth)]
+    #[tactic(auto, using(crate::proofs::FoundLemmas::found_classes))]
     fn classes<T: Tally>(
         &self,
         alloc: Global,

@@ -8,7 +8,6 @@ mod found;
 pub mod laws;
 mod level;
 mod paths;
-mod shift;
 mod tree;
 mod words;
 pub mod worked;

@@ -1,24 +1,23 @@
-use Rattle.std.proofs.Common.{◌≡◌, ◌+◌, ◌++◌, ◌∷◌, [], List, get_or, cond, filter, length, map, refl, sym, ap, ◌∙◌, subst, inl, inr, arith, Err, vec_len}
-use Rattle.std.specs.List.{flat_map, range_with_len, sum_by}
+use Rattle.std.proofs.Common.{◌≡◌, ◌+◌, ◌∷◌, [], get_or, cond, filter, length, refl, sym, ap, ◌∙◌, subst, inl, inr, arith, Err, vec_len}
+use Rattle.std.specs.List.{range_with_len, sum_by}
 use Rattle.std.proofs.lemmas.Bool.{eqb-true}
-use Rattle.std.proofs.lemmas.List.{append-nil, length-append, length-map}
+use Rattle.std.proofs.lemmas.List.{append-nil, length-append}
 use Rattle.std.proofs.lemmas.Result.{err_from_is_err_and, on_ok_weaker}
 use Rattle.basket_ranks.specs.Depth.{HasSetOfSize}
 use Rattle.basket_sets.specs.declared.counted.Counted.{Counted}
 use Rattle.basket_sets.specs.declared.minimum.Minimum.TheVariants.{Count}
 use Rattle.basket_sets.specs.Frequent.{frequent_of}
 use Rattle.basket_sets.specs.Itemset.{with_item}
-use Rattle.basket_sets.proofs.theory.Frequent.{once_is_as_long}
 use Rattle.basket_sets.proofs.theory.Rising.{with_item-rises}
-use Rattle.mine_classes.specs.Classes.{ListsClass, class_of}
-use Rattle.mine_fp.specs.Level.{as_items, items_of, missing, suffix_of}
+use Rattle.mine_classes.specs.Classes.{class_of}
+use Rattle.mine_fp.specs.Level.{items_of, missing, suffix_of}
 use Rattle.mine_fp.specs.Trees.{has_tree, inner_trees, rank_trees}
-use Rattle.mine_fp.proofs.ClassLemmas.{alone_is_one, all_once, class_grown, class_long, class_some, classes_fit, deeper, frequent_of_size, inner_has_fewer, met_by, more_all, more_classes, rare_by}
+use Rattle.mine_fp.proofs.ClassLemmas.{alone_is_one, class_grown, class_long, deeper, frequent_of_size, inner_has_fewer, met_by, rare_by}
+use Rattle.mine_fp.proofs.FoundLemmas.{found_fit, found_long, found_more, found_suffix, no_classes}
 use Rattle.mine_fp.proofs.LeafLemmas.{leaf_grown, leaf_trees, nothing_in}
 use Rattle.mine_fp.proofs.NameLemmas.{inner_is_level}
-use Rattle.mine_fp.proofs.PairLemmas.{one_in, other_below, pair_grown, pair_long, pair_trees}
-use Rattle.mine_fp.proofs.SuffixLemmas.{same_items, suffix_added, suffix_is, suffix_kept}
-use Rattle.mine_fp.proofs.TreesLemmas.{class_trees_are, more_trees, ranked_plain, rare_trees, trees_of_ranks}
+use Rattle.mine_fp.proofs.SuffixLemmas.{suffix_added, suffix_is}
+use Rattle.mine_fp.proofs.TreesLemmas.{class_trees_are, more_trees, rare_trees, trees_of_ranks}
 use Rattle.mine_fp.proofs.level.Level.+growth.Goals as goal
 
 pub class-returns-then-support-self-clause-listed :
@@ -41,14 +40,6 @@ class-returns-then-support-self-clause-trees g t c =
     let none = rare_trees level.paths.baskets level.least c.args.rank c.classes_are_listed.ensures rare in
     omega arith
 
-pub class-returns-in_err-tell_rank-clause-at_most : goal.class-returns-in_err-tell_rank-clause-at_most
-class-returns-in_err-tell_rank-clause-at_most g t c =
-    let level = c.args.self.now in
-    let met = met_by level.paths.baskets level.least c.args.rank c.support-support.result c.support-support.ensures c.requires.level.some c.if-support-self.false in
-    let some = class_some level.paths.baskets level.least c.args.rank c.classes_are_listed.ensures met in
-    let most = c.in_err-tell_rank.ensures.at_most in
-    omega arith
-
 pub class-returns-then-self-ge-DEPTH-clause-too_many :
     goal.class-returns-then-self-ge-DEPTH-clause-too_many
 class-returns-then-self-ge-DEPTH-clause-too_many g t c = λ limit e.
@@ -57,23 +48,6 @@ class-returns-then-self-ge-DEPTH-clause-too_many g t c = λ limit e.
     let last : missing level ≡ 1 = omega (arith, c.if-self-ge-DEPTH.true, c.requires.level.short) in
     let told : c.limit.result ≡ limit = cc in
     (sym told ∙ c.limit.ensures ∙ c.in_ok-tell_rank.ensures.limit, inr (subst (HasSetOfSize (class_of level.paths.baskets (Count level.least) c.args.rank)) (sym last) (alone_is_one level.paths.baskets level.least c.args.rank c.classes_are_listed.ensures met)))
-
-pub class-returns-then-self-ge-DEPTH-clause-at_most :
-    goal.class-returns-then-self-ge-DEPTH-clause-at_most
-class-returns-then-self-ge-DEPTH-clause-at_most g t c =
-    let level = c.args.self.now in
-    let met = met_by level.paths.baskets level.least c.args.rank c.support-support.result c.support-support.ensures c.requires.level.some c.if-support-self.false in
-    let some = class_some level.paths.baskets level.least c.args.rank c.classes_are_listed.ensures met in
-    let most = c.in_ok-tell_rank.ensures.at_most in
-    omega arith
-
-pub class-returns-in_err-pairs-clause-at_most : goal.class-returns-in_err-pairs-clause-at_most
-class-returns-in_err-pairs-clause-at_most g t c =
-    let level = c.args.self.now in
-    let met = met_by level.paths.baskets level.least c.args.rank c.support-support.result c.support-support.ensures c.requires.level.some c.if-support-self.false in
-    let some = class_some level.paths.baskets level.least c.args.rank c.classes_are_listed.ensures met in
-    let most = c.in_ok-tell_rank.ensures.at_most in
-    omega arith
 
 pub class-returns-then-is_empty-clause-listed : goal.class-returns-then-is_empty-clause-listed
 class-returns-then-is_empty-clause-listed g t c =
@@ -90,68 +64,6 @@ class-returns-then-is_empty-clause-trees g t c =
     let met = met_by level.paths.baskets level.least c.args.rank c.support-support.result c.support-support.ensures c.requires.level.some c.if-support-self.false in
     let none = sym c.in_ok-pairs.ensures.pairs ∙ nothing_in c.in_ok-pairs.pairs.items (omega (arith, eqb-true (vec_len c.in_ok-pairs.pairs) 0 (sym c.if-is_empty.ensures), c.in_ok-pairs.pairs.ok.0)) in
     omega (arith, c.in_ok-tell_rank.ensures.trees, leaf_trees level.paths.baskets level.least c.args.rank none c.classes_are_conditional.ensures c.conditional_supports.ensures met c.classes_are_listed.ensures)
-
-pub class-returns-then-is_empty-clause-at_most : goal.class-returns-then-is_empty-clause-at_most
-class-returns-then-is_empty-clause-at_most g t c =
-    let level = c.args.self.now in
-    let met = met_by level.paths.baskets level.least c.args.rank c.support-support.result c.support-support.ensures c.requires.level.some c.if-support-self.false in
-    let some = class_some level.paths.baskets level.least c.args.rank c.classes_are_listed.ensures met in
-    let most = c.in_ok-tell_rank.ensures.at_most in
-    omega arith
-
-pub class-item-requires : goal.class-item-requires
-class-item-requires g t c =
-    let level = c.args.self.now in
-    let pair = c.index.result.now in
-    let met = met_by level.paths.baskets level.least c.args.rank c.support-support.result c.support-support.ensures c.requires.level.some c.if-support-self.false in
-    let one = sym c.in_ok-pairs.ensures.pairs ∙ one_in c.in_ok-pairs.pairs.items pair (omega (arith, c.if-len-eq1.true, c.in_ok-pairs.pairs.ok.0)) c.index.ensures in
-    let less = other_below level.paths.baskets level.least c.args.rank pair one c.classes_are_conditional.ensures c.conditional_supports.ensures met in
-    omega (arith, less, c.requires.rank, c.requires.level.names.long, level.names.ok.0)
-
-pub class-returns-in_err-choose-clause-at_most : goal.class-returns-in_err-choose-clause-at_most
-class-returns-in_err-choose-clause-at_most g t c =
-    let level = c.args.self.now in
-    let pair = c.index.result.now in
-    let met = met_by level.paths.baskets level.least c.args.rank c.support-support.result c.support-support.ensures c.requires.level.some c.if-support-self.false in
-    let one = sym c.in_ok-pairs.ensures.pairs ∙ one_in c.in_ok-pairs.pairs.items pair (omega (arith, c.if-len-eq1.true, c.in_ok-pairs.pairs.ok.0)) c.index.ensures in
-    let two = pair_long level.paths.baskets level.least c.args.rank pair one c.classes_are_conditional.ensures c.conditional_supports.ensures met c.lists_have_class_size.ensures in
-    omega (arith, two, c.in_err-choose.ensures.at_most, c.in_ok-tell_rank.ensures.told)
-
-pub class-returns-then-len-eq1-clause-listed : goal.class-returns-then-len-eq1-clause-listed
-class-returns-then-len-eq1-clause-listed g t c =
-    let level = c.args.self.now in
-    let pair = c.index.result.now in
-    let met = met_by level.paths.baskets level.least c.args.rank c.support-support.result c.support-support.ensures c.requires.level.some c.if-support-self.false in
-    let one = sym c.in_ok-pairs.ensures.pairs ∙ one_in c.in_ok-pairs.pairs.items pair (omega (arith, c.if-len-eq1.true, c.in_ok-pairs.pairs.ok.0)) c.index.ensures in
-    pair_grown level c.args.rank pair one c.classes_are_conditional.ensures c.conditional_supports.ensures met c.args.found.now.sets c.tell_rank.new.found.sets c.choose.new.found.sets
-    c.len-place.result c.support-support.result c.item.result c.requires.stands.rises c.support-support.ensures c.len-place.ensures c.in_ok-tell_rank.ensures.added
-    c.item.ensures c.in_ok-choose.ensures.added
-
-pub class-returns-then-len-eq1-clause-trees : goal.class-returns-then-len-eq1-clause-trees
-class-returns-then-len-eq1-clause-trees g t c =
-    let level = c.args.self.now in
-    let pair = c.index.result.now in
-    let met = met_by level.paths.baskets level.least c.args.rank c.support-support.result c.support-support.ensures c.requires.level.some c.if-support-self.false in
-    let one = sym c.in_ok-pairs.ensures.pairs ∙ one_in c.in_ok-pairs.pairs.items pair (omega (arith, c.if-len-eq1.true, c.in_ok-pairs.pairs.ok.0)) c.index.ensures in
-    let own = pair_trees level.paths.baskets level.least c.args.rank pair one c.classes_are_conditional.ensures c.conditional_supports.ensures met (ranked_plain level.paths c.requires.level.ranked) c.classes_are_listed.ensures in
-    omega (arith, own, c.in_ok-choose.ensures.trees, c.in_ok-tell_rank.ensures.trees)
-
-pub class-returns-then-len-eq1-clause-at_most : goal.class-returns-then-len-eq1-clause-at_most
-class-returns-then-len-eq1-clause-at_most g t c =
-    let level = c.args.self.now in
-    let pair = c.index.result.now in
-    let met = met_by level.paths.baskets level.least c.args.rank c.support-support.result c.support-support.ensures c.requires.level.some c.if-support-self.false in
-    let one = sym c.in_ok-pairs.ensures.pairs ∙ one_in c.in_ok-pairs.pairs.items pair (omega (arith, c.if-len-eq1.true, c.in_ok-pairs.pairs.ok.0)) c.index.ensures in
-    let two = pair_long level.paths.baskets level.least c.args.rank pair one c.classes_are_conditional.ensures c.conditional_supports.ensures met c.lists_have_class_size.ensures in
-    omega (arith, two, c.in_ok-choose.ensures.at_most, c.in_ok-tell_rank.ensures.told)
-
-pub class-returns-in_err-inner-clause-at_most : goal.class-returns-in_err-inner-clause-at_most
-class-returns-in_err-inner-clause-at_most g t c =
-    let level = c.args.self.now in
-    let met = met_by level.paths.baskets level.least c.args.rank c.support-support.result c.support-support.ensures c.requires.level.some c.if-support-self.false in
-    let some = class_some level.paths.baskets level.least c.args.rank c.classes_are_listed.ensures met in
-    let most = c.in_ok-tell_rank.ensures.at_most in
-    omega arith
 
 pub class-classes-requires : goal.class-classes-requires
 class-classes-requires g t c κs within =
@@ -228,32 +140,9 @@ class-returns-clause-at_most g t c =
     let most = c.classes.ensures.at_most in
     omega arith
 
-pub classes-returns-then-is_branch-clause-trees :
-    goal.classes-returns-then-is_branch-clause-trees
-classes-returns-then-is_branch-clause-trees g t c =
-    let level = c.args.self.now in
-    let none : inner_trees level.paths.baskets level.least ≡ 0 =
-    ap (λ b. cond b 0 (length (filter (λ (s : Counted). has_tree level.paths.baskets (Count level.least) s.set) (frequent_of level.paths.baskets (Count level.least))))) (sym c.is_branch.ensures ∙ c.if-is_branch.true) in
-    on_ok_weaker c.read_off.result (λ l. omega (arith, none, c.read_off.ensures.trees)) c.read_off.ensures.listed
-
-pub classes-returns-then-is_branch-clause-few :
-    goal.classes-returns-then-is_branch-clause-few
-classes-returns-then-is_branch-clause-few g t c =
-    let level = c.args.self.now in
-    let named = as_items (items_of level) (suffix_of level c.args.found.now.sets) in
-    on_ok_weaker c.read_off.result
-    (λ l. omega (
-      arith,
-      c.requires.few,
-      c.read_off.ensures.trees,
-      ap length l.added,
-      length-append c.args.found.now.sets (map named l.sets),
-    ))
-    c.read_off.ensures.listed
-
 pub classes-loop-rank-init : goal.classes-loop-rank-init
 classes-loop-rank-init g t c = record {
-  listed = ([], refl, λ rank below. absurd (omega arith), sym (append-nil c.args.found.now.sets));
+  listed = no_classes c.args.self.now c.args.found.now.sets;
   trees = omega arith;
   few = c.requires.few;
   sums = c.in_ok-tables.ensures.sums ∙ c.ranks.ensures;
@@ -278,31 +167,21 @@ classes-returns-in_err-class-clause-too_many g t c = λ limit e.
 
 pub classes-returns-in_err-class-clause-at_most : goal.classes-returns-in_err-class-clause-at_most
 classes-returns-in_err-class-clause-at_most g t c =
-    let level = c.args.self.now in
     let so_far = c.loop-rank.invariant in
-    let classes = so_far.listed.0 in
-    let old = c.args.found.now.sets in
-    let all = flat_map (λ (class : List Counted). class) classes in
-    let named = as_items (items_of level) (suffix_of level c.args.found.now.sets) in
-    let fit = classes_fit c.classes_are_all.ensures c.classes_are_listed.ensures level.paths c.requires.level.ranked level.least classes c.loop-rank.rank so_far.listed.1
-    (omega (arith, c.loop-rank-test.true, c.ranks-rank-end.ensures)) so_far.listed.2 in
-    let long = ap length so_far.listed.3 ∙ length-append old (map named all) in
-    let most = c.in_err-class.ensures.at_most in
-    omega (arith, so_far.told, fit, long, length-map all named)
+    let fit = found_fit c.args.self.now c.loop-rank.rank c.args.found.now.sets c.loop-rank.found.sets so_far.listed c.classes_are_all.ensures c.classes_are_listed.ensures c.requires.level
+    (omega (arith, c.loop-rank-test.true, c.ranks-rank-end.ensures)) in
+    omega (arith, so_far.told, c.in_err-class.ensures.at_most)
 
 pub classes-class-requires : goal.classes-class-requires
 classes-class-requires g t c κs within =
-    let level = c.args.self.now in
-    let so_far = c.loop-rank.invariant in
-    let classes = so_far.listed.0 in
-    let more = map (as_items (items_of level) (suffix_of level c.args.found.now.sets)) (flat_map (λ (class : List Counted). class) classes) in (
+    let so_far = c.loop-rank.invariant in (
       omega (arith, c.decreases, c.loop-rank-test.true, c.ranks-rank-end.ensures),
       (
         within,
         (
           c.requires.level,
           (
-            suffix_kept level c.args.found.now.sets more c.loop-rank.found.sets c.requires.stands so_far.listed.3,
+            found_suffix c.args.self.now c.loop-rank.rank c.args.found.now.sets c.loop-rank.found.sets so_far.listed c.requires.stands,
             (omega (arith, c.loop-rank-test.true, c.ranks-rank-end.ensures), (so_far.sums, (so_far.places, (so_far.few, so_far.going_on)))),
           ),
         ),
@@ -313,18 +192,9 @@ pub classes-loop-rank-preserved : goal.classes-loop-rank-preserved
 classes-loop-rank-preserved g t c =
     let level = c.args.self.now in
     let so_far = c.loop-rank.invariant in
-    let classes = so_far.listed.0 in
     let now = c.in_ok-class.ensures in
-    let next = now.listed in
-    let more = map (as_items (items_of level) (suffix_of level c.args.found.now.sets)) (flat_map (λ (class : List Counted). class) classes) in
     record {
-      listed = (
-        classes ++ next.sets ∷ [],
-        length-append classes (next.sets ∷ []) ∙ ap (λ n. n + 1) so_far.listed.1,
-        more_classes level.paths.baskets level.least classes next.sets so_far.listed.2 (subst (λ rank. ListsClass level.paths.baskets (Count level.least) rank next.sets) (sym so_far.listed.1) next.listed),
-        more_all (items_of level) (suffix_of level c.args.found.now.sets) c.args.found.now.sets c.loop-rank.found.sets c.class.new.found.sets classes next.sets so_far.listed.3
-            (same_items level c.args.found.now.sets more c.loop-rank.found.sets c.class.new.found.sets next.sets c.requires.stands so_far.listed.3 next.added),
-      );
+      listed = found_more level c.loop-rank.rank c.args.found.now.sets c.loop-rank.found.sets so_far.listed c.class.new.found.sets c.requires.stands now.listed;
       trees = omega (arith, now.trees, so_far.trees, more_trees level.paths.baskets level.least c.loop-rank.rank);
       few = now.few;
       sums = now.sums;
@@ -334,30 +204,11 @@ classes-loop-rank-preserved g t c =
       limit = now.limit ∙ so_far.limit;
     }
 
-pub classes-returns-clause-listed : goal.classes-returns-clause-listed
-classes-returns-clause-listed g t c =
-    let level = c.args.self.now in
-    let so_far = c.loop-rank.invariant in
-    let classes = so_far.listed.0 in
-    let last : length classes ≡ level.paths.ranks = omega (arith, so_far.listed.1, c.loop-rank-test.false, c.ranks-rank-end.ensures, c.loop-rank.auto.rank-end) in
-    record {
-      sets = flat_map (λ (class : List Counted). class) classes;
-      listed = all_once c.classes_are_all.ensures c.classes_are_listed.ensures level.paths c.requires.level.ranked level.least classes last so_far.listed.2;
-      added = so_far.listed.3;
-    }
-
 pub classes-returns-clause-at_most : goal.classes-returns-clause-at_most
 classes-returns-clause-at_most g t c =
-    let level = c.args.self.now in
-    let so_far = c.loop-rank.invariant in
-    let classes = so_far.listed.0 in
-    let all = flat_map (λ (class : List Counted). class) classes in
-    let named = as_items (items_of level) (suffix_of level c.args.found.now.sets) in
-    let last : length classes ≡ level.paths.ranks = omega (arith, so_far.listed.1, c.loop-rank-test.false, c.ranks-rank-end.ensures, c.loop-rank.auto.rank-end) in
-    let once = all_once c.classes_are_all.ensures c.classes_are_listed.ensures level.paths c.requires.level.ranked level.least classes last so_far.listed.2 in
-    let size = once_is_as_long level.paths.baskets (Count level.least) all once in
-    let long = ap length so_far.listed.3 ∙ length-append c.args.found.now.sets (map named all) in
-    omega (arith, so_far.told, size, long, length-map all named)
+    let last : c.loop-rank.rank ≡ c.args.self.now.paths.ranks = omega (arith, c.loop-rank-test.false, c.ranks-rank-end.ensures, c.loop-rank.auto.rank-end) in
+    let long = found_long c.args.self.now c.loop-rank.rank c.args.found.now.sets c.loop-rank.found.sets c.loop-rank.invariant.listed c.classes_are_all.ensures c.classes_are_listed.ensures c.requires.level last in
+    omega (arith, c.loop-rank.invariant.told)
 
 pub classes-returns-clause-trees : goal.classes-returns-clause-trees
 classes-returns-clause-trees g t c =

@@ -1,10 +1,7 @@
-use Rattle.std.proofs.Common.{◌≡◌, ◌≤◌, ◌+◌, ◌*◌, ◌++◌, List, false, length, map}
-use Rattle.std.specs.List.{flat_map, range_with_len, sum_by}
-use Rattle.basket_sets.specs.declared.counted.Counted.{Counted}
-use Rattle.basket_sets.specs.declared.minimum.Minimum.TheVariants.{Count}
-use Rattle.mine_classes.specs.Classes.{ListClasses}
-use Rattle.mine_fp.specs.Level.{as_items, items_of, suffix_of}
+use Rattle.std.proofs.Common.{◌≡◌, ◌≤◌, ◌+◌, ◌*◌, false, length}
+use Rattle.std.specs.List.{range_with_len, sum_by}
 use Rattle.mine_fp.specs.Trees.{rank_trees}
+use Rattle.mine_fp.proofs.FoundLemmas.{HasClasses}
 use Rattle.mine_fp.proofs.level.Level.+growth.Given as goal
 
 abbrev pub decreases-class : goal.decreases-class
@@ -15,8 +12,7 @@ decreases-classes g l = 2 * l.self.now.paths.ranks
 
 abbrev pub invariant-classes-loop-rank : goal.invariant-classes-loop-rank
 invariant-classes-loop-rank g l = record {
-  listed : (classes : List (List Counted)) × (length classes ≡ l.rank) × ListClasses l.self.paths.baskets (Count l.self.least) classes
-      × (l.found.sets ≡ l.fn.found.sets ++ map (as_items (items_of l.self) (suffix_of l.self l.fn.found.sets)) (flat_map (λ class. class) classes));
+  listed : HasClasses l.self l.rank l.fn.found.sets l.found.sets;
   trees : l.found.trees ≡ l.fn.found.trees + sum_by (rank_trees l.self.paths.baskets l.self.least) (range_with_len 0 l.rank);
   few : l.found.trees ≤ length l.found.sets;
   sums : l.tables.sums ≡ l.self.paths.ranks;
