@@ -1,7 +1,6 @@
 mod NamesLemmas
 mod KeyLemmas
 mod RecentLemmas
-mod IdLemmas
 mod FieldLemmas
 mod RecordLemmas
 mod GatheredLemmas

@@ -29,7 +29,7 @@ place_of_map f p (x ∷ xs) = ap (λ n. cond (not (p (f x))) (1 + n) 0) (place_o
 
 -- ---- a name that was looked up
 
-pub any_at : {X : Type 0} (p : X → Bool) (xs : List X) → position_or_len p xs < length xs → list_any p xs ≡ true
+any_at : {X : Type 0} (p : X → Bool) (xs : List X) → position_or_len p xs < length xs → list_any p xs ≡ true
 any_at p [] h = absurd (omega arith)
 any_at p (x ∷ xs) h = at (p x) (any_at p xs) h
   where
@@ -37,7 +37,7 @@ any_at p (x ∷ xs) h = at (p x) (any_at p xs) h
     at true later h = refl
     at false later h = later (omega arith)
 
-pub at_any : {X : Type 0} (p : X → Bool) (xs : List X) → list_any p xs ≡ true → position_or_len p xs < length xs
+at_any : {X : Type 0} (p : X → Bool) (xs : List X) → list_any p xs ≡ true → position_or_len p xs < length xs
 at_any p [] e = absurd cc
 at_any p (x ∷ xs) e = at (p x) (at_any p xs) e
   where

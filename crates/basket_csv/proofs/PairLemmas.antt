@@ -16,7 +16,6 @@ use Rattle.basket_csv.specs.Read.{Answers}
 use Rattle.basket_csv.specs.declared.pairs.Pairs.{Pairs}
 use Rattle.basket_csv.specs.Csv.{Named, field_in, is_text, pair_fault, pair_of, pairs_of, with_names, with_pair, gather, names_of_pairs}
 use Rattle.basket_csv.specs.Field.{trimmed}
-use Rattle.basket_csv.specs.Ids.{HasIds}
 use Rattle.basket_csv.specs.Names.{with_name, in_order, number_in}
 use Rattle.basket_csv.specs.Row.{IsKnownPair}
 use Rattle.basket_csv.specs.Pairs.{HasPairs, added_at, numbers_of, groups_are_among}
@@ -113,7 +112,7 @@ names_more known pairs pair =
 
 pub paired : {S H : Type 0} (old new : Pairs S H) (known : List (List ℕ)) (pairs : List (List ℕ × List ℕ)) (id name : List ℕ) (number place : ℕ)
     → new.names ≡ with_name old.names name → number ≡ number_in new.names name
-    → ((ids : List (List ℕ)) → HasIds old.ids ids → HasIds new.ids (with_name ids id)) → ((ids : List (List ℕ)) → HasIds old.ids ids → place ≡ number_in (with_name ids id) id)
+    → new.ids ≡ with_name old.ids id → place ≡ number_in new.ids id
     → map (λ group. group.items) new.groups.items ≡ added_at (map (λ group. group.items) old.groups.items) place number
     → HasPairs old known pairs → HasPairs new known (pairs ++ (id, name) ∷ [])
 paired old new known pairs id name number place a b c d e h =
@@ -122,12 +121,13 @@ paired old new known pairs id name number place a b c d e h =
     let all = gather_more pairs (id, name) in
     let names = names_more known pairs (id, name) in
     let ids = map (λ g. g.0) (gather pairs) in
-    let at_place : place ≡ number_in ids id = d ids h.ids ∙ number_stays ids id in
+    let ids_after : new.ids ≡ with_name ids id = c ∙ ap (λ is. with_name is id) h.ids in
+    let at_place : place ≡ number_in ids id = d ∙ ap (λ is. number_in is id) ids_after ∙ number_stays ids id in
     let its_number : number ≡ number_in (with_name before name) name = b ∙ ap (λ ns. number_in ns name) after in
     let stay : map (λ group. group.items) old.groups.items ≡ numbers_of (with_name before name) (gather pairs) = h.groups ∙ sym (groups_stay before name (gather pairs) h.among) in
     record {
       names = after ∙ sym names;
-      ids = subst (HasIds new.ids) (ids_more (gather pairs) id name ∙ ap (map (λ g. g.0)) (sym all)) (c ids h.ids);
+      ids = ids_after ∙ ids_more (gather pairs) id name ∙ ap (map (λ g. g.0)) (sym all);
       groups = e ∙ ap (λ gs. added_at gs place number) stay ∙ ap (λ p. added_at (numbers_of (with_name before name) (gather pairs)) p number) at_place
           ∙ ap (added_at (numbers_of (with_name before name) (gather pairs)) (number_in ids id)) its_number
           ∙ groups_more (with_name before name) (gather pairs) id name ∙ ap (λ gs. numbers_of (with_name before name) gs) (sym all) ∙ ap (λ ns. numbers_of ns (gather (pairs ++ (id, name) ∷ []))) (sym names);
@@ -151,17 +151,17 @@ pair_added new known rows row id name r a b some h =
 -- a record of a known id and a known name, whose numbers were added
 pub known_paired : {S H : Type 0} (old new : Pairs S H) (known : List (List ℕ)) (rows : List (List (List ℕ))) (row : List (List ℕ)) (place number : ℕ)
     → new.names ≡ old.names → new.ids ≡ old.ids → map (λ group. group.items) new.groups.items ≡ added_at (map (λ group. group.items) old.groups.items) place number
-    → ((ids : List (List ℕ)) → HasIds old.ids ids → IsKnownPair ids old.names row place number) → HasPairs old known (pairs_of rows) → HasPairs new known (pairs_of (rows ++ row ∷ []))
+    → IsKnownPair old.ids old.names row place number → HasPairs old known (pairs_of rows) → HasPairs new known (pairs_of (rows ++ row ∷ []))
 known_paired old new known rows row place number names same groups pair h =
-    let found = pair (map (λ g. g.0) (gather (pairs_of rows))) h.ids in
-    let name = found.name in
+    let id = pair.id in
+    let id_is = sym id.trimmed in
+    let name = pair.name in
     let name_is = sym name.trimmed in
     let all = pairs_more rows row (known_some old.names (field_in row 1) number name) in
     subst (HasPairs new known) (sym all)
     (paired old new known (pairs_of rows) (trimmed (field_in row 0)) (trimmed (field_in row 1)) number place
     (names ∙ name.known.stay ∙ ap (with_name old.names) name_is) (name.known.place ∙ ap (λ ns. number_in ns (field_in row 1)) (sym names) ∙ ap (number_in new.names) name_is)
-    (λ ids has. let id = (pair ids has).id in subst (HasIds new.ids) (id.known.stay ∙ ap (with_name ids) (sym id.trimmed)) (subst (λ i. HasIds i ids) (sym same) has))
-    (λ ids has. let id = (pair ids has).id in id.known.place ∙ ap (λ is. number_in is (field_in row 0)) id.known.stay ∙ ap (λ i. number_in (with_name ids i) i) (sym id.trimmed))
+    (same ∙ id.known.stay ∙ ap (with_name old.ids) id_is) (id.known.place ∙ ap (λ is. number_in is (field_in row 0)) (sym same) ∙ ap (number_in new.ids) id_is)
     groups h)
 
 -- ---- the baskets of the groups

@@ -15,7 +15,7 @@ numbered_known old new name number text more is =
     record { text = is_utf8-from_IsUtf8 name text; stay = sym (known_name new name known); place = is }
 
 -- a known name stays so, with its number
-pub known_more : (names : List (List ℕ)) (other name : List ℕ) (number : ℕ) → IsKnown names name number → IsKnown (with_name names other) name number
+known_more : (names : List (List ℕ)) (other name : List ℕ) (number : ℕ) → IsKnown names name number → IsKnown (with_name names other) name number
 known_more names other name number h =
     let known : among names name ≡ true = ap (λ all. among all name) h.stay ∙ among_with names name in
     record {

@@ -6,7 +6,6 @@ pub mod Records
 pub mod Csv
 pub mod Row
 pub mod Input
-pub mod Ids
 pub mod Gathered
 pub mod Collector
 pub mod Baskets

@@ -4,7 +4,6 @@ use Rattle.std.specs.List.{list_all, list_any}
 use Rattle.std.specs.Str.{bytes_eq}
 use Rattle.basket_csv.specs.declared.pairs.Pairs.{Pairs}
 use Rattle.basket_csv.specs.Csv.{gather, names_of_pairs}
-use Rattle.basket_csv.specs.Ids.{HasIds}
 use Rattle.basket_csv.specs.Names.{number_in}
 
 -- lists of numbers with one number more, in the list at a place or in a new one behind all
@@ -24,6 +23,6 @@ groups_are_among names groups = list_all (λ group. list_all (λ name. list_any 
 -- the names, the ids and the numbers are those of these pairs, where some names are known
 pub record HasPairs {S H : Type 0} (read : Pairs S H) (known : List (List ℕ)) (pairs : List (List ℕ × List ℕ)) : Type 0 where
   pub names : read.names ≡ names_of_pairs known pairs
-  pub ids : HasIds read.ids (map (λ group. group.0) (gather pairs))
+  pub ids : read.ids ≡ map (λ group. group.0) (gather pairs)
   pub groups : map (λ group. group.items) read.groups.items ≡ numbers_of (names_of_pairs known pairs) (gather pairs)
   pub among : groups_are_among (names_of_pairs known pairs) (gather pairs) ≡ true

@@ -1,7 +1,6 @@
 -- The numbers of names that were found of late.
-use Rattle.std.specs.Prelude.{◌≡◌, ◌≤◌, ℕ, true, List}
+use Rattle.std.specs.Prelude.{◌≤◌, ℕ, List}
 use Rattle.std.specs.List.{All}
-use Rattle.std.specs.Str.{is_utf8}
 use Rattle.basket_csv.specs.declared.key.Key.{Key}
 use Rattle.basket_csv.specs.declared.key.TheConstants.{WHOLE}
 use Rattle.basket_csv.specs.declared.recent.Recent.{Recent}
@@ -16,14 +15,6 @@ IsNumberAt names key number = key.len ≤ WHOLE → IsKnown names (name_with key
 -- so is the name in a slot, if it has one
 abbrev pub HasKnown : List (List ℕ) → Slot → Type 0
 HasKnown names slot = slot.len ≤ WHOLE → IsKnown names (name_with slot.len slot.front slot.back) slot.number
-
--- the name that a key has, if it has it whole
-abbrev pub name_in : Key → List ℕ
-name_in key = name_with key.len key.front key.back
-
--- the name in a slot, if it has one, is UTF-8
-abbrev pub HasText : Slot → Type 0
-HasText slot = slot.len ≤ WHOLE → is_utf8 (name_with slot.len slot.front slot.back) ≡ true
 
 -- the names that are kept are among the names, with their numbers
 abbrev pub KeepsKnown : List (List ℕ) → Recent → Type 0

@@ -89,13 +89,6 @@ impl<S: BuildHasher> Numbering<S> {
         }
     }
 
-    /// The number of names.
-    pub fn len(&self) -> usize
-        ensures { result ≡ length self.now }
-    {
-        self.names.len()
-    }
-
     /// The number of a name, which is new or known. A known name costs a look-up and no allocation.
     #[inline]
     pub fn number(&mut self, name: &str) -> Result<u32, ReadFault>

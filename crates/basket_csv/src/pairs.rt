@@ -5,7 +5,6 @@ ghost use Rattle.csv.specs.Records.{fields_of};
 ghost use Rattle.basket_read.specs.Fimi.{basket_of_numbers, if_light, MOST_BYTES};
 ghost use Rattle.basket_csv.specs.Csv.{pair_fault, pairs_of, baskets_of_pairs, names_of_pairs, with_names, say_pairs, behind_header, first_number};
 ghost use Rattle.basket_csv.specs.Gathered.{HasGathered};
-ghost use Rattle.basket_csv.specs.Ids.{HasIds};
 ghost use Rattle.basket_csv.specs.Read.{Answers};
 ghost use Rattle.basket_csv.specs.Records.{records_of};
 ghost use Rattle.basket_csv.specs.Row.{IsKnownPair};
@@ -100,7 +99,7 @@ impl<S: BuildHasher> Pairs<S> {
     #[inline]
     fn known_pair(&self, row: &ByteRecord) -> Option<(u32, u32)>
         ensures fault { (nth : ℕ) → IfSome result (λ _. pair_fault nth (fields_of row.now) ≡ None) }
-        ensures known { (ids : List (List ℕ)) → HasIds self.now.ids ids → IfSome result (λ pair. IsKnownPair ids self.now.names (fields_of row.now) pair.0 pair.1) }
+        ensures known { IfSome result (λ pair. IsKnownPair self.now.ids self.now.names (fields_of row.now) pair.0 pair.1) }
     {
         let id = row.get(0)?;
         if row.len() != 2 || !is_name(id) {

@@ -14,9 +14,6 @@ use std::marker::Model;
 /// How many items are known at most, each with a bit of its own.
 pub const MOST_ITEMS: usize = 120;
 
-/// How many places are kept, each by the low bits of its item.
-const PLACES: usize = 256;
-
 /// Up to 120 items in rising order. None are known where there are more, or where a word has too few
 /// bits beside theirs for the counts.
 #[derive(Debug, Drop)]
@@ -24,8 +21,6 @@ pub struct KnownItems {
     items: Vec<u32>,
     /// The highest bits of a word, one for each item. Those below are the count.
     mask: u128,
-    /// Where an item may stand, by its low bits. Nothing is claimed of it: whoever asks looks there.
-    places: [u8; PLACES],
 }
 
 impl Model for KnownItems {
@@ -49,17 +44,6 @@ fn mask_of(items: &[u32]) -> u128
     !(u128::MAX >> items.len() as u32)
 }
 
-/// The place of each item by its low bits, or that of the last with these bits.
-fn places_of(items: &[u32]) -> [u8; PLACES]
-    requires { length items.now ≤ MOST_ITEMS }
-{
-    let mut places = [0u8; PLACES];
-    for (place, item) in items.iter().enumerate() {
-        places[*item as usize % PLACES] = place as u8;
-    }
-    places
-}
-
 /// Whether a count fits below the bits of the items.
 fn has_room(mask: u128, count: u64) -> bool
     ensures { IsTrue result → count + mask < 2 ^ 128 }
@@ -75,7 +59,6 @@ impl KnownItems {
         KnownItems {
             items: Vec::new(alloc),
             mask: 0,
-            places: [0u8; PLACES],
         }
     }
 
@@ -91,12 +74,7 @@ impl KnownItems {
         if !is_rising(&items) || !has_room(mask, most) {
             return Ok(KnownItems::none(alloc));
         }
-        let places = places_of(&items);
-        Ok(KnownItems {
-            items,
-            mask,
-            places,
-        })
+        Ok(KnownItems { items, mask })
     }
 
     /// The greatest item, or 0.
@@ -172,10 +150,6 @@ impl KnownItems {
         ensures within { IfSome result (λ place. place < length self.now) }
         ensures is { IfSome result (λ place. slice_index_or self.now place 0 ≡ item) }
     {
-        let near = usize::from(self.places[item as usize % PLACES]);
-        if near < self.items.len() && self.items[near] == item {
-            return Some(near);
-        }
         self.items.binary_search(&item).ok()
     }
 

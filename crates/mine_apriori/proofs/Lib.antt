@@ -7,7 +7,6 @@ mod LookUpLemmas
 mod SearchLemmas
 mod PassingLemmas
 mod RunLemmas
-mod DenseLemmas
 mod NodeLemmas
 mod BuildLemmas
 mod ContainLemmas

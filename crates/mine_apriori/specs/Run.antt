@@ -1,12 +1,8 @@
-use Rattle.std.specs.Prelude.{◌≡◌, ◌<◌, ◌≤◌, ℕ, ◌+◌, ◌-◌, Bool, List, length, slice_index, if◌then◌else◌}
+use Rattle.std.specs.Prelude.{◌≡◌, ◌<◌, ◌≤◌, ℕ, ◌+◌, Bool, List, length, slice_index, if◌then◌else◌}
 
 -- the items from a place of a list up to another strictly rise
 abbrev pub RisesWithin : List ℕ → ℕ → ℕ → Type 0
 RisesWithin items low high = (i j : ℕ) → low ≤ i → i < j → j < high → slice_index items i < slice_index items j
-
--- the items from a place of a list up to another have no gaps
-abbrev pub IsDenseWithin : List ℕ → ℕ → ℕ → Type 0
-IsDenseWithin items low high = (k : ℕ) → low ≤ k → k < high → slice_index items k ≡ slice_index items low + (k - low)
 
 -- the counts at the places within the bounds that pass the test have some more weight, and the others are as before
 pub record AddsWithin (test : ℕ → Bool) (weight low high : ℕ) (old new : List ℕ) : Type 0 where

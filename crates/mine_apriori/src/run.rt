@@ -2,7 +2,7 @@
 ghost use Rattle.std.specs.Prelude.{◌≡◌, ◌<◌, ◌≤◌, ◌+◌, ◌-◌, ◌^◌, ℕ, IsTrue, MatchResult, length, slice_index};
 ghost use Rattle.std.specs.List.{AllWithin};
 ghost use Rattle.basket_sets.specs.Itemset.{IsRising, has};
-ghost use Rattle.mine_apriori.specs.Run.{CountsBelow, IsDenseWithin, IsMissingAt, RisesWithin, AddsWithin};
+ghost use Rattle.mine_apriori.specs.Run.{CountsBelow, IsMissingAt, RisesWithin, AddsWithin};
 ghost use Rattle.mine_apriori.specs.Used.{Tells, is_marked};
 
 use crate::hints::{Hints, Table};
@@ -120,8 +120,6 @@ pub fn count_leaves(
 {
     if end - start <= marked_at_most(items.len()) && are_known(leaves, start, end, marks) {
         count_marked(leaves, start, end, marks, weight, counts);
-    } else if is_dense(leaves, start, end) {
-        count_dense(leaves[start], start, end, items, weight, counts);
     } else {
         let table = hints.table(depth, leaves, start, end);
         count_sparse(leaves, start, end, table, items, weight, counts);
@@ -160,32 +158,7 @@ fn count_marked(
     }
 }
 
-/// Whether a run has an item and no gaps.
-fn is_dense(leaves: &[u32], start: usize, end: usize) -> bool
-    requires within { end ≤ length leaves.now }
-    requires run { RisesWithin leaves.now start end }
-    ensures some { IsTrue result → start < end }
-    ensures dense { IsTrue result → IsDenseWithin leaves.now start end }
-{
-    start < end && leaves[start] as usize + (end - 1 - start) == leaves[end - 1] as usize
-}
-
-/// The same for a run with no gaps: the place of an item is as far behind the start as the item is
-/// greater than the first, so that no leaf has to be read.
-fn count_dense(first: u32, start: usize, end: usize, items: &[u32], weight: u64, counts: &mut [u64])
-    requires within { end ≤ length counts.old }
-    requires rising { IsRising items.now }
-    requires fits { AllWithin (λ count. count + weight < 2 ^ 64) counts.old start end }
-    ensures { AddsWithin (λ leaf. has items.now (first + (leaf - start))) weight start end counts.old counts.new }
-{
-    for item in items {
-        if *item >= first && ((*item - first) as usize) < end.saturating_sub(start) {
-            counts[start + (*item - first) as usize] += weight;
-        }
-    }
-}
-
-/// The same for any run.
+/// The same by looking the items up in the run, each behind the one before.
 fn count_sparse(
     leaves: &[u32],
     start: usize,

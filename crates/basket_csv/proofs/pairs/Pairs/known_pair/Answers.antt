@@ -13,12 +13,12 @@ returns-clause-fault g c = λ nth.
     no_fault nth fields (sym c.len.ensures ∙ c.if-len-ne2.false) (ap is_utf8 id ∙ c.in_ok-place.ensures.text) c.in_ok-number.ensures.known.text
 
 pub returns-clause-known : goal.returns-clause-known
-returns-clause-known g c = λ ids h.
+returns-clause-known g c =
     let fields = fields_of c.args.row.now in
     let id = field_found fields 0 c.in_ok-id.id.now c.in_ok-id.ensures.value in
     record {
       two = sym c.len.ensures ∙ c.if-len-ne2.false;
-      id = subst (λ field. IsKnownField ids field c.in_ok-place.place) (sym id)
-          (record { known = c.in_ok-place.ensures.known ids h; trimmed = c.if-not-is_name.ensures.trimmed refl; some = c.if-not-is_name.ensures.some refl });
+      id = subst (λ field. IsKnownField c.args.self.now.ids field c.in_ok-place.place) (sym id)
+          (record { known = c.in_ok-place.ensures; trimmed = c.if-not-is_name.ensures.trimmed refl; some = c.if-not-is_name.ensures.some refl });
       name = c.in_ok-number.ensures;
     }
