@@ -2,7 +2,7 @@ use Rattle.std.proofs.Common.{ℕ, ◌≤◌, ◌+◌, length, map, take, sym, s
 use Rattle.std.specs.Prelude.{All}
 use Rattle.std.specs.List.{flat_map, sum_by}
 use Rattle.std.proofs.lemmas.List.{length-map, take_all}
-use Rattle.std.proofs.lemmas.List.Sums.{sum_by_more}
+use Rattle.std.proofs.lemmas.List.Sums.{sum_by_more, sum_by_more_le}
 use Rattle.basket_ranks.specs.Codes.{decoded_place}
 use Rattle.basket_sets.specs.Itemset.{has}
 use Rattle.mine_classes.specs.declared.words.Word.{Word}
@@ -12,6 +12,11 @@ use Rattle.mine_classes.specs.Words.{word_places}
 use Rattle.mine_fp.proofs.WordLemmas.{below_with, below_without, none}
 use Rattle.mine_fp.proofs.words.words_below.Goals as goal
 use Rattle.mine_fp.proofs.words.words_below.Goals.{then-has+in_ok-add, else-has}
+
+pub add-requires-clause-light : goal.add-requires-clause-light
+add-requires-clause-light c =
+    let fits = sum_by_more_le (λ (word : Word). word.weight) c.args.words.now c.loop-word.word-index none c.loop-word-test.true in
+    omega (arith, fits, c.loop-word.invariant.light, c.requires.light)
 
 pub loop-word-preserved : goal.loop-word-preserved
 loop-word-preserved c =
