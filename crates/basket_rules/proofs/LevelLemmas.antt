@@ -18,12 +18,11 @@ use Rattle.basket_rules.specs.declared.rights.Right.{Right}
 use Rattle.basket_rules.specs.declared.rights.TheConstants.{MOST_PLACES}
 use Rattle.basket_rules.specs.Consistency.{IsConsistent}
 use Rattle.basket_rules.specs.Listed.{set_at}
-use Rattle.basket_rules.specs.Rights.{chosen, has_parts, has_place, longer, next_sides, no_places, side_of, with_place, words_of}
+use Rattle.basket_rules.specs.Rights.{has_place, longer, no_places, side_of, with_place}
 use Rattle.basket_rules.specs.Rules.{is_confident_among, rule_among, rules_among_with, rules_among, right_sides_of, IsRightSide, IsRuleFor, KeepsConfident}
 use Rattle.basket_rules.proofs.SearchLemmas.{none, set_is}
 use Rattle.basket_rules.proofs.SubsetLemmas.{filter_same}
 use Rattle.basket_rules.proofs.RuleLemmas.{is_met, met_falls}
-use Rattle.basket_rules.proofs.PartLemmas.{left_out, parts_pass}
 use Rattle.basket_rules.proofs.RightLemmas.{sides_of, sides_are_subsets, all_longer, chosen_rises, first_longer, kept_longer, fewer_longer, side_grows}
 use Rattle.basket_rules.proofs.SizeLemmas.{joined, right_sides_are}
 use Rattle.basket_rules.proofs.theory.Consistency.{set_nonempty}
@@ -159,8 +158,8 @@ module _ (listing : Listing) (confidence : ℕ × ℕ) (number size : ℕ) (belo
         k.1,
       )
 
-  more_level : IsLevel listing confidence (set_at listing.sets number) (size + 1) (longer (length (set_at listing.sets number)) met) more
-  more_level =
+  pub next_level : IsLevel listing confidence (set_at listing.sets number) (size + 1) (longer (length (set_at listing.sets number)) met) more
+  next_level =
       let set = set_at listing.sets number in
       let sides = sides_of size 0 set in
       let made = rule_among listing set in
@@ -178,24 +177,6 @@ module _ (listing : Listing) (confidence : ℕ × ℕ) (number size : ℕ) (belo
     where
       less_one : (n : ℕ) → n ≡ n + 1 - 1
       less_one n = omega arith
-
-  -- the same of those that are tried
-  pub next_level : (every : Bool) → IsLevel listing confidence (set_at listing.sets number) (size + 1) (next_sides every (length (set_at listing.sets number)) met) more
-  next_level true = more_level
-  next_level false =
-      let set = set_at listing.sets number in
-      let has_kept : Right → Bool = λ right. has_parts (words_of met) right.places (length set) in
-      let falls : (right part : Right) (i : ℕ) → bit_or part.places (2 ^ i) ≡ right.places → test right ≡ true → test part ≡ true = λ right part i e h.
-      sides_fall i part (ap (λ w. is_met listing confidence set (chosen (has_place w) set)) e ∙ h) in
-      let longer_sides = longer (length set) met in
-      record {
-        within = λ right m. more_level.within right (Member-filter has_kept right longer_sides m).0;
-        all = left_out test has_kept longer_sides
-            (λ right m h. ap (λ n. has_parts (words_of n) right.places (length set)) kept.0
-            ∙ parts_pass test falls size (length set) set few right (subst (λ n. Member right (sides_of n 0 set)) (add-one size) (more_level.within right m)) h)
-            ∙ more_level.all;
-        smaller = more_level.smaller;
-      }
 
 -- ---- all sizes but the union's own
 

@@ -6,6 +6,5 @@ mod MarkLemmas
 mod RuleLemmas
 mod RightLemmas
 mod SideLemmas
-mod PartLemmas
 mod SizeLemmas
 mod LevelLemmas

@@ -7,7 +7,7 @@ use Rattle.std.proofs.lemmas.Bool.{cases_Bool, cases_eq, eqb-true, le-ltb, lt-lt
 use Rattle.std.proofs.lemmas.List.{append-nil, length-take, map-append, take_more}
 use Rattle.std.proofs.lemmas.List.Concat.{flat_map-append}
 use Rattle.std.proofs.lemmas.List.Elements.{filter-append}
-use Rattle.std.proofs.lemmas.Nat.Bits.{bit_at-lt, bit_at-pow_other, bit_at-pow_same, bit_at-zero, bit_at_or, same_from_bits}
+use Rattle.std.proofs.lemmas.Nat.Bits.{bit_at-lt, bit_at-pow_other, bit_at-pow_same, bit_at-zero, bit_at_or}
 use Rattle.basket_sets.specs.Itemset.{IsRising, has}
 use Rattle.basket_sets.specs.Subsets.{subsets_of_size}
 use Rattle.basket_sets.proofs.theory.Members.{Member, Member-append, Member-append_left, Member-append_right, Member-filter, Member-from_filter, Member-map, Member-from_map}
@@ -232,68 +232,6 @@ are_subsets (suc size) place (x ∷ items) bound =
 pub sides_are_subsets : (size : ℕ) (union : List ℕ) → length union ≤ MOST_PLACES → map (side_of union) (sides_of size 0 union) ≡ subsets_of_size size union
 unfolding side_from
 sides_are_subsets size union bound = are_subsets size 0 union (omega (arith, bound))
-
--- ---- parts with one place less
-
-or_swap : (a b c : ℕ) → bit_or (bit_or a b) c ≡ bit_or (bit_or a c) b
-or_swap a b c = same_from_bits (bit_or (bit_or a b) c) (bit_or (bit_or a c) b) (λ k.
-    bit_at_or (bit_or a b) c k ∙ ap (λ n. max n (bit_at c k)) (bit_at_or a b k) ∙ swap (bit_at a k) (bit_at b k) (bit_at c k)
-    ∙ sym (ap (λ n. max n (bit_at b k)) (bit_at_or a c k)) ∙ sym (bit_at_or (bit_or a c) b k))
-  where
-    swap : (x y z : ℕ) → max (max x y) z ≡ max (max x z) y
-    swap x y z = omega arith
-
--- the right side without a place is one of those of its size
-pub record IsPart (size place : ℕ) (items : List ℕ) (right : Right) (i : ℕ) (part : Right) : Type 0 where
-  pub listed : Member part (sides_of size place items)
-  pub whole : bit_or part.places (2 ^ i) ≡ right.places
-  pub lacks : has_place part.places i ≡ false
-
-also_from : (size place x : ℕ) (items : List ℕ) (part : Right) → Member part (sides_of size (suc place) items) → Member part (sides_of size place (x ∷ items))
-unfolding sides_of
-also_from zero place x items part m = m
-also_from (suc size) place x items part m = Member-append_right part (map (with_place place) (sides_of size (suc place) items)) (sides_of (suc size) (suc place) items) m
-
-pub part_of : (size place : ℕ) (items : List ℕ) → place + length items ≤ MOST_PLACES → (right : Right) → Member right (sides_of (suc size) place items)
-    → (i : ℕ) → has_place right.places i ≡ true → (part : Right) × IsPart size place items right i part
-unfolding sides_of
-part_of size place [] bound right m i h = absurd m
-part_of size place (x ∷ items) bound right m i h =
-    elim (Member-append right (map (with_place place) (sides_of size (suc place) items)) (sides_of (suc size) (suc place) items) m) [
-      | inl n ↦
-          (let r = Member-from_map (with_place place) right (sides_of size (suc place) items) n in
-          elim (cases_eq i place) [
-            | inl e ↦ (
-              r.0,
-              record {
-                listed = also_from size place x items r.0 r.1;
-                whole = ap (λ k. bit_or r.0.places (2 ^ k)) e ∙ ap (λ (q : Right). q.places) r.2;
-                lacks = ap (has_place r.0.places) e ∙ (are_from size (suc place) items (omega (arith, bound)) r.0 r.1).lacks place (omega arith);
-              },
-            )
-            | inr differ ↦
-                later_part (λ n rest member there. part_of n (suc place) items (omega (arith, bound)) rest member i there) size r.0 r.1 r.2 differ (sym (has_other r.0.places place i differ) ∙ ap (λ (q : Right). has_place q.places i) r.2 ∙ h)
-          ])
-      | inr n ↦
-          (let p = part_of size (suc place) items (omega (arith, bound)) right n i h in
-          (p.0, record { listed = also_from size place x items p.0 p.1.listed; whole = p.1.whole; lacks = p.1.lacks }))
-    ]
-  where
-    later_part : ((n : ℕ) (rest : Right) → Member rest (sides_of (suc n) (suc place) items) → has_place rest.places i ≡ true → (part : Right) × IsPart n (suc place) items rest i part)
-        → (n : ℕ) (rest : Right) → Member rest (sides_of n (suc place) items) → with_place place rest ≡ right → i ≢ place → has_place rest.places i ≡ true
-        → (part : Right) × IsPart n place (x ∷ items) right i part
-    later_part shorter zero rest (inl e) is differ there = absurd (true≢false (sym there ∙ ap (λ (q : Right). has_place q.places i) (sym e) ∙ has_none i))
-    later_part shorter zero rest (inr none) is differ there = absurd none
-    later_part shorter (suc n) rest member is differ there =
-        let p = shorter n rest member there in (
-          with_place place p.0,
-          record {
-            listed = Member-append_left (with_place place p.0) (map (with_place place) (sides_of n (suc place) items)) (sides_of (suc n) (suc place) items)
-                (Member-map (with_place place) p.0 (sides_of n (suc place) items) p.1.listed);
-            whole = or_swap p.0.places (2 ^ place) (2 ^ i) ∙ ap (λ w. bit_or w (2 ^ place)) p.1.whole ∙ ap (λ (q : Right). q.places) is;
-            lacks = has_other p.0.places place i differ ∙ p.1.lacks;
-          },
-        )
 
 -- ---- the next size
 

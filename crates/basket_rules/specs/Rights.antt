@@ -1,8 +1,7 @@
 -- Right sides of the rules with one union, each as the places of its items in the union.
-use Rattle.std.specs.Prelude.{ℕ, zero, suc, ◌^◌, ◌==◌, Bool, true, false, not, ◌&&◌, ◌||◌, nat_lt, if◌then◌else◌, List, [], ◌∷◌, bit_or, bit_xor, filter, map}
+use Rattle.std.specs.Prelude.{ℕ, suc, ◌^◌, ◌==◌, Bool, nat_lt, if◌then◌else◌, List, [], ◌∷◌, bit_or, filter, map}
 use Rattle.std.specs.Int.{bit_at}
 use Rattle.std.specs.List.{flat_map, range_with_len}
-use Rattle.basket_sets.specs.Itemset.{has}
 use Rattle.basket_rules.specs.declared.rights.Right.{Right}
 use Rattle.basket_rules.specs.declared.rights.TheConstants.{MOST_PLACES}
 
@@ -36,21 +35,3 @@ longer_by met place = map (with_place place) (filter (λ right. nat_lt place rig
 
 abbrev pub longer : ℕ → List Right → List Right
 longer count met = flat_map (longer_by met) (range_with_len 0 count)
-
--- the words of right sides
-abbrev pub words_of : List Right → List ℕ
-words_of rights = map (λ right. right.places) rights
-
--- whether a word without any of its places below a number is among some words
-abbrev pub has_parts : List ℕ → ℕ → ℕ → Bool
-has_parts words places zero = true
-has_parts words places (suc place) = has_parts words places place && (not (has_place places place) || has words (bit_xor places (2 ^ place)))
-
--- the right sides of which each part with one item less is among the met ones
-abbrev pub with_met_parts : ℕ → List Right → List Right → List Right
-with_met_parts count met rights = filter (λ right. has_parts (words_of met) right.places count) rights
-
--- the right sides of the next size that are tried: where all met the confidence so far, none has a part that failed
-abbrev pub next_sides : Bool → ℕ → List Right → List Right
-next_sides true count met = longer count met
-next_sides false count met = with_met_parts count met (longer count met)

@@ -1,5 +1,5 @@
 //! Association rules (Agrawal and Srikant 1994).
-ghost use Rattle.std.specs.Prelude.{◌≡◌, ◌≤◌, ◌<◌, ◌-◌, ◌*◌, ◌++◌, IfOk, IsTrue, OnOk, length, nat_le};
+ghost use Rattle.std.specs.Prelude.{◌≡◌, ◌≤◌, ◌<◌, ◌-◌, ◌*◌, ◌++◌, IfOk, OnOk, length, nat_le};
 ghost use Rattle.basket_sets.specs.Itemset.{IsRising};
 ghost use Rattle.basket_rules.specs.Consistency.{IsConsistent};
 ghost use Rattle.basket_rules.specs.Listed.{set_at};
@@ -11,7 +11,6 @@ use crate::figures::Figures;
 use crate::hashes::SetHash;
 use crate::lookups::Lookups;
 use crate::met::MetRule;
-use crate::parts::next_rights;
 use crate::rights::{MOST_PLACES, Right, Sides, longer_rights};
 use crate::supports::count_of;
 use basket_core::{Fraction, Itemset, Unpacked};
@@ -107,7 +106,7 @@ fn rule_of_sides(alloc: Global, sides: &Sides, figures: &Figures) -> Result<Rule
 
 /// Those of the rules whose union is the set at the place, without their items. Right sides go level
 /// by level: those of one more item are the ones that met the confidence, each with an item before
-/// its first, as far as no part of them failed it.
+/// its first.
 pub fn met_rules(
     alloc: Global,
     frequent: &Unpacked,
@@ -127,23 +126,13 @@ pub fn met_rules(
     }
     lookups.hashes.set(frequent.sets()[number].set.items())?;
     let mut rights = longer_rights(alloc, &[Right::none()], count)?;
-    let mut all = true;
     for size in 0..most_right_items(count) {
         let met = keep_confident(
             alloc, frequent, number, confidence, &rights, lookups, &mut rules,
         )?;
-        all = still_all(all, &rights, &met);
-        rights = next_rights(alloc, &met, all, count)?;
+        rights = longer_rights(alloc, &met, count)?;
     }
     Ok(rules)
-}
-
-/// Whether all right sides have met the confidence so far, where `before` says so of smaller ones.
-fn still_all(before: bool, tried: &[Right], met: &[Right]) -> bool
-    ensures before { IsTrue result → IsTrue before }
-    ensures met { IsTrue result → length met.now ≡ length tried.now }
-{
-    before && met.len() == tried.len()
 }
 
 /// How many items a right side has at most, since a left side has one too.

@@ -10,7 +10,6 @@ pub mod laws;
 mod listed;
 mod lookups;
 mod met;
-mod parts;
 mod rights;
 mod search;
 mod supports;

@@ -2,7 +2,7 @@ use Rattle.std.proofs.Common.{arith, ◌≡◌, ◌≤◌, ◌<◌, ◌+◌, ◌
 use Rattle.basket_rules.specs.declared.rights.TheConstants.{MOST_PLACES}
 use Rattle.basket_rules.specs.Consistency.{IsConsistent}
 use Rattle.basket_rules.specs.Listed.{set_at}
-use Rattle.basket_rules.specs.Rights.{longer, next_sides, no_places}
+use Rattle.basket_rules.specs.Rights.{longer, no_places}
 use Rattle.basket_rules.specs.Met.{rules_in}
 use Rattle.basket_rules.specs.Rules.{KeepsConfident, rules_among_with}
 use Rattle.basket_rules.proofs.SearchLemmas.{set_is}
@@ -49,15 +49,14 @@ loop-size-preserved c =
     let sized : c.len-count.result ≡ length (set_at listing.sets number) = c.len-count.ensures ∙ ap length (sym set) in
     let size = c.loop-size.size + 1 in
     let met = c.in_ok-met.met.items in
-    let every = c.still_all-all.result in
-    let made : c.in_ok-rights-2.rights.items ≡ next_sides every (length (set_at listing.sets number)) met = c.in_ok-rights-2.ensures ∙ (λ i. next_sides every (sized i) (c.deref-in-loop-size-3.ensures.value i)) in
+    let made : c.in_ok-rights-2.rights.items ≡ longer (length (set_at listing.sets number)) met = c.in_ok-rights-2.ensures ∙ (λ i. longer (sized i) (c.deref-in-loop-size.ensures.value i)) in
     let few : length (set_at listing.sets number) ≤ MOST_PLACES = subst (λ n. n ≤ MOST_PLACES) sized c.if-count-gt-MOST_PLACES.false in
     let most : c.most_right_items-size-end.result ≡ length (set_at listing.sets number) - 1 = c.most_right_items-size-end.ensures ∙ ap (λ n. n - 1) sized in
     let some : 1 ≤ size = omega arith in
     let less : size < length (set_at listing.sets number) = omega (arith, most, c.loop-size-test.true) in
     subst (λ l. IsLevelAt listing c.args.confidence number (size + 1) l (rules_in listing number c.keep_confident.new.rules.items)) (sym made)
     (λ consistent. next_level listing c.args.confidence number size c.requires few some less c.loop-size.rights.items met (rules_in listing number c.loop-size.rules.items) (rules_in listing number c.keep_confident.new.rules.items)
-    (subst (λ r. KeepsConfident listing c.args.confidence number r met (rules_in listing number c.loop-size.rules.items) (rules_in listing number c.keep_confident.new.rules.items)) c.deref.ensures.value c.in_ok-met.ensures) c.loop-size.invariant consistent every)
+    (subst (λ r. KeepsConfident listing c.args.confidence number r met (rules_in listing number c.loop-size.rules.items) (rules_in listing number c.keep_confident.new.rules.items)) c.deref.ensures.value c.in_ok-met.ensures) c.loop-size.invariant consistent)
 
 pub returns : goal.returns
 returns c =
