@@ -23,7 +23,7 @@ import basket_miner
 from basket_miner import BasketError, DataError, InputError, TooManySets, UsageError
 from basket_miner import cluster
 from basket_miner._program import run
-from parts import cut, written
+from cut_files import cut, written
 
 ROOT = Path(__file__).parents[2]
 QUESTIONS = ("sets", "closed", "maximal", "rules --conf=1/2")

@@ -13,7 +13,7 @@ from distributed import Client
 import basket_miner
 from basket_miner import InputError, cluster
 from basket_miner._program import run
-from parts import cut, written
+from cut_files import cut, written
 
 QUESTIONS = ("items", "sets", "closed", "maximal --workers=2", "rules --conf=1/2")
 NAMES = ("tea", '"jam, red"', " figs ", '"say ""milk"""', "7", "béchamel", "(2)")

@@ -125,8 +125,8 @@ class Documents(unittest.TestCase):
             ("basket it", "items"),
             ("basket rules --co", "--conf"),
             ("basket sets --miner f", "fpgrowth"),
-            ("basket count --se", "--sets"),
-            ("basket count --form c", "counts"),
+            ("basket count --set", "--sets"),
+            ("basket count --form c", "counts csv-counts"),
             ("basket count --mi", ""),
         )
         for line, wanted in rows:

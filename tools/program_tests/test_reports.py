@@ -198,7 +198,7 @@ MISTAKES: tuple[tuple[list[str], str], ...] = (
     (["rules", "--conf", "7/6", "--min", "0"], "basket: bad value for --min\n"),
     (
         ["sets", "--min", "0", "--form", "csv"],
-        "bad value for --form (fimi, baskets, single, counts)\n",
+        "bad value for --form (fimi, baskets, single, counts, csv-counts)\n",
     ),
     (
         ["sets", "--min", "1", "--sep", ","],

@@ -47,7 +47,10 @@ fn each_reader_that_fails_is_told_and_nothing_is_written(rt: HostRuntime) -> Res
         (None, Some(3), RunFault::Input(ReadFault::Read)),
     ];
     for (before_sets, before_input, fault) in cases {
-        for plan in [CountPlan::of(Layout::of(Form::Fimi)), CountPlan::of(Layout::of(Form::Counts))] {
+        for plan in [
+            CountPlan::of(Layout::of(Form::Fimi)),
+            CountPlan::of(Layout::of(Form::Counts)),
+        ] {
             let mut sets = MemSource::new(SETS, 1, before_sets);
             let mut reader = MemSource::new(b"1 2 3", 1, before_input);
             let mut writer = MemSink::new(rt.alloc(), 100, 100, false)?;

@@ -1,4 +1,4 @@
-"""Parts of the baskets for tests."""
+"""Texts that are cut, and the files of their parts."""
 
 import itertools
 from collections.abc import Sequence
