@@ -100,7 +100,7 @@ impl Row for BitRow {
     }
 
     fn is_large(&self, kept: usize, joined: usize, weights: &Weights) -> bool {
-        kept >= LEAST_KEPT && kept >= joined / 2 && weights.places() > 64
+        kept >= LEAST_KEPT && kept >= joined / 2 && weights.places() > 64 && weights.is_halved()
     }
 
     fn add_bit(&self, words: &mut [u64], bit: u64) -> bool {

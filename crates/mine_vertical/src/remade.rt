@@ -76,9 +76,10 @@ fn siblings_of_words<R: Row>(
     ensures { IfOk result (λ made. (others : List Basket) × AreOver R.stands kept.now made.0 made.1.items others
         × ((test : List ℕ → Bool) → weight_where test others ≡ weight_where (λ basket. test (decoded kept.now basket)) (word_places (length kept.now) words.items))) }
 {
+    let unmerged = words.len();
     let merged = WordBaskets::of(alloc, kept.len() as u32, words)?;
     let (_, ranks, spans) = merged.lists(alloc)?.into_parts();
-    let weights = weights_at(alloc, &spans)?;
+    let weights = weights_at(alloc, &spans, unmerged)?;
     let siblings = siblings_of(alloc, kept, &ranks, &spans, &weights)?;
     Ok((weights, siblings))
 }

@@ -45,8 +45,9 @@ fn conditional_of(
     Ok(conditional.sorted(alloc)?)
 }
 
-/// The weights of baskets. More than 4,294,967,295 baskets count as a refused growth.
-pub fn weights_at(alloc: Global, spans: &[Span]) -> Result<Weights, AllocError>
+/// The weights of baskets, which were so many before equal ones were merged. More than 4,294,967,295
+/// baskets count as a refused growth.
+pub fn weights_at(alloc: Global, spans: &[Span], unmerged: usize) -> Result<Weights, AllocError>
     requires some { All (λ span. 1 ≤ span.weight) spans.now }
     requires light { sum_by (λ span. span.weight) spans.now ≤ MOST_WEIGHT }
     ensures { IfOk result (λ weights. weights ≡ map (λ span. span.weight) spans.now) }
@@ -55,7 +56,7 @@ pub fn weights_at(alloc: Global, spans: &[Span]) -> Result<Weights, AllocError>
         return Err(AllocError);
     }
     let weights: Vec<u64> = spans.iter().map(|span| span.weight).collect(alloc)?;
-    Weights::of_vec(alloc, weights)
+    Weights::of_vec(alloc, weights, spans.len() <= unmerged / 2)
 }
 
 /// How often each rank below a number stands in a list: how much room its cover needs.
@@ -161,7 +162,8 @@ pub fn class_siblings<R: Row>(
     let kept = conditional.ranks().to_vec(alloc)?;
     let baskets = conditional.into_baskets(alloc)?;
     let (_, ranks, spans) = baskets.into_parts();
-    let weights = weights_at(alloc, &spans)?;
+    let (_, unmerged) = runs.of_rank(rank);
+    let weights = weights_at(alloc, &spans, unmerged.len())?;
     let siblings = siblings_of(alloc, &kept, &ranks, &spans, &weights)?;
     Ok((weights, siblings))
 }

@@ -26,6 +26,8 @@ pub struct Weights {
     weights: Vec<u64>,
     are_ones: bool,
     planes: Vec<Plane>,
+    /// Whether the places were at least twice as many before equal ones were merged.
+    is_halved: bool,
 }
 
 impl Model for Weights {
@@ -47,11 +49,16 @@ impl Weights {
         requires light { sum weights.now ≤ MOST_WEIGHT }
         ensures { IfOk result (λ copy. copy ≡ weights.now) }
     {
-        Weights::of_vec(alloc, weights.to_vec(alloc)?)
+        Weights::of_vec(alloc, weights.to_vec(alloc)?, false)
     }
 
-    /// The same weights, in their own vector.
-    pub(crate) fn of_vec(alloc: Global, weights: Vec<u64>) -> Result<Self, AllocError>
+    /// The same weights, in their own vector, of places that were at least twice as many before equal
+    /// ones were merged, or not.
+    pub(crate) fn of_vec(
+        alloc: Global,
+        weights: Vec<u64>,
+        is_halved: bool,
+    ) -> Result<Self, AllocError>
         requires few { length weights.items ≤ MOST_PLACES }
         requires some { All (λ weight. 1 ≤ weight) weights.items }
         requires light { sum weights.items ≤ MOST_WEIGHT }
@@ -63,6 +70,7 @@ impl Weights {
             weights,
             are_ones,
             planes,
+            is_halved,
         })
     }
 
@@ -71,6 +79,11 @@ impl Weights {
         ensures { result ≡ length self.now }
     {
         self.weights.len() as u32
+    }
+
+    /// Whether merging equal places left at most half of them, so that it may do so again below.
+    pub(crate) fn is_halved(&self) -> bool {
+        self.is_halved
     }
 
     /// What a place weighs.
