@@ -59,9 +59,27 @@ impl Fraction {
 fn common_divisor(a: u128, b: u128) -> u128
     ensures { IsGcd a b result }
 {
+    let most = u128::from(u64::MAX);
+    if a <= most && b <= most {
+        return u128::from(short_divisor(a as u64, b as u64));
+    }
     let mut greater = a;
     let mut less = b;
     while less != 0 {
+        let rest = greater % less;
+        greater = less;
+        less = rest;
+    }
+    greater
+}
+
+/// The same of numbers that the processor divides.
+fn short_divisor(a: u64, b: u64) -> u64
+    ensures { IsGcd a b result }
+{
+    let mut greater = a;
+    let mut less = b;
+    while less > 0 {
         let rest = greater % less;
         greater = less;
         less = rest;

@@ -14,6 +14,6 @@ mod PathLemmas
 mod ChoiceLemmas
 mod WordLemmas
 mod LeafLemmas
-mod BitLemmas
+mod ShiftLemmas
 mod SuffixLemmas
 mod FoundLemmas

@@ -4,3 +4,4 @@ pub mod Tree
 pub mod Trees
 pub mod Words
 pub mod Paths
+pub mod Shift

@@ -1,10 +1,10 @@
 //! Sets that are read off a single branch.
-ghost use Rattle.std.specs.Prelude.{◌≡◌, ◌≤◌, ◌<◌, ◌+◌, ◌-◌, ℕ, Err, IsTrue, OnOk, false, length};
+ghost use Rattle.std.specs.Prelude.{◌≡◌, ◌≤◌, ◌<◌, ◌+◌, ◌-◌, ℕ, Err, IsTrue, OnOk, false, length, vec_len};
 ghost use Rattle.basket_core.specs.declared.fault.MineFault.TheVariants.{TooMany};
 ghost use Rattle.basket_sets.specs.declared.minimum.Minimum.TheVariants.{Count};
 ghost use Rattle.basket_sets.specs.Frequent.{frequent_of};
 ghost use Rattle.mine_classes.specs.Classes.{class_of};
-ghost use Rattle.mine_fp.specs.Level.{HasLower, HasSuffix, IsLevel, ListsClassAsItems, ListsAllAsItems};
+ghost use Rattle.mine_fp.specs.Level.{HasLower, HasSuffix, IsChosen, IsLevel, ListsClassAsItems, ListsAllAsItems};
 ghost use Rattle.mine_fp.specs.Trees.{is_branch};
 
 use crate::found::{Found, choose};

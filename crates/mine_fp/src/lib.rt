@@ -8,6 +8,7 @@ mod found;
 pub mod laws;
 mod level;
 mod paths;
+mod shift;
 mod tree;
 mod words;
 pub mod worked;

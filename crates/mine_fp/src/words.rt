@@ -4,7 +4,7 @@ ghost use Rattle.std.specs.List.{flat_map, list_all, range_with_len};
 ghost use Rattle.basket_ranks.specs.Codes.{decoded_place};
 ghost use Rattle.basket_sets.specs.Counts.{AllBelow};
 ghost use Rattle.basket_sets.specs.Database.{MOST_WEIGHT};
-ghost use Rattle.basket_sets.specs.Itemset.{contains, has};
+ghost use Rattle.basket_sets.specs.Itemset.{IsRising, contains, has};
 ghost use Rattle.mine_classes.specs.declared.words.TheConstants.{WORD_RANKS};
 ghost use Rattle.mine_classes.specs.declared.words.Word.{Word as Bits};
 ghost use Rattle.mine_classes.specs.Conditional.{kept_place};
@@ -14,7 +14,8 @@ ghost use Rattle.mine_classes.specs.Words.{has_rank, ranks_in, word_places};
 ghost use Rattle.mine_fp.specs.Trees.{is_branch};
 ghost use Rattle.mine_fp.specs.Words.{pair_weight, rank_weight};
 
-use mine_classes::words::{self, WORD_RANKS, Word, bit_of};
+use crate::shift::{shift_all, shifts_of};
+use mine_classes::words::{self, WORD_RANKS, Word};
 use mine_classes::{WordBaskets, met_in_order};
 use std::alloc::{AllocError, Global};
 use std::marker::Model;
@@ -84,6 +85,7 @@ impl Words {
     /// anew.
     pub fn below(&self, alloc: Global, rank: u32, pairs: &[(u32, u64)]) -> Result<Self, AllocError>
         requires rank { rank < self.now.ranks }
+        requires rises { IsRising (map (λ pair. pair.0) pairs.now) }
         requires below { AllBelow rank (map (λ pair. pair.0) pairs.now) }
         requires few { length pairs.now ≤ rank }
         ensures ranks { IfOk result (λ below. below.ranks ≡ length pairs.now) }
@@ -189,6 +191,7 @@ fn words_below(
 ) -> Result<Vec<Word>, AllocError>
     requires rank { rank < WORD_RANKS }
     requires few { length pairs.now ≤ WORD_RANKS }
+    requires rises { IsRising (map (λ pair. pair.0) pairs.now) }
     requires below { AllBelow rank (map (λ pair. pair.0) pairs.now) }
     requires some { All (λ (word : Bits). 1 ≤ word.weight) words.now }
     requires light { sum_by (λ (word : Bits). word.weight) words.now ≤ MOST_WEIGHT }
@@ -198,28 +201,14 @@ fn words_below(
         → HaveSameWeights (flat_map (kept_place (has (map (λ pair. pair.0) pairs.now)) rank) (word_places count words.now))
         (map (decoded_place (map (λ pair. pair.0) pairs.now)) (word_places (length (map (λ pair. pair.0) pairs.now)) below.items))) }
 {
+    let shifts = shifts_of(alloc, pairs)?;
     let mut below = Vec::with_capacity(alloc, words.len())?;
     for word in words {
         if word.has(rank) {
-            let bits = bits_at_places(word, pairs);
+            let bits = shift_all(word.bits, shifts.as_slice());
             let weight = word.weight;
             words::add(&mut below, Word { bits, weight })?;
         }
     }
     Ok(below)
-}
-
-/// The bits of a word's ranks that some pairs have, each at the place of its pair.
-fn bits_at_places(word: &Word, pairs: &[(u32, u64)]) -> u64
-    requires few { length pairs.now ≤ WORD_RANKS }
-    requires below { AllBelow WORD_RANKS (map (λ pair. pair.0) pairs.now) }
-    ensures { (place : ℕ) → place < length pairs.now → has_rank result place ≡ has_rank word.now.bits (slice_index (map (λ pair. pair.0) pairs.now) place) }
-{
-    let mut bits = 0;
-    for (place, pair) in pairs.iter().enumerate() {
-        if word.has(pair.0) {
-            bits |= bit_of(place);
-        }
-    }
-    bits
 }

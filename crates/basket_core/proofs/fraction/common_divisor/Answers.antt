@@ -1,4 +1,5 @@
-use Rattle.std.proofs.Common.{arith}
+use Rattle.std.proofs.Common.{arith, subst, sym}
+use Rattle.std.specs.Int.{IsGcd}
 use Rattle.std.proofs.lemmas.Nat.Gcd.{IsGcd-from_zero, IsGcd-from_mod}
 use Rattle.basket_core.proofs.fraction.common_divisor.Goals as goal
 
@@ -7,3 +8,6 @@ loop-less-preserved c g h = c.loop-less.invariant g (IsGcd-from_mod _ _ g h)
 
 pub returns : goal.returns
 returns c = c.loop-less.invariant _ (IsGcd-from_zero _ _ (omega arith))
+
+pub returns-then-b-most : goal.returns-then-b-most
+returns-then-b-most c = subst (IsGcd c.args.a c.args.b) (sym c.from.ensures) c.short_divisor.ensures

@@ -4,11 +4,11 @@ use Rattle.std.proofs.lemmas.List.{length-map}
 use Rattle.basket_ranks.specs.Codes.{decoded_place}
 use Rattle.basket_sets.specs.declared.weighted.Weighted.{Weighted}
 use Rattle.basket_sets.specs.Counts.{AllBelow}
-use Rattle.basket_sets.specs.Itemset.{has}
+use Rattle.basket_sets.specs.Itemset.{IsRising, has}
 use Rattle.mine_classes.specs.Conditional.{kept_place}
 use Rattle.mine_classes.specs.ListBaskets.{HaveSameWeights}
 use Rattle.mine_classes.specs.Pairs.{kept_ranks, pairs_of}
-use Rattle.mine_fp.proofs.LevelLemmas.{kept_below, kept_short, pair_ranks}
+use Rattle.mine_fp.proofs.LevelLemmas.{kept_below, kept_rises, kept_short, pair_ranks}
 use Rattle.mine_fp.proofs.WordLemmas.{conditional_coding, has_kept}
 use Rattle.mine_fp.proofs.paths.below_words.Goals as goal
 
@@ -17,6 +17,11 @@ ranks_of pairs = map (λ (pair : ℕ × ℕ). pair.0) pairs
 
 are_kept : (baskets : List Weighted) (least rank : ℕ) (pairs : List (ℕ × ℕ)) → pairs ≡ pairs_of baskets least rank → ranks_of pairs ≡ kept_ranks baskets least rank
 are_kept baskets least rank pairs is = ap ranks_of is ∙ pair_ranks baskets least rank
+
+pub below-requires-clause-rises : goal.below-requires-clause-rises
+below-requires-clause-rises c =
+    let kept = are_kept c.args.words.now.baskets c.args.least c.args.rank c.args.pairs.now c.requires.pairs in
+    subst IsRising (sym kept) (kept_rises c.args.words.now.baskets c.args.least c.args.rank)
 
 pub below-requires-clause-below : goal.below-requires-clause-below
 below-requires-clause-below c =

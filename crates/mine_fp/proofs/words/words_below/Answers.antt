@@ -1,22 +1,18 @@
-use Rattle.std.proofs.Common.{ℕ, ◌≤◌, ◌+◌, length, map, take, sym, subst, ap, ◌∙◌, arith}
+use Rattle.std.proofs.Common.{ℕ, ◌≤◌, ◌+◌, get_or, length, map, take, sym, subst, ap, ◌∙◌, arith}
 use Rattle.std.specs.Prelude.{All}
 use Rattle.std.specs.List.{flat_map, sum_by}
 use Rattle.std.proofs.lemmas.List.{length-map, take_all}
-use Rattle.std.proofs.lemmas.List.Sums.{sum_by_more, sum_by_more_le}
+use Rattle.std.proofs.lemmas.List.Sums.{sum_by_more}
 use Rattle.basket_ranks.specs.Codes.{decoded_place}
 use Rattle.basket_sets.specs.Itemset.{has}
 use Rattle.mine_classes.specs.declared.words.Word.{Word}
 use Rattle.mine_classes.specs.Conditional.{kept_place}
 use Rattle.mine_classes.specs.ListBaskets.{HaveSameWeights}
 use Rattle.mine_classes.specs.Words.{word_places}
+use Rattle.mine_fp.proofs.ShiftLemmas.{bits_brought}
 use Rattle.mine_fp.proofs.WordLemmas.{below_with, below_without, none}
 use Rattle.mine_fp.proofs.words.words_below.Goals as goal
 use Rattle.mine_fp.proofs.words.words_below.Goals.{then-has+in_ok-add, else-has}
-
-pub add-requires-clause-light : goal.add-requires-clause-light
-add-requires-clause-light c =
-    let fits = sum_by_more_le (λ (word : Word). word.weight) c.args.words.now c.loop-word.word-index none c.loop-word-test.true in
-    omega (arith, fits, c.loop-word.invariant.light, c.requires.light)
 
 pub loop-word-preserved : goal.loop-word-preserved
 loop-word-preserved c =
@@ -38,8 +34,8 @@ loop-word-preserved c =
             weights = λ count low.
                 subst (λ l. HaveSameWeights (flat_map (kept_place (has kept) rank) (word_places count (take (i + 1) words))) (map (decoded_place kept) (word_places (length kept) l))) items
                 (below_with kept count rank words i here low (sym c.has.ensures ∙ w.if-has.true) (λ other h. let less = c.requires.below other h in omega (arith, less, low))
-                old w.add.new.words.items w.bits_at_places-bits.result
-                (λ place less. w.bits_at_places-bits.ensures place (omega (arith, less, length-map c.args.pairs.now (λ (pair : ℕ × ℕ). pair.0))))
+                old w.add.new.words.items w.shift_all-bits.result
+                (bits_brought kept c.in_ok-shifts.shifts.items w.as_slice.result.now (get_or words i none).bits w.shift_all-bits.result c.in_ok-shifts.ensures w.as_slice.ensures (omega (arith, c.requires.few, length-map c.args.pairs.now (λ (pair : ℕ × ℕ). pair.0))) w.shift_all-bits.ensures)
                 (so_far.weights count low) (now.weights (length kept)));
           })
       | else-has w ↦
