@@ -3,6 +3,7 @@
 import csv
 import io
 import numbers
+import os
 import tempfile
 from collections.abc import Hashable, Iterable
 from dataclasses import dataclass
@@ -13,7 +14,6 @@ import pandas as pd
 from ._baskets import Baskets
 from ._data import Data, Layout, read
 from ._errors import DataError
-from ._paths import weight_of
 from ._program import run
 from ._report import rules_frame, sets_frame
 
@@ -50,10 +50,21 @@ def asked(
         baskets.source,
         progress=work.progress,
     )
-    weight = weight_of(baskets)
+    weight = _weight_of(baskets)
     if command == "rules":
         return rules_frame(report, baskets, weight, exact=work.exact)
     return sets_frame(report, baskets, weight, exact=work.exact)
+
+
+def _weight_of(baskets: Baskets) -> int:
+    """What all baskets weigh together: known, or counted by the program.
+
+    The program counts the empty set, which each basket has.
+    """
+    if baskets.weight is not None:
+        return baskets.weight
+    words = ["count", f"--sets={os.devnull}", *baskets.words]
+    return int(run(words, baskets.source).strip(b"()\n"))
 
 
 def counted(
