@@ -24,7 +24,7 @@ use Rattle.basket_sets.proofs.theory.Members.{Member, Member-append, Member-filt
 use Rattle.basket_sets.proofs.theory.Rising.{rising-rises, Member-rising, length-le-contains}
 use Rattle.basket_sets.proofs.theory.Subsets.{IsSubset, IsSubset-from_Member, Member-from_IsSubset, of_size_sorted, same_length}
 use Rattle.basket_sets.proofs.theory.Support.{frequent_items, subsets_are_frequent}
-use Rattle.mine_apriori.specs.declared.levels.Found.{Found}
+use Rattle.mine_apriori.specs.declared.rank_sets.RankSets.{RankSets}
 use Rattle.mine_apriori.specs.Candidates.{candidates_of}
 use Rattle.mine_apriori.specs.Levels.{level_of, levels_up_to, asked_of, AreFound, AreTooMany}
 use Rattle.mine_apriori.specs.Sizes.{AreOfSize}
@@ -228,7 +228,7 @@ module _ (coding : Coding) (size : ℕ) (some : 1 ≤ size) (asked : List (List 
   next = ap (filter (is_frequent coding.baskets coding.minimum)) is_asked ∙ next_level coding size some
 
   -- what is frequent of them is the next level
-  pub found_next : (old new : Found) → AreFound coding size old
+  pub found_next : (old new : RankSets) → AreFound coding size old
       → new.sets.items ≡ old.sets.items ++ filter (is_frequent coding.baskets coding.minimum) asked
       → new.counts.items ≡ old.counts.items ++ map (support_of coding.baskets) (filter (is_frequent coding.baskets coding.minimum) asked)
       → AreFound coding (size + 1) new
@@ -241,6 +241,6 @@ module _ (coding : Coding) (size : ℕ) (some : 1 ≤ size) (asked : List (List 
   }
 
   -- and stands behind what was found before
-  pub last_next : (old new : Found) → new.sets.items ≡ old.sets.items ++ filter (is_frequent coding.baskets coding.minimum) asked
+  pub last_next : (old new : RankSets) → new.sets.items ≡ old.sets.items ++ filter (is_frequent coding.baskets coding.minimum) asked
       → drop (length old.sets.items) new.sets.items ≡ level_of coding (size + 1)
   last_next old new sets = ap (drop (length old.sets.items)) sets ∙ drop-append_seam old.sets.items (filter (is_frequent coding.baskets coding.minimum) asked) ∙ next

@@ -1,10 +1,10 @@
 -- Counts of pairs, one basket after another.
-use Rattle.std.proofs.Common.{◌≡◌, ◌≢◌, ℕ, ◌+◌, ◌-◌, ◌<◌, ◌≤◌, Bool, true, false, ◌&&◌, ◌||◌, List, [], ◌∷◌, length, take, drop, get_or, map, set, cond, eqb, refl, sym, ap, ◌∙◌, subst, inl, inr, arith, zero, suc, add-zero, zero-add}
+use Rattle.std.proofs.Common.{◌≡◌, ◌≢◌, ℕ, ◌+◌, ◌-◌, ◌<◌, ◌≤◌, Bool, true, false, ◌&&◌, ◌||◌, List, [], ◌∷◌, length, take, drop, get_or, map, set, cond, eqb, refl, sym, ap, ◌∙◌, subst, inl, inr, arith, zero, suc, add-zero}
 use borrow.Rule.Slice.PartMut.{put_mid}
 use Rattle.std.proofs.lemmas.Bool.{cases_Bool, cases_eq, cases_lt, eq-eqb, ne_eqb, lt-ltb}
-use Rattle.std.specs.Prelude.{IsTrue, replicate}
+use Rattle.std.specs.Prelude.{IsTrue}
 use Rattle.std.specs.List.{filter, range_with_len}
-use Rattle.std.proofs.lemmas.List.{ext_get_or, get_or-drop, get_or-map, get_or-replicate, get_or-set_same, get_or-set_other, get_or-take, get_or_default, length-drop, length-map, length-replicate, length-take-le}
+use Rattle.std.proofs.lemmas.List.{get_or-drop, get_or-map, get_or-set_same, get_or-set_other, get_or-take, get_or_default, length-drop, length-map, length-take-le}
 use Rattle.std.proofs.lemmas.List.Sums.{sum_by_more, sum_by_more_le}
 use Rattle.std.proofs.lemmas.Slice.{between-put_mid, drop-put_mid, take-put_mid_below}
 use Rattle.basket_sets.specs.declared.weighted.Weighted.{Weighted}
@@ -17,7 +17,8 @@ use Rattle.basket_sets.proofs.theory.Rising.{Member-from_has, first_below, rest_
 use Rattle.basket_sets.proofs.theory.Support.{support_falls}
 use Rattle.mine_classes.specs.Conditional.{is_kept}
 use Rattle.mine_classes.specs.Pairs.{WithBasket, is_met, pairs_of}
-use Rattle.mine_apriori.specs.Triangle.{AreSupports, HaveRows, WithPairs, WithSupports, all_pairs, place_of}
+use Rattle.mine_apriori.specs.Shard.{WithSupports}
+use Rattle.mine_apriori.specs.Triangle.{AreSupports, HaveRows, WithPairs, all_pairs, place_of}
 use Rattle.mine_apriori.proofs.PlaceLemmas.{find_pair, pair_at, pair_of, row_before}
 
 pub below_at : (count : ℕ) (ranks : List ℕ) (k : ℕ) → AllBelow count ranks → k < length ranks → get_or ranks k 0 < count
@@ -201,23 +202,13 @@ pub have_rows : (count : ℕ) (counts basket : List ℕ) → length counts ≡ l
 have_rows count counts basket long below k d here =
     let row = row_before (get_or basket k d) count (below (get_or basket k d) (subst (λ x. IsTrue (has basket x)) (get_or_default basket k 0 d here) (has_place basket k here))) in omega arith
 
-pub supports_by_place : (baskets : List Weighted) (old new : List ℕ) → WithPairSupports baskets old new → WithSupports baskets old new
+pub supports_by_place : (baskets : List Weighted) (old new : List ℕ) → WithPairSupports baskets old new → (count : ℕ) → WithSupports (all_pairs count) baskets old new
 supports_by_place baskets old new with count k here within =
     let found = find_pair count k here in
     let place = found.place in
     ap (λ p. get_or new p 0) place ∙ with found.greater found.lesser found.less (omega arith)
     ∙ ap (λ p. get_or old p 0 + support_of baskets (found.lesser ∷ found.greater ∷ [])) (sym place)
     ∙ ap (λ set. get_or old k 0 + support_of baskets set) (sym (pair_of count k found))
-
--- counts from 0 on are the supports
-pub counts_are_supports : (baskets : List Weighted) (count : ℕ) (old new : List ℕ) → old ≡ replicate (length (all_pairs count)) 0 → length new ≡ length old → WithSupports baskets old new → AreSupports baskets count new
-counts_are_supports baskets count old new none same with =
-    let long = ap length none ∙ length-replicate (length (all_pairs count)) 0 in
-    ext_get_or 0 new (map (support_of baskets) (all_pairs count)) (same ∙ long ∙ sym (length-map (all_pairs count) (support_of baskets)))
-    (λ k within. with count k (omega arith) (omega arith)
-    ∙ ap (λ n. n + support_of baskets (get_or (all_pairs count) k [])) (ap (λ l. get_or l k 0) none ∙ get_or-replicate (length (all_pairs count)) k 0 0 (omega arith))
-    ∙ zero-add (support_of baskets (get_or (all_pairs count) k []))
-    ∙ sym (get_or-map (support_of baskets) (all_pairs count) k [] 0 (omega arith)))
 
 -- ---- the pairs of a rank
 

@@ -4,7 +4,7 @@ use Rattle.basket_ranks.specs.Codes.{Coding, frequent_of_coding}
 use Rattle.basket_sets.specs.Frequent.{is_frequent}
 use Rattle.basket_sets.specs.Subsets.{subsets_of_size, subsets_up_to}
 use Rattle.basket_sets.specs.Support.{support_of, items_of}
-use Rattle.mine_apriori.specs.declared.levels.Found.{Found}
+use Rattle.mine_apriori.specs.declared.rank_sets.RankSets.{RankSets}
 use Rattle.mine_apriori.specs.Candidates.{candidates_of}
 use Rattle.mine_apriori.specs.Work.{candidates_up_to}
 
@@ -35,12 +35,12 @@ abbrev pub AreTooMany : Coding → ℕ → Type 0
 AreTooMany coding limit = limit < length (frequent_of_coding coding)
 
 -- the frequent sets of at most so many ranks, smaller sets first, and their supports
-pub record AreFound (coding : Coding) (size : ℕ) (found : Found) : Type 0 where
+pub record AreFound (coding : Coding) (size : ℕ) (found : RankSets) : Type 0 where
   pub sets : found.sets.items ≡ levels_up_to coding size
   pub counts : found.counts.items ≡ map (support_of coding.baskets) found.sets.items
 
 -- what a search has found, what it asks, and how many sets it has asked
-pub record Knows (search : Search) (found : Found) (candidates : List (List ℕ)) (counted : ℕ) : Type 0 where
+pub record Knows (search : Search) (found : RankSets) (candidates : List (List ℕ)) (counted : ℕ) : Type 0 where
   pub some : 1 ≤ search.size
   pub found_all : AreFound search.coding search.size found
   pub few : length found.sets.items ≤ search.limit

@@ -1,5 +1,5 @@
 -- A count for each pair of ranks, first by the greater rank of a pair, then by the lesser.
-use Rattle.std.specs.Prelude.{◌≡◌, ◌<◌, ◌≤◌, ◌+◌, ◌&&◌, ℕ, List, [], ◌∷◌, All, length, map, slice_index, slice_index_or, if◌then◌else◌}
+use Rattle.std.specs.Prelude.{◌≡◌, ◌<◌, ◌≤◌, ◌+◌, ◌&&◌, ℕ, List, [], ◌∷◌, All, length, map, slice_index, if◌then◌else◌}
 use Rattle.std.specs.List.{flat_map, range_with_len}
 use Rattle.basket_sets.specs.declared.weighted.Weighted.{Weighted}
 use Rattle.basket_sets.specs.Counts.{AllBelow}
@@ -34,7 +34,3 @@ HaveCounts counts baskets = (count : ℕ) × (length counts ≡ length (all_pair
 abbrev pub WithPairs : List ℕ → ℕ → List ℕ → List ℕ → Type 0
 WithPairs basket weight old new = (greater lesser : ℕ) → lesser < greater → place_of greater lesser < length old
     → slice_index new (place_of greater lesser) ≡ slice_index old (place_of greater lesser) + (if has basket greater && has basket lesser then weight else 0)
-
--- the counts with the supports of their pairs in some baskets added
-abbrev pub WithSupports : List Weighted → List ℕ → List ℕ → Type 0
-WithSupports baskets old new = (count k : ℕ) → k < length (all_pairs count) → k < length old → slice_index new k ≡ slice_index old k + support_of baskets (slice_index_or (all_pairs count) k [])

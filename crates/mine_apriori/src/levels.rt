@@ -1,201 +1,21 @@
 //! Apriori, level by level.
-ghost use Rattle.std.specs.Prelude.{◌≡◌, ◌≢◌, ◌<◌, ◌≤◌, ◌+◌, ◌-◌, ◌*◌, ◌/◌, ◌^◌, ◌++◌, [], ◌∷◌, ℕ, List, Err, IfOk, IfErr, OnOk, drop, filter, length, map, All};
+ghost use Rattle.std.specs.Prelude.{◌≡◌, ◌≢◌, ◌<◌, ◌≤◌, ◌+◌, [], ℕ, Err, IfOk, IfErr, drop, length};
 ghost use Rattle.basket_core.specs.declared.fault.MineFault.TheVariants.{Memory, TooMany};
-ghost use Rattle.basket_ranks.specs.Codes.{IsCoding, baskets_of, decoded_set};
-ghost use Rattle.basket_sets.specs.Counts.{AllBelow};
-ghost use Rattle.basket_sets.specs.Frequent.{counted, is_frequent};
+ghost use Rattle.basket_ranks.specs.Codes.{IsCoding, baskets_of};
 ghost use Rattle.basket_core.specs.Listing.{listing_of};
-ghost use Rattle.basket_sets.specs.Support.{items_of, support_of};
-ghost use Rattle.mine_apriori.specs.Levels.{AreFound, AreTooMany, asked_of, level_of, levels_up_to, wanted};
-ghost use Rattle.mine_apriori.specs.Pairs.{ArePairs, lists_of};
+ghost use Rattle.basket_sets.specs.Support.{items_of};
+ghost use Rattle.mine_apriori.specs.Levels.{AreFound, AreTooMany, asked_of, level_of, wanted};
 ghost use Rattle.mine_apriori.specs.Shard.{IsRegular};
 ghost use Rattle.mine_apriori.specs.Work.{candidate_count, candidates_of_size, candidates_up_to};
 
+use crate::first_level::{FirstLevel, frequent_ranks};
 use crate::join::candidates;
-use crate::pairs::{by_lesser, frequent_pairs};
+use crate::pairs::frequent_pairs;
+use crate::rank_sets::RankSets;
 use crate::shard::count_shard;
-use crate::triangle::pair_count;
-use basket_core::{Coded, CountedSets, Frequent, Itemset, MineFault, count_items};
-use std::alloc::{AllocError, Global};
+use basket_core::{Coded, Frequent, Itemset, MineFault};
+use std::alloc::Global;
 use std::marker::Model;
-
-/// Sets of ranks that are frequent, and their supports at the same places.
-#[derive(Debug, Drop)]
-struct Found {
-    sets: Vec<Itemset>,
-    counts: Vec<u64>,
-}
-
-impl Found {
-    fn push(&mut self, set: Itemset, count: u64) -> Result<(), AllocError>
-        ensures sets { OnOk result (self.new.sets.items ≡ self.old.sets.items ++ set ∷ []) }
-        ensures counts { OnOk result (self.new.counts.items ≡ self.old.counts.items ++ count ∷ []) }
-    {
-        self.sets.push(set)?;
-        self.counts.push(count)?;
-        Ok(())
-    }
-
-    /// Adds the pairs of a rank with ranks above it.
-    fn add_pairs(
-        &mut self,
-        alloc: Global,
-        rank: u32,
-        pairs: &[(u32, u64)],
-    ) -> Result<(), AllocError>
-        requires { All (λ pair. rank < pair.0) pairs.now }
-        ensures sets { OnOk result (self.new.sets.items ≡ self.old.sets.items ++ map (λ pair. rank ∷ pair.0 ∷ []) pairs.now) }
-        ensures counts { OnOk result (self.new.counts.items ≡ self.old.counts.items ++ map (λ pair. pair.1) pairs.now) }
-    {
-        for (other, count) in pairs {
-            self.push(Itemset::from_items(alloc, &[rank, *other])?, *count)?;
-        }
-        Ok(())
-    }
-
-    /// Adds those of the sets that are frequent.
-    fn add_frequent(
-        &mut self,
-        alloc: Global,
-        coded: &Coded,
-        sets: &[Itemset],
-        counts: &[u64],
-    ) -> Result<(), AllocError>
-        requires counts { counts.now ≡ map (support_of coded.now.baskets) sets.now }
-        ensures sets { OnOk result (self.new.sets.items ≡ self.old.sets.items ++ filter (is_frequent coded.now.baskets coded.now.minimum) sets.now) }
-        ensures counts { OnOk result (self.new.counts.items
-            ≡ self.old.counts.items ++ map (support_of coded.now.baskets) (filter (is_frequent coded.now.baskets coded.now.minimum) sets.now)) }
-    {
-        let minimum = coded.minimum();
-        let total = coded.total();
-        for (place, set) in sets.iter().enumerate() {
-            if minimum.met(counts[place], total) {
-                self.push(set.copied(alloc)?, counts[place])?;
-            }
-        }
-        Ok(())
-    }
-
-    /// The sets as items, with their supports.
-    fn decoded(self, alloc: Global, coded: &Coded) -> Result<CountedSets, AllocError>
-        requires below { All (AllBelow (length coded.now.items)) self.sets.items }
-        requires counts { self.counts.items ≡ map (support_of coded.now.baskets) self.sets.items }
-        ensures { IfOk result (λ decoded. decoded ≡ map (λ set. decoded_set coded.now.items (counted coded.now.baskets set)) self.sets.items) }
-    {
-        let mut decoded = CountedSets::new(alloc, coded.items(), coded.total())?;
-        for (place, set) in self.sets.iter().enumerate() {
-            decoded.push_renamed(alloc, set, coded.items(), self.counts[place])?;
-        }
-        Ok(decoded)
-    }
-}
-
-/// The frequent sets of one rank.
-fn frequent_ranks(alloc: Global, coded: &Coded) -> Result<Found, AllocError>
-    ensures sets { IfOk result (λ found. found.sets.items ≡ level_of coded.now 1) }
-    ensures counts { IfOk result (λ found. found.counts.items ≡ map (support_of coded.now.baskets) (level_of coded.now 1)) }
-    ensures coding { OnOk result (IsCoding coded.now) }
-{
-    let minimum = coded.minimum();
-    let total = coded.total();
-    let mut found = Found {
-        sets: Vec::new(alloc),
-        counts: Vec::new(alloc),
-    };
-    for (rank, count) in &count_items(alloc, coded.baskets())? {
-        if minimum.met(*count, total) {
-            found.push(Itemset::from_items(alloc, &[*rank])?, *count)?;
-        }
-    }
-    Ok(found)
-}
-
-/// Adds the frequent sets of two ranks, from the pairs of each rank with lesser ones.
-fn add_second_level(
-    alloc: Global,
-    coded: &Coded,
-    pairs: &[Vec<(u32, u64)>],
-    found: &mut Found,
-) -> Result<(), AllocError>
-    requires coding { IsCoding coded.now }
-    requires pairs { ArePairs coded.now (lists_of pairs.now) }
-    requires found { AreFound coded.now 1 found.old }
-    ensures sets { OnOk result (found.new.sets.items ≡ found.old.sets.items ++ level_of coded.now 2) }
-    ensures found { OnOk result (AreFound coded.now 2 found.new) }
-{
-    let lists = by_lesser(alloc, pairs)?;
-    for (rank, pairs) in lists.iter().enumerate() {
-        found.add_pairs(alloc, rank as u32, pairs)?;
-    }
-    Ok(())
-}
-
-/// The frequent items, from which a search goes on once the frequent pairs are known.
-#[derive(Debug, Drop)]
-pub struct FirstLevel<'a> {
-    coded: &'a Coded,
-    limit: u32,
-    found: Found,
-}
-
-impl<'a> Model for FirstLevel<'a> {
-    ghost use Rattle.std.specs.Prelude.{◌≤◌, length};
-    ghost use Rattle.basket_ranks.specs.Codes.{IsCoding};
-    ghost use Rattle.mine_apriori.specs.Levels.{AreFound, Search};
-
-    ghost Value = { Search };
-
-    ghost view = { λ first. record { coding = first.coded.now; limit = first.limit; size = 1 } };
-
-    ghost invariant = { λ first. IsCoding first.coded.now × AreFound first.coded.now 1 first.found × (length first.found.sets.items ≤ first.limit) };
-}
-
-impl<'a> FirstLevel<'a> {
-    /// The frequent items, where they are no more than the limit.
-    pub fn of(alloc: Global, coded: &'a Coded, limit: u32) -> Result<Self, MineFault>
-        ensures ok { IfOk result (λ first. first ≡ record { coding = coded.now; limit = limit; size = 1 }) }
-        ensures too_many { (most : ℕ) → result ≡ Err (TooMany most) → (most ≡ limit) × AreTooMany coded.now limit }
-    {
-        let found = frequent_ranks(alloc, coded)?;
-        if found.sets.len() > limit as usize {
-            return Err(MineFault::TooMany { limit });
-        }
-        Ok(FirstLevel {
-            coded,
-            limit,
-            found,
-        })
-    }
-
-    /// The search that has found the frequent items and pairs. The pairs are for each rank the ranks
-    /// below it that are frequent together with it, each with the support of the pair.
-    pub fn with_pairs(
-        self,
-        alloc: Global,
-        pairs: &[Vec<(u32, u64)>],
-    ) -> Result<Levels<'a>, MineFault>
-        requires { ArePairs self.coding (lists_of pairs.now) }
-        ensures ok { IfOk result (λ levels. levels ≡ record { coding = self.entry.coding; limit = self.entry.limit; size = 2 }) }
-        ensures too_many { (most : ℕ) → result ≡ Err (TooMany most) → (most ≡ self.entry.limit) × AreTooMany self.entry.coding self.entry.limit }
-    {
-        let FirstLevel {
-            coded,
-            limit,
-            mut found,
-        } = self;
-        let last = found.sets.len();
-        add_second_level(alloc, coded, pairs, &mut found)?;
-        Levels::ask(
-            alloc,
-            coded,
-            limit,
-            2,
-            found,
-            last,
-            pair_count(last as u32) as u64,
-        )
-    }
-}
 
 /// A search for the frequent sets, level by level (Agrawal and Srikant 1994): a level is those of
 /// one size. All frequent sets up to some size are found, and the supports of the candidates of one
@@ -205,7 +25,7 @@ pub struct Levels<'a> {
     coded: &'a Coded,
     limit: u32,
     size: usize,
-    found: Found,
+    found: RankSets,
     asked: Vec<Itemset>,
     counted: u64,
 }
@@ -235,12 +55,12 @@ impl<'a> Levels<'a> {
 
     /// The search with all frequent sets up to a size found, of which those from `last` on have
     /// that size. So many sets of at most that size were asked.
-    fn ask(
+    pub(crate) fn ask(
         alloc: Global,
         coded: &'a Coded,
         limit: u32,
         size: usize,
-        found: Found,
+        found: RankSets,
         last: usize,
         counted: u64,
     ) -> Result<Self, MineFault>

@@ -4,7 +4,7 @@ ghost use Rattle.basket_sets.specs.Support.{support_of};
 ghost use Rattle.mine_classes.specs.ListBaskets.{AreRankBaskets, HaveSameWeights};
 ghost use Rattle.mine_apriori.specs.Pairs.{AreBelow, ArePairs, all_lesser, lists_of, pairs_at, pairs_by_greater};
 
-use crate::triangle::{Triangle, pairs_of_supports};
+use crate::triangle::{add_pairs, pair_count, pairs_of_supports};
 use basket_core::Coded;
 use mine_classes::{ListBaskets, Runs, Sums};
 use std::alloc::{AllocError, Global};
@@ -24,24 +24,6 @@ pub fn frequent_pairs(alloc: Global, coded: &Coded) -> Result<Vec<Vec<(u32, u64)
     let least = coded.minimum().least(coded.total());
     let runs = Runs::of(alloc, ListBaskets::of_coded(alloc, coded)?)?;
     pairs_by_runs(alloc, &runs, least)
-}
-
-/// The runs of the coded baskets. They keep the frequent pairs of each rank where it pays to count each
-/// pair of ranks: one pass over the baskets then spares the sums of each rank.
-pub fn runs_with_pairs(alloc: Global, coded: &Coded) -> Result<Runs, AllocError>
-    ensures ranks { IfOk result (λ runs. runs.ranks ≡ length coded.now.items) }
-    ensures ranked { IfOk result AreRankBaskets }
-    ensures weights { IfOk result (λ runs. HaveSameWeights coded.now.baskets runs.baskets) }
-    ensures supports { IfOk result (λ runs. (set : List ℕ) → support_of runs.baskets set ≡ support_of coded.now.baskets set) }
-{
-    let lists = ListBaskets::of_coded(alloc, coded)?;
-    // Before the runs, which take the room that the counts leave.
-    let pairs = if pays_for_classes(coded, &lists) {
-        pairs_by_triangle(alloc, coded)?
-    } else {
-        Vec::new(alloc)
-    };
-    Ok(runs_keeping(coded, Runs::of(alloc, lists)?, pairs))
 }
 
 /// The runs of the coded baskets, which keep the frequent pairs of each rank, or none where none are
@@ -78,9 +60,9 @@ pub fn is_small_triangle(ranks: u32, baskets: usize) -> bool
 pub fn pairs_by_triangle(alloc: Global, coded: &Coded) -> Result<Vec<Vec<(u32, u64)>>, AllocError>
     ensures { IfOk result (λ lists. ArePairs coded.now (lists_of lists.items)) }
 {
-    let mut triangle = Triangle::new(alloc, coded.ranks())?;
-    triangle.add(coded.baskets());
-    pairs_of_supports(alloc, coded, triangle.counts())
+    let mut counts = vec![in alloc; 0; pair_count(coded.ranks())]?;
+    add_pairs(&mut counts, coded.baskets());
+    pairs_of_supports(alloc, coded, &counts)
 }
 
 /// The same from the runs of the baskets, one rank after another.

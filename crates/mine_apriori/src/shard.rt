@@ -19,10 +19,25 @@ pub fn count_shard(
     ensures { IfOk result (λ counts. counts.items ≡ map (support_of baskets.now) sets.now) }
 {
     if is_regular(sets) {
-        CandidateTree::of(alloc, sets)?.count(alloc, baskets)
+        count_by_tree(alloc, baskets, sets)
     } else {
         count_by_scans(alloc, baskets, sets)
     }
+}
+
+/// The support of each set, by a walk of each basket through the tree of all sets.
+fn count_by_tree(
+    alloc: Global,
+    baskets: &[Weighted],
+    sets: &[Itemset],
+) -> Result<Vec<u64>, AllocError>
+    requires regular { IsRegular sets.now }
+    requires light { total_of baskets.now ≤ MOST_WEIGHT }
+    ensures { IfOk result (λ counts. counts.items ≡ map (support_of baskets.now) sets.now) }
+{
+    let mut counts = vec![in alloc; 0; sets.len()]?;
+    CandidateTree::of(alloc, sets)?.add(alloc, baskets, &mut counts)?;
+    Ok(counts)
 }
 
 /// Whether a tree can be made of the sets.

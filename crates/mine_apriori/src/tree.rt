@@ -1,12 +1,13 @@
 //! The candidates of one size as a prefix tree, which baskets walk.
-ghost use Rattle.std.specs.Prelude.{◌≡◌, ◌<◌, ◌≤◌, ◌+◌, ◌^◌, ℕ, [], IfOk, MatchResult, map, length, drop, slice_index, slice_index_or};
+ghost use Rattle.std.specs.Prelude.{◌≡◌, ◌<◌, ◌≤◌, ◌+◌, ◌^◌, ℕ, [], IfOk, MatchResult, OnOk, length, drop, slice_index, slice_index_or};
 ghost use Rattle.std.specs.List.{AllWithin};
 ghost use Rattle.basket_sets.specs.Database.{MOST_WEIGHT};
 ghost use Rattle.basket_sets.specs.Itemset.{IsRising, contains};
 ghost use Rattle.basket_sets.specs.Order.{IsInReportOrder};
-ghost use Rattle.basket_sets.specs.Support.{support_of, total_of};
+ghost use Rattle.basket_sets.specs.Support.{total_of};
 ghost use Rattle.mine_apriori.specs.Nodes.{first_leaf, node_items, starts_of};
 ghost use Rattle.mine_apriori.specs.Run.{AddsWithin, IsMissingAt};
+ghost use Rattle.mine_apriori.specs.Shard.{WithSupports};
 ghost use Rattle.mine_apriori.specs.Tree.{AreTold, IsRun, leaf_depth};
 ghost use Rattle.mine_apriori.specs.Sizes.{AreOfOneSize};
 ghost use Rattle.mine_apriori.specs.Used.{IsClear};
@@ -70,19 +71,30 @@ impl<'a> CandidateTree<'a> {
         })
     }
 
-    /// The support of each set in the baskets, by one walk of each basket.
-    pub fn count(&self, alloc: Global, baskets: &[Weighted]) -> Result<Vec<u64>, AllocError>
-        requires light { total_of baskets.now ≤ MOST_WEIGHT }
-        ensures { IfOk result (λ counts. counts.items ≡ map (support_of baskets.now) self.now) }
+    /// The sets.
+    pub fn sets(&self) -> &[Itemset]
+        ensures { result.now ≡ self.now }
     {
-        let mut counts = vec![in alloc; 0; self.sets.len()]?;
+        self.sets
+    }
+
+    /// Adds the support of each set in some baskets to its count, by one walk of each basket.
+    pub fn add(
+        &self,
+        alloc: Global,
+        baskets: &[Weighted],
+        counts: &mut [u64],
+    ) -> Result<(), AllocError>
+        requires long { length counts.old ≡ length self.now }
+        requires light { (k : ℕ) → k < length counts.old → slice_index counts.old k + total_of baskets.now ≤ MOST_WEIGHT }
+        ensures { OnOk result (WithSupports self.now baskets.now counts.old counts.new) }
+    {
         let mut kept = vec![in alloc; 0; longest(baskets)]?;
         let mut marks = no_items(alloc)?;
-        let roots = self.roots();
         for place in baskets {
-            self.count_basket(place, roots, &mut kept, &mut marks, &mut counts);
+            self.count_basket(place, &mut kept, &mut marks, counts);
         }
-        Ok(counts)
+        Ok(())
     }
 
     /// Adds the weight of a place at each set that its basket has. The list is for its use, and so
@@ -90,13 +102,10 @@ impl<'a> CandidateTree<'a> {
     fn count_basket(
         &self,
         place: &Weighted,
-        roots: usize,
         kept: &mut [u32],
         marks: &mut [bool],
         counts: &mut [u64],
     )
-        requires roots { roots ≡ length (starts_of self.now 0) }
-        requires run { IsRun self.now 0 0 roots }
         requires room { length place.now.basket ≤ length kept.old }
         requires clear { IsClear marks.old }
         requires long { length counts.old ≡ length self.now }
@@ -106,6 +115,7 @@ impl<'a> CandidateTree<'a> {
         ensures clear { IsClear marks.new }
     {
         let items = place.basket.items();
+        let roots = self.roots();
         if self.inner.len() > 1 {
             // Where the candidates are large, most baskets are left with fewer items than a set
             // has, and need no marks.

@@ -1,5 +1,5 @@
 //! A count for each pair of ranks.
-ghost use Rattle.std.specs.Prelude.{◌≡◌, ◌<◌, ◌≤◌, ◌+◌, ◌-◌, ◌*◌, ◌/◌, ◌^◌, ℕ, IfOk, filter, length, map, replicate, slice_index};
+ghost use Rattle.std.specs.Prelude.{◌≡◌, ◌<◌, ◌≤◌, ◌+◌, ◌-◌, ◌*◌, ◌/◌, ◌^◌, ℕ, IfOk, filter, length, map, slice_index};
 ghost use Rattle.std.specs.List.{range_with_len};
 ghost use Rattle.basket_ranks.specs.Codes.{IsCoding};
 ghost use Rattle.basket_sets.specs.Counts.{AllBelow};
@@ -8,53 +8,22 @@ ghost use Rattle.basket_sets.specs.Itemset.{IsRising};
 ghost use Rattle.basket_sets.specs.Support.{total_of};
 ghost use Rattle.mine_classes.specs.Pairs.{WithBasket, is_met};
 ghost use Rattle.mine_apriori.specs.Pairs.{ArePairs, lists_of};
-ghost use Rattle.mine_apriori.specs.Triangle.{AreSupports, HaveCounts, HaveRows, WithPairs, WithSupports, all_pairs};
+ghost use Rattle.mine_apriori.specs.Shard.{WithSupports};
+ghost use Rattle.mine_apriori.specs.Triangle.{AreSupports, HaveCounts, HaveRows, WithPairs, all_pairs};
 
 use basket_core::{Coded, Weighted};
 use mine_classes::met_in_order;
 use std::alloc::{AllocError, Global};
-use std::marker::Model;
 
-/// A count for each pair of ranks, first by the greater rank of a pair, then by the lesser.
-#[derive(Debug, Drop)]
-pub struct Triangle {
-    counts: Vec<u64>,
-}
-
-impl Model for Triangle {
-    ghost use Rattle.std.specs.Prelude.{ℕ, List};
-
-    ghost Value = { List ℕ };
-
-    ghost view = { λ triangle. triangle.counts.items };
-}
-
-impl Triangle {
-    /// The pairs of so many ranks, each counted 0 times.
-    pub fn new(alloc: Global, ranks: u32) -> Result<Self, AllocError>
-        ensures { IfOk result (λ triangle. triangle ≡ replicate (length (all_pairs ranks)) 0) }
-    {
-        Ok(Triangle {
-            counts: vec![in alloc; 0; pair_count(ranks)]?,
-        })
-    }
-
-    /// Counts the pairs of some more baskets.
-    pub fn add(&mut self, baskets: &[Weighted])
-        requires below { HaveCounts self.old baskets.now }
-        requires light { (k : ℕ) → k < length self.old → slice_index self.old k + total_of baskets.now ≤ MOST_WEIGHT }
-        ensures sized { length self.new ≡ length self.old }
-        ensures added { WithSupports baskets.now self.old self.new }
-    {
-        for place in baskets {
-            count_basket(&mut self.counts, place.basket.items(), place.weight);
-        }
-    }
-
-    pub fn counts(&self) -> &[u64]
-        ensures { result.now ≡ self.now }
-    {
-        &self.counts
+/// Adds the supports of all pairs of ranks in some more baskets to counts, which lie first by the greater
+/// rank of a pair, then by the lesser.
+pub fn add_pairs(counts: &mut [u64], baskets: &[Weighted])
+    requires below { HaveCounts counts.old baskets.now }
+    requires light { (k : ℕ) → k < length counts.old → slice_index counts.old k + total_of baskets.now ≤ MOST_WEIGHT }
+    ensures { (count : ℕ) → WithSupports (all_pairs count) baskets.now counts.old counts.new }
+{
+    for place in baskets {
+        count_basket(counts, place.basket.items(), place.weight);
     }
 }
 
