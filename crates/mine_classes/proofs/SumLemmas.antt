@@ -15,13 +15,13 @@ use Rattle.basket_sets.specs.Itemset.{IsRising, contains, has, rising}
 use Rattle.basket_sets.specs.Support.{support_of, total_of, weight_at}
 use Rattle.basket_sets.proofs.theory.Members.{Member, Member-filter, Member-from_filter}
 use Rattle.basket_sets.proofs.theory.Rising.{Member-from_has, has-from_Member, Member-rising, Member-into_rising, cons_rises, nil_rises, rising-rises, same_rising}
-use Rattle.basket_sets.proofs.theory.Support.{support_falls}
+use Rattle.basket_sets.proofs.theory.Support.{support-cons, support_falls}
 use Rattle.mine_classes.specs.declared.span.Span.{Span}
 use Rattle.mine_classes.specs.Conditional.{is_kept}
 use Rattle.mine_classes.specs.ListBaskets.{AreRankBaskets, IsRankBasket}
 use Rattle.mine_classes.specs.Pairs.{AreSums, is_met, kept_ranks, pairs_of, ranks_met, weight_with}
 use Rattle.mine_classes.specs.Runs.{AreRunsOf, below}
-use Rattle.mine_classes.specs.Span.{baskets_at}
+use Rattle.mine_classes.specs.Span.{basket_at, baskets_at}
 use Rattle.mine_classes.proofs.ConditionalLemmas.{kept_support}
 
 -- ---- sums
@@ -120,6 +120,11 @@ and_every false = refl
 
 -- ---- the pairs of a rank
 
+weights_of : (ranks : List ℕ) (runs : List Span) → support_of (baskets_at ranks runs) [] ≡ sum_by (λ (run : Span). run.weight) runs
+weights_of ranks [] = refl
+weights_of ranks (run ∷ runs) =
+    support-cons (basket_at ranks run) (baskets_at ranks runs) [] ∙ ap (λ n. run.weight + n) (weights_of ranks runs) ∙ sym (sum_by-cons (λ (r : Span). r.weight) run runs)
+
 module _ (ranks : List ℕ) (baskets : List Weighted) (rank : ℕ) (runs : List Span) (are : AreRunsOf ranks baskets rank runs) where
   pair_weight : (other : ℕ) → weight_with other (baskets_at ranks runs) ≡ cond (ltb other rank) (support_of baskets (other ∷ rank ∷ [])) 0
   pair_weight other =
@@ -160,6 +165,10 @@ module _ (ranks : List ℕ) (baskets : List Weighted) (rank : ℕ) (runs : List 
           let r = Member-range 0 rank other p.0 in
           let high = r.1 in
           Member-from_filter met other (range_with_len 0 count) (Member-into_range 0 count other (omega arith) (omega arith)) (met_is_kept least other ∙ p.1)
+
+  -- the weights of a rank's runs add up to its support
+  pub runs_weigh : sum_by (λ (run : Span). run.weight) runs ≡ support_of baskets (rank ∷ [])
+  runs_weigh = sym (weights_of ranks runs) ∙ sym (are.weights (λ _. true)) ∙ kept_support (λ o. ltb o rank) rank [] baskets
 
   -- the paths of a rank are baskets of ranks
   pub runs_ranked : (count : ℕ) → rank ≤ count → total_of baskets ≤ MOST_WEIGHT → AreRankBaskets (record { ranks = count; baskets = baskets_at ranks runs })
