@@ -1,61 +1,26 @@
--- The sets of a conditional database as items, and the support of a rank.
-use Rattle.std.proofs.Common.{◌≡◌, ℕ, ◌+◌, ◌<◌, ◌≤◌, true, false, Bool, List, [], ◌∷◌, ◌++◌, length, get_or, map, cond, refl, sym, ap, ◌∙◌, subst, inl, inr, arith, ltb, zero-add, ◌&&◌, zero, suc}
-use Rattle.std.specs.List.{filter, range_with_len, sum_by}
+-- The sets of a conditional database as items.
+use Rattle.std.proofs.Common.{◌≡◌, ℕ, ◌+◌, ◌<◌, ◌≤◌, true, List, [], ◌∷◌, ◌++◌, length, get_or, map, refl, sym, ap, ◌∙◌, subst, inl, inr, arith, ltb, zero, suc}
+use Rattle.std.specs.List.{range_with_len}
 use Rattle.std.proofs.lemmas.Bool.{and_parts, cases_lt, ltb-true}
 use Rattle.std.proofs.lemmas.List.{get_or-map, get_or_default, length-map}
 use Rattle.std.specs.Ordering.{nat_cmp}
 use Rattle.std.proofs.lemmas.List.FromFn.{length-range_with_len}
 use Rattle.std.proofs.lemmas.List.Kept.{IsStrictlySortedBy-filter}
-use Rattle.std.proofs.lemmas.List.Sums.{sum_by-cons}
 use Rattle.basket_ranks.specs.Codes.{decoded, decoded_set}
 use Rattle.basket_ranks.proofs.theory.Coding.{from_decoded, into_decoded}
 use Rattle.basket_sets.specs.declared.weighted.Weighted.{Weighted}
 use Rattle.basket_sets.specs.declared.counted.Counted.{Counted}
 use Rattle.basket_sets.specs.declared.minimum.Minimum.TheVariants.{Count}
 use Rattle.basket_sets.specs.Counts.{AllBelow}
-use Rattle.basket_sets.specs.Database.{weighted}
 use Rattle.basket_sets.specs.Frequent.{is_frequent}
 use Rattle.basket_sets.specs.Itemset.{IsRising, has, rising, with_item}
-use Rattle.basket_sets.specs.Support.{support_of, weight_at}
+use Rattle.basket_sets.specs.Support.{support_of}
 use Rattle.basket_sets.proofs.theory.Members.{Member, Member-append, Member-append_left, Member-append_right, Member-map, Member-filter, Member-from_map, Member-from_Contains}
 use Rattle.basket_sets.proofs.theory.Rising.{Member-rising, Member-into_rising, Member-into_with_item, Member-with_item, cons_rises, first_below, has-from_Member, length-le-contains, Member-from_has, nil_rises, rest_rises, rising-rises, rising-rising, rising_is}
-use Rattle.basket_sets.proofs.theory.Support.{support-append, support-cons}
-use Rattle.mine_classes.specs.declared.span.Span.{Span}
 use Rattle.mine_classes.specs.Classes.{with_rank}
-use Rattle.mine_classes.specs.Conditional.{is_kept, kept_place}
+use Rattle.mine_classes.specs.Conditional.{is_kept}
 use Rattle.mine_classes.specs.Pairs.{kept_ranks, named_pair, pairs_of}
-use Rattle.mine_classes.specs.Runs.{AreRunsOf, below}
-use Rattle.mine_classes.specs.Span.{basket_at, baskets_at}
 use Rattle.mine_fp.specs.Level.{as_items}
-
--- ---- the support of a rank
-
-alone : (b : Bool) (weight : ℕ) (basket : List ℕ) → support_of (cond b (weighted basket weight ∷ []) []) [] ≡ cond b weight 0
-alone true weight basket = zero-add weight
-alone false weight basket = refl
-
-and_only : (b : Bool) (weight : ℕ) (rank : ℕ) (basket : List ℕ) → has basket rank ≡ b → cond b weight 0 ≡ weight_at (rank ∷ []) (weighted basket weight)
-and_only true weight rank basket e = ap (λ b. cond (b && true) weight 0) (sym e)
-and_only false weight rank basket e = ap (λ b. cond (b && true) weight 0) (sym e)
-
-below_support : (rank : ℕ) (baskets : List Weighted) → support_of (below rank baskets) [] ≡ support_of baskets (rank ∷ [])
-below_support rank [] = refl
-below_support rank (place ∷ baskets) =
-    let lows = filter (λ other. ltb other rank) place.basket in
-    support-append (kept_place (λ other. ltb other rank) rank place) (below rank baskets) []
-    ∙ ap (λ n. n + support_of (below rank baskets) []) (alone (has place.basket rank) place.weight lows ∙ and_only (has place.basket rank) place.weight rank place.basket refl)
-    ∙ ap (λ n. weight_at (rank ∷ []) place + n) (below_support rank baskets)
-    ∙ sym (support-cons place baskets (rank ∷ []))
-
-weights_of : (ranks : List ℕ) (runs : List Span) → support_of (baskets_at ranks runs) [] ≡ sum_by (λ (run : Span). run.weight) runs
-weights_of ranks [] = refl
-weights_of ranks (run ∷ runs) =
-    support-cons (basket_at ranks run) (baskets_at ranks runs) [] ∙ ap (λ n. run.weight + n) (weights_of ranks runs) ∙ sym (sum_by-cons (λ (r : Span). r.weight) run runs)
-
--- the weights of a rank's runs add up to its support
-pub runs_weigh : (ranks : List ℕ) (baskets : List Weighted) (rank : ℕ) (runs : List Span) → AreRunsOf ranks baskets rank runs
-    → sum_by (λ (run : Span). run.weight) runs ≡ support_of baskets (rank ∷ [])
-runs_weigh ranks baskets rank runs are = sym (weights_of ranks runs) ∙ sym (are.weights (λ _. true)) ∙ below_support rank baskets
 
 -- ---- sets as items
 

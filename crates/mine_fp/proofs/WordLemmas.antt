@@ -1,15 +1,13 @@
 -- Words of bits: their ranks, and what they weigh.
 use Rattle.std.proofs.Common.{◌≡◌, ℕ, ◌+◌, ◌-◌, ◌^◌, ◌<◌, ◌≤◌, Bool, true, false, ◌&&◌, ◌||◌, List, [], ◌∷◌, ◌++◌, length, take, get_or, map, cond, eqb, ltb, refl, sym, ap, ◌∙◌, subst, inl, inr, arith, add-zero, zero, suc}
-use Rattle.std.specs.Prelude.{All, bit_or, nat_eq}
+use Rattle.std.specs.Prelude.{bit_or, nat_eq}
 use Rattle.std.specs.Int.{bit_at}
 use Rattle.std.specs.List.{IsDistinct, filter, flat_map, list_all, range_with_len, sum_by}
-use Rattle.std.specs.List.Sorted.{IsPermutation}
 use Rattle.std.specs.Ordering.{nat_cmp}
 use Rattle.std.proofs.lemmas.Bool.{and_from, and_parts, cases_Bool, cases_eq, ltb-true, eq-eqb, eqb-true, lt-ltb, true≢false}
-use Rattle.std.proofs.lemmas.List.{append-nil, append_assoc, get_or-map, get_or_default, length-map, map-append, take_more}
+use Rattle.std.proofs.lemmas.List.{append-nil, append_assoc, get_or_default, map-append, take_more}
 use Rattle.std.proofs.lemmas.List.Elements.{All-weaker}
 use Rattle.std.proofs.lemmas.List.Kept.{IsStrictlySortedBy-filter}
-use Rattle.std.proofs.lemmas.List.Sorted.{IsPermutation-map, sum_by-IsPermutation}
 use Rattle.std.proofs.lemmas.List.Sums.{sum_by-cons, sum_by_push}
 use Rattle.std.proofs.lemmas.Nat.Bits.{bit_at-lt, bit_at-pow_other, bit_at-pow_same, bit_at-zero, bit_at_or}
 use Rattle.std.specs.Prelude.{max}
@@ -18,20 +16,18 @@ use Rattle.basket_ranks.proofs.theory.Coding.{from_decoded, into_decoded}
 use Rattle.basket_sets.specs.declared.weighted.Weighted.{Weighted}
 use Rattle.basket_sets.specs.declared.minimum.Minimum.TheVariants.{Count}
 use Rattle.basket_sets.specs.Counts.{AllBelow}
-use Rattle.basket_sets.specs.Database.{HasWeight, MOST_WEIGHT, weighted}
+use Rattle.basket_sets.specs.Database.{HasWeight, weighted}
 use Rattle.basket_sets.specs.Frequent.{is_frequent}
 use Rattle.basket_sets.specs.Itemset.{IsRising, contains, has}
-use Rattle.basket_sets.specs.Support.{support_of, total_of, weight_at}
+use Rattle.basket_sets.specs.Support.{support_of, weight_at}
 use Rattle.basket_sets.proofs.theory.Members.{All-from_Member, Member, Member-filter, Member-from_filter, Contains-from_Member}
 use Rattle.basket_sets.proofs.theory.Merging.{sum_by-same}
-use Rattle.basket_sets.proofs.theory.Rising.{Member-from_has, contains_each, first_below, rest_rises, has-from_Member, has_each, has_more, has_place, rising-rises, same_rising, same_test}
+use Rattle.basket_sets.proofs.theory.Rising.{Member-from_has, contains_each, first_below, rest_rises, has-from_Member, has_each, rising-rises, same_rising, same_test}
 use Rattle.mine_classes.specs.declared.words.TheConstants.{WORD_RANKS}
 use Rattle.mine_classes.specs.declared.words.Word.{Word}
 use Rattle.mine_classes.specs.Conditional.{is_kept, kept_place}
 use Rattle.mine_classes.specs.ListBaskets.{AreRankBaskets, HaveSameWeights, IsRankBasket, RankBaskets, weight_where}
 use Rattle.mine_classes.specs.Pairs.{is_met, kept_ranks, pairs_of}
-use Rattle.mine_classes.specs.declared.span.Span.{Span}
-use Rattle.mine_classes.specs.Span.{basket_at, baskets_at}
 use Rattle.mine_classes.specs.Words.{has_rank, ranks_in, word_place, word_places}
 use Rattle.mine_fp.specs.Trees.{is_branch}
 use Rattle.mine_fp.specs.Words.{pair_weight, rank_weight}
@@ -59,10 +55,6 @@ or_false : (b : Bool) → (b || false) ≡ b
 or_false true = refl
 or_false false = refl
 
-or_true : (b : Bool) → (b || true) ≡ true
-or_true true = refl
-or_true false = refl
-
 pub has_bit : (r rank : ℕ) → r < WORD_RANKS → rank < WORD_RANKS → has_rank (2 ^ (63 - r)) rank ≡ eqb r rank
 has_bit r rank low high = elim (cases_eq r rank) [
   | inl e ↦ ap (λ n. has_rank (2 ^ (63 - r)) n) (sym e) ∙ ap (λ n. eqb n 1) (bit_at-pow_same (63 - r)) ∙ sym (eq-eqb r rank e)
@@ -71,19 +63,6 @@ has_bit r rank low high = elim (cases_eq r rank) [
 
 pub no_rank : (rank : ℕ) → has_rank 0 rank ≡ false
 no_rank rank = ap (λ n. eqb n 1) (bit_at-zero (63 - rank))
-
--- the bits of a basket's ranks so far
-abbrev pub HasBits : List ℕ → ℕ → Type 0
-HasBits basket bits = (rank : ℕ) → rank < WORD_RANKS → has_rank bits rank ≡ has basket rank
-
-pub bit_more : (basket : List ℕ) (i bits : ℕ) → i < length basket → AllBelow WORD_RANKS basket → HasBits (take i basket) bits
-    → HasBits (take (i + 1) basket) (bit_or bits (2 ^ (63 - get_or basket i 0)))
-bit_more basket i bits here low so_far rank high =
-    let r = get_or basket i 0 in
-    has_either bits (2 ^ (63 - r)) rank
-    ∙ ap (λ b. b || has_rank (2 ^ (63 - r)) rank) (so_far rank high)
-    ∙ ap (λ b. has (take i basket) rank || b) (has_bit r rank (low r (has_place basket i here)) high)
-    ∙ sym (has_more basket i rank here)
 
 -- ---- the ranks of a word
 
@@ -98,14 +77,6 @@ in_below count bits rank m = let high = range_within 0 count rank (Member-filter
 pub in_rise : (count bits : ℕ) → IsRising (ranks_in count bits)
 in_rise count bits = IsStrictlySortedBy-filter nat_cmp (has_rank bits) (range_with_len 0 count) (range_rises 0 count)
 
--- bits of a rising basket are those ranks
-pub bits_back : (count bits : ℕ) (basket : List ℕ) → count ≤ WORD_RANKS → IsRising basket → AllBelow count basket → HasBits basket bits → ranks_in count bits ≡ basket
-bits_back count bits basket few up low are = same_rising (ranks_in count bits) basket (in_rise count bits) up
-    (λ rank m. let below = in_below count bits rank m in
-    Member-from_has basket rank (sym (are rank (omega arith)) ∙ (Member-filter (has_rank bits) rank (range_with_len 0 count) m).1))
-    (λ rank m. let below = low rank (has-from_Member basket rank m) in
-    Member-from_has (ranks_in count bits) rank (has_in count bits rank below ∙ are rank (omega arith) ∙ has-from_Member basket rank m))
-
 -- ---- what words weigh
 
 pub word_sum : (f : Weighted → ℕ) (count : ℕ) (words : List Word) → sum_by f (word_places count words) ≡ sum_by (λ (word : Word). f (word_place count word)) words
@@ -113,9 +84,6 @@ word_sum f count [] = refl
 word_sum f count (word ∷ words) =
     sum_by-cons f (word_place count word) (word_places count words) ∙ ap (λ n. f (word_place count word) + n) (word_sum f count words)
     ∙ sym (sum_by-cons (λ (w : Word). f (word_place count w)) word words)
-
-pub words_total : (count : ℕ) (words : List Word) → total_of (word_places count words) ≡ sum_by (λ (word : Word). word.weight) words
-words_total count words = word_sum (weight_at []) count words
 
 two_ranks : (a b : Bool) (weight : ℕ) → cond (a && (b && true)) weight 0 ≡ cond b (cond a weight 0) 0
 two_ranks true true weight = refl
@@ -150,27 +118,6 @@ pair_weight_le rank other word = at_most (has_rank word.bits rank)
 
 abbrev pub none : Word
 none = record { bits = 0; weight = 0 }
-
-pub words_ranked : (count : ℕ) (words : List Word) → All (λ (word : Word). 1 ≤ word.weight) words → sum_by (λ (word : Word). word.weight) words ≤ MOST_WEIGHT
-    → AreRankBaskets (record { ranks = count; baskets = word_places count words })
-words_ranked count words some light = record {
-  places = λ k d here.
-      let inside : k < length words = omega (arith, here, length-map words (word_place count)) in
-      let bits = (get_or words k none).bits in
-      subst (IsRankBasket count) (sym (get_or-map (word_place count) words k none d inside)) (record {
-        rises = in_rise count bits;
-        below = λ rank h. in_below count bits rank (Member-from_has (ranks_in count bits) rank h);
-        weighs = some k none inside;
-      });
-  light = subst (λ n. n ≤ MOST_WEIGHT) (sym (words_total count words)) light;
-}
-
-pub ranked_some : (count : ℕ) (words : List Word) → AreRankBaskets (record { ranks = count; baskets = word_places count words }) → All (λ (word : Word). 1 ≤ word.weight) words
-ranked_some count words are = λ k d here.
-    let place = word_place count none in
-    let inside : k < length (word_places count words) = omega (arith, here, length-map words (word_place count)) in
-    let is = subst (IsRankBasket count) (get_or-map (word_place count) words k d place here) (are.places k place inside) in
-    is.weighs
 
 -- ---- the pairs of a rank
 
@@ -255,21 +202,6 @@ one_fails count (word ∷ words) (suc k) here e = ap (λ b. fills count word.bit
 
 -- ---- baskets as words
 
-pub basket_is : (ranks : List ℕ) (count : ℕ) (spans : List Span) (i : ℕ) (d : Span) → AreRankBaskets (record { ranks = count; baskets = baskets_at ranks spans }) → i < length spans
-    → IsRankBasket count (basket_at ranks (get_or spans i d))
-basket_is ranks count spans i d are here =
-    subst (IsRankBasket count) (get_or-map (basket_at ranks) spans i d (basket_at ranks d) here)
-    (are.places i (basket_at ranks d) (omega (arith, here, length-map spans (basket_at ranks))))
-
-pub word_added : (ranks : List ℕ) (count : ℕ) (spans : List Span) (i : ℕ) (d : Span) (words : List Word) (word : Word) → i < length spans
-    → word_place count word ≡ basket_at ranks (get_or spans i d) → word_places count words ≡ take i (baskets_at ranks spans)
-    → word_places count (words ++ word ∷ []) ≡ take (i + 1) (baskets_at ranks spans)
-word_added ranks count spans i d words word here is so_far =
-    map-append (word_place count) words (word ∷ [])
-    ∙ ap (λ l. l ++ word_place count word ∷ []) so_far
-    ∙ ap (λ p. take i (baskets_at ranks spans) ++ p ∷ []) (is ∙ sym (get_or-map (basket_at ranks) spans i d (basket_at ranks d) here))
-    ∙ sym (take_more (baskets_at ranks spans) i (basket_at ranks d) (omega (arith, here, length-map spans (basket_at ranks))))
-
 -- ---- words kept to some ranks
 
 -- places decoded are the word's ranks that are kept
@@ -312,11 +244,6 @@ changed_weight test f (place ∷ places) =
 pub decoded_weights : (kept : List ℕ) (baskets others : List Weighted) → HaveSameWeights baskets others → HaveSameWeights (map (decoded_place kept) baskets) (map (decoded_place kept) others)
 decoded_weights kept baskets others same test =
     changed_weight test (decoded kept) baskets ∙ same (λ basket. test (decoded kept basket)) ∙ sym (changed_weight test (decoded kept) others)
-
--- words in another order have the same weights
-pub moved_words : (count : ℕ) (words moved : List Word) → IsPermutation words moved → HaveSameWeights (word_places count words) (word_places count moved)
-moved_words count words moved permutation test =
-    sym (sum_by-IsPermutation (λ (place : Weighted). cond (test place.basket) place.weight 0) (word_places count words) (word_places count moved) (IsPermutation-map (word_place count) words moved permutation))
 
 flat_map_push : (f : Weighted → List Weighted) (xs : List Weighted) (y : Weighted) → flat_map f (xs ++ y ∷ []) ≡ flat_map f xs ++ f y
 flat_map_push f [] y = append-nil (f y)

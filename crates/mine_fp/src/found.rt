@@ -3,6 +3,7 @@ ghost use Rattle.std.specs.Prelude.{◌≡◌, ◌≤◌, ◌<◌, ◌+◌, ◌+
 ghost use Rattle.basket_core.specs.declared.fault.MineFault.TheVariants.{TooMany};
 ghost use Rattle.mine_fp.specs.Level.{IsChosen};
 
+use crate::trees::Trees;
 use basket_core::{CountedSets, Itemset, MineFault, Tally};
 use std::alloc::Global;
 
@@ -10,7 +11,7 @@ use std::alloc::Global;
 #[derive(Debug, Drop)]
 pub struct Found {
     pub sets: CountedSets,
-    pub trees: u64,
+    pub trees: Trees,
 }
 
 /// Tells a frequent set to the tally, and adds it to those found.

@@ -15,12 +15,12 @@ ghost use Rattle.mine_fp.specs.Trees.{inner_trees, rank_trees};
 use crate::found::{Found, choose, tell};
 use crate::paths::Paths;
 use basket_core::{Itemset, MineFault, Tally};
+use mine_classes::Tables;
 use mine_classes::laws::{
     classes_are_all, classes_are_conditional, classes_are_listed, classes_by_codings,
     conditional_supports, lists_have_class_size, rare_ranks_have_no_class,
 };
-use mine_classes::{Places, Tables};
-use std::alloc::{AllocError, Global};
+use std::alloc::Global;
 
 /// How many items a set has at most. A class with a set of one more has more sets than any limit, so
 /// that nothing goes deeper.
@@ -55,15 +55,15 @@ impl Level {
         requires level { IsLevel self.now }
         requires stands { HasSuffix self.now found.old.sets }
         requires rank { rank < self.now.paths.ranks }
-        requires sums { tables.old.sums ≡ self.now.paths.ranks }
-        requires places { tables.old.places ≡ self.now.paths.ranks }
+        requires sums { self.now.paths.ranks ≤ tables.old.sums }
+        requires places { self.now.paths.ranks ≤ tables.old.places }
         requires few { found.old.trees ≤ length found.old.sets }
         requires going { T.is_over tally.old ≡ false }
         ensures listed { OnOk result (ListsClassAsItems self.now rank found.old.sets found.new.sets) }
         ensures trees { OnOk result (found.new.trees ≡ found.old.trees + rank_trees self.now.paths.baskets self.now.least rank) }
         ensures few { OnOk result (found.new.trees ≤ length found.new.sets) }
-        ensures sums { OnOk result (tables.new.sums ≡ self.now.paths.ranks) }
-        ensures places { OnOk result (tables.new.places ≡ self.now.paths.ranks) }
+        ensures sums { OnOk result (tables.new.sums ≡ tables.old.sums) }
+        ensures places { OnOk result (tables.new.places ≡ tables.old.places) }
         ensures told { OnOk result (T.told_of tally.new + length found.old.sets ≡ T.told_of tally.old + length found.new.sets) }
         ensures going_on { OnOk result (T.is_over tally.new ≡ false) }
         ensures too_many { (limit : ℕ) → result ≡ Err (TooMany limit) → (limit ≡ T.limit_of tally.old)
@@ -88,15 +88,11 @@ impl Level {
                 limit: tally.limit(),
             });
         }
-        let pairs = self.paths.pairs(alloc, &mut tables.sums, rank, self.least)?;
-        if pairs.is_empty() {
-            // The class is the rank alone. Its tree is the root, which counts, and nothing is made of it.
-            found.trees += 1;
-            return Ok(());
+        let below = found.trees.make(alloc, self, rank, place, tables)?;
+        match below {
+            Some(inner) => inner.classes(alloc, tables, found, tally),
+            None => Ok(()),
         }
-        let places = &mut tables.places;
-        let inner = self.below(alloc, rank, place, places, pairs, &mut found.trees)?;
-        inner.classes(alloc, found, tally)
     }
 
     /// The classes of all ranks, each set as items, added at the end of those found.
@@ -105,16 +101,21 @@ impl Level {
     fn classes<T: Tally>(
         &self,
         alloc: Global,
+        tables: &mut Tables,
         found: &mut Found,
         tally: &mut T,
     ) -> Result<(), MineFault>
         requires level { IsLevel self.now }
         requires stands { HasSuffix self.now found.old.sets }
+        requires sums { self.now.paths.ranks ≤ tables.old.sums }
+        requires places { self.now.paths.ranks ≤ tables.old.places }
         requires few { found.old.trees ≤ length found.old.sets }
         requires going { T.is_over tally.old ≡ false }
         ensures listed { OnOk result (ListsAllAsItems self.now found.old.sets found.new.sets) }
         ensures trees { OnOk result (found.new.trees ≡ found.old.trees + inner_trees self.now.paths.baskets self.now.least) }
         ensures few { OnOk result (found.new.trees ≤ length found.new.sets) }
+        ensures sums { OnOk result (tables.new.sums ≡ tables.old.sums) }
+        ensures places { OnOk result (tables.new.places ≡ tables.old.places) }
         ensures told { OnOk result (T.told_of tally.new + length found.old.sets ≡ T.told_of tally.old + length found.new.sets) }
         ensures going_on { OnOk result (T.is_over tally.new ≡ false) }
         ensures too_many { (limit : ℕ) → result ≡ Err (TooMany limit) → (limit ≡ T.limit_of tally.old)
@@ -127,9 +128,8 @@ impl Level {
         if self.paths.is_branch() {
             return self.read_off(alloc, found, tally);
         }
-        let mut tables = Tables::new(alloc, self.paths.ranks())?;
         for rank in 0..self.paths.ranks() {
-            self.class(alloc, rank, &mut tables, found, tally)?;
+            self.class(alloc, rank, tables, found, tally)?;
         }
         Ok(())
     }
@@ -180,47 +180,5 @@ impl Level {
         // Nothing is read here: the call brings its contract, which says that the length fits a word.
         let _length = found.sets.len();
         Ok(())
-    }
-
-    /// The conditional database of a rank with these pairs, whose set stands at a place: one more tree.
-    pub fn below(
-        &self,
-        alloc: Global,
-        rank: u32,
-        place: usize,
-        places: &mut Places,
-        mut pairs: Vec<(u32, u64)>,
-        trees: &mut u64,
-    ) -> Result<Level, AllocError>
-        requires level { IsLevel self.now }
-        requires rank { rank < self.now.paths.ranks }
-        requires places { places.old ≡ self.now.paths.ranks }
-        requires pairs { pairs.items ≡ pairs_of self.now.paths.baskets self.now.least rank }
-        requires few { trees.old < 18446744073709551615 }
-        ensures below { IfOk result (IsBelow self.now rank) }
-        ensures place { IfOk result (λ inner. inner.place ≡ Some place) }
-        ensures places { places.new ≡ places.old }
-        ensures trees { OnOk result (trees.new ≡ trees.old + 1) }
-    {
-        let paths = self.paths.below(alloc, places, rank, self.least, &pairs)?;
-        rename(&mut pairs, &self.names);
-        *trees += 1;
-        Ok(Level {
-            paths,
-            names: pairs,
-            place: Some(place),
-            depth: self.depth + 1,
-            least: self.least,
-        })
-    }
-}
-
-/// Puts the item of each rank in its place.
-fn rename(pairs: &mut [(u32, u64)], names: &[(u32, u64)])
-    requires { AllBelow (length names.now) (map (λ pair. pair.0) pairs.old) }
-    ensures { pairs.new ≡ map (named_pair (map (λ name. name.0) names.now)) pairs.old }
-{
-    for place in 0..pairs.len() {
-        pairs[place].0 = names[pairs[place].0 as usize].0;
     }
 }

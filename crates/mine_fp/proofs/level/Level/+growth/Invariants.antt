@@ -15,8 +15,8 @@ invariant-classes-loop-rank g l = record {
   listed : HasClasses l.self l.rank l.fn.found.sets l.found.sets;
   trees : l.found.trees ≡ l.fn.found.trees + sum_by (rank_trees l.self.paths.baskets l.self.least) (range_with_len 0 l.rank);
   few : l.found.trees ≤ length l.found.sets;
-  sums : l.tables.sums ≡ l.self.paths.ranks;
-  places : l.tables.places ≡ l.self.paths.ranks;
+  sums : l.tables.sums ≡ l.fn.tables.sums;
+  places : l.tables.places ≡ l.fn.tables.places;
   told : g.T.Tally.told_of l.tally + length l.fn.found.sets ≡ g.T.Tally.told_of l.fn.tally + length l.found.sets;
   going_on : g.T.Tally.is_over l.tally ≡ false;
   limit : g.T.Tally.limit_of l.tally ≡ g.T.Tally.limit_of l.fn.tally;
