@@ -1,15 +1,10 @@
 //! Sets that are grown within a conditional database.
-ghost use Rattle.std.specs.Prelude.{◌≡◌, ◌≤◌, ◌<◌, ◌+◌, ◌++◌, ◌⊎◌, [], ◌∷◌, ℕ, Err, IfOk, IsTrue, OnOk, Some, false, length, map, slice_index, vec_len};
-ghost use Rattle.basket_core.specs.declared.fault.MineFault.TheVariants.{TooMany};
+ghost use Rattle.std.specs.Prelude.{◌≡◌, ◌≤◌, ◌<◌, ◌+◌, ◌++◌, [], ◌∷◌, Err, OnOk, Some, false, length, slice_index, vec_len};
 ghost use Rattle.basket_ranks.specs.Depth.{HasSetOfSize};
-ghost use Rattle.basket_sets.specs.declared.minimum.Minimum.TheVariants.{Count};
-ghost use Rattle.basket_sets.specs.Counts.{AllBelow};
-ghost use Rattle.basket_sets.specs.Frequent.{frequent_of};
 ghost use Rattle.basket_sets.specs.Itemset.{with_item};
 ghost use Rattle.basket_sets.specs.Support.{support_of};
-ghost use Rattle.mine_classes.specs.Classes.{class_of};
-ghost use Rattle.mine_classes.specs.Pairs.{named_pair, pairs_of};
-ghost use Rattle.mine_fp.specs.Level.{HasSuffix, IsBelow, IsLevel, ListsClassAsItems, ListsAllAsItems, items_of, missing, suffix_of};
+ghost use Rattle.mine_fp.specs.Found.{TellsSets};
+ghost use Rattle.mine_fp.specs.Level.{HasSuffix, HaveSlots, IsLevel, KeepSlots, ListsAllAsItems, ListsClassAsItems, class_in, items_of, missing, sets_in, suffix_of};
 ghost use Rattle.mine_fp.specs.Trees.{inner_trees, rank_trees};
 
 use crate::found::{Found, choose, tell};
@@ -55,21 +50,15 @@ impl Level {
         requires level { IsLevel self.now }
         requires stands { HasSuffix self.now found.old.sets }
         requires rank { rank < self.now.paths.ranks }
-        requires sums { self.now.paths.ranks ≤ tables.old.sums }
-        requires places { self.now.paths.ranks ≤ tables.old.places }
+        requires tables { HaveSlots self.now tables.old }
         requires few { found.old.trees ≤ length found.old.sets }
         requires going { T.is_over tally.old ≡ false }
         ensures listed { OnOk result (ListsClassAsItems self.now rank found.old.sets found.new.sets) }
         ensures trees { OnOk result (found.new.trees ≡ found.old.trees + rank_trees self.now.paths.baskets self.now.least rank) }
         ensures few { OnOk result (found.new.trees ≤ length found.new.sets) }
-        ensures sums { OnOk result (tables.new.sums ≡ tables.old.sums) }
-        ensures places { OnOk result (tables.new.places ≡ tables.old.places) }
-        ensures told { OnOk result (T.told_of tally.new + length found.old.sets ≡ T.told_of tally.old + length found.new.sets) }
-        ensures going_on { OnOk result (T.is_over tally.new ≡ false) }
-        ensures too_many { (limit : ℕ) → result ≡ Err (TooMany limit) → (limit ≡ T.limit_of tally.old)
-            × (IsTrue (T.is_over tally.new) ⊎ HasSetOfSize (class_of self.now.paths.baskets (Count self.now.least) rank) (missing self.now)) }
-        ensures at_most { T.told_of tally.new ≤ T.told_of tally.old + length (class_of self.now.paths.baskets (Count self.now.least) rank) }
-        ensures limit { T.limit_of tally.new ≡ T.limit_of tally.old }
+        ensures tables { OnOk result (KeepSlots tables.old tables.new) }
+        ensures tally { TellsSets T.limit_of T.told_of T.is_over tally.old tally.new found.old.sets found.new.sets result
+            (length (class_in self.now rank)) (HasSetOfSize (class_in self.now rank) (missing self.now)) }
     {
         classes_are_conditional();
         classes_are_listed();
@@ -107,21 +96,15 @@ impl Level {
     ) -> Result<(), MineFault>
         requires level { IsLevel self.now }
         requires stands { HasSuffix self.now found.old.sets }
-        requires sums { self.now.paths.ranks ≤ tables.old.sums }
-        requires places { self.now.paths.ranks ≤ tables.old.places }
+        requires tables { HaveSlots self.now tables.old }
         requires few { found.old.trees ≤ length found.old.sets }
         requires going { T.is_over tally.old ≡ false }
         ensures listed { OnOk result (ListsAllAsItems self.now found.old.sets found.new.sets) }
         ensures trees { OnOk result (found.new.trees ≡ found.old.trees + inner_trees self.now.paths.baskets self.now.least) }
         ensures few { OnOk result (found.new.trees ≤ length found.new.sets) }
-        ensures sums { OnOk result (tables.new.sums ≡ tables.old.sums) }
-        ensures places { OnOk result (tables.new.places ≡ tables.old.places) }
-        ensures told { OnOk result (T.told_of tally.new + length found.old.sets ≡ T.told_of tally.old + length found.new.sets) }
-        ensures going_on { OnOk result (T.is_over tally.new ≡ false) }
-        ensures too_many { (limit : ℕ) → result ≡ Err (TooMany limit) → (limit ≡ T.limit_of tally.old)
-            × (IsTrue (T.is_over tally.new) ⊎ HasSetOfSize (frequent_of self.now.paths.baskets (Count self.now.least)) (missing self.now)) }
-        ensures at_most { T.told_of tally.new ≤ T.told_of tally.old + length (frequent_of self.now.paths.baskets (Count self.now.least)) }
-        ensures limit { T.limit_of tally.new ≡ T.limit_of tally.old }
+        ensures tables { OnOk result (KeepSlots tables.old tables.new) }
+        ensures tally { TellsSets T.limit_of T.told_of T.is_over tally.old tally.new found.old.sets found.new.sets result
+            (length (sets_in self.now)) (HasSetOfSize (sets_in self.now) (missing self.now)) }
     {
         classes_are_all();
         classes_are_listed();
@@ -166,11 +149,8 @@ impl Level {
         ensures added { OnOk result (found.new.sets ≡ found.old.sets ++ record { set = with_item (slice_index (items_of self.now) rank) (suffix_of self.now found.old.sets); count = support } ∷ []) }
         ensures few { OnOk result (length found.new.sets < 18446744073709551616) }
         ensures trees { found.new.trees ≡ found.old.trees }
-        ensures told { OnOk result (T.told_of tally.new ≡ T.told_of tally.old + 1) }
-        ensures going_on { OnOk result (T.is_over tally.new ≡ false) }
-        ensures too_many { (limit : ℕ) → result ≡ Err (TooMany limit) → (limit ≡ T.limit_of tally.old) × IsTrue (T.is_over tally.new) }
-        ensures at_most { T.told_of tally.new ≤ T.told_of tally.old + 1 }
-        ensures limit { T.limit_of tally.new ≡ T.limit_of tally.old }
+        ensures tally { TellsSets T.limit_of T.told_of T.is_over tally.old tally.new found.old.sets found.new.sets result
+            1 ⊥ }
     {
         let item = self.item(rank);
         match self.place {

@@ -1,10 +1,8 @@
 //! A conditional database in the form that suits its number of ranks.
-ghost use Rattle.std.specs.Prelude.{◌≡◌, ◌≤◌, ◌<◌, ◌-◌, [], ◌∷◌, ◌==◌, All, IfOk, length, map, sum_by};
+ghost use Rattle.std.specs.Prelude.{◌≡◌, ◌≤◌, ◌<◌, ◌-◌, ◌==◌, All, IfOk, length, map};
 ghost use Rattle.std.specs.List.{list_all};
 ghost use Rattle.basket_ranks.specs.Codes.{IsCoding, decoded_place};
 ghost use Rattle.basket_sets.specs.declared.minimum.Minimum.TheVariants.{Count};
-ghost use Rattle.basket_sets.specs.Database.{MOST_WEIGHT};
-ghost use Rattle.basket_sets.specs.Support.{support_of};
 ghost use Rattle.mine_classes.specs.declared.span.Span.{Span as Run};
 ghost use Rattle.mine_classes.specs.Conditional.{conditional};
 ghost use Rattle.mine_classes.specs.Form.{form_baskets as kept_baskets};

@@ -2,7 +2,7 @@
 ghost use Rattle.std.specs.Prelude.{◌≡◌, ◌≤◌, ◌<◌, ◌+◌, [], IfNone, IfOk, IfSome, OnOk, Some, length, map};
 ghost use Rattle.basket_sets.specs.Counts.{AllBelow};
 ghost use Rattle.mine_classes.specs.Pairs.{named_pair, pairs_of};
-ghost use Rattle.mine_fp.specs.Level.{IsBelow, IsLevel};
+ghost use Rattle.mine_fp.specs.Level.{HaveSlots, IsBelow, IsLevel, KeepSlots};
 
 use crate::level::Level;
 use mine_classes::{Places, Tables};
@@ -50,15 +50,13 @@ impl Trees {
     ) -> Result<Option<Level>, AllocError>
         requires level { IsLevel level.now }
         requires rank { rank < level.now.paths.ranks }
-        requires sums { level.now.paths.ranks ≤ tables.old.sums }
-        requires places { level.now.paths.ranks ≤ tables.old.places }
+        requires tables { HaveSlots level.now tables.old }
         requires few { self.old < 18446744073709551615 }
         ensures number { OnOk result (self.new ≡ self.old + 1) }
         ensures alone { IfOk result (λ below. IfNone below (pairs_of level.now.paths.baskets level.now.least rank ≡ [])) }
         ensures below { IfOk result (λ below. IfSome below (IsBelow level.now rank)) }
         ensures place { IfOk result (λ below. IfSome below (λ inner. inner.place ≡ Some place)) }
-        ensures sums { tables.new.sums ≡ tables.old.sums }
-        ensures places { tables.new.places ≡ tables.old.places }
+        ensures tables { KeepSlots tables.old tables.new }
     {
         let pairs = level
             .paths

@@ -10,7 +10,7 @@ ghost use Rattle.mine_classes.specs.declared.words.Word.{Word as Bits};
 ghost use Rattle.mine_classes.specs.Conditional.{kept_place};
 ghost use Rattle.mine_classes.specs.ListBaskets.{AreRankBaskets, HaveSameWeights};
 ghost use Rattle.mine_classes.specs.Pairs.{pairs_of};
-ghost use Rattle.mine_classes.specs.Words.{has_rank, ranks_in, word_places};
+ghost use Rattle.mine_classes.specs.Words.{ranks_in, word_places};
 ghost use Rattle.mine_fp.specs.Trees.{is_branch};
 ghost use Rattle.mine_fp.specs.Words.{pair_weight, rank_weight};
 

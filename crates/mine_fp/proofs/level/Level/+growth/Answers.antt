@@ -1,4 +1,4 @@
-use Rattle.std.proofs.Common.{◌≡◌, ◌+◌, ◌∷◌, [], Some, get_or, cond, filter, length, refl, sym, ap, ◌∙◌, subst, inl, inr, arith, Err}
+use Rattle.std.proofs.Common.{◌≡◌, ◌+◌, ◌∷◌, [], Some, get_or, cond, filter, length, refl, sym, ap, ◌∙◌, subst, inr, arith, Err}
 use Rattle.std.specs.Bool.{⊤}
 use Rattle.std.specs.List.{range_with_len, sum_by}
 use Rattle.std.proofs.lemmas.Option.{MatchOption-at_none, MatchOption-at_some}
@@ -10,16 +10,16 @@ use Rattle.basket_sets.specs.declared.minimum.Minimum.TheVariants.{Count}
 use Rattle.basket_sets.specs.Frequent.{frequent_of}
 use Rattle.basket_sets.specs.Itemset.{with_item}
 use Rattle.basket_sets.proofs.theory.Rising.{with_item-rises}
-use Rattle.mine_classes.specs.Classes.{class_of}
 use Rattle.mine_classes.specs.Pairs.{pairs_of}
 use Rattle.mine_fp.specs.declared.level.Level.{Level}
-use Rattle.mine_fp.specs.Level.{IsBelow, items_of, missing, suffix_of}
+use Rattle.mine_fp.specs.Level.{IsBelow, class_in, items_of, missing, suffix_of}
 use Rattle.mine_fp.specs.Trees.{has_tree, inner_trees, rank_trees}
-use Rattle.mine_fp.proofs.ClassLemmas.{alone_is_one, class_grown, class_long, deeper, frequent_of_size, inner_has_fewer, met_by, rare_by}
+use Rattle.mine_fp.proofs.ClassLemmas.{alone_is_one, class_grown, class_has_one, class_long, deeper, frequent_of_size, inner_has_fewer, met_by, rare_by, slots_below, slots_kept}
 use Rattle.mine_fp.proofs.FoundLemmas.{found_fit, found_long, found_more, found_suffix, no_classes}
 use Rattle.mine_fp.proofs.LeafLemmas.{leaf_grown, leaf_trees}
 use Rattle.mine_fp.proofs.NameLemmas.{inner_is_level}
 use Rattle.mine_fp.proofs.SuffixLemmas.{suffix_added, suffix_is}
+use Rattle.mine_fp.proofs.ToldLemmas.{tells_all, tells_failed, tells_more, told_more, told_none}
 use Rattle.mine_fp.proofs.TreesLemmas.{class_trees_are, more_trees, rare_trees, trees_of_ranks}
 use Rattle.mine_fp.proofs.level.Level.+growth.Goals as goal
 
@@ -43,14 +43,21 @@ class-returns-then-support-self-clause-trees g t c =
     let none = rare_trees level.paths.baskets level.least c.args.rank c.classes_are_listed.ensures rare in
     omega arith
 
-pub class-returns-then-self-ge-DEPTH-clause-too_many :
-    goal.class-returns-then-self-ge-DEPTH-clause-too_many
-class-returns-then-self-ge-DEPTH-clause-too_many g t c = λ limit e.
+pub class-returns-then-self-ge-DEPTH-clause-tally :
+    goal.class-returns-then-self-ge-DEPTH-clause-tally
+class-returns-then-self-ge-DEPTH-clause-tally g t c =
     let level = c.args.self.now in
     let met = met_by level.paths.baskets level.least c.args.rank c.support-support.result c.support-support.ensures c.requires.level.some c.if-support-self.false in
     let last : missing level ≡ 1 = omega (arith, c.if-self-ge-DEPTH.true, c.requires.level.short) in
-    let told : c.limit.result ≡ limit = cc in
-    (sym told ∙ c.limit.ensures ∙ c.in_ok-tell_rank.ensures.limit, inr (subst (HasSetOfSize (class_of level.paths.baskets (Count level.least) c.args.rank)) (sym last) (alone_is_one level.paths.baskets level.least c.args.rank c.classes_are_listed.ensures met)))
+    let so_far = c.in_ok-tell_rank.ensures.tally in
+    record {
+      all = tt;
+      too_many = λ limit e.
+          let told : c.limit.result ≡ limit = cc in
+          (sym told ∙ c.limit.ensures ∙ so_far.limit, inr (subst (HasSetOfSize (class_in level c.args.rank)) (sym last) (alone_is_one level.paths.baskets level.least c.args.rank c.classes_are_listed.ensures met)));
+      at_most = (let one = class_has_one level.paths.baskets level.least c.args.rank c.classes_are_listed.ensures c.requires.level.some (omega (arith, c.if-support-self.false, c.support-support.ensures)) in omega (arith, so_far.at_most, one));
+      limit = so_far.limit;
+    }
 
 pub class-returns-in-None-clause-listed : goal.class-returns-in-None-clause-listed
 class-returns-in-None-clause-listed g t c =
@@ -90,13 +97,10 @@ class-classes-requires g t c κs within =
             suffix_added inner c.args.found.now.sets c.tell_rank.new.found.sets told c.len-place.result c.len-place.ensures c.in_ok-tell_rank.ensures.added
                 at (with_item-rises (get_or (items_of level) c.args.rank 0) suffix c.requires.stands.rises),
             (
-              omega (arith, fewer, c.requires.rank, c.requires.sums, c.in_ok-below.ensures.sums),
+              slots_below level c.args.rank inner c.args.tables.now c.make.new.tables c.requires.rank below c.requires.tables c.in_ok-below.ensures.tables,
               (
-                omega (arith, fewer, c.requires.rank, c.requires.places, c.in_ok-below.ensures.places),
-                (
-                  omega (arith, c.requires.few, c.in_ok-tell_rank.ensures.trees, c.in_ok-below.ensures.number, ap length c.in_ok-tell_rank.ensures.added, length-append c.args.found.now.sets (told ∷ [])),
-                  c.in_ok-tell_rank.ensures.going_on,
-                ),
+                omega (arith, c.requires.few, c.in_ok-tell_rank.ensures.trees, c.in_ok-below.ensures.number, ap length c.in_ok-tell_rank.ensures.added, length-append c.args.found.now.sets (told ∷ [])),
+                c.in_ok-tell_rank.ensures.tally.all.going_on,
               ),
             ),
           ),
@@ -129,64 +133,35 @@ class-returns-in-Some-clause-trees g t c =
     let all = class_trees_are level c.args.rank inner c.requires.level below c.classes_by_codings.ensures met c.classes_are_listed.ensures c.conditional_supports.ensures in
     on_ok_weaker c.classes.result (λ made. omega (arith, made, all, c.in_ok-below.ensures.number, c.in_ok-tell_rank.ensures.trees)) c.classes.ensures.trees
 
-pub class-returns-in-Some-clause-too_many : goal.class-returns-in-Some-clause-too_many
-class-returns-in-Some-clause-too_many g t c = λ limit e.
-    let level = c.args.self.now in
-    let inner = c.in-Some.inner in
-    let met = met_by level.paths.baskets level.least c.args.rank c.support-support.result c.support-support.ensures c.requires.level.some c.if-support-self.false in
-    let below = MatchOption-at_some ⊤ (IsBelow level c.args.rank) inner c.in-Some.is c.in_ok-below.ensures.below in
-    let many = c.classes.ensures.too_many limit e in
-    let less : missing inner + 1 ≡ missing level = omega (arith, below.depth, c.if-self-ge-DEPTH.false) in (
-      many.0 ∙ c.in_ok-tell_rank.ensures.limit,
-      elim many.1 [
-        | inl over ↦ inl over
-        | inr deep ↦ inr (subst (HasSetOfSize (class_of level.paths.baskets (Count level.least) c.args.rank)) less
-            (deeper level c.args.rank inner below c.classes_by_codings.ensures met c.classes_are_listed.ensures (missing inner) deep))
-      ],
-    )
-
-pub class-returns-in-Some-clause-at_most : goal.class-returns-in-Some-clause-at_most
-class-returns-in-Some-clause-at_most g t c =
+pub class-returns-in-Some-clause-tally : goal.class-returns-in-Some-clause-tally
+class-returns-in-Some-clause-tally g t c =
     let level = c.args.self.now in
     let inner = c.in-Some.inner in
     let met = met_by level.paths.baskets level.least c.args.rank c.support-support.result c.support-support.ensures c.requires.level.some c.if-support-self.false in
     let below = MatchOption-at_some ⊤ (IsBelow level c.args.rank) inner c.in-Some.is c.in_ok-below.ensures.below in
     let long = class_long level c.args.rank inner below c.classes_by_codings.ensures met c.lists_have_class_size.ensures in
-    let told = c.in_ok-tell_rank.ensures.at_most in
-    let most = c.classes.ensures.at_most in
-    omega arith
+    let one = ap length c.in_ok-tell_rank.ensures.added ∙ length-append c.args.found.now.sets (record { set = with_item (get_or (items_of level) c.args.rank 0) (suffix_of level c.args.found.now.sets); count = c.support-support.result } ∷ []) in
+    let less : missing inner + 1 ≡ missing level = omega (arith, below.depth, c.if-self-ge-DEPTH.false) in
+    tells_more c.in_ok-tell_rank.ensures.tally.all c.classes.ensures.tally (omega (arith, long, one))
+    (λ deep. subst (HasSetOfSize (class_in level c.args.rank)) less (deeper level c.args.rank inner below c.classes_by_codings.ensures met c.classes_are_listed.ensures (missing inner) deep))
 
 pub classes-loop-rank-init : goal.classes-loop-rank-init
 classes-loop-rank-init g t c = record {
   listed = no_classes c.args.self.now c.args.found.now.sets;
   trees = omega arith;
   few = c.requires.few;
-  sums = refl;
-  places = refl;
-  told = refl;
-  going_on = c.requires.going;
-  limit = refl;
+  tables = record { sums = refl; places = refl };
+  told = told_none c.args.tally.now c.args.found.now.sets c.requires.going;
 }
 
-pub classes-returns-in_err-class-clause-too_many :
-    goal.classes-returns-in_err-class-clause-too_many
-classes-returns-in_err-class-clause-too_many g t c = λ limit e.
+pub classes-returns-in_err-class-clause-tally : goal.classes-returns-in_err-class-clause-tally
+classes-returns-in_err-class-clause-tally g t c =
     let level = c.args.self.now in
-    let p = err_from_is_err_and c.from_residual.result c.from_residual.ensures.1 in
-    let many = c.in_err-class.ensures.too_many limit (ap Err (sym p.2) ∙ sym p.1 ∙ e) in (
-      many.0 ∙ c.loop-rank.invariant.limit,
-      elim many.1 [
-        | inl over ↦ inl over
-        | inr deep ↦ inr (frequent_of_size level.paths.baskets level.least c.loop-rank.rank (missing level) deep)
-      ],
-    )
-
-pub classes-returns-in_err-class-clause-at_most : goal.classes-returns-in_err-class-clause-at_most
-classes-returns-in_err-class-clause-at_most g t c =
     let so_far = c.loop-rank.invariant in
-    let fit = found_fit c.args.self.now c.loop-rank.rank c.args.found.now.sets c.loop-rank.found.sets so_far.listed c.classes_are_all.ensures c.classes_are_listed.ensures c.requires.level
+    let fit = found_fit level c.loop-rank.rank c.args.found.now.sets c.loop-rank.found.sets so_far.listed c.classes_are_all.ensures c.classes_are_listed.ensures c.requires.level
     (omega (arith, c.loop-rank-test.true, c.ranks-rank-end.ensures)) in
-    omega (arith, so_far.told, c.in_err-class.ensures.at_most)
+    let p = err_from_is_err_and c.from_residual.result c.from_residual.ensures.1 in
+    tells_failed so_far.told c.in_err-class.ensures.tally refl fit (frequent_of_size level.paths.baskets level.least c.loop-rank.rank (missing level)) c.from_residual.result (p.1 ∙ ap Err p.2)
 
 pub classes-class-requires : goal.classes-class-requires
 classes-class-requires g t c κs within =
@@ -200,7 +175,7 @@ classes-class-requires g t c κs within =
             found_suffix c.args.self.now c.loop-rank.rank c.args.found.now.sets c.loop-rank.found.sets so_far.listed c.requires.stands,
             (
               omega (arith, c.loop-rank-test.true, c.ranks-rank-end.ensures),
-              (omega (arith, c.requires.sums, so_far.sums), (omega (arith, c.requires.places, so_far.places), (so_far.few, so_far.going_on))),
+              (slots_kept c.args.self.now c.args.tables.now c.loop-rank.tables c.requires.tables so_far.tables, (so_far.few, so_far.told.going_on)),
             ),
           ),
         ),
@@ -216,18 +191,15 @@ classes-loop-rank-preserved g t c =
       listed = found_more level c.loop-rank.rank c.args.found.now.sets c.loop-rank.found.sets so_far.listed c.class.new.found.sets c.requires.stands now.listed;
       trees = omega (arith, now.trees, so_far.trees, more_trees level.paths.baskets level.least c.loop-rank.rank);
       few = now.few;
-      sums = now.sums ∙ so_far.sums;
-      places = now.places ∙ so_far.places;
-      told = omega (arith, now.told, so_far.told);
-      going_on = now.going_on;
-      limit = now.limit ∙ so_far.limit;
+      tables = record { sums = now.tables.sums ∙ so_far.tables.sums; places = now.tables.places ∙ so_far.tables.places };
+      told = told_more so_far.told now.tally.all;
     }
 
-pub classes-returns-clause-at_most : goal.classes-returns-clause-at_most
-classes-returns-clause-at_most g t c =
+pub classes-returns-clause-tally : goal.classes-returns-clause-tally
+classes-returns-clause-tally g t c =
     let last : c.loop-rank.rank ≡ c.args.self.now.paths.ranks = omega (arith, c.loop-rank-test.false, c.ranks-rank-end.ensures, c.loop-rank.auto.rank-end) in
     let long = found_long c.args.self.now c.loop-rank.rank c.args.found.now.sets c.loop-rank.found.sets c.loop-rank.invariant.listed c.classes_are_all.ensures c.classes_are_listed.ensures c.requires.level last in
-    omega (arith, c.loop-rank.invariant.told)
+    tells_all c.loop-rank.invariant.told (omega (arith, long))
 
 pub classes-returns-clause-trees : goal.classes-returns-clause-trees
 classes-returns-clause-trees g t c =
