@@ -26,9 +26,10 @@ use Rattle.mine_classes.specs.declared.tables.Tables.{Tables}
 use Rattle.mine_classes.specs.Mined.{ListsHaveClassSize}
 use Rattle.mine_classes.specs.ListBaskets.{AreRankBaskets, IsRankBasket, RankBaskets}
 use Rattle.mine_classes.specs.Pairs.{kept_ranks}
+use Rattle.mine_classes.proofs.theory.Kept.{kept_rises, kept_short}
 use Rattle.mine_fp.specs.declared.level.Level.{Level}
 use Rattle.mine_fp.specs.Level.{HaveSlots, IsBelow, KeepSlots, ListsAllAsItems, ListsClassAsItems, as_items, items_of, suffix_of}
-use Rattle.mine_fp.proofs.LevelLemmas.{alone_as_items, inner_as_items, kept_rises, kept_short, length-decoded, named_ranks}
+use Rattle.mine_fp.proofs.LevelLemmas.{alone_as_items, inner_as_items, length-decoded, named_ranks}
 
 -- ---- lists of classes
 

@@ -1,68 +1,34 @@
 -- Words of bits: their ranks, and what they weigh.
-use Rattle.std.proofs.Common.{◌≡◌, ℕ, ◌+◌, ◌-◌, ◌^◌, ◌<◌, ◌≤◌, Bool, true, false, ◌&&◌, ◌||◌, List, [], ◌∷◌, ◌++◌, length, take, get_or, map, cond, eqb, ltb, refl, sym, ap, ◌∙◌, subst, inl, inr, arith, add-zero, zero, suc}
-use Rattle.std.specs.Prelude.{bit_or, nat_eq}
-use Rattle.std.specs.Int.{bit_at}
-use Rattle.std.specs.List.{IsDistinct, filter, flat_map, list_all, range_with_len, sum_by}
+use Rattle.std.proofs.Common.{◌≡◌, ℕ, ◌+◌, ◌-◌, ◌<◌, ◌≤◌, Bool, true, false, ◌&&◌, List, [], ◌∷◌, ◌++◌, length, take, get_or, map, cond, refl, sym, ap, ◌∙◌, subst, inl, inr, arith, add-zero, zero, suc}
+use Rattle.std.specs.List.{filter, flat_map, list_all, range_with_len, sum_by}
 use Rattle.std.specs.Ordering.{nat_cmp}
-use Rattle.std.proofs.lemmas.Bool.{and_from, and_parts, cases_Bool, cases_eq, ltb-true, eq-eqb, eqb-true, lt-ltb, true≢false}
+use Rattle.std.proofs.lemmas.Bool.{and_from, cases_Bool, lt-ltb, true≢false}
 use Rattle.std.proofs.lemmas.List.{append-nil, append_assoc, get_or_default, map-append, take_more}
-use Rattle.std.proofs.lemmas.List.Elements.{All-weaker}
 use Rattle.std.proofs.lemmas.List.Kept.{IsStrictlySortedBy-filter}
 use Rattle.std.proofs.lemmas.List.Sums.{sum_by-cons, sum_by_push}
-use Rattle.std.proofs.lemmas.Nat.Bits.{bit_at-lt, bit_at-pow_other, bit_at-pow_same, bit_at-zero, bit_at_or}
-use Rattle.std.specs.Prelude.{max}
-use Rattle.basket_ranks.specs.Codes.{IsCodedPlace, IsCoding, MOST_RANKS, decoded, decoded_place}
+use Rattle.basket_ranks.specs.Codes.{decoded, decoded_place}
 use Rattle.basket_ranks.proofs.theory.Coding.{from_decoded, into_decoded}
 use Rattle.basket_sets.specs.declared.weighted.Weighted.{Weighted}
 use Rattle.basket_sets.specs.declared.minimum.Minimum.TheVariants.{Count}
 use Rattle.basket_sets.specs.Counts.{AllBelow}
-use Rattle.basket_sets.specs.Database.{HasWeight, weighted}
+use Rattle.basket_sets.specs.Database.{weighted}
 use Rattle.basket_sets.specs.Frequent.{is_frequent}
 use Rattle.basket_sets.specs.Itemset.{IsRising, contains, has}
 use Rattle.basket_sets.specs.Support.{support_of, weight_at}
-use Rattle.basket_sets.proofs.theory.Members.{All-from_Member, Member, Member-filter, Member-from_filter, Contains-from_Member}
+use Rattle.basket_sets.proofs.theory.Members.{Member, Member-filter, Member-from_filter, Contains-from_Member}
 use Rattle.basket_sets.proofs.theory.Merging.{sum_by-same}
-use Rattle.basket_sets.proofs.theory.Rising.{Member-from_has, contains_each, first_below, rest_rises, has-from_Member, has_each, rising-rises, same_rising, same_test}
-use Rattle.mine_classes.specs.declared.words.TheConstants.{WORD_RANKS}
+use Rattle.basket_sets.proofs.theory.Rising.{Member-from_has, contains_each, has-from_Member, has_each, rising-rises, same_rising, same_test}
 use Rattle.mine_classes.specs.declared.words.Word.{Word}
 use Rattle.mine_classes.specs.Conditional.{is_kept, kept_place}
-use Rattle.mine_classes.specs.ListBaskets.{AreRankBaskets, HaveSameWeights, IsRankBasket, RankBaskets, weight_where}
+use Rattle.mine_classes.specs.ListBaskets.{HaveSameWeights, weight_where}
 use Rattle.mine_classes.specs.Pairs.{is_met, kept_ranks, pairs_of}
 use Rattle.mine_classes.specs.Words.{has_rank, ranks_in, word_place, word_places}
+use Rattle.mine_classes.proofs.theory.Weights.{changed_weight}
+use Rattle.mine_classes.proofs.theory.Kept.{Member-into_range, Member-range, range_rises}
 use Rattle.mine_fp.specs.Trees.{is_branch}
 use Rattle.mine_fp.specs.Words.{pair_weight, rank_weight}
-use Rattle.mine_fp.proofs.LevelLemmas.{Member-into_range, at_place, kept_rises, kept_short, range_rises, range_within}
+use Rattle.mine_fp.proofs.LevelLemmas.{at_place}
 use Rattle.mine_fp.proofs.StraightLemmas.{all_of, each_of}
-
--- ---- bits
-
-one_of_two : (x y : ℕ) → x < 2 → y < 2 → eqb (max x y) 1 ≡ (eqb x 1 || eqb y 1)
-one_of_two zero zero low high = refl
-one_of_two zero (suc zero) low high = refl
-one_of_two zero (suc (suc y)) low high = absurd (omega arith)
-one_of_two (suc zero) zero low high = refl
-one_of_two (suc zero) (suc zero) low high = refl
-one_of_two (suc zero) (suc (suc y)) low high = absurd (omega arith)
-one_of_two (suc (suc x)) y low high = absurd (omega arith)
-
-pub has_either : (a b rank : ℕ) → has_rank (bit_or a b) rank ≡ (has_rank a rank || has_rank b rank)
-has_either a b rank = ap (λ n. eqb n 1) (bit_at_or a b (63 - rank)) ∙ one_of_two (bit_at a (63 - rank)) (bit_at b (63 - rank)) (bit_at-lt a (63 - rank)) (bit_at-lt b (63 - rank))
-
-apart : (x y : ℕ) → (x ≡ y → ⊥) → eqb x y ≡ false
-apart x y differ = elim (cases_Bool (eqb x y)) [ inl e ↦ absurd (differ (eqb-true x y e)) | inr e ↦ e ]
-
-or_false : (b : Bool) → (b || false) ≡ b
-or_false true = refl
-or_false false = refl
-
-pub has_bit : (r rank : ℕ) → r < WORD_RANKS → rank < WORD_RANKS → has_rank (2 ^ (63 - r)) rank ≡ eqb r rank
-has_bit r rank low high = elim (cases_eq r rank) [
-  | inl e ↦ ap (λ n. has_rank (2 ^ (63 - r)) n) (sym e) ∙ ap (λ n. eqb n 1) (bit_at-pow_same (63 - r)) ∙ sym (eq-eqb r rank e)
-  | inr differ ↦ ap (λ n. eqb n 1) (bit_at-pow_other (63 - r) (63 - rank) (λ e. differ (omega arith))) ∙ sym (apart r rank differ)
-]
-
-pub no_rank : (rank : ℕ) → has_rank 0 rank ≡ false
-no_rank rank = ap (λ n. eqb n 1) (bit_at-zero (63 - rank))
 
 -- ---- the ranks of a word
 
@@ -72,7 +38,7 @@ has_in count bits rank low = same_test (has (ranks_in count bits) rank) (has_ran
     (λ h. has-from_Member (ranks_in count bits) rank (Member-from_filter (has_rank bits) rank (range_with_len 0 count) (Member-into_range 0 count rank (omega arith) (omega arith)) h))
 
 pub in_below : (count bits rank : ℕ) → Member rank (ranks_in count bits) → rank < count
-in_below count bits rank m = let high = range_within 0 count rank (Member-filter (has_rank bits) rank (range_with_len 0 count) m).0 in omega arith
+in_below count bits rank m = let high = (Member-range 0 count rank (Member-filter (has_rank bits) rank (range_with_len 0 count) m).0).1 in omega arith
 
 pub in_rise : (count bits : ℕ) → IsRising (ranks_in count bits)
 in_rise count bits = IsStrictlySortedBy-filter nat_cmp (has_rank bits) (range_with_len 0 count) (range_rises 0 count)
@@ -114,8 +80,6 @@ pair_weight_le rank other word = at_most (has_rank word.bits rank)
     at_most true = rank_weight_le other word
     at_most false = omega arith
 
--- ---- words are baskets of ranks, and the other way round
-
 abbrev pub none : Word
 none = record { bits = 0; weight = 0 }
 
@@ -144,7 +108,7 @@ sums_are_pairs baskets least rank sums long are =
     summed other = is_met least (get_or sums other 0)
 
     within : (other : ℕ) → Member other (range_with_len 0 rank) → other < rank
-    within other m = let high = range_within 0 rank other m in omega arith
+    within other m = let high = (Member-range 0 rank other m).1 in omega arith
 
 -- ---- the sums of pairs
 
@@ -173,7 +137,7 @@ front_fills count bits front = all_of (λ rank. contains (ranks_in count bits) (
     let own = Member-filter (has_rank bits) rank (range_with_len 0 count) m in
     let low = in_below count bits rank m in
     contains_each (ranks_in count bits) (range_with_len 0 rank) (λ other n.
-    let less = range_within 0 rank other n in
+    let less = (Member-range 0 rank other n).1 in
     let whole : other + (rank - other) ≡ rank = omega arith in
     Member-from_has (ranks_in count bits) other (has_in count bits other (omega arith) ∙ down count bits front (rank - other) other (omega arith) (subst (λ r. has_rank bits r ≡ true) (sym whole) own.1))))
 
@@ -199,8 +163,6 @@ pub one_fails : (count : ℕ) (words : List Word) (k : ℕ) → k < length words
 one_fails count [] k here e = absurd (omega arith)
 one_fails count (word ∷ words) zero here e = ap (λ b. b && is_branch (word_places count words)) e
 one_fails count (word ∷ words) (suc k) here e = ap (λ b. fills count word.bits && b) (one_fails count words k (omega arith) e) ∙ and_false (fills count word.bits)
-
--- ---- baskets as words
 
 -- ---- words kept to some ranks
 
@@ -231,19 +193,6 @@ kept_decoded kept count bits new low are = same_rising (filter (has kept) (ranks
         let there = has-from_Member kept rank (subst (λ x. Member x kept) d.2 (at_place kept d.0 here)) in
         Member-from_filter (has kept) rank (ranks_in count bits)
         (Member-from_has (ranks_in count bits) rank (has_in count bits rank (low rank there) ∙ ap (has_rank bits) (sym d.2) ∙ sym (are d.0 here) ∙ own)) there
-
-changed_weight : (test : List ℕ → Bool) (f : List ℕ → List ℕ) (places : List Weighted)
-    → weight_where test (map (λ (place : Weighted). weighted (f place.basket) place.weight) places) ≡ weight_where (λ basket. test (f basket)) places
-changed_weight test f [] = refl
-changed_weight test f (place ∷ places) =
-    sum_by-cons (λ (p : Weighted). cond (test p.basket) p.weight 0) (weighted (f place.basket) place.weight) (map (λ (p : Weighted). weighted (f p.basket) p.weight) places)
-    ∙ ap (λ n. cond (test (f place.basket)) place.weight 0 + n) (changed_weight test f places)
-    ∙ sym (sum_by-cons (λ (p : Weighted). cond (test (f p.basket)) p.weight 0) place places)
-
--- baskets of the same weights are so when they are decoded
-pub decoded_weights : (kept : List ℕ) (baskets others : List Weighted) → HaveSameWeights baskets others → HaveSameWeights (map (decoded_place kept) baskets) (map (decoded_place kept) others)
-decoded_weights kept baskets others same test =
-    changed_weight test (decoded kept) baskets ∙ same (λ basket. test (decoded kept basket)) ∙ sym (changed_weight test (decoded kept) others)
 
 flat_map_push : (f : Weighted → List Weighted) (xs : List Weighted) (y : Weighted) → flat_map f (xs ++ y ∷ []) ≡ flat_map f xs ++ f y
 flat_map_push f [] y = append-nil (f y)
@@ -287,36 +236,3 @@ module _ (kept : List ℕ) (count rank : ℕ) (words : List Word) (i : ℕ) wher
       ∙ sym (ap (weight_where inner) (map-append (word_place n) old (word ∷ [])) ∙ sum_by_push (weigh inner) (word_places n old) (word_place n word))
       ∙ added inner
       ∙ sym (changed_weight test (decoded kept) (word_places n new))
-
--- ---- a conditional database of words
-
-pub has_kept : (baskets : List Weighted) (least rank other : ℕ) → has (kept_ranks baskets least rank) other ≡ is_kept baskets least rank other
-has_kept baskets least rank other = same_test (has kept other) (is_kept baskets least rank other)
-    (λ h. (Member-filter (is_kept baskets least rank) other (range_with_len 0 rank) (Member-from_has kept other h)).1)
-    (λ h.
-    let less = ltb-true other rank (and_parts (ltb other rank) (is_frequent baskets (Count least) (other ∷ rank ∷ [])) h).0 in
-    has-from_Member kept other (Member-from_filter (is_kept baskets least rank) other (range_with_len 0 rank) (Member-into_range 0 rank other (omega arith) (omega arith)) h))
-  where
-    kept : List ℕ
-    kept = kept_ranks baskets least rank
-
-rising_distinct : (xs : List ℕ) → IsRising xs → IsDistinct nat_eq xs
-unfolding IsDistinct
-rising_distinct [] up = tt
-rising_distinct (x ∷ xs) up = (
-  All-from_Member (λ y. nat_eq x y ≡ false) xs (λ y m. elim (cases_Bool (nat_eq x y)) [
-    | inl e ↦ (let same = eqb-true x y e in let less = first_below x xs up y m in absurd (omega arith))
-    | inr e ↦ e
-  ]),
-  rising_distinct xs (rest_rises x xs up),
-)
-
-pub conditional_coding : (baskets : List Weighted) (least rank : ℕ) (value : RankBaskets) → AreRankBaskets value → value.ranks ≡ length (kept_ranks baskets least rank) → rank < MOST_RANKS
-    → IsCoding (record { items = kept_ranks baskets least rank; minimum = Count least; baskets = value.baskets })
-conditional_coding baskets least rank value are long few = record {
-  distinct = rising_distinct (kept_ranks baskets least rank) (kept_rises baskets least rank);
-  few = (let short = kept_short baskets least rank in omega arith);
-  places = All-weaker (IsRankBasket value.ranks) (IsCodedPlace (kept_ranks baskets least rank)) (λ place is. (is.rises, subst (λ n. AllBelow n place.basket) long is.below)) value.baskets are.places;
-  weights = All-weaker (IsRankBasket value.ranks) HasWeight (λ place is. is.weighs) value.baskets are.places;
-  light = are.light;
-}

@@ -2,8 +2,8 @@ use Rattle.std.proofs.Common.{ℕ, ◌+◌, length, map, drop, ap, ◌∙◌, su
 use Rattle.std.proofs.lemmas.List.{length-map, take-append-le, take_all}
 use Rattle.basket_sets.specs.Itemset.{has}
 use Rattle.mine_classes.specs.Pairs.{named_pair, pairs_of}
+use Rattle.mine_classes.proofs.theory.Kept.{kept_below, pair_ranks}
 use Rattle.mine_fp.specs.Level.{items_of}
-use Rattle.mine_fp.proofs.LevelLemmas.{kept_below, pair_ranks}
 use Rattle.mine_fp.proofs.trees.level_below.Goals as goal
 
 pub rename-requires : goal.rename-requires

@@ -9,7 +9,7 @@ use Rattle.mine_classes.specs.declared.words.Word.{Word}
 use Rattle.mine_classes.specs.Conditional.{kept_place}
 use Rattle.mine_classes.specs.ListBaskets.{HaveSameWeights}
 use Rattle.mine_classes.specs.Words.{word_places}
-use Rattle.mine_fp.proofs.WordLemmas.{decoded_weights}
+use Rattle.mine_classes.proofs.theory.Weights.{decoded_weights}
 use Rattle.mine_fp.proofs.words.below.Goals as goal
 
 -- the baskets of the words that were kept
