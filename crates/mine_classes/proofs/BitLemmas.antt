@@ -1,12 +1,11 @@
 -- The places of a basket's ranks as bits.
-use Rattle.std.proofs.Common.{◌≡◌, ◌≢◌, ℕ, ◌+◌, ◌-◌, ◌^◌, ◌<◌, ◌≤◌, ◌⊎◌, Bool, true, false, ◌||◌, List, [], ◌∷◌, Option, Some, None, length, map, take, get_or, set, cond, eqb, refl, sym, ap, ◌∙◌, inl, inr, arith, zero, suc}
-use Rattle.std.specs.Prelude.{All, bit_or, max}
-use Rattle.std.specs.Int.{bit_at}
+use Rattle.std.proofs.Common.{◌≡◌, ◌≢◌, ℕ, ◌+◌, ◌-◌, ◌^◌, ◌<◌, ◌≤◌, ◌⊎◌, Bool, true, false, ◌||◌, List, [], ◌∷◌, Option, Some, None, length, map, take, get_or, set, cond, eqb, refl, sym, ap, ◌∙◌, inl, inr, arith}
+use Rattle.std.specs.Prelude.{All, bit_or}
 use Rattle.std.specs.List.{AllByRecursion, fold, range_with_len}
 use Rattle.std.proofs.lemmas.Bool.{cases_Bool, cases_eq, cases_lt, eq-eqb, or_cases, true≢false}
 use Rattle.std.proofs.lemmas.List.{get_or_past, get_or-set_same, get_or-set_other, length-set, take_all}
 use Rattle.std.proofs.lemmas.List.Elements.{recursion_from_All}
-use Rattle.std.proofs.lemmas.Nat.Bits.{bit_at-lt, bit_at-pow_other, bit_at-pow_same, bit_at-zero, bit_at_or}
+use Rattle.std.proofs.lemmas.Nat.Bits.{bit_at-pow_other, bit_at-pow_same, bit_at-zero}
 use Rattle.basket_ranks.specs.Codes.{coded_place, rank_of}
 use Rattle.basket_sets.specs.declared.weighted.Weighted.{Weighted}
 use Rattle.basket_sets.specs.Counts.{AllBelow}
@@ -19,29 +18,10 @@ use Rattle.mine_classes.specs.ListBaskets.{IsRankBasket}
 use Rattle.mine_classes.specs.Words.{AreBits, has_rank, option_bit, place_bit, rank_bits, ranks_in, table_bits, table_word, word_places}
 use Rattle.mine_classes.proofs.PairLemmas.{apart_eqb, has_more, or_false, or_true}
 use Rattle.mine_classes.proofs.PlaceLemmas.{all_coded, from_places, into_places, placed, places_in, places_rise, rank_at, rank_from_none, stands}
-use Rattle.mine_classes.proofs.SumLemmas.{Member-into_range, Member-range, filtered_range_rises}
-
--- ---- the bits of two words together
-
-one_of_two : (x y : ℕ) → x < 2 → y < 2 → eqb (max x y) 1 ≡ (eqb x 1 || eqb y 1)
-one_of_two zero zero low high = refl
-one_of_two zero (suc zero) low high = refl
-one_of_two zero (suc (suc y)) low high = absurd (omega arith)
-one_of_two (suc zero) zero low high = refl
-one_of_two (suc zero) (suc zero) low high = refl
-one_of_two (suc zero) (suc (suc y)) low high = absurd (omega arith)
-one_of_two (suc (suc x)) y low high = absurd (omega arith)
-
-has_either : (a b rank : ℕ) → has_rank (bit_or a b) rank ≡ (has_rank a rank || has_rank b rank)
-has_either a b rank = ap (λ n. eqb n 1) (bit_at_or a b (63 - rank)) ∙ one_of_two (bit_at a (63 - rank)) (bit_at b (63 - rank)) (bit_at-lt a (63 - rank)) (bit_at-lt b (63 - rank))
+use Rattle.mine_classes.proofs.theory.Bits.{has_either, one_rank}
+use Rattle.mine_classes.proofs.theory.Kept.{Member-into_range, Member-range, filtered_range_rises}
 
 -- ---- the bits of ranks
-
-one_rank : (first rank : ℕ) → first < WORD_RANKS → rank < WORD_RANKS → has_rank (2 ^ (63 - first)) rank ≡ eqb first rank
-one_rank first rank low within = elim (cases_eq first rank) [
-  | inl e ↦ ap (λ r. has_rank (2 ^ (63 - first)) r) (sym e) ∙ ap (λ n. eqb n 1) (bit_at-pow_same (63 - first)) ∙ sym (eq-eqb first rank e)
-  | inr differ ↦ ap (λ n. eqb n 1) (bit_at-pow_other (63 - first) (63 - rank) (λ e. differ (omega arith))) ∙ sym (apart_eqb first rank differ)
-]
 
 or_assoc : (a b c : Bool) → ((a || b) || c) ≡ (a || (b || c))
 or_assoc true b c = refl

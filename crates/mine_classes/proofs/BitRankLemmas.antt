@@ -8,7 +8,7 @@ use Rattle.std.proofs.lemmas.Nat.Bits.{bit_at-zero, bit_at_above, bit_at_cat_hig
 use Rattle.basket_sets.proofs.theory.Members.{Member, Member-filter, Member-from_filter}
 use Rattle.basket_sets.proofs.theory.Rising.{cons_rises, nil_rises, same_rising}
 use Rattle.mine_classes.specs.Words.{has_rank, ranks_in}
-use Rattle.mine_classes.proofs.SumLemmas.{Member-into_range, Member-range, filtered_range_rises}
+use Rattle.mine_classes.proofs.theory.Kept.{Member-into_range, Member-range, filtered_range_rises}
 
 -- no bits have no ranks
 pub no_ranks : (count : ℕ) → ranks_in count 0 ≡ []

@@ -1,3 +1,4 @@
+pub mod theory
 mod ConditionalLemmas
 mod ClassLemmas
 mod TogetherLemmas

@@ -1,28 +1,27 @@
 -- Sums by rank as weights, and the supports of pairs.
-use Rattle.std.proofs.Common.{◌≡◌, ℕ, ◌+◌, ◌<◌, ◌≤◌, Bool, true, false, ◌&&◌, List, [], ◌∷◌, length, take, get_or, map, cond, leb, ltb, refl, sym, ap, ◌∙◌, inl, inr, arith, add-zero, zero, suc}
+use Rattle.std.proofs.Common.{◌≡◌, ℕ, ◌+◌, ◌<◌, ◌≤◌, Bool, true, false, ◌&&◌, List, [], ◌∷◌, length, take, get_or, map, cond, leb, ltb, refl, sym, ap, ◌∙◌, inl, inr, arith, add-zero}
 use Rattle.std.specs.List.{filter, range_with_len, sum_by}
-use Rattle.std.specs.Ordering.{nat_cmp}
-use Rattle.std.proofs.lemmas.Bool.{and_parts, cases_eq, leb-true, ltb-true}
+use Rattle.std.proofs.lemmas.Bool.{and_parts, leb-true, ltb-true}
 use Rattle.std.proofs.lemmas.List.{take_more}
 use Rattle.std.proofs.lemmas.List.Elements.{All-weaker}
-use Rattle.std.proofs.lemmas.List.Kept.{IsStrictlySortedBy-filter}
 use Rattle.std.proofs.lemmas.List.Sums.{sum_by-cons, sum_by-append, sum_by-le-sum_by, sum_by_more_le}
 use Rattle.basket_sets.specs.declared.weighted.Weighted.{Weighted}
 use Rattle.basket_sets.specs.declared.minimum.Minimum.TheVariants.{Count}
 use Rattle.basket_sets.specs.Database.{MOST_WEIGHT}
 use Rattle.basket_sets.specs.Frequent.{is_frequent}
-use Rattle.basket_sets.specs.Itemset.{IsRising, contains, has, rising}
+use Rattle.basket_sets.specs.Itemset.{contains, has, rising}
 use Rattle.basket_sets.specs.Support.{support_of, total_of, weight_at}
 use Rattle.basket_sets.proofs.theory.Members.{Member, Member-filter, Member-from_filter}
-use Rattle.basket_sets.proofs.theory.Rising.{Member-from_has, has-from_Member, Member-rising, Member-into_rising, cons_rises, nil_rises, rising-rises, same_rising}
-use Rattle.basket_sets.proofs.theory.Support.{support_falls}
+use Rattle.basket_sets.proofs.theory.Rising.{Member-from_has, has-from_Member, Member-rising, Member-into_rising, rising-rises, same_rising}
+use Rattle.basket_sets.proofs.theory.Support.{support-cons, support_falls}
 use Rattle.mine_classes.specs.declared.span.Span.{Span}
 use Rattle.mine_classes.specs.Conditional.{is_kept}
 use Rattle.mine_classes.specs.ListBaskets.{AreRankBaskets, IsRankBasket}
 use Rattle.mine_classes.specs.Pairs.{AreSums, is_met, kept_ranks, pairs_of, ranks_met, weight_with}
 use Rattle.mine_classes.specs.Runs.{AreRunsOf, below}
-use Rattle.mine_classes.specs.Span.{baskets_at}
+use Rattle.mine_classes.specs.Span.{basket_at, baskets_at}
 use Rattle.mine_classes.proofs.ConditionalLemmas.{kept_support}
+use Rattle.mine_classes.proofs.theory.Kept.{Member-into_range, Member-range, filtered_range_rises}
 
 -- ---- sums
 
@@ -45,26 +44,7 @@ sum_more baskets i rank d here =
     ap (weight_with rank) (take_more baskets i d here) ∙ sum_by-append (weigh rank) (take i baskets) (get_or baskets i d ∷ [])
     ∙ ap (λ n. weight_with rank (take i baskets) + n) (sum_by-cons (weigh rank) (get_or baskets i d) [] ∙ add-zero (weigh rank (get_or baskets i d)))
 
--- ---- ranges, and filters of them
-
-pub Member-range : (a n x : ℕ) → Member x (range_with_len a n) → (a ≤ x) × (x < a + n)
-Member-range a zero x m = absurd m
-Member-range a (suc n) x (inl e) = (omega arith, omega arith)
-Member-range a (suc n) x (inr m) = let r = Member-range (a + 1) n x m in let low = r.0 in let high = r.1 in (omega arith, omega arith)
-
-pub Member-into_range : (a n x : ℕ) → a ≤ x → x < a + n → Member x (range_with_len a n)
-Member-into_range a zero x low high = absurd (omega arith)
-Member-into_range a (suc n) x low high = elim (cases_eq a x) [
-  | inl e ↦ inl e
-  | inr differ ↦ inr (Member-into_range (a + 1) n x (omega arith) (omega arith))
-]
-
-range_rises : (a n : ℕ) → IsRising (range_with_len a n)
-range_rises a zero = nil_rises
-range_rises a (suc n) = cons_rises a (range_with_len (a + 1) n) (λ y m. let r = Member-range (a + 1) n y m in let low = r.0 in omega arith) (range_rises (a + 1) n)
-
-pub filtered_range_rises : (p : ℕ → Bool) (a n : ℕ) → IsRising (filter p (range_with_len a n))
-filtered_range_rises p a n = IsStrictlySortedBy-filter nat_cmp p (range_with_len a n) (range_rises a n)
+-- ---- lists of members
 
 map_members : {K J : Type 0} (f g : K → J) (xs : List K) → ((x : K) → Member x xs → f x ≡ g x) → map f xs ≡ map g xs
 map_members f g [] same = refl
@@ -120,6 +100,11 @@ and_every false = refl
 
 -- ---- the pairs of a rank
 
+weights_of : (ranks : List ℕ) (runs : List Span) → support_of (baskets_at ranks runs) [] ≡ sum_by (λ (run : Span). run.weight) runs
+weights_of ranks [] = refl
+weights_of ranks (run ∷ runs) =
+    support-cons (basket_at ranks run) (baskets_at ranks runs) [] ∙ ap (λ n. run.weight + n) (weights_of ranks runs) ∙ sym (sum_by-cons (λ (r : Span). r.weight) run runs)
+
 module _ (ranks : List ℕ) (baskets : List Weighted) (rank : ℕ) (runs : List Span) (are : AreRunsOf ranks baskets rank runs) where
   pair_weight : (other : ℕ) → weight_with other (baskets_at ranks runs) ≡ cond (ltb other rank) (support_of baskets (other ∷ rank ∷ [])) 0
   pair_weight other =
@@ -160,6 +145,10 @@ module _ (ranks : List ℕ) (baskets : List Weighted) (rank : ℕ) (runs : List 
           let r = Member-range 0 rank other p.0 in
           let high = r.1 in
           Member-from_filter met other (range_with_len 0 count) (Member-into_range 0 count other (omega arith) (omega arith)) (met_is_kept least other ∙ p.1)
+
+  -- the weights of a rank's runs add up to its support
+  pub runs_weigh : sum_by (λ (run : Span). run.weight) runs ≡ support_of baskets (rank ∷ [])
+  runs_weigh = sym (weights_of ranks runs) ∙ sym (are.weights (λ _. true)) ∙ kept_support (λ o. ltb o rank) rank [] baskets
 
   -- the paths of a rank are baskets of ranks
   pub runs_ranked : (count : ℕ) → rank ≤ count → total_of baskets ≤ MOST_WEIGHT → AreRankBaskets (record { ranks = count; baskets = baskets_at ranks runs })

@@ -15,7 +15,7 @@ use Rattle.mine_classes.specs.declared.words.Word.{Word}
 use Rattle.mine_classes.specs.ListBaskets.{AreRankBaskets, HaveSameWeights, IsRankBasket, weight_where}
 use Rattle.mine_classes.specs.Words.{has_rank, ranks_in, word_place, word_places}
 use Rattle.mine_classes.proofs.ConditionalLemmas.{cond_sum}
-use Rattle.mine_classes.proofs.SumLemmas.{Member-range, filtered_range_rises}
+use Rattle.mine_classes.proofs.theory.Kept.{Member-range, filtered_range_rises}
 
 module _ (test : List ℕ → Bool) where
   abbrev weigh : Weighted → ℕ

@@ -1,5 +1,5 @@
 //! The conditional database of a rank.
-ghost use Rattle.std.specs.Prelude.{◌≡◌, ◌<◌, IfOk, length, map};
+ghost use Rattle.std.specs.Prelude.{◌≡◌, ◌≤◌, ◌<◌, IfOk, length, map};
 ghost use Rattle.basket_ranks.specs.Codes.{IsCoding, baskets_of};
 ghost use Rattle.basket_sets.specs.declared.minimum.Minimum.TheVariants.{Count};
 ghost use Rattle.mine_classes.specs.Conditional.{conditional};
@@ -49,7 +49,7 @@ impl Conditional {
         pairs: &[(u32, u64)],
     ) -> Result<Self, AllocError>
         requires rank { rank < runs.now.ranks }
-        requires places { places.old ≡ runs.now.ranks }
+        requires places { runs.now.ranks ≤ places.old }
         requires pairs { pairs.now ≡ pairs_of runs.now.baskets least rank }
         ensures ranks { IfOk result (λ c. c.items ≡ kept_ranks runs.now.baskets least rank) }
         ensures minimum { IfOk result (λ c. c.minimum ≡ Count least) }

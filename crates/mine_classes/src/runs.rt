@@ -1,9 +1,10 @@
 //! The places where each rank stands in baskets that lie one after another.
-ghost use Rattle.std.specs.Prelude.{◌≡◌, ◌≤◌, ◌<◌, ◌+◌, ◌-◌, ℕ, [], All, IfOk, IsTrue, OnOk, length, replicate, take, slice_index, slice_index_or, sum_by};
+ghost use Rattle.std.specs.Prelude.{◌≡◌, ◌≤◌, ◌<◌, ◌+◌, ◌-◌, ℕ, [], ◌∷◌, All, IfOk, IsTrue, OnOk, length, replicate, take, slice_index, slice_index_or, sum_by};
 ghost use Rattle.std.specs.List.{slice_range};
 ghost use Rattle.basket_sets.specs.Counts.{AllBelow};
 ghost use Rattle.basket_sets.specs.Database.{MOST_WEIGHT};
 ghost use Rattle.basket_sets.specs.Itemset.{IsRising};
+ghost use Rattle.basket_sets.specs.Support.{support_of};
 ghost use Rattle.mine_classes.specs.declared.span.Span.{Span as Run};
 ghost use Rattle.mine_classes.specs.ListBaskets.{AreRankBaskets};
 ghost use Rattle.mine_classes.specs.Pairs.{pairs_of};
@@ -90,6 +91,19 @@ impl Runs {
         (&self.ranks, &self.of[rank as usize])
     }
 
+    /// The support of a rank, which is what its runs weigh.
+    pub fn support(&self, rank: u32) -> u64
+        requires { rank < self.now.ranks }
+        ensures { result ≡ support_of self.now.baskets (rank ∷ []) }
+    {
+        let (_ranks, runs) = self.of_rank(rank);
+        let mut support = 0;
+        for run in runs {
+            support += run.weight;
+        }
+        support
+    }
+
     /// The ranks below the rank that are frequent together with it, by a least support, each with
     /// the support of the pair. Where they aren't kept, only the runs of the rank are looked at.
     pub fn pairs(
@@ -100,7 +114,7 @@ impl Runs {
         least: u64,
     ) -> Result<Vec<(u32, u64)>, AllocError>
         requires rank { rank < self.now.ranks }
-        requires sums { sums.old ≡ self.now.ranks }
+        requires sums { self.now.ranks ≤ sums.old }
         ensures pairs { IfOk result (λ pairs. pairs.items ≡ pairs_of self.now.baskets least rank) }
         ensures sums { sums.new ≡ sums.old }
     {

@@ -55,6 +55,17 @@ impl WordBaskets {
         })
     }
 
+    /// The same of words that stand in order.
+    pub fn of_ordered(count: u32, words: Vec<Word>) -> Self
+        requires few { count ≤ WORD_RANKS }
+        requires some { All (λ (word : Bits). 1 ≤ word.weight) words.items }
+        requires light { sum_by (λ (word : Bits). word.weight) words.items ≤ MOST_WEIGHT }
+        ensures ranked { AreRankBaskets result }
+        ensures baskets { result ≡ record { ranks = count; baskets = word_places count words.items } }
+    {
+        WordBaskets { count, words }
+    }
+
     /// The coded baskets, which have no more ranks than a word has bits for.
     pub fn of_coded(alloc: Global, coded: &Coded) -> Result<Self, AllocError>
         requires few { length coded.now.items ≤ WORD_RANKS }
@@ -80,16 +91,14 @@ impl WordBaskets {
         ListBaskets::of_words(alloc, self.count, &self.words)
     }
 
-    /// The number of ranks, and the words.
-    pub fn into_parts(self) -> (u32, Vec<Word>)
-        ensures count { result.0 ≡ self.ranks }
-        ensures baskets { word_places result.0 result.1.items ≡ self.baskets }
-        ensures few { result.0 ≤ WORD_RANKS }
-        ensures some { All (λ (word : Bits). 1 ≤ word.weight) result.1.items }
-        ensures light { sum_by (λ (word : Bits). word.weight) result.1.items ≤ MOST_WEIGHT }
+    /// The words, in order.
+    pub fn words(&self) -> &[Word]
+        ensures baskets { word_places self.now.ranks result.now ≡ self.now.baskets }
+        ensures few { self.now.ranks ≤ WORD_RANKS }
+        ensures some { All (λ (word : Bits). 1 ≤ word.weight) result.now }
+        ensures light { sum_by (λ (word : Bits). word.weight) result.now ≤ MOST_WEIGHT }
     {
-        let WordBaskets { count, words } = self;
-        (count, words)
+        &self.words
     }
 }
 

@@ -22,12 +22,14 @@ use Rattle.basket_sets.proofs.theory.Frequent.{frequent_once, once_is_as_long}
 use Rattle.basket_sets.proofs.theory.Members.{Member, All-from_Member, Member-append, Member-filter, Member-map, Member-from_Contains, Contains-from_Member, at_Member}
 use Rattle.basket_sets.proofs.theory.Rising.{cons_rises, has-from_Member, nil_rises}
 use Rattle.mine_classes.specs.Classes.{ClassesAreAll, ClassesAreListed, ClassesByCodings, ListClasses, ListsClass, RanksAreBelow, class_of, ends_in, extended, with_rank}
+use Rattle.mine_classes.specs.declared.tables.Tables.{Tables}
 use Rattle.mine_classes.specs.Mined.{ListsHaveClassSize}
 use Rattle.mine_classes.specs.ListBaskets.{AreRankBaskets, IsRankBasket, RankBaskets}
 use Rattle.mine_classes.specs.Pairs.{kept_ranks}
+use Rattle.mine_classes.proofs.theory.Kept.{kept_rises, kept_short}
 use Rattle.mine_fp.specs.declared.level.Level.{Level}
-use Rattle.mine_fp.specs.Level.{IsBelow, ListsAllAsItems, ListsClassAsItems, as_items, items_of, suffix_of}
-use Rattle.mine_fp.proofs.LevelLemmas.{alone_as_items, inner_as_items, kept_rises, kept_short, length-decoded, named_ranks}
+use Rattle.mine_fp.specs.Level.{HaveSlots, IsBelow, KeepSlots, ListsAllAsItems, ListsClassAsItems, as_items, items_of, suffix_of}
+use Rattle.mine_fp.proofs.LevelLemmas.{alone_as_items, inner_as_items, length-decoded, named_ranks}
 
 -- ---- lists of classes
 
@@ -224,3 +226,13 @@ coding_ranked items least value is long = record {
 
 pub inner_has_fewer : (level : Level) (rank : ℕ) (inner : Level) → IsBelow level rank inner → inner.paths.ranks ≤ rank
 inner_has_fewer level rank inner below = let short = kept_short level.paths.baskets level.least rank in let same = below.ranks in omega arith
+
+-- tables that have slots for a level have them for one below
+pub slots_kept : (level : Level) (old new : Tables) → HaveSlots level old → KeepSlots old new → HaveSlots level new
+slots_kept level old new have keep = record { sums = omega (arith, have.sums, keep.sums); places = omega (arith, have.places, keep.places) }
+
+pub slots_below : (level : Level) (rank : ℕ) (inner : Level) (old new : Tables) → rank < level.paths.ranks → IsBelow level rank inner → HaveSlots level old → KeepSlots old new
+    → HaveSlots inner new
+slots_below level rank inner old new less below have keep =
+    let fewer = inner_has_fewer level rank inner below in
+    record { sums = omega (arith, have.sums, keep.sums); places = omega (arith, have.places, keep.places) }

@@ -10,9 +10,10 @@ use Rattle.basket_sets.specs.declared.minimum.Minimum.TheVariants.{Count}
 use Rattle.basket_sets.specs.Frequent.{ListsOnce, frequent_of}
 use Rattle.basket_sets.proofs.theory.Frequent.{once_is_as_long}
 use Rattle.mine_classes.specs.Classes.{ClassesAreAll, ClassesAreListed, ListClasses, ListsClass, class_of}
+use Rattle.mine_classes.specs.Mined.{ListsHaveClassSize}
 use Rattle.mine_fp.specs.declared.level.Level.{Level}
-use Rattle.mine_fp.specs.Level.{HasLower, HasSuffix, IsLevel, ListsAllAsItems, ListsClassAsItems, as_items, items_of, suffix_of}
-use Rattle.mine_fp.proofs.ClassLemmas.{all_once, classes_fit}
+use Rattle.mine_fp.specs.Level.{HasLower, HasSuffix, IsLevel, ListsAllAsItems, ListsClassAsItems, as_items, class_in, items_of, suffix_of}
+use Rattle.mine_fp.proofs.ClassLemmas.{all_once, classes_fit, listed_long}
 use Rattle.mine_fp.proofs.SuffixLemmas.{suffix_kept, suffix_same}
 
 more_classes : (baskets : List Weighted) (least : ℕ) (classes : List (List Counted)) (class : List Counted) → ListClasses baskets (Count least) classes
@@ -86,5 +87,12 @@ module _ (level : Level) (rank : ℕ) (old now : List Counted) (has : HasClasses
 
     pub found_long : rank ≡ level.paths.ranks → length now ≡ length old + length (frequent_of level.paths.baskets (Count level.least))
     found_long last = let size = once_is_as_long level.paths.baskets (Count level.least) all (whole last) in omega (arith, size, long)
+
+-- a class that is listed has as many sets as the class
+pub class_fits : ListsHaveClassSize → (level : Level) (rank : ℕ) (old new : List Counted) → ListsClassAsItems level rank old new → length new ≡ length old + length (class_in level rank)
+class_fits sized level rank old new lists =
+    let named = as_items (items_of level) (suffix_of level old) in
+    ap length lists.added ∙ length-append old (map named lists.sets)
+    ∙ ap (λ n. length old + n) (length-map lists.sets named ∙ listed_long sized level.paths.baskets (Count level.least) rank lists.sets lists.listed)
 
 pub ruleset found_classes = (found_suffix, found_lower, found_all)

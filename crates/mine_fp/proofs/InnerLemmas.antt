@@ -19,8 +19,9 @@ use Rattle.basket_sets.proofs.theory.Support.{subsets_are_frequent, support-cons
 use Rattle.mine_classes.specs.Conditional.{ConditionalSupports, conditional, is_kept}
 use Rattle.mine_classes.specs.ListBaskets.{HaveSameWeights}
 use Rattle.mine_classes.specs.Pairs.{kept_ranks}
+use Rattle.mine_classes.proofs.theory.Kept.{Member-into_range, Member-range, kept_below, kept_rises}
 use Rattle.mine_fp.specs.Trees.{has_tree, is_branch, is_straight}
-use Rattle.mine_fp.proofs.LevelLemmas.{Member-into_range, at_place, kept_below, kept_rises, less_at, range_within}
+use Rattle.mine_fp.proofs.LevelLemmas.{at_place, less_at}
 use Rattle.mine_fp.proofs.StraightLemmas.{ArePlain, IsFlat, all_of, each_of, flat_from_straight, has_more_too, same_support, straight_from_flat}
 
 abbrev pub IsWithinRanks : ℕ → List Weighted → Type 0
@@ -207,7 +208,7 @@ module _ (baskets inner : List Weighted) (least rank : ℕ) (law : ConditionalSu
   flat_branch : IsFlat inner joins_none [] → is_branch inner ≡ true
   flat_branch flat = all_of (λ (p : Weighted). list_all (λ r. contains p.basket (range_with_len 0 r)) p.basket) inner (λ place m.
       all_of (λ r. contains place.basket (range_with_len 0 r)) place.basket (λ j n. contains_each place.basket (range_with_len 0 j) (λ i less.
-      let before = range_within 0 j i less in
+      let before = (Member-range 0 j i less).1 in
       let there = within place m j (has-from_Member place.basket j n) in
       let more = has_more_too inner (i ∷ j ∷ []) (j ∷ []) (contains_each (i ∷ j ∷ []) (j ∷ []) (λ item o. inr o)) (λ q o. (fine q o).1)
       (flat i j (omega arith) (joins_ranks i (omega arith)) (joins_ranks j there)) place m (contains_each place.basket (j ∷ []) (one place.basket j n)) in

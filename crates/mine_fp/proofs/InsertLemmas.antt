@@ -1,7 +1,7 @@
 -- A path is added to a tree rank by rank.
 use Rattle.std.proofs.Common.{◌≡◌, ◌≢◌, ℕ, ◌+◌, ◌-◌, ◌<◌, ◌≤◌, List, [], ◌∷◌, ◌++◌, length, get_or, set, take, Option, Some, None, refl, sym, ap, ◌∙◌, subst, inl, inr, arith}
 use Rattle.std.proofs.lemmas.Bool.{cases_lt, cases_order}
-use Rattle.std.proofs.lemmas.List.{get_or_append_left, get_or-append_right, get_or-set_other, get_or-set_same, length-append, length-map, length-set, length-take, map-append, map-set, take_more}
+use Rattle.std.proofs.lemmas.List.{get_or_append_left, get_or-append_right, get_or-set_other, get_or-set_same, length-append, length-map, length-set, length-take, map-append, map-set, take-append-le, take_more}
 use Rattle.std.specs.List.{Contains}
 use Rattle.basket_sets.specs.declared.weighted.Weighted.{Weighted}
 use Rattle.basket_sets.specs.Database.{weighted}
@@ -139,6 +139,19 @@ added nodes new total weight path depth at number inside is how = elim how [
         λ begun are. (let Q : List (List ℕ) × List ℕ → Type 0 = λ t. AreBranches t.0 t.1 (begun ++ weighted (take (depth + 1) path) weight ∷ []) in
             subst Q (λ i. (new_paths i, sym new_counts i)) (stands begun are)),
       ))
+]
+
+-- the nodes that there were stand first, as they stood
+pub kept_first : (nodes new : List Node) (link : ℕ × Option ℕ) (weight number n : ℕ) → IsAdded nodes link weight new number → n ≤ length (paths_of (links_of nodes))
+    → take n (paths_of (links_of new)) ≡ take n (paths_of (links_of nodes))
+kept_first nodes new link weight number n how within = elim how [
+  | inl found ↦
+      (let node : Node = record { rank = link.0; above = link.1; count = get_or (counts_of nodes) number 0 + weight } in
+      ap (λ l. take n (paths_of l)) (ap links_of found.2 ∙ links-set nodes number node found.0 found.1))
+  | inr made ↦
+      (let node : Node = record { rank = link.0; above = link.1; count = weight } in
+      ap (λ l. take n (paths_of l)) (ap links_of made.2 ∙ links-push nodes node)
+      ∙ ap (take n) (paths-push (links_of nodes) link) ∙ take-append-le n (paths_of (links_of nodes)) ((path_above (paths_of (links_of nodes)) link.1 ++ link.0 ∷ []) ∷ []) within)
 ]
 
 -- at the root nothing is added yet

@@ -1,5 +1,5 @@
 -- A rank with which no lower one is frequent.
-use Rattle.std.proofs.Common.{◌≡◌, ◌≢◌, ℕ, true, false, ◌&&◌, List, [], ◌∷◌, ◌++◌, cond, get_or, length, map, refl, sym, ap, ◌∙◌, arith}
+use Rattle.std.proofs.Common.{◌≡◌, ◌≢◌, ℕ, true, false, ◌&&◌, List, [], ◌∷◌, ◌++◌, cond, get_or, map, refl, sym, ap, ◌∙◌, arith}
 use Rattle.std.specs.List.{IsDistinct, list_all}
 use Rattle.std.specs.Cmp.Lexicographic.{pointwise}
 use Rattle.std.specs.Prelude.{nat_eq}
@@ -13,16 +13,12 @@ use Rattle.basket_sets.proofs.theory.Support.{at_least_one}
 use Rattle.mine_classes.specs.Classes.{ClassesAreConditional, ClassesAreListed, ListsClass, class_of}
 use Rattle.mine_classes.specs.Conditional.{ConditionalSupports, conditional, is_kept}
 use Rattle.mine_classes.specs.Pairs.{pairs_of}
+use Rattle.mine_classes.proofs.theory.Kept.{has_kept, pair_ranks}
 use Rattle.mine_fp.specs.declared.level.Level.{Level}
 use Rattle.mine_fp.specs.Level.{ListsClassAsItems, items_of, suffix_of}
 use Rattle.mine_fp.specs.Trees.{has_tree, rank_trees}
-use Rattle.mine_fp.proofs.LevelLemmas.{alone_as_items, pair_ranks}
+use Rattle.mine_fp.proofs.LevelLemmas.{alone_as_items}
 use Rattle.mine_fp.proofs.TreesLemmas.{passed_as_many}
-use Rattle.mine_fp.proofs.WordLemmas.{has_kept}
-
-pub nothing_in : {X : Type 0} (xs : List X) → length xs ≡ 0 → xs ≡ []
-nothing_in [] long = refl
-nothing_in (x ∷ xs) long = absurd (omega arith)
 
 none_distinct : IsDistinct (pointwise nat_eq) []
 unfolding IsDistinct

@@ -1,61 +1,18 @@
--- The sets of a conditional database as items, and the support of a rank.
-use Rattle.std.proofs.Common.{◌≡◌, ℕ, ◌+◌, ◌<◌, ◌≤◌, true, false, Bool, List, [], ◌∷◌, ◌++◌, length, get_or, map, cond, refl, sym, ap, ◌∙◌, subst, inl, inr, arith, ltb, zero-add, ◌&&◌, zero, suc}
-use Rattle.std.specs.List.{filter, range_with_len, sum_by}
-use Rattle.std.proofs.lemmas.Bool.{and_parts, cases_lt, ltb-true}
+-- The sets of a conditional database as items.
+use Rattle.std.proofs.Common.{◌≡◌, ℕ, ◌<◌, List, [], ◌∷◌, ◌++◌, length, get_or, map, refl, sym, ap, ◌∙◌, subst, inl, inr, arith, zero, suc}
 use Rattle.std.proofs.lemmas.List.{get_or-map, get_or_default, length-map}
-use Rattle.std.specs.Ordering.{nat_cmp}
-use Rattle.std.proofs.lemmas.List.FromFn.{length-range_with_len}
-use Rattle.std.proofs.lemmas.List.Kept.{IsStrictlySortedBy-filter}
-use Rattle.std.proofs.lemmas.List.Sums.{sum_by-cons}
 use Rattle.basket_ranks.specs.Codes.{decoded, decoded_set}
 use Rattle.basket_ranks.proofs.theory.Coding.{from_decoded, into_decoded}
 use Rattle.basket_sets.specs.declared.weighted.Weighted.{Weighted}
 use Rattle.basket_sets.specs.declared.counted.Counted.{Counted}
-use Rattle.basket_sets.specs.declared.minimum.Minimum.TheVariants.{Count}
 use Rattle.basket_sets.specs.Counts.{AllBelow}
-use Rattle.basket_sets.specs.Database.{weighted}
-use Rattle.basket_sets.specs.Frequent.{is_frequent}
-use Rattle.basket_sets.specs.Itemset.{IsRising, has, rising, with_item}
-use Rattle.basket_sets.specs.Support.{support_of, weight_at}
-use Rattle.basket_sets.proofs.theory.Members.{Member, Member-append, Member-append_left, Member-append_right, Member-map, Member-filter, Member-from_map, Member-from_Contains}
-use Rattle.basket_sets.proofs.theory.Rising.{Member-rising, Member-into_rising, Member-into_with_item, Member-with_item, cons_rises, first_below, has-from_Member, length-le-contains, Member-from_has, nil_rises, rest_rises, rising-rises, rising-rising, rising_is}
-use Rattle.basket_sets.proofs.theory.Support.{support-append, support-cons}
-use Rattle.mine_classes.specs.declared.span.Span.{Span}
+use Rattle.basket_sets.specs.Itemset.{IsRising, rising, with_item}
+use Rattle.basket_sets.specs.Support.{support_of}
+use Rattle.basket_sets.proofs.theory.Members.{Member, Member-append, Member-append_left, Member-append_right, Member-map, Member-from_map, Member-from_Contains}
+use Rattle.basket_sets.proofs.theory.Rising.{Member-rising, Member-into_rising, Member-into_with_item, Member-with_item, cons_rises, first_below, has-from_Member, Member-from_has, nil_rises, rest_rises, rising-rises, rising-rising, rising_is}
 use Rattle.mine_classes.specs.Classes.{with_rank}
-use Rattle.mine_classes.specs.Conditional.{is_kept, kept_place}
 use Rattle.mine_classes.specs.Pairs.{kept_ranks, named_pair, pairs_of}
-use Rattle.mine_classes.specs.Runs.{AreRunsOf, below}
-use Rattle.mine_classes.specs.Span.{basket_at, baskets_at}
 use Rattle.mine_fp.specs.Level.{as_items}
-
--- ---- the support of a rank
-
-alone : (b : Bool) (weight : ℕ) (basket : List ℕ) → support_of (cond b (weighted basket weight ∷ []) []) [] ≡ cond b weight 0
-alone true weight basket = zero-add weight
-alone false weight basket = refl
-
-and_only : (b : Bool) (weight : ℕ) (rank : ℕ) (basket : List ℕ) → has basket rank ≡ b → cond b weight 0 ≡ weight_at (rank ∷ []) (weighted basket weight)
-and_only true weight rank basket e = ap (λ b. cond (b && true) weight 0) (sym e)
-and_only false weight rank basket e = ap (λ b. cond (b && true) weight 0) (sym e)
-
-below_support : (rank : ℕ) (baskets : List Weighted) → support_of (below rank baskets) [] ≡ support_of baskets (rank ∷ [])
-below_support rank [] = refl
-below_support rank (place ∷ baskets) =
-    let lows = filter (λ other. ltb other rank) place.basket in
-    support-append (kept_place (λ other. ltb other rank) rank place) (below rank baskets) []
-    ∙ ap (λ n. n + support_of (below rank baskets) []) (alone (has place.basket rank) place.weight lows ∙ and_only (has place.basket rank) place.weight rank place.basket refl)
-    ∙ ap (λ n. weight_at (rank ∷ []) place + n) (below_support rank baskets)
-    ∙ sym (support-cons place baskets (rank ∷ []))
-
-weights_of : (ranks : List ℕ) (runs : List Span) → support_of (baskets_at ranks runs) [] ≡ sum_by (λ (run : Span). run.weight) runs
-weights_of ranks [] = refl
-weights_of ranks (run ∷ runs) =
-    support-cons (basket_at ranks run) (baskets_at ranks runs) [] ∙ ap (λ n. run.weight + n) (weights_of ranks runs) ∙ sym (sum_by-cons (λ (r : Span). r.weight) run runs)
-
--- the weights of a rank's runs add up to its support
-pub runs_weigh : (ranks : List ℕ) (baskets : List Weighted) (rank : ℕ) (runs : List Span) → AreRunsOf ranks baskets rank runs
-    → sum_by (λ (run : Span). run.weight) runs ≡ support_of baskets (rank ∷ [])
-runs_weigh ranks baskets rank runs are = sym (weights_of ranks runs) ∙ sym (are.weights (λ _. true)) ∙ below_support rank baskets
 
 -- ---- sets as items
 
@@ -152,51 +109,6 @@ length-decoded items set up over within =
     ap length (rising-rising (map (λ k. get_or items k 0) set) (placed_rise items set up over within)) ∙ length-map set (λ k. get_or items k 0)
 
 -- ---- the ranks that a conditional database keeps
-
-pub kept_below : (baskets : List Weighted) (least rank item : ℕ) → has (kept_ranks baskets least rank) item ≡ true → item < rank
-kept_below baskets least rank item h =
-    let m = Member-filter (is_kept baskets least rank) item (range_with_len 0 rank) (Member-from_has (kept_ranks baskets least rank) item h) in
-    ltb-true item rank (and_parts (ltb item rank) (is_frequent baskets (Count least) (item ∷ rank ∷ [])) m.1).0
-
-range_from : (a n y : ℕ) → Member y (range_with_len a n) → a ≤ y
-range_from a zero y m = absurd m
-range_from a (suc n) y (inl e) = omega arith
-range_from a (suc n) y (inr m) = let low = range_from (a + 1) n y m in omega arith
-
-pub Member-into_range : (a n y : ℕ) → a ≤ y → y < a + n → Member y (range_with_len a n)
-Member-into_range a zero y low high = absurd (omega arith)
-Member-into_range a (suc n) y low high = elim (cases_lt a y) [
-  | inl more ↦ inr (Member-into_range (a + 1) n y (omega arith) (omega arith))
-  | inr less ↦ inl (omega arith)
-]
-
-pub range_within : (a n y : ℕ) → Member y (range_with_len a n) → y < a + n
-range_within a zero y m = absurd m
-range_within a (suc n) y (inl e) = omega arith
-range_within a (suc n) y (inr m) = let high = range_within (a + 1) n y m in omega arith
-
-pub range_rises : (a n : ℕ) → IsRising (range_with_len a n)
-range_rises a zero = nil_rises
-range_rises a (suc n) = cons_rises a (range_with_len (a + 1) n) (λ y m. let low = range_from (a + 1) n y m in omega arith) (range_rises (a + 1) n)
-
-pub kept_rises : (baskets : List Weighted) (least rank : ℕ) → IsRising (kept_ranks baskets least rank)
-kept_rises baskets least rank = IsStrictlySortedBy-filter nat_cmp (is_kept baskets least rank) (range_with_len 0 rank) (range_rises 0 rank)
-
-pub kept_short : (baskets : List Weighted) (least rank : ℕ) → length (kept_ranks baskets least rank) ≤ rank
-kept_short baskets least rank =
-    omega (
-      arith,
-      length-range_with_len 0 rank,
-      length-le-contains (kept_ranks baskets least rank) (range_with_len 0 rank) (kept_rises baskets least rank) (range_rises 0 rank) (λ z m. (Member-filter (is_kept baskets least rank) z (range_with_len 0 rank) m).0),
-    )
-
--- the first ranks of a rank's pairs are those that are kept
-pub pair_ranks : (baskets : List Weighted) (least rank : ℕ) → map (λ (pair : ℕ × ℕ). pair.0) (pairs_of baskets least rank) ≡ kept_ranks baskets least rank
-pair_ranks baskets least rank = go (kept_ranks baskets least rank)
-  where
-    go : (ranks : List ℕ) → map (λ (pair : ℕ × ℕ). pair.0) (map (λ other. (other, support_of baskets (other ∷ rank ∷ []))) ranks) ≡ ranks
-    go [] = refl
-    go (first ∷ ranks) = ap (λ l. first ∷ l) (go ranks)
 
 -- the names of a rank's pairs: the items of the ranks that are kept, and the pairs' supports
 pub named_ranks : (names : List ℕ) (baskets : List Weighted) (least rank : ℕ)

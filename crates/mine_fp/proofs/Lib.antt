@@ -17,3 +17,4 @@ mod LeafLemmas
 mod ShiftLemmas
 mod SuffixLemmas
 mod FoundLemmas
+mod ToldLemmas

@@ -9,11 +9,12 @@ use Rattle.basket_sets.proofs.theory.Members.{Member, at_Member}
 use Rattle.mine_classes.specs.Conditional.{ConditionalSupports}
 use Rattle.mine_classes.specs.ListBaskets.{AreRankBaskets, IsRankBasket}
 use Rattle.mine_classes.specs.Pairs.{kept_ranks, named_pair, pairs_of}
+use Rattle.mine_classes.proofs.theory.Kept.{pair_ranks}
 use Rattle.mine_fp.specs.declared.level.Level.{Level}
 use Rattle.mine_fp.specs.Level.{AreNames, IsBelow, IsLevel, items_of}
 use Rattle.mine_fp.proofs.ClassLemmas.{coding_ranked}
 use Rattle.mine_fp.proofs.InnerLemmas.{IsWithinRanks, outer_support}
-use Rattle.mine_fp.proofs.LevelLemmas.{named_supports, pair_ranks}
+use Rattle.mine_fp.proofs.LevelLemmas.{named_supports}
 use Rattle.mine_fp.proofs.TreesLemmas.{ranked_plain}
 
 module _ (level : Level) (rank : ℕ) (inner : Level) (is_level : IsLevel level) (is : IsBelow level rank inner) (law : ConditionalSupports) where

@@ -17,8 +17,8 @@ use Rattle.mine_classes.specs.declared.span.Span.{Span}
 use Rattle.mine_classes.specs.ListBaskets.{AreRankBaskets, IsRankBasket, RankBaskets, weight_where}
 use Rattle.mine_classes.specs.Runs.{AreRunsOf, below}
 use Rattle.mine_classes.specs.Span.{IsWithin, basket_at, baskets_at}
+use Rattle.mine_classes.proofs.theory.Kept.{Member-range, range_rises}
 use Rattle.mine_fp.specs.Trees.{is_branch}
-use Rattle.mine_fp.proofs.LevelLemmas.{range_rises, range_within}
 use Rattle.mine_fp.proofs.StraightLemmas.{AreHeavy, all_of, each_of, from_picked, into_picked}
 
 -- ---- rising lists that fill a range
@@ -129,7 +129,7 @@ module _ (ranks : List ℕ) (value : RankBaskets) (rank : ℕ) (runs : List Span
 
   lower_contains : (place : Weighted) → contains place.basket (range_with_len 0 rank) ≡ true → contains (lower_part place).basket (range_with_len 0 rank) ≡ true
   lower_contains place h = contains_each (lower_part place).basket (range_with_len 0 rank) (λ r m.
-      Member-from_filter (λ other. ltb other rank) r place.basket (has_each place.basket (range_with_len 0 rank) h r m) (lt-ltb r rank (let less = range_within 0 rank r m in omega arith)))
+      Member-from_filter (λ other. ltb other rank) r place.basket (has_each place.basket (range_with_len 0 rank) h r m) (lt-ltb r rank (let less = (Member-range 0 rank r m).1 in omega arith)))
 
   not_lacking : (basket : List ℕ) → lacks basket ≡ false → contains basket (range_with_len 0 rank) ≡ true
   not_lacking basket h = elim (cases_Bool (contains basket (range_with_len 0 rank))) [
@@ -145,7 +145,7 @@ module _ (ranks : List ℕ) (value : RankBaskets) (rank : ℕ) (runs : List Span
       let place = basket_at ranks run in
       let n = Member-map (basket_at ranks) run runs m in
       let long = length-part ranks run (run_within run m) ∙ eqb-true (run.end - run.start) rank h in
-      ap not (contains_each place.basket (range_with_len 0 rank) (λ z k. fills rank 0 place.basket (run_basket place n).rises (in_range place n) long z (omega arith) (let less = range_within 0 rank z k in omega arith)))
+      ap not (contains_each place.basket (range_with_len 0 rank) (λ z k. fills rank 0 place.basket (run_basket place n).rises (in_range place n) long z (omega arith) (let less = (Member-range 0 rank z k).1 in omega arith)))
 
   full_whole : (run : Span) → Member run runs → lacks (basket_at ranks run).basket ≡ false → is_whole run ≡ true
   full_whole run m h =

@@ -8,15 +8,15 @@ use Rattle.std.proofs.lemmas.List.{get_or_append_left, length-append}
 use Rattle.std.proofs.lemmas.List.Elements.{All-push}
 use Rattle.std.proofs.lemmas.List.Folds.{list_any-append, list_any_more}
 use Rattle.std.proofs.lemmas.Nat.{pow_pos}
-use Rattle.std.proofs.lemmas.Nat.Bits.{bit_at-lt, bit_at_and, bit_at_cat_high, bit_at_cat_low}
+use Rattle.std.proofs.lemmas.Nat.Bits.{bit_at-lt, bit_at-zero, bit_at_and, bit_at_cat_high, bit_at_cat_low}
 use Rattle.basket_sets.specs.Itemset.{IsRising}
 use Rattle.basket_sets.proofs.theory.Rising.{same_test}
 use Rattle.mine_classes.specs.declared.words.TheConstants.{WORD_RANKS}
 use Rattle.mine_classes.specs.Words.{has_rank}
+use Rattle.mine_classes.proofs.theory.Bits.{has_either, one_rank}
 use Rattle.mine_fp.specs.declared.shift.Shift.{Shift}
 use Rattle.mine_fp.specs.Shift.{AreShifts, shifted}
 use Rattle.mine_fp.proofs.LevelLemmas.{less_at}
-use Rattle.mine_fp.proofs.WordLemmas.{has_bit, has_either, no_rank}
 
 one_of_both : (x y : ℕ) → x < 2 → y < 2 → eqb (min x y) 1 ≡ (eqb x 1 && eqb y 1)
 one_of_both zero zero low high = refl
@@ -73,11 +73,14 @@ one_more : (bits place by places at : ℕ) → at < WORD_RANKS → place < WORD_
 one_more bits place by places at low few =
     let moved = bits * 2 ^ by % 18446744073709551616 in
     has_both moved (bit_or places (2 ^ (63 - at))) place
-    ∙ ap (λ b. has_rank moved place && b) (has_either places (2 ^ (63 - at)) place ∙ ap (λ b. has_rank places place || b) (has_bit at place low few))
+    ∙ ap (λ b. has_rank moved place && b) (has_either places (2 ^ (63 - at)) place ∙ ap (λ b. has_rank places place || b) (one_rank at place low few))
     ∙ and_or (has_rank moved place) (has_rank places place) (eqb at place)
     ∙ ap (λ b. b || (has_rank moved place && eqb at place)) (sym (has_both moved places place))
 
 -- no place yet
+no_rank : (rank : ℕ) → has_rank 0 rank ≡ false
+no_rank rank = ap (λ n. eqb n 1) (bit_at-zero (63 - rank))
+
 pub brings_none : (bits place by : ℕ) → brings bits place (record { by = by; places = 0 }) ≡ false
 brings_none bits place by =
     let moved = bits * 2 ^ by % 18446744073709551616 in

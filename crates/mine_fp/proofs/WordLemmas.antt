@@ -1,89 +1,34 @@
 -- Words of bits: their ranks, and what they weigh.
-use Rattle.std.proofs.Common.{◌≡◌, ℕ, ◌+◌, ◌-◌, ◌^◌, ◌<◌, ◌≤◌, Bool, true, false, ◌&&◌, ◌||◌, List, [], ◌∷◌, ◌++◌, length, take, get_or, map, cond, eqb, ltb, refl, sym, ap, ◌∙◌, subst, inl, inr, arith, add-zero, zero, suc}
-use Rattle.std.specs.Prelude.{All, bit_or, nat_eq}
-use Rattle.std.specs.Int.{bit_at}
-use Rattle.std.specs.List.{IsDistinct, filter, flat_map, list_all, range_with_len, sum_by}
-use Rattle.std.specs.List.Sorted.{IsPermutation}
+use Rattle.std.proofs.Common.{◌≡◌, ℕ, ◌+◌, ◌-◌, ◌<◌, ◌≤◌, Bool, true, false, ◌&&◌, List, [], ◌∷◌, ◌++◌, length, take, get_or, map, cond, refl, sym, ap, ◌∙◌, subst, inl, inr, arith, add-zero, zero, suc}
+use Rattle.std.specs.List.{filter, flat_map, list_all, range_with_len, sum_by}
 use Rattle.std.specs.Ordering.{nat_cmp}
-use Rattle.std.proofs.lemmas.Bool.{and_from, and_parts, cases_Bool, cases_eq, ltb-true, eq-eqb, eqb-true, lt-ltb, true≢false}
-use Rattle.std.proofs.lemmas.List.{append-nil, append_assoc, get_or-map, get_or_default, length-map, map-append, take_more}
-use Rattle.std.proofs.lemmas.List.Elements.{All-weaker}
+use Rattle.std.proofs.lemmas.Bool.{and_from, cases_Bool, lt-ltb, true≢false}
+use Rattle.std.proofs.lemmas.List.{append-nil, append_assoc, get_or_default, map-append, take_more}
 use Rattle.std.proofs.lemmas.List.Kept.{IsStrictlySortedBy-filter}
-use Rattle.std.proofs.lemmas.List.Sorted.{IsPermutation-map, sum_by-IsPermutation}
 use Rattle.std.proofs.lemmas.List.Sums.{sum_by-cons, sum_by_push}
-use Rattle.std.proofs.lemmas.Nat.Bits.{bit_at-lt, bit_at-pow_other, bit_at-pow_same, bit_at-zero, bit_at_or}
-use Rattle.std.specs.Prelude.{max}
-use Rattle.basket_ranks.specs.Codes.{IsCodedPlace, IsCoding, MOST_RANKS, decoded, decoded_place}
+use Rattle.basket_ranks.specs.Codes.{decoded, decoded_place}
 use Rattle.basket_ranks.proofs.theory.Coding.{from_decoded, into_decoded}
 use Rattle.basket_sets.specs.declared.weighted.Weighted.{Weighted}
 use Rattle.basket_sets.specs.declared.minimum.Minimum.TheVariants.{Count}
 use Rattle.basket_sets.specs.Counts.{AllBelow}
-use Rattle.basket_sets.specs.Database.{HasWeight, MOST_WEIGHT, weighted}
+use Rattle.basket_sets.specs.Database.{weighted}
 use Rattle.basket_sets.specs.Frequent.{is_frequent}
 use Rattle.basket_sets.specs.Itemset.{IsRising, contains, has}
-use Rattle.basket_sets.specs.Support.{support_of, total_of, weight_at}
-use Rattle.basket_sets.proofs.theory.Members.{All-from_Member, Member, Member-filter, Member-from_filter, Contains-from_Member}
+use Rattle.basket_sets.specs.Support.{support_of, weight_at}
+use Rattle.basket_sets.proofs.theory.Members.{Member, Member-filter, Member-from_filter, Contains-from_Member}
 use Rattle.basket_sets.proofs.theory.Merging.{sum_by-same}
-use Rattle.basket_sets.proofs.theory.Rising.{Member-from_has, contains_each, first_below, rest_rises, has-from_Member, has_each, has_more, has_place, rising-rises, same_rising, same_test}
-use Rattle.mine_classes.specs.declared.words.TheConstants.{WORD_RANKS}
+use Rattle.basket_sets.proofs.theory.Rising.{Member-from_has, contains_each, has-from_Member, has_each, rising-rises, same_rising, same_test}
 use Rattle.mine_classes.specs.declared.words.Word.{Word}
 use Rattle.mine_classes.specs.Conditional.{is_kept, kept_place}
-use Rattle.mine_classes.specs.ListBaskets.{AreRankBaskets, HaveSameWeights, IsRankBasket, RankBaskets, weight_where}
+use Rattle.mine_classes.specs.ListBaskets.{HaveSameWeights, weight_where}
 use Rattle.mine_classes.specs.Pairs.{is_met, kept_ranks, pairs_of}
-use Rattle.mine_classes.specs.declared.span.Span.{Span}
-use Rattle.mine_classes.specs.Span.{basket_at, baskets_at}
 use Rattle.mine_classes.specs.Words.{has_rank, ranks_in, word_place, word_places}
+use Rattle.mine_classes.proofs.theory.Weights.{changed_weight}
+use Rattle.mine_classes.proofs.theory.Kept.{Member-into_range, Member-range, range_rises}
 use Rattle.mine_fp.specs.Trees.{is_branch}
 use Rattle.mine_fp.specs.Words.{pair_weight, rank_weight}
-use Rattle.mine_fp.proofs.LevelLemmas.{Member-into_range, at_place, kept_rises, kept_short, range_rises, range_within}
+use Rattle.mine_fp.proofs.LevelLemmas.{at_place}
 use Rattle.mine_fp.proofs.StraightLemmas.{all_of, each_of}
-
--- ---- bits
-
-one_of_two : (x y : ℕ) → x < 2 → y < 2 → eqb (max x y) 1 ≡ (eqb x 1 || eqb y 1)
-one_of_two zero zero low high = refl
-one_of_two zero (suc zero) low high = refl
-one_of_two zero (suc (suc y)) low high = absurd (omega arith)
-one_of_two (suc zero) zero low high = refl
-one_of_two (suc zero) (suc zero) low high = refl
-one_of_two (suc zero) (suc (suc y)) low high = absurd (omega arith)
-one_of_two (suc (suc x)) y low high = absurd (omega arith)
-
-pub has_either : (a b rank : ℕ) → has_rank (bit_or a b) rank ≡ (has_rank a rank || has_rank b rank)
-has_either a b rank = ap (λ n. eqb n 1) (bit_at_or a b (63 - rank)) ∙ one_of_two (bit_at a (63 - rank)) (bit_at b (63 - rank)) (bit_at-lt a (63 - rank)) (bit_at-lt b (63 - rank))
-
-apart : (x y : ℕ) → (x ≡ y → ⊥) → eqb x y ≡ false
-apart x y differ = elim (cases_Bool (eqb x y)) [ inl e ↦ absurd (differ (eqb-true x y e)) | inr e ↦ e ]
-
-or_false : (b : Bool) → (b || false) ≡ b
-or_false true = refl
-or_false false = refl
-
-or_true : (b : Bool) → (b || true) ≡ true
-or_true true = refl
-or_true false = refl
-
-pub has_bit : (r rank : ℕ) → r < WORD_RANKS → rank < WORD_RANKS → has_rank (2 ^ (63 - r)) rank ≡ eqb r rank
-has_bit r rank low high = elim (cases_eq r rank) [
-  | inl e ↦ ap (λ n. has_rank (2 ^ (63 - r)) n) (sym e) ∙ ap (λ n. eqb n 1) (bit_at-pow_same (63 - r)) ∙ sym (eq-eqb r rank e)
-  | inr differ ↦ ap (λ n. eqb n 1) (bit_at-pow_other (63 - r) (63 - rank) (λ e. differ (omega arith))) ∙ sym (apart r rank differ)
-]
-
-pub no_rank : (rank : ℕ) → has_rank 0 rank ≡ false
-no_rank rank = ap (λ n. eqb n 1) (bit_at-zero (63 - rank))
-
--- the bits of a basket's ranks so far
-abbrev pub HasBits : List ℕ → ℕ → Type 0
-HasBits basket bits = (rank : ℕ) → rank < WORD_RANKS → has_rank bits rank ≡ has basket rank
-
-pub bit_more : (basket : List ℕ) (i bits : ℕ) → i < length basket → AllBelow WORD_RANKS basket → HasBits (take i basket) bits
-    → HasBits (take (i + 1) basket) (bit_or bits (2 ^ (63 - get_or basket i 0)))
-bit_more basket i bits here low so_far rank high =
-    let r = get_or basket i 0 in
-    has_either bits (2 ^ (63 - r)) rank
-    ∙ ap (λ b. b || has_rank (2 ^ (63 - r)) rank) (so_far rank high)
-    ∙ ap (λ b. has (take i basket) rank || b) (has_bit r rank (low r (has_place basket i here)) high)
-    ∙ sym (has_more basket i rank here)
 
 -- ---- the ranks of a word
 
@@ -93,18 +38,10 @@ has_in count bits rank low = same_test (has (ranks_in count bits) rank) (has_ran
     (λ h. has-from_Member (ranks_in count bits) rank (Member-from_filter (has_rank bits) rank (range_with_len 0 count) (Member-into_range 0 count rank (omega arith) (omega arith)) h))
 
 pub in_below : (count bits rank : ℕ) → Member rank (ranks_in count bits) → rank < count
-in_below count bits rank m = let high = range_within 0 count rank (Member-filter (has_rank bits) rank (range_with_len 0 count) m).0 in omega arith
+in_below count bits rank m = let high = (Member-range 0 count rank (Member-filter (has_rank bits) rank (range_with_len 0 count) m).0).1 in omega arith
 
 pub in_rise : (count bits : ℕ) → IsRising (ranks_in count bits)
 in_rise count bits = IsStrictlySortedBy-filter nat_cmp (has_rank bits) (range_with_len 0 count) (range_rises 0 count)
-
--- bits of a rising basket are those ranks
-pub bits_back : (count bits : ℕ) (basket : List ℕ) → count ≤ WORD_RANKS → IsRising basket → AllBelow count basket → HasBits basket bits → ranks_in count bits ≡ basket
-bits_back count bits basket few up low are = same_rising (ranks_in count bits) basket (in_rise count bits) up
-    (λ rank m. let below = in_below count bits rank m in
-    Member-from_has basket rank (sym (are rank (omega arith)) ∙ (Member-filter (has_rank bits) rank (range_with_len 0 count) m).1))
-    (λ rank m. let below = low rank (has-from_Member basket rank m) in
-    Member-from_has (ranks_in count bits) rank (has_in count bits rank below ∙ are rank (omega arith) ∙ has-from_Member basket rank m))
 
 -- ---- what words weigh
 
@@ -113,9 +50,6 @@ word_sum f count [] = refl
 word_sum f count (word ∷ words) =
     sum_by-cons f (word_place count word) (word_places count words) ∙ ap (λ n. f (word_place count word) + n) (word_sum f count words)
     ∙ sym (sum_by-cons (λ (w : Word). f (word_place count w)) word words)
-
-pub words_total : (count : ℕ) (words : List Word) → total_of (word_places count words) ≡ sum_by (λ (word : Word). word.weight) words
-words_total count words = word_sum (weight_at []) count words
 
 two_ranks : (a b : Bool) (weight : ℕ) → cond (a && (b && true)) weight 0 ≡ cond b (cond a weight 0) 0
 two_ranks true true weight = refl
@@ -146,31 +80,8 @@ pair_weight_le rank other word = at_most (has_rank word.bits rank)
     at_most true = rank_weight_le other word
     at_most false = omega arith
 
--- ---- words are baskets of ranks, and the other way round
-
 abbrev pub none : Word
 none = record { bits = 0; weight = 0 }
-
-pub words_ranked : (count : ℕ) (words : List Word) → All (λ (word : Word). 1 ≤ word.weight) words → sum_by (λ (word : Word). word.weight) words ≤ MOST_WEIGHT
-    → AreRankBaskets (record { ranks = count; baskets = word_places count words })
-words_ranked count words some light = record {
-  places = λ k d here.
-      let inside : k < length words = omega (arith, here, length-map words (word_place count)) in
-      let bits = (get_or words k none).bits in
-      subst (IsRankBasket count) (sym (get_or-map (word_place count) words k none d inside)) (record {
-        rises = in_rise count bits;
-        below = λ rank h. in_below count bits rank (Member-from_has (ranks_in count bits) rank h);
-        weighs = some k none inside;
-      });
-  light = subst (λ n. n ≤ MOST_WEIGHT) (sym (words_total count words)) light;
-}
-
-pub ranked_some : (count : ℕ) (words : List Word) → AreRankBaskets (record { ranks = count; baskets = word_places count words }) → All (λ (word : Word). 1 ≤ word.weight) words
-ranked_some count words are = λ k d here.
-    let place = word_place count none in
-    let inside : k < length (word_places count words) = omega (arith, here, length-map words (word_place count)) in
-    let is = subst (IsRankBasket count) (get_or-map (word_place count) words k d place here) (are.places k place inside) in
-    is.weighs
 
 -- ---- the pairs of a rank
 
@@ -197,7 +108,7 @@ sums_are_pairs baskets least rank sums long are =
     summed other = is_met least (get_or sums other 0)
 
     within : (other : ℕ) → Member other (range_with_len 0 rank) → other < rank
-    within other m = let high = range_within 0 rank other m in omega arith
+    within other m = let high = (Member-range 0 rank other m).1 in omega arith
 
 -- ---- the sums of pairs
 
@@ -226,7 +137,7 @@ front_fills count bits front = all_of (λ rank. contains (ranks_in count bits) (
     let own = Member-filter (has_rank bits) rank (range_with_len 0 count) m in
     let low = in_below count bits rank m in
     contains_each (ranks_in count bits) (range_with_len 0 rank) (λ other n.
-    let less = range_within 0 rank other n in
+    let less = (Member-range 0 rank other n).1 in
     let whole : other + (rank - other) ≡ rank = omega arith in
     Member-from_has (ranks_in count bits) other (has_in count bits other (omega arith) ∙ down count bits front (rank - other) other (omega arith) (subst (λ r. has_rank bits r ≡ true) (sym whole) own.1))))
 
@@ -252,23 +163,6 @@ pub one_fails : (count : ℕ) (words : List Word) (k : ℕ) → k < length words
 one_fails count [] k here e = absurd (omega arith)
 one_fails count (word ∷ words) zero here e = ap (λ b. b && is_branch (word_places count words)) e
 one_fails count (word ∷ words) (suc k) here e = ap (λ b. fills count word.bits && b) (one_fails count words k (omega arith) e) ∙ and_false (fills count word.bits)
-
--- ---- baskets as words
-
-pub basket_is : (ranks : List ℕ) (count : ℕ) (spans : List Span) (i : ℕ) (d : Span) → AreRankBaskets (record { ranks = count; baskets = baskets_at ranks spans }) → i < length spans
-    → IsRankBasket count (basket_at ranks (get_or spans i d))
-basket_is ranks count spans i d are here =
-    subst (IsRankBasket count) (get_or-map (basket_at ranks) spans i d (basket_at ranks d) here)
-    (are.places i (basket_at ranks d) (omega (arith, here, length-map spans (basket_at ranks))))
-
-pub word_added : (ranks : List ℕ) (count : ℕ) (spans : List Span) (i : ℕ) (d : Span) (words : List Word) (word : Word) → i < length spans
-    → word_place count word ≡ basket_at ranks (get_or spans i d) → word_places count words ≡ take i (baskets_at ranks spans)
-    → word_places count (words ++ word ∷ []) ≡ take (i + 1) (baskets_at ranks spans)
-word_added ranks count spans i d words word here is so_far =
-    map-append (word_place count) words (word ∷ [])
-    ∙ ap (λ l. l ++ word_place count word ∷ []) so_far
-    ∙ ap (λ p. take i (baskets_at ranks spans) ++ p ∷ []) (is ∙ sym (get_or-map (basket_at ranks) spans i d (basket_at ranks d) here))
-    ∙ sym (take_more (baskets_at ranks spans) i (basket_at ranks d) (omega (arith, here, length-map spans (basket_at ranks))))
 
 -- ---- words kept to some ranks
 
@@ -299,24 +193,6 @@ kept_decoded kept count bits new low are = same_rising (filter (has kept) (ranks
         let there = has-from_Member kept rank (subst (λ x. Member x kept) d.2 (at_place kept d.0 here)) in
         Member-from_filter (has kept) rank (ranks_in count bits)
         (Member-from_has (ranks_in count bits) rank (has_in count bits rank (low rank there) ∙ ap (has_rank bits) (sym d.2) ∙ sym (are d.0 here) ∙ own)) there
-
-changed_weight : (test : List ℕ → Bool) (f : List ℕ → List ℕ) (places : List Weighted)
-    → weight_where test (map (λ (place : Weighted). weighted (f place.basket) place.weight) places) ≡ weight_where (λ basket. test (f basket)) places
-changed_weight test f [] = refl
-changed_weight test f (place ∷ places) =
-    sum_by-cons (λ (p : Weighted). cond (test p.basket) p.weight 0) (weighted (f place.basket) place.weight) (map (λ (p : Weighted). weighted (f p.basket) p.weight) places)
-    ∙ ap (λ n. cond (test (f place.basket)) place.weight 0 + n) (changed_weight test f places)
-    ∙ sym (sum_by-cons (λ (p : Weighted). cond (test (f p.basket)) p.weight 0) place places)
-
--- baskets of the same weights are so when they are decoded
-pub decoded_weights : (kept : List ℕ) (baskets others : List Weighted) → HaveSameWeights baskets others → HaveSameWeights (map (decoded_place kept) baskets) (map (decoded_place kept) others)
-decoded_weights kept baskets others same test =
-    changed_weight test (decoded kept) baskets ∙ same (λ basket. test (decoded kept basket)) ∙ sym (changed_weight test (decoded kept) others)
-
--- words in another order have the same weights
-pub moved_words : (count : ℕ) (words moved : List Word) → IsPermutation words moved → HaveSameWeights (word_places count words) (word_places count moved)
-moved_words count words moved permutation test =
-    sym (sum_by-IsPermutation (λ (place : Weighted). cond (test place.basket) place.weight 0) (word_places count words) (word_places count moved) (IsPermutation-map (word_place count) words moved permutation))
 
 flat_map_push : (f : Weighted → List Weighted) (xs : List Weighted) (y : Weighted) → flat_map f (xs ++ y ∷ []) ≡ flat_map f xs ++ f y
 flat_map_push f [] y = append-nil (f y)
@@ -360,36 +236,3 @@ module _ (kept : List ℕ) (count rank : ℕ) (words : List Word) (i : ℕ) wher
       ∙ sym (ap (weight_where inner) (map-append (word_place n) old (word ∷ [])) ∙ sum_by_push (weigh inner) (word_places n old) (word_place n word))
       ∙ added inner
       ∙ sym (changed_weight test (decoded kept) (word_places n new))
-
--- ---- a conditional database of words
-
-pub has_kept : (baskets : List Weighted) (least rank other : ℕ) → has (kept_ranks baskets least rank) other ≡ is_kept baskets least rank other
-has_kept baskets least rank other = same_test (has kept other) (is_kept baskets least rank other)
-    (λ h. (Member-filter (is_kept baskets least rank) other (range_with_len 0 rank) (Member-from_has kept other h)).1)
-    (λ h.
-    let less = ltb-true other rank (and_parts (ltb other rank) (is_frequent baskets (Count least) (other ∷ rank ∷ [])) h).0 in
-    has-from_Member kept other (Member-from_filter (is_kept baskets least rank) other (range_with_len 0 rank) (Member-into_range 0 rank other (omega arith) (omega arith)) h))
-  where
-    kept : List ℕ
-    kept = kept_ranks baskets least rank
-
-rising_distinct : (xs : List ℕ) → IsRising xs → IsDistinct nat_eq xs
-unfolding IsDistinct
-rising_distinct [] up = tt
-rising_distinct (x ∷ xs) up = (
-  All-from_Member (λ y. nat_eq x y ≡ false) xs (λ y m. elim (cases_Bool (nat_eq x y)) [
-    | inl e ↦ (let same = eqb-true x y e in let less = first_below x xs up y m in absurd (omega arith))
-    | inr e ↦ e
-  ]),
-  rising_distinct xs (rest_rises x xs up),
-)
-
-pub conditional_coding : (baskets : List Weighted) (least rank : ℕ) (value : RankBaskets) → AreRankBaskets value → value.ranks ≡ length (kept_ranks baskets least rank) → rank < MOST_RANKS
-    → IsCoding (record { items = kept_ranks baskets least rank; minimum = Count least; baskets = value.baskets })
-conditional_coding baskets least rank value are long few = record {
-  distinct = rising_distinct (kept_ranks baskets least rank) (kept_rises baskets least rank);
-  few = (let short = kept_short baskets least rank in omega arith);
-  places = All-weaker (IsRankBasket value.ranks) (IsCodedPlace (kept_ranks baskets least rank)) (λ place is. (is.rises, subst (λ n. AllBelow n place.basket) long is.below)) value.baskets are.places;
-  weights = All-weaker (IsRankBasket value.ranks) HasWeight (λ place is. is.weighs) value.baskets are.places;
-  light = are.light;
-}

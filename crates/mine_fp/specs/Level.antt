@@ -5,11 +5,12 @@ use Rattle.basket_ranks.specs.Codes.{IsCoding, decoded_place}
 use Rattle.basket_lists.specs.CountedSets.{set_at}
 use Rattle.basket_sets.specs.declared.counted.Counted.{Counted}
 use Rattle.basket_sets.specs.declared.minimum.Minimum.TheVariants.{Count}
-use Rattle.basket_sets.specs.Frequent.{ListsOnce}
+use Rattle.basket_sets.specs.Frequent.{ListsOnce, frequent_of}
 use Rattle.basket_sets.specs.Itemset.{IsRising, rising, with_item}
 use Rattle.basket_sets.specs.Support.{support_of}
 use Rattle.mine_classes.specs.declared.span.Span.{Span}
-use Rattle.mine_classes.specs.Classes.{ListClasses, ListsClass}
+use Rattle.mine_classes.specs.declared.tables.Tables.{Tables}
+use Rattle.mine_classes.specs.Classes.{ListClasses, ListsClass, class_of}
 use Rattle.mine_classes.specs.Conditional.{conditional}
 use Rattle.mine_classes.specs.ListBaskets.{AreRankBaskets, HaveSameWeights}
 use Rattle.mine_classes.specs.Pairs.{kept_ranks, named_pair, pairs_of}
@@ -49,6 +50,23 @@ suffix_of level found = set_from found level.place
 pub record HasSuffix (level : Level) (found : List Counted) : Type 0 where
   pub inside : (place : ℕ) → level.place ≡ Some place → place < length found
   pub rises : IsRising (suffix_of level found)
+
+-- the class of a rank within a level, and all frequent sets
+abbrev pub class_in : Level → ℕ → List Counted
+class_in level rank = class_of level.paths.baskets (Count level.least) rank
+
+abbrev pub sets_in : Level → List Counted
+sets_in level = frequent_of level.paths.baskets (Count level.least)
+
+-- tables have a slot for each rank of a level
+pub record HaveSlots (level : Level) (tables : Tables) : Type 0 where
+  pub sums : level.paths.ranks ≤ tables.sums
+  pub places : level.paths.ranks ≤ tables.places
+
+-- tables have as many slots as before
+pub record KeepSlots (old new : Tables) : Type 0 where
+  pub sums : new.sums ≡ old.sums
+  pub places : new.places ≡ old.places
 
 -- how many ranks a set has whose last level would be one deeper than any is
 abbrev pub missing : Level → ℕ

@@ -1,5 +1,6 @@
 pub mod Level
 pub mod Forest
+pub mod Found
 pub mod Tree
 pub mod Trees
 pub mod Words

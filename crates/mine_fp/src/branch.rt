@@ -1,10 +1,7 @@
 //! Sets that are read off a single branch.
-ghost use Rattle.std.specs.Prelude.{◌≡◌, ◌≤◌, ◌<◌, ◌+◌, ◌-◌, ℕ, Err, IsTrue, OnOk, false, length, vec_len};
-ghost use Rattle.basket_core.specs.declared.fault.MineFault.TheVariants.{TooMany};
-ghost use Rattle.basket_sets.specs.declared.minimum.Minimum.TheVariants.{Count};
-ghost use Rattle.basket_sets.specs.Frequent.{frequent_of};
-ghost use Rattle.mine_classes.specs.Classes.{class_of};
-ghost use Rattle.mine_fp.specs.Level.{HasLower, HasSuffix, IsChosen, IsLevel, ListsClassAsItems, ListsAllAsItems};
+ghost use Rattle.std.specs.Prelude.{◌≡◌, ◌<◌, ◌-◌, IsTrue, OnOk, false, length};
+ghost use Rattle.mine_fp.specs.Found.{TellsSets};
+ghost use Rattle.mine_fp.specs.Level.{HasLower, HasSuffix, IsLevel, ListsClassAsItems, ListsAllAsItems, class_in, sets_in};
 ghost use Rattle.mine_fp.specs.Trees.{is_branch};
 
 use crate::found::{Found, choose};
@@ -32,11 +29,8 @@ impl Level {
         requires going { T.is_over tally.old ≡ false }
         ensures listed { OnOk result (ListsAllAsItems self.now found.old.sets found.new.sets) }
         ensures trees { found.new.trees ≡ found.old.trees }
-        ensures told { OnOk result (T.told_of tally.new + length found.old.sets ≡ T.told_of tally.old + length found.new.sets) }
-        ensures going_on { OnOk result (T.is_over tally.new ≡ false) }
-        ensures too_many { (limit : ℕ) → result ≡ Err (TooMany limit) → (limit ≡ T.limit_of tally.old) × IsTrue (T.is_over tally.new) }
-        ensures at_most { T.told_of tally.new ≤ T.told_of tally.old + length (frequent_of self.now.paths.baskets (Count self.now.least)) }
-        ensures limit { T.limit_of tally.new ≡ T.limit_of tally.old }
+        ensures tally { TellsSets T.limit_of T.told_of T.is_over tally.old tally.new found.old.sets found.new.sets result
+            (length (sets_in self.now)) ⊥ }
     {
         classes_are_all();
         classes_are_listed();
@@ -65,11 +59,8 @@ impl Level {
         requires going { T.is_over tally.old ≡ false }
         ensures listed { OnOk result (ListsClassAsItems self.now rank found.old.sets found.new.sets) }
         ensures trees { found.new.trees ≡ found.old.trees }
-        ensures told { OnOk result (T.told_of tally.new + length found.old.sets ≡ T.told_of tally.old + length found.new.sets) }
-        ensures going_on { OnOk result (T.is_over tally.new ≡ false) }
-        ensures too_many { (limit : ℕ) → result ≡ Err (TooMany limit) → (limit ≡ T.limit_of tally.old) × IsTrue (T.is_over tally.new) }
-        ensures at_most { T.told_of tally.new ≤ T.told_of tally.old + length (class_of self.now.paths.baskets (Count self.now.least) rank) }
-        ensures limit { T.limit_of tally.new ≡ T.limit_of tally.old }
+        ensures tally { TellsSets T.limit_of T.told_of T.is_over tally.old tally.new found.old.sets found.new.sets result
+            (length (class_in self.now rank)) ⊥ }
     {
         classes_are_all();
         classes_are_listed();

@@ -9,11 +9,11 @@ ghost use Rattle.mine_fp.specs.Trees.{class_trees};
 
 use crate::found::Found;
 use crate::level::Level;
-use crate::paths::{Paths, weight_of_rank};
+use crate::paths::Paths;
+use crate::trees::Trees;
 use basket_core::{Coded, CountedSets, MineFault, Tally};
-use mine_apriori::runs_with_pairs;
 use mine_classes::laws::{classes_are_listed, deep_classes_are_large, lists_have_class_size};
-use mine_classes::{Runs, Tables};
+use mine_classes::{ListBaskets, Runs, Tables};
 use std::alloc::{AllocError, Global};
 use std::marker::Model;
 
@@ -44,7 +44,8 @@ impl<'a> Forest<'a> {
     pub fn of(alloc: Global, coded: &'a Coded) -> Result<Self, AllocError>
         ensures { IfOk result (λ forest. forest ≡ coded.now) }
     {
-        Forest::of_runs(alloc, coded, runs_with_pairs(alloc, coded)?)
+        let baskets = ListBaskets::of_coded(alloc, coded)?;
+        Forest::of_runs(alloc, coded, Runs::of(alloc, baskets)?)
     }
 
     /// The same with runs of the coded baskets that were made before.
@@ -78,7 +79,7 @@ fn names_of(alloc: Global, coded: &Coded, runs: &Runs) -> Result<Vec<(u32, u64)>
 {
     let mut names = Vec::with_capacity(alloc, coded.ranks() as usize)?;
     for rank in 0..coded.ranks() {
-        names.push((coded.item(rank), weight_of_rank(runs, rank)))?;
+        names.push((coded.item(rank), runs.support(rank)))?;
     }
     Ok(names)
 }
@@ -138,7 +139,10 @@ pub fn fp_class_with<T: Tally>(
     let _limit = tally.limit();
     let _baskets = forest.coded.baskets();
     let sets = CountedSets::new(alloc, forest.coded.items(), forest.coded.total())?;
-    let mut found = Found { sets, trees: 0 };
+    let mut found = Found {
+        sets,
+        trees: Trees::new(),
+    };
     forest.level.class(alloc, rank, tables, &mut found, tally)?;
-    Ok((found.sets, found.trees))
+    Ok((found.sets, found.trees.number()))
 }

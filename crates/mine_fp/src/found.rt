@@ -1,8 +1,9 @@
 //! Sets that were found.
-ghost use Rattle.std.specs.Prelude.{◌≡◌, ◌≤◌, ◌<◌, ◌+◌, ◌++◌, [], ◌∷◌, ℕ, Err, IsTrue, OnOk, false, length};
-ghost use Rattle.basket_core.specs.declared.fault.MineFault.TheVariants.{TooMany};
+ghost use Rattle.std.specs.Prelude.{◌≡◌, ◌<◌, ◌+◌, ◌++◌, [], ◌∷◌, Err, OnOk, false, length};
+ghost use Rattle.mine_fp.specs.Found.{TellsSets};
 ghost use Rattle.mine_fp.specs.Level.{IsChosen};
 
+use crate::trees::Trees;
 use basket_core::{CountedSets, Itemset, MineFault, Tally};
 use std::alloc::Global;
 
@@ -10,7 +11,7 @@ use std::alloc::Global;
 #[derive(Debug, Drop)]
 pub struct Found {
     pub sets: CountedSets,
-    pub trees: u64,
+    pub trees: Trees,
 }
 
 /// Tells a frequent set to the tally, and adds it to those found.
@@ -23,11 +24,8 @@ pub fn tell<T: Tally>(
     requires { T.is_over tally.old ≡ false }
     ensures added { OnOk result (found.new.sets ≡ found.old.sets ++ record { set = set; count = count } ∷ []) }
     ensures trees { found.new.trees ≡ found.old.trees }
-    ensures told { OnOk result (T.told_of tally.new ≡ T.told_of tally.old + 1) }
-    ensures going_on { OnOk result (T.is_over tally.new ≡ false) }
-    ensures too_many { (limit : ℕ) → result ≡ Err (TooMany limit) → (limit ≡ T.limit_of tally.old) × IsTrue (T.is_over tally.new) }
-    ensures at_most { T.told_of tally.new ≤ T.told_of tally.old + 1 }
-    ensures limit { T.limit_of tally.new ≡ T.limit_of tally.old }
+    ensures tally { TellsSets T.limit_of T.told_of T.is_over tally.old tally.new found.old.sets found.new.sets result
+        1 ⊥ }
 {
     if !tally.tell() {
         return Err(MineFault::TooMany {
@@ -51,11 +49,8 @@ pub fn choose<T: Tally>(
     requires going { T.is_over tally.old ≡ false }
     ensures added { OnOk result (IsChosen at item count found.old.sets found.new.sets) }
     ensures trees { found.new.trees ≡ found.old.trees }
-    ensures told { OnOk result (T.told_of tally.new ≡ T.told_of tally.old + 1) }
-    ensures going_on { OnOk result (T.is_over tally.new ≡ false) }
-    ensures too_many { (limit : ℕ) → result ≡ Err (TooMany limit) → (limit ≡ T.limit_of tally.old) × IsTrue (T.is_over tally.new) }
-    ensures at_most { T.told_of tally.new ≤ T.told_of tally.old + 1 }
-    ensures limit { T.limit_of tally.new ≡ T.limit_of tally.old }
+    ensures tally { TellsSets T.limit_of T.told_of T.is_over tally.old tally.new found.old.sets found.new.sets result
+        1 ⊥ }
 {
     if !tally.tell() {
         return Err(MineFault::TooMany {

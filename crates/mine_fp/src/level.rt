@@ -1,26 +1,21 @@
 //! Sets that are grown within a conditional database.
-ghost use Rattle.std.specs.Prelude.{◌≡◌, ◌≤◌, ◌<◌, ◌+◌, ◌++◌, ◌⊎◌, [], ◌∷◌, ℕ, Err, IfOk, IsTrue, OnOk, Some, false, length, map, slice_index, vec_len};
-ghost use Rattle.basket_core.specs.declared.fault.MineFault.TheVariants.{TooMany};
+ghost use Rattle.std.specs.Prelude.{◌≡◌, ◌≤◌, ◌<◌, ◌+◌, ◌++◌, [], ◌∷◌, Err, OnOk, Some, false, length, slice_index, vec_len};
 ghost use Rattle.basket_ranks.specs.Depth.{HasSetOfSize};
-ghost use Rattle.basket_sets.specs.declared.minimum.Minimum.TheVariants.{Count};
-ghost use Rattle.basket_sets.specs.Counts.{AllBelow};
-ghost use Rattle.basket_sets.specs.Frequent.{frequent_of};
 ghost use Rattle.basket_sets.specs.Itemset.{with_item};
 ghost use Rattle.basket_sets.specs.Support.{support_of};
-ghost use Rattle.mine_classes.specs.Classes.{class_of};
-ghost use Rattle.mine_classes.specs.Pairs.{named_pair, pairs_of};
-ghost use Rattle.mine_fp.specs.Level.{HasSuffix, IsBelow, IsLevel, ListsClassAsItems, ListsAllAsItems, items_of, missing, suffix_of};
+ghost use Rattle.mine_fp.specs.Found.{TellsSets};
+ghost use Rattle.mine_fp.specs.Level.{HasSuffix, HaveSlots, IsLevel, KeepSlots, ListsAllAsItems, ListsClassAsItems, class_in, items_of, missing, sets_in, suffix_of};
 ghost use Rattle.mine_fp.specs.Trees.{inner_trees, rank_trees};
 
 use crate::found::{Found, choose, tell};
 use crate::paths::Paths;
 use basket_core::{Itemset, MineFault, Tally};
+use mine_classes::Tables;
 use mine_classes::laws::{
     classes_are_all, classes_are_conditional, classes_are_listed, classes_by_codings,
     conditional_supports, lists_have_class_size, rare_ranks_have_no_class,
 };
-use mine_classes::{Places, Tables};
-use std::alloc::{AllocError, Global};
+use std::alloc::Global;
 
 /// How many items a set has at most. A class with a set of one more has more sets than any limit, so
 /// that nothing goes deeper.
@@ -55,21 +50,15 @@ impl Level {
         requires level { IsLevel self.now }
         requires stands { HasSuffix self.now found.old.sets }
         requires rank { rank < self.now.paths.ranks }
-        requires sums { tables.old.sums ≡ self.now.paths.ranks }
-        requires places { tables.old.places ≡ self.now.paths.ranks }
+        requires tables { HaveSlots self.now tables.old }
         requires few { found.old.trees ≤ length found.old.sets }
         requires going { T.is_over tally.old ≡ false }
         ensures listed { OnOk result (ListsClassAsItems self.now rank found.old.sets found.new.sets) }
         ensures trees { OnOk result (found.new.trees ≡ found.old.trees + rank_trees self.now.paths.baskets self.now.least rank) }
         ensures few { OnOk result (found.new.trees ≤ length found.new.sets) }
-        ensures sums { OnOk result (tables.new.sums ≡ self.now.paths.ranks) }
-        ensures places { OnOk result (tables.new.places ≡ self.now.paths.ranks) }
-        ensures told { OnOk result (T.told_of tally.new + length found.old.sets ≡ T.told_of tally.old + length found.new.sets) }
-        ensures going_on { OnOk result (T.is_over tally.new ≡ false) }
-        ensures too_many { (limit : ℕ) → result ≡ Err (TooMany limit) → (limit ≡ T.limit_of tally.old)
-            × (IsTrue (T.is_over tally.new) ⊎ HasSetOfSize (class_of self.now.paths.baskets (Count self.now.least) rank) (missing self.now)) }
-        ensures at_most { T.told_of tally.new ≤ T.told_of tally.old + length (class_of self.now.paths.baskets (Count self.now.least) rank) }
-        ensures limit { T.limit_of tally.new ≡ T.limit_of tally.old }
+        ensures tables { OnOk result (KeepSlots tables.old tables.new) }
+        ensures tally { TellsSets T.limit_of T.told_of T.is_over tally.old tally.new found.old.sets found.new.sets result
+            (length (class_in self.now rank)) (HasSetOfSize (class_in self.now rank) (missing self.now)) }
     {
         classes_are_conditional();
         classes_are_listed();
@@ -88,15 +77,11 @@ impl Level {
                 limit: tally.limit(),
             });
         }
-        let pairs = self.paths.pairs(alloc, &mut tables.sums, rank, self.least)?;
-        if pairs.is_empty() {
-            // The class is the rank alone. Its tree is the root, which counts, and nothing is made of it.
-            found.trees += 1;
-            return Ok(());
+        let below = found.trees.make(alloc, self, rank, place, tables)?;
+        match below {
+            Some(inner) => inner.classes(alloc, tables, found, tally),
+            None => Ok(()),
         }
-        let places = &mut tables.places;
-        let inner = self.below(alloc, rank, place, places, pairs, &mut found.trees)?;
-        inner.classes(alloc, found, tally)
     }
 
     /// The classes of all ranks, each set as items, added at the end of those found.
@@ -105,31 +90,29 @@ impl Level {
     fn classes<T: Tally>(
         &self,
         alloc: Global,
+        tables: &mut Tables,
         found: &mut Found,
         tally: &mut T,
     ) -> Result<(), MineFault>
         requires level { IsLevel self.now }
         requires stands { HasSuffix self.now found.old.sets }
+        requires tables { HaveSlots self.now tables.old }
         requires few { found.old.trees ≤ length found.old.sets }
         requires going { T.is_over tally.old ≡ false }
         ensures listed { OnOk result (ListsAllAsItems self.now found.old.sets found.new.sets) }
         ensures trees { OnOk result (found.new.trees ≡ found.old.trees + inner_trees self.now.paths.baskets self.now.least) }
         ensures few { OnOk result (found.new.trees ≤ length found.new.sets) }
-        ensures told { OnOk result (T.told_of tally.new + length found.old.sets ≡ T.told_of tally.old + length found.new.sets) }
-        ensures going_on { OnOk result (T.is_over tally.new ≡ false) }
-        ensures too_many { (limit : ℕ) → result ≡ Err (TooMany limit) → (limit ≡ T.limit_of tally.old)
-            × (IsTrue (T.is_over tally.new) ⊎ HasSetOfSize (frequent_of self.now.paths.baskets (Count self.now.least)) (missing self.now)) }
-        ensures at_most { T.told_of tally.new ≤ T.told_of tally.old + length (frequent_of self.now.paths.baskets (Count self.now.least)) }
-        ensures limit { T.limit_of tally.new ≡ T.limit_of tally.old }
+        ensures tables { OnOk result (KeepSlots tables.old tables.new) }
+        ensures tally { TellsSets T.limit_of T.told_of T.is_over tally.old tally.new found.old.sets found.new.sets result
+            (length (sets_in self.now)) (HasSetOfSize (sets_in self.now) (missing self.now)) }
     {
         classes_are_all();
         classes_are_listed();
         if self.paths.is_branch() {
             return self.read_off(alloc, found, tally);
         }
-        let mut tables = Tables::new(alloc, self.paths.ranks())?;
         for rank in 0..self.paths.ranks() {
-            self.class(alloc, rank, &mut tables, found, tally)?;
+            self.class(alloc, rank, tables, found, tally)?;
         }
         Ok(())
     }
@@ -166,11 +149,8 @@ impl Level {
         ensures added { OnOk result (found.new.sets ≡ found.old.sets ++ record { set = with_item (slice_index (items_of self.now) rank) (suffix_of self.now found.old.sets); count = support } ∷ []) }
         ensures few { OnOk result (length found.new.sets < 18446744073709551616) }
         ensures trees { found.new.trees ≡ found.old.trees }
-        ensures told { OnOk result (T.told_of tally.new ≡ T.told_of tally.old + 1) }
-        ensures going_on { OnOk result (T.is_over tally.new ≡ false) }
-        ensures too_many { (limit : ℕ) → result ≡ Err (TooMany limit) → (limit ≡ T.limit_of tally.old) × IsTrue (T.is_over tally.new) }
-        ensures at_most { T.told_of tally.new ≤ T.told_of tally.old + 1 }
-        ensures limit { T.limit_of tally.new ≡ T.limit_of tally.old }
+        ensures tally { TellsSets T.limit_of T.told_of T.is_over tally.old tally.new found.old.sets found.new.sets result
+            1 ⊥ }
     {
         let item = self.item(rank);
         match self.place {
@@ -180,47 +160,5 @@ impl Level {
         // Nothing is read here: the call brings its contract, which says that the length fits a word.
         let _length = found.sets.len();
         Ok(())
-    }
-
-    /// The conditional database of a rank with these pairs, whose set stands at a place: one more tree.
-    pub fn below(
-        &self,
-        alloc: Global,
-        rank: u32,
-        place: usize,
-        places: &mut Places,
-        mut pairs: Vec<(u32, u64)>,
-        trees: &mut u64,
-    ) -> Result<Level, AllocError>
-        requires level { IsLevel self.now }
-        requires rank { rank < self.now.paths.ranks }
-        requires places { places.old ≡ self.now.paths.ranks }
-        requires pairs { pairs.items ≡ pairs_of self.now.paths.baskets self.now.least rank }
-        requires few { trees.old < 18446744073709551615 }
-        ensures below { IfOk result (IsBelow self.now rank) }
-        ensures place { IfOk result (λ inner. inner.place ≡ Some place) }
-        ensures places { places.new ≡ places.old }
-        ensures trees { OnOk result (trees.new ≡ trees.old + 1) }
-    {
-        let paths = self.paths.below(alloc, places, rank, self.least, &pairs)?;
-        rename(&mut pairs, &self.names);
-        *trees += 1;
-        Ok(Level {
-            paths,
-            names: pairs,
-            place: Some(place),
-            depth: self.depth + 1,
-            least: self.least,
-        })
-    }
-}
-
-/// Puts the item of each rank in its place.
-fn rename(pairs: &mut [(u32, u64)], names: &[(u32, u64)])
-    requires { AllBelow (length names.now) (map (λ pair. pair.0) pairs.old) }
-    ensures { pairs.new ≡ map (named_pair (map (λ name. name.0) names.now)) pairs.old }
-{
-    for place in 0..pairs.len() {
-        pairs[place].0 = names[pairs[place].0 as usize].0;
     }
 }

@@ -10,6 +10,7 @@ mod level;
 mod paths;
 mod shift;
 mod tree;
+mod trees;
 mod words;
 pub mod worked;
 

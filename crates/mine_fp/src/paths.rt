@@ -1,10 +1,8 @@
 //! A conditional database in the form that suits its number of ranks.
-ghost use Rattle.std.specs.Prelude.{◌≡◌, ◌≤◌, ◌<◌, ◌-◌, [], ◌∷◌, ◌==◌, All, IfOk, length, map, sum_by};
+ghost use Rattle.std.specs.Prelude.{◌≡◌, ◌≤◌, ◌<◌, ◌-◌, ◌==◌, All, IfOk, length, map};
 ghost use Rattle.std.specs.List.{list_all};
 ghost use Rattle.basket_ranks.specs.Codes.{IsCoding, decoded_place};
 ghost use Rattle.basket_sets.specs.declared.minimum.Minimum.TheVariants.{Count};
-ghost use Rattle.basket_sets.specs.Database.{MOST_WEIGHT};
-ghost use Rattle.basket_sets.specs.Support.{support_of};
 ghost use Rattle.mine_classes.specs.declared.span.Span.{Span as Run};
 ghost use Rattle.mine_classes.specs.Conditional.{conditional};
 ghost use Rattle.mine_classes.specs.Form.{form_baskets as kept_baskets};
@@ -13,8 +11,8 @@ ghost use Rattle.mine_classes.specs.Pairs.{kept_ranks, pairs_of};
 ghost use Rattle.mine_fp.specs.Level.{IsOrdered};
 ghost use Rattle.mine_fp.specs.Trees.{is_branch};
 
-use crate::words::Words;
-use mine_classes::{Conditional, Form as KeptForm, Places, Runs, Span, Sums};
+use crate::words;
+use mine_classes::{Conditional, Form as KeptForm, Places, Runs, Span, Sums, WordBaskets};
 use std::alloc::{AllocError, Global};
 use std::marker::Model;
 
@@ -28,7 +26,7 @@ pub struct Paths {
 #[derive(Debug, Drop)]
 pub enum Form {
     Runs(Runs),
-    Words(Words),
+    Words(WordBaskets),
 }
 
 impl Model for Paths {
@@ -57,7 +55,7 @@ impl Paths {
         match kept {
             KeptForm::Lists(ordered) => Ok(Paths::of_runs(Runs::of(alloc, ordered)?)),
             KeptForm::Words(baskets) => Ok(Paths {
-                form: Form::Words(Words::of(baskets)),
+                form: Form::Words(baskets),
             }),
         }
     }
@@ -68,7 +66,7 @@ impl Paths {
     {
         match &self.form {
             Form::Runs(runs) => runs.ranks(),
-            Form::Words(words) => words.ranks(),
+            Form::Words(baskets) => baskets.ranks(),
         }
     }
 
@@ -79,7 +77,7 @@ impl Paths {
     {
         match &self.form {
             Form::Runs(runs) => have_whole_paths(runs),
-            Form::Words(words) => words.is_branch(),
+            Form::Words(baskets) => words::is_single_branch(baskets),
         }
     }
 
@@ -93,13 +91,13 @@ impl Paths {
         least: u64,
     ) -> Result<Vec<(u32, u64)>, AllocError>
         requires rank { rank < self.now.ranks }
-        requires sums { sums.old ≡ self.now.ranks }
+        requires sums { self.now.ranks ≤ sums.old }
         ensures pairs { IfOk result (λ pairs. pairs.items ≡ pairs_of self.now.baskets least rank) }
         ensures sums { sums.new ≡ sums.old }
     {
         match &self.form {
             Form::Runs(runs) => runs.pairs(alloc, sums, rank, least),
-            Form::Words(words) => words.pairs(alloc, rank, least),
+            Form::Words(baskets) => words::pairs(alloc, baskets, rank, least),
         }
     }
 
@@ -114,7 +112,7 @@ impl Paths {
         pairs: &[(u32, u64)],
     ) -> Result<Self, AllocError>
         requires rank { rank < self.now.ranks }
-        requires places { places.old ≡ self.now.ranks }
+        requires places { self.now.ranks ≤ places.old }
         requires pairs { pairs.now ≡ pairs_of self.now.baskets least rank }
         ensures ranks { IfOk result (λ below. below.ranks ≡ length (kept_ranks self.now.baskets least rank)) }
         ensures coding { IfOk result (λ below. IsCoding (record { items = kept_ranks self.now.baskets least rank; minimum = Count least; baskets = below.baskets })) }
@@ -123,7 +121,7 @@ impl Paths {
     {
         match &self.form {
             Form::Runs(runs) => below_runs(alloc, runs, places, rank, least, pairs),
-            Form::Words(words) => below_words(alloc, words, rank, least, pairs),
+            Form::Words(baskets) => below_words(alloc, baskets, rank, least, pairs),
         }
     }
 }
@@ -138,7 +136,7 @@ fn below_runs(
     pairs: &[(u32, u64)],
 ) -> Result<Paths, AllocError>
     requires rank { rank < runs.now.ranks }
-    requires places { places.old ≡ runs.now.ranks }
+    requires places { runs.now.ranks ≤ places.old }
     requires pairs { pairs.now ≡ pairs_of runs.now.baskets least rank }
     ensures ranks { IfOk result (λ below. below.ranks ≡ length (kept_ranks runs.now.baskets least rank)) }
     ensures coding { IfOk result (λ below. IsCoding (record { items = kept_ranks runs.now.baskets least rank; minimum = Count least; baskets = below.baskets })) }
@@ -152,42 +150,21 @@ fn below_runs(
 /// The conditional database of a rank, by the words that have it.
 fn below_words(
     alloc: Global,
-    words: &Words,
+    baskets: &WordBaskets,
     rank: u32,
     least: u64,
     pairs: &[(u32, u64)],
 ) -> Result<Paths, AllocError>
-    requires rank { rank < words.now.ranks }
-    requires pairs { pairs.now ≡ pairs_of words.now.baskets least rank }
-    ensures ranks { IfOk result (λ below. below.ranks ≡ length (kept_ranks words.now.baskets least rank)) }
-    ensures coding { IfOk result (λ below. IsCoding (record { items = kept_ranks words.now.baskets least rank; minimum = Count least; baskets = below.baskets })) }
-    ensures weights { IfOk result (λ below. HaveSameWeights (conditional least words.now.baskets rank) (map (decoded_place (kept_ranks words.now.baskets least rank)) below.baskets)) }
+    requires rank { rank < baskets.now.ranks }
+    requires pairs { pairs.now ≡ pairs_of baskets.now.baskets least rank }
+    ensures ranks { IfOk result (λ below. below.ranks ≡ length (kept_ranks baskets.now.baskets least rank)) }
+    ensures coding { IfOk result (λ below. IsCoding (record { items = kept_ranks baskets.now.baskets least rank; minimum = Count least; baskets = below.baskets })) }
+    ensures weights { IfOk result (λ below. HaveSameWeights (conditional least baskets.now.baskets rank) (map (decoded_place (kept_ranks baskets.now.baskets least rank)) below.baskets)) }
 {
-    let below = words.below(alloc, rank, pairs)?;
+    let below = words::below(alloc, baskets, rank, pairs)?;
     Ok(Paths {
         form: Form::Words(below),
     })
-}
-
-/// The support of a rank, which is what its runs weigh.
-pub fn weight_of_rank(runs: &Runs, rank: u32) -> u64
-    requires { rank < runs.now.ranks }
-    ensures { result ≡ support_of runs.now.baskets (rank ∷ []) }
-{
-    let (_ranks, own) = runs.of_rank(rank);
-    weight_of(own)
-}
-
-/// What some runs weigh together.
-fn weight_of(runs: &[Span]) -> u64
-    requires { sum_by (λ (run : Run). run.weight) runs.now ≤ MOST_WEIGHT }
-    ensures { result ≡ sum_by (λ (run : Run). run.weight) runs.now }
-{
-    let mut weight = 0;
-    for run in runs {
-        weight += run.weight;
-    }
-    weight
 }
 
 /// Whether the path of each run has all ranks below the run's, so that the prefix tree of the baskets

@@ -1,5 +1,5 @@
 //! The prefix tree of weighted paths.
-ghost use Rattle.std.specs.Prelude.{◌≡◌, ◌≤◌, ◌<◌, ◌↔◌, ◌+◌, ◌^◌, ◌++◌, [], ◌∷◌, List, ℕ, IfOk, IsTrue, MatchOption, OnErr, OnOk, None, length, map, slice_index, slice_index_or, vec_capacity, vec_len};
+ghost use Rattle.std.specs.Prelude.{◌≡◌, ◌≤◌, ◌<◌, ◌↔◌, ◌+◌, ◌^◌, ◌++◌, [], ◌∷◌, List, ℕ, IfOk, IsTrue, MatchOption, OnErr, OnOk, None, length, map, slice_index, slice_index_or, take, vec_capacity, vec_len};
 ghost use Rattle.basket_sets.specs.declared.weighted.Weighted.{Weighted};
 ghost use Rattle.basket_sets.specs.Database.{weighted};
 ghost use Rattle.basket_sets.specs.Itemset.{IsRising};
@@ -54,12 +54,14 @@ impl FpTree {
         }
     }
 
-    /// Adds a path of some weight. All paths together weigh at most 2^40.
+    /// Adds a path of some weight. All paths together weigh at most 2^40. The nodes that there were keep
+    /// their places.
     pub fn insert(&mut self, path: &[u32], weight: u64) -> Result<(), AllocError>
         requires rises { IsRising path.now }
         requires weighs { 1 ≤ weight }
         requires light { self.old.total + weight ≤ 2 ^ 40 }
         ensures ok { OnOk result ((paths : List Weighted) → StandsFor self.old paths → StandsFor self.new (paths ++ weighted path.now weight ∷ [])) }
+        ensures order { OnOk result (take (length self.old.paths) self.new.paths ≡ self.old.paths) }
         ensures err { OnErr result (self.new ≡ self.old) }
     {
         self.nodes.reserve(path.len())?;

@@ -1,4 +1,4 @@
-//! Baskets of up to 64 ranks, each as the bits of a word.
+//! Baskets of up to 64 ranks, each as the bits of a word: their pairs, and those of a rank.
 ghost use Rattle.std.specs.Prelude.{◌≡◌, ◌≤◌, ◌<◌, ◌+◌, ℕ, All, IfOk, length, map, slice_index, sum_by};
 ghost use Rattle.std.specs.List.{flat_map, list_all, range_with_len};
 ghost use Rattle.basket_ranks.specs.Codes.{decoded_place};
@@ -10,7 +10,7 @@ ghost use Rattle.mine_classes.specs.declared.words.Word.{Word as Bits};
 ghost use Rattle.mine_classes.specs.Conditional.{kept_place};
 ghost use Rattle.mine_classes.specs.ListBaskets.{AreRankBaskets, HaveSameWeights};
 ghost use Rattle.mine_classes.specs.Pairs.{pairs_of};
-ghost use Rattle.mine_classes.specs.Words.{has_rank, ranks_in, word_places};
+ghost use Rattle.mine_classes.specs.Words.{ranks_in, word_places};
 ghost use Rattle.mine_fp.specs.Trees.{is_branch};
 ghost use Rattle.mine_fp.specs.Words.{pair_weight, rank_weight};
 
@@ -18,107 +18,61 @@ use crate::shift::{shift_all, shifts_of};
 use mine_classes::words::{self, WORD_RANKS, Word};
 use mine_classes::{WordBaskets, met_in_order};
 use std::alloc::{AllocError, Global};
-use std::marker::Model;
 
-/// Baskets of up to 64 ranks, each as the bits of a word. The words stand in order, so that those
-/// that begin alike, which share a branch of the prefix tree, are neighbours.
-#[derive(Debug, Drop)]
-pub struct Words {
-    count: u32,
-    words: Vec<Word>,
+/// Whether the prefix tree of the baskets is a single branch.
+pub fn is_single_branch(baskets: &WordBaskets) -> bool
+    ensures { result ≡ is_branch baskets.now.baskets }
+{
+    are_fronts(baskets.words(), baskets.ranks())
 }
 
-impl Model for Words {
-    ghost use Rattle.std.specs.Prelude.{All, ◌≤◌, sum_by};
-    ghost use Rattle.basket_sets.specs.Database.{MOST_WEIGHT};
-    ghost use Rattle.mine_classes.specs.declared.words.TheConstants.{WORD_RANKS};
-    ghost use Rattle.mine_classes.specs.declared.words.Word.{Word as Bits};
-    ghost use Rattle.mine_classes.specs.ListBaskets.{RankBaskets};
-    ghost use Rattle.mine_classes.specs.Words.{word_places};
-
-    ghost Value = { RankBaskets };
-
-    ghost view = { λ w. record { ranks = w.count; baskets = word_places w.count w.words.items } };
-
-    ghost invariant = { λ w. (w.count ≤ WORD_RANKS)
-        × All (λ (word : Bits). 1 ≤ word.weight) w.words.items
-        × (sum_by (λ (word : Bits). word.weight) w.words.items ≤ MOST_WEIGHT) };
+/// The ranks below the rank that are frequent together with it, by a least support, each with the
+/// support of the pair.
+pub fn pairs(
+    alloc: Global,
+    baskets: &WordBaskets,
+    rank: u32,
+    least: u64,
+) -> Result<Vec<(u32, u64)>, AllocError>
+    requires { rank < baskets.now.ranks }
+    ensures { IfOk result (λ pairs. pairs.items ≡ pairs_of baskets.now.baskets least rank) }
+{
+    if rank == 0 {
+        return Ok(Vec::new(alloc));
+    }
+    let sums = pair_sums(baskets.words(), rank);
+    met_in_order(alloc, &sums[..rank as usize], least)
 }
 
-impl Words {
-    /// The words of a conditional database.
-    pub fn of(baskets: WordBaskets) -> Self
-        ensures { result ≡ baskets }
-    {
-        let (count, words) = baskets.into_parts();
-        Words { count, words }
+/// The baskets that have a rank, kept to the ranks of some pairs, which are lower and are numbered
+/// anew.
+pub fn below(
+    alloc: Global,
+    baskets: &WordBaskets,
+    rank: u32,
+    pairs: &[(u32, u64)],
+) -> Result<WordBaskets, AllocError>
+    requires rank { rank < baskets.now.ranks }
+    requires rises { IsRising (map (λ pair. pair.0) pairs.now) }
+    requires below { AllBelow rank (map (λ pair. pair.0) pairs.now) }
+    requires few { length pairs.now ≤ rank }
+    ensures ranks { IfOk result (λ below. below.ranks ≡ length pairs.now) }
+    ensures ranked { IfOk result AreRankBaskets }
+    ensures weights { IfOk result (λ below. HaveSameWeights (flat_map (kept_place (has (map (λ pair. pair.0) pairs.now)) rank) baskets.now.baskets)
+        (map (decoded_place (map (λ pair. pair.0) pairs.now)) below.baskets)) }
+{
+    let count = pairs.len() as u32;
+    let words = words_below(alloc, baskets.words(), rank, pairs)?;
+    // Where none or only the greatest of the lower ranks were dropped, they are as they were.
+    if count == rank || are_in_order(&words) {
+        return Ok(WordBaskets::of_ordered(count, words));
     }
-
-    /// How many ranks there are.
-    pub fn ranks(&self) -> u32
-        ensures { result ≡ self.now.ranks }
-    {
-        self.count
-    }
-
-    /// Whether the prefix tree of the baskets is a single branch.
-    pub fn is_branch(&self) -> bool
-        ensures { result ≡ is_branch self.now.baskets }
-    {
-        are_fronts(&self.words, self.count)
-    }
-
-    /// The ranks below the rank that are frequent together with it, by a least support, each with
-    /// the support of the pair.
-    pub fn pairs(&self, alloc: Global, rank: u32, least: u64) -> Result<Vec<(u32, u64)>, AllocError>
-        requires { rank < self.now.ranks }
-        ensures { IfOk result (λ pairs. pairs.items ≡ pairs_of self.now.baskets least rank) }
-    {
-        if rank == 0 {
-            return Ok(Vec::new(alloc));
-        }
-        let sums = pair_sums(&self.words, rank);
-        met_in_order(alloc, &sums[..rank as usize], least)
-    }
-
-    /// The baskets that have a rank, kept to the ranks of some pairs, which are lower and are numbered
-    /// anew.
-    pub fn below(&self, alloc: Global, rank: u32, pairs: &[(u32, u64)]) -> Result<Self, AllocError>
-        requires rank { rank < self.now.ranks }
-        requires rises { IsRising (map (λ pair. pair.0) pairs.now) }
-        requires below { AllBelow rank (map (λ pair. pair.0) pairs.now) }
-        requires few { length pairs.now ≤ rank }
-        ensures ranks { IfOk result (λ below. below.ranks ≡ length pairs.now) }
-        ensures ranked { IfOk result AreRankBaskets }
-        ensures weights { IfOk result (λ below. HaveSameWeights (flat_map (kept_place (has (map (λ pair. pair.0) pairs.now)) rank) self.now.baskets)
-            (map (decoded_place (map (λ pair. pair.0) pairs.now)) below.baskets)) }
-    {
-        let count = pairs.len() as u32;
-        let words = words_below(alloc, &self.words, rank, pairs)?;
-        // Where none or only the greatest of the lower ranks were dropped, they are as they were.
-        if count == rank || are_in_order(&words) {
-            return Ok(Words { count, words });
-        }
-        let words = in_order(alloc, words)?;
-        Ok(Words { count, words })
-    }
+    WordBaskets::of(alloc, count, words)
 }
 
 /// Whether the words are in order, no two of them equal.
 fn are_in_order(words: &[Word]) -> bool {
     words.is_sorted_by(|word, next| word.bits < next.bits)
-}
-
-/// The words in order, equal ones merged.
-fn in_order(alloc: Global, mut words: Vec<Word>) -> Result<Vec<Word>, AllocError>
-    requires some { All (λ (word : Bits). 1 ≤ word.weight) words.items }
-    requires light { sum_by (λ (word : Bits). word.weight) words.items ≤ MOST_WEIGHT }
-    ensures some { IfOk result (λ ordered. All (λ (word : Bits). 1 ≤ word.weight) ordered.items) }
-    ensures light { IfOk result (λ ordered. sum_by (λ (word : Bits). word.weight) ordered.items ≤ MOST_WEIGHT) }
-    ensures weights { IfOk result (λ ordered. (count : ℕ) → HaveSameWeights (word_places count words.items) (word_places count ordered.items)) }
-{
-    words.sort_unstable();
-    words::merged(alloc, &words)
 }
 
 /// Whether each word has all ranks below its own.

@@ -17,7 +17,7 @@ returns-in_err-class-clause-too_many g c = λ limit e.
     let are = subst (λ (v : Coding). AreInForest v level.least level.paths) c.forest.view_is c.forest.invariant.0 in
     let p = err_from_is_err_and c.from_residual-in_err-class.result c.from_residual-in_err-class.ensures.1 in
     let same : c.in_err-class.field-0.0 ≡ TooMany limit = cc in
-    let many = c.in_err-class.ensures.too_many limit (ap Err same) in
+    let many = c.in_err-class.ensures.tally.too_many limit (ap Err same) in
     let depth : missing level ≡ 32 + 1 = omega (arith, c.forest.invariant.4) in (
       many.0,
       elim many.1 [
@@ -34,7 +34,7 @@ returns-in_err-class-clause-at_most g c =
     let level = c.forest.inside.level in
     let are = subst (λ (v : Coding). AreInForest v level.least level.paths) c.forest.view_is c.forest.invariant.0 in
     let size = class_sizes c.args.forest.now level.least level.paths are c.classes_are_listed.ensures c.lists_have_class_size.ensures c.args.rank in
-    let most = c.in_err-class.ensures.at_most in
+    let most = c.in_err-class.ensures.tally.at_most in
     omega arith
 
 pub returns-clause-listed : goal.returns-clause-listed
@@ -54,7 +54,7 @@ returns-clause-at_most g c =
     let level = c.forest.inside.level in
     let are = subst (λ (v : Coding). AreInForest v level.least level.paths) c.forest.view_is c.forest.invariant.0 in
     let size = class_sizes c.args.forest.now level.least level.paths are c.classes_are_listed.ensures c.lists_have_class_size.ensures c.args.rank in
-    let most = c.in_ok-class.ensures.at_most in
+    let most = c.in_ok-class.ensures.tally.at_most in
     omega arith
 
 pub returns-clause-trees : goal.returns-clause-trees

@@ -1,23 +1,23 @@
-use Rattle.std.proofs.Common.{◌≡◌, ◌∷◌, [], ℕ, List, length, map, subst, sym, ap, ◌∙◌, arith}
+use Rattle.std.proofs.Common.{◌≡◌, ℕ, List, length, map, subst, sym, ap, ◌∙◌, arith}
 use Rattle.basket_ranks.specs.Codes.{IsCoding, decoded_place}
 use Rattle.basket_sets.specs.declared.weighted.Weighted.{Weighted}
 use Rattle.basket_sets.specs.declared.minimum.Minimum.TheVariants.{Count}
 use Rattle.basket_sets.specs.Counts.{AllBelow}
 use Rattle.basket_sets.specs.Itemset.{IsRising}
-use Rattle.basket_sets.specs.Support.{support_of}
 use Rattle.basket_ranks.specs.Codes.{coded_place}
 use Rattle.mine_classes.specs.Conditional.{conditional}
 use Rattle.mine_classes.specs.Form.{form_baskets}
 use Rattle.mine_classes.specs.ListBaskets.{HaveSameWeights}
 use Rattle.mine_classes.specs.Pairs.{kept_ranks, pairs_of}
 use Rattle.mine_classes.specs.Span.{baskets_at}
-use Rattle.mine_classes.proofs.CodedLemmas.{conditional_coding, conditional_weights, first_of_pairs, kept_below, kept_rises}
+use Rattle.mine_classes.proofs.CodedLemmas.{conditional_weights}
 use Rattle.mine_classes.proofs.SumLemmas.{runs_ranked}
+use Rattle.mine_classes.proofs.theory.Kept.{conditional_coding, kept_below, kept_rises, pair_ranks}
 use Rattle.mine_classes.proofs.conditional.Conditional.of.Goals as goal
 
 -- the first ranks of the pairs are the ranks that are kept
 firsts : (baskets : List Weighted) (least rank : ℕ) (pairs : List (ℕ × ℕ)) (ranks : List ℕ) → pairs ≡ pairs_of baskets least rank → ranks ≡ map (λ pair. pair.0) pairs → ranks ≡ kept_ranks baskets least rank
-firsts baskets least rank pairs ranks are is = is ∙ ap (map (λ (pair : ℕ × ℕ). pair.0)) are ∙ first_of_pairs (λ other. support_of baskets (other ∷ rank ∷ [])) (kept_ranks baskets least rank)
+firsts baskets least rank pairs ranks are is = is ∙ ap (map (λ (pair : ℕ × ℕ). pair.0)) are ∙ pair_ranks baskets least rank
 
 pub coded-requires-clause-rises : goal.coded-requires-clause-rises
 coded-requires-clause-rises c =
@@ -28,7 +28,7 @@ pub coded-requires-clause-below : goal.coded-requires-clause-below
 coded-requires-clause-below c =
     let kept = firsts c.args.runs.now.baskets c.args.least c.args.rank c.args.pairs.now c.in_ok-ranks.ranks.items c.requires.pairs c.in_ok-ranks.ensures in
     subst (AllBelow c.args.places.now) (sym (c.deref.ensures.value ∙ kept))
-    (kept_below c.args.runs.now.baskets c.args.least c.args.rank c.args.places.now (omega (arith, c.requires.rank, c.requires.places)))
+    (λ item h. let less = kept_below c.args.runs.now.baskets c.args.least c.args.rank item h in omega (arith, less, c.requires.rank, c.requires.places))
 
 pub coded-requires-clause-ranked : goal.coded-requires-clause-ranked
 coded-requires-clause-ranked c =

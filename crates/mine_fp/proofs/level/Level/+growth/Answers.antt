@@ -1,6 +1,7 @@
-use Rattle.std.proofs.Common.{◌≡◌, ◌+◌, ◌∷◌, [], get_or, cond, filter, length, refl, sym, ap, ◌∙◌, subst, inl, inr, arith, Err, vec_len}
+use Rattle.std.proofs.Common.{◌≡◌, ◌+◌, ◌∷◌, [], Some, get_or, cond, filter, length, refl, sym, ap, ◌∙◌, subst, inr, arith, Err}
+use Rattle.std.specs.Bool.{⊤}
 use Rattle.std.specs.List.{range_with_len, sum_by}
-use Rattle.std.proofs.lemmas.Bool.{eqb-true}
+use Rattle.std.proofs.lemmas.Option.{MatchOption-at_none, MatchOption-at_some}
 use Rattle.std.proofs.lemmas.List.{append-nil, length-append}
 use Rattle.std.proofs.lemmas.Result.{err_from_is_err_and, on_ok_weaker}
 use Rattle.basket_ranks.specs.Depth.{HasSetOfSize}
@@ -9,14 +10,16 @@ use Rattle.basket_sets.specs.declared.minimum.Minimum.TheVariants.{Count}
 use Rattle.basket_sets.specs.Frequent.{frequent_of}
 use Rattle.basket_sets.specs.Itemset.{with_item}
 use Rattle.basket_sets.proofs.theory.Rising.{with_item-rises}
-use Rattle.mine_classes.specs.Classes.{class_of}
-use Rattle.mine_fp.specs.Level.{items_of, missing, suffix_of}
+use Rattle.mine_classes.specs.Pairs.{pairs_of}
+use Rattle.mine_fp.specs.declared.level.Level.{Level}
+use Rattle.mine_fp.specs.Level.{IsBelow, class_in, items_of, missing, suffix_of}
 use Rattle.mine_fp.specs.Trees.{has_tree, inner_trees, rank_trees}
-use Rattle.mine_fp.proofs.ClassLemmas.{alone_is_one, class_grown, class_long, deeper, frequent_of_size, inner_has_fewer, met_by, rare_by}
+use Rattle.mine_fp.proofs.ClassLemmas.{alone_is_one, class_grown, class_has_one, class_long, deeper, frequent_of_size, inner_has_fewer, met_by, rare_by, slots_below, slots_kept}
 use Rattle.mine_fp.proofs.FoundLemmas.{found_fit, found_long, found_more, found_suffix, no_classes}
-use Rattle.mine_fp.proofs.LeafLemmas.{leaf_grown, leaf_trees, nothing_in}
+use Rattle.mine_fp.proofs.LeafLemmas.{leaf_grown, leaf_trees}
 use Rattle.mine_fp.proofs.NameLemmas.{inner_is_level}
 use Rattle.mine_fp.proofs.SuffixLemmas.{suffix_added, suffix_is}
+use Rattle.mine_fp.proofs.ToldLemmas.{tells_all, tells_failed, tells_more, told_more, told_none}
 use Rattle.mine_fp.proofs.TreesLemmas.{class_trees_are, more_trees, rare_trees, trees_of_ranks}
 use Rattle.mine_fp.proofs.level.Level.+growth.Goals as goal
 
@@ -40,137 +43,125 @@ class-returns-then-support-self-clause-trees g t c =
     let none = rare_trees level.paths.baskets level.least c.args.rank c.classes_are_listed.ensures rare in
     omega arith
 
-pub class-returns-then-self-ge-DEPTH-clause-too_many :
-    goal.class-returns-then-self-ge-DEPTH-clause-too_many
-class-returns-then-self-ge-DEPTH-clause-too_many g t c = λ limit e.
+pub class-returns-then-self-ge-DEPTH-clause-tally :
+    goal.class-returns-then-self-ge-DEPTH-clause-tally
+class-returns-then-self-ge-DEPTH-clause-tally g t c =
     let level = c.args.self.now in
     let met = met_by level.paths.baskets level.least c.args.rank c.support-support.result c.support-support.ensures c.requires.level.some c.if-support-self.false in
     let last : missing level ≡ 1 = omega (arith, c.if-self-ge-DEPTH.true, c.requires.level.short) in
-    let told : c.limit.result ≡ limit = cc in
-    (sym told ∙ c.limit.ensures ∙ c.in_ok-tell_rank.ensures.limit, inr (subst (HasSetOfSize (class_of level.paths.baskets (Count level.least) c.args.rank)) (sym last) (alone_is_one level.paths.baskets level.least c.args.rank c.classes_are_listed.ensures met)))
+    let so_far = c.in_ok-tell_rank.ensures.tally in
+    record {
+      all = tt;
+      too_many = λ limit e.
+          let told : c.limit.result ≡ limit = cc in
+          (sym told ∙ c.limit.ensures ∙ so_far.limit, inr (subst (HasSetOfSize (class_in level c.args.rank)) (sym last) (alone_is_one level.paths.baskets level.least c.args.rank c.classes_are_listed.ensures met)));
+      at_most = (let one = class_has_one level.paths.baskets level.least c.args.rank c.classes_are_listed.ensures c.requires.level.some (omega (arith, c.if-support-self.false, c.support-support.ensures)) in omega (arith, so_far.at_most, one));
+      limit = so_far.limit;
+    }
 
-pub class-returns-then-is_empty-clause-listed : goal.class-returns-then-is_empty-clause-listed
-class-returns-then-is_empty-clause-listed g t c =
+pub class-returns-in-None-clause-listed : goal.class-returns-in-None-clause-listed
+class-returns-in-None-clause-listed g t c =
     let level = c.args.self.now in
-    let old = c.args.found.now.sets in
     let met = met_by level.paths.baskets level.least c.args.rank c.support-support.result c.support-support.ensures c.requires.level.some c.if-support-self.false in
-    let none = sym c.in_ok-pairs.ensures.pairs ∙ nothing_in c.in_ok-pairs.pairs.items (omega (arith, eqb-true (vec_len c.in_ok-pairs.pairs) 0 (sym c.if-is_empty.ensures), c.in_ok-pairs.pairs.ok.0)) in
-    leaf_grown level c.args.rank none c.classes_are_conditional.ensures c.conditional_supports.ensures met old c.tell_rank.new.found.sets c.support-support.result
+    let none = MatchOption-at_none (pairs_of level.paths.baskets level.least c.args.rank ≡ []) (λ _. ⊤) c.in-None.is c.in_ok-below.ensures.alone in
+    leaf_grown level c.args.rank none c.classes_are_conditional.ensures c.conditional_supports.ensures met c.args.found.now.sets c.tell_rank.new.found.sets c.support-support.result
     c.requires.stands.rises c.support-support.ensures c.in_ok-tell_rank.ensures.added
 
-pub class-returns-then-is_empty-clause-trees : goal.class-returns-then-is_empty-clause-trees
-class-returns-then-is_empty-clause-trees g t c =
+pub class-returns-in-None-clause-trees : goal.class-returns-in-None-clause-trees
+class-returns-in-None-clause-trees g t c =
     let level = c.args.self.now in
     let met = met_by level.paths.baskets level.least c.args.rank c.support-support.result c.support-support.ensures c.requires.level.some c.if-support-self.false in
-    let none = sym c.in_ok-pairs.ensures.pairs ∙ nothing_in c.in_ok-pairs.pairs.items (omega (arith, eqb-true (vec_len c.in_ok-pairs.pairs) 0 (sym c.if-is_empty.ensures), c.in_ok-pairs.pairs.ok.0)) in
-    omega (arith, c.in_ok-tell_rank.ensures.trees, leaf_trees level.paths.baskets level.least c.args.rank none c.classes_are_conditional.ensures c.conditional_supports.ensures met c.classes_are_listed.ensures)
+    let none = MatchOption-at_none (pairs_of level.paths.baskets level.least c.args.rank ≡ []) (λ _. ⊤) c.in-None.is c.in_ok-below.ensures.alone in
+    omega (
+      arith,
+      c.in_ok-tell_rank.ensures.trees,
+      c.in_ok-below.ensures.number,
+      leaf_trees level.paths.baskets level.least c.args.rank none c.classes_are_conditional.ensures c.conditional_supports.ensures met c.classes_are_listed.ensures,
+    )
 
 pub class-classes-requires : goal.class-classes-requires
 class-classes-requires g t c κs within =
     let level = c.args.self.now in
-    let below = c.in_ok-inner.ensures.below in
-    let fewer = inner_has_fewer level c.args.rank c.in_ok-inner.inner below in
+    let inner = c.in-Some.inner in
+    let below = MatchOption-at_some ⊤ (IsBelow level c.args.rank) inner c.in-Some.is c.in_ok-below.ensures.below in
+    let at = MatchOption-at_some ⊤ (λ (inner : Level). inner.place ≡ Some c.len-place.result) inner c.in-Some.is c.in_ok-below.ensures.place in
+    let fewer = inner_has_fewer level c.args.rank inner below in
     let suffix = suffix_of level c.args.found.now.sets in
     let told : Counted = record { set = with_item (get_or (items_of level) c.args.rank 0) suffix; count = c.support-support.result } in (
       omega (arith, c.decreases),
       (
         within,
         (
-          inner_is_level level c.args.rank c.in_ok-inner.inner c.requires.level below c.conditional_supports.ensures (omega (arith, c.if-self-ge-DEPTH.false)),
+          inner_is_level level c.args.rank inner c.requires.level below c.conditional_supports.ensures (omega (arith, c.if-self-ge-DEPTH.false)),
           (
-            suffix_added c.in_ok-inner.inner c.args.found.now.sets c.tell_rank.new.found.sets told c.len-place.result c.len-place.ensures c.in_ok-tell_rank.ensures.added
-                c.in_ok-inner.ensures.place (with_item-rises (get_or (items_of level) c.args.rank 0) suffix c.requires.stands.rises),
+            suffix_added inner c.args.found.now.sets c.tell_rank.new.found.sets told c.len-place.result c.len-place.ensures c.in_ok-tell_rank.ensures.added
+                at (with_item-rises (get_or (items_of level) c.args.rank 0) suffix c.requires.stands.rises),
             (
-              omega (arith, c.requires.few, c.in_ok-tell_rank.ensures.trees, c.in_ok-inner.ensures.trees, ap length c.in_ok-tell_rank.ensures.added, length-append c.args.found.now.sets (told ∷ [])),
-              c.in_ok-tell_rank.ensures.going_on,
+              slots_below level c.args.rank inner c.args.tables.now c.make.new.tables c.requires.rank below c.requires.tables c.in_ok-below.ensures.tables,
+              (
+                omega (arith, c.requires.few, c.in_ok-tell_rank.ensures.trees, c.in_ok-below.ensures.number, ap length c.in_ok-tell_rank.ensures.added, length-append c.args.found.now.sets (told ∷ [])),
+                c.in_ok-tell_rank.ensures.tally.all.going_on,
+              ),
             ),
           ),
         ),
       ),
     )
 
-pub class-returns-clause-listed : goal.class-returns-clause-listed
-class-returns-clause-listed g t c =
+pub class-returns-in-Some-clause-listed : goal.class-returns-in-Some-clause-listed
+class-returns-in-Some-clause-listed g t c =
     let level = c.args.self.now in
-    let inner = c.in_ok-inner.inner in
+    let inner = c.in-Some.inner in
     let met = met_by level.paths.baskets level.least c.args.rank c.support-support.result c.support-support.ensures c.requires.level.some c.if-support-self.false in
-    let below = c.in_ok-inner.ensures.below in
+    let below = MatchOption-at_some ⊤ (IsBelow level c.args.rank) inner c.in-Some.is c.in_ok-below.ensures.below in
+    let at = MatchOption-at_some ⊤ (λ (inner : Level). inner.place ≡ Some c.len-place.result) inner c.in-Some.is c.in_ok-below.ensures.place in
     let old = c.args.found.now.sets in
     let mid = c.tell_rank.new.found.sets in
     let told : Counted = record { set = with_item (get_or (items_of level) c.args.rank 0) (suffix_of level old); count = c.support-support.result } in
     on_ok_weaker c.classes.result
     (class_grown level c.args.rank inner below c.classes_by_codings.ensures met old mid c.classes.new.found.sets c.support-support.result
     c.requires.stands.rises c.support-support.ensures c.in_ok-tell_rank.ensures.added
-    (suffix_is inner old mid told c.len-place.result c.len-place.ensures c.in_ok-tell_rank.ensures.added c.in_ok-inner.ensures.place))
+    (suffix_is inner old mid told c.len-place.result c.len-place.ensures c.in_ok-tell_rank.ensures.added at))
     c.classes.ensures.listed
 
-pub class-returns-clause-trees : goal.class-returns-clause-trees
-class-returns-clause-trees g t c =
+pub class-returns-in-Some-clause-trees : goal.class-returns-in-Some-clause-trees
+class-returns-in-Some-clause-trees g t c =
     let level = c.args.self.now in
-    let inner = c.in_ok-inner.inner in
+    let inner = c.in-Some.inner in
     let met = met_by level.paths.baskets level.least c.args.rank c.support-support.result c.support-support.ensures c.requires.level.some c.if-support-self.false in
-    let below = c.in_ok-inner.ensures.below in
+    let below = MatchOption-at_some ⊤ (IsBelow level c.args.rank) inner c.in-Some.is c.in_ok-below.ensures.below in
     let all = class_trees_are level c.args.rank inner c.requires.level below c.classes_by_codings.ensures met c.classes_are_listed.ensures c.conditional_supports.ensures in
-    on_ok_weaker c.classes.result (λ made. omega (arith, made, all, c.in_ok-inner.ensures.trees, c.in_ok-tell_rank.ensures.trees)) c.classes.ensures.trees
+    on_ok_weaker c.classes.result (λ made. omega (arith, made, all, c.in_ok-below.ensures.number, c.in_ok-tell_rank.ensures.trees)) c.classes.ensures.trees
 
-pub class-returns-clause-too_many : goal.class-returns-clause-too_many
-class-returns-clause-too_many g t c = λ limit e.
+pub class-returns-in-Some-clause-tally : goal.class-returns-in-Some-clause-tally
+class-returns-in-Some-clause-tally g t c =
     let level = c.args.self.now in
-    let inner = c.in_ok-inner.inner in
+    let inner = c.in-Some.inner in
     let met = met_by level.paths.baskets level.least c.args.rank c.support-support.result c.support-support.ensures c.requires.level.some c.if-support-self.false in
-    let below = c.in_ok-inner.ensures.below in
-    let many = c.classes.ensures.too_many limit e in
-    let less : missing inner + 1 ≡ missing level = omega (arith, below.depth, c.if-self-ge-DEPTH.false) in (
-      many.0 ∙ c.in_ok-tell_rank.ensures.limit,
-      elim many.1 [
-        | inl over ↦ inl over
-        | inr deep ↦ inr (subst (HasSetOfSize (class_of level.paths.baskets (Count level.least) c.args.rank)) less
-            (deeper level c.args.rank inner below c.classes_by_codings.ensures met c.classes_are_listed.ensures (missing inner) deep))
-      ],
-    )
-
-pub class-returns-clause-at_most : goal.class-returns-clause-at_most
-class-returns-clause-at_most g t c =
-    let level = c.args.self.now in
-    let inner = c.in_ok-inner.inner in
-    let met = met_by level.paths.baskets level.least c.args.rank c.support-support.result c.support-support.ensures c.requires.level.some c.if-support-self.false in
-    let below = c.in_ok-inner.ensures.below in
+    let below = MatchOption-at_some ⊤ (IsBelow level c.args.rank) inner c.in-Some.is c.in_ok-below.ensures.below in
     let long = class_long level c.args.rank inner below c.classes_by_codings.ensures met c.lists_have_class_size.ensures in
-    let told = c.in_ok-tell_rank.ensures.at_most in
-    let most = c.classes.ensures.at_most in
-    omega arith
+    let one = ap length c.in_ok-tell_rank.ensures.added ∙ length-append c.args.found.now.sets (record { set = with_item (get_or (items_of level) c.args.rank 0) (suffix_of level c.args.found.now.sets); count = c.support-support.result } ∷ []) in
+    let less : missing inner + 1 ≡ missing level = omega (arith, below.depth, c.if-self-ge-DEPTH.false) in
+    tells_more c.in_ok-tell_rank.ensures.tally.all c.classes.ensures.tally (omega (arith, long, one))
+    (λ deep. subst (HasSetOfSize (class_in level c.args.rank)) less (deeper level c.args.rank inner below c.classes_by_codings.ensures met c.classes_are_listed.ensures (missing inner) deep))
 
 pub classes-loop-rank-init : goal.classes-loop-rank-init
 classes-loop-rank-init g t c = record {
   listed = no_classes c.args.self.now c.args.found.now.sets;
   trees = omega arith;
   few = c.requires.few;
-  sums = c.in_ok-tables.ensures.sums ∙ c.ranks.ensures;
-  places = c.in_ok-tables.ensures.places ∙ c.ranks.ensures;
-  told = refl;
-  going_on = c.requires.going;
-  limit = refl;
+  tables = record { sums = refl; places = refl };
+  told = told_none c.args.tally.now c.args.found.now.sets c.requires.going;
 }
 
-pub classes-returns-in_err-class-clause-too_many :
-    goal.classes-returns-in_err-class-clause-too_many
-classes-returns-in_err-class-clause-too_many g t c = λ limit e.
+pub classes-returns-in_err-class-clause-tally : goal.classes-returns-in_err-class-clause-tally
+classes-returns-in_err-class-clause-tally g t c =
     let level = c.args.self.now in
-    let p = err_from_is_err_and c.from_residual-in_err-class.result c.from_residual-in_err-class.ensures.1 in
-    let many = c.in_err-class.ensures.too_many limit (ap Err (sym p.2) ∙ sym p.1 ∙ e) in (
-      many.0 ∙ c.loop-rank.invariant.limit,
-      elim many.1 [
-        | inl over ↦ inl over
-        | inr deep ↦ inr (frequent_of_size level.paths.baskets level.least c.loop-rank.rank (missing level) deep)
-      ],
-    )
-
-pub classes-returns-in_err-class-clause-at_most : goal.classes-returns-in_err-class-clause-at_most
-classes-returns-in_err-class-clause-at_most g t c =
     let so_far = c.loop-rank.invariant in
-    let fit = found_fit c.args.self.now c.loop-rank.rank c.args.found.now.sets c.loop-rank.found.sets so_far.listed c.classes_are_all.ensures c.classes_are_listed.ensures c.requires.level
+    let fit = found_fit level c.loop-rank.rank c.args.found.now.sets c.loop-rank.found.sets so_far.listed c.classes_are_all.ensures c.classes_are_listed.ensures c.requires.level
     (omega (arith, c.loop-rank-test.true, c.ranks-rank-end.ensures)) in
-    omega (arith, so_far.told, c.in_err-class.ensures.at_most)
+    let p = err_from_is_err_and c.from_residual.result c.from_residual.ensures.1 in
+    tells_failed so_far.told c.in_err-class.ensures.tally refl fit (frequent_of_size level.paths.baskets level.least c.loop-rank.rank (missing level)) c.from_residual.result (p.1 ∙ ap Err p.2)
 
 pub classes-class-requires : goal.classes-class-requires
 classes-class-requires g t c κs within =
@@ -182,7 +173,10 @@ classes-class-requires g t c κs within =
           c.requires.level,
           (
             found_suffix c.args.self.now c.loop-rank.rank c.args.found.now.sets c.loop-rank.found.sets so_far.listed c.requires.stands,
-            (omega (arith, c.loop-rank-test.true, c.ranks-rank-end.ensures), (so_far.sums, (so_far.places, (so_far.few, so_far.going_on)))),
+            (
+              omega (arith, c.loop-rank-test.true, c.ranks-rank-end.ensures),
+              (slots_kept c.args.self.now c.args.tables.now c.loop-rank.tables c.requires.tables so_far.tables, (so_far.few, so_far.told.going_on)),
+            ),
           ),
         ),
       ),
@@ -197,18 +191,15 @@ classes-loop-rank-preserved g t c =
       listed = found_more level c.loop-rank.rank c.args.found.now.sets c.loop-rank.found.sets so_far.listed c.class.new.found.sets c.requires.stands now.listed;
       trees = omega (arith, now.trees, so_far.trees, more_trees level.paths.baskets level.least c.loop-rank.rank);
       few = now.few;
-      sums = now.sums;
-      places = now.places;
-      told = omega (arith, now.told, so_far.told);
-      going_on = now.going_on;
-      limit = now.limit ∙ so_far.limit;
+      tables = record { sums = now.tables.sums ∙ so_far.tables.sums; places = now.tables.places ∙ so_far.tables.places };
+      told = told_more so_far.told now.tally.all;
     }
 
-pub classes-returns-clause-at_most : goal.classes-returns-clause-at_most
-classes-returns-clause-at_most g t c =
+pub classes-returns-clause-tally : goal.classes-returns-clause-tally
+classes-returns-clause-tally g t c =
     let last : c.loop-rank.rank ≡ c.args.self.now.paths.ranks = omega (arith, c.loop-rank-test.false, c.ranks-rank-end.ensures, c.loop-rank.auto.rank-end) in
     let long = found_long c.args.self.now c.loop-rank.rank c.args.found.now.sets c.loop-rank.found.sets c.loop-rank.invariant.listed c.classes_are_all.ensures c.classes_are_listed.ensures c.requires.level last in
-    omega (arith, c.loop-rank.invariant.told)
+    tells_all c.loop-rank.invariant.told (omega (arith, long))
 
 pub classes-returns-clause-trees : goal.classes-returns-clause-trees
 classes-returns-clause-trees g t c =

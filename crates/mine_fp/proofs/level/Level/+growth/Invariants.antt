@@ -1,6 +1,8 @@
-use Rattle.std.proofs.Common.{◌≡◌, ◌≤◌, ◌+◌, ◌*◌, false, length}
+use Rattle.std.proofs.Common.{◌≡◌, ◌≤◌, ◌+◌, ◌*◌, length}
 use Rattle.std.specs.List.{range_with_len, sum_by}
 use Rattle.mine_fp.specs.Trees.{rank_trees}
+use Rattle.mine_fp.specs.Found.{AreTold}
+use Rattle.mine_fp.specs.Level.{KeepSlots}
 use Rattle.mine_fp.proofs.FoundLemmas.{HasClasses}
 use Rattle.mine_fp.proofs.level.Level.+growth.Given as goal
 
@@ -15,9 +17,6 @@ invariant-classes-loop-rank g l = record {
   listed : HasClasses l.self l.rank l.fn.found.sets l.found.sets;
   trees : l.found.trees ≡ l.fn.found.trees + sum_by (rank_trees l.self.paths.baskets l.self.least) (range_with_len 0 l.rank);
   few : l.found.trees ≤ length l.found.sets;
-  sums : l.tables.sums ≡ l.self.paths.ranks;
-  places : l.tables.places ≡ l.self.paths.ranks;
-  told : g.T.Tally.told_of l.tally + length l.fn.found.sets ≡ g.T.Tally.told_of l.fn.tally + length l.found.sets;
-  going_on : g.T.Tally.is_over l.tally ≡ false;
-  limit : g.T.Tally.limit_of l.tally ≡ g.T.Tally.limit_of l.fn.tally;
+  tables : KeepSlots l.fn.tables l.tables;
+  told : AreTold g.T.Tally.limit_of g.T.Tally.told_of g.T.Tally.is_over l.fn.tally l.tally l.fn.found.sets l.found.sets;
 }

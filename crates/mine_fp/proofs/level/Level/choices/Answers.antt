@@ -1,15 +1,18 @@
-use Rattle.std.proofs.Common.{◌≡◌, ◌<◌, ◌+◌, ◌-◌, ◌++◌, ◌∷◌, [], List, get_or, length, map, take, sym, ap, ◌∙◌, subst, arith}
+use Rattle.std.proofs.Common.{◌≡◌, ◌<◌, ◌+◌, ◌-◌, ◌++◌, ◌∷◌, [], List, get_or, length, map, take, refl, sym, ap, ◌∙◌, subst, arith, ◌≤◌, Err}
 use Rattle.std.specs.List.{flat_map}
 use Rattle.std.proofs.Math.Seq.{take-length}
 use Rattle.std.proofs.lemmas.List.{append-nil, length-append, length-map}
+use Rattle.std.proofs.lemmas.Result.{err_from_is_err_and}
 use Rattle.basket_sets.specs.declared.counted.Counted.{Counted}
 use Rattle.basket_sets.specs.declared.minimum.Minimum.TheVariants.{Count}
 use Rattle.basket_sets.specs.Itemset.{with_item}
 use Rattle.mine_classes.specs.Classes.{ListsClass}
-use Rattle.mine_fp.specs.Level.{as_items, items_of, suffix_of}
+use Rattle.mine_fp.specs.Level.{as_items, class_in, items_of, suffix_of}
 use Rattle.mine_fp.proofs.ChoiceLemmas.{choices_are_class, choices_long, chosen, chosen_more}
 use Rattle.mine_fp.proofs.ClassLemmas.{met_by, rare_by}
+use Rattle.mine_fp.proofs.FoundLemmas.{class_fits}
 use Rattle.mine_fp.proofs.LevelLemmas.{alone_as_items}
+use Rattle.mine_fp.proofs.ToldLemmas.{tells_all, tells_failed, told_more, told_none}
 use Rattle.mine_fp.proofs.level.Level.choices.Goals as goal
 
 pub returns-then-support-self-clause-listed : goal.returns-then-support-self-clause-listed
@@ -22,27 +25,28 @@ returns-then-support-self-clause-listed g c =
       added = sym (append-nil c.args.found.now.sets);
     }
 
-pub returns-in_err-tell_rank-clause-at_most : goal.returns-in_err-tell_rank-clause-at_most
-returns-in_err-tell_rank-clause-at_most g c =
+pub returns-in_err-tell_rank-clause-tally : goal.returns-in_err-tell_rank-clause-tally
+returns-in_err-tell_rank-clause-tally g c =
     let level = c.args.self.now in
     let met = met_by level.paths.baskets level.least c.args.rank c.support-support.result c.support-support.ensures c.requires.level.some c.if-support-self.false in
     let lower = c.requires.lower in
-    let sets = flat_map (λ (class : List Counted). class) lower.classes in
     let size = choices_long level.paths.baskets level.least c.args.rank c.requires.branch met c.conditional_supports.ensures c.classes_are_all.ensures c.classes_are_conditional.ensures lower.classes lower.ranks lower.listed c.lists_have_class_size.ensures in
-    let most = c.in_err-tell_rank.ensures.at_most in
-    omega arith
+    let p = err_from_is_err_and c.from_residual.result c.from_residual.ensures.1 in
+    tells_failed (told_none c.args.tally.now c.args.found.now.sets c.requires.going) c.in_err-tell_rank.ensures.tally refl (omega (arith, size)) (λ none. none) c.from_residual.result (p.1 ∙ ap Err p.2)
 
-pub returns-in_err-choose-clause-at_most : goal.returns-in_err-choose-clause-at_most
-returns-in_err-choose-clause-at_most g c =
+pub returns-in_err-choose-clause-tally : goal.returns-in_err-choose-clause-tally
+returns-in_err-choose-clause-tally g c =
     let level = c.args.self.now in
     let met = met_by level.paths.baskets level.least c.args.rank c.support-support.result c.support-support.ensures c.requires.level.some c.if-support-self.false in
     let lower = c.requires.lower in
     let sets = flat_map (λ (class : List Counted). class) lower.classes in
     let size = choices_long level.paths.baskets level.least c.args.rank c.requires.branch met c.conditional_supports.ensures c.classes_are_all.ensures c.classes_are_conditional.ensures lower.classes lower.ranks lower.listed c.lists_have_class_size.ensures in
     let named = as_items (items_of level) (suffix_of level c.args.found.now.sets) in
-    let long = ap length lower.are ∙ length-append lower.before (map named sets) in
-    let most = c.in_err-choose.ensures.at_most in
-    omega (arith, most, c.loop-at.invariant.told, size, long, lower.long, length-map sets named, c.loop-at-test.true, c.len-end.ensures, c.loop-at.auto.at)
+    let whole = ap length lower.are ∙ length-append lower.before (map named sets) in
+    let fit : length c.loop-at.found.sets + 1 ≤ length c.args.found.now.sets + length (class_in level c.args.rank) =
+    omega (arith, c.loop-at.invariant.long, size, whole, lower.long, length-map sets named, c.loop-at-test.true, c.len-end.ensures, c.loop-at.auto.at) in
+    let p = err_from_is_err_and c.from_residual-in_err-choose.result c.from_residual-in_err-choose.ensures.1 in
+    tells_failed c.loop-at.invariant.told c.in_err-choose.ensures.tally refl fit (λ none. none) c.from_residual-in_err-choose.result (p.1 ∙ ap Err p.2)
 
 pub loop-at-init : goal.loop-at-init
 loop-at-init g c =
@@ -54,9 +58,9 @@ loop-at-init g c =
           ∙ (let none : 0 ≡ c.args.start - c.args.start = omega arith in
           ap (λ n. c.args.found.now.sets ++ map (as_items (items_of level) (suffix_of level c.args.found.now.sets)) (chosen c.args.rank c.support-support.result (take n (flat_map (λ (class : List Counted). class) classes)))) none);
       trees = c.in_ok-tell_rank.ensures.trees;
-      told = omega (arith, c.in_ok-tell_rank.ensures.told);
-      going_on = c.in_ok-tell_rank.ensures.going_on;
-      limit = c.in_ok-tell_rank.ensures.limit;
+      told = c.in_ok-tell_rank.ensures.tally.all;
+      long = (let one = ap length c.in_ok-tell_rank.ensures.added in
+          omega (arith, one, length-append c.args.found.now.sets (record { set = with_item (get_or (items_of level) c.args.rank 0) (suffix_of level c.args.found.now.sets); count = c.support-support.result } ∷ [])));
     }
 
 pub loop-at-preserved : goal.loop-at-preserved
@@ -80,9 +84,9 @@ loop-at-preserved g c =
           ∙ (let next : at - c.args.start + 1 ≡ at + 1 - c.args.start = omega (arith, c.loop-at.auto.at) in
           ap (λ n. c.args.found.now.sets ++ map named (chosen c.args.rank c.support-support.result (take n sets))) next);
       trees = now.trees ∙ so_far.trees;
-      told = omega (arith, now.told, so_far.told, c.loop-at.auto.at);
-      going_on = now.going_on;
-      limit = now.limit ∙ so_far.limit;
+      told = told_more so_far.told now.tally.all;
+      long = (let one = ap length now.added.added in
+          omega (arith, one, so_far.long, length-append c.loop-at.found.sets (record { set = with_item item now.added.chosen.set; count = c.support-support.result } ∷ []), c.loop-at.auto.at));
     }
 
 pub returns-clause-listed : goal.returns-clause-listed
@@ -103,13 +107,7 @@ returns-clause-listed g c =
           ∙ ap (λ l. c.args.found.now.sets ++ map named (chosen c.args.rank c.support-support.result l)) (ap (λ n. take n sets) whole ∙ take-length sets);
     }
 
-pub returns-clause-at_most : goal.returns-clause-at_most
-returns-clause-at_most g c =
-    let level = c.args.self.now in
-    let met = met_by level.paths.baskets level.least c.args.rank c.support-support.result c.support-support.ensures c.requires.level.some c.if-support-self.false in
-    let lower = c.requires.lower in
-    let sets = flat_map (λ (class : List Counted). class) lower.classes in
-    let size = choices_long level.paths.baskets level.least c.args.rank c.requires.branch met c.conditional_supports.ensures c.classes_are_all.ensures c.classes_are_conditional.ensures lower.classes lower.ranks lower.listed c.lists_have_class_size.ensures in
-    let named = as_items (items_of level) (suffix_of level c.args.found.now.sets) in
-    let long = ap length lower.are ∙ length-append lower.before (map named sets) in
-    omega (arith, c.loop-at.invariant.told, size, long, lower.long, length-map sets named, c.loop-at-test.false, c.len-end.ensures, c.loop-at.auto.at, c.loop-at.auto.at-end)
+pub returns-clause-tally : goal.returns-clause-tally
+returns-clause-tally g c =
+    let long = class_fits c.lists_have_class_size.ensures c.args.self.now c.args.rank c.args.found.now.sets c.loop-at.found.sets (returns-clause-listed g c) in
+    tells_all c.loop-at.invariant.told (omega (arith, long))

@@ -1,13 +1,23 @@
-use Rattle.std.proofs.Common.{◌≡◌, ◌∙◌, arith}
-use Rattle.mine_fp.proofs.FoundLemmas.{found_fit, found_long, found_more}
+use Rattle.std.proofs.Common.{◌≡◌, refl, ap, ◌∙◌, Err, arith}
+use Rattle.std.proofs.lemmas.Result.{err_from_is_err_and}
+use Rattle.mine_fp.proofs.FoundLemmas.{found_fit, found_long, found_more, no_classes}
+use Rattle.mine_fp.proofs.ToldLemmas.{tells_all, tells_failed, told_more, told_none}
 use Rattle.mine_fp.proofs.level.Level.read_off.Goals as goal
 
-pub returns-in_err-choices-clause-at_most : goal.returns-in_err-choices-clause-at_most
-returns-in_err-choices-clause-at_most g c =
+pub loop-last-init : goal.loop-last-init
+loop-last-init g c = record {
+  listed = no_classes c.args.self.now c.args.found.now.sets;
+  trees = refl;
+  told = told_none c.args.tally.now c.args.found.now.sets c.requires.going;
+}
+
+pub returns-in_err-choices-clause-tally : goal.returns-in_err-choices-clause-tally
+returns-in_err-choices-clause-tally g c =
     let so_far = c.loop-last.invariant in
     let fit = found_fit c.args.self.now c.loop-last.last c.args.found.now.sets c.loop-last.found.sets so_far.listed c.classes_are_all.ensures c.classes_are_listed.ensures c.requires.level
     (omega (arith, c.loop-last-test.true, c.ranks-last-end.ensures)) in
-    omega (arith, so_far.told, c.in_err-choices.ensures.at_most)
+    let p = err_from_is_err_and c.from_residual.result c.from_residual.ensures.1 in
+    tells_failed so_far.told c.in_err-choices.ensures.tally refl fit (λ none. none) c.from_residual.result (p.1 ∙ ap Err p.2)
 
 pub loop-last-preserved : goal.loop-last-preserved
 loop-last-preserved g c =
@@ -16,13 +26,11 @@ loop-last-preserved g c =
     record {
       listed = found_more c.args.self.now c.loop-last.last c.args.found.now.sets c.loop-last.found.sets so_far.listed c.choices.new.found.sets c.requires.stands now.listed;
       trees = now.trees ∙ so_far.trees;
-      told = omega (arith, now.told, so_far.told);
-      going_on = now.going_on;
-      limit = now.limit ∙ so_far.limit;
+      told = told_more so_far.told now.tally.all;
     }
 
-pub returns-clause-at_most : goal.returns-clause-at_most
-returns-clause-at_most g c =
+pub returns-clause-tally : goal.returns-clause-tally
+returns-clause-tally g c =
     let last : c.loop-last.last ≡ c.args.self.now.paths.ranks = omega (arith, c.loop-last-test.false, c.ranks-last-end.ensures, c.loop-last.auto.last-end) in
     let long = found_long c.args.self.now c.loop-last.last c.args.found.now.sets c.loop-last.found.sets c.loop-last.invariant.listed c.classes_are_all.ensures c.classes_are_listed.ensures c.requires.level last in
-    omega (arith, c.loop-last.invariant.told)
+    tells_all c.loop-last.invariant.told (omega (arith, long))

@@ -11,6 +11,7 @@ invariant-loop-rank l =
     record {
       is : IsReached (links_of nodes) (paths_of (links_of nodes)) (counts_of nodes) l.self-inside.total l.weight l.path l.rank-index l.at;
       room : vec_len l.self-inside.nodes + (length l.path - l.rank-index) ≤ vec_capacity l.self-inside.nodes;
+      order : take (length l.fn.self.paths) (paths_of (links_of nodes)) ≡ l.fn.self.paths;
       total : l.self-inside.total ≡ l.fn.self.total;
       stands : (begun : List Weighted) → AreBranches l.fn.self.paths l.fn.self.counts begun
           → AreBranches (paths_of (links_of nodes)) (counts_of nodes) (begun ++ weighted (take l.rank-index l.path) l.weight ∷ []);

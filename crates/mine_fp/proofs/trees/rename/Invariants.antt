@@ -1,6 +1,6 @@
 use Rattle.std.proofs.Common.{◌≡◌, ◌≤◌, ℕ, map, slice_index_or, take}
 use Rattle.mine_classes.specs.Pairs.{named_pair}
-use Rattle.mine_fp.proofs.level.rename.Given as goal
+use Rattle.mine_fp.proofs.trees.rename.Given as goal
 
 -- the pairs before the place have the items, the others are as they were
 abbrev pub invariant-loop-place : goal.invariant-loop-place

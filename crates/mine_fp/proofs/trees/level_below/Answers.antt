@@ -2,20 +2,20 @@ use Rattle.std.proofs.Common.{ℕ, ◌+◌, length, map, drop, ap, ◌∙◌, su
 use Rattle.std.proofs.lemmas.List.{length-map, take-append-le, take_all}
 use Rattle.basket_sets.specs.Itemset.{has}
 use Rattle.mine_classes.specs.Pairs.{named_pair, pairs_of}
+use Rattle.mine_classes.proofs.theory.Kept.{kept_below, pair_ranks}
 use Rattle.mine_fp.specs.Level.{items_of}
-use Rattle.mine_fp.proofs.LevelLemmas.{kept_below, pair_ranks}
-use Rattle.mine_fp.proofs.level.Level.below.Goals as goal
+use Rattle.mine_fp.proofs.trees.level_below.Goals as goal
 
 pub rename-requires : goal.rename-requires
 rename-requires c = λ item h.
-    let level = c.args.self.now in
+    let level = c.args.level.now in
     let kept = ap (map (λ (pair : ℕ × ℕ). pair.0)) (c.deref_mut.ensures.value ∙ c.requires.pairs) ∙ pair_ranks level.paths.baskets level.least c.args.rank in
     let less = kept_below level.paths.baskets level.least c.args.rank item (subst (λ l. has l item ≡ true) kept h) in
     omega (arith, less, c.requires.rank, c.requires.level.names.long, ap length c.deref-2.ensures.value)
 
 pub returns-clause-below : goal.returns-clause-below
 returns-clause-below c =
-    let level = c.args.self.now in
+    let level = c.args.level.now in
     let made = c.in_ok-paths.ensures in
     let names = c.rename.new.pairs in
     let is : names ≡ map (named_pair (items_of level)) (pairs_of level.paths.baskets level.least c.args.rank) =

@@ -3,7 +3,7 @@ use Rattle.std.proofs.lemmas.List.{get_or-map, get_or-set_other, get_or-set_same
 use Rattle.basket_sets.specs.Counts.{AllBelow}
 use Rattle.basket_sets.proofs.theory.Rising.{has_place}
 use Rattle.mine_classes.specs.Pairs.{named_pair}
-use Rattle.mine_fp.proofs.level.rename.Goals as goal
+use Rattle.mine_fp.proofs.trees.rename.Goals as goal
 
 named_more : (f : ℕ × ℕ → ℕ × ℕ) (now before : List (ℕ × ℕ)) (k : ℕ) → k < length now → k < length before → take k now ≡ map f (take k before)
     → take (k + 1) (set now k (f (get_or before k (0, 0)))) ≡ map f (take (k + 1) before)

@@ -1,0 +1,107 @@
+-- Ranges, and the ranks that a conditional database keeps.
+use Rattle.std.proofs.Common.{◌≡◌, ℕ, ◌+◌, ◌<◌, ◌≤◌, Bool, true, false, List, [], ◌∷◌, length, map, ltb, refl, ap, subst, inl, inr, arith, zero, suc}
+use Rattle.std.specs.Prelude.{nat_eq}
+use Rattle.std.specs.List.{IsDistinct, filter, range_with_len}
+use Rattle.std.specs.Ordering.{nat_cmp}
+use Rattle.std.proofs.lemmas.Bool.{and_parts, cases_Bool, cases_eq, eqb-true, ltb-true}
+use Rattle.std.proofs.lemmas.List.Elements.{All-weaker}
+use Rattle.std.proofs.lemmas.List.FromFn.{length-range_with_len}
+use Rattle.std.proofs.lemmas.List.Kept.{IsStrictlySortedBy-filter}
+use Rattle.basket_ranks.specs.Codes.{IsCodedPlace, IsCoding, MOST_RANKS}
+use Rattle.basket_sets.specs.declared.weighted.Weighted.{Weighted}
+use Rattle.basket_sets.specs.declared.minimum.Minimum.TheVariants.{Count}
+use Rattle.basket_sets.specs.Counts.{AllBelow}
+use Rattle.basket_sets.specs.Database.{HasWeight}
+use Rattle.basket_sets.specs.Frequent.{is_frequent}
+use Rattle.basket_sets.specs.Itemset.{IsRising, has}
+use Rattle.basket_sets.specs.Support.{support_of}
+use Rattle.basket_sets.proofs.theory.Members.{All-from_Member, Member, Member-filter, Member-from_filter}
+use Rattle.basket_sets.proofs.theory.Rising.{Member-from_has, cons_rises, first_below, has-from_Member, length-le-contains, nil_rises, rest_rises, same_test}
+use Rattle.mine_classes.specs.Conditional.{is_kept}
+use Rattle.mine_classes.specs.ListBaskets.{AreRankBaskets, IsRankBasket, RankBaskets}
+use Rattle.mine_classes.specs.Pairs.{kept_ranks, pairs_of}
+
+-- ---- ranges, and filters of them
+
+pub Member-range : (a n x : ℕ) → Member x (range_with_len a n) → (a ≤ x) × (x < a + n)
+Member-range a zero x m = absurd m
+Member-range a (suc n) x (inl e) = (omega arith, omega arith)
+Member-range a (suc n) x (inr m) = let r = Member-range (a + 1) n x m in let low = r.0 in let high = r.1 in (omega arith, omega arith)
+
+pub Member-into_range : (a n x : ℕ) → a ≤ x → x < a + n → Member x (range_with_len a n)
+Member-into_range a zero x low high = absurd (omega arith)
+Member-into_range a (suc n) x low high = elim (cases_eq a x) [
+  | inl e ↦ inl e
+  | inr differ ↦ inr (Member-into_range (a + 1) n x (omega arith) (omega arith))
+]
+
+pub range_rises : (a n : ℕ) → IsRising (range_with_len a n)
+range_rises a zero = nil_rises
+range_rises a (suc n) = cons_rises a (range_with_len (a + 1) n) (λ y m. let r = Member-range (a + 1) n y m in let low = r.0 in omega arith) (range_rises (a + 1) n)
+
+pub filtered_range_rises : (p : ℕ → Bool) (a n : ℕ) → IsRising (filter p (range_with_len a n))
+filtered_range_rises p a n = IsStrictlySortedBy-filter nat_cmp p (range_with_len a n) (range_rises a n)
+
+-- ---- the ranks that are kept
+
+rising_distinct : (xs : List ℕ) → IsRising xs → IsDistinct nat_eq xs
+unfolding IsDistinct
+rising_distinct [] up = tt
+rising_distinct (x ∷ xs) up = (
+  All-from_Member (λ y. nat_eq x y ≡ false) xs (λ y m. elim (cases_Bool (nat_eq x y)) [
+    | inl e ↦ (let same = eqb-true x y e in let less = first_below x xs up y m in absurd (omega arith))
+    | inr e ↦ e
+  ]),
+  rising_distinct xs (rest_rises x xs up),
+)
+
+module _ (baskets : List Weighted) (least rank : ℕ) where
+  abbrev keeps : ℕ → Bool
+  keeps other = is_kept baskets least rank other
+
+  abbrev kept : List ℕ
+  kept = kept_ranks baskets least rank
+
+  pub kept_rises : IsRising kept
+  kept_rises = filtered_range_rises keeps 0 rank
+
+  pub kept_lower : (other : ℕ) → keeps other ≡ true → other < rank
+  kept_lower other h = ltb-true other rank (and_parts (ltb other rank) (is_frequent baskets (Count least) (other ∷ rank ∷ [])) h).0
+
+  pub Member-kept : (other : ℕ) → keeps other ≡ true → Member other kept
+  Member-kept other h = Member-from_filter keeps other (range_with_len 0 rank) (Member-into_range 0 rank other (omega arith) (let less = kept_lower other h in omega arith)) h
+
+  pub has_kept : (other : ℕ) → has kept other ≡ keeps other
+  has_kept other = same_test (has kept other) (keeps other)
+      (λ h. (Member-filter keeps other (range_with_len 0 rank) (Member-from_has kept other h)).1)
+      (λ h. has-from_Member kept other (Member-kept other h))
+
+  pub kept_below : AllBelow rank kept
+  kept_below other h = kept_lower other (Member-filter keeps other (range_with_len 0 rank) (Member-from_has kept other h)).1
+
+  pub kept_short : length kept ≤ rank
+  kept_short =
+      omega (
+        arith,
+        length-range_with_len 0 rank,
+        length-le-contains kept (range_with_len 0 rank) kept_rises (range_rises 0 rank) (λ z m. (Member-filter keeps z (range_with_len 0 rank) m).0),
+      )
+
+  -- the first ranks of a rank's pairs are those that are kept
+  pub pair_ranks : map (λ (pair : ℕ × ℕ). pair.0) (pairs_of baskets least rank) ≡ kept
+  pair_ranks = go kept
+    where
+      go : (ranks : List ℕ) → map (λ (pair : ℕ × ℕ). pair.0) (map (λ other. (other, support_of baskets (other ∷ rank ∷ []))) ranks) ≡ ranks
+      go [] = refl
+      go (first ∷ ranks) = ap (λ l. first ∷ l) (go ranks)
+
+  -- baskets of so many ranks are a coding of the ranks that are kept
+  pub conditional_coding : (value : RankBaskets) → AreRankBaskets value → value.ranks ≡ length kept → rank < MOST_RANKS
+      → IsCoding (record { items = kept; minimum = Count least; baskets = value.baskets })
+  conditional_coding value are long few = record {
+    distinct = rising_distinct kept kept_rises;
+    few = (let short = kept_short in omega arith);
+    places = All-weaker (IsRankBasket value.ranks) (IsCodedPlace kept) (λ place is. (is.rises, subst (λ n. AllBelow n place.basket) long is.below)) value.baskets are.places;
+    weights = All-weaker (IsRankBasket value.ranks) HasWeight (λ place is. is.weighs) value.baskets are.places;
+    light = are.light;
+  }
