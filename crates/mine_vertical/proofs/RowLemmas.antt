@@ -1,13 +1,12 @@
 -- Rows of covers that are joined.
 use Rattle.std.proofs.Common.{◌≡◌, ℕ, ◌+◌, Bool, true, not, List, [], ◌∷◌, get_or, cond, subst, sym, refl, ap, ◌∙◌, inl, inr}
 use Rattle.std.specs.List.{filter}
-use Rattle.basket_sets.specs.Itemset.{IsRising, contains, has}
+use Rattle.basket_sets.specs.Itemset.{contains, has}
 use Rattle.basket_sets.proofs.theory.Members.{Member, Member-filter, Member-from_filter}
 use Rattle.basket_sets.proofs.theory.Rising.{Member-from_has, contains_each, has-from_Member, same_test}
-use Rattle.mine_vertical.specs.declared.tids.TidList.{TidList}
 use Rattle.mine_vertical.specs.declared.diffs.DiffList.{DiffList}
 use Rattle.mine_vertical.specs.Cover.{IsCover, common, cover_weight, lacking}
-use Rattle.mine_vertical.specs.Rows.{IsDiffList, IsTidList}
+use Rattle.mine_vertical.specs.Rows.{IsDiffList}
 use Rattle.mine_vertical.proofs.CoverLemmas.{lacking_joined, part_covers, parts_weigh}
 
 pub filter_members : (p q : ℕ → Bool) (xs : List ℕ) → ((x : ℕ) → Member x xs → p x ≡ q x) → filter p xs ≡ filter q xs
@@ -27,10 +26,10 @@ pub rest_weighs : (weights first second : List ℕ) → cover_weight weights (co
 rest_weighs weights first second =
     ap (λ l. cover_weight weights (common first second) + cover_weight weights l) (lacking_common first second) ∙ parts_weigh (λ place. get_or weights place 0) (has second) first
 
-module _ (weights parent first second : List ℕ) where
-  pub tids_common : (x y : TidList) → IsTidList weights parent first x → IsTidList weights parent second y → common x.places.items y.places.items ≡ common first second
-  tids_common x y p q = ap (λ l. common l y.places.items) p.places ∙ ap (common first) q.places
+pub missing_covers : (weights parent cover : List ℕ) (row : DiffList) → IsDiffList weights parent cover row → IsCover weights row.missing.items
+missing_covers weights parent cover row is = subst (IsCover weights) (sym is.missing) (part_covers weights parent (λ place. not (has cover place)) is.above)
 
+module _ (weights parent first second : List ℕ) where
   pub common_covers : IsCover weights first → IsCover weights (common first second)
   common_covers is = part_covers weights first (has second) is
 
@@ -38,9 +37,6 @@ module _ (weights parent first second : List ℕ) where
   diffs_lacking x y p q =
       ap (λ l. lacking l x.missing.items) q.missing ∙ ap (lacking (lacking parent second)) p.missing
       ∙ lacking_joined parent first second p.above.rises p.covers.rises p.inside
-
-  pub missing_rises : (x : DiffList) → IsDiffList weights parent first x → IsRising x.missing.items
-  missing_rises x p = subst IsRising (sym p.missing) (part_covers weights parent (λ place. not (has first place)) p.above).rises
 
   pub rest_covers : IsCover weights first → IsCover weights (lacking first (common first second))
   rest_covers is = part_covers weights first (λ place. not (has (common first second) place)) is

@@ -1,4 +1,4 @@
-ghost use Rattle.std.specs.Prelude.{◌≡◌, ◌<◌, ◌^◌, [], IfOk};
+ghost use Rattle.std.specs.Prelude.{◌≡◌, ◌<◌, ◌^◌, ⊤, IfOk};
 ghost use Rattle.basket_sets.specs.Itemset.{AllBelow};
 ghost use Rattle.mine_vertical.specs.Bits.{words_of};
 ghost use Rattle.mine_vertical.specs.BitRows.{IsAddedAt};
@@ -54,21 +54,15 @@ fn add_ones(words: &mut [u64], start: usize, ones: u64, bit: u64)
 impl Row for BitRow {
     ghost stands = { IsBitRow };
 
-    ghost marked = { λ row. [] };
+    ghost at_rest = { λ weights marks. ⊤ };
+
+    ghost marked = { λ row weights marks. ⊤ };
 
     fn first(alloc: Global, cover: &[u32], weights: &Weights) -> Result<Self, AllocError> {
         Ok(BitRow {
             words: bits_of_cover(alloc, cover, weights.places())?,
             count: weights.weight(cover),
         })
-    }
-
-    fn joined(alloc: Global, x: &Self, y: &Self, weights: &Weights) -> Result<Self, AllocError> {
-        weights.bounds();
-        let mut words = RowWords::new(alloc);
-        let ones = words.share(&x.words, &y.words)?;
-        let count = weights.weight_of_bits(&words, ones);
-        Ok(BitRow { words, count })
     }
 
     fn empty(alloc: Global) -> Self {
@@ -78,9 +72,13 @@ impl Row for BitRow {
         }
     }
 
-    fn to_mark(&self) -> &[u32] {
-        &[]
+    fn new_marks(alloc: Global, _weights: &Weights) -> Result<Marks, AllocError> {
+        Marks::new(alloc, 0)
     }
+
+    fn mark(&self, _marks: &mut Marks, _weights: &Weights) {}
+
+    fn unmark(&self, _marks: &mut Marks, _weights: &Weights) {}
 
     fn join(
         &mut self,

@@ -1,38 +1,10 @@
-//! Places that two covers share, or do not.
+//! Places that a cover lacks.
 ghost use Rattle.std.specs.Prelude.{◌≡◌, IfOk};
 ghost use Rattle.std.specs.List.{range_with_len};
 ghost use Rattle.basket_sets.specs.Itemset.{IsRising};
-ghost use Rattle.mine_vertical.specs.Cover.{common, lacking};
+ghost use Rattle.mine_vertical.specs.Cover.{lacking};
 
 use std::alloc::{AllocError, Global};
-
-/// The places of the first cover that stand in the second.
-pub fn common_places(alloc: Global, first: &[u32], second: &[u32]) -> Result<Vec<u32>, AllocError>
-    requires { IsRising second.now }
-    ensures { IfOk result (λ places. places.items ≡ common first.now second.now) }
-{
-    let mut places = Vec::new(alloc);
-    for place in first {
-        if second.binary_search(place).is_ok() {
-            places.push(*place)?;
-        }
-    }
-    Ok(places)
-}
-
-/// The places of the first cover that do not stand in the second.
-pub fn lacking_places(alloc: Global, first: &[u32], second: &[u32]) -> Result<Vec<u32>, AllocError>
-    requires { IsRising second.now }
-    ensures { IfOk result (λ places. places.items ≡ lacking first.now second.now) }
-{
-    let mut places = Vec::new(alloc);
-    for place in first {
-        if second.binary_search(place).is_err() {
-            places.push(*place)?;
-        }
-    }
-    Ok(places)
-}
 
 /// The places below a number that do not stand in a cover.
 pub fn missing_places(alloc: Global, cover: &[u32], count: u32) -> Result<Vec<u32>, AllocError>

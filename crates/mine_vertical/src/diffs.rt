@@ -1,6 +1,9 @@
+ghost use Rattle.std.specs.Prelude.{true, not};
+ghost use Rattle.basket_sets.specs.Itemset.{has};
+ghost use Rattle.mine_vertical.specs.Marks.{IsMarked};
 ghost use Rattle.mine_vertical.specs.Rows.{IsDiffList};
 
-use crate::cover::{lacking_places, missing_places};
+use crate::cover::missing_places;
 use crate::marks::Marks;
 use crate::row::Row;
 use crate::weights::Weights;
@@ -16,19 +19,15 @@ pub struct DiffList {
 impl Row for DiffList {
     ghost stands = { IsDiffList };
 
-    ghost marked = { λ row. row.missing.items };
+    ghost at_rest = { λ weights marks. IsMarked weights (λ place. true) marks };
+
+    ghost marked = { λ row weights marks. IsMarked weights (λ place. not (has row.missing.items place)) marks };
 
     fn first(alloc: Global, cover: &[u32], weights: &Weights) -> Result<Self, AllocError> {
         Ok(DiffList {
             missing: missing_places(alloc, cover, weights.places())?,
             count: weights.weight(cover),
         })
-    }
-
-    fn joined(alloc: Global, x: &Self, y: &Self, weights: &Weights) -> Result<Self, AllocError> {
-        let missing = lacking_places(alloc, &y.missing, &x.missing)?;
-        let count = x.count - weights.weight(&missing);
-        Ok(DiffList { missing, count })
     }
 
     fn empty(alloc: Global) -> Self {
@@ -38,8 +37,16 @@ impl Row for DiffList {
         }
     }
 
-    fn to_mark(&self) -> &[u32] {
-        &self.missing
+    fn new_marks(alloc: Global, weights: &Weights) -> Result<Marks, AllocError> {
+        Marks::full(alloc, weights)
+    }
+
+    fn mark(&self, marks: &mut Marks, _weights: &Weights) {
+        marks.clear(&self.missing);
+    }
+
+    fn unmark(&self, marks: &mut Marks, weights: &Weights) {
+        marks.mark(&self.missing, weights);
     }
 
     fn join(
@@ -50,7 +57,8 @@ impl Row for DiffList {
         weights: &Weights,
     ) -> Result<(), AllocError> {
         weights.bounds();
-        let lost = marks.leave(&y.missing, weights, &mut self.missing)?;
+        // What the second lacks and the first doesn't is lost.
+        let lost = marks.keep(&y.missing, &mut self.missing)?;
         self.count = x.count - lost;
         Ok(())
     }

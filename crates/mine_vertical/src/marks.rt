@@ -1,9 +1,8 @@
-//! Places of a row that are marked while the row is joined with others.
-ghost use Rattle.std.specs.Prelude.{◌≡◌, ◌≤◌, ◌<◌, [], ℕ, List, IfOk, OnOk, filter, length, nat_lt, not, slice_index};
+//! Places that are marked while a row is joined with others.
+ghost use Rattle.std.specs.Prelude.{◌≡◌, ◌≤◌, ◌<◌, ◌||◌, ◌&&◌, ℕ, Bool, false, true, List, IfOk, OnOk, filter, length, nat_lt, not, slice_index};
 ghost use Rattle.std.specs.List.{sum_by};
 ghost use Rattle.basket_sets.specs.Database.{MOST_WEIGHT};
-ghost use Rattle.basket_sets.specs.Itemset.{AllBelow};
-ghost use Rattle.mine_vertical.specs.Cover.{IsCover, cover_weight};
+ghost use Rattle.basket_sets.specs.Itemset.{AllBelow, has};
 ghost use Rattle.mine_vertical.specs.Marks.{IsMarked};
 
 use crate::weights::Weights;
@@ -18,18 +17,27 @@ pub struct Marks {
 impl Marks {
     /// No place is marked.
     pub fn new(alloc: Global, places: u32) -> Result<Self, AllocError>
-        ensures { IfOk result (λ marks. (weights : List ℕ) → length weights ≡ places → IsMarked weights [] marks) }
+        ensures { IfOk result (λ marks. (weights : List ℕ) → length weights ≡ places → IsMarked weights (λ place. false) marks) }
     {
         Ok(Marks {
             weights: vec![in alloc; 0u64; places as usize]?,
         })
     }
 
-    /// Marks places.
+    /// All places are marked.
+    pub fn full(alloc: Global, weights: &Weights) -> Result<Self, AllocError>
+        ensures { IfOk result (IsMarked weights.now (λ place. true)) }
+    {
+        Ok(Marks {
+            weights: weights.to_vec(alloc)?,
+        })
+    }
+
+    /// Marks places, beside those that are marked.
     pub fn mark(&mut self, places: &[u32], weights: &Weights)
-        requires covers { IsCover weights.now places.now }
-        requires clear { IsMarked weights.now [] self.old }
-        ensures { IsMarked weights.now places.now self.new }
+        requires long { length self.old.weights.items ≡ length weights.now }
+        requires below { AllBelow (length weights.now) places.now }
+        ensures { (test : ℕ → Bool) → IsMarked weights.now test self.old → IsMarked weights.now (λ place. has places.now place || test place) self.new }
     {
         for place in places {
             self.weights[*place as usize] = weights.of_place(*place);
@@ -39,7 +47,7 @@ impl Marks {
     /// Takes the marks of places away.
     pub fn clear(&mut self, places: &[u32])
         requires { AllBelow (length self.old.weights.items) places.now }
-        ensures { (weights : List ℕ) → IsMarked weights places.now self.old → IsMarked weights [] self.new }
+        ensures { (weights : List ℕ) (test : ℕ → Bool) → IsMarked weights test self.old → IsMarked weights (λ place. not (has places.now place) && test place) self.new }
     {
         for place in places {
             self.weights[*place as usize] = 0;
@@ -65,35 +73,6 @@ impl Marks {
             kept[count] = *place;
             count += usize::from(weight > 0);
             sum += weight;
-        }
-        kept.truncate(count);
-        Ok(sum)
-    }
-
-    /// Keeps those of some places that are not marked, in the place of other places. The answer is
-    /// what they weigh.
-    pub fn leave(
-        &self,
-        places: &[u32],
-        weights: &Weights,
-        kept: &mut Vec<u32>,
-    ) -> Result<u64, AllocError>
-        requires long { length self.now.weights.items ≡ length weights.now }
-        requires covers { IsCover weights.now places.now }
-        ensures places { OnOk result (kept.new.items ≡ filter (λ place. not (nat_lt 0 (slice_index self.now.weights.items place))) places.now) }
-        ensures sum { IfOk result (λ sum. sum ≡ cover_weight weights.now (filter (λ place. not (nat_lt 0 (slice_index self.now.weights.items place))) places.now)) }
-    {
-        weights.bounds();
-        kept.clear();
-        kept.extend_from_slice(places)?;
-        let mut count = 0;
-        let mut sum = 0;
-        for place in places {
-            let is_left = self.weights[*place as usize] == 0;
-            let parts = [0, weights.of_place(*place)];
-            kept[count] = *place;
-            count += usize::from(is_left);
-            sum += parts[usize::from(is_left)];
         }
         kept.truncate(count);
         Ok(sum)

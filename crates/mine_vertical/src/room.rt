@@ -1,6 +1,5 @@
 //! Room that a class uses again from join to join.
-ghost use Rattle.std.specs.Prelude.{◌≡◌, [], IfOk};
-ghost use Rattle.mine_vertical.specs.Marks.{IsMarked};
+ghost use Rattle.std.specs.Prelude.{◌≡◌, IfOk};
 
 use crate::marks::Marks;
 use crate::row::Row;
@@ -17,12 +16,12 @@ pub struct Room<R> {
 }
 
 impl<R: Row> Room<R> {
-    /// No place is marked, and there are no lists.
+    /// Marks of the weights, and no lists.
     pub fn new(alloc: Global, weights: &Weights) -> Result<Self, AllocError>
-        ensures { IfOk result (λ room. IsMarked weights.now [] room.marks) }
+        ensures { IfOk result (λ room. R.at_rest weights.now room.marks) }
     {
         Ok(Room {
-            marks: Marks::new(alloc, weights.places())?,
+            marks: R::new_marks(alloc, weights)?,
             lists: Vec::new(alloc),
         })
     }
@@ -46,10 +45,10 @@ impl<R: Row> Room<R> {
 
     /// Room over other weights, with the lists of this one, which has none of them then.
     pub fn over(&mut self, alloc: Global, weights: &Weights) -> Result<Self, AllocError>
-        ensures room { IfOk result (λ room. IsMarked weights.now [] room.marks) }
+        ensures room { IfOk result (λ room. R.at_rest weights.now room.marks) }
         ensures marks { self.new.marks ≡ self.old.marks }
     {
-        let marks = Marks::new(alloc, weights.places())?;
+        let marks = R::new_marks(alloc, weights)?;
         let lists = mem::replace(&mut self.lists, Vec::new(alloc));
         Ok(Room { marks, lists })
     }

@@ -1,7 +1,6 @@
 ghost use Rattle.std.specs.Prelude.{◌≡◌, ℕ, List, IfOk, IsTrue, OnOk, length};
 ghost use Rattle.basket_sets.specs.Itemset.{AllBelow, IsRising};
-ghost use Rattle.mine_vertical.specs.Cover.{IsAdded, IsCover, all_places, common, cover_weight};
-ghost use Rattle.mine_vertical.specs.Marks.{IsMarked};
+ghost use Rattle.mine_vertical.specs.Cover.{IsAdded, all_places, common, cover_weight};
 
 use crate::marks::Marks;
 use crate::weights::Weights;
@@ -10,11 +9,16 @@ use std::alloc::{AllocError, Global};
 /// A row stands for a cover beside its parent's: the places whose baskets contain a set, beside
 /// those that contain the set that it extends (Zaki 2000).
 pub trait Row: Drop {
+    ghost use Rattle.mine_vertical.specs.declared.marks.Marks.{Marks};
+
     /// Whether a row over weights stands, beside a parent's cover, for a cover.
     ghost stands: { List ℕ → List ℕ → List ℕ → Self → Type 0 };
 
-    /// The places of a row that are marked.
-    ghost marked: { Self → List ℕ };
+    /// What is marked of the places of weights while no row is joined with others.
+    ghost at_rest: { List ℕ → Marks → Type 0 };
+
+    /// What is marked while a row is: the places that it keeps of theirs.
+    ghost marked: { Self → List ℕ → Marks → Type 0 };
 
     /// The row of a cover beside all places.
     fn first(alloc: Global, cover: &[u32], weights: &Weights) -> Result<Self, AllocError>
@@ -22,20 +26,26 @@ pub trait Row: Drop {
         requires below { AllBelow (length weights.now) cover.now }
         ensures { IfOk result (λ row. stands weights.now (all_places weights.now) cover.now row) };
 
-    /// The row of what two covers share, beside the first of them. Both stand beside one parent.
-    fn joined(alloc: Global, x: &Self, y: &Self, weights: &Weights) -> Result<Self, AllocError>
-        requires { (parent : List ℕ) × (first : List ℕ) × (second : List ℕ) × stands weights.now parent first x.now × stands weights.now parent second y.now }
-        ensures { IfOk result (λ row. (parent first second : List ℕ) → stands weights.now parent first x.now → stands weights.now parent second y.now → stands weights.now first (common first second) row) };
-
     /// A row that stands for nothing yet, for `join` to make another of.
     fn empty(alloc: Global) -> Self;
 
-    /// The places that are marked while the row is joined with others.
-    fn to_mark(&self) -> &[u32]
-        ensures places { result.now ≡ marked self.now }
-        ensures covers { (weights parent cover : List ℕ) → stands weights parent cover self.now → IsCover weights (marked self.now) };
+    /// What is marked while no row is joined with others.
+    fn new_marks(alloc: Global, weights: &Weights) -> Result<Marks, AllocError>
+        ensures { IfOk result (at_rest weights.now) };
 
-    /// Becomes the row of what two covers share, beside the first of them, whose places are marked.
+    /// Marks what the row keeps of the rows that it is joined with.
+    fn mark(&self, marks: &mut Marks, weights: &Weights)
+        requires row { (parent : List ℕ) × (cover : List ℕ) × stands weights.now parent cover self.now }
+        requires marks { at_rest weights.now marks.old }
+        ensures { marked self.now weights.now marks.new };
+
+    /// Undoes that.
+    fn unmark(&self, marks: &mut Marks, weights: &Weights)
+        requires row { (parent : List ℕ) × (cover : List ℕ) × stands weights.now parent cover self.now }
+        requires marks { marked self.now weights.now marks.old }
+        ensures { at_rest weights.now marks.new };
+
+    /// Becomes the row of what two covers share, beside the first of them, for which places are marked.
     /// Both stand beside one parent.
     fn join(
         &mut self,
@@ -45,8 +55,20 @@ pub trait Row: Drop {
         weights: &Weights,
     ) -> Result<(), AllocError>
         requires rows { (parent : List ℕ) × (first : List ℕ) × (second : List ℕ) × stands weights.now parent first x.now × stands weights.now parent second y.now }
-        requires marks { IsMarked weights.now (marked x.now) marks.now }
+        requires marks { marked x.now weights.now marks.now }
         ensures { OnOk result ((parent first second : List ℕ) → stands weights.now parent first x.now → stands weights.now parent second y.now → stands weights.now first (common first second) self.new) };
+
+    /// The row of what two covers share, beside the first of them. Both stand beside one parent.
+    fn joined(alloc: Global, x: &Self, y: &Self, weights: &Weights) -> Result<Self, AllocError>
+        requires { (parent : List ℕ) × (first : List ℕ) × (second : List ℕ) × stands weights.now parent first x.now × stands weights.now parent second y.now }
+        ensures { IfOk result (λ row. (parent first second : List ℕ) → stands weights.now parent first x.now → stands weights.now parent second y.now → stands weights.now first (common first second) row) }
+    {
+        let mut marks = Self::new_marks(alloc, weights)?;
+        x.mark(&mut marks, weights);
+        let mut row = Self::empty(alloc);
+        row.join(x, y, &marks, weights)?;
+        Ok(row)
+    }
 
     /// What the cover weighs.
     fn count(&self) -> u64

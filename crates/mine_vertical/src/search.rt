@@ -1,9 +1,8 @@
 //! The search for the frequent sets of a class, depth first.
-ghost use Rattle.std.specs.Prelude.{◌≡◌, ◌≤◌, ◌<◌, ◌+◌, ◌*◌, ◌++◌, [], ◌∷◌, ℕ, List, ◌⊎◌, All, Err, IfOk, IsTrue, false, OnOk, filter, length, map, take};
+ghost use Rattle.std.specs.Prelude.{◌≡◌, ◌≤◌, ◌<◌, ◌+◌, ◌*◌, ◌++◌, ◌∷◌, ℕ, List, ◌⊎◌, All, Err, IfOk, IsTrue, false, OnOk, filter, length, map, take};
 ghost use Rattle.basket_core.specs.declared.fault.MineFault.TheVariants.{TooMany};
 ghost use Rattle.basket_sets.specs.declared.weighted.Weighted.{Weighted as Basket};
 ghost use Rattle.mine_vertical.specs.Cover.{common, cover_weight, weights_of};
-ghost use Rattle.mine_vertical.specs.Marks.{IsMarked};
 ghost use Rattle.basket_lists.specs.CountedSets.{set_at};
 ghost use Rattle.mine_vertical.specs.Search.{EachNode, FewJoins, IsNode, IsSibling, Node, found_at, is_met, joins_at, sets_at};
 
@@ -32,8 +31,8 @@ pub struct Search<'a> {
 }
 
 impl<R: Row> Sibling<R> {
-    /// Becomes the second of two siblings for the set with the first, whose places are marked. The
-    /// answer is what its cover weighs.
+    /// Becomes the second of two siblings for the set with the first, for which places are marked.
+    /// The answer is what its cover weighs.
     fn join(
         &mut self,
         first: &Sibling<R>,
@@ -42,7 +41,7 @@ impl<R: Row> Sibling<R> {
         weights: &Weights,
     ) -> Result<u64, AllocError>
         requires rows { (parent : List ℕ) × (cover : List ℕ) × (other : List ℕ) × R.stands weights.now parent cover first.now.row × R.stands weights.now parent other second.now.row }
-        requires marks { IsMarked weights.now (R.marked first.now.row) marks.now }
+        requires marks { R.marked first.now.row weights.now marks.now }
         ensures rank { OnOk result (self.new.rank ≡ second.now.rank) }
         ensures row { OnOk result ((parent cover other : List ℕ) → R.stands weights.now parent cover first.now.row → R.stands weights.now parent other second.now.row → R.stands weights.now cover (common cover other) self.new.row) }
         ensures count { IfOk result (λ count. (weights parent cover : List ℕ) → R.stands weights parent cover self.new.row → count ≡ cover_weight weights cover) }
@@ -88,20 +87,20 @@ impl Search<'_> {
         requires rows { (baskets : List Basket) × (set : List ℕ) × (self.now.weights.now ≡ weights_of baskets) × IsSibling R.stands baskets set sibling.now × All (IsSibling R.stands baskets set) others.now }
         requires some { 1 ≤ self.now.least }
         requires few { joins.old + length others.now ≤ 18446744073709551615 }
-        requires clear { IsMarked self.now.weights.now [] marks.old }
+        requires clear { R.at_rest self.now.weights.now marks.old }
         ensures within { IfOk result (λ kept. kept ≤ length list.new.items) }
         ensures ranks { IfOk result (λ kept. (baskets : List Basket) (set : List ℕ) → self.now.weights.now ≡ weights_of baskets → IsSibling R.stands baskets set sibling.now → All (IsSibling R.stands baskets set) others.now
             → map (λ other. other.rank) (take kept list.new.items) ≡ filter (λ rank. is_met baskets self.now.least (rank ∷ sibling.now.rank ∷ set)) (map (λ other. other.rank) others.now)) }
         ensures rows { IfOk result (λ kept. (baskets : List Basket) (set : List ℕ) → self.now.weights.now ≡ weights_of baskets → IsSibling R.stands baskets set sibling.now → All (IsSibling R.stands baskets set) others.now
             → All (IsSibling R.stands baskets (sibling.now.rank ∷ set)) (take kept list.new.items)) }
         ensures joins { OnOk result (joins.new ≡ joins.old + length others.now) }
-        ensures clear { OnOk result (IsMarked self.now.weights.now [] marks.new) }
+        ensures clear { OnOk result (R.at_rest self.now.weights.now marks.new) }
     {
         let mut kept = 0;
         if others.is_empty() {
             return Ok(kept);
         }
-        marks.mark(sibling.row.to_mark(), self.weights);
+        sibling.row.mark(marks, self.weights);
         for other in others {
             make_place(alloc, list, kept)?;
             let count = list[kept].join(sibling, other, marks, self.weights)?;
@@ -110,7 +109,7 @@ impl Search<'_> {
                 kept += 1;
             }
         }
-        marks.clear(sibling.row.to_mark());
+        sibling.row.unmark(marks, self.weights);
         Ok(kept)
     }
 
@@ -131,7 +130,7 @@ impl Search<'_> {
         requires some { 1 ≤ self.now.least }
         requires going { T.is_over tally.old ≡ false }
         requires few { FewJoins mined.old.joins (length mined.old.sets) }
-        requires clear { IsMarked self.now.weights.now [] room.old.marks }
+        requires clear { R.at_rest self.now.weights.now room.old.marks }
         ensures sets { OnOk result (EachNode R.stands self.now.weights.now self.now.least siblings.now (set_at mined.old.sets place) self.now.coded.now.items (λ node. mined.new.sets ≡ mined.old.sets ++ map (found_at self.now.coded.now.items node) (sets_at self.now.least node))) }
         ensures joins { OnOk result (EachNode R.stands self.now.weights.now self.now.least siblings.now (set_at mined.old.sets place) self.now.coded.now.items (λ node. mined.new.joins ≡ mined.old.joins + joins_at self.now.least node)) }
         ensures told { OnOk result (T.told_of tally.new + length mined.old.sets ≡ T.told_of tally.old + length mined.new.sets) }
@@ -141,7 +140,7 @@ impl Search<'_> {
             × EachNode R.stands self.now.weights.now self.now.least siblings.now (set_at mined.old.sets place) self.now.coded.now.items (λ node. IsTrue (T.is_over tally.new) ⊎ (limit < length mined.old.sets + length (sets_at self.now.least node))) }
         ensures at_most { EachNode R.stands self.now.weights.now self.now.least siblings.now (set_at mined.old.sets place) self.now.coded.now.items (λ node. T.told_of tally.new ≤ T.told_of tally.old + length (sets_at self.now.least node)) }
         ensures limit { T.limit_of tally.new ≡ T.limit_of tally.old }
-        ensures clear { OnOk result (IsMarked self.now.weights.now [] room.new.marks) }
+        ensures clear { OnOk result (R.at_rest self.now.weights.now room.new.marks) }
     {
         let mut list = room.list(alloc);
         for (at, sibling) in siblings.iter().enumerate() {
@@ -176,7 +175,7 @@ impl Search<'_> {
         requires some { 1 ≤ self.now.least }
         requires going { T.is_over tally.old ≡ false }
         requires few { FewJoins mined.old.joins (length mined.old.sets) }
-        requires clear { IsMarked self.now.weights.now [] room.old.marks }
+        requires clear { R.at_rest self.now.weights.now room.old.marks }
         ensures sets { OnOk result (EachNode R.stands self.now.weights.now self.now.least siblings.now (set_at mined.old.sets place) self.now.coded.now.items (λ node. mined.new.sets ≡ mined.old.sets ++ map (found_at self.now.coded.now.items node) (sets_at self.now.least node))) }
         ensures joins { OnOk result (EachNode R.stands self.now.weights.now self.now.least siblings.now (set_at mined.old.sets place) self.now.coded.now.items (λ node. mined.new.joins ≡ mined.old.joins + joins_at self.now.least node)) }
         ensures told { OnOk result (T.told_of tally.new + length mined.old.sets ≡ T.told_of tally.old + length mined.new.sets) }
@@ -186,7 +185,7 @@ impl Search<'_> {
             × EachNode R.stands self.now.weights.now self.now.least siblings.now (set_at mined.old.sets place) self.now.coded.now.items (λ node. IsTrue (T.is_over tally.new) ⊎ (limit < length mined.old.sets + length (sets_at self.now.least node))) }
         ensures at_most { EachNode R.stands self.now.weights.now self.now.least siblings.now (set_at mined.old.sets place) self.now.coded.now.items (λ node. T.told_of tally.new ≤ T.told_of tally.old + length (sets_at self.now.least node)) }
         ensures limit { T.limit_of tally.new ≡ T.limit_of tally.old }
-        ensures clear { OnOk result (IsMarked self.now.weights.now [] room.new.marks) }
+        ensures clear { OnOk result (R.at_rest self.now.weights.now room.new.marks) }
     {
         match remade(alloc, siblings, self.weights, is_large)? {
             Some((weights, smaller)) => {

@@ -1,9 +1,9 @@
-ghost use Rattle.std.specs.Prelude.{length};
-ghost use Rattle.basket_sets.specs.Itemset.{AllBelow, IsRising};
+ghost use Rattle.std.specs.Prelude.{false, length};
+ghost use Rattle.basket_sets.specs.Itemset.{AllBelow, IsRising, has};
 ghost use Rattle.mine_vertical.specs.Cover.{IsAdded};
+ghost use Rattle.mine_vertical.specs.Marks.{IsMarked};
 ghost use Rattle.mine_vertical.specs.Rows.{IsTidList};
 
-use crate::cover::common_places;
 use crate::marks::Marks;
 use crate::row::Row;
 use crate::weights::Weights;
@@ -36,19 +36,15 @@ fn add_at(words: &mut [u64], places: &[u32], bit: u64)
 impl Row for TidList {
     ghost stands = { IsTidList };
 
-    ghost marked = { λ row. row.places.items };
+    ghost at_rest = { λ weights marks. IsMarked weights (λ place. false) marks };
+
+    ghost marked = { λ row weights marks. IsMarked weights (has row.places.items) marks };
 
     fn first(alloc: Global, cover: &[u32], weights: &Weights) -> Result<Self, AllocError> {
         Ok(TidList {
             places: cover.to_vec(alloc)?,
             count: weights.weight(cover),
         })
-    }
-
-    fn joined(alloc: Global, x: &Self, y: &Self, weights: &Weights) -> Result<Self, AllocError> {
-        let places = common_places(alloc, &x.places, &y.places)?;
-        let count = weights.weight(&places);
-        Ok(TidList { places, count })
     }
 
     fn empty(alloc: Global) -> Self {
@@ -58,8 +54,16 @@ impl Row for TidList {
         }
     }
 
-    fn to_mark(&self) -> &[u32] {
-        &self.places
+    fn new_marks(alloc: Global, weights: &Weights) -> Result<Marks, AllocError> {
+        Marks::new(alloc, weights.places())
+    }
+
+    fn mark(&self, marks: &mut Marks, weights: &Weights) {
+        marks.mark(&self.places, weights);
+    }
+
+    fn unmark(&self, marks: &mut Marks, _weights: &Weights) {
+        marks.clear(&self.places);
     }
 
     fn join(

@@ -6,8 +6,7 @@ ghost use Rattle.basket_sets.specs.Support.{total_of};
 ghost use Rattle.mine_classes.specs.ListBaskets.{HaveSameWeights};
 
 use basket_core::Coded;
-use mine_apriori::runs_with_pairs;
-use mine_classes::Runs;
+use mine_classes::{ListBaskets, Runs};
 use std::alloc::{AllocError, Global};
 use std::marker::Model;
 
@@ -36,7 +35,8 @@ impl<'a> Vertical<'a> {
     pub fn of(alloc: Global, coded: &'a Coded) -> Result<Self, AllocError>
         ensures { IfOk result (λ vertical. vertical ≡ coded.now) }
     {
-        Ok(Vertical::of_runs(coded, runs_with_pairs(alloc, coded)?))
+        let lists = ListBaskets::of_coded(alloc, coded)?;
+        Ok(Vertical::of_runs(coded, Runs::of(alloc, lists)?))
     }
 
     /// The same with runs of the coded baskets that were made before.

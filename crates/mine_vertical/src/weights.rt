@@ -86,6 +86,13 @@ impl Weights {
         self.is_halved
     }
 
+    /// The weights by the places' numbers.
+    pub(crate) fn to_vec(&self, alloc: Global) -> Result<Vec<u64>, AllocError>
+        ensures { IfOk result (λ copy. copy.items ≡ self.now) }
+    {
+        self.weights.to_vec(alloc)
+    }
+
     /// What a place weighs.
     pub fn of_place(&self, place: u32) -> u64
         requires { place < length self.now }

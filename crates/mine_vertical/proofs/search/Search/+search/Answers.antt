@@ -8,8 +8,6 @@ use Rattle.basket_sets.specs.Itemset.{IsRising, with_item}
 use Rattle.basket_sets.proofs.theory.Rising.{has-from_Member}
 use Rattle.basket_sets.specs.declared.counted.Counted.{Counted}
 use Rattle.mine_vertical.specs.Cover.{cover_of}
-use Rattle.mine_vertical.specs.declared.marks.Marks.{Marks}
-use Rattle.mine_vertical.specs.Marks.{IsMarked}
 use Rattle.basket_lists.specs.CountedSets.{set_at}
 use Rattle.mine_vertical.specs.Search.{FewJoins, IsNode, IsSibling, found_at, is_met, ranks_at}
 use Rattle.mine_vertical.specs.Walk.{joins_below, kept_below, sets_below}
@@ -258,8 +256,8 @@ extend-loop-at-preserved g t c =
     let before = length-take-le i siblings most in
     record {
       clear = elim c.if-kept-gt0.branch [
-        | extend-then-kept-gt0+in_ok-extend_set w ↦ subst (λ (marks : Marks). IsMarked weights [] marks) (sym (ap (λ room. room.marks) w.room-is)) w.in_ok-extend_set.ensures.clear
-        | extend-else-kept-gt0 w ↦ subst (λ (marks : Marks). IsMarked weights [] marks) (sym (ap (λ room. room.marks) w.room-is)) c.in_ok-kept.ensures.clear
+        | extend-then-kept-gt0+in_ok-extend_set w ↦ subst (g.R.Row.at_rest weights) (sym (ap (λ room. room.marks) w.room-is)) w.in_ok-extend_set.ensures.clear
+        | extend-else-kept-gt0 w ↦ subst (g.R.Row.at_rest weights) (sym (ap (λ room. room.marks) w.room-is)) c.in_ok-kept.ensures.clear
       ];
       going = elim c.if-kept-gt0.branch [
         | extend-then-kept-gt0+in_ok-extend_set w ↦ ap (λ tally. g.T.Tally.is_over tally) w.tally-is ∙ w.in_ok-extend_set.ensures.going_on

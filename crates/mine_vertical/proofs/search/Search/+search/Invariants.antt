@@ -1,6 +1,5 @@
-use Rattle.std.proofs.Common.{◌≡◌, [], ◌+◌, ◌*◌, ◌++◌, false, length, map, take}
+use Rattle.std.proofs.Common.{◌≡◌, ◌+◌, ◌*◌, ◌++◌, false, length, map, take}
 use Rattle.std.specs.List.{flat_map, sum_by}
-use Rattle.mine_vertical.specs.Marks.{IsMarked}
 use Rattle.basket_lists.specs.CountedSets.{set_at}
 use Rattle.mine_vertical.specs.Search.{FewJoins, IsNode, Node, found_at, is_met}
 use Rattle.mine_vertical.specs.Walk.{kept_below}
@@ -15,7 +14,7 @@ decreases-extend_set g l = 2 * length l.siblings.now + 1
 
 abbrev pub invariant-extend-loop-at : goal.invariant-extend-loop-at
 invariant-extend-loop-at g l = record {
-  clear : IsMarked l.self.weights.now [] l.room.marks;
+  clear : g.R.Row.at_rest l.self.weights.now l.room.marks;
   going : g.T.Tally.is_over l.tally ≡ false;
   limit : g.T.Tally.limit_of l.tally ≡ g.T.Tally.limit_of l.initial.tally;
   told : g.T.Tally.told_of l.tally + length l.initial.mined.sets ≡ g.T.Tally.told_of l.initial.tally + length l.mined.sets;

@@ -2,7 +2,6 @@ use Rattle.std.proofs.Common.{◌≡◌, ◌+◌, ◌<◌, ◌∷◌, ◌++◌, 
 use Rattle.std.specs.Prelude.{All, slice_set}
 use Rattle.std.proofs.lemmas.List.{length-set, take-set, take_all, take_more_set}
 use Rattle.std.proofs.lemmas.List.Elements.{All-push}
-use Rattle.mine_vertical.specs.Marks.{IsMarked}
 use Rattle.mine_vertical.specs.Search.{IsSibling, is_met}
 use Rattle.mine_vertical.proofs.SearchLemmas.{counted_row, dropped_more, joined_stands, kept_more, met, missed, ranks, sibling_at}
 use Rattle.mine_vertical.specs.Cover.{cover_of}
@@ -32,7 +31,6 @@ loop-other-preserved g c =
     let long = length-set list k next in
     record {
       joins = omega (arith, c.loop-other.invariant.joins);
-      marks = c.loop-other.invariant.marks;
       within = elim c.if-count-self.branch [
         | then-count-self w ↦ omega (arith, w.kept-is, inside, long)
         | else-count-self w ↦ omega (arith, w.kept-is, inside, long)
@@ -68,7 +66,14 @@ returns-clause-ranks g c = λ baskets set weigh one all.
     ∙ ap (λ l. filter (λ rank. is_met baskets c.args.self.now.least (rank ∷ c.args.sibling.now.rank ∷ set)) (ranks g.R.Row.stands l))
     (take_all c.loop-other.other-index c.args.others.now c.loop-other-test.false)
 
-pub returns-clause-clear : goal.returns-clause-clear
-returns-clause-clear g c =
-    let weights = c.args.self.now.weights.now in
-    c.clear.ensures weights (subst (λ places. IsMarked weights places c.mark.new.self) (sym c.to_mark-2.ensures.places) c.loop-other.invariant.marks)
+pub mark-requires-clause-row : goal.mark-requires-clause-row
+mark-requires-clause-row g c =
+    let (baskets, set, weigh, one, all) = c.requires.rows in
+    let sibling = c.args.sibling.now in
+    (cover_of baskets set, cover_of baskets (sibling.rank ∷ set), subst (λ w. g.R.Row.stands w (cover_of baskets set) (cover_of baskets (sibling.rank ∷ set)) sibling.row) (sym weigh) one)
+
+pub unmark-requires-clause-row : goal.unmark-requires-clause-row
+unmark-requires-clause-row g c =
+    let (baskets, set, weigh, one, all) = c.requires.rows in
+    let sibling = c.args.sibling.now in
+    (cover_of baskets set, cover_of baskets (sibling.rank ∷ set), subst (λ w. g.R.Row.stands w (cover_of baskets set) (cover_of baskets (sibling.rank ∷ set)) sibling.row) (sym weigh) one)
