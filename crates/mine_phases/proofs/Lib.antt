@@ -2,7 +2,7 @@ mod Placing
 mod Claims
 mod Parts
 mod Shares
-mod Supports
+mod SupportLemmas
 mod Mining
 mod Sharing
 mod PairParts

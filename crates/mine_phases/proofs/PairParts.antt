@@ -1,10 +1,9 @@
 -- The pairs of the ranks of parts.
-use Rattle.std.proofs.Common.{◌≡◌, ℕ, ◌+◌, ◌-◌, ◌≤◌, ◌<◌, List, [], ◌∷◌, ◌++◌, Option, None, Some, map, length, take, drop, get_or, replicate, sym, ap, refl, ◌∙◌, arith}
-use Rattle.std.specs.Prelude.{All}
+use Rattle.std.proofs.Common.{◌≡◌, ℕ, ◌+◌, ◌-◌, ◌≤◌, ◌<◌, List, [], ◌∷◌, ◌++◌, length, take, drop, get_or, sym, ap, refl, ◌∙◌, arith}
 use Rattle.std.specs.List.{flat_map, range_with_len, slice_range}
-use Rattle.std.proofs.lemmas.List.{get_or-drop, get_or-map, length-drop, length-map, map-append, take_more}
+use Rattle.std.proofs.lemmas.List.{get_or-drop, length-drop, map-append, take_more}
 use Rattle.std.proofs.lemmas.List.Folds.{flat_map-map}
-use Rattle.std.proofs.lemmas.List.FromFn.{fill_by_all, get_or-map-range_with_len, length-map-range_with_len}
+use Rattle.std.proofs.lemmas.List.FromFn.{get_or-map-range_with_len, length-map-range_with_len}
 use Rattle.std.specs.declared.vec.Vec.{Vec}
 use Rattle.std.specs.declared.alloc.Global.{Global}
 use Rattle.basket_ranks.proofs.theory.Shards.{shards_are_all}
@@ -13,8 +12,8 @@ use Rattle.mine_classes.specs.ListBaskets.{RankBaskets}
 use Rattle.mine_classes.specs.Pairs.{pairs_of}
 use Rattle.mine_apriori.specs.Pairs.{lists_of}
 use Rattle.mine_phases.specs.Pairs.{pairs_in}
-use Rattle.mine_phases.specs.Placed.{placed}
-use Rattle.mine_phases.proofs.Placing.{each_value}
+use Rattle.mine_phases.specs.Pieces.{HasEach}
+use Rattle.mine_phases.proofs.Parts.{entries_by_piece}
 
 -- a range of a list with one element more
 pub one_more : {X : Type 0} (xs : List X) (start end : ℕ) (d : X) → start ≤ end → end < length xs → slice_range xs start (end + 1) ≡ slice_range xs start end ++ get_or xs end d ∷ []
@@ -35,15 +34,10 @@ pairs_at runs least start rank le below =
     ∙ ap (λ l. slice_range (pairs_in runs least) start rank ++ l ∷ []) (get_or-map-range_with_len (pairs_of runs.baskets least) 0 runs.ranks rank rank [] below (omega arith))
 
 -- parts of a list by their pieces are together the list
-pub parts_by_piece : {V X : Type 0} (entries : V → List X) (whole : List X) (pieces : ℕ) (vacant : List (Option V)) (all : List (ℕ × V)) (values : List V) → 1 ≤ pieces
-    → vacant ≡ replicate pieces None → length values ≡ pieces → map Some values ≡ placed vacant all
-    → All (λ value. entries value.1 ≡ shard_of value.0 pieces whole) all → flat_map entries values ≡ whole
-parts_by_piece entries whole pieces vacant all [] some none count is each = absurd (omega arith)
-parts_by_piece entries whole pieces vacant all (first ∷ values) some none count is each =
-    sym (flat_map-map (λ part. part) entries (first ∷ values))
-    ∙ ap (flat_map (λ part. part)) (fill_by_all (λ piece. shard_of piece pieces whole) (map entries (first ∷ values)) pieces [] (length-map (first ∷ values) entries ∙ count)
-    (λ piece below. get_or-map entries (first ∷ values) piece first [] (omega arith)
-    ∙ each_value (λ value. entries value.1 ≡ shard_of value.0 pieces whole) vacant pieces all (first ∷ values) none is each piece first (omega arith)))
+pub parts_by_piece : {V X : Type 0} (entries : V → List X) (whole : List X) (pieces : ℕ) (values : List V) → 1 ≤ pieces
+    → HasEach (λ piece value. entries value ≡ shard_of piece pieces whole) pieces values → flat_map entries values ≡ whole
+parts_by_piece entries whole pieces values some has =
+    sym (flat_map-map (λ part. part) entries values) ∙ ap (flat_map (λ part. part)) (entries_by_piece entries (λ piece. shard_of piece pieces whole) pieces values has)
     ∙ flat_map-map (λ part. part) (λ piece. shard_of piece pieces whole) (range_with_len 0 pieces) ∙ shards_are_all pieces whole some
 
 pub lists_of_parts : (parts : List (Vec (Vec (ℕ × ℕ) Global) Global)) → lists_of (flat_map (λ part. part.items) parts) ≡ flat_map (λ part. lists_of part.items) parts

@@ -1,6 +1,6 @@
 -- Parts of a list of baskets, their weight and their counts.
-use Rattle.std.proofs.Common.{◌≡◌, ℕ, ◌+◌, ◌≤◌, ◌<◌, ◌^◌, ◌-◌, List, [], ◌∷◌, ◌++◌, map, take, drop, length, get_or, Option, Some, None, replicate, refl, sym, ap, ◌∙◌, subst, arith}
-use Rattle.std.specs.Prelude.{All, slice_range}
+use Rattle.std.proofs.Common.{◌≡◌, ℕ, ◌+◌, ◌≤◌, ◌<◌, ◌^◌, ◌-◌, List, [], ◌∷◌, ◌++◌, map, take, drop, length, get_or, refl, sym, ap, ◌∙◌, subst, arith}
+use Rattle.std.specs.Prelude.{slice_range}
 use Rattle.std.specs.List.{flat_map, range_with_len}
 use Rattle.std.proofs.lemmas.List.{append-nil, drop-map, get_or-map, length-map, take-append-drop, take-map}
 use Rattle.std.proofs.lemmas.List.Folds.{flat_map-map}
@@ -20,8 +20,7 @@ use Rattle.basket_sets.specs.Database.{MOST_WEIGHT}
 use Rattle.basket_sets.specs.Itemset.{IsRising}
 use Rattle.basket_sets.specs.Support.{support_of, total_of, items_of, all_items, weight_at}
 use Rattle.mine_phases.specs.Counting.{CountParts}
-use Rattle.mine_phases.specs.Placed.{placed}
-use Rattle.mine_phases.proofs.Placing.{each_value}
+use Rattle.mine_phases.specs.Pieces.{HasEach}
 
 -- a part weighs no more than the list
 pub shard_is_light : (i pieces : ℕ) (baskets : List Weighted) → total_of (shard_of i pieces baskets) ≤ total_of baskets
@@ -96,13 +95,13 @@ module _ (a b : List (ℕ × ℕ)) (front back baskets : List Weighted) (a_is : 
 
 -- ---- the counts of all parts
 
-pub counts_of_shards : (baskets : List Weighted) (pieces : ℕ) (lists : List (List (ℕ × ℕ))) → 1 ≤ pieces → length lists ≡ pieces
-    → ((piece : ℕ) → piece < pieces → get_or lists piece [] ≡ item_supports (shard_of piece pieces baskets)) → CountParts baskets lists
-counts_of_shards baskets pieces lists some count each = record {
-  parts = map (λ piece. shard_of piece pieces baskets) (range_with_len 0 pieces);
-  counts = fill_by_all (λ piece. item_supports (shard_of piece pieces baskets)) lists pieces [] count each ∙ sym (map-map item_supports (λ piece. shard_of piece pieces baskets) (range_with_len 0 pieces));
-  whole = flat_map-map (λ part. part) (λ piece. shard_of piece pieces baskets) (range_with_len 0 pieces) ∙ shards_are_all pieces baskets some;
-}
+-- what the values of all pieces have is what each piece has
+pub entries_by_piece : {V X : Type 0} (entries : V → X) (of_piece : ℕ → X) (pieces : ℕ) (values : List V) → HasEach (λ piece value. entries value ≡ of_piece piece) pieces values
+    → map entries values ≡ map of_piece (range_with_len 0 pieces)
+entries_by_piece entries of_piece pieces [] has = ap (λ n. map of_piece (range_with_len 0 n)) has.count
+entries_by_piece entries of_piece pieces (first ∷ values) has =
+    fill_by_all of_piece (map entries (first ∷ values)) pieces (entries first) (length-map (first ∷ values) entries ∙ has.count)
+    (λ piece below. get_or-map entries (first ∷ values) piece first (entries first) (let count = has.count in omega arith) ∙ has.each piece first below)
 
 -- the baskets from where a part starts to where it ends are the part
 pub part_is : (baskets : List Weighted) (low high i pieces n : ℕ) → n ≡ length baskets → low ≡ shard_start i pieces n → high ≡ shard_start (i + 1) pieces n
@@ -111,11 +110,11 @@ part_is baskets low high i pieces n whole start end =
     ap (λ m. slice_range baskets m high) (start ∙ ap (shard_start i pieces) whole)
     ∙ ap (slice_range baskets (shard_start i pieces (length baskets))) (end ∙ ap (shard_start (i + 1) pieces) whole)
 
-pub counts_by_piece : {V : Type 0} (entries : V → List (ℕ × ℕ)) (baskets : List Weighted) (pieces : ℕ) (vacant : List (Option V)) (all : List (ℕ × V)) (values : List V) → 1 ≤ pieces
-    → vacant ≡ replicate pieces None → length values ≡ pieces → map Some values ≡ placed vacant all
-    → All (λ value. entries value.1 ≡ item_supports (shard_of value.0 pieces baskets)) all → CountParts baskets (map entries values)
-counts_by_piece entries baskets pieces vacant all [] some none count is each = absurd (omega arith)
-counts_by_piece entries baskets pieces vacant all (first ∷ values) some none count is each =
-    counts_of_shards baskets pieces (map entries (first ∷ values)) some (length-map (first ∷ values) entries ∙ count)
-    (λ piece below. get_or-map entries (first ∷ values) piece first [] (omega arith)
-    ∙ each_value (λ value. entries value.1 ≡ item_supports (shard_of value.0 pieces baskets)) vacant pieces all (first ∷ values) none is each piece first (omega arith))
+pub counts_by_piece : {V : Type 0} (entries : V → List (ℕ × ℕ)) (baskets : List Weighted) (pieces : ℕ) (values : List V) → 1 ≤ pieces
+    → HasEach (λ piece value. entries value ≡ item_supports (shard_of piece pieces baskets)) pieces values → CountParts baskets (map entries values)
+counts_by_piece entries baskets pieces values some has = record {
+  parts = map (λ piece. shard_of piece pieces baskets) (range_with_len 0 pieces);
+  counts = entries_by_piece entries (λ piece. item_supports (shard_of piece pieces baskets)) pieces values has
+      ∙ sym (map-map item_supports (λ piece. shard_of piece pieces baskets) (range_with_len 0 pieces));
+  whole = flat_map-map (λ part. part) (λ piece. shard_of piece pieces baskets) (range_with_len 0 pieces) ∙ shards_are_all pieces baskets some;
+}

@@ -1,8 +1,8 @@
 pub mod Share
 pub mod Placed
 pub mod Counting
-pub mod Level
+pub mod Pieces
+pub mod Supports
 pub mod Found
 pub mod Classes
 pub mod Pairs
-pub mod Triangle

@@ -28,22 +28,21 @@ abbrev pub fault_of : {X : Type 0} → List (Result X MineFault) → Option Mine
 fault_of results = fold fault_after None results
 
 module _ {F V : Type 0} (g : Shared F ((ℕ × SeatView) × Unit {0}) (Share V)) (f : F) where
-  -- f may be called with each of the seats, whatever the number of its worker
+  -- f may be called with each of the seats and its place, which is the number of its worker
   abbrev pub AcceptsSeats : List SeatView → Type 0
-  AcceptsSeats seats = (worker i : ℕ) (seat : SeatView) → i < length seats → seat ≡ slice_index_or seats i seat → g.pre f ((worker, seat), tt)
+  AcceptsSeats seats = (worker : ℕ) (seat : SeatView) → worker < length seats → seat ≡ slice_index_or seats worker seat → g.pre f ((worker, seat), tt)
 
-  -- a share is what a call of f hands back that got the seat at a place
-  pub record IsHandedBack (seats : List SeatView) (place : ℕ) (share : Share V) : Type 0 where
-    pub worker : ℕ
+  -- a share is what a call of f hands back that got a place and the seat there
+  pub record IsHandedBack (seats : List SeatView) (worker : ℕ) (share : Share V) : Type 0 where
     pub seat : SeatView
-    pub given : seat ≡ slice_index_or seats place seat
+    pub given : seat ≡ slice_index_or seats worker seat
     pub call : FnReturns g f ((worker, seat), tt) share
 
-  -- some seats and some values, or a fault, are those of the shares that are handed back, one for each seat that was given
+  -- some seats and some values, or a fault, are those of the shares that are handed back, one for each seat that was given, by the worker whose number is its place
   pub record ArePartsOfShares (given back : List SeatView) (values : Result (Vec V Global) MineFault) : Type 0 where
     pub shares : List (Share V)
     pub count : length shares ≡ length given
-    pub each : (place : ℕ) (share : Share V) → place < length shares → IsHandedBack given place (slice_index_or shares place share)
+    pub each : (worker : ℕ) (share : Share V) → worker < length shares → IsHandedBack given worker (slice_index_or shares worker share)
     pub seats : back ≡ map (λ share. share.seat) shares
     pub lists : IfOk values (λ lists. map Ok lists.items ≡ map (λ share. share.values) shares)
     pub fault : MatchResult values (λ _. fault_of (map (λ share. share.values) shares) ≡ None) (λ fault. fault_of (map (λ share. share.values) shares) ≡ Some fault)

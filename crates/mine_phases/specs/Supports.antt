@@ -18,6 +18,6 @@ pub record AddsSupports (baskets : List Weighted) (pieces : ℕ) (sets : List (L
   pub added : (k : ℕ) → k < length sets → slice_index seat.held.added k ≡ sum_by (part_support baskets pieces (slice_index_or sets k [])) seat.held.claimed
 
 -- what a worker hands back: its seat, and whether it found memory for all that it claimed
-pub record IsLevelShare (round : RoundView) (baskets : List Weighted) (pieces : ℕ) (sets : List (List ℕ)) (share : Share (Unit {0})) : Type 0 where
+pub record IsSupportShare (round : RoundView) (baskets : List Weighted) (pieces : ℕ) (sets : List (List ℕ)) (share : Share (Unit {0})) : Type 0 where
   pub own : share.seat.round ≡ round.id
   pub values : IfOk share.values (λ _. AddsSupports baskets pieces sets share.seat)

@@ -11,6 +11,7 @@ use crate::cutting::Cutting;
 use crate::gate::{Gate, pass_alone};
 use crate::level::count_level;
 use crate::pairs::{PHASE, count_pairs};
+use crate::phase::Phase;
 use crate::triangle::triangle_pairs;
 use basket_core::{Coded, Frequent, MineFault};
 use mine_apriori::laws::pairs_by_supports;
@@ -68,13 +69,12 @@ pub fn apriori_shared<R: Threads + Sync, G: Gate + Sync>(
     let first = FirstLevel::of(alloc, coded, limit)?;
     let pairs = pairs(rt, alloc, coded, cutting, gate)?;
     let mut levels = first.with_pairs(alloc, &pairs)?;
-    let mut phase = FIRST_OF_LEVELS;
+    let mut number = FIRST_OF_LEVELS;
     while !levels.asked().is_empty() {
-        let baskets = coded.baskets();
-        let sets = levels.asked();
-        let counts = count_level(rt, alloc, baskets, sets, phase, cutting, gate)?;
+        let phase = Phase::new(number, cutting, gate);
+        let counts = count_level(rt, alloc, coded.baskets(), levels.asked(), &phase)?;
         levels = levels.answer(alloc, &counts)?;
-        phase = phase.saturating_add(1);
+        number = number.saturating_add(1);
     }
     let candidates = levels.counted();
     Ok((levels.finish(alloc)?, candidates))

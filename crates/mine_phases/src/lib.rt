@@ -2,11 +2,12 @@
 //! baskets or the ranks are cut into so many parts, and what is found doesn't depend on which
 //! worker takes which.
 //!
-//! `counting` counts the items. Of `apriori`, `triangle` counts the pairs of few ranks, `pairs` finds
-//! the frequent pairs of many, and `level` counts the candidates of a level. `runs` makes ready what
-//! `classes` mines class by class with a `class_miner`, whose sets are told to the tally `found`. `share`
-//! is what a worker hands back, `placed` puts the values of pieces in their order, and workers pass a
-//! `gate` with each piece.
+//! A `phase` either finds a value for each of its `pieces`, or adds `supports` to counters that its
+//! workers share. `counting` counts the items. Of `apriori`, `triangle` counts the pairs of few ranks,
+//! `pairs` finds the frequent pairs of many, and `level` counts the candidates of a level. `runs` makes
+//! ready what `classes` mines class by class with a `class_miner`, whose sets are told to the tally
+//! `found`. `share` is what a worker hands back, `placed` puts the values of pieces in their order, and
+//! workers pass a `gate` with each piece.
 #![tactic(auto)]
 
 mod apriori;
@@ -19,9 +20,12 @@ mod gate;
 mod joined;
 mod level;
 mod pairs;
+mod phase;
+mod pieces;
 mod placed;
 mod runs;
 mod share;
+mod supports;
 mod triangle;
 
 pub use apriori::apriori_shared;
@@ -32,4 +36,5 @@ pub use cutting::Cutting;
 pub use gate::{Gate, Open};
 pub use level::count_level;
 pub use pairs::count_pairs;
+pub use phase::Phase;
 pub use runs::runs_shared;

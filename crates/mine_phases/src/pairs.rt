@@ -1,17 +1,17 @@
 //! The second phase of Apriori, which finds the frequent pairs of ranks. They are counted where they
 //! occur, and no list of all pairs is made.
-ghost use Rattle.std.specs.Prelude.{◌≡◌, ◌≤◌, ◌<◌, [], IfOk, map};
+ghost use Rattle.std.specs.Prelude.{◌≡◌, ◌≤◌, IfOk};
 ghost use Rattle.std.specs.List.{flat_map, slice_range};
+ghost use Rattle.basket_ranks.specs.Shards.{shard_of};
 ghost use Rattle.mine_apriori.specs.Pairs.{lists_of};
-ghost use Rattle.mine_phases.specs.Pairs.{IsPairsShare, PairsParts, pairs_in};
+ghost use Rattle.mine_phases.specs.Pairs.{pairs_in};
 
 use crate::cutting::Cutting;
 use crate::gate::Gate;
-use crate::placed::collected;
-use crate::share::{Share, by_workers, claim_piece};
-use basket_core::{MineFault, shard};
+use crate::phase::Phase;
+use crate::pieces::{PieceWork, by_pieces};
+use basket_core::shard;
 use mine_classes::{Runs, Sums};
-use mine_round::{Round, RoundSeat};
 use std::alloc::{AllocError, Global};
 use std::thread::Threads;
 
@@ -22,55 +22,37 @@ pub const PHASE: u32 = 2;
 /// the support of the pair.
 type Pairs = Vec<Vec<(u32, u64)>>;
 
-/// The phase as its workers see it.
+/// Runs whose pairs are found.
 #[derive(Drop)]
-struct Pairing<'a, G> {
-    round: &'a Round,
-    pieces: u32,
+struct Pairing<'a> {
     runs: &'a Runs,
     least: u64,
-    gate: &'a G,
 }
 
-impl<G: Gate> Pairing<'_, G> {
-    /// What a worker does: it finds the pairs of the ranks of each part that it claims, until none is
-    /// left or it finds no memory.
-    fn share(&self, alloc: Global, worker: u32, mut seat: RoundSeat) -> Share<Vec<(u32, Pairs)>>
-        requires own { seat.round ≡ self.now.round.now.id }
-        requires unused { seat.held.claimed ≡ [] }
-        requires pieces { (1 ≤ self.now.pieces) × (self.now.round.now.pieces ≡ self.now.pieces) }
-        ensures { IsPairsShare self.now.round.now self.now.runs.now self.now.least self.now.pieces result }
-    {
-        let values = match self.pairs(alloc, worker, &mut seat) {
-            Ok(values) => Ok(values),
-            Err(AllocError) => Err(MineFault::Memory),
-        };
-        Share { seat, values }
+impl PieceWork<Pairs> for Pairing<'_> {
+    type Tools = Sums;
+
+    ghost are_tools = { λ work sums. sums ≡ work.runs.now.ranks };
+
+    ghost is_value = { λ work pieces piece pairs. lists_of pairs.items ≡ shard_of piece pieces (pairs_in work.runs.now work.least) };
+
+    fn tools(&self, alloc: Global) -> Result<Sums, AllocError> {
+        Sums::new(alloc, self.runs.ranks())
     }
 
-    fn pairs(
+    fn value(
         &self,
         alloc: Global,
-        worker: u32,
-        seat: &mut RoundSeat,
-    ) -> Result<Vec<(u32, Pairs)>, AllocError>
-        requires own { seat.old.round ≡ self.now.round.now.id }
-        requires unused { seat.old.held.claimed ≡ [] }
-        requires pieces { (1 ≤ self.now.pieces) × (self.now.round.now.pieces ≡ self.now.pieces) }
-        ensures own { seat.new.round ≡ seat.old.round }
-        ensures pairs { IfOk result (λ values. PairsParts self.now.runs.now self.now.least self.now.pieces seat.new values.items) }
-    {
-        let ranks = self.runs.ranks();
-        let mut sums = Sums::new(alloc, ranks)?;
-        let mut values = Vec::new(alloc);
-        while let Some(piece) = claim_piece(self.round, seat, self.gate, PHASE, worker) {
-            let (start, end) = shard(piece, self.pieces, ranks as usize);
-            let pairs = self.within(alloc, &mut sums, start as u32, end as u32)?;
-            values.push((piece, pairs))?;
-        }
-        Ok(values)
+        sums: &mut Sums,
+        piece: u32,
+        pieces: u32,
+    ) -> Result<Pairs, AllocError> {
+        let (start, end) = shard(piece, pieces, self.runs.ranks() as usize);
+        self.within(alloc, sums, start as u32, end as u32)
     }
+}
 
+impl Pairing<'_> {
     /// The pairs of the ranks from one to before another.
     fn within(
         &self,
@@ -106,39 +88,17 @@ fn gathered(alloc: Global, parts: Vec<Pairs>) -> Result<Pairs, AllocError>
 /// For each rank the ranks below it that are frequent together with it, by a least support, rising,
 /// each with the support of the pair, found by so many workers over so many parts of the ranks. Only
 /// memory may be wanting.
-pub fn count_pairs<'a, R: Threads + Sync, G: Gate + Sync>(
+pub fn count_pairs<R: Threads + Sync, G: Gate + Sync>(
     rt: &R,
     alloc: Global,
-    runs: &'a Runs,
+    runs: &Runs,
     least: u64,
     cutting: Cutting,
-    gate: &'a G,
+    gate: &G,
 ) -> Result<Vec<Vec<(u32, u64)>>, AllocError>
     ensures { IfOk result (λ pairs. lists_of pairs.items ≡ pairs_in runs.now least) }
 {
-    let (round, seats) = Round::new(alloc, cutting.pieces, 0, cutting.workers)?;
-    let pairing = Pairing {
-        round: &round,
-        pieces: cutting.pieces,
-        runs,
-        least,
-        gate,
-    };
-    let lent = &pairing;
-    let (seats, values) = by_workers(
-        rt,
-        alloc,
-        seats,
-        &|job: (u32, RoundSeat)| -> Share<Vec<(u32, Pairs)>>
-            requires { (job.1.round ≡ lent.now.round.now.id) × (job.1.held.claimed ≡ []) × (1 ≤ lent.now.pieces) × (lent.now.round.now.pieces ≡ lent.now.pieces) }
-            ensures { IsPairsShare lent.entry.now.round.now lent.entry.now.runs.now lent.entry.now.least lent.entry.now.pieces result }
-        { lent.share(alloc, job.0, job.1) },
-    )?;
-    let Ok(_) = round.close(seats) else {
-        unreachable!()
-    };
-    let Ok(lists) = values else {
-        return Err(AllocError);
-    };
-    gathered(alloc, collected(alloc, cutting.pieces, lists)?)
+    let pairing = Pairing { runs, least };
+    let parts = by_pieces(rt, alloc, &pairing, &Phase::new(PHASE, cutting, gate))?;
+    gathered(alloc, parts)
 }

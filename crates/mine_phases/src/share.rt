@@ -1,5 +1,6 @@
 //! What the workers of a phase hand back, and what it is together.
 ghost use Rattle.std.specs.Prelude.{◌≡◌, ◌≤◌, ◌<◌, ◌+◌, ◌^◌, ℕ, [], map, vec_len, vec_capacity, MatchResult, Ok, Some, None, length, IfOk, IfSome, IfNone, EachIndex, slice_index};
+ghost use Rattle.std.specs.List.{enumerate_from};
 ghost use Rattle.mine_phases.specs.Share.{AcceptsSeats, ArePartsOfShares, fault_of, worse};
 ghost use Rattle.mine_round.specs.Record.{with_piece, with_end_seen};
 ghost use Rattle.mine_round.specs.Words.{ClaimedBelow};
@@ -22,7 +23,8 @@ pub struct Share<V> {
 /// The seats with the numbers of their workers, from 0 on.
 fn numbered(alloc: Global, seats: Vec<RoundSeat>) -> Result<Vec<(u32, RoundSeat)>, AllocError>
     requires { vec_len seats < 2 ^ 32 }
-    ensures { IfOk result (λ workers. map (λ worker. worker.1) workers.items ≡ seats.items) }
+    ensures numbers { IfOk result (λ workers. workers.items ≡ enumerate_from 0 seats.items) }
+    ensures count { IfOk result (λ workers. vec_len workers ≡ vec_len seats) }
 {
     let mut workers = Vec::with_capacity(alloc, seats.len())?;
     let mut number = 0;
@@ -110,7 +112,7 @@ fn parted<V: Drop>(
     }
 }
 
-/// Has a worker for each seat do the work, and answers the seats, and the values of all workers, or
+/// Has a worker for each seat, whose number is the place of the seat, do the work, and answers the seats, and the values of all workers, or
 /// the fault to tell where one has a fault.
 pub fn by_workers<R: Threads + Sync, V: Send + Drop, F: Fn((u32, RoundSeat)) -> Share<V> + Sync>(
     rt: &R,

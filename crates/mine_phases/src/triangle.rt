@@ -1,109 +1,46 @@
 //! The pairs of few ranks, each of which has a counter that the workers share.
-ghost use Rattle.std.specs.Prelude.{◌≡◌, ◌≤◌, IfOk, IfSome, length, map};
-ghost use Rattle.basket_sets.specs.Support.{support_of};
+ghost use Rattle.std.specs.Prelude.{IfOk};
 ghost use Rattle.mine_apriori.specs.Pairs.{ArePairs, lists_of};
-ghost use Rattle.mine_apriori.specs.Triangle.{AreSupports};
-ghost use Rattle.mine_phases.specs.Level.{AddsSupports, IsLevelShare};
-ghost use Rattle.mine_phases.specs.Triangle.{rank_pairs};
-ghost use Rattle.mine_round.specs.Record.{unused};
 
 use crate::cutting::Cutting;
 use crate::gate::{Gate, pass_alone};
 use crate::pairs::PHASE;
-use crate::share::{Share, add_counts, by_workers, claim_piece};
-use basket_core::{Coded, MineFault, Weighted, shard};
-use mine_apriori::{Triangle, pair_count, pairs_by_triangle, pairs_of_supports};
-use mine_round::{Round, RoundSeat};
+use crate::phase::Phase;
+use crate::supports::{SupportCounter, count_supports};
+use basket_core::{Coded, Weighted};
+use mine_apriori::{add_pairs, pair_count, pairs_by_triangle, pairs_of_supports};
 use std::alloc::{AllocError, Global};
 use std::thread::Threads;
 
 /// So many counts, half a megabyte, are never too many.
 const FEW_COUNTS: usize = 65_536;
 
-/// The phase as its workers see it.
+/// So many ranks whose pairs are counted.
 #[derive(Drop)]
-struct Counting<'a, G> {
-    round: &'a Round,
-    pieces: u32,
-    coded: &'a Coded,
-    gate: &'a G,
+struct RankPairs {
+    ranks: u32,
 }
 
-impl<G: Gate> Counting<'_, G> {
-    /// What a worker does: it counts the pairs in each part that it claims, and adds the counts of
-    /// all to the counters once no part is left.
-    fn share(&self, alloc: Global, worker: u32, mut seat: RoundSeat) -> Share<()>
-        requires own { seat.round ≡ self.now.round.now.id }
-        requires unused { seat.held ≡ unused 1 (length (rank_pairs self.now.coded.now)) }
-        requires pieces { (1 ≤ self.now.pieces) × (self.now.round.now.pieces ≡ self.now.pieces) }
-        requires counters { self.now.round.now.counters ≡ length (rank_pairs self.now.coded.now) }
-        ensures { IsLevelShare self.now.round.now self.now.coded.now.baskets self.now.pieces (rank_pairs self.now.coded.now) result }
-    {
-        let values = match self.add_supports(alloc, worker, &mut seat) {
-            Ok(()) => Ok(()),
-            Err(AllocError) => Err(MineFault::Memory),
-        };
-        Share { seat, values }
+impl SupportCounter for RankPairs {
+    ghost use Rattle.basket_sets.specs.Counts.{AllBelow};
+    ghost use Rattle.mine_apriori.specs.Triangle.{all_pairs};
+
+    ghost sets_of = { λ pairs. all_pairs pairs.ranks };
+
+    ghost can_count = { λ pairs basket. AllBelow pairs.ranks basket };
+
+    fn len(&self) -> usize {
+        pair_count(self.ranks)
     }
 
-    fn add_supports(
+    fn add(
         &self,
-        alloc: Global,
-        worker: u32,
-        seat: &mut RoundSeat,
-    ) -> Result<(), AllocError>
-        requires own { seat.old.round ≡ self.now.round.now.id }
-        requires unused { seat.old.held ≡ unused 1 (length (rank_pairs self.now.coded.now)) }
-        requires pieces { (1 ≤ self.now.pieces) × (self.now.round.now.pieces ≡ self.now.pieces) }
-        requires counters { self.now.round.now.counters ≡ length (rank_pairs self.now.coded.now) }
-        ensures own { seat.new.round ≡ seat.old.round }
-        ensures added { IfOk result (λ _. AddsSupports self.now.coded.now.baskets self.now.pieces (rank_pairs self.now.coded.now) seat.new) }
-    {
-        let baskets = self.coded.baskets();
-        let mut triangle = Triangle::new(alloc, self.coded.ranks())?;
-        while let Some(piece) = claim_piece(self.round, seat, self.gate, PHASE, worker) {
-            let (start, end) = shard(piece, self.pieces, baskets.len());
-            triangle.add(&baskets[start..end]);
-        }
-        add_counts(self.round, seat, triangle.counts());
+        _alloc: Global,
+        baskets: &[Weighted],
+        counts: &mut [u64],
+    ) -> Result<(), AllocError> {
+        add_pairs(counts, baskets);
         Ok(())
-    }
-}
-
-/// The support of each pair of ranks, counted by so many workers over so many parts of the baskets.
-pub fn count_triangle<'a, R: Threads + Sync, G: Gate + Sync>(
-    rt: &R,
-    alloc: Global,
-    coded: &'a Coded,
-    cutting: Cutting,
-    gate: &'a G,
-) -> Result<Vec<u64>, AllocError>
-    ensures { IfOk result (λ supports. AreSupports coded.now.baskets (length coded.now.items) supports.items) }
-{
-    let counters = pair_count(coded.ranks());
-    let (round, seats) = Round::new(alloc, cutting.pieces, counters, cutting.workers)?;
-    let counting = Counting {
-        round: &round,
-        pieces: cutting.pieces,
-        coded,
-        gate,
-    };
-    let lent = &counting;
-    let (seats, ended) = by_workers(
-        rt,
-        alloc,
-        seats,
-        &|job: (u32, RoundSeat)| -> Share<()>
-            requires { (job.1.round ≡ lent.now.round.now.id) × (job.1.held ≡ unused 1 (length (rank_pairs lent.now.coded.now))) × (1 ≤ lent.now.pieces) × (lent.now.round.now.pieces ≡ lent.now.pieces) × (lent.now.round.now.counters ≡ length (rank_pairs lent.now.coded.now)) }
-            ensures { IsLevelShare lent.entry.now.round.now lent.entry.now.coded.now.baskets lent.entry.now.pieces (rank_pairs lent.entry.now.coded.now) result }
-        { lent.share(alloc, job.0, job.1) },
-    )?;
-    let Ok(totals) = round.close(seats) else {
-        unreachable!()
-    };
-    match ended {
-        Ok(_) => Ok(totals.counters),
-        Err(_) => Err(AllocError),
     }
 }
 
@@ -140,13 +77,15 @@ pub fn triangle_pairs<R: Threads + Sync, G: Gate + Sync>(
 ) -> Result<Vec<Vec<(u32, u64)>>, AllocError>
     ensures { IfOk result (λ lists. ArePairs coded.now (lists_of lists.items)) }
 {
-    // Nothing is read here: the call brings its contract, which says that the baskets are a coding's.
-    let _baskets = coded.baskets();
     let fewer = with_triangles(coded, cutting);
     if fewer.workers == 1 {
         pass_alone(gate, PHASE, cutting.pieces);
         return pairs_by_triangle(alloc, coded);
     }
-    let supports = count_triangle(rt, alloc, coded, fewer, gate)?;
+    let pairs = RankPairs {
+        ranks: coded.ranks(),
+    };
+    let phase = Phase::new(PHASE, fewer, gate);
+    let supports = count_supports(rt, alloc, coded.baskets(), &pairs, &phase)?;
     pairs_of_supports(alloc, coded, &supports)
 }

@@ -25,7 +25,7 @@ abbrev Pieces : Type 0
 Pieces = Share (Vec (ℕ × Vec (List Counted × ℕ) Global) Global)
 
 pub by_workers-requires-clause-accepted : goal.by_workers-requires-clause-accepted
-by_workers-requires-clause-accepted g c κs within worker i seat below is =
+by_workers-requires-clause-accepted g c κs within i seat below is =
     let fresh = c.in_ok-round.ensures.unused i seat below in (
       ap (λ (s : SeatView). s.round) is ∙ fresh.0,
       ap (λ (s : SeatView). s.held) is ∙ fresh.1,

@@ -9,7 +9,7 @@ use Rattle.std.specs.declared.alloc.Global.{Global}
 use Rattle.mine_phases.proofs.pairs.Pairing.within.Goals as goal
 
 pub loop-rank-preserved : goal.loop-rank-preserved
-loop-rank-preserved g c =
+loop-rank-preserved c =
     let runs = c.args.self.now.runs.now in
     let least = c.args.self.now.least in
     let rank = c.loop-rank.rank in

@@ -15,7 +15,7 @@ use Rattle.basket_sets.specs.Database.{MOST_WEIGHT}
 use Rattle.basket_sets.specs.Support.{support_of, total_of, weight_at}
 use Rattle.mine_round.specs.SeatView.{SeatView}
 use Rattle.mine_round.specs.Totals.{added_by, claimed_by}
-use Rattle.mine_phases.specs.Level.{AddsSupports, part_support}
+use Rattle.mine_phases.specs.Supports.{AddsSupports, part_support}
 use Rattle.mine_phases.specs.declared.share.Share.{Share}
 use Rattle.mine_phases.proofs.Claims.{behind, behind-le, behind_push}
 use Rattle.mine_phases.proofs.Shares.{Ends, each_seat, some_seat}
@@ -51,13 +51,6 @@ module _ (baskets : List Weighted) (pieces : ℕ) (set : List ℕ) where
   -- what was added so far is bounded, and so it is with the next part
   abbrev pub IsBounded : List ℕ → Type 0
   IsBounded claimed = sum_by (part_support baskets pieces set) claimed ≤ front (behind claimed)
-
-  pub fits_next : 1 ≤ pieces → total_of baskets ≤ MOST_WEIGHT → (claimed : List ℕ) (piece : ℕ) → All (λ x. x < piece) claimed → IsBounded claimed
-      → sum_by (part_support baskets pieces set) claimed + part_support baskets pieces set piece ≤ 2 ^ 40
-  fits_next some light claimed piece below bounded =
-      let le = front-le some (behind claimed) piece (behind-le claimed piece below) in
-      let step = front_more some piece in
-      let most = front_is_light (piece + 1) light in omega arith
 
   pub bounded_next : 1 ≤ pieces → (claimed : List ℕ) (piece : ℕ) → All (λ x. x < piece) claimed → IsBounded claimed → IsBounded (claimed ++ piece ∷ [])
   bounded_next some claimed piece below bounded =
@@ -123,26 +116,6 @@ module _ (baskets : List Weighted) (pieces : ℕ) (sets : List (List ℕ)) (clai
         let push = sum_by_push (part_support baskets pieces (get_or sets k [])) claimed piece in omega arith;
     bounded = λ k within. bounded_next baskets pieces (get_or sets k []) some claimed piece below (before.bounded k within);
   }
-
-module _ (baskets : List Weighted) (pieces : ℕ) (sets : List (List ℕ)) (claimed added counts : List ℕ) (piece : ℕ) (some : 1 ≤ pieces) (below : All (λ x. x < piece) claimed)
-    (counted : counts ≡ map (support_of (shard_of piece pieces baskets)) sets) (before : HasAdded baskets pieces sets claimed added) where
-  count_at : (k : ℕ) → k < length sets → slice_index counts k ≡ part_support baskets pieces (get_or sets k []) piece
-  count_at k within = ap (λ l. slice_index l k) counted ∙ get_or-map (support_of (shard_of piece pieces baskets)) sets k [] 0 within
-
-  pub counts_long : length counts ≡ length sets
-  counts_long = ap length counted ∙ length-map sets (support_of (shard_of piece pieces baskets))
-
-  pub counts_fit : total_of baskets ≤ MOST_WEIGHT → (k : ℕ) → k < length counts → slice_index added k + slice_index counts k ≤ 2 ^ 40
-  counts_fit light k within =
-      let short : k < length sets = omega (arith, counts_long) in
-      let a = before.each k short in
-      let b = count_at k short in
-      let f = fits_next baskets pieces (get_or sets k []) some light claimed piece below (before.bounded k short) in omega arith
-
-  pub added_next : (now : List ℕ) → length now ≡ length added → ((k : ℕ) → k < length counts → slice_index now k ≡ slice_index added k + slice_index counts k)
-      → HasAdded baskets pieces sets (claimed ++ piece ∷ []) now
-  added_next now long each = part_added baskets pieces sets claimed added piece some below before now long
-      (λ k within. let b = count_at k within in let e = each k (omega (arith, counts_long)) in omega arith)
 
 -- ---- what all seats added
 

@@ -1,0 +1,130 @@
+//! Phases that find a value for each piece.
+ghost use Rattle.std.specs.Prelude.{◌≡◌, ◌≤◌, ◌<◌, [], ℕ, IfOk, OnOk};
+ghost use Rattle.mine_phases.specs.Pieces.{AreOfPieces, HasEach, IsPieceShare};
+
+use crate::gate::Gate;
+use crate::phase::Phase;
+use crate::placed::collected;
+use crate::share::{Share, by_workers, claim_piece};
+use basket_core::MineFault;
+use mine_round::{Round, RoundSeat};
+use std::alloc::{AllocError, Global};
+use std::thread::Threads;
+
+/// Work that has a value for each piece.
+pub trait PieceWork<V> {
+    /// What a worker uses again from piece to piece.
+    type Tools: Drop + Send;
+
+    ghost are_tools: { Self → Self.Tools → Type 0 };
+
+    // Whether the value is that of a piece, among so many.
+    ghost is_value: { Self → ℕ → ℕ → V → Type 0 };
+
+    fn tools(&self, alloc: Global) -> Result<Self::Tools, AllocError>
+        ensures { IfOk result (are_tools self.now) };
+
+    fn value(
+        &self,
+        alloc: Global,
+        tools: &mut Self::Tools,
+        piece: u32,
+        pieces: u32,
+    ) -> Result<V, AllocError>
+        requires piece { piece < pieces }
+        requires tools { are_tools self.now tools.old }
+        ensures tools { OnOk result (are_tools self.now tools.new) }
+        ensures value { IfOk result (is_value self.now pieces piece) };
+}
+
+/// The phase as its workers see it.
+#[derive(Drop)]
+struct Pieces<'r, 'a, 'p, P, G> {
+    round: &'r Round,
+    work: &'a P,
+    phase: &'r Phase<'p, G>,
+}
+
+impl<P, G: Gate> Pieces<'_, '_, '_, P, G> {
+    /// What a worker does: it finds the value of each piece that it claims, until none is left or it
+    /// finds no memory.
+    fn share<V: Drop>(
+        &self,
+        alloc: Global,
+        worker: u32,
+        mut seat: RoundSeat,
+    ) -> Share<Vec<(u32, V)>>
+    where
+        P: PieceWork<V>,
+        requires own { seat.round ≡ self.now.round.now.id }
+        requires unused { seat.held.claimed ≡ [] }
+        requires pieces { self.now.round.now.pieces ≡ self.now.phase.now.cutting.pieces }
+        ensures { IsPieceShare (P.is_value self.now.work.now self.now.phase.now.cutting.pieces) self.now.round.now result }
+    {
+        let values = match self.values(alloc, worker, &mut seat) {
+            Ok(values) => Ok(values),
+            Err(AllocError) => Err(MineFault::Memory),
+        };
+        Share { seat, values }
+    }
+
+    fn values<V: Drop>(
+        &self,
+        alloc: Global,
+        worker: u32,
+        seat: &mut RoundSeat,
+    ) -> Result<Vec<(u32, V)>, AllocError>
+    where
+        P: PieceWork<V>,
+        requires own { seat.old.round ≡ self.now.round.now.id }
+        requires unused { seat.old.held.claimed ≡ [] }
+        requires pieces { self.now.round.now.pieces ≡ self.now.phase.now.cutting.pieces }
+        ensures own { seat.new.round ≡ seat.old.round }
+        ensures values { IfOk result (λ values. AreOfPieces (P.is_value self.now.work.now self.now.phase.now.cutting.pieces) seat.new values.items) }
+    {
+        let phase = self.phase;
+        let pieces = phase.cutting.pieces;
+        let mut tools = self.work.tools(alloc)?;
+        let mut values = Vec::new(alloc);
+        while let Some(piece) = claim_piece(self.round, seat, phase.gate, phase.number, worker) {
+            let value = self.work.value(alloc, &mut tools, piece, pieces)?;
+            values.push((piece, value))?;
+        }
+        Ok(values)
+    }
+}
+
+/// The value of each piece, in their order, found by the workers of a phase. Only memory may be wanting.
+pub fn by_pieces<'a, 'p, R: Threads + Sync, G: Gate + Sync, V: Send + Drop, P: PieceWork<V> + Sync>(
+    rt: &R,
+    alloc: Global,
+    work: &'a P,
+    phase: &Phase<'p, G>,
+) -> Result<Vec<V>, AllocError>
+    ensures { IfOk result (λ values. HasEach (P.is_value work.now phase.now.cutting.pieces) phase.now.cutting.pieces values.items) }
+{
+    let cutting = phase.cutting;
+    let (round, seats) = Round::new(alloc, cutting.pieces, 0, cutting.workers)?;
+    let shared = Pieces {
+        round: &round,
+        work,
+        phase,
+    };
+    let lent = &shared;
+    let (seats, values) = by_workers(
+        rt,
+        alloc,
+        seats,
+        &|job: (u32, RoundSeat)| -> Share<Vec<(u32, V)>>
+            requires { (job.1.round ≡ lent.now.round.now.id) × (job.1.held.claimed ≡ []) × (lent.now.round.now.pieces ≡ lent.now.phase.now.cutting.pieces) }
+            ensures { IsPieceShare (P.is_value lent.entry.now.work.now lent.entry.now.phase.now.cutting.pieces) lent.entry.now.round.now result }
+        { lent.share(alloc, job.0, job.1) },
+    )?;
+    let Ok(_) = round.close(seats) else {
+        unreachable!()
+    };
+    let Ok(lists) = values else {
+        return Err(AllocError);
+    };
+    collected(alloc, cutting.pieces, lists)
+}
