@@ -1,7 +1,7 @@
 -- What a class gets from the conditional database of its rank, and how large it is.
-use Rattle.std.proofs.Common.{◌≡◌, ℕ, ◌+◌, ◌-◌, ◌<◌, ◌≤◌, true, List, [], ◌∷◌, ◌++◌, length, get_or, map, suc, false, leb, append_assoc, refl, sym, ap, ◌∙◌, subst, inl, inr, arith}
+use Rattle.std.proofs.Common.{◌≡◌, ℕ, ◌+◌, ◌-◌, ◌<◌, ◌≤◌, Bool, true, List, [], ◌∷◌, ◌++◌, length, get_or, map, suc, leb, append_assoc, refl, sym, ap, ◌∙◌, subst, inl, inr, arith}
 use Rattle.std.specs.List.{AllByRecursion, flat_map, range_with_len}
-use Rattle.std.proofs.lemmas.Bool.{and_from, and_parts, cases_Bool, cases_lt, eq-eqb, le-leb, leb-true}
+use Rattle.std.proofs.lemmas.Bool.{and_from, and_parts, cases_lt, eq-eqb, le-leb, leb-true}
 use Rattle.std.proofs.lemmas.Grind.{flat_map-append}
 use Rattle.std.proofs.lemmas.List.{get_or_append_left, get_or-append_right, length-append, length-map}
 use Rattle.std.proofs.lemmas.List.Elements.{All-from_recursion, recursion_from_All}
@@ -20,7 +20,7 @@ use Rattle.basket_sets.specs.Itemset.{IsRising, with_item}
 use Rattle.basket_sets.specs.Support.{support_of}
 use Rattle.basket_sets.proofs.theory.Frequent.{frequent_once, once_is_as_long}
 use Rattle.basket_sets.proofs.theory.Members.{Member, All-from_Member, Member-append, Member-filter, Member-map, Member-from_Contains, Contains-from_Member, at_Member}
-use Rattle.basket_sets.proofs.theory.Rising.{cons_rises, has-from_Member, nil_rises}
+use Rattle.basket_sets.proofs.theory.Rising.{cons_rises, has-from_Member, nil_rises, same_test}
 use Rattle.mine_classes.specs.Classes.{ClassesAreAll, ClassesAreListed, ClassesByCodings, ListClasses, ListsClass, RanksAreBelow, class_of, ends_in, extended, with_rank}
 use Rattle.mine_classes.specs.declared.tables.Tables.{Tables}
 use Rattle.mine_classes.specs.Mined.{ListsHaveClassSize}
@@ -28,7 +28,7 @@ use Rattle.mine_classes.specs.ListBaskets.{AreRankBaskets, IsRankBasket, RankBas
 use Rattle.mine_classes.specs.Pairs.{kept_ranks}
 use Rattle.mine_classes.proofs.theory.Kept.{kept_rises, kept_short}
 use Rattle.mine_fp.specs.declared.level.Level.{Level}
-use Rattle.mine_fp.specs.Level.{HaveSlots, IsBelow, KeepSlots, ListsAllAsItems, ListsClassAsItems, as_items, items_of, suffix_of}
+use Rattle.mine_fp.specs.Level.{HaveSlots, IsBelow, KeepSlots, ListsAllAsItems, ListsClassAsItems, as_items, items_of, set_of_rank, suffix_of}
 use Rattle.mine_fp.proofs.LevelLemmas.{alone_as_items, inner_as_items, length-decoded, named_ranks}
 
 -- ---- lists of classes
@@ -174,37 +174,31 @@ module _ (level : Level) (rank : ℕ) (inner : Level) (is : IsBelow level rank i
       subst (HasSetOfSize (class_of level.paths.baskets (Count level.least) rank)) long (class_of_size level.paths.baskets level.least rank listed (set ++ rank ∷ []) d.0 d.1 d.2)
 
   -- the sets that were found before, the rank alone, and those of the conditional database
-  pub class_grown : (old mid new : List Counted) (support : ℕ) → IsRising (suffix_of level old) → support ≡ support_of level.paths.baskets (rank ∷ [])
-      → mid ≡ old ++ record { set = longer (suffix_of level old); count = support } ∷ [] → suffix_of inner mid ≡ longer (suffix_of level old)
+  pub class_grown : (old mid new : List Counted) → IsRising (suffix_of level old) → mid ≡ old ++ set_of_rank level old rank ∷ [] → suffix_of inner mid ≡ longer (suffix_of level old)
       → ListsAllAsItems inner mid new → ListsClassAsItems level rank old new
-  class_grown old mid new support up counts told suffix within =
-      let set = longer (suffix_of level old) in
-      record {
-        sets = class_with within.sets;
-        listed = lists_class within.sets within.listed;
-        added = within.added
-            ∙ (λ i. told i ++ map (as_items (items_of inner) (suffix i)) within.sets)
-            ∙ ap (λ n. (old ++ record { set = set; count = n } ∷ []) ++ map (as_items (items_of inner) set) within.sets) counts
-            ∙ append_assoc old (record { set = set; count = support_of level.paths.baskets (rank ∷ []) } ∷ []) (map (as_items (items_of inner) set) within.sets)
-            ∙ ap (λ l. old ++ l) (sym (class_as_items (suffix_of level old) up within.sets within.listed));
-      }
+  class_grown old mid new up told suffix within = record {
+    sets = class_with within.sets;
+    listed = lists_class within.sets within.listed;
+    added = within.added
+        ∙ (λ i. told i ++ map (as_items (items_of inner) (suffix i)) within.sets)
+        ∙ append_assoc old (set_of_rank level old rank ∷ []) (map (as_items (items_of inner) (longer (suffix_of level old))) within.sets)
+        ∙ ap (λ l. old ++ l) (sym (class_as_items (suffix_of level old) up within.sets within.listed));
+  }
 
--- ---- tests of supports
+-- ---- frequent ranks
 
-pub met_by : (baskets : List Weighted) (least rank support : ℕ) → support ≡ support_of baskets (rank ∷ []) → 1 ≤ least → least ≤ support → is_frequent baskets (Count least) (rank ∷ []) ≡ true
-met_by baskets least rank support is some more =
-    let sum = support_of baskets (rank ∷ []) in and_from (leb 1 sum) (leb least sum) (le-leb 1 sum (omega arith)) (le-leb least sum (omega arith))
-
-pub rare_by : (baskets : List Weighted) (least rank support : ℕ) → support ≡ support_of baskets (rank ∷ []) → support < least → is_frequent baskets (Count least) (rank ∷ []) ≡ false
-rare_by baskets least rank support is less = elim (cases_Bool (is_frequent baskets (Count least) (rank ∷ []))) [
-  | inl e ↦ (let sum = support_of baskets (rank ∷ []) in let more = leb-true least sum (and_parts (leb 1 sum) (leb least sum) e).1 in absurd (omega arith))
-  | inr e ↦ e
-]
+pub frequent_by : (baskets : List Weighted) (least rank support : ℕ) → support ≡ support_of baskets (rank ∷ []) → 1 ≤ least → leb least support ≡ is_frequent baskets (Count least) (rank ∷ [])
+frequent_by baskets least rank support is some =
+    let sum = support_of baskets (rank ∷ []) in
+    ap (leb least) is
+    ∙ same_test (leb least sum) (is_frequent baskets (Count least) (rank ∷ []))
+    (λ h. let more = leb-true least sum h in and_from (leb 1 sum) (leb least sum) (le-leb 1 sum (omega arith)) h) (λ h. (and_parts (leb 1 sum) (leb least sum) h).1)
 
 -- a class of a frequent rank has a set
-pub class_has_one : (baskets : List Weighted) (least rank : ℕ) → ClassesAreListed → 1 ≤ least → least ≤ support_of baskets (rank ∷ []) → 1 ≤ length (class_of baskets (Count least) rank)
-class_has_one baskets least rank listed some more =
-    let one = (alone_is_one baskets least rank listed (met_by baskets least rank (support_of baskets (rank ∷ [])) refl some more)).1 in
+pub class_has_one : (baskets : List Weighted) (least rank : ℕ) (test : Bool) → ClassesAreListed → test ≡ is_frequent baskets (Count least) (rank ∷ []) → test ≡ true
+    → 1 ≤ length (class_of baskets (Count least) rank)
+class_has_one baskets least rank test listed is met =
+    let one = (alone_is_one baskets least rank listed (sym is ∙ met)).1 in
     let here = one.1 in
     omega arith
 

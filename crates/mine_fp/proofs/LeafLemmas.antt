@@ -1,5 +1,5 @@
 -- A rank with which no lower one is frequent.
-use Rattle.std.proofs.Common.{◌≡◌, ◌≢◌, ℕ, true, false, ◌&&◌, List, [], ◌∷◌, ◌++◌, cond, get_or, map, refl, sym, ap, ◌∙◌, arith}
+use Rattle.std.proofs.Common.{◌≡◌, ◌≢◌, ℕ, true, false, ◌&&◌, List, [], ◌∷◌, ◌++◌, cond, map, refl, sym, ap, ◌∙◌, arith}
 use Rattle.std.specs.List.{IsDistinct, list_all}
 use Rattle.std.specs.Cmp.Lexicographic.{pointwise}
 use Rattle.std.specs.Prelude.{nat_eq}
@@ -7,7 +7,7 @@ use Rattle.basket_sets.specs.declared.weighted.Weighted.{Weighted}
 use Rattle.basket_sets.specs.declared.counted.Counted.{Counted}
 use Rattle.basket_sets.specs.declared.minimum.Minimum.TheVariants.{Count}
 use Rattle.basket_sets.specs.Frequent.{ListsOnce, is_frequent}
-use Rattle.basket_sets.specs.Itemset.{IsRising, has, with_item}
+use Rattle.basket_sets.specs.Itemset.{IsRising, has}
 use Rattle.basket_sets.specs.Support.{support_of, total_of}
 use Rattle.basket_sets.proofs.theory.Support.{at_least_one}
 use Rattle.mine_classes.specs.Classes.{ClassesAreConditional, ClassesAreListed, ListsClass, class_of}
@@ -15,7 +15,7 @@ use Rattle.mine_classes.specs.Conditional.{ConditionalSupports, conditional, is_
 use Rattle.mine_classes.specs.Pairs.{pairs_of}
 use Rattle.mine_classes.proofs.theory.Kept.{has_kept, pair_ranks}
 use Rattle.mine_fp.specs.declared.level.Level.{Level}
-use Rattle.mine_fp.specs.Level.{ListsClassAsItems, items_of, suffix_of}
+use Rattle.mine_fp.specs.Level.{ListsClassAsItems, items_of, set_of_rank, suffix_of}
 use Rattle.mine_fp.specs.Trees.{has_tree, rank_trees}
 use Rattle.mine_fp.proofs.LevelLemmas.{alone_as_items}
 use Rattle.mine_fp.proofs.TreesLemmas.{passed_as_many}
@@ -56,12 +56,10 @@ module _ (baskets : List Weighted) (least rank : ℕ) (none : pairs_of baskets l
   leaf_trees listed = passed_as_many (λ set. has_tree baskets (Count least) set) baskets (Count least) rank (class_of baskets (Count least) rank) (alone ∷ []) (listed baskets (Count least) rank) leaf_class
 
 pub leaf_grown : (level : Level) (rank : ℕ) → pairs_of level.paths.baskets level.least rank ≡ [] → ClassesAreConditional → ConditionalSupports
-    → is_frequent level.paths.baskets (Count level.least) (rank ∷ []) ≡ true → (old new : List Counted) (support : ℕ)
-    → IsRising (suffix_of level old) → support ≡ support_of level.paths.baskets (rank ∷ [])
-    → new ≡ old ++ record { set = with_item (get_or (items_of level) rank 0) (suffix_of level old); count = support } ∷ [] → ListsClassAsItems level rank old new
-leaf_grown level rank none conditionals supports met old new support up counts told = record {
+    → is_frequent level.paths.baskets (Count level.least) (rank ∷ []) ≡ true → (old new : List Counted)
+    → IsRising (suffix_of level old) → new ≡ old ++ set_of_rank level old rank ∷ [] → ListsClassAsItems level rank old new
+leaf_grown level rank none conditionals supports met old new up told = record {
   sets = record { set = rank ∷ []; count = support_of level.paths.baskets (rank ∷ []) } ∷ [];
   listed = leaf_class level.paths.baskets level.least rank none conditionals supports met;
-  added = told ∙ ap (λ n. old ++ record { set = with_item (get_or (items_of level) rank 0) (suffix_of level old); count = n } ∷ []) counts
-      ∙ ap (λ c. old ++ c ∷ []) (sym (alone_as_items (items_of level) (suffix_of level old) rank (support_of level.paths.baskets (rank ∷ [])) up));
+  added = told ∙ ap (λ c. old ++ c ∷ []) (sym (alone_as_items (items_of level) (suffix_of level old) rank (support_of level.paths.baskets (rank ∷ [])) up));
 }

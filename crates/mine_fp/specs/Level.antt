@@ -1,5 +1,5 @@
 -- Sets that are found within a conditional database, as items.
-use Rattle.std.specs.Prelude.{◌≡◌, ◌≤◌, ◌<◌, ◌+◌, ◌-◌, ◌++◌, ℕ, List, [], ◌∷◌, Option, Some, None, length, map, slice_index_or}
+use Rattle.std.specs.Prelude.{◌≡◌, ◌≤◌, ◌<◌, ◌+◌, ◌-◌, ◌++◌, ℕ, List, [], ◌∷◌, Option, Some, None, length, map, slice_index, slice_index_or}
 use Rattle.std.specs.List.{flat_map}
 use Rattle.basket_ranks.specs.Codes.{IsCoding, decoded_place}
 use Rattle.basket_lists.specs.CountedSets.{set_at}
@@ -50,6 +50,10 @@ suffix_of level found = set_from found level.place
 pub record HasSuffix (level : Level) (found : List Counted) : Type 0 where
   pub inside : (place : ℕ) → level.place ≡ Some place → place < length found
   pub rises : IsRising (suffix_of level found)
+
+-- the set of a rank as items
+abbrev pub set_of_rank : Level → List Counted → ℕ → Counted
+set_of_rank level found rank = record { set = with_item (slice_index (items_of level) rank) (suffix_of level found); count = support_of level.paths.baskets (rank ∷ []) }
 
 -- the class of a rank within a level, and all frequent sets
 abbrev pub class_in : Level → ℕ → List Counted

@@ -43,6 +43,7 @@ impl Level {
 
     /// The sets that a rank and lower ones make: the rank alone, and with each set of lower ranks,
     /// which stand from `start` on.
+    #[tactic(auto, using(crate::proofs::ClassLemmas::class_has_one))]
     fn choices<T: Tally>(
         &self,
         alloc: Global,
@@ -68,13 +69,13 @@ impl Level {
         conditional_supports();
         lists_have_class_size();
         rare_ranks_have_no_class();
-        let support = self.support(rank);
-        if support < self.least {
+        if !self.is_frequent(rank) {
             return Ok(());
         }
         let end = found.sets.len();
-        self.tell_rank(alloc, rank, support, found, tally)?;
+        self.tell_rank(alloc, rank, found, tally)?;
         let item = self.item(rank);
+        let support = self.support(rank);
         for at in start..end {
             choose(alloc, at, item, support, found, tally)?;
         }

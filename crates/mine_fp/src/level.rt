@@ -1,10 +1,11 @@
 //! Sets that are grown within a conditional database.
 ghost use Rattle.std.specs.Prelude.{◌≡◌, ◌≤◌, ◌<◌, ◌+◌, ◌++◌, [], ◌∷◌, Err, OnOk, Some, false, length, slice_index, vec_len};
 ghost use Rattle.basket_ranks.specs.Depth.{HasSetOfSize};
-ghost use Rattle.basket_sets.specs.Itemset.{with_item};
+ghost use Rattle.basket_sets.specs.declared.minimum.Minimum.TheVariants.{Count};
+ghost use Rattle.basket_sets.specs.Frequent.{is_frequent};
 ghost use Rattle.basket_sets.specs.Support.{support_of};
 ghost use Rattle.mine_fp.specs.Found.{TellsSets};
-ghost use Rattle.mine_fp.specs.Level.{HasSuffix, HaveSlots, IsLevel, KeepSlots, ListsAllAsItems, ListsClassAsItems, class_in, items_of, missing, sets_in, suffix_of};
+ghost use Rattle.mine_fp.specs.Level.{HasSuffix, HaveSlots, IsLevel, KeepSlots, ListsAllAsItems, ListsClassAsItems, class_in, items_of, missing, set_of_rank, sets_in};
 ghost use Rattle.mine_fp.specs.Trees.{inner_trees, rank_trees};
 
 use crate::found::{Found, choose, tell};
@@ -66,12 +67,11 @@ impl Level {
         lists_have_class_size();
         conditional_supports();
         rare_ranks_have_no_class();
-        let support = self.support(rank);
-        if support < self.least {
+        if !self.is_frequent(rank) {
             return Ok(());
         }
         let place = found.sets.len();
-        self.tell_rank(alloc, rank, support, found, tally)?;
+        self.tell_rank(alloc, rank, found, tally)?;
         if self.depth >= DEPTH {
             return Err(MineFault::TooMany {
                 limit: tally.limit(),
@@ -134,25 +134,35 @@ impl Level {
         self.names[rank as usize].1
     }
 
+    /// Whether a rank is frequent.
+    pub fn is_frequent(&self, rank: u32) -> bool
+        requires level { IsLevel self.now }
+        requires rank { rank < self.now.paths.ranks }
+        ensures { result ≡ is_frequent self.now.paths.baskets (Count self.now.least) (rank ∷ []) }
+    {
+        self.support(rank) >= self.least
+    }
+
     /// Tells the set of a rank to the tally, and adds it to those found.
     pub fn tell_rank<T: Tally>(
         &self,
         alloc: Global,
         rank: u32,
-        support: u64,
         found: &mut Found,
         tally: &mut T,
     ) -> Result<(), MineFault>
+        requires level { IsLevel self.now }
         requires stands { HasSuffix self.now found.old.sets }
-        requires rank { rank < vec_len self.now.names }
+        requires rank { rank < self.now.paths.ranks }
         requires going { T.is_over tally.old ≡ false }
-        ensures added { OnOk result (found.new.sets ≡ found.old.sets ++ record { set = with_item (slice_index (items_of self.now) rank) (suffix_of self.now found.old.sets); count = support } ∷ []) }
+        ensures added { OnOk result (found.new.sets ≡ found.old.sets ++ set_of_rank self.now found.old.sets rank ∷ []) }
         ensures few { OnOk result (length found.new.sets < 18446744073709551616) }
         ensures trees { found.new.trees ≡ found.old.trees }
         ensures tally { TellsSets T.limit_of T.told_of T.is_over tally.old tally.new found.old.sets found.new.sets result
             1 ⊥ }
     {
         let item = self.item(rank);
+        let support = self.support(rank);
         match self.place {
             Some(place) => choose(alloc, place, item, support, found, tally)?,
             None => tell(Itemset::from_items(alloc, &[item])?, support, found, tally)?,

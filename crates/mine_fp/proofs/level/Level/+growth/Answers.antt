@@ -8,13 +8,12 @@ use Rattle.basket_ranks.specs.Depth.{HasSetOfSize}
 use Rattle.basket_sets.specs.declared.counted.Counted.{Counted}
 use Rattle.basket_sets.specs.declared.minimum.Minimum.TheVariants.{Count}
 use Rattle.basket_sets.specs.Frequent.{frequent_of}
-use Rattle.basket_sets.specs.Itemset.{with_item}
 use Rattle.basket_sets.proofs.theory.Rising.{with_item-rises}
 use Rattle.mine_classes.specs.Pairs.{pairs_of}
 use Rattle.mine_fp.specs.declared.level.Level.{Level}
-use Rattle.mine_fp.specs.Level.{IsBelow, class_in, items_of, missing, suffix_of}
+use Rattle.mine_fp.specs.Level.{IsBelow, class_in, items_of, missing, set_of_rank, suffix_of}
 use Rattle.mine_fp.specs.Trees.{has_tree, inner_trees, rank_trees}
-use Rattle.mine_fp.proofs.ClassLemmas.{alone_is_one, class_grown, class_has_one, class_long, deeper, frequent_of_size, inner_has_fewer, met_by, rare_by, slots_below, slots_kept}
+use Rattle.mine_fp.proofs.ClassLemmas.{alone_is_one, class_grown, class_has_one, class_long, deeper, frequent_of_size, inner_has_fewer, slots_below, slots_kept}
 use Rattle.mine_fp.proofs.FoundLemmas.{found_fit, found_long, found_more, found_suffix, no_classes}
 use Rattle.mine_fp.proofs.LeafLemmas.{leaf_grown, leaf_trees}
 use Rattle.mine_fp.proofs.NameLemmas.{inner_is_level}
@@ -23,23 +22,21 @@ use Rattle.mine_fp.proofs.ToldLemmas.{tells_all, tells_failed, tells_more, told_
 use Rattle.mine_fp.proofs.TreesLemmas.{class_trees_are, more_trees, rare_trees, trees_of_ranks}
 use Rattle.mine_fp.proofs.level.Level.+growth.Goals as goal
 
-pub class-returns-then-support-self-clause-listed :
-    goal.class-returns-then-support-self-clause-listed
-class-returns-then-support-self-clause-listed g t c =
+pub class-returns-then-not-is_frequent-clause-listed :
+    goal.class-returns-then-not-is_frequent-clause-listed
+class-returns-then-not-is_frequent-clause-listed g t c =
     let level = c.args.self.now in
     record {
       sets = [];
-      listed = c.rare_ranks_have_no_class.ensures level.paths.baskets (Count level.least) c.args.rank
-          (rare_by level.paths.baskets level.least c.args.rank c.support-support.result c.support-support.ensures c.if-support-self.true);
+      listed = c.rare_ranks_have_no_class.ensures level.paths.baskets (Count level.least) c.args.rank (sym c.is_frequent.ensures ∙ c.if-not-is_frequent.true);
       added = sym (append-nil c.args.found.now.sets);
     }
 
-pub class-returns-then-support-self-clause-trees :
-    goal.class-returns-then-support-self-clause-trees
-class-returns-then-support-self-clause-trees g t c =
+pub class-returns-then-not-is_frequent-clause-trees :
+    goal.class-returns-then-not-is_frequent-clause-trees
+class-returns-then-not-is_frequent-clause-trees g t c =
     let level = c.args.self.now in
-    let rare = c.rare_ranks_have_no_class.ensures level.paths.baskets (Count level.least) c.args.rank
-    (rare_by level.paths.baskets level.least c.args.rank c.support-support.result c.support-support.ensures c.if-support-self.true) in
+    let rare = c.rare_ranks_have_no_class.ensures level.paths.baskets (Count level.least) c.args.rank (sym c.is_frequent.ensures ∙ c.if-not-is_frequent.true) in
     let none = rare_trees level.paths.baskets level.least c.args.rank c.classes_are_listed.ensures rare in
     omega arith
 
@@ -47,7 +44,7 @@ pub class-returns-then-self-ge-DEPTH-clause-tally :
     goal.class-returns-then-self-ge-DEPTH-clause-tally
 class-returns-then-self-ge-DEPTH-clause-tally g t c =
     let level = c.args.self.now in
-    let met = met_by level.paths.baskets level.least c.args.rank c.support-support.result c.support-support.ensures c.requires.level.some c.if-support-self.false in
+    let met = sym c.is_frequent.ensures ∙ c.if-not-is_frequent.false in
     let last : missing level ≡ 1 = omega (arith, c.if-self-ge-DEPTH.true, c.requires.level.short) in
     let so_far = c.in_ok-tell_rank.ensures.tally in
     record {
@@ -55,22 +52,21 @@ class-returns-then-self-ge-DEPTH-clause-tally g t c =
       too_many = λ limit e.
           let told : c.limit.result ≡ limit = cc in
           (sym told ∙ c.limit.ensures ∙ so_far.limit, inr (subst (HasSetOfSize (class_in level c.args.rank)) (sym last) (alone_is_one level.paths.baskets level.least c.args.rank c.classes_are_listed.ensures met)));
-      at_most = (let one = class_has_one level.paths.baskets level.least c.args.rank c.classes_are_listed.ensures c.requires.level.some (omega (arith, c.if-support-self.false, c.support-support.ensures)) in omega (arith, so_far.at_most, one));
+      at_most = (let one = class_has_one level.paths.baskets level.least c.args.rank c.is_frequent.result c.classes_are_listed.ensures c.is_frequent.ensures c.if-not-is_frequent.false in omega (arith, so_far.at_most, one));
       limit = so_far.limit;
     }
 
 pub class-returns-in-None-clause-listed : goal.class-returns-in-None-clause-listed
 class-returns-in-None-clause-listed g t c =
     let level = c.args.self.now in
-    let met = met_by level.paths.baskets level.least c.args.rank c.support-support.result c.support-support.ensures c.requires.level.some c.if-support-self.false in
+    let met = sym c.is_frequent.ensures ∙ c.if-not-is_frequent.false in
     let none = MatchOption-at_none (pairs_of level.paths.baskets level.least c.args.rank ≡ []) (λ _. ⊤) c.in-None.is c.in_ok-below.ensures.alone in
-    leaf_grown level c.args.rank none c.classes_are_conditional.ensures c.conditional_supports.ensures met c.args.found.now.sets c.tell_rank.new.found.sets c.support-support.result
-    c.requires.stands.rises c.support-support.ensures c.in_ok-tell_rank.ensures.added
+    leaf_grown level c.args.rank none c.classes_are_conditional.ensures c.conditional_supports.ensures met c.args.found.now.sets c.tell_rank.new.found.sets c.requires.stands.rises c.in_ok-tell_rank.ensures.added
 
 pub class-returns-in-None-clause-trees : goal.class-returns-in-None-clause-trees
 class-returns-in-None-clause-trees g t c =
     let level = c.args.self.now in
-    let met = met_by level.paths.baskets level.least c.args.rank c.support-support.result c.support-support.ensures c.requires.level.some c.if-support-self.false in
+    let met = sym c.is_frequent.ensures ∙ c.if-not-is_frequent.false in
     let none = MatchOption-at_none (pairs_of level.paths.baskets level.least c.args.rank ≡ []) (λ _. ⊤) c.in-None.is c.in_ok-below.ensures.alone in
     omega (
       arith,
@@ -86,8 +82,7 @@ class-classes-requires g t c κs within =
     let below = MatchOption-at_some ⊤ (IsBelow level c.args.rank) inner c.in-Some.is c.in_ok-below.ensures.below in
     let at = MatchOption-at_some ⊤ (λ (inner : Level). inner.place ≡ Some c.len-place.result) inner c.in-Some.is c.in_ok-below.ensures.place in
     let fewer = inner_has_fewer level c.args.rank inner below in
-    let suffix = suffix_of level c.args.found.now.sets in
-    let told : Counted = record { set = with_item (get_or (items_of level) c.args.rank 0) suffix; count = c.support-support.result } in (
+    let told = set_of_rank level c.args.found.now.sets c.args.rank in (
       omega (arith, c.decreases),
       (
         within,
@@ -95,7 +90,7 @@ class-classes-requires g t c κs within =
           inner_is_level level c.args.rank inner c.requires.level below c.conditional_supports.ensures (omega (arith, c.if-self-ge-DEPTH.false)),
           (
             suffix_added inner c.args.found.now.sets c.tell_rank.new.found.sets told c.len-place.result c.len-place.ensures c.in_ok-tell_rank.ensures.added
-                at (with_item-rises (get_or (items_of level) c.args.rank 0) suffix c.requires.stands.rises),
+                at (with_item-rises (get_or (items_of level) c.args.rank 0) (suffix_of level c.args.found.now.sets) c.requires.stands.rises),
             (
               slots_below level c.args.rank inner c.args.tables.now c.make.new.tables c.requires.rank below c.requires.tables c.in_ok-below.ensures.tables,
               (
@@ -112,23 +107,21 @@ pub class-returns-in-Some-clause-listed : goal.class-returns-in-Some-clause-list
 class-returns-in-Some-clause-listed g t c =
     let level = c.args.self.now in
     let inner = c.in-Some.inner in
-    let met = met_by level.paths.baskets level.least c.args.rank c.support-support.result c.support-support.ensures c.requires.level.some c.if-support-self.false in
+    let met = sym c.is_frequent.ensures ∙ c.if-not-is_frequent.false in
     let below = MatchOption-at_some ⊤ (IsBelow level c.args.rank) inner c.in-Some.is c.in_ok-below.ensures.below in
     let at = MatchOption-at_some ⊤ (λ (inner : Level). inner.place ≡ Some c.len-place.result) inner c.in-Some.is c.in_ok-below.ensures.place in
     let old = c.args.found.now.sets in
     let mid = c.tell_rank.new.found.sets in
-    let told : Counted = record { set = with_item (get_or (items_of level) c.args.rank 0) (suffix_of level old); count = c.support-support.result } in
     on_ok_weaker c.classes.result
-    (class_grown level c.args.rank inner below c.classes_by_codings.ensures met old mid c.classes.new.found.sets c.support-support.result
-    c.requires.stands.rises c.support-support.ensures c.in_ok-tell_rank.ensures.added
-    (suffix_is inner old mid told c.len-place.result c.len-place.ensures c.in_ok-tell_rank.ensures.added at))
+    (class_grown level c.args.rank inner below c.classes_by_codings.ensures met old mid c.classes.new.found.sets c.requires.stands.rises c.in_ok-tell_rank.ensures.added
+    (suffix_is inner old mid (set_of_rank level old c.args.rank) c.len-place.result c.len-place.ensures c.in_ok-tell_rank.ensures.added at))
     c.classes.ensures.listed
 
 pub class-returns-in-Some-clause-trees : goal.class-returns-in-Some-clause-trees
 class-returns-in-Some-clause-trees g t c =
     let level = c.args.self.now in
     let inner = c.in-Some.inner in
-    let met = met_by level.paths.baskets level.least c.args.rank c.support-support.result c.support-support.ensures c.requires.level.some c.if-support-self.false in
+    let met = sym c.is_frequent.ensures ∙ c.if-not-is_frequent.false in
     let below = MatchOption-at_some ⊤ (IsBelow level c.args.rank) inner c.in-Some.is c.in_ok-below.ensures.below in
     let all = class_trees_are level c.args.rank inner c.requires.level below c.classes_by_codings.ensures met c.classes_are_listed.ensures c.conditional_supports.ensures in
     on_ok_weaker c.classes.result (λ made. omega (arith, made, all, c.in_ok-below.ensures.number, c.in_ok-tell_rank.ensures.trees)) c.classes.ensures.trees
@@ -137,10 +130,10 @@ pub class-returns-in-Some-clause-tally : goal.class-returns-in-Some-clause-tally
 class-returns-in-Some-clause-tally g t c =
     let level = c.args.self.now in
     let inner = c.in-Some.inner in
-    let met = met_by level.paths.baskets level.least c.args.rank c.support-support.result c.support-support.ensures c.requires.level.some c.if-support-self.false in
+    let met = sym c.is_frequent.ensures ∙ c.if-not-is_frequent.false in
     let below = MatchOption-at_some ⊤ (IsBelow level c.args.rank) inner c.in-Some.is c.in_ok-below.ensures.below in
     let long = class_long level c.args.rank inner below c.classes_by_codings.ensures met c.lists_have_class_size.ensures in
-    let one = ap length c.in_ok-tell_rank.ensures.added ∙ length-append c.args.found.now.sets (record { set = with_item (get_or (items_of level) c.args.rank 0) (suffix_of level c.args.found.now.sets); count = c.support-support.result } ∷ []) in
+    let one = ap length c.in_ok-tell_rank.ensures.added ∙ length-append c.args.found.now.sets (set_of_rank level c.args.found.now.sets c.args.rank ∷ []) in
     let less : missing inner + 1 ≡ missing level = omega (arith, below.depth, c.if-self-ge-DEPTH.false) in
     tells_more c.in_ok-tell_rank.ensures.tally.all c.classes.ensures.tally (omega (arith, long, one))
     (λ deep. subst (HasSetOfSize (class_in level c.args.rank)) less (deeper level c.args.rank inner below c.classes_by_codings.ensures met c.classes_are_listed.ensures (missing inner) deep))

@@ -7,37 +7,26 @@ use Rattle.basket_sets.specs.declared.counted.Counted.{Counted}
 use Rattle.basket_sets.specs.declared.minimum.Minimum.TheVariants.{Count}
 use Rattle.basket_sets.specs.Itemset.{with_item}
 use Rattle.mine_classes.specs.Classes.{ListsClass}
-use Rattle.mine_fp.specs.Level.{as_items, class_in, items_of, suffix_of}
+use Rattle.mine_fp.specs.Level.{as_items, class_in, items_of, set_of_rank, suffix_of}
 use Rattle.mine_fp.proofs.ChoiceLemmas.{choices_are_class, choices_long, chosen, chosen_more}
-use Rattle.mine_fp.proofs.ClassLemmas.{met_by, rare_by}
 use Rattle.mine_fp.proofs.FoundLemmas.{class_fits}
 use Rattle.mine_fp.proofs.LevelLemmas.{alone_as_items}
-use Rattle.mine_fp.proofs.ToldLemmas.{tells_all, tells_failed, told_more, told_none}
+use Rattle.mine_fp.proofs.ToldLemmas.{tells_all, tells_failed, told_more}
 use Rattle.mine_fp.proofs.level.Level.choices.Goals as goal
 
-pub returns-then-support-self-clause-listed : goal.returns-then-support-self-clause-listed
-returns-then-support-self-clause-listed g c =
+pub returns-then-not-is_frequent-clause-listed : goal.returns-then-not-is_frequent-clause-listed
+returns-then-not-is_frequent-clause-listed g c =
     let level = c.args.self.now in
     record {
       sets = [];
-      listed = c.rare_ranks_have_no_class.ensures level.paths.baskets (Count level.least) c.args.rank
-          (rare_by level.paths.baskets level.least c.args.rank c.support-support.result c.support-support.ensures c.if-support-self.true);
+      listed = c.rare_ranks_have_no_class.ensures level.paths.baskets (Count level.least) c.args.rank (sym c.is_frequent.ensures ∙ c.if-not-is_frequent.true);
       added = sym (append-nil c.args.found.now.sets);
     }
-
-pub returns-in_err-tell_rank-clause-tally : goal.returns-in_err-tell_rank-clause-tally
-returns-in_err-tell_rank-clause-tally g c =
-    let level = c.args.self.now in
-    let met = met_by level.paths.baskets level.least c.args.rank c.support-support.result c.support-support.ensures c.requires.level.some c.if-support-self.false in
-    let lower = c.requires.lower in
-    let size = choices_long level.paths.baskets level.least c.args.rank c.requires.branch met c.conditional_supports.ensures c.classes_are_all.ensures c.classes_are_conditional.ensures lower.classes lower.ranks lower.listed c.lists_have_class_size.ensures in
-    let p = err_from_is_err_and c.from_residual.result c.from_residual.ensures.1 in
-    tells_failed (told_none c.args.tally.now c.args.found.now.sets c.requires.going) c.in_err-tell_rank.ensures.tally refl (omega (arith, size)) (λ none. none) c.from_residual.result (p.1 ∙ ap Err p.2)
 
 pub returns-in_err-choose-clause-tally : goal.returns-in_err-choose-clause-tally
 returns-in_err-choose-clause-tally g c =
     let level = c.args.self.now in
-    let met = met_by level.paths.baskets level.least c.args.rank c.support-support.result c.support-support.ensures c.requires.level.some c.if-support-self.false in
+    let met = sym c.is_frequent.ensures ∙ c.if-not-is_frequent.false in
     let lower = c.requires.lower in
     let sets = flat_map (λ (class : List Counted). class) lower.classes in
     let size = choices_long level.paths.baskets level.least c.args.rank c.requires.branch met c.conditional_supports.ensures c.classes_are_all.ensures c.classes_are_conditional.ensures lower.classes lower.ranks lower.listed c.lists_have_class_size.ensures in
@@ -54,13 +43,15 @@ loop-at-init g c =
     let alone = alone_as_items (items_of level) (suffix_of level c.args.found.now.sets) c.args.rank c.support-support.result c.requires.stands.rises in
     record {
       sets = λ classes before long are.
-          c.in_ok-tell_rank.ensures.added ∙ ap (λ s. c.args.found.now.sets ++ s ∷ []) (sym alone)
+          c.in_ok-tell_rank.ensures.added
+          ∙ ap (λ n. c.args.found.now.sets ++ record { set = with_item (get_or (items_of level) c.args.rank 0) (suffix_of level c.args.found.now.sets); count = n } ∷ []) (sym c.support-support.ensures)
+          ∙ ap (λ s. c.args.found.now.sets ++ s ∷ []) (sym alone)
           ∙ (let none : 0 ≡ c.args.start - c.args.start = omega arith in
           ap (λ n. c.args.found.now.sets ++ map (as_items (items_of level) (suffix_of level c.args.found.now.sets)) (chosen c.args.rank c.support-support.result (take n (flat_map (λ (class : List Counted). class) classes)))) none);
       trees = c.in_ok-tell_rank.ensures.trees;
       told = c.in_ok-tell_rank.ensures.tally.all;
       long = (let one = ap length c.in_ok-tell_rank.ensures.added in
-          omega (arith, one, length-append c.args.found.now.sets (record { set = with_item (get_or (items_of level) c.args.rank 0) (suffix_of level c.args.found.now.sets); count = c.support-support.result } ∷ [])));
+          omega (arith, one, length-append c.args.found.now.sets (set_of_rank level c.args.found.now.sets c.args.rank ∷ [])));
     }
 
 pub loop-at-preserved : goal.loop-at-preserved
@@ -92,7 +83,7 @@ loop-at-preserved g c =
 pub returns-clause-listed : goal.returns-clause-listed
 returns-clause-listed g c =
     let level = c.args.self.now in
-    let met = met_by level.paths.baskets level.least c.args.rank c.support-support.result c.support-support.ensures c.requires.level.some c.if-support-self.false in
+    let met = sym c.is_frequent.ensures ∙ c.if-not-is_frequent.false in
     let lower = c.requires.lower in
     let sets = flat_map (λ (class : List Counted). class) lower.classes in
     let class = choices_are_class level.paths.baskets level.least c.args.rank c.requires.branch met c.conditional_supports.ensures c.classes_are_all.ensures c.classes_are_conditional.ensures lower.classes lower.ranks lower.listed in

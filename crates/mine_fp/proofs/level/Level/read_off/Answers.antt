@@ -1,15 +1,8 @@
 use Rattle.std.proofs.Common.{◌≡◌, refl, ap, ◌∙◌, Err, arith}
 use Rattle.std.proofs.lemmas.Result.{err_from_is_err_and}
-use Rattle.mine_fp.proofs.FoundLemmas.{found_fit, found_long, found_more, no_classes}
-use Rattle.mine_fp.proofs.ToldLemmas.{tells_all, tells_failed, told_more, told_none}
+use Rattle.mine_fp.proofs.FoundLemmas.{found_fit, found_long, found_more}
+use Rattle.mine_fp.proofs.ToldLemmas.{tells_all, tells_failed, told_more}
 use Rattle.mine_fp.proofs.level.Level.read_off.Goals as goal
-
-pub loop-last-init : goal.loop-last-init
-loop-last-init g c = record {
-  listed = no_classes c.args.self.now c.args.found.now.sets;
-  trees = refl;
-  told = told_none c.args.tally.now c.args.found.now.sets c.requires.going;
-}
 
 pub returns-in_err-choices-clause-tally : goal.returns-in_err-choices-clause-tally
 returns-in_err-choices-clause-tally g c =
