@@ -18,7 +18,7 @@ use Rattle.mine_classes.specs.Classes.{ClassesAreConditional, ListsClass, RareRa
 use Rattle.mine_classes.specs.Conditional.{ConditionalSupports, conditional}
 use Rattle.mine_classes.specs.Mined.{ListsClassItems, RanksAreFrequent, ListsHaveClassSize, class_size}
 use Rattle.mine_classes.specs.ListBaskets.{HaveSameWeights}
-use Rattle.mine_vertical.specs.declared.search.Sibling.{Sibling}
+use Rattle.mine_vertical.specs.declared.joins.Sibling.{Sibling}
 use Rattle.mine_vertical.specs.Search.{IsNode, Node, found_at, is_met}
 use Rattle.mine_vertical.specs.Siblings.{AreClassSiblings}
 use Rattle.mine_vertical.specs.Joins.{class_joins}
@@ -123,7 +123,8 @@ whole_joins coding least all is weights law rank baskets same each here =
 
 -- the search of a class begins at its rank
 pub top_is : {R : Type 0} (stands : List ℕ → List ℕ → List ℕ → R → Type 0) (all : List Weighted) (least rank : ℕ) (weights : List ℕ) (siblings : List (Sibling R)) (baskets : List Weighted) (set items : List ℕ)
-    → AreClassSiblings stands all least rank weights siblings baskets → set ≡ decoded items (rank ∷ []) → rank < length items → length items < MOST_RANKS → IsNode stands weights least siblings set items (top baskets rank)
+    → AreClassSiblings stands all least rank weights siblings baskets → set ≡ decoded items (rank ∷ []) → rank < length items → length items < MOST_RANKS
+    → IsNode stands (record { weights = weights; least = least; siblings = siblings; set = set; items = items }) (top baskets rank)
 top_is stands all least rank weights siblings baskets set items are set_is known few = record {
   weighs = are.weighs;
   ranks = are.ranks;

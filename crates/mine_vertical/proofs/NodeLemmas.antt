@@ -1,9 +1,12 @@
 -- A node of a search, what is found below it so far, and the nodes that extend it.
-use Rattle.std.proofs.Common.{◌≡◌, ℕ, ◌+◌, ◌<◌, ◌≤◌, Bool, true, not, suc, List, [], ◌∷◌, ◌++◌, length, get_or, take, map, refl, sym, ap, ◌∙◌, subst, inl, inr, arith, length-append, append_assoc}
-use Rattle.std.specs.Prelude.{All}
+use Rattle.std.proofs.Common.{◌≡◌, ℕ, ◌+◌, ◌<◌, ◌≤◌, Bool, true, false, not, suc, List, [], ◌∷◌, ◌++◌, length, get_or, take, map, refl, sym, ap, ◌∙◌, subst, inl, inr, arith, length-append, append_assoc}
+use Rattle.std.specs.Prelude.{Err, OnOk, Result}
+use Rattle.basket_core.specs.declared.fault.MineFault.{MineFault}
+use Rattle.basket_core.specs.declared.fault.MineFault.TheVariants.{TooMany}
 use Rattle.std.specs.List.{filter, flat_map, sum_by}
-use Rattle.std.proofs.lemmas.List.{append-nil, get_or-map, length-take-le, map-append, take-map, take_more}
+use Rattle.std.proofs.lemmas.List.{append-nil, get_or-map, length-map, length-take-le, map-append, take-map, take_all, take_more}
 use Rattle.std.proofs.lemmas.List.Concat.{length-flat_map}
+use Rattle.std.proofs.lemmas.List.Elements.{All-take}
 use Rattle.std.proofs.lemmas.List.Filters.{length-filter_both}
 use Rattle.std.proofs.lemmas.List.Folds.{length-flat_map-take}
 use Rattle.std.proofs.lemmas.List.Sums.{sum_by-take-le, sum_by_more}
@@ -16,12 +19,9 @@ use Rattle.basket_sets.specs.Itemset.{AllBelow, with_item}
 use Rattle.basket_sets.proofs.theory.Members.{Member}
 use Rattle.basket_sets.proofs.theory.Rising.{Member-from_has, has-from_Member, has_place, contains_each}
 use Rattle.basket_sets.proofs.theory.Support.{subsets_are_frequent}
-use Rattle.mine_vertical.specs.declared.search.Sibling.{Sibling}
-use Rattle.basket_lists.specs.CountedSets.{set_at}
-use Rattle.mine_vertical.specs.Search.{IsNode, IsSibling, Node, found_at, is_met, ranks_at}
-use Rattle.mine_vertical.specs.Walk.{joins_below, kept_below, sets_below}
-use Rattle.basket_lists.proofs.theory.Places.{set_kept}
-use Rattle.mine_vertical.proofs.SearchLemmas.{ranks}
+use Rattle.mine_vertical.specs.declared.joins.Sibling.{Sibling}
+use Rattle.mine_vertical.specs.Search.{Adds, AreKept, AreSiblings, AreTooMany, EachNode, FindsAll, GoesOn, IsDone, IsNode, IsSibling, Node, Reached, Task, TellsAtMost, found_at, is_met, joins_at, ranks_at, sets_at}
+use Rattle.mine_vertical.specs.Walk.{kept_below}
 use Rattle.mine_vertical.proofs.WalkLemmas.{branch, branch_joins, joins_are_branches, kept_before, kept_few, kept_lower, kept_with, sets_are_branches}
 
 pub as_many : {R : Type 0} (siblings : List (Sibling R)) → length (map (λ (s : Sibling R). s.rank) siblings) ≡ length siblings
@@ -41,158 +41,191 @@ falls baskets least rank set other h =
     up z (inl e) = inl e
     up z (inr m) = inr (inr m)
 
-module _ {R : Type 0} (stands : List ℕ → List ℕ → List ℕ → R → Type 0) (weights : List ℕ) (least : ℕ) (siblings : List (Sibling R)) (set items : List ℕ) (node : Node)
-    (is : IsNode stands weights least siblings set items node) where
-  abbrev test : List ℕ → Bool
-  test = is_met node.baskets least
+-- a set that is added, with so many joins
+pub adds_one : (one : Counted) (joins : ℕ) (before after : Reached) → after.sets ≡ before.sets ++ one ∷ [] → after.joins ≡ before.joins + joins → after.told ≡ before.told + 1 → after.is_over ≡ false
+    → joins < 4294967296 → GoesOn before → Adds (one ∷ []) joins before after
+adds_one one joins before after sets joined told over few going = record {
+  sets = sets;
+  joined = joined;
+  told = told;
+  going = record { going = over; few = omega (arith, joined, few, going.few, ap length sets, length-append before.sets (one ∷ [])) };
+}
 
-  abbrev kept : List ℕ
+-- a search that fails
+pub fails : {R A : Type 0} (stands : List ℕ → List ℕ → List ℕ → R → Type 0) (task : Task R) (before after : Reached) (result : Result A MineFault) (fault : MineFault) → result ≡ Err fault
+    → ((limit : ℕ) → fault ≡ TooMany limit → EachNode stands task (AreTooMany task limit before after)) → EachNode stands task (TellsAtMost task before after) → after.limit ≡ before.limit
+    → IsDone stands task before after result
+fails stands task before after result fault is many most limit = record {
+  found = subst (λ r. OnOk r (EachNode stands task (FindsAll task before after))) (sym is) tt;
+  too_many = λ n e. many n (let both = sym is ∙ e in cc);
+  at_most = most;
+  limit = limit;
+}
+
+-- sets that were found one after another
+pub adds_both : {first second : List Counted} {one two : ℕ} {before mid after : Reached} → Adds first one before mid → Adds second two mid after → Adds (first ++ second) (one + two) before after
+adds_both {first} {second} {one} {two} {before} {mid} {after} p q = record {
+  sets = q.sets ∙ ap (λ l. l ++ second) p.sets ∙ append_assoc before.sets first second;
+  joined = omega (arith, p.joined, q.joined);
+  told = omega (arith, p.told, q.told, length-append first second);
+  going = q.going;
+}
+
+module _ {R : Type 0} {stands : List ℕ → List ℕ → List ℕ → R → Type 0} {task : Task R} {node : Node} (is : IsNode stands task node) where
+  abbrev test : List ℕ → Bool
+  test = is_met node.baskets task.least
+
+  abbrev pub kept : List ℕ
   kept = kept_below test node.below node.set
+
+  long : length task.siblings ≡ length kept
+  long = sym (as_many task.siblings) ∙ ap length is.ranks
+
+  -- ---- one of the siblings
+
+  pub record IsTurn (i : ℕ) (sibling : Sibling R) : Type 0 where
+    pub here : i < length task.siblings
+    pub rank : get_or kept i 0 ≡ sibling.rank
+    pub lower : sibling.rank < node.below
+    pub few : i + 1 < 4294967296
+    pub before : length (take i task.siblings) ≡ i
+    pub siblings : AreSiblings stands task.weights sibling (take i task.siblings) node.baskets node.set
+
+  pub turn_at : (i : ℕ) (sibling : Sibling R) → i < length task.siblings → sibling ≡ get_or task.siblings i sibling → IsTurn i sibling
+  turn_at i sibling here at =
+      let inside : i < length kept = subst (λ n. i < n) long here in
+      let most : i ≤ length kept = omega arith in
+      let rank = ap (λ l. get_or l i 0) (sym is.ranks) ∙ get_or-map (λ (s : Sibling R). s.rank) task.siblings i sibling 0 here ∙ ap (λ (s : Sibling R). s.rank) (sym at) in
+      let lower : sibling.rank < node.below = subst (λ n. n < node.below) rank (kept_lower test node.below node.set (get_or kept i 0) (Member-from_has kept (get_or kept i 0) (has_place kept i inside))) in
+      let one = sym (length-take-le i kept most) ∙ ap length (kept_before test node.below node.set i inside) in
+      record {
+        here = here;
+        rank = rank;
+        lower = lower;
+        few = omega (arith, one, kept_few test (get_or kept i 0) node.set, rank, lower, is.within, is.few);
+        before = length-take-le i task.siblings (omega arith);
+        siblings = record {
+          weighs = is.weighs;
+          first = subst (IsSibling stands node.baskets node.set) (sym at) (is.rows i sibling here);
+          rows = All-take (IsSibling stands node.baskets node.set) i task.siblings is.rows;
+        };
+      }
+
+  -- ---- what is found by the first siblings
 
   abbrev pub found_by : List ℕ → List (List ℕ)
   found_by ranks = flat_map (branch test node.set) ranks
 
-  pub long : length siblings ≡ length kept
-  long = sym (as_many siblings) ∙ ap length is.ranks
+  abbrev pub FindsPart : ℕ → Reached → Reached → Type 0
+  FindsPart i before now = Adds (map (found_at task.items node) (found_by (take i kept))) (sum_by (branch_joins test node.set) (take i kept)) before now
 
-  pub rank_at : (i : ℕ) (other : Sibling R) → i < length siblings → other ≡ get_or siblings i other → get_or kept i 0 ≡ other.rank
-  rank_at i other here at = ap (λ l. get_or l i 0) (sym is.ranks) ∙ get_or-map (λ (s : Sibling R). s.rank) siblings i other 0 here ∙ ap (λ (s : Sibling R). s.rank) (sym at)
+  pub nothing_yet : (before : Reached) → GoesOn before → FindsPart 0 before before
+  nothing_yet before going = record { sets = sym (append-nil before.sets); joined = omega arith; told = omega arith; going = going }
 
-  rank_below : (i : ℕ) (rank : ℕ) → i < length siblings → get_or kept i 0 ≡ rank → rank < node.below
-  rank_below i rank here at = subst (λ n. n < node.below) at
-      (kept_lower test node.below node.set (get_or kept i 0) (Member-from_has kept (get_or kept i 0) (has_place kept i (subst (λ n. i < n) long here))))
+  -- at last it is all
+  pub part_is_all : (i : ℕ) (before now : Reached) → length task.siblings ≤ i → FindsPart i before now → FindsAll task before now node
+  part_is_all i before now last part =
+      let all = take_all i kept (omega (arith, long)) in
+      let sets = ap found_by all ∙ sym (sets_are_branches test node.below node.set) in
+      let joins = ap (sum_by (branch_joins test node.set)) all ∙ sym (joins_are_branches test node.below node.set) in
+      record {
+        sets = part.sets ∙ ap (λ l. before.sets ++ map (found_at task.items node) l) sets;
+        joined = part.joined ∙ ap (λ n. before.joins + n) joins;
+        told = part.told ∙ ap (λ l. before.told + length (map (found_at task.items node) l)) sets;
+        going = part.going;
+      }
 
-  -- ---- a node that extends this one
-
-  pub child_set : (rank : ℕ) → with_item (get_or items rank 0) set ≡ decoded items (rank ∷ ranks_at node node.set)
-  child_set rank = ap (with_item (get_or items rank 0)) is.of_set
-
-  pub child_known : (rank : ℕ) (i : ℕ) → i < length siblings → get_or kept i 0 ≡ rank → AllBelow (length items) (rank ∷ ranks_at node node.set)
-  child_known rank i here at item h = below (Member-from_has (rank ∷ ranks_at node node.set) item h)
-    where
-      below : Member item (rank ∷ ranks_at node node.set) → item < length items
-      below (inl e) = let lower = rank_below i rank here at in let within = is.within in omega arith
-      below (inr m) = is.known item (has-from_Member (ranks_at node node.set) item m)
-
-  -- the siblings that are kept with one of them
-  pub child_is : (i rank : ℕ) (others below : List (Sibling R)) → i < length siblings → get_or kept i 0 ≡ rank → others ≡ take i siblings
-      → ranks stands below ≡ filter (λ other. test (other ∷ rank ∷ node.set)) (ranks stands others) → All (IsSibling stands node.baskets (rank ∷ node.set)) below
-      → IsNode stands weights least below (with_item (get_or items rank 0) set) items (child node rank)
-  child_is i rank others below here at are kept_are rows = record {
-    weighs = is.weighs;
-    ranks = kept_are
-        ∙ ap (filter (λ other. test (other ∷ rank ∷ node.set)))
-        (ap (ranks stands) are ∙ sym (take-map (λ (s : Sibling R). s.rank) i siblings) ∙ ap (take i) is.ranks
-        ∙ kept_before test node.below node.set i (subst (λ n. i < n) long here) ∙ ap (λ n. kept_below test n node.set) at)
-        ∙ sym (kept_with test rank node.set (falls node.baskets least rank node.set) rank);
-    rows = rows;
-    of_set = child_set rank;
-    few = is.few;
-    known = child_known rank i here at;
-    low = λ item h. lowest item (Member-from_has (rank ∷ ranks_at node node.set) item h);
-    within = (let lower = rank_below i rank here at in let within = is.within in omega arith);
-  }
-    where
-      lowest : (item : ℕ) → Member item (rank ∷ ranks_at node node.set) → rank ≤ item
-      lowest item (inl e) = omega arith
-      lowest item (inr m) = let lower = rank_below i rank here at in let low = is.low item (has-from_Member (ranks_at node node.set) item m) in omega arith
-
-  -- there are fewer of them
-  pub fewer : (i rank : ℕ) (others below : List (Sibling R)) → i < length siblings → others ≡ take i siblings
-      → ranks stands below ≡ filter (λ other. test (other ∷ rank ∷ node.set)) (ranks stands others) → length below < length siblings
-  fewer i rank others below here are kept_are =
-      let one = sym (as_many below) ∙ ap length kept_are in
-      let two = length-filter_both (λ other. test (other ∷ rank ∷ node.set)) (λ other. not (test (other ∷ rank ∷ node.set))) (λ other. refl) (ranks stands others) in
-      let three = as_many others in
-      let most : i ≤ length siblings = omega arith in
-      let four = ap length are ∙ length-take-le i siblings most in omega arith
-
-  -- there are no more of them before one than ranks
-  pub place_few : (i : ℕ) → i < length siblings → i + 1 < 4294967296
-  place_few i here =
-      let inside : i < length kept = subst (λ n. i < n) long here in
-      let most : i ≤ length kept = omega arith in
-      let one = sym (length-take-le i kept most) ∙ ap length (kept_before test node.below node.set i inside) in
-      let two = kept_few test (get_or kept i 0) node.set in
-      let lower = rank_below i (get_or kept i 0) here refl in
-      let within = is.within in
-      let few = is.few in omega arith
-
-  -- ---- what is found so far
-
-  pub part_within : (i : ℕ) → length (found_by (take i kept)) ≤ length (sets_below test node.below node.set)
-  part_within i =
+  pub part_at_most : (i : ℕ) (before now : Reached) → FindsPart i before now → TellsAtMost task before now node
+  part_at_most i before now part =
       let whole = ap length (sets_are_branches test node.below node.set) ∙ length-flat_map (branch test node.set) kept in
-      let part = length-flat_map (branch test node.set) (take i kept) in
-      let less = sum_by-take-le (λ rank. length (branch test node.set rank)) kept i in omega arith
+      let some = length-flat_map (branch test node.set) (take i kept) in
+      let less = sum_by-take-le (λ rank. length (branch test node.set rank)) kept i in
+      omega (arith, whole, some, less, part.told, length-map (found_by (take i kept)) (found_at task.items node))
 
-  pub part_more : (i rank : ℕ) → i < length siblings → get_or kept i 0 ≡ rank
-      → length (found_by (take i kept)) + (1 + length (sets_below test rank (rank ∷ node.set))) ≤ length (sets_below test node.below node.set)
-  part_more i rank here at =
-      let whole = ap length (sets_are_branches test node.below node.set) in
-      let more = length-flat_map-take (branch test node.set) kept i 0 (subst (λ n. i < n) long here) in
-      let one = ap (λ r. length (branch test node.set r)) at in omega arith
+  module _ {i : ℕ} {sibling : Sibling R} (turn : IsTurn i sibling) where
+    inside : i < length kept
+    inside = subst (λ n. i < n) long turn.here
 
-  pub found_more : (i rank : ℕ) → i < length siblings → get_or kept i 0 ≡ rank → found_by (take (i + 1) kept) ≡ found_by (take i kept) ++ branch test node.set rank
-  found_more i rank here at =
-      ap found_by (take_more kept i 0 (subst (λ n. i < n) long here)) ∙ flat_map-append (branch test node.set) (take i kept) (get_or kept i 0 ∷ [])
-      ∙ ap (λ l. found_by (take i kept) ++ l) (ap (λ r. flat_map (branch test node.set) (r ∷ [])) at ∙ append-nil (branch test node.set rank))
+    -- what the sibling adds is not beyond what is below the node
+    pub turn_within : (before now : Reached) → FindsPart i before now
+        → (now.told + (1 + length (sets_at task.least (child node sibling.rank))) ≤ before.told + length (sets_at task.least node))
+        × (length now.sets + (1 + length (sets_at task.least (child node sibling.rank))) ≤ length before.sets + length (sets_at task.least node))
+    turn_within before now part =
+        let whole = ap length (sets_are_branches test node.below node.set) in
+        let more = length-flat_map-take (branch test node.set) kept i 0 inside in
+        let one = ap (λ r. length (branch test node.set r)) turn.rank in
+        let long = length-map (found_by (take i kept)) (found_at task.items node) in
+        let sets = ap length part.sets ∙ length-append before.sets (map (found_at task.items node) (found_by (take i kept))) in
+        (omega (arith, whole, more, one, long, part.told), omega (arith, whole, more, one, long, sets))
 
-  pub joins_more : (i rank : ℕ) → i < length siblings → get_or kept i 0 ≡ rank
-      → sum_by (branch_joins test node.set) (take (i + 1) kept) ≡ sum_by (branch_joins test node.set) (take i kept) + (i + joins_below test rank (rank ∷ node.set))
-  joins_more i rank here at =
-      let inside : i < length kept = subst (λ n. i < n) long here in
-      let most : i ≤ length kept = omega arith in
-      let more = sum_by_more (branch_joins test node.set) kept i 0 inside in
-      let before = sym (length-take-le i kept most) ∙ ap length (kept_before test node.below node.set i inside) in
-      let one = ap (branch_joins test node.set) at in
-      let two = ap (λ r. length (kept_below test r node.set)) at in omega arith
+    -- the part with the sibling's set and those below it
+    pub turn_adds : (one : Counted) (before now with_one after : Reached) → one ≡ found_at task.items node (sibling.rank ∷ node.set) → FindsPart i before now → Adds (one ∷ []) i now with_one
+        → Adds (map (found_at task.items node) (sets_at task.least (child node sibling.rank))) (joins_at task.least (child node sibling.rank)) with_one after → FindsPart (i + 1) before after
+    turn_adds one before now with_one after is_one part adds below =
+        let rank = sibling.rank in
+        let found = found_at task.items node in
+        let sum = adds_both part (adds_both adds below) in
+        let all = ap found_by (take_more kept i 0 inside) ∙ flat_map-append (branch test node.set) (take i kept) (get_or kept i 0 ∷ [])
+        ∙ ap (λ l. found_by (take i kept) ++ l) (ap (λ r. flat_map (branch test node.set) (r ∷ [])) turn.rank ∙ append-nil (branch test node.set rank)) in
+        let sets : map found (found_by (take i kept)) ++ (one ∷ map found (sets_at task.least (child node rank))) ≡ map found (found_by (take (i + 1) kept)) =
+        ap (λ x. map found (found_by (take i kept)) ++ (x ∷ map found (sets_at task.least (child node rank)))) is_one
+        ∙ sym (ap (map found) all ∙ map-append found (found_by (take i kept)) (branch test node.set rank)) in
+        let most : i ≤ length kept = omega (arith, inside) in
+        let before_it = sym (length-take-le i kept most) ∙ ap length (kept_before test node.below node.set i inside) in
+        let more = sum_by_more (branch_joins test node.set) kept i 0 inside in
+        record {
+          sets = sum.sets ∙ ap (λ l. before.sets ++ l) sets;
+          joined = omega (arith, sum.joined, more, before_it, ap (branch_joins test node.set) turn.rank, ap (λ r. length (kept_below test r node.set)) turn.rank);
+          told = sum.told ∙ ap (λ l. before.told + length l) sets;
+          going = sum.going;
+        }
 
-  -- what the tally was told is what is found
-  pub told_is : (told told_before i : ℕ) (sets before : List Counted) → told + length before ≡ told_before + length sets
-      → sets ≡ before ++ map (found_at items node) (found_by (take i kept)) → told ≡ told_before + length (found_by (take i kept))
-  told_is told told_before i sets before counts sets_are =
-      let one = ap length sets_are ∙ length-append before (map (found_at items node) (found_by (take i kept))) in
-      let two = length_found (found_by (take i kept)) in omega arith
-    where
-      length_found : (found : List (List ℕ)) → length (map (found_at items node) found) ≡ length found
-      length_found [] = refl
-      length_found (x ∷ found) = ap suc (length_found found)
+    -- ---- the node that extends this one
 
-  pub sets_long : (i : ℕ) (sets before : List Counted) → sets ≡ before ++ map (found_at items node) (found_by (take i kept))
-      → length sets ≡ length before + length (found_by (take i kept))
-  sets_long i sets before sets_are = told_is (length sets) (length before) i sets before (omega arith) sets_are
+    child_known : AllBelow (length task.items) (sibling.rank ∷ ranks_at node node.set)
+    child_known item h = below (Member-from_has (sibling.rank ∷ ranks_at node node.set) item h)
+      where
+        below : Member item (sibling.rank ∷ ranks_at node node.set) → item < length task.items
+        below (inl e) = omega (arith, turn.lower, is.within)
+        below (inr m) = is.known item (has-from_Member (ranks_at node node.set) item m)
 
-  -- the set that is made with one more item
-  pub longer_set : (i rank item place : ℕ) (before sets : List Counted) → place < length before → set ≡ set_at before place
-      → sets ≡ before ++ map (found_at items node) (found_by (take i kept)) → item ≡ get_or items rank 0 → with_item item (set_at sets place) ≡ with_item (get_or items rank 0) set
-  longer_set i rank item place before sets here is_set sets_are is_item =
-      ap (with_item item) (set_kept before (map (found_at items node) (found_by (take i kept))) sets place here sets_are ∙ sym is_set) ∙ ap (λ x. with_item x set) is_item
+    pub rank_known : sibling.rank < length task.items
+    rank_known = omega (arith, turn.lower, is.within)
 
-  -- what one more sibling adds
-  pub sets_more : (i rank : ℕ) (before sets with_one new : List Counted) (one : Counted) → i < length siblings → get_or kept i 0 ≡ rank
-      → sets ≡ before ++ map (found_at items node) (found_by (take i kept)) → with_one ≡ sets ++ one ∷ [] → one ≡ found_at items node (rank ∷ node.set)
-      → new ≡ with_one ++ map (found_at items node) (sets_below test rank (rank ∷ node.set)) → new ≡ before ++ map (found_at items node) (found_by (take (i + 1) kept))
-  sets_more i rank before sets with_one new one here at sets_are adds is_one is_new =
-      let so_far = map (found_at items node) (found_by (take i kept)) in
-      let more = map (found_at items node) (sets_below test rank (rank ∷ node.set)) in
-      is_new ∙ ap (λ l. l ++ more) (adds ∙ ap (λ x. sets ++ x ∷ []) is_one ∙ ap (λ l. l ++ found_at items node (rank ∷ node.set) ∷ []) sets_are)
-      ∙ append_assoc (before ++ so_far) (found_at items node (rank ∷ node.set) ∷ []) more ∙ append_assoc before so_far (found_at items node (rank ∷ node.set) ∷ more)
-      ∙ sym (ap (λ l. before ++ map (found_at items node) l) (found_more i rank here at)
-      ∙ ap (λ l. before ++ l) (map-append (found_at items node) (found_by (take i kept)) (branch test node.set rank)))
+    pub set_is : (one : List ℕ) → one ≡ with_item (get_or task.items sibling.rank 0) task.set → one ≡ decoded task.items (sibling.rank ∷ ranks_at node node.set)
+    set_is one e = e ∙ ap (with_item (get_or task.items sibling.rank 0)) is.of_set
+
+    pub child_is : (set : List ℕ) (below : List (Sibling R)) → set ≡ with_item (get_or task.items sibling.rank 0) task.set
+        → AreKept stands task.least sibling (take i task.siblings) below node.baskets node.set
+        → IsNode stands (record { weights = task.weights; least = task.least; siblings = below; set = set; items = task.items }) (child node sibling.rank)
+    child_is set below is_set are =
+        let rank = sibling.rank in
+        record {
+          weighs = is.weighs;
+          ranks = are.ranks
+              ∙ ap (filter (λ other. test (other ∷ rank ∷ node.set)))
+              (sym (take-map (λ (s : Sibling R). s.rank) i task.siblings) ∙ ap (take i) is.ranks
+              ∙ kept_before test node.below node.set i inside ∙ ap (λ n. kept_below test n node.set) turn.rank)
+              ∙ sym (kept_with test rank node.set (falls node.baskets task.least rank node.set) rank);
+          rows = are.rows;
+          of_set = set_is set is_set;
+          few = is.few;
+          known = child_known;
+          low = λ item h. lowest item (Member-from_has (rank ∷ ranks_at node node.set) item h);
+          within = rank_known;
+        }
+      where
+        lowest : (item : ℕ) → Member item (sibling.rank ∷ ranks_at node node.set) → sibling.rank ≤ item
+        lowest item (inl e) = omega arith
+        lowest item (inr m) = omega (arith, turn.lower, is.low item (has-from_Member (ranks_at node node.set) item m))
+
+    -- there are fewer siblings
+    pub fewer : (below : List (Sibling R)) → AreKept stands task.least sibling (take i task.siblings) below node.baskets node.set → length below < length task.siblings
+    fewer below are =
+        let one = sym (as_many below) ∙ ap length are.ranks in
+        let two = length-filter_both (λ other. test (other ∷ sibling.rank ∷ node.set)) (λ other. not (test (other ∷ sibling.rank ∷ node.set))) (λ other. refl) (map (λ (s : Sibling R). s.rank) (take i task.siblings)) in
+        omega (arith, one, two, as_many (take i task.siblings), turn.before, turn.here)
 
 -- nothing is found below a node without siblings
-module _ {R : Type 0} (stands : List ℕ → List ℕ → List ℕ → R → Type 0) (weights : List ℕ) (least : ℕ) (siblings : List (Sibling R)) (set items : List ℕ) (node : Node)
-    (is : IsNode stands weights least siblings set items node) (none : length siblings ≡ 0) where
-  none_kept : kept_below (is_met node.baskets least) node.below node.set ≡ []
-  none_kept = empty (kept_below (is_met node.baskets least) node.below node.set) (sym (long stands weights least siblings set items node is) ∙ none)
-    where
-      empty : (ranks : List ℕ) → length ranks ≡ 0 → ranks ≡ []
-      empty [] e = refl
-      empty (x ∷ ranks) e = absurd (omega arith)
-
-  pub no_sets : sets_below (is_met node.baskets least) node.below node.set ≡ []
-  no_sets = sets_are_branches (is_met node.baskets least) node.below node.set ∙ ap (flat_map (branch (is_met node.baskets least) node.set)) none_kept
-
-  pub no_joins : joins_below (is_met node.baskets least) node.below node.set ≡ 0
-  no_joins = joins_are_branches (is_met node.baskets least) node.below node.set ∙ ap (sum_by (branch_joins (is_met node.baskets least) node.set)) none_kept
+pub finds_none : {R : Type 0} {stands : List ℕ → List ℕ → List ℕ → R → Type 0} {task : Task R} {node : Node} → IsNode stands task node → length task.siblings ≡ 0 → (now : Reached) → GoesOn now → FindsAll task now now node
+finds_none is none now going = part_is_all is 0 now now (omega (arith, none)) (nothing_yet is now going)

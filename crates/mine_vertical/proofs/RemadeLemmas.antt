@@ -13,14 +13,13 @@ use Rattle.basket_sets.specs.Support.{support_of}
 use Rattle.basket_sets.proofs.theory.Members.{Member, Member-append_left, Member-append_right}
 use Rattle.basket_sets.proofs.theory.Rising.{has-from_Member, nil_rises, contains_each}
 use Rattle.basket_sets.proofs.theory.Support.{subsets_are_frequent}
-use Rattle.mine_vertical.specs.declared.search.Sibling.{Sibling}
+use Rattle.mine_vertical.specs.declared.joins.Sibling.{Sibling}
 use Rattle.mine_vertical.specs.Cover.{weights_of}
 use Rattle.mine_vertical.specs.Remade.{AreOver, GiveSupports}
-use Rattle.mine_vertical.specs.Search.{IsNode, IsSibling, Node, found_at, is_met, joins_at, sets_at}
+use Rattle.mine_vertical.specs.Search.{IsNode, IsSibling, Node, Task, found_at, is_met, joins_at, sets_at}
 use Rattle.mine_vertical.specs.Walk.{joins_below, kept_below, sets_below}
 use Rattle.mine_vertical.proofs.CoverLemmas.{filter_rises, range_more, range_rises}
 use Rattle.mine_vertical.proofs.FoundLemmas.{from_sets}
-use Rattle.mine_vertical.proofs.SearchLemmas.{ranks}
 
 abbrev AreBelow : ℕ → List ℕ → Type 0
 AreBelow limit more = (rank : ℕ) → Member rank more → rank < limit
@@ -96,38 +95,41 @@ each_all p (y ∷ ys) h = and_from (p y) (list_all p ys) (h y (inl refl)) (each_
 abbrev pub over : List Weighted → Node → Node
 over others node = record { baskets = others; shared = node.set ++ node.shared; set = []; below = node.below }
 
-module _ {R : Type 0} (stands : List ℕ → List ℕ → List ℕ → R → Type 0) (weights : List ℕ) (least : ℕ) (siblings : List (Sibling R)) (set items : List ℕ) (node : Node)
-    (is : IsNode stands weights least siblings set items node) (others : List Weighted) (gives : GiveSupports node.baskets node.set (ranks stands siblings) others) where
+module _ {R : Type 0} {stands : List ℕ → List ℕ → List ℕ → R → Type 0} {task : Task R} {node : Node} (is : IsNode stands task node)
+    (others : List Weighted) (gives : GiveSupports node.baskets node.set (map (λ sibling. sibling.rank) task.siblings) others) where
   abbrev test : List ℕ → Bool
-  test = is_met node.baskets least
+  test = is_met node.baskets task.least
 
   abbrev other_test : List ℕ → Bool
-  other_test = is_met others least
+  other_test = is_met others task.least
+
+  abbrev ranks : List ℕ
+  ranks = map (λ sibling. sibling.rank) task.siblings
 
   nonempty : (rank : ℕ) (more : List ℕ) → rank ∷ more ≢ []
   nonempty rank more e = (let none = ap length e in absurd (omega arith))
 
-  rare : (baskets : List Weighted) (more : List ℕ) → support_of baskets more ≡ 0 → is_met baskets least more ≡ false
-  rare baskets more none = ap (λ n. leb 1 n && leb least n) none
+  rare : (baskets : List Weighted) (more : List ℕ) → support_of baskets more ≡ 0 → is_met baskets task.least more ≡ false
+  rare baskets more none = ap (λ n. leb 1 n && leb task.least n) none
 
   -- a set is frequent there where it is frequent with the ranks of the node's set
   agree : (rank : ℕ) (more : List ℕ) → AreBelow node.below (rank ∷ more) → test (rank ∷ more ++ node.set) ≡ other_test (rank ∷ more)
-  agree rank more lower = at (list_all (has (ranks stands siblings)) (rank ∷ more)) refl
+  agree rank more lower = at (list_all (has ranks) (rank ∷ more)) refl
     where
       whole : List ℕ
       whole = rank ∷ more
 
-      kept : test (rank ∷ more ++ node.set) ≡ true → list_all (has (ranks stands siblings)) (rank ∷ more) ≡ true
-      kept h = each_all (has (ranks stands siblings)) (rank ∷ more) (λ x m. has-from_Member (ranks stands siblings) x
+      kept : test (rank ∷ more ++ node.set) ≡ true → list_all (has ranks) (rank ∷ more) ≡ true
+      kept h = each_all (has ranks) (rank ∷ more) (λ x m. has-from_Member ranks x
           (subst (Member x) (sym is.ranks) (into_kept test node.below node.set x (lower x m)
-          (subsets_are_frequent node.baskets (Count least) (rank ∷ more ++ node.set) (x ∷ node.set) (contains_each (rank ∷ more ++ node.set) (x ∷ node.set) (λ z n. part x m z n)) h))))
+          (subsets_are_frequent node.baskets (Count task.least) (rank ∷ more ++ node.set) (x ∷ node.set) (contains_each (rank ∷ more ++ node.set) (x ∷ node.set) (λ z n. part x m z n)) h))))
         where
           part : (x : ℕ) → Member x (rank ∷ more) → (z : ℕ) → Member z (x ∷ node.set) → Member z ((rank ∷ more) ++ node.set)
           part x m z (inl e) = subst (λ y. Member y ((rank ∷ more) ++ node.set)) e (Member-append_left x (rank ∷ more) node.set m)
           part x m z (inr n) = Member-append_right z (rank ∷ more) node.set n
 
-      at : (b : Bool) → list_all (has (ranks stands siblings)) (rank ∷ more) ≡ b → test (rank ∷ more ++ node.set) ≡ other_test (rank ∷ more)
-      at true e = ap (λ n. leb 1 n && leb least n) (sym (gives (rank ∷ more) (nonempty rank more) ∙ ap (λ b. cond b (support_of node.baskets (rank ∷ more ++ node.set)) 0) e))
+      at : (b : Bool) → list_all (has ranks) (rank ∷ more) ≡ b → test (rank ∷ more ++ node.set) ≡ other_test (rank ∷ more)
+      at true e = ap (λ n. leb 1 n && leb task.least n) (sym (gives (rank ∷ more) (nonempty rank more) ∙ ap (λ b. cond b (support_of node.baskets (rank ∷ more ++ node.set)) 0) e))
       at false e =
           low (test (rank ∷ more ++ node.set)) refl
           ∙ sym (rare others (rank ∷ more) (gives (rank ∷ more) (nonempty rank more) ∙ ap (λ b. cond b (support_of node.baskets (rank ∷ more ++ node.set)) 0) e))
@@ -140,9 +142,9 @@ module _ {R : Type 0} (stands : List ℕ → List ℕ → List ℕ → R → Typ
   nothing_lower rank m = absurd m
 
   -- the siblings over the other baskets are those of a node
-  pub over_is : (other_weights : List ℕ) (others_siblings : List (Sibling R)) → AreOver stands (ranks stands siblings) other_weights others_siblings others
-      → IsNode stands other_weights least others_siblings set items (over others node)
-  over_is other_weights others_siblings are = record {
+  over_is : (weights : List ℕ) (siblings : List (Sibling R)) → AreOver stands ranks weights siblings others
+      → IsNode stands (record { weights = weights; least = task.least; siblings = siblings; set = task.set; items = task.items }) (over others node)
+  over_is weights siblings are = record {
     weighs = are.weighs;
     ranks = are.ranks_are ∙ is.ranks ∙ same_kept test other_test node.set node.below agree node.below (omega arith) [] nothing_lower;
     rows = are.rows;
@@ -153,7 +155,7 @@ module _ {R : Type 0} (stands : List ℕ → List ℕ → List ℕ → R → Typ
     within = is.within;
   }
 
-  pub over_joins : joins_below other_test node.below [] ≡ joins_below test node.below node.set
+  over_joins : joins_below other_test node.below [] ≡ joins_below test node.below node.set
   over_joins = sym (same_joins test other_test node.set node.below agree node.below (omega arith) [] nothing_lower)
 
   -- what is found there is what is found
@@ -162,26 +164,26 @@ module _ {R : Type 0} (stands : List ℕ → List ℕ → List ℕ → R → Typ
       let found = from_sets other_test node.below [] more nil_rises (λ y n. absurd n) m in
       let long = found.longer in
       let some : more ≢ [] = (λ e. let none = ap length e in absurd (omega arith)) in
-      elim (cases_Bool (list_all (has (ranks stands siblings)) more)) [
+      elim (cases_Bool (list_all (has ranks) more)) [
         | inl e ↦ gives more some ∙ ap (λ b. cond b (support_of node.baskets (more ++ node.set)) 0) e
         | inr e ↦ absurd (true≢false (sym found.passes ∙ rare others more (gives more some ∙ ap (λ b. cond b (support_of node.baskets (more ++ node.set)) 0) e)))
       ]
 
-  pub over_sets : map (found_at items (over others node)) (sets_below other_test node.below []) ≡ map (found_at items node) (sets_below test node.below node.set)
+  over_sets : map (found_at task.items (over others node)) (sets_below other_test node.below []) ≡ map (found_at task.items node) (sets_below test node.below node.set)
   over_sets =
       each (sets_below other_test node.below []) (λ more m. counts more m)
-      ∙ ap (map (found_at items node)) (sym (same_sets test other_test node.set node.below agree node.below (omega arith) [] nothing_lower))
+      ∙ ap (map (found_at task.items node)) (sym (same_sets test other_test node.set node.below agree node.below (omega arith) [] nothing_lower))
     where
       each : (found : List (List ℕ)) → ((more : List ℕ) → Member more found → support_of others more ≡ support_of node.baskets (more ++ node.set))
-          → map (found_at items (over others node)) found ≡ map (found_at items node) (map (λ more. more ++ node.set) found)
+          → map (found_at task.items (over others node)) found ≡ map (found_at task.items node) (map (λ more. more ++ node.set) found)
       each [] same = refl
       each (more ∷ found) same =
-          let one : found_at items (over others node) more ≡ found_at items node (more ++ node.set) =
-          ap (λ (l : List ℕ). record { set = decoded items l; count = support_of others more }) (sym (append_assoc more node.set node.shared))
-          ∙ ap (λ (n : ℕ). record { set = decoded items ((more ++ node.set) ++ node.shared); count = n }) (same more (inl refl)) in
-          ap (λ c. c ∷ map (found_at items (over others node)) found) one ∙ ap (λ l. found_at items node (more ++ node.set) ∷ l) (each found (λ x m. same x (inr m)))
+          let one : found_at task.items (over others node) more ≡ found_at task.items node (more ++ node.set) =
+          ap (λ (l : List ℕ). record { set = decoded task.items l; count = support_of others more }) (sym (append_assoc more node.set node.shared))
+          ∙ ap (λ (n : ℕ). record { set = decoded task.items ((more ++ node.set) ++ node.shared); count = n }) (same more (inl refl)) in
+          ap (λ c. c ∷ map (found_at task.items (over others node)) found) one ∙ ap (λ l. found_at task.items node (more ++ node.set) ∷ l) (each found (λ x m. same x (inr m)))
 
-  pub over_long : length (sets_below other_test node.below []) ≡ length (sets_below test node.below node.set)
+  over_long : length (sets_below other_test node.below []) ≡ length (sets_below test node.below node.set)
   over_long =
       sym (as_many (sets_below other_test node.below [])) ∙ ap length (sym (same_sets test other_test node.set node.below agree node.below (omega arith) [] nothing_lower))
     where
@@ -189,22 +191,17 @@ module _ {R : Type 0} (stands : List ℕ → List ℕ → List ℕ → R → Typ
       as_many [] = refl
       as_many (more ∷ found) = ap suc (as_many found)
 
--- a node over a database that was made anew, and that what is found there is what is found below the node that it stands for
-pub record GoesOn {R : Type 0} (stands : List ℕ → List ℕ → List ℕ → R → Type 0) (least : ℕ) (set items : List ℕ) (node : Node) (weights : List ℕ) (siblings : List (Sibling R)) (others : List Weighted) : Type 0 where
-  pub inner : IsNode stands weights least siblings set items (over others node)
-  pub sets : map (found_at items (over others node)) (sets_at least (over others node)) ≡ map (found_at items node) (sets_at least node)
-  pub joins : joins_at least (over others node) ≡ joins_at least node
-  pub long : length (sets_at least (over others node)) ≡ length (sets_at least node)
+-- a search over a database that was made anew finds what is below the node that it stands for
+pub record StandsFor {R : Type 0} (stands : List ℕ → List ℕ → List ℕ → R → Type 0) (task inner : Task R) (node other : Node) : Type 0 where
+  pub is : IsNode stands inner other
+  pub sets : map (found_at inner.items other) (sets_at inner.least other) ≡ map (found_at task.items node) (sets_at task.least node)
+  pub joins : joins_at inner.least other ≡ joins_at task.least node
+  pub long : length (sets_at inner.least other) ≡ length (sets_at task.least node)
 
-pub goes_on : {R : Type 0} (stands : List ℕ → List ℕ → List ℕ → R → Type 0) (weights : List ℕ) (least : ℕ) (siblings : List (Sibling R)) (set items : List ℕ) (node : Node)
-    → IsNode stands weights least siblings set items node → (other_weights : List ℕ) (made now : List (Sibling R)) (others : List Weighted) → now ≡ made → AreOver stands (ranks stands siblings) other_weights made others
-    → ((baskets : List Weighted) (taken : List ℕ) → weights ≡ weights_of baskets → All (IsSibling stands baskets taken) siblings → GiveSupports baskets taken (ranks stands siblings) others)
-    → GoesOn stands least set items node other_weights now others
-goes_on stands weights least siblings set items node is other_weights made now others same are gives =
+pub stands_for : {R : Type 0} {stands : List ℕ → List ℕ → List ℕ → R → Type 0} {task : Task R} {node : Node} → IsNode stands task node
+    → (weights : List ℕ) (siblings : List (Sibling R)) (others : List Weighted) → AreOver stands (map (λ sibling. sibling.rank) task.siblings) weights siblings others
+    → ((baskets : List Weighted) (taken : List ℕ) → task.weights ≡ weights_of baskets → All (IsSibling stands baskets taken) task.siblings → GiveSupports baskets taken (map (λ sibling. sibling.rank) task.siblings) others)
+    → StandsFor stands task (record { weights = weights; least = task.least; siblings = siblings; set = task.set; items = task.items }) node (over others node)
+stands_for {node = node} is weights siblings others are gives =
     let supports = gives node.baskets node.set is.weighs is.rows in
-    record {
-      inner = subst (λ l. IsNode stands other_weights least l set items (over others node)) (sym same) (over_is stands weights least siblings set items node is others supports other_weights made are);
-      sets = over_sets stands weights least siblings set items node is others supports;
-      joins = over_joins stands weights least siblings set items node is others supports;
-      long = over_long stands weights least siblings set items node is others supports;
-    }
+    record { is = over_is is others supports weights siblings are; sets = over_sets is others supports; joins = over_joins is others supports; long = over_long is others supports }

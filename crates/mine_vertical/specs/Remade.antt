@@ -7,7 +7,7 @@ use Rattle.basket_sets.specs.Itemset.{has}
 use Rattle.basket_sets.specs.Support.{support_of}
 use Rattle.mine_classes.specs.ListBaskets.{weight_where}
 use Rattle.mine_classes.specs.Words.{has_rank, ranks_in}
-use Rattle.mine_vertical.specs.declared.search.Sibling.{Sibling}
+use Rattle.mine_vertical.specs.declared.joins.Sibling.{Sibling}
 use Rattle.mine_vertical.specs.Cover.{cover_of, weights_of}
 use Rattle.mine_vertical.specs.Search.{IsSibling}
 

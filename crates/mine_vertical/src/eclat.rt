@@ -7,7 +7,7 @@ ghost use Rattle.mine_classes.specs.Mined.{ListsClassItems, RanksAreFrequent, cl
 use crate::mined::Mined;
 use crate::room::Room;
 use crate::row::Row;
-use crate::search::Search;
+use crate::search::{Progress, Search};
 use crate::siblings::{class_siblings, support_of_rank};
 use crate::vertical::Vertical;
 use basket_core::{CountedSets, Itemset, MineFault, Tally};
@@ -76,19 +76,21 @@ pub fn eclat_class_with<R: Row, T: Tally>(
     let runs = vertical.runs();
     let support = support_of_rank(runs, rank);
     if support < least {
-        return Ok((mined.sets, mined.joins));
+        return Ok((mined.sets, 0));
     }
     let set = Itemset::from_items(alloc, &[coded.item(rank)])?;
     mined.add(set, support, tally)?;
-    let (weights, siblings) = class_siblings::<R>(alloc, runs, tables, rank, least)?;
-    // Each rank below is joined with the class's.
-    mined.joins = u64::from(rank);
+    let joins = &mut mined.joins;
+    let (weights, siblings) = class_siblings::<R>(alloc, runs, tables, joins, rank, least)?;
     let search = Search {
+        alloc,
         coded,
         weights: &weights,
         least,
     };
-    let mut room = Room::new(alloc, &weights)?;
-    search.extend(alloc, &siblings, 0, &mut mined, tally, &mut room)?;
-    Ok((mined.sets, mined.joins))
+    let room = Room::new(alloc, &weights)?;
+    let mut progress = Progress { mined, room };
+    search.extend(&siblings, 0, &mut progress, tally)?;
+    let joins = progress.mined.joins.number();
+    Ok((progress.mined.sets, joins))
 }

@@ -11,6 +11,7 @@ mod bits;
 mod cover;
 mod diffs;
 mod eclat;
+mod joins;
 pub mod laws;
 mod marks;
 mod mined;

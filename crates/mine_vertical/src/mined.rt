@@ -4,6 +4,7 @@ ghost use Rattle.basket_core.specs.declared.fault.MineFault.TheVariants.{TooMany
 ghost use Rattle.basket_sets.specs.Itemset.{with_item};
 ghost use Rattle.basket_lists.specs.CountedSets.{set_at};
 
+use crate::joins::Joins;
 use basket_core::{CountedSets, Itemset, MineFault, Tally};
 use std::alloc::{AllocError, Global};
 
@@ -11,18 +12,18 @@ use std::alloc::{AllocError, Global};
 #[derive(Debug, Drop)]
 pub struct Mined {
     pub sets: CountedSets,
-    pub joins: u64,
+    pub joins: Joins,
 }
 
 impl Mined {
     /// Nothing yet, where sets of the items are to come, with counts up to the greatest.
     pub fn new(alloc: Global, items: &[u32], most: u64) -> Result<Self, AllocError>
         ensures sets { IfOk result (λ mined. mined.sets ≡ []) }
-        ensures joins { IfOk result (λ mined. mined.joins ≡ 0) }
+        ensures joins { IfOk result (λ mined. mined.joins.number ≡ 0) }
     {
         Ok(Mined {
             sets: CountedSets::new(alloc, items, most)?,
-            joins: 0,
+            joins: Joins::none(),
         })
     }
 

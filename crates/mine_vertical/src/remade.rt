@@ -13,8 +13,8 @@ ghost use Rattle.mine_vertical.specs.Cover.{weights_of};
 ghost use Rattle.mine_vertical.specs.Remade.{AreBitsOf, AreOver, GiveSupports, HaveSameNonempty, bit_places};
 ghost use Rattle.mine_vertical.specs.Search.{IsSibling};
 
+use crate::joins::Sibling;
 use crate::row::Row;
-use crate::search::Sibling;
 use crate::siblings::{siblings_of, weights_at};
 use crate::weights::Weights;
 use mine_classes::WordBaskets;
@@ -35,7 +35,7 @@ fn bits_of_places<R: Row>(
 {
     let mut bits = vec![in alloc; 0u64; places as usize]?;
     for (at, sibling) in siblings.iter().enumerate() {
-        if !sibling.row.add_bit(&mut bits, bit_of(at)) {
+        if !sibling.add_bit(&mut bits, bit_of(at)) {
             return Ok(None);
         }
     }

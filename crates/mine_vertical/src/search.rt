@@ -1,11 +1,9 @@
 //! The search for the frequent sets of a class, depth first.
-ghost use Rattle.std.specs.Prelude.{◌≡◌, ◌≤◌, ◌<◌, ◌+◌, ◌*◌, ◌++◌, ◌∷◌, ℕ, List, ◌⊎◌, All, Err, IfOk, IsTrue, false, OnOk, filter, length, map, take};
-ghost use Rattle.basket_core.specs.declared.fault.MineFault.TheVariants.{TooMany};
+ghost use Rattle.std.specs.Prelude.{◌≡◌, ◌≤◌, ◌<◌, ◌+◌, ℕ, List, IfOk, OnOk, length, take};
 ghost use Rattle.basket_sets.specs.declared.weighted.Weighted.{Weighted as Basket};
-ghost use Rattle.mine_vertical.specs.Cover.{common, cover_weight, weights_of};
-ghost use Rattle.basket_lists.specs.CountedSets.{set_at};
-ghost use Rattle.mine_vertical.specs.Search.{EachNode, FewJoins, IsNode, IsSibling, Node, found_at, is_met, joins_at, sets_at};
+ghost use Rattle.mine_vertical.specs.Search.{AreKept, AreSiblings, IsDone, IsGiven, reached, task_of};
 
+use crate::joins::{Joins, Sibling};
 use crate::marks::Marks;
 use crate::mined::Mined;
 use crate::remade::remade;
@@ -14,42 +12,22 @@ use crate::row::Row;
 use crate::weights::Weights;
 use basket_core::{Coded, MineFault, Tally};
 use std::alloc::{AllocError, Global};
-
-/// An extension of a set: its rank, and the row of the set with the rank.
-#[derive(Drop)]
-pub struct Sibling<R> {
-    pub rank: u32,
-    pub row: R,
-}
+use std::mem;
 
 /// What the sets of a class are found by.
 #[derive(Clone, Copy)]
 pub struct Search<'a> {
+    pub alloc: Global,
     pub coded: &'a Coded,
     pub weights: &'a Weights,
     pub least: u64,
 }
 
-impl<R: Row> Sibling<R> {
-    /// Becomes the second of two siblings for the set with the first, for which places are marked.
-    /// The answer is what its cover weighs.
-    fn join(
-        &mut self,
-        first: &Sibling<R>,
-        second: &Sibling<R>,
-        marks: &Marks,
-        weights: &Weights,
-    ) -> Result<u64, AllocError>
-        requires rows { (parent : List ℕ) × (cover : List ℕ) × (other : List ℕ) × R.stands weights.now parent cover first.now.row × R.stands weights.now parent other second.now.row }
-        requires marks { R.marked first.now.row weights.now marks.now }
-        ensures rank { OnOk result (self.new.rank ≡ second.now.rank) }
-        ensures row { OnOk result ((parent cover other : List ℕ) → R.stands weights.now parent cover first.now.row → R.stands weights.now parent other second.now.row → R.stands weights.now cover (common cover other) self.new.row) }
-        ensures count { IfOk result (λ count. (weights parent cover : List ℕ) → R.stands weights parent cover self.new.row → count ≡ cover_weight weights cover) }
-    {
-        self.rank = second.rank;
-        self.row.join(&first.row, &second.row, marks, weights)?;
-        Ok(self.row.count())
-    }
+/// What a search has found, and the room that it uses.
+#[derive(Drop)]
+pub struct Progress<R> {
+    pub mined: Mined,
+    pub room: Room<R>,
 }
 
 /// Sees that a list has a sibling at a place.
@@ -63,53 +41,45 @@ fn make_place<R: Row>(
     ensures before { OnOk result (take place list.new.items ≡ take place list.old.items) }
 {
     if place == list.len() {
-        list.push(Sibling {
-            rank: 0,
-            row: R::empty(alloc),
-        })?;
+        list.push(Sibling::empty(alloc))?;
     }
     Ok(())
 }
 
 impl Search<'_> {
     /// The frequent extensions of the set with the sibling's rank, in place of the first siblings of a
-    /// list: the sibling's row joined with those of other siblings, each join counted. The answer is how
-    /// many they are.
+    /// list: the sibling is joined with each of the others. The answer is how many they are.
     fn joined<R: Row>(
         &self,
-        alloc: Global,
         sibling: &Sibling<R>,
         others: &[Sibling<R>],
         list: &mut Vec<Sibling<R>>,
         marks: &mut Marks,
-        joins: &mut u64,
+        joins: &mut Joins,
     ) -> Result<usize, AllocError>
-        requires rows { (baskets : List Basket) × (set : List ℕ) × (self.now.weights.now ≡ weights_of baskets) × IsSibling R.stands baskets set sibling.now × All (IsSibling R.stands baskets set) others.now }
+        requires rows { (baskets : List Basket) × (set : List ℕ) × AreSiblings R.stands self.now.weights.now sibling.now others.now baskets set }
         requires some { 1 ≤ self.now.least }
-        requires few { joins.old + length others.now ≤ 18446744073709551615 }
-        requires clear { R.at_rest self.now.weights.now marks.old }
+        requires few { joins.old.number + length others.now ≤ 18446744073709551615 }
+        requires marks { R.at_rest self.now.weights.now marks.old }
         ensures within { IfOk result (λ kept. kept ≤ length list.new.items) }
-        ensures ranks { IfOk result (λ kept. (baskets : List Basket) (set : List ℕ) → self.now.weights.now ≡ weights_of baskets → IsSibling R.stands baskets set sibling.now → All (IsSibling R.stands baskets set) others.now
-            → map (λ other. other.rank) (take kept list.new.items) ≡ filter (λ rank. is_met baskets self.now.least (rank ∷ sibling.now.rank ∷ set)) (map (λ other. other.rank) others.now)) }
-        ensures rows { IfOk result (λ kept. (baskets : List Basket) (set : List ℕ) → self.now.weights.now ≡ weights_of baskets → IsSibling R.stands baskets set sibling.now → All (IsSibling R.stands baskets set) others.now
-            → All (IsSibling R.stands baskets (sibling.now.rank ∷ set)) (take kept list.new.items)) }
-        ensures joins { OnOk result (joins.new ≡ joins.old + length others.now) }
-        ensures clear { OnOk result (R.at_rest self.now.weights.now marks.new) }
+        ensures kept { IfOk result (λ kept. (baskets : List Basket) (set : List ℕ) → AreSiblings R.stands self.now.weights.now sibling.now others.now baskets set
+            → AreKept R.stands self.now.least sibling.now others.now (take kept list.new.items) baskets set) }
+        ensures joins { OnOk result (joins.new.number ≡ joins.old.number + length others.now) }
+        ensures marks { OnOk result (R.at_rest self.now.weights.now marks.new) }
     {
         let mut kept = 0;
         if others.is_empty() {
             return Ok(kept);
         }
-        sibling.row.mark(marks, self.weights);
+        sibling.mark(marks, self.weights);
         for other in others {
-            make_place(alloc, list, kept)?;
-            let count = list[kept].join(sibling, other, marks, self.weights)?;
-            *joins += 1;
-            if count >= self.least {
+            make_place(self.alloc, list, kept)?;
+            let support = joins.join(&mut list[kept], sibling, other, marks, self.weights)?;
+            if support >= self.least {
                 kept += 1;
             }
         }
-        sibling.row.unmark(marks, self.weights);
+        sibling.unmark(marks, self.weights);
         Ok(kept)
     }
 
@@ -118,43 +88,34 @@ impl Search<'_> {
     #[cycle(search)]
     pub fn extend<R: Row, T: Tally>(
         &self,
-        alloc: Global,
         siblings: &[Sibling<R>],
         place: usize,
-        mined: &mut Mined,
+        progress: &mut Progress<R>,
         tally: &mut T,
-        room: &mut Room<R>,
     ) -> Result<(), MineFault>
-        requires node { (node : Node) × IsNode R.stands self.now.weights.now self.now.least siblings.now (set_at mined.old.sets place) self.now.coded.now.items node }
-        requires found { place < length mined.old.sets }
-        requires some { 1 ≤ self.now.least }
-        requires going { T.is_over tally.old ≡ false }
-        requires few { FewJoins mined.old.joins (length mined.old.sets) }
-        requires clear { R.at_rest self.now.weights.now room.old.marks }
-        ensures sets { OnOk result (EachNode R.stands self.now.weights.now self.now.least siblings.now (set_at mined.old.sets place) self.now.coded.now.items (λ node. mined.new.sets ≡ mined.old.sets ++ map (found_at self.now.coded.now.items node) (sets_at self.now.least node))) }
-        ensures joins { OnOk result (EachNode R.stands self.now.weights.now self.now.least siblings.now (set_at mined.old.sets place) self.now.coded.now.items (λ node. mined.new.joins ≡ mined.old.joins + joins_at self.now.least node)) }
-        ensures told { OnOk result (T.told_of tally.new + length mined.old.sets ≡ T.told_of tally.old + length mined.new.sets) }
-        ensures going_on { OnOk result (T.is_over tally.new ≡ false) }
-        ensures few { OnOk result (FewJoins mined.new.joins (length mined.new.sets)) }
-        ensures too_many { (limit : ℕ) → result ≡ Err (TooMany limit) → (limit ≡ T.limit_of tally.old)
-            × EachNode R.stands self.now.weights.now self.now.least siblings.now (set_at mined.old.sets place) self.now.coded.now.items (λ node. IsTrue (T.is_over tally.new) ⊎ (limit < length mined.old.sets + length (sets_at self.now.least node))) }
-        ensures at_most { EachNode R.stands self.now.weights.now self.now.least siblings.now (set_at mined.old.sets place) self.now.coded.now.items (λ node. T.told_of tally.new ≤ T.told_of tally.old + length (sets_at self.now.least node)) }
-        ensures limit { T.limit_of tally.new ≡ T.limit_of tally.old }
-        ensures clear { OnOk result (R.at_rest self.now.weights.now room.new.marks) }
+        requires found { place < length progress.old.mined.sets }
+        requires given { IsGiven R.stands (task_of self.now siblings.now progress.old.mined place)
+            (reached T.told_of T.limit_of T.is_over progress.old.mined tally.old) }
+        requires marks { R.at_rest self.now.weights.now progress.old.room.marks }
+        ensures done { IsDone R.stands (task_of self.now siblings.now progress.old.mined place)
+            (reached T.told_of T.limit_of T.is_over progress.old.mined tally.old)
+            (reached T.told_of T.limit_of T.is_over progress.new.mined tally.new) result }
+        ensures marks { OnOk result (R.at_rest self.now.weights.now progress.new.room.marks) }
     {
-        let mut list = room.list(alloc);
+        let mut list = progress.room.list(self.alloc);
         for (at, sibling) in siblings.iter().enumerate() {
             let item = self.coded.item(sibling.rank);
-            let longer = mined.add_longer(alloc, place, item, sibling.row.count(), tally)?;
+            let mined = &mut progress.mined;
+            let longer = mined.add_longer(self.alloc, place, item, sibling.count(), tally)?;
             let others = &siblings[..at];
-            let marks = &mut room.marks;
-            let kept = self.joined(alloc, sibling, others, &mut list, marks, &mut mined.joins)?;
+            let marks = &mut progress.room.marks;
+            let kept = self.joined(sibling, others, &mut list, marks, &mut mined.joins)?;
             if kept > 0 {
-                let is_large = sibling.row.is_large(kept, at, self.weights);
-                self.extend_set(alloc, &list[..kept], is_large, longer, mined, tally, room)?;
+                let is_large = sibling.is_large(kept, at, self.weights);
+                self.extend_set(&list[..kept], is_large, longer, progress, tally)?;
             }
         }
-        room.take_back(list);
+        progress.room.take_back(list);
         Ok(())
     }
 
@@ -162,44 +123,32 @@ impl Search<'_> {
     #[cycle(search)]
     fn extend_set<R: Row, T: Tally>(
         &self,
-        alloc: Global,
         siblings: &[Sibling<R>],
         is_large: bool,
         place: usize,
-        mined: &mut Mined,
+        progress: &mut Progress<R>,
         tally: &mut T,
-        room: &mut Room<R>,
     ) -> Result<(), MineFault>
-        requires node { (node : Node) × IsNode R.stands self.now.weights.now self.now.least siblings.now (set_at mined.old.sets place) self.now.coded.now.items node }
-        requires found { place < length mined.old.sets }
-        requires some { 1 ≤ self.now.least }
-        requires going { T.is_over tally.old ≡ false }
-        requires few { FewJoins mined.old.joins (length mined.old.sets) }
-        requires clear { R.at_rest self.now.weights.now room.old.marks }
-        ensures sets { OnOk result (EachNode R.stands self.now.weights.now self.now.least siblings.now (set_at mined.old.sets place) self.now.coded.now.items (λ node. mined.new.sets ≡ mined.old.sets ++ map (found_at self.now.coded.now.items node) (sets_at self.now.least node))) }
-        ensures joins { OnOk result (EachNode R.stands self.now.weights.now self.now.least siblings.now (set_at mined.old.sets place) self.now.coded.now.items (λ node. mined.new.joins ≡ mined.old.joins + joins_at self.now.least node)) }
-        ensures told { OnOk result (T.told_of tally.new + length mined.old.sets ≡ T.told_of tally.old + length mined.new.sets) }
-        ensures going_on { OnOk result (T.is_over tally.new ≡ false) }
-        ensures few { OnOk result (FewJoins mined.new.joins (length mined.new.sets)) }
-        ensures too_many { (limit : ℕ) → result ≡ Err (TooMany limit) → (limit ≡ T.limit_of tally.old)
-            × EachNode R.stands self.now.weights.now self.now.least siblings.now (set_at mined.old.sets place) self.now.coded.now.items (λ node. IsTrue (T.is_over tally.new) ⊎ (limit < length mined.old.sets + length (sets_at self.now.least node))) }
-        ensures at_most { EachNode R.stands self.now.weights.now self.now.least siblings.now (set_at mined.old.sets place) self.now.coded.now.items (λ node. T.told_of tally.new ≤ T.told_of tally.old + length (sets_at self.now.least node)) }
-        ensures limit { T.limit_of tally.new ≡ T.limit_of tally.old }
-        ensures clear { OnOk result (R.at_rest self.now.weights.now room.new.marks) }
+        requires found { place < length progress.old.mined.sets }
+        requires given { IsGiven R.stands (task_of self.now siblings.now progress.old.mined place)
+            (reached T.told_of T.limit_of T.is_over progress.old.mined tally.old) }
+        requires marks { R.at_rest self.now.weights.now progress.old.room.marks }
+        ensures done { IsDone R.stands (task_of self.now siblings.now progress.old.mined place)
+            (reached T.told_of T.limit_of T.is_over progress.old.mined tally.old)
+            (reached T.told_of T.limit_of T.is_over progress.new.mined tally.new) result }
+        ensures marks { OnOk result (R.at_rest self.now.weights.now progress.new.room.marks) }
     {
-        match remade(alloc, siblings, self.weights, is_large)? {
-            Some((weights, smaller)) => {
-                let search = Search {
-                    coded: self.coded,
-                    weights: &weights,
-                    least: self.least,
-                };
-                let mut inner = room.over(alloc, &weights)?;
-                search.extend(alloc, &smaller, place, mined, tally, &mut inner)?;
-                room.take_over(inner);
-                Ok(())
-            }
-            None => self.extend(alloc, siblings, place, mined, tally, room),
-        }
+        let Some((weights, smaller)) = remade(self.alloc, siblings, self.weights, is_large)? else {
+            return self.extend(siblings, place, progress, tally);
+        };
+        let search = Search {
+            weights: &weights,
+            ..*self
+        };
+        let marks = R::new_marks(self.alloc, &weights)?;
+        let outer = mem::replace(&mut progress.room.marks, marks);
+        search.extend(&smaller, place, progress, tally)?;
+        progress.room.marks = outer;
+        Ok(())
     }
 }

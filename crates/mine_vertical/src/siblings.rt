@@ -1,5 +1,5 @@
 //! The siblings that a class begins with: the ranks that are frequent together with its rank.
-ghost use Rattle.std.specs.Prelude.{◌≡◌, ◌≤◌, ◌<◌, [], ◌∷◌, List, ℕ, All, IfOk, OnOk, length, map, replicate, sum, sum_by};
+ghost use Rattle.std.specs.Prelude.{◌≡◌, ◌≤◌, ◌<◌, ◌+◌, [], ◌∷◌, List, ℕ, All, IfOk, OnOk, length, map, replicate, sum, sum_by};
 ghost use Rattle.basket_ranks.specs.Codes.{IsCoding, baskets_of, decoded_place};
 ghost use Rattle.basket_sets.specs.declared.minimum.Minimum.TheVariants.{Count};
 ghost use Rattle.basket_sets.specs.declared.weighted.Weighted.{Weighted as Basket};
@@ -15,8 +15,8 @@ ghost use Rattle.mine_vertical.specs.Covers.{AreCovers, HasPlace, covers_in};
 ghost use Rattle.mine_vertical.specs.Search.{IsSibling};
 ghost use Rattle.mine_vertical.specs.Siblings.{AreClassSiblings};
 
+use crate::joins::{Joins, Sibling};
 use crate::row::Row;
-use crate::search::Sibling;
 use crate::weights::Weights;
 use mine_classes::laws::conditional_supports;
 use mine_classes::{Conditional, Runs, Span, Tables};
@@ -27,19 +27,22 @@ fn conditional_of(
     alloc: Global,
     runs: &Runs,
     tables: &mut Tables,
+    joins: &mut Joins,
     rank: u32,
     least: u64,
 ) -> Result<Conditional, AllocError>
     requires rank { rank < runs.now.ranks }
     requires sums { tables.old.sums ≡ runs.now.ranks }
     requires places { tables.old.places ≡ runs.now.ranks }
+    requires few { joins.old.number + rank ≤ 18446744073709551615 }
     ensures ranks { IfOk result (λ c. c.items ≡ kept_ranks runs.now.baskets least rank) }
     ensures coding { IfOk result IsCoding }
     ensures baskets { IfOk result (λ c. HaveSameWeights (conditional least runs.now.baskets rank) (baskets_of c)) }
+    ensures joins { OnOk result (joins.new.number ≡ joins.old.number + rank) }
     ensures sums { tables.new.sums ≡ tables.old.sums }
     ensures places { tables.new.places ≡ tables.old.places }
 {
-    let pairs = runs.pairs(alloc, &mut tables.sums, rank, least)?;
+    let pairs = joins.pairs(alloc, runs, &mut tables.sums, rank, least)?;
     let places = &mut tables.places;
     let conditional = Conditional::of(alloc, runs, places, rank, least, &pairs)?;
     Ok(conditional.sorted(alloc)?)
@@ -134,31 +137,32 @@ pub fn siblings_of<R: Row>(
     let covers = covers_of_ranks(alloc, kept.len(), ranks, spans)?;
     let mut siblings = Vec::with_capacity(alloc, kept.len())?;
     for (place, rank) in kept.iter().enumerate() {
-        siblings.push(Sibling {
-            rank: *rank,
-            row: R::first(alloc, &covers[place], weights)?,
-        })?;
+        siblings.push(Sibling::first(alloc, *rank, &covers[place], weights)?)?;
     }
     Ok(siblings)
 }
 
-/// The weights of the conditional database of a rank, and a sibling for each rank of it.
+/// The weights of the conditional database of a rank, and a sibling for each rank of it. The joins of
+/// its pairs are added.
 pub fn class_siblings<R: Row>(
     alloc: Global,
     runs: &Runs,
     tables: &mut Tables,
+    joins: &mut Joins,
     rank: u32,
     least: u64,
 ) -> Result<(Weights, Vec<Sibling<R>>), AllocError>
     requires rank { rank < runs.now.ranks }
     requires sums { tables.old.sums ≡ runs.now.ranks }
     requires places { tables.old.places ≡ runs.now.ranks }
+    requires few { joins.old.number + rank ≤ 18446744073709551615 }
     ensures siblings { IfOk result (λ made. (baskets : List Basket) × AreClassSiblings R.stands runs.now.baskets least rank made.0 made.1.items baskets) }
+    ensures joins { OnOk result (joins.new.number ≡ joins.old.number + rank) }
     ensures sums { tables.new.sums ≡ tables.old.sums }
     ensures places { tables.new.places ≡ tables.old.places }
 {
     conditional_supports();
-    let conditional = conditional_of(alloc, runs, tables, rank, least)?;
+    let conditional = conditional_of(alloc, runs, tables, joins, rank, least)?;
     let kept = conditional.ranks().to_vec(alloc)?;
     let baskets = conditional.into_baskets(alloc)?;
     let (_, ranks, spans) = baskets.into_parts();

@@ -69,8 +69,8 @@ returns-in_err-room-clause-at_most g c =
     rank (conditional least all rank) (λ set. refl) enough in
     omega (arith, c.add.ensures.told)
 
-pub extend-requires-clause-node : goal.extend-requires-clause-node
-extend-requires-clause-node g c =
+pub extend-requires-clause-given : goal.extend-requires-clause-given
+extend-requires-clause-given g c =
     let coding = c.args.vertical.now in
     let rank = c.args.rank in
     let least = c.least-least.result in
@@ -84,7 +84,12 @@ extend-requires-clause-node g c =
     let made = subst (λ s. AreClassSiblings g.R.Row.stands all least rank c.in_ok-weights.weights s baskets) (sym c.deref.ensures.value) are in
     let listed = set_added c.in_ok-mined.mined.sets c.add.new.self.sets (record { set = c.in_ok-set.set; count = c.support_of_rank-support.result }) 0 (sym (ap length c.in_ok-mined.ensures.sets)) c.in_ok-add.ensures.sets ∙ set in
     let node = top_is g.R.Row.stands all least rank c.in_ok-weights.weights c.deref.result.now baskets (set_at c.add.new.self.sets 0) items made listed known few in
-    (top baskets rank, node)
+    let pairs : c.class_siblings.new.joins.number ≡ rank = omega (arith, c.in_ok-weights.ensures.joins, ap (λ j. j.number) c.add.ensures.joins, c.in_ok-mined.ensures.joins) in
+    record {
+      node = (top baskets rank, node);
+      some = c.least-least.ensures.some;
+      going = record { going = c.in_ok-add.ensures.going_on; few = omega (arith, pairs, known, few) };
+    }
 
 pub returns-in_err-extend-clause-too_many : goal.returns-in_err-extend-clause-too_many
 returns-in_err-extend-clause-too_many g c = λ limit e.
@@ -108,8 +113,8 @@ returns-in_err-extend-clause-too_many g c = λ limit e.
     let p = err_from_is_err_and c.from_residual-in_err-extend.result c.from_residual-in_err-extend.ensures.1 in
     let both = sym p.1 ∙ e in
     let fault : p.0 ≡ TooMany limit = cc in
-    let (same, why) = c.extend.ensures.too_many limit (c.in_err-extend.was ∙ ap Err (sym p.2 ∙ fault)) in
-    (same ∙ c.add.ensures.limit, elim (why (top baskets rank) node) [ inl over ↦ inl over | inr less ↦ inr (omega arith) ])
+    let many = c.extend.ensures.done.too_many limit (c.in_err-extend.was ∙ ap Err (sym p.2 ∙ fault)) (top baskets rank) node in
+    (many.limit_is ∙ c.add.ensures.limit, elim many.why [ inl over ↦ inl over | inr less ↦ inr (omega arith) ])
 
 pub returns-in_err-extend-clause-at_most : goal.returns-in_err-extend-clause-at_most
 returns-in_err-extend-clause-at_most g c =
@@ -128,10 +133,10 @@ returns-in_err-extend-clause-at_most g c =
     let made = subst (λ s. AreClassSiblings g.R.Row.stands all least rank c.in_ok-weights.weights s baskets) (sym c.deref.ensures.value) are in
     let listed = set_added c.in_ok-mined.mined.sets c.add.new.self.sets (record { set = c.in_ok-set.set; count = c.support_of_rank-support.result }) 0 (sym (ap length c.in_ok-mined.ensures.sets)) c.in_ok-add.ensures.sets ∙ set in
     let node = top_is g.R.Row.stands all least rank c.in_ok-weights.weights c.deref.result.now baskets (set_at c.add.new.self.sets 0) items made listed known few in
-    omega (arith, c.add.ensures.told, c.extend.ensures.at_most (top baskets rank) node)
+    omega (arith, c.add.ensures.told, c.extend.ensures.done.at_most (top baskets rank) node)
 
-pub returns-clause-at_most : goal.returns-clause-at_most
-returns-clause-at_most g c =
+pub returns : goal.returns
+returns g c =
     let coding = c.args.vertical.now in
     let rank = c.args.rank in
     let least = c.least-least.result in
@@ -147,53 +152,32 @@ returns-clause-at_most g c =
     let made = subst (λ s. AreClassSiblings g.R.Row.stands all least rank c.in_ok-weights.weights s baskets) (sym c.deref.ensures.value) are in
     let listed = set_added c.in_ok-mined.mined.sets c.add.new.self.sets (record { set = c.in_ok-set.set; count = c.support_of_rank-support.result }) 0 (sym (ap length c.in_ok-mined.ensures.sets)) c.in_ok-add.ensures.sets ∙ set in
     let node = top_is g.R.Row.stands all least rank c.in_ok-weights.weights c.deref.result.now baskets (set_at c.add.new.self.sets 0) items made listed known few in
-    omega (arith, c.add.ensures.told, c.extend.ensures.at_most (top baskets rank) node)
-
-pub returns-clause-listed : goal.returns-clause-listed
-returns-clause-listed g c =
-    let coding = c.args.vertical.now in
-    let rank = c.args.rank in
-    let least = c.least-least.result in
-    let all = c.runs-runs.result.now.baskets in
-    let enough : least ≤ support_of all (rank ∷ []) = omega (arith, c.if-support-least.false, c.support_of_rank-support.ensures) in
-    let (baskets, are) = c.in_ok-weights.ensures.siblings in
-    let items = c.coded-coded.result.now.items in
-    let set : c.in_ok-set.set ≡ decoded items (rank ∷ []) = c.in_ok-set.ensures.ok ∙ ap (λ item. rising (item ∷ [])) c.item.ensures in
-    let known : rank < length items = omega (arith, c.requires.rank, ap (λ (k : Coding). length k.items) c.coded-coded.ensures.coded) in
-    let few : length items < MOST_RANKS = omega (arith, c.coded-coded.ensures.coding.few, ap (λ (k : Coding). length k.items) c.coded-coded.ensures.coded) in
-    let made = subst (λ s. AreClassSiblings g.R.Row.stands all least rank c.in_ok-weights.weights s baskets) (sym c.deref.ensures.value) are in
-    let listed = set_added c.in_ok-mined.mined.sets c.add.new.self.sets (record { set = c.in_ok-set.set; count = c.support_of_rank-support.result }) 0 (sym (ap length c.in_ok-mined.ensures.sets)) c.in_ok-add.ensures.sets ∙ set in
-    let node = top_is g.R.Row.stands all least rank c.in_ok-weights.weights c.deref.result.now baskets (set_at c.add.new.self.sets 0) items made listed known few in
-    let support = support_of all (rank ∷ []) in
-    let found = sets_below (is_met baskets least) rank [] in
+    let done = c.extend.ensures.done in
+    let found = c.in_ok-extend.ensures.done.found (top baskets rank) node in
+    let below = sets_below (is_met baskets least) rank [] in
     let one : Counted = record { set = c.in_ok-set.set; count = c.support_of_rank-support.result } in
-    let first : one ≡ record { set = decoded items (rank ∷ []); count = support } = λ i. record { set = set i; count = c.support_of_rank-support.ensures i } in
+    let first : one ≡ record { set = decoded items (rank ∷ []); count = support_of all (rank ∷ []) } = λ i. record { set = set i; count = c.support_of_rank-support.ensures i } in
     let added = c.in_ok-add.ensures.sets ∙ ap (λ l. l ++ one ∷ []) c.in_ok-mined.ensures.sets ∙ ap (λ x. x ∷ []) first in
-    let sets = c.in_ok-extend.ensures.sets (top baskets rank) node ∙ ap (λ l. l ++ map (found_at items (top baskets rank)) found) added
-    ∙ ap (λ (k : Coding). whole k.items baskets least rank support) c.coded-coded.ensures.coded in
-    subst (ListsClassItems coding rank) (sym sets)
-    (whole_lists coding least all c.least-least.ensures c.runs-runs.ensures.weights c.conditional_supports.ensures c.supports_settle_frequent.ensures c.classes_are_conditional.ensures c.lists_have_class_size.ensures
-    rank baskets are.same enough)
+    let sets = found.sets ∙ ap (λ l. l ++ map (found_at items (top baskets rank)) below) added
+    ∙ ap (λ (k : Coding). whole k.items baskets least rank (support_of all (rank ∷ []))) c.coded-coded.ensures.coded in
+    record {
+      listed = subst (ListsClassItems coding rank) (sym sets)
+          (whole_lists coding least all c.least-least.ensures c.runs-runs.ensures.weights c.conditional_supports.ensures c.supports_settle_frequent.ensures c.classes_are_conditional.ensures c.lists_have_class_size.ensures
+          rank baskets are.same enough);
+      joins = λ each.
+          let joins = whole_joins coding least all c.least-least.ensures c.runs-runs.ensures.weights c.conditional_supports.ensures rank baskets are.same each c.requires.rank in
+          let pairs : c.class_siblings.new.joins.number ≡ rank = omega (arith, c.in_ok-weights.ensures.joins, ap (λ j. j.number) c.add.ensures.joins, c.in_ok-mined.ensures.joins) in
+          omega (arith, joins, pairs, found.joined, c.number-joins.ensures);
+      told = omega (arith, found.told, ap length found.sets ∙ length-append c.add.new.self.sets (map (found_at items (top baskets rank)) below), c.in_ok-add.ensures.told, ap length added);
+      going_on = found.going.going;
+      too_many = λ limit e. absurd cc;
+      at_most = omega (arith, c.add.ensures.told, done.at_most (top baskets rank) node);
+      limit = done.limit ∙ c.add.ensures.limit;
+      sums = c.class_siblings.ensures.sums;
+      places = c.class_siblings.ensures.places;
+    }
 
 pub returns-then-support-least-clause-joins : goal.returns-then-support-least-clause-joins
 returns-then-support-least-clause-joins g c = λ each.
     absurd (rare_rank c.args.vertical.now c.least-least.result c.runs-runs.result.now.baskets c.least-least.ensures c.runs-runs.ensures.weights c.args.rank each c.requires.rank
     (omega (arith, c.if-support-least.true, c.support_of_rank-support.ensures)))
-
-pub returns-clause-joins : goal.returns-clause-joins
-returns-clause-joins g c = λ each.
-    let coding = c.args.vertical.now in
-    let rank = c.args.rank in
-    let least = c.least-least.result in
-    let all = c.runs-runs.result.now.baskets in
-    let enough : least ≤ support_of all (rank ∷ []) = omega (arith, c.if-support-least.false, c.support_of_rank-support.ensures) in
-    let (baskets, are) = c.in_ok-weights.ensures.siblings in
-    let items = c.coded-coded.result.now.items in
-    let set : c.in_ok-set.set ≡ decoded items (rank ∷ []) = c.in_ok-set.ensures.ok ∙ ap (λ item. rising (item ∷ [])) c.item.ensures in
-    let known : rank < length items = omega (arith, c.requires.rank, ap (λ (k : Coding). length k.items) c.coded-coded.ensures.coded) in
-    let few : length items < MOST_RANKS = omega (arith, c.coded-coded.ensures.coding.few, ap (λ (k : Coding). length k.items) c.coded-coded.ensures.coded) in
-    let made = subst (λ s. AreClassSiblings g.R.Row.stands all least rank c.in_ok-weights.weights s baskets) (sym c.deref.ensures.value) are in
-    let listed = set_added c.in_ok-mined.mined.sets c.add.new.self.sets (record { set = c.in_ok-set.set; count = c.support_of_rank-support.result }) 0 (sym (ap length c.in_ok-mined.ensures.sets)) c.in_ok-add.ensures.sets ∙ set in
-    let node = top_is g.R.Row.stands all least rank c.in_ok-weights.weights c.deref.result.now baskets (set_at c.add.new.self.sets 0) items made listed known few in
-    let joins = whole_joins coding least all c.least-least.ensures c.runs-runs.ensures.weights c.conditional_supports.ensures rank baskets are.same each c.requires.rank in
-    omega (arith, joins, c.in_ok-extend.ensures.joins (top baskets rank) node, c.from.ensures)

@@ -7,7 +7,6 @@ use Rattle.mine_vertical.specs.Cover.{IsAdded, cover_of, weights_of}
 use Rattle.mine_vertical.specs.Search.{IsSibling}
 use Rattle.mine_vertical.proofs.NodeLemmas.{as_many}
 use Rattle.mine_vertical.proofs.PlacesLemmas.{bits_clear, bits_more, none_yet}
-use Rattle.mine_vertical.proofs.SearchLemmas.{sibling_at}
 use Rattle.mine_vertical.proofs.remade.bits_of_places.Goals as goal
 
 pub loop-at-init : goal.loop-at-init
@@ -21,8 +20,8 @@ pub add_bit-requires : goal.add_bit-requires
 add_bit-requires g c =
     let (baskets, set, long, all) = c.requires.rows in
     let sibling = c.index-siblings-at.result in
-    let one = sibling_at g.R.Row.stands baskets set c.args.siblings.now c.loop-at.at sibling c.loop-at-test.true c.index-siblings-at.is all in
-    (weights_of baskets, cover_of baskets set, cover_of baskets (sibling.rank ∷ set), long ∙ sym c.loop-at.invariant.long ∙ sym (ap length c.deref_mut.ensures.value), one)
+    let one = subst (IsSibling g.R.Row.stands baskets set) (sym c.index-siblings-at.is) (all c.loop-at.at sibling c.loop-at-test.true) in
+    (baskets, set, long ∙ sym c.loop-at.invariant.long ∙ sym (ap length c.deref_mut.ensures.value), one)
 
 pub loop-at-preserved : goal.loop-at-preserved
 loop-at-preserved g c =
@@ -42,8 +41,8 @@ loop-at-preserved g c =
     let added = λ (baskets : List Weighted) (set : List ℕ) (long : length (weights_of baskets) ≡ c.args.places) (all : All (IsSibling g.R.Row.stands baskets set) siblings).
     subst (λ rank. IsAdded (cover_of baskets (rank ∷ set)) (2 ^ (63 - at)) old new) (sym named)
     (subst (λ bit. IsAdded (cover_of baskets (sibling.rank ∷ set)) bit old new) c.bit_of.ensures
-    (c.add_bit.ensures c.if-not-add_bit.false (weights_of baskets) (cover_of baskets set) (cover_of baskets (sibling.rank ∷ set)) (long ∙ sym c.loop-at.invariant.long ∙ sym (ap length was))
-    (sibling_at g.R.Row.stands baskets set siblings at sibling here c.index-siblings-at.is all))) in
+    (c.add_bit.ensures c.if-not-add_bit.false baskets set (long ∙ sym c.loop-at.invariant.long ∙ sym (ap length was))
+    (subst (IsSibling g.R.Row.stands baskets set) (sym c.index-siblings-at.is) (all at sibling here)))) in
     let clear : (place i : ℕ) → place < length old → at ≤ i → i < 64 → has_rank (get_or old place 0) i ≡ false =
     λ place i inside above below. ap (λ l. has_rank (get_or l place 0) i) was ∙ c.loop-at.invariant.clear place i (subst (λ l. place < length l) was inside) above below in
     record {

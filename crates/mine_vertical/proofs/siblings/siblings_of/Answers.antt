@@ -1,4 +1,4 @@
-use Rattle.std.proofs.Common.{◌++◌, ◌∷◌, [], get_or, length, map, subst, sym, ap, ◌∙◌}
+use Rattle.std.proofs.Common.{◌++◌, ◌∷◌, [], get_or, length, map, take, subst, sym, ap, ◌∙◌}
 use Rattle.std.specs.Prelude.{All}
 use Rattle.std.proofs.lemmas.List.{map-append, take_more}
 use Rattle.std.proofs.lemmas.List.Elements.{All-push, recursion_from_All}
@@ -8,7 +8,6 @@ use Rattle.mine_vertical.specs.Cover.{IsCover, all_places, cover_of, weights_of}
 use Rattle.mine_vertical.specs.Search.{IsSibling}
 use Rattle.mine_vertical.proofs.CoverLemmas.{cover_covers, cover_of_none}
 use Rattle.mine_vertical.proofs.CoversLemmas.{one_cover}
-use Rattle.mine_vertical.proofs.SearchLemmas.{ranks}
 use Rattle.mine_vertical.proofs.SiblingLemmas.{decoded_cover, decoded_weights}
 use Rattle.mine_vertical.proofs.siblings.siblings_of.Goals as goal
 
@@ -31,7 +30,8 @@ loop-place-preserved g c =
     let decoded = map (decoded_place kept) baskets in
     let l = c.loop-place.place in
     let rank = get_or kept l 0 in
-    let row = c.in_ok-first.field-0 in
+    let sibling = c.in_ok-first.field-0 in
+    let row = sibling.row in
     let weights = c.requires.weights ∙ sym (decoded_weights kept baskets) in
     let parent = ap all_places weights ∙ sym (cover_of_none decoded) in
     let cover = c.deref.ensures.value ∙ one_cover (baskets_at c.args.ranks.now c.args.spans.now) (length c.args.kept.now) c.in_ok-covers.covers.items c.loop-place.place c.index.result.now c.in_ok-covers.ensures c.loop-place-test.true c.index.ensures
@@ -39,10 +39,11 @@ loop-place-preserved g c =
     let is : stands (weights_of decoded) (cover_of decoded []) (cover_of decoded (rank ∷ [])) row =
     subst (λ w. stands w (cover_of decoded []) (cover_of decoded (rank ∷ [])) row) weights
     (subst (λ p. stands c.args.weights.now p (cover_of decoded (rank ∷ [])) row) parent
-    (subst (λ x. stands c.args.weights.now (all_places c.args.weights.now) x row) cover c.in_ok-first.ensures)) in
+    (subst (λ x. stands c.args.weights.now (all_places c.args.weights.now) x row) cover c.in_ok-first.ensures.row)) in
     record {
-      ranks = ap (ranks stands) c.in_ok-push.ensures.items ∙ map-append (λ s. s.rank) c.loop-place.siblings.items (record { rank = rank; row = row } ∷ [])
-          ∙ ap (λ x. x ++ rank ∷ []) c.loop-place.invariant.ranks ∙ sym (take_more kept l 0 c.loop-place-test.true);
+      ranks = ap (λ l. map (λ s. s.rank) l) c.in_ok-push.ensures.items ∙ map-append (λ s. s.rank) c.loop-place.siblings.items (sibling ∷ [])
+          ∙ ap (λ x. x ++ sibling.rank ∷ []) c.loop-place.invariant.ranks ∙ ap (λ r. take l kept ++ r ∷ []) c.in_ok-first.ensures.rank ∙ sym (take_more kept l 0 c.loop-place-test.true);
       rows = subst (All (IsSibling stands decoded [])) (sym c.in_ok-push.ensures.items)
-          (All-push (IsSibling stands decoded []) c.loop-place.siblings.items (record { rank = rank; row = row }) c.loop-place.invariant.rows is);
+          (All-push (IsSibling stands decoded []) c.loop-place.siblings.items sibling c.loop-place.invariant.rows
+          (subst (λ r. stands (weights_of decoded) (cover_of decoded []) (cover_of decoded (r ∷ [])) row) (sym c.in_ok-first.ensures.rank) is));
     }

@@ -1,0 +1,156 @@
+//! Joins of siblings, each counted where it is made.
+ghost use Rattle.std.specs.Prelude.{◌≡◌, ◌≤◌, ◌<◌, ◌+◌, ◌∷◌, ℕ, List, IfOk, IsTrue, OnOk, length};
+ghost use Rattle.basket_sets.specs.declared.weighted.Weighted.{Weighted as Basket};
+ghost use Rattle.basket_sets.specs.Itemset.{AllBelow, IsRising};
+ghost use Rattle.basket_sets.specs.Support.{support_of};
+ghost use Rattle.mine_classes.specs.Pairs.{pairs_of};
+ghost use Rattle.mine_vertical.specs.Cover.{IsAdded, all_places, cover_of, weights_of};
+ghost use Rattle.mine_vertical.specs.Search.{IsSibling};
+
+use crate::marks::Marks;
+use crate::row::Row;
+use crate::weights::Weights;
+use mine_classes::{Runs, Sums};
+use std::alloc::{AllocError, Global};
+
+/// An extension of a set: its rank, and the row of the set with the rank.
+#[derive(Drop)]
+pub struct Sibling<R> {
+    pub rank: u32,
+    row: R,
+}
+
+/// How many joins were made. Only calls that make them add to it.
+#[derive(Debug, Drop)]
+pub struct Joins {
+    number: u64,
+}
+
+impl<R: Row> Sibling<R> {
+    /// That of a rank beside all places, by its cover.
+    pub fn first(
+        alloc: Global,
+        rank: u32,
+        cover: &[u32],
+        weights: &Weights,
+    ) -> Result<Self, AllocError>
+        requires rises { IsRising cover.now }
+        requires below { AllBelow (length weights.now) cover.now }
+        ensures rank { IfOk result (λ sibling. sibling.rank ≡ rank) }
+        ensures row { IfOk result (λ sibling. R.stands weights.now (all_places weights.now) cover.now sibling.row) }
+    {
+        let row = R::first(alloc, cover, weights)?;
+        Ok(Sibling { rank, row })
+    }
+
+    /// One that stands for nothing yet.
+    pub fn empty(alloc: Global) -> Self {
+        Sibling {
+            rank: 0,
+            row: R::empty(alloc),
+        }
+    }
+
+    /// The support of the set with its rank.
+    pub fn count(&self) -> u64
+        ensures { (baskets : List Basket) (set : List ℕ) → IsSibling R.stands baskets set self.now → result ≡ support_of baskets (self.now.rank ∷ set) }
+    {
+        self.row.count()
+    }
+
+    /// Whether it pays to make a database of its cover.
+    pub fn is_large(&self, kept: usize, joined: usize, weights: &Weights) -> bool {
+        self.row.is_large(kept, joined, weights)
+    }
+
+    /// Adds a bit to the words of the places of its cover, or says that its row doesn't list them.
+    pub fn add_bit(&self, words: &mut [u64], bit: u64) -> bool
+        requires { (baskets : List Basket) × (set : List ℕ) × (length (weights_of baskets) ≡ length words.old) × IsSibling R.stands baskets set self.now }
+        ensures { IsTrue result → (baskets : List Basket) (set : List ℕ) → length (weights_of baskets) ≡ length words.old → IsSibling R.stands baskets set self.now
+            → IsAdded (cover_of baskets (self.now.rank ∷ set)) bit words.old words.new }
+    {
+        self.row.add_bit(words, bit)
+    }
+
+    /// Marks what its row keeps of others.
+    pub fn mark(&self, marks: &mut Marks, weights: &Weights)
+        requires row { (baskets : List Basket) × (set : List ℕ) × (weights.now ≡ weights_of baskets) × IsSibling R.stands baskets set self.now }
+        requires marks { R.at_rest weights.now marks.old }
+        ensures { R.marked self.now.row weights.now marks.new }
+    {
+        self.row.mark(marks, weights);
+    }
+
+    /// Undoes that.
+    pub fn unmark(&self, marks: &mut Marks, weights: &Weights)
+        requires row { (baskets : List Basket) × (set : List ℕ) × (weights.now ≡ weights_of baskets) × IsSibling R.stands baskets set self.now }
+        requires marks { R.marked self.now.row weights.now marks.old }
+        ensures { R.at_rest weights.now marks.new }
+    {
+        self.row.unmark(marks, weights);
+    }
+}
+
+impl Joins {
+    /// No join yet.
+    pub fn none() -> Self
+        ensures { result.number ≡ 0 }
+    {
+        Joins { number: 0 }
+    }
+
+    /// How many there are.
+    pub fn number(&self) -> u64
+        ensures { result ≡ self.now.number }
+    {
+        self.number
+    }
+
+    /// The frequent pairs of a rank with lower ones. The definition has a join for each lower rank, and
+    /// so many are added, though no row is joined: the supports of the pairs are summed.
+    pub fn pairs(
+        &mut self,
+        alloc: Global,
+        runs: &Runs,
+        sums: &mut Sums,
+        rank: u32,
+        least: u64,
+    ) -> Result<Vec<(u32, u64)>, AllocError>
+        requires rank { rank < runs.now.ranks }
+        requires sums { sums.old ≡ runs.now.ranks }
+        requires few { self.old.number + rank ≤ 18446744073709551615 }
+        ensures pairs { IfOk result (λ pairs. pairs.items ≡ pairs_of runs.now.baskets least rank) }
+        ensures joins { OnOk result (self.new.number ≡ self.old.number + rank) }
+        ensures sums { sums.new ≡ sums.old }
+    {
+        let pairs = runs.pairs(alloc, sums, rank, least)?;
+        self.number += u64::from(rank);
+        Ok(pairs)
+    }
+
+    /// Joins two siblings, for the first of which places are marked: the set with both ranks, in the
+    /// place of another sibling. The answer is its support.
+    pub fn join<R: Row>(
+        &mut self,
+        both: &mut Sibling<R>,
+        first: &Sibling<R>,
+        second: &Sibling<R>,
+        marks: &Marks,
+        weights: &Weights,
+    ) -> Result<u64, AllocError>
+        requires rows { (baskets : List Basket) × (set : List ℕ) × (weights.now ≡ weights_of baskets) × IsSibling R.stands baskets set first.now × IsSibling R.stands baskets set second.now }
+        requires marks { R.marked first.now.row weights.now marks.now }
+        requires few { self.old.number < 18446744073709551615 }
+        ensures joins { OnOk result (self.new.number ≡ self.old.number + 1) }
+        ensures rank { OnOk result (both.new.rank ≡ second.now.rank) }
+        ensures row { OnOk result ((baskets : List Basket) (set : List ℕ) → weights.now ≡ weights_of baskets → IsSibling R.stands baskets set first.now → IsSibling R.stands baskets set second.now
+            → IsSibling R.stands baskets (first.now.rank ∷ set) both.new) }
+        ensures support { IfOk result (λ support. (baskets : List Basket) (set : List ℕ) → weights.now ≡ weights_of baskets → IsSibling R.stands baskets set first.now → IsSibling R.stands baskets set second.now
+            → support ≡ support_of baskets (second.now.rank ∷ first.now.rank ∷ set)) }
+    {
+        both.rank = second.rank;
+        both.row.join(&first.row, &second.row, marks, weights)?;
+        self.number += 1;
+        Ok(both.row.count())
+    }
+}
