@@ -68,6 +68,7 @@ pub struct MemSink {
     greatest_piece: usize,
     flush_fails: bool,
     failed: bool,
+    ends_in_flush: bool,
 }
 
 impl MemSink {
@@ -88,6 +89,7 @@ impl MemSink {
             greatest_piece,
             flush_fails,
             failed: false,
+            ends_in_flush: false,
         })
     }
 
@@ -104,7 +106,10 @@ impl Sink for MemSink {
 
     ghost has_failed = { λ s. s.failed };
 
+    ghost ends_in_flush = { λ s. s.ends_in_flush };
+
     fn write(&mut self, bytes: &[u8]) -> Result<usize, Failed> {
+        self.ends_in_flush = false;
         let room = self.room.saturating_sub(self.bytes.len());
         if room == 0 && !bytes.is_empty() {
             self.failed = true;
@@ -120,6 +125,7 @@ impl Sink for MemSink {
     }
 
     fn flush(&mut self) -> Result<(), Failed> {
+        self.ends_in_flush = true;
         if self.flush_fails {
             self.failed = true;
             return Err(Failed);
