@@ -46,7 +46,7 @@ impl<'a> Records<'a> {
     {
         let found = match self.reader.read_byte_record(&mut self.row) {
             Ok(found) => found,
-            // Bytes in memory can be read, so nothing but memory is wanting.
+            // A record may have any length and bytes in memory can be read, so memory is wanting.
             Err(_) => return Err(ReadFault::Memory),
         };
         if !found {
