@@ -9,7 +9,8 @@ use basket_read::ReadFault;
 use csv::{ByteRecord, Reader, ReaderBuilder};
 use std::alloc::Global;
 
-/// The records of some bytes, which are read one at a time into one record.
+/// The records of some bytes, which are read one at a time into one record. Behind the last of them,
+/// and after an `Err`, none is read any more.
 #[derive(Drop)]
 pub struct Records<'a> {
     reader: Reader<&'a [u8]>,

@@ -113,7 +113,7 @@ impl Block {
         }
     }
 
-    /// Writes what waits, and flushes.
+    /// Writes what waits, and flushes. What waits afterwards isn't said.
     pub fn finish<W: Sink>(&mut self, writer: &mut W) -> Result<(), Failed>
         ensures ok { (start : Option (List ℕ)) (text : List ℕ)
             → IsOnItsWay start (W.taken writer.old) (W.has_failed writer.old) (W.ends_in_flush writer.old) self.old text

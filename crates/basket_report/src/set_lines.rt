@@ -45,7 +45,7 @@ impl SetLines {
     }
 
     /// Writes what waits, then the lines of the sets, and flushes. Where the writer fails, it has taken
-    /// a front of them.
+    /// a front of them, and all where the flush alone failed. What waits afterwards isn't said.
     pub fn write<W: Sink>(&mut self, sets: &CountedSets, writer: &mut W) -> Result<(), Failed>
         requires { W.has_failed writer.old ≡ false }
         ensures ok { OnOk result (Appends (W.taken writer.old) (W.taken writer.new) (self.old ++ report_of Numbered sets.now)) }
