@@ -1,7 +1,7 @@
 -- The records of a CSV text.
-use Rattle.std.specs.Prelude.{◌≡◌, ◌≤◌, ℕ, ◌+◌, false, List, [], length, Option, Some, unwrap_or}
+use Rattle.std.specs.Prelude.{◌≡◌, ◌≤◌, ℕ, ◌+◌, true, false, List, [], length, Option, Some, unwrap_or}
 use Rattle.csv.specs.Machine.{ends_at_end}
-use Rattle.csv.specs.Reading.{Ready, source_of, default_config, records, records_from, strip_bom, reader_config, reader_state, reader_trim}
+use Rattle.csv.specs.Reading.{Ready, source_of, default_config, records, records_from, strip_bom, is_flexible, reader_config, reader_state, reader_trim}
 use Rattle.csv.specs.Records.{fields_of}
 use Rattle.csv.specs.declared.parser.Config.{Config}
 use Rattle.csv.specs.declared.reader.Trim.TheVariants as trim
@@ -33,8 +33,9 @@ records_taken r = r.taken
 abbrev pub record_read : Records → List (List ℕ)
 record_read r = fields_of r.row
 
--- a reader that stands between two records, of a text that is not too long
+-- a reader of records of any lengths that stands between two of them, of a text that is not too long
 pub record IsReading (r : Records) : Type 0 where
+  pub flexible : is_flexible r.reader ≡ true
   pub trim : reader_trim r.reader ≡ trim.None
   pub ready : Ready r.reader
   pub begins : ends_at_end (reader_state r.reader) ≡ false

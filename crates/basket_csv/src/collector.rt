@@ -14,7 +14,7 @@ use basket_read::ReadFault;
 use csv::ByteRecord;
 use std::alloc::Global;
 
-/// What records are added to.
+/// What records are added to. Where one is a fault, or memory is wanting, all that was added is lost.
 pub trait Collector {
     // The fault of a record with this number.
     ghost fault_of: { Start → ℕ → List (List ℕ) → Option ReadFault };

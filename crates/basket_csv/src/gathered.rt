@@ -9,7 +9,7 @@ use basket_read::ReadFault;
 use basket_sets::{Database, Itemset};
 use std::alloc::Global;
 
-/// The baskets so far.
+/// The baskets so far. Where one can't be added, all are lost.
 #[derive(Drop)]
 pub struct Gathered {
     alloc: Global,

@@ -11,7 +11,7 @@ use std::alloc::Global;
 use std::hash::BuildHasher;
 use std::marker::Model;
 
-/// The ids so far, by which new ones are numbered.
+/// The ids so far, by which new ones are numbered. Where one can't be, all are lost.
 #[derive(Drop)]
 pub struct Ids<S: BuildHasher> {
     numbering: Numbering<S>,

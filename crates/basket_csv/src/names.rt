@@ -58,7 +58,7 @@ impl Names {
     }
 }
 
-/// The names so far, by which new ones are numbered.
+/// The names so far, by which new ones are numbered. Where one can't be, all are lost.
 #[derive(Drop)]
 pub struct Numbering<S: BuildHasher> {
     alloc: Global,

@@ -9,7 +9,8 @@ use basket_read::ReadFault;
 use csv::{ByteRecord, Reader, ReaderBuilder};
 use std::alloc::Global;
 
-/// The records of some bytes, which are read one at a time into one record.
+/// The records of some bytes, which are read one at a time into one record. Behind the last of them,
+/// and after an `Err`, none is read any more.
 #[derive(Drop)]
 pub struct Records<'a> {
     reader: Reader<&'a [u8]>,
@@ -46,7 +47,7 @@ impl<'a> Records<'a> {
     {
         let found = match self.reader.read_byte_record(&mut self.row) {
             Ok(found) => found,
-            // Bytes in memory can be read, so nothing but memory is wanting.
+            // A record may have any length and bytes in memory can be read, so memory is wanting.
             Err(_) => return Err(ReadFault::Memory),
         };
         if !found {

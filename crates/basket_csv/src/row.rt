@@ -54,7 +54,8 @@ pub fn is_text_from(row: &ByteRecord, first: usize) -> bool
     true
 }
 
-/// Numbers the names in the fields from a place on, unless one of these is not UTF-8.
+/// Numbers the names in the fields from a place on. Where one of these is not UTF-8, or after an `Err`,
+/// `names` and `numbers` are lost.
 pub fn number_names<S: BuildHasher>(
     row: &ByteRecord,
     first: usize,

@@ -3,6 +3,7 @@ ghost use Rattle.std.specs.Prelude.{◌≡◌, [], ◌∷◌, Ok, Err, true, fal
 ghost use Rattle.basket_sets.specs.Database.{weighted};
 ghost use Rattle.basket_csv.specs.Counts.{named_counts_of};
 ghost use Rattle.basket_csv.specs.Csv.{baskets_of_csv, pairs_of_csv};
+ghost use Rattle.basket_csv.specs.Records.{records_of};
 ghost use Rattle.basket_csv.specs.Worked.{lines, counted};
 ghost use Rattle.basket_read.specs.declared.fault.ReadFault.TheVariants.{NotText, ShortRecord, Weight, RecordCount};
 
@@ -14,6 +15,26 @@ pub fn names_are_trimmed()
 /// A quoted name may have the separator in it.
 pub fn quoted_names_are_whole()
     ensures { baskets_of_csv 44 false false [] (codes "\"semi, skim\", bread,,") ≡ Ok (weighted (0 ∷ 1 ∷ []) 1 ∷ [], codes "semi, skim" ∷ codes "bread" ∷ []) }
+{}
+
+/// A quote opens a field only as its first byte, and stands for itself elsewhere. Within quotes one is
+/// written twice.
+pub fn quotes_open_fields_at_their_start()
+    ensures inside { records_of 44 (codes "a\"b\",c") ≡ (codes "a\"b\"" ∷ codes "c" ∷ []) ∷ [] }
+    ensures twice { records_of 44 (codes "\"a\"\"b\",c") ≡ (codes "a\"b" ∷ codes "c" ∷ []) ∷ [] }
+    ensures empty { records_of 44 (lines (codes "\"\"|")) ≡ ([] ∷ []) ∷ [] }
+{}
+
+/// Text behind a closing quote joins the field, and a quote that is left open ends with the input.
+pub fn quotes_end_with_their_field()
+    ensures joined { records_of 44 (lines (codes "\"a,\"b,c|")) ≡ (codes "a,b" ∷ codes "c" ∷ []) ∷ [] }
+    ensures joined_quote { records_of 44 (lines (codes "\"a\"b\"c\",d|")) ≡ (codes "ab\"c\"" ∷ codes "d" ∷ []) ∷ [] }
+    ensures left_open { records_of 44 (lines (codes "x|\"a,b|c|")) ≡ (codes "x" ∷ []) ∷ (lines (codes "a,b|c|") ∷ []) ∷ [] }
+{}
+
+/// A line feed, a carriage return, or both in this order end a record, and a blank line is none.
+pub fn line_ends_end_records()
+    ensures { records_of 44 (codes "a\rb,c\r\nd\n\n\r\re") ≡ (codes "a" ∷ []) ∷ (codes "b" ∷ codes "c" ∷ []) ∷ (codes "d" ∷ []) ∷ (codes "e" ∷ []) ∷ [] }
 {}
 
 /// The header is left out and numbered, and nothing in it is a fault.

@@ -6,7 +6,8 @@ use Rattle.std.specs.Io.KnownBytes.{Appends}
 abbrev pub TakesFront : Option (List ℕ) → Option (List ℕ) → List ℕ → Type 0
 TakesFront before after text = (count : ℕ) × (count ≤ length text) × Appends before after (take count text)
 
--- the text but for the bytes that wait was written since the start, or a front of it where the writer has failed
-pub record IsOnItsWay (start : Option (List ℕ)) (taken : Option (List ℕ)) (has_failed : Bool) (waiting : List ℕ) (text : List ℕ) : Type 0 where
+-- the text but for the bytes that wait was written since the start, or a front of it where a write has failed
+pub record IsOnItsWay (start taken : Option (List ℕ)) (has_failed ends_in_flush : Bool) (waiting text : List ℕ) : Type 0 where
   pub working : has_failed ≡ false → (sent : List ℕ) × Appends start taken sent × (text ≡ sent ++ waiting)
   pub failed : has_failed ≡ true → TakesFront start taken text
+  pub at_write : has_failed ≡ true → ends_in_flush ≡ false

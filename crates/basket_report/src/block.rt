@@ -1,5 +1,5 @@
 //! Bytes on their way to a writer.
-ghost use Rattle.std.specs.Prelude.{◌≡◌, ◌↔◌, ◌≤◌, ◌+◌, ◌++◌, [], ℕ, List, Option, false, length, IfOk, IsOk, OnErr, OnOk};
+ghost use Rattle.std.specs.Prelude.{◌≡◌, ◌↔◌, ◌≤◌, ◌+◌, ◌++◌, [], ℕ, List, Option, true, false, length, IfOk, IsOk, OnErr, OnOk};
 ghost use Rattle.std.specs.Io.KnownBytes.{Appends};
 ghost use Rattle.basket_report.specs.Block.{IsOnItsWay, TakesFront};
 ghost use Rattle.basket_report.specs.Lines.{items_text, set_line};
@@ -59,8 +59,8 @@ impl Block {
         count: u64,
     )
         ensures { (start : Option (List ℕ)) (text : List ℕ)
-            → IsOnItsWay start (W.taken writer.old) (W.has_failed writer.old) self.old text
-            → IsOnItsWay start (W.taken writer.new) (W.has_failed writer.new) self.new (text ++ set_line (set_of items.now count)) }
+            → IsOnItsWay start (W.taken writer.old) (W.has_failed writer.old) (W.ends_in_flush writer.old) self.old text
+            → IsOnItsWay start (W.taken writer.new) (W.has_failed writer.new) (W.ends_in_flush writer.new) self.new (text ++ set_line (set_of items.now count)) }
     {
         let mut start = 0;
         while items.len() - start > PIECE {
@@ -74,8 +74,8 @@ impl Block {
     fn put_piece<W: Sink>(&mut self, writer: &mut W, texts: &Texts, items: &[u32])
         requires { length items.now ≤ PIECE }
         ensures { (start : Option (List ℕ)) (text : List ℕ)
-            → IsOnItsWay start (W.taken writer.old) (W.has_failed writer.old) self.old text
-            → IsOnItsWay start (W.taken writer.new) (W.has_failed writer.new) self.new (text ++ items_text items.now) }
+            → IsOnItsWay start (W.taken writer.old) (W.has_failed writer.old) (W.ends_in_flush writer.old) self.old text
+            → IsOnItsWay start (W.taken writer.new) (W.has_failed writer.new) (W.ends_in_flush writer.new) self.new (text ++ items_text items.now) }
     {
         self.make_room(writer, ITEM_TEXT_ROOM * items.len());
         self.waiting = put_items(&mut self.room, self.waiting, texts, items);
@@ -92,8 +92,8 @@ impl Block {
     )
         requires { length items.now ≤ PIECE }
         ensures { (start : Option (List ℕ)) (text : List ℕ)
-            → IsOnItsWay start (W.taken writer.old) (W.has_failed writer.old) self.old text
-            → IsOnItsWay start (W.taken writer.new) (W.has_failed writer.new) self.new (text ++ set_line (set_of items.now count)) }
+            → IsOnItsWay start (W.taken writer.old) (W.has_failed writer.old) (W.ends_in_flush writer.old) self.old text
+            → IsOnItsWay start (W.taken writer.new) (W.has_failed writer.new) (W.ends_in_flush writer.new) self.new (text ++ set_line (set_of items.now count)) }
     {
         self.make_room(writer, ITEM_TEXT_ROOM * items.len() + LINE_ROOM);
         self.waiting = put_line(&mut self.room, self.waiting, texts, counts, items, count);
@@ -104,8 +104,8 @@ impl Block {
     fn make_room<W: Sink>(&mut self, writer: &mut W, count: usize)
         requires { count ≤ ROOM }
         ensures way { (start : Option (List ℕ)) (text : List ℕ)
-            → IsOnItsWay start (W.taken writer.old) (W.has_failed writer.old) self.old text
-            → IsOnItsWay start (W.taken writer.new) (W.has_failed writer.new) self.new text }
+            → IsOnItsWay start (W.taken writer.old) (W.has_failed writer.old) (W.ends_in_flush writer.old) self.old text
+            → IsOnItsWay start (W.taken writer.new) (W.has_failed writer.new) (W.ends_in_flush writer.new) self.new text }
         ensures room { length self.new + count ≤ ROOM }
     {
         if count > ROOM - self.waiting {
@@ -113,14 +113,18 @@ impl Block {
         }
     }
 
-    /// Writes what waits, and flushes.
+    /// Writes what waits, and flushes. What waits afterwards isn't said.
     pub fn finish<W: Sink>(&mut self, writer: &mut W) -> Result<(), Failed>
         ensures ok { (start : Option (List ℕ)) (text : List ℕ)
-            → IsOnItsWay start (W.taken writer.old) (W.has_failed writer.old) self.old text
+            → IsOnItsWay start (W.taken writer.old) (W.has_failed writer.old) (W.ends_in_flush writer.old) self.old text
             → OnOk result (Appends start (W.taken writer.new) text) }
         ensures err { (start : Option (List ℕ)) (text : List ℕ)
-            → IsOnItsWay start (W.taken writer.old) (W.has_failed writer.old) self.old text
+            → IsOnItsWay start (W.taken writer.old) (W.has_failed writer.old) (W.ends_in_flush writer.old) self.old text
             → OnErr result (TakesFront start (W.taken writer.new) text) }
+        ensures whole { (start : Option (List ℕ)) (text : List ℕ)
+            → IsOnItsWay start (W.taken writer.old) (W.has_failed writer.old) (W.ends_in_flush writer.old) self.old text
+            → W.ends_in_flush writer.new ≡ true → Appends start (W.taken writer.new) text }
+        ensures flushed { OnOk result (W.ends_in_flush writer.new ≡ true) }
         ensures failed { (W.has_failed writer.new ≡ false) ↔ IsOk result }
     {
         self.send(writer);
@@ -133,8 +137,8 @@ impl Block {
     /// Writes what waits.
     fn send<W: Sink>(&mut self, writer: &mut W)
         ensures way { (start : Option (List ℕ)) (text : List ℕ)
-            → IsOnItsWay start (W.taken writer.old) (W.has_failed writer.old) self.old text
-            → IsOnItsWay start (W.taken writer.new) (W.has_failed writer.new) [] text }
+            → IsOnItsWay start (W.taken writer.old) (W.has_failed writer.old) (W.ends_in_flush writer.old) self.old text
+            → IsOnItsWay start (W.taken writer.new) (W.has_failed writer.new) (W.ends_in_flush writer.new) [] text }
         ensures none { self.new ≡ [] }
     {
         send_bytes(writer, &self.room[..self.waiting]);
@@ -145,8 +149,8 @@ impl Block {
 /// Writes bytes, unless the writer has failed.
 fn send_bytes<W: Sink>(writer: &mut W, bytes: &[u8])
     ensures { (start : Option (List ℕ)) (text : List ℕ)
-        → IsOnItsWay start (W.taken writer.old) (W.has_failed writer.old) bytes.now text
-        → IsOnItsWay start (W.taken writer.new) (W.has_failed writer.new) [] text }
+        → IsOnItsWay start (W.taken writer.old) (W.has_failed writer.old) (W.ends_in_flush writer.old) bytes.now text
+        → IsOnItsWay start (W.taken writer.new) (W.has_failed writer.new) (W.ends_in_flush writer.new) [] text }
 {
     if !writer.failed() {
         let _ = write_bytes(writer, bytes);
@@ -158,6 +162,7 @@ pub fn write_bytes<W: Sink>(writer: &mut W, bytes: &[u8]) -> Result<(), Failed>
     requires { W.has_failed writer.old ≡ false }
     ensures ok { OnOk result (Appends (W.taken writer.old) (W.taken writer.new) bytes.now) }
     ensures err { OnErr result (TakesFront (W.taken writer.old) (W.taken writer.new) bytes.now) }
+    ensures last { OnErr result (W.ends_in_flush writer.new ≡ false) }
     ensures failed { (W.has_failed writer.new ≡ false) ↔ IsOk result }
 {
     let mut written = 0;

@@ -13,7 +13,7 @@ use basket_rules::{Figures, Sides};
 use std::alloc::{AllocError, Global};
 use std::marker::Model;
 
-/// Lines so far.
+/// Lines so far. Where one can't be added, all are lost.
 #[derive(Debug, Drop)]
 pub struct Lines {
     texts: Texts,

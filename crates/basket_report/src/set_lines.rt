@@ -1,5 +1,5 @@
 //! The lines of sets, which are written as they are made.
-ghost use Rattle.std.specs.Prelude.{◌≡◌, ◌↔◌, ◌++◌, [], ℕ, List, Option, false, IfOk, IsOk, OnErr, OnOk};
+ghost use Rattle.std.specs.Prelude.{◌≡◌, ◌↔◌, ◌++◌, [], ℕ, List, Option, true, false, IfOk, IsOk, OnErr, OnOk};
 ghost use Rattle.std.specs.Io.KnownBytes.{Appends};
 ghost use Rattle.basket_report.specs.Block.{IsOnItsWay, TakesFront};
 ghost use Rattle.basket_report.specs.Lines.{set_line};
@@ -45,11 +45,13 @@ impl SetLines {
     }
 
     /// Writes what waits, then the lines of the sets, and flushes. Where the writer fails, it has taken
-    /// a front of them.
+    /// a front of them, and all where the flush alone failed. What waits afterwards isn't said.
     pub fn write<W: Sink>(&mut self, sets: &CountedSets, writer: &mut W) -> Result<(), Failed>
         requires { W.has_failed writer.old ≡ false }
         ensures ok { OnOk result (Appends (W.taken writer.old) (W.taken writer.new) (self.old ++ report_of Numbered sets.now)) }
         ensures err { OnErr result (TakesFront (W.taken writer.old) (W.taken writer.new) (self.old ++ report_of Numbered sets.now)) }
+        ensures whole { W.ends_in_flush writer.new ≡ true → Appends (W.taken writer.old) (W.taken writer.new) (self.old ++ report_of Numbered sets.now) }
+        ensures flushed { OnOk result (W.ends_in_flush writer.new ≡ true) }
         ensures failed { (W.has_failed writer.new ≡ false) ↔ IsOk result }
     {
         let mut room = [0u32; MOST_ITEMS];
@@ -62,8 +64,8 @@ impl SetLines {
     /// Adds the line of a set.
     fn put<W: Sink>(&mut self, writer: &mut W, items: &[u32], count: u64)
         ensures { (start : Option (List ℕ)) (text : List ℕ)
-            → IsOnItsWay start (W.taken writer.old) (W.has_failed writer.old) self.old text
-            → IsOnItsWay start (W.taken writer.new) (W.has_failed writer.new) self.new (text ++ set_line (set_of items.now count)) }
+            → IsOnItsWay start (W.taken writer.old) (W.has_failed writer.old) (W.ends_in_flush writer.old) self.old text
+            → IsOnItsWay start (W.taken writer.new) (W.has_failed writer.new) (W.ends_in_flush writer.new) self.new (text ++ set_line (set_of items.now count)) }
     {
         self.block
             .put_set(writer, &self.texts, &mut self.counts, items, count);

@@ -13,7 +13,7 @@ use basket_rules::{Figures, Sides};
 use csv::{Writer, WriterBuilder};
 use std::alloc::{AllocError, Global};
 
-/// Records so far.
+/// Records so far. Where one can't be added, all are lost.
 #[derive(Drop)]
 pub struct Table<'a> {
     names: &'a Names,

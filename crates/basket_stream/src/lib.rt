@@ -7,6 +7,6 @@ mod sink;
 mod source;
 
 pub use failed::Failed;
-pub use memory::{MemSink, MemSource};
+pub use memory::{MemSink, MemSource, SliceSource};
 pub use sink::{Sink, StdSink};
 pub use source::{Source, StdSource};

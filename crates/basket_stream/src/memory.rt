@@ -1,4 +1,4 @@
-//! A source and a sink over memory, for tests of reading and writing.
+//! Sources and a sink over memory.
 ghost use Rattle.std.specs.Prelude.{◌≡◌, ◌<◌, ◌≤◌, false, true, Some, None, [], IfOk, List, ℕ, length};
 ghost use Rattle.std.specs.Io.{ReadsAtMost, WritesAtMost};
 
@@ -7,7 +7,39 @@ use crate::sink::Sink;
 use crate::source::Source;
 use std::alloc::{AllocError, Global};
 
-/// A source that gives the bytes of a slice.
+/// A source that gives the bytes of a slice, and never fails.
+#[derive(Debug, Drop)]
+pub struct SliceSource<'a> {
+    rest: &'a [u8],
+}
+
+impl<'a> SliceSource<'a> {
+    pub fn new(bytes: &'a [u8]) -> Self
+        ensures { ⟦<SliceSource<'a> as Source>⟧.left result ≡ Some bytes.now }
+    {
+        SliceSource { rest: bytes }
+    }
+}
+
+impl Source for SliceSource<'_> {
+    ghost left = { λ s. Some s.rest.now };
+
+    ghost has_failed = { λ _. false };
+
+    fn read(&mut self, buf: &mut [u8]) -> Result<usize, Failed> {
+        let count = self.rest.len().min(buf.len());
+        let (front, rest) = self.rest.split_at(count);
+        buf[..count].copy_from_slice(front);
+        self.rest = rest;
+        Ok(count)
+    }
+
+    fn failed(&self) -> bool {
+        false
+    }
+}
+
+/// A source that gives the bytes of a slice, for tests: in small pieces, and with a failure.
 #[derive(Debug, Drop)]
 pub struct MemSource<'a> {
     rest: &'a [u8],
@@ -60,7 +92,7 @@ impl Source for MemSource<'_> {
     }
 }
 
-/// A sink that keeps the bytes, in room that was made at the start.
+/// A sink that keeps the bytes.
 #[derive(Debug, Drop)]
 pub struct MemSink {
     bytes: Vec<u8>,
@@ -68,11 +100,27 @@ pub struct MemSink {
     greatest_piece: usize,
     flush_fails: bool,
     failed: bool,
+    ends_in_flush: bool,
 }
 
 impl MemSink {
+    /// A sink that takes all bytes, and fails only for want of memory.
+    pub fn unbounded(alloc: Global) -> Self
+        ensures fresh { ⟦<MemSink as Sink>⟧.has_failed result ≡ false }
+        ensures taken { ⟦<MemSink as Sink>⟧.taken result ≡ Some [] }
+    {
+        MemSink {
+            bytes: Vec::new(alloc),
+            room: usize::MAX,
+            greatest_piece: usize::MAX,
+            flush_fails: false,
+            failed: false,
+            ends_in_flush: false,
+        }
+    }
+
     /// A sink that takes at most `greatest_piece` bytes a write, fails once `room` bytes were
-    /// taken, and may fail at a flush.
+    /// taken, for which it has the memory from the start, and may fail at a flush.
     pub fn new(
         alloc: Global,
         room: usize,
@@ -88,6 +136,7 @@ impl MemSink {
             greatest_piece,
             flush_fails,
             failed: false,
+            ends_in_flush: false,
         })
     }
 
@@ -97,6 +146,13 @@ impl MemSink {
     {
         &self.bytes
     }
+
+    /// The bytes that were taken, without a copy.
+    pub fn into_bytes(self) -> Vec<u8>
+        ensures { ⟦<MemSink as Sink>⟧.taken self ≡ Some result.items }
+    {
+        self.bytes
+    }
 }
 
 impl Sink for MemSink {
@@ -104,7 +160,10 @@ impl Sink for MemSink {
 
     ghost has_failed = { λ s. s.failed };
 
+    ghost ends_in_flush = { λ s. s.ends_in_flush };
+
     fn write(&mut self, bytes: &[u8]) -> Result<usize, Failed> {
+        self.ends_in_flush = false;
         let room = self.room.saturating_sub(self.bytes.len());
         if room == 0 && !bytes.is_empty() {
             self.failed = true;
@@ -120,6 +179,7 @@ impl Sink for MemSink {
     }
 
     fn flush(&mut self) -> Result<(), Failed> {
+        self.ends_in_flush = true;
         if self.flush_fails {
             self.failed = true;
             return Err(Failed);

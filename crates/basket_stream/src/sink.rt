@@ -1,4 +1,4 @@
-ghost use Rattle.std.specs.Prelude.{◌≡◌, false, List, Option, ℕ, Bool};
+ghost use Rattle.std.specs.Prelude.{◌≡◌, true, false, List, Option, ℕ, Bool};
 ghost use Rattle.std.specs.Io.{WritesAtMost};
 ghost use Rattle.std.specs.Io.KnownBytes.{WriteAppends, Keeps};
 ghost use Rattle.basket_stream.specs.Stream.{read_fails, write_fails};
@@ -13,18 +13,23 @@ pub trait Sink {
 
     ghost has_failed: { Self → Bool };
 
+    // Whether the last call was a flush.
+    ghost ends_in_flush: { Self → Bool };
+
     /// Takes the front of the bytes, and answers how many. To take none of a nonempty piece is a
     /// failure.
     fn write(&mut self, bytes: &[u8]) -> Result<usize, Failed>
         requires { has_failed self.old ≡ false }
         ensures bound { WritesAtMost result bytes.now }
         ensures bytes { WriteAppends (taken self.old) (taken self.new) result bytes.now }
-        ensures failed { has_failed self.new ≡ write_fails result bytes.now };
+        ensures failed { has_failed self.new ≡ write_fails result bytes.now }
+        ensures last { ends_in_flush self.new ≡ false };
 
     fn flush(&mut self) -> Result<(), Failed>
         requires { has_failed self.old ≡ false }
         ensures bytes { Keeps (taken self.old) (taken self.new) }
-        ensures failed { has_failed self.new ≡ read_fails result };
+        ensures failed { has_failed self.new ≡ read_fails result }
+        ensures last { ends_in_flush self.new ≡ true };
 
     /// Whether a write or a flush has failed.
     fn failed(&self) -> bool
@@ -36,6 +41,7 @@ pub trait Sink {
 pub struct StdSink<W> {
     writer: W,
     failed: bool,
+    ends_in_flush: bool,
 }
 
 impl<W: Write> StdSink<W> {
@@ -46,6 +52,7 @@ impl<W: Write> StdSink<W> {
         StdSink {
             writer,
             failed: false,
+            ends_in_flush: false,
         }
     }
 }
@@ -55,7 +62,10 @@ impl<W: Write> Sink for StdSink<W> {
 
     ghost has_failed = { λ s. s.failed };
 
+    ghost ends_in_flush = { λ s. s.ends_in_flush };
+
     fn write(&mut self, bytes: &[u8]) -> Result<usize, Failed> {
+        self.ends_in_flush = false;
         match self.writer.write(bytes) {
             Ok(count) => {
                 self.failed = count == 0 && !bytes.is_empty();
@@ -69,6 +79,7 @@ impl<W: Write> Sink for StdSink<W> {
     }
 
     fn flush(&mut self) -> Result<(), Failed> {
+        self.ends_in_flush = true;
         match self.writer.flush() {
             Ok(()) => Ok(()),
             Err(_) => {

@@ -14,6 +14,7 @@ returns-clause-reading c = λ _.
     let r = rw c.if-not-found.false at (c.in-Ok.ensures.reads c.requires.trim c.requires.ready) in
     let g = read_next c.args.self.now.reader c.read_byte_record.new.self (fields_of c.read_byte_record.new.row) c.requires.begins c.requires.known r in
     record {
+      flexible = c.in-Ok.ensures.flexible ∙ c.requires.flexible;
       trim = r.3 ∙ c.requires.trim;
       ready = ((c.in-Ok.ensures.reads_on c.if-not-found.false).4 c.requires.ready).0;
       begins = g.begins;

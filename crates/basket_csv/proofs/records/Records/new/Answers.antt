@@ -1,6 +1,6 @@
 use Rattle.std.proofs.Common.{inr, ap, ◌∙◌, arith}
 use Rattle.csv.specs.Machine.{ends_at_end}
-use Rattle.csv.specs.Reading.{strip_bom, builder_trim, builder_names_headers}
+use Rattle.csv.specs.Reading.{strip_bom, builder_is_flexible, builder_trim, builder_names_headers}
 use Rattle.basket_csv.proofs.RecordLemmas.{stripped, few_left, known_bytes}
 use Rattle.basket_csv.proofs.records.Records.new.Goals as goal
 
@@ -9,6 +9,7 @@ returns-clause-reading c =
     let fr = c.from_reader-reader.ensures in
     let begins = ap ends_at_end fr.state in
     record {
+      flexible = fr.flexible ∙ ap builder_is_flexible c.flexible.ensures;
       trim = fr.trim ∙ ap builder_trim c.flexible.ensures ∙ ap builder_trim c.has_headers.ensures ∙ ap builder_trim c.delimiter.ensures ∙ c.new.ensures.trim;
       ready = inr (inr (fr.has_headers ∙ ap builder_names_headers c.flexible.ensures ∙ ap builder_names_headers c.has_headers.ensures, fr.headers));
       begins = begins;

@@ -6,8 +6,8 @@ use Rattle.basket_report.proofs.block.Block.put_set.Given as goal
 abbrev pub invariant-loop-start : goal.invariant-loop-start
 invariant-loop-start g l = record {
   within : l.start ≤ length l.items;
-  way : (start : Option (List ℕ)) (text : List ℕ) → IsOnItsWay start (g.W.Sink.taken l.fn.writer) (g.W.Sink.has_failed l.fn.writer) l.fn.self text
-      → IsOnItsWay start (g.W.Sink.taken l.writer) (g.W.Sink.has_failed l.writer) l.self (text ++ items_text (take l.start l.items));
+  way : (start : Option (List ℕ)) (text : List ℕ) → IsOnItsWay start (g.W.Sink.taken l.fn.writer) (g.W.Sink.has_failed l.fn.writer) (g.W.Sink.ends_in_flush l.fn.writer) l.fn.self text
+      → IsOnItsWay start (g.W.Sink.taken l.writer) (g.W.Sink.has_failed l.writer) (g.W.Sink.ends_in_flush l.writer) l.self (text ++ items_text (take l.start l.items));
 }
 
 abbrev pub decreases-loop-start : goal.decreases-loop-start

@@ -11,8 +11,8 @@ use Rattle.basket_report.proofs.set_lines.SetLines.write.Goals as goal
 pub loop-place-init : goal.loop-place-init
 loop-place-init g c =
     let taken = g.W.Sink.taken c.args.writer.now in
-    subst (IsOnItsWay taken taken (g.W.Sink.has_failed c.args.writer.now) c.args.self.now) (sym (append-nil c.args.self.now))
-    (nothing_sent taken (g.W.Sink.has_failed c.args.writer.now) c.args.self.now c.requires)
+    subst (IsOnItsWay taken taken (g.W.Sink.has_failed c.args.writer.now) (g.W.Sink.ends_in_flush c.args.writer.now) c.args.self.now) (sym (append-nil c.args.self.now))
+    (nothing_sent taken (g.W.Sink.has_failed c.args.writer.now) (g.W.Sink.ends_in_flush c.args.writer.now) c.args.self.now c.requires)
 
 pub loop-place-preserved : goal.loop-place-preserved
 loop-place-preserved g c =
@@ -22,6 +22,6 @@ loop-place-preserved g c =
     let before = report_of Numbered (take place sets) in
     let inside : place < length sets = omega (arith, c.loop-place-test.true, c.len-place-end.ensures) in
     let more = set_more Numbered sets place c.items.result.now c.count.result inside c.items.ensures.items c.count.ensures in
-    subst (λ text. IsOnItsWay start (g.W.Sink.taken c.put.new.writer) (g.W.Sink.has_failed c.put.new.writer) c.put.new.self text)
+    subst (λ text. IsOnItsWay start (g.W.Sink.taken c.put.new.writer) (g.W.Sink.has_failed c.put.new.writer) (g.W.Sink.ends_in_flush c.put.new.writer) c.put.new.self text)
     (append_assoc c.args.self.now before (set_line (set_of c.items.result.now c.count.result)) ∙ ap (λ text. c.args.self.now ++ text) more)
     (c.put.ensures start (c.args.self.now ++ before) c.loop-place.invariant)
