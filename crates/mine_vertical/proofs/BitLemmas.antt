@@ -1,12 +1,12 @@
 -- Words of bits.
-use Rattle.std.proofs.Common.{◌≡◌, ℕ, zero, suc, ◌+◌, ◌*◌, ◌<◌, ◌≤◌, ◌^◌, List, [], ◌∷◌, ◌++◌, take, drop, length, get_or, get_or-drop, map, set, refl, sym, ap, ◌∙◌, arith}
+use Rattle.std.proofs.Common.{◌≡◌, ℕ, zero, suc, ◌+◌, ◌*◌, ◌<◌, ◌≤◌, ◌^◌, List, [], ◌∷◌, ◌++◌, take, drop, length, get_or, map, refl, sym, ap, ◌∙◌, arith}
 use Rattle.std.specs.Prelude.{bit_and, count_ones}
 use Rattle.std.specs.Prelude.{All}
 use Rattle.std.specs.List.{AllByRecursion}
 use Rattle.std.specs.Simd.{first_chunks}
 use Rattle.std.specs.Simd.Lanes.{sum_l, zip2}
 use Rattle.std.proofs.Common.{length-drop}
-use Rattle.std.proofs.lemmas.List.{drop-set-lt, drop_more, length-take-le, take-append-drop}
+use Rattle.std.proofs.lemmas.List.{drop_more, length-take-le, take-append-drop}
 use Rattle.std.proofs.lemmas.List.Elements.{All-from_recursion}
 use Rattle.std.proofs.lemmas.Nat.{and_le_l, and_le_r, ones-le}
 use Rattle.mine_vertical.specs.Bits.{shared_bits, shared_in_chunks}
@@ -104,15 +104,6 @@ both_more (a ∷ x) (b ∷ y) (suc i) same here =
     let e : suc i + 1 ≡ suc (i + 1) = omega arith in
     ap (λ n. zip2 bit_and (take n (a ∷ x)) (take n (b ∷ y))) e ∙ ap (λ l. bit_and a b ∷ l) (both_more x y i (omega arith) (omega arith))
 
--- no words share nothing
-pub none_both : (xs ys : List ℕ) → length xs ≡ 0 → zip2 bit_and xs ys ≡ []
-none_both [] ys none = refl
-none_both (x ∷ xs) ys none = absurd (omega arith)
-
-pub none_shared : (xs ys : List ℕ) → length xs ≡ 0 → shared_bits xs ys ≡ 0
-none_shared [] ys none = refl
-none_shared (x ∷ xs) ys none = absurd (omega arith)
-
 -- ---- words that are changed one after another
 
 pub shared_most_of : (xs ys : List ℕ) → ((k : ℕ) → get_or ys k 0 < 2 ^ 64) → shared_bits xs ys ≤ length xs * 64
@@ -123,11 +114,3 @@ shared_most_of (x ∷ xs) (y ∷ ys) fit =
     let first : y < 2 ^ 64 = fit 0 in
     let below = and_le_r x y in
     let ones = ones-le 64 (bit_and x y) (omega arith) in omega (arith, ones)
-
-pub left_same : (words x : List ℕ) (i : ℕ) → drop i words ≡ drop i x → get_or words i 0 ≡ get_or x i 0
-left_same words x i is =
-    let at : i + 0 ≡ i = omega arith in
-    ap (λ k. get_or words k 0) (sym at) ∙ sym (get_or-drop i words 0 0) ∙ ap (λ l. get_or l 0 0) is ∙ get_or-drop i x 0 0 ∙ ap (λ k. get_or x k 0) at
-
-pub left_more : (words x : List ℕ) (i word : ℕ) → drop i words ≡ drop i x → drop (i + 1) (set words i word) ≡ drop (i + 1) x
-left_more words x i word is = drop-set-lt (i + 1) words i word (omega arith) ∙ sym (drop-drop i 1 words) ∙ ap (drop 1) is ∙ drop-drop i 1 x

@@ -257,9 +257,6 @@ pub record IsReached (cover : List ℕ) (place at : ℕ) : Type 0 where
   pub before : (i : ℕ) → i < at → get_or cover i 0 < place
   pub after : (i : ℕ) → at ≤ i → i < length cover → place ≤ get_or cover i 0
 
-pub reached_first : (cover : List ℕ) → IsReached cover 0 0
-reached_first cover = record { within = omega arith; before = λ i less. absurd (omega arith); after = λ i most here. omega arith }
-
 pub has_reached : (cover : List ℕ) (place at : ℕ) → at < length cover → get_or cover at 0 ≡ place → has cover place ≡ true
 has_reached cover place at here e = ap (has cover) (sym e) ∙ has_place cover at here
 

@@ -1,6 +1,6 @@
 -- Places that are marked.
 use Rattle.std.proofs.Common.{◌≡◌, ℕ, zero, suc, ◌+◌, ◌<◌, ◌≤◌, Bool, true, false, not, ◌||◌, ◌&&◌, List, ◌++◌, [], ◌∷◌, take, length, get_or, cond, eqb, ltb, refl, sym, ap, ◌∙◌, inl, inr, arith}
-use Rattle.std.specs.Prelude.{All, replicate}
+use Rattle.std.specs.Prelude.{All}
 use Rattle.std.specs.List.{filter, sum_by}
 use mir.Val.{bool_byte}
 use Rattle.std.proofs.Math.ListN.{set}
@@ -15,12 +15,6 @@ use Rattle.mine_vertical.specs.Cover.{common, cover_weight}
 use Rattle.mine_vertical.specs.Marks.{IsMarked}
 use Rattle.mine_vertical.proofs.CoverLemmas.{filter_drops, filter_keeps, filter_rises}
 use Rattle.mine_vertical.proofs.RowLemmas.{filter_members}
-
-pub none_marked : (n place : ℕ) → get_or {A = ℕ} (replicate n 0) place 0 ≡ 0
-none_marked zero zero = refl
-none_marked zero (suc place) = refl
-none_marked (suc n) zero = refl
-none_marked (suc n) (suc place) = none_marked n place
 
 set_same : {X : Type 0} (d : X) (xs : List X) (i : ℕ) (v : X) → i < length xs → get_or (set xs i v) i d ≡ v
 set_same d [] i v here = absurd (omega arith)

@@ -3,7 +3,6 @@ use Rattle.std.proofs.Common.{◌≡◌, ◌≢◌, ℕ, zero, suc, ◌+◌, ◌
 use Rattle.std.specs.Prelude.{All, bit_and, bit_or}
 use Rattle.std.specs.Simd.Lanes.{zip2}
 use Rattle.mine_vertical.specs.declared.bit_rows.BitRow.{BitRow}
-use Rattle.mine_vertical.specs.RowWords.{words_in}
 use Rattle.mine_vertical.specs.Rows.{IsBitRow}
 use Rattle.std.specs.List.{AllByRecursion, filter, list_any, range_with_len, sum_by}
 use Rattle.std.proofs.lemmas.Bool.{cases_eq, cases_lt, eqb-true, le-ltb, lt-ltb}
@@ -298,19 +297,19 @@ pub planes_narrow : (weights : List ℕ) (planes : List Plane) → map (λ plane
 planes_narrow weights planes bits = All-from_recursion (λ (plane : Plane). plane.bit < 40) planes
     (narrow_from planes (λ bit m. low_bits weights bit (subst (Member bit) bits m)))
 
-pub planes_wide : (weights : List ℕ) (planes : List Plane) → All (IsPlane weights) planes → All (λ plane. length (words_in plane.words) ≡ word_count (length weights)) planes
-planes_wide weights planes are = All-weaker (IsPlane weights) (λ (plane : Plane). length (words_in plane.words) ≡ word_count (length weights))
+pub planes_wide : (weights : List ℕ) (planes : List Plane) → All (IsPlane weights) planes → All (λ plane. length plane.words.items ≡ word_count (length weights)) planes
+planes_wide weights planes are = All-weaker (IsPlane weights) (λ (plane : Plane). length plane.words.items ≡ word_count (length weights))
     (λ plane e. ap length e ∙ length-words (λ place. has_bit plane.bit (get_or weights place 0)) 0 (word_count (length weights))) planes are
 
 -- ---- two rows of bits
 
 module _ (weights parent first second : List ℕ) (x y : BitRow) (p : IsBitRow weights parent first x) (q : IsBitRow weights parent second y) where
-  pub row_words : zip2 bit_and (words_in x.words) (words_in y.words) ≡ words_of (length weights) (common first second)
-  row_words = ap (λ l. zip2 bit_and l (words_in y.words)) p.words ∙ ap (zip2 bit_and (words_of (length weights) first)) q.words
+  pub row_words : zip2 bit_and x.words.items y.words.items ≡ words_of (length weights) (common first second)
+  row_words = ap (λ l. zip2 bit_and l y.words.items) p.words ∙ ap (zip2 bit_and (words_of (length weights) first)) q.words
       ∙ words_and (has first) (has second) 0 (word_count (length weights)) ∙ share_is_common (length weights) first second
 
-  pub row_ones : shared_bits (words_in x.words) (words_in y.words) ≡ length (common first second)
-  row_ones = ap (λ l. shared_bits l (words_in y.words)) p.words ∙ ap (shared_bits (words_of (length weights) first)) q.words ∙ row_shares weights first p.covers (has second)
+  pub row_ones : shared_bits x.words.items y.words.items ≡ length (common first second)
+  row_ones = ap (λ l. shared_bits l y.words.items) p.words ∙ ap (shared_bits (words_of (length weights) first)) q.words ∙ row_shares weights first p.covers (has second)
 
 -- ---- weights that are kept with their planes
 
@@ -328,8 +327,8 @@ module _ (weights : List ℕ) (ones : Bool) (planes : List Plane) (keeps : Keeps
     pub kept_narrow : All (λ plane. plane.bit < 40) planes
     kept_narrow = planes_narrow weights planes bits
 
-    pub kept_wide : All (λ plane. length (words_in plane.words) ≡ length words) planes
-    kept_wide = All-weaker (λ (plane : Plane). length (words_in plane.words) ≡ word_count (length weights)) (λ (plane : Plane). length (words_in plane.words) ≡ length words)
+    pub kept_wide : All (λ plane. length plane.words.items ≡ length words) planes
+    kept_wide = All-weaker (λ (plane : Plane). length plane.words.items ≡ word_count (length weights)) (λ (plane : Plane). length plane.words.items ≡ length words)
         (λ plane e. e ∙ sym long) planes (planes_wide weights planes keeps.planes_are.words)
 
     pub kept_weigh : sum_by (plane_weight words) planes ≡ cover_weight weights cover

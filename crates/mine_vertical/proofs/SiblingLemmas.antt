@@ -95,9 +95,6 @@ spans_some ranks spans all k d here =
     subst HasWeight (get_or-map (span_at ranks) spans k d (span_at ranks d) here)
     (all k (span_at ranks d) (subst (λ n. k < n) (sym (spans_length ranks spans)) here))
 
-pub spans_rise : (kept ranks : List ℕ) (spans : List Span) → All (IsCodedPlace kept) (baskets_at ranks spans) → All (λ (place : Weighted). IsRising place.basket) (baskets_at ranks spans)
-spans_rise kept ranks spans all k d here = (all k d here).0
-
 -- one more place of a cover
 pub cover_keeps : (p : ℕ → Bool) (n : ℕ) → p n ≡ true → filter p (range_with_len 0 (n + 1)) ≡ filter p (range_with_len 0 n) ++ n ∷ []
 cover_keeps p n h =

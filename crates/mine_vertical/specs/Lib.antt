@@ -10,6 +10,5 @@ pub mod Bits
 pub mod Planes
 pub mod Marks
 pub mod Covers
-pub mod RowWords
 pub mod BitRows
 pub mod Remade

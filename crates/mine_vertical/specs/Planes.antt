@@ -3,7 +3,6 @@ use Rattle.std.specs.Prelude.{◌≡◌, ℕ, Bool, ◌*◌, ◌/◌, ◌%◌, �
 use Rattle.std.specs.List.{list_all, list_any, range_with_len}
 use Rattle.mine_vertical.specs.declared.planes.Plane.{Plane}
 use Rattle.mine_vertical.specs.Bits.{shared_bits, word_count, words_from}
-use Rattle.mine_vertical.specs.RowWords.{words_in}
 
 -- whether a number has a bit
 abbrev pub has_bit : ℕ → ℕ → Bool
@@ -19,7 +18,7 @@ bits_of weights = filter (λ bit. list_any (has_bit bit) weights) (range_with_le
 
 -- a plane has the bit of each place whose weight has the plane's bit
 abbrev pub IsPlane : List ℕ → Plane → Type 0
-IsPlane weights plane = words_in plane.words ≡ words_from (λ place. has_bit plane.bit (slice_index weights place)) 0 (word_count (length weights))
+IsPlane weights plane = plane.words.items ≡ words_from (λ place. has_bit plane.bit (slice_index weights place)) 0 (word_count (length weights))
 
 -- a plane for each bit that some weight has; none where all weights are 1
 pub record ArePlanes (weights : List ℕ) (ones : Bool) (planes : List Plane) : Type 0 where
@@ -28,4 +27,4 @@ pub record ArePlanes (weights : List ℕ) (ones : Bool) (planes : List Plane) : 
 
 -- what a row's places in a plane add to its weight
 abbrev pub plane_weight : List ℕ → Plane → ℕ
-plane_weight words plane = shared_bits words (words_in plane.words) * 2 ^ plane.bit
+plane_weight words plane = shared_bits words plane.words.items * 2 ^ plane.bit

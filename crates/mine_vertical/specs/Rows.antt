@@ -5,7 +5,6 @@ use Rattle.mine_vertical.specs.declared.tids.TidList.{TidList}
 use Rattle.mine_vertical.specs.declared.diffs.DiffList.{DiffList}
 use Rattle.mine_vertical.specs.declared.bit_rows.BitRow.{BitRow}
 use Rattle.mine_vertical.specs.Bits.{words_of}
-use Rattle.mine_vertical.specs.RowWords.{words_in}
 use Rattle.mine_vertical.specs.Cover.{IsCover, lacking, cover_weight}
 
 -- the cover itself, and what it weighs
@@ -25,5 +24,5 @@ pub record IsDiffList (weights parent cover : List ℕ) (row : DiffList) : Type 
 -- a bit for each place, which is one where the place is in the cover, and what the cover weighs
 pub record IsBitRow (weights parent cover : List ℕ) (row : BitRow) : Type 0 where
   pub covers : IsCover weights cover
-  pub words : words_in row.words ≡ words_of (length weights) cover
+  pub words : row.words.items ≡ words_of (length weights) cover
   pub count : row.count ≡ cover_weight weights cover

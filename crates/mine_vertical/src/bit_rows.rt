@@ -2,13 +2,13 @@ ghost use Rattle.std.specs.Prelude.{◌≡◌, ◌<◌, ◌^◌, ⊤, IfOk};
 ghost use Rattle.basket_sets.specs.Itemset.{AllBelow};
 ghost use Rattle.mine_vertical.specs.Bits.{words_of};
 ghost use Rattle.mine_vertical.specs.BitRows.{IsAddedAt};
-ghost use Rattle.mine_vertical.specs.RowWords.{words_in};
 ghost use Rattle.mine_vertical.specs.Rows.{IsBitRow};
 
 use crate::marks::Marks;
 use crate::row::Row;
-use crate::row_words::RowWords;
+use crate::row_words::{RowWords, set, share, word, zeros};
 use crate::weights::Weights;
+use smallvec::SmallVec;
 use std::alloc::{AllocError, Global};
 
 /// For how many rows a database of more than one word is made anew, at the least.
@@ -24,11 +24,11 @@ pub struct BitRow {
 /// A bit for each place below a number, which is one where the place is in a cover.
 fn bits_of_cover(alloc: Global, cover: &[u32], places: u32) -> Result<RowWords, AllocError>
     requires { AllBelow places cover.now }
-    ensures { IfOk result (λ words. words_in words ≡ words_of places cover.now) }
+    ensures { IfOk result (λ words. words.items ≡ words_of places cover.now) }
 {
-    let mut words = RowWords::zeros(alloc, places as usize)?;
+    let mut words = zeros(alloc, places as usize)?;
     for place in cover {
-        words.set(*place as usize);
+        set(&mut words, *place as usize);
     }
     Ok(words)
 }
@@ -67,7 +67,7 @@ impl Row for BitRow {
 
     fn empty(alloc: Global) -> Self {
         BitRow {
-            words: RowWords::new(alloc),
+            words: SmallVec::new(alloc),
             count: 0,
         }
     }
@@ -88,7 +88,7 @@ impl Row for BitRow {
         weights: &Weights,
     ) -> Result<(), AllocError> {
         weights.bounds();
-        let ones = self.words.share(&x.words, &y.words)?;
+        let ones = share(&mut self.words, &x.words, &y.words)?;
         self.count = weights.weight_of_bits(&self.words, ones);
         Ok(())
     }
@@ -103,7 +103,7 @@ impl Row for BitRow {
 
     fn add_bit(&self, words: &mut [u64], bit: u64) -> bool {
         for at in 0..words.len().div_ceil(64) {
-            add_ones(words, at * 64, self.words.word(at), bit);
+            add_ones(words, at * 64, word(&self.words, at), bit);
         }
         true
     }

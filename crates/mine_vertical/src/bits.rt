@@ -1,9 +1,8 @@
 //! Bits that two lists of words share.
-ghost use Rattle.std.specs.Prelude.{◌≡◌, ◌≤◌, ◌*◌, All, IfOk, OnOk, bit_and, length};
+ghost use Rattle.std.specs.Prelude.{◌≡◌, ◌≤◌, ◌*◌, All, bit_and, length};
 ghost use Rattle.std.specs.Simd.Lanes.{zip2};
 ghost use Rattle.mine_vertical.specs.Bits.{MOST_WORDS, shared_bits, shared_in_chunks};
 
-use std::alloc::AllocError;
 use std::simd::prelude::*;
 
 /// The bits that chunks of words share, counted by lanes.
@@ -22,7 +21,7 @@ fn shared_by_lanes(first: &[[u64; 4]], second: &[[u64; 4]]) -> u64
 }
 
 /// The bits that words share, counted word by word.
-pub fn shared_by_words(first: &[u64], second: &[u64]) -> u64
+fn shared_by_words(first: &[u64], second: &[u64]) -> u64
     requires same { length first.now ≡ length second.now }
     requires few { length first.now ≤ MOST_WORDS }
     ensures ones { result ≡ shared_bits first.now second.now }
@@ -41,41 +40,27 @@ pub fn and_count(a: &[u64], b: &[u64]) -> u64
     requires few { length a.now ≤ MOST_WORDS }
     ensures { result ≡ shared_bits a.now b.now }
 {
+    if a.len() < 4 {
+        return shared_by_words(a, b);
+    }
     let (chunks, rest) = a.as_chunks::<4>();
     let (other_chunks, other_rest) = b.as_chunks::<4>();
     shared_by_lanes(chunks, other_chunks) + shared_by_words(rest, other_rest)
 }
 
-/// Keeps the bits that other words have too, and answers how many they are.
-fn keep_shared(words: &mut [u64], others: &[u64]) -> u64
-    requires same { length words.old ≡ length others.now }
-    requires few { length words.old ≤ MOST_WORDS }
-    ensures words { words.new ≡ zip2 bit_and words.old others.now }
-    ensures ones { result ≡ shared_bits words.old others.now }
-    ensures most { result ≤ length words.old * 64 }
+/// Puts down the bits that two rows of words share, and answers how many they are.
+pub fn put_shared(words: &mut [u64], x: &[u64], y: &[u64]) -> u64
+    requires long { length words.old ≡ length x.now }
+    requires same { length x.now ≡ length y.now }
+    requires few { length x.now ≤ MOST_WORDS }
+    ensures words { words.new ≡ zip2 bit_and x.now y.now }
+    ensures ones { result ≡ shared_bits x.now y.now }
 {
     let mut ones = 0;
     for at in 0..words.len() {
-        let both = words[at] & others[at];
+        let both = x[at] & y[at];
         words[at] = both;
         ones += u64::from(both.count_ones());
     }
     ones
-}
-
-/// The words that two rows share, in the place of other words, and how many ones they have.
-#[inline]
-pub fn share_words(words: &mut Vec<u64>, x: &[u64], y: &[u64]) -> Result<u64, AllocError>
-    requires same { length x.now ≡ length y.now }
-    requires few { length x.now ≤ MOST_WORDS }
-    ensures words { OnOk result (words.new.items ≡ zip2 bit_and x.now y.now) }
-    ensures ones { IfOk result (λ ones. ones ≡ shared_bits x.now y.now) }
-    ensures most { IfOk result (λ ones. ones ≤ length x.now * 64) }
-{
-    words.clear();
-    if x.is_empty() {
-        return Ok(0);
-    }
-    words.extend_from_slice(x)?;
-    Ok(keep_shared(words, y))
 }

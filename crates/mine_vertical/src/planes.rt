@@ -3,11 +3,11 @@ ghost use Rattle.std.specs.Prelude.{◌≡◌, ◌≤◌, ◌<◌, ℕ, All, IfO
 ghost use Rattle.std.specs.List.{list_any, sum_by};
 ghost use Rattle.basket_sets.specs.Database.{MOST_WEIGHT};
 ghost use Rattle.mine_vertical.specs.Bits.{MOST_WORDS};
-ghost use Rattle.mine_vertical.specs.RowWords.{words_in};
 ghost use Rattle.mine_vertical.specs.Planes.{ArePlanes, IsPlane, has_bit, plane_weight};
 ghost use Rattle.mine_vertical.specs.Weights.{MOST_PLACES};
 
-use crate::row_words::RowWords;
+use crate::bits::and_count;
+use crate::row_words::{RowWords, set, zeros};
 use std::alloc::{AllocError, Global};
 
 /// The bits of the greatest weight that there may be.
@@ -27,10 +27,10 @@ fn plane_of(alloc: Global, weights: &[u64], bit: u32) -> Result<Plane, AllocErro
     ensures bit { IfOk result (λ plane. plane.bit ≡ bit) }
     ensures words { IfOk result (λ plane. IsPlane weights.now plane) }
 {
-    let mut words = RowWords::zeros(alloc, weights.len())?;
+    let mut words = zeros(alloc, weights.len())?;
     for (place, weight) in weights.iter().enumerate() {
         if (*weight >> bit) % 2 == 1 {
-            words.set(place);
+            set(&mut words, place);
         }
     }
     Ok(Plane { bit, words })
@@ -67,15 +67,15 @@ pub fn planes_of(alloc: Global, weights: &[u64], are_ones: bool) -> Result<Vec<P
 
 /// What the places of a row of bits weigh together, by the planes of the weights.
 pub fn weight_by_planes(words: &RowWords, planes: &[Plane]) -> u64
-    requires few { length (words_in words.now) ≤ MOST_WORDS }
-    requires wide { All (λ plane. length (words_in plane.words) ≡ length (words_in words.now)) planes.now }
+    requires few { length words.now.items ≤ MOST_WORDS }
+    requires wide { All (λ plane. length plane.words.items ≡ length words.now.items) planes.now }
     requires narrow { All (λ plane. plane.bit < 40) planes.now }
-    requires light { sum_by (plane_weight (words_in words.now)) planes.now ≤ MOST_WEIGHT }
-    ensures { result ≡ sum_by (plane_weight (words_in words.now)) planes.now }
+    requires light { sum_by (plane_weight words.now.items) planes.now ≤ MOST_WEIGHT }
+    ensures { result ≡ sum_by (plane_weight words.now.items) planes.now }
 {
     let mut weight = 0;
     for plane in planes {
-        weight += words.shared(&plane.words) << plane.bit;
+        weight += and_count(words.as_slice(), plane.words.as_slice()) << plane.bit;
     }
     weight
 }

@@ -5,7 +5,6 @@ ghost use Rattle.basket_sets.specs.Itemset.{AllBelow, IsRising};
 ghost use Rattle.mine_vertical.specs.Cover.{IsCover, cover_weight};
 ghost use Rattle.mine_vertical.specs.Bits.{words_of};
 ghost use Rattle.mine_vertical.specs.Planes.{are_ones};
-ghost use Rattle.mine_vertical.specs.RowWords.{words_in};
 ghost use Rattle.mine_vertical.specs.Weights.{MOST_PLACES};
 
 use crate::planes::{Plane, planes_of, weight_by_planes};
@@ -127,8 +126,8 @@ impl Weights {
 
     /// What the places of a row of bits weigh together, where the row has so many ones.
     pub(crate) fn weight_of_bits(&self, words: &RowWords, ones: u64) -> u64
-        requires { (cover : List ℕ) × IsCover self.now cover × (words_in words.now ≡ words_of (length self.now) cover) × (ones ≡ length cover) }
-        ensures { (cover : List ℕ) → IsCover self.now cover → words_in words.now ≡ words_of (length self.now) cover → ones ≡ length cover → result ≡ cover_weight self.now cover }
+        requires { (cover : List ℕ) × IsCover self.now cover × (words.now.items ≡ words_of (length self.now) cover) × (ones ≡ length cover) }
+        ensures { (cover : List ℕ) → IsCover self.now cover → words.now.items ≡ words_of (length self.now) cover → ones ≡ length cover → result ≡ cover_weight self.now cover }
     {
         if self.are_ones {
             return ones;

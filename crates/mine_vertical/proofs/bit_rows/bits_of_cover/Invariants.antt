@@ -1,7 +1,6 @@
 use Rattle.std.proofs.Common.{◌≡◌, take}
 use Rattle.mine_vertical.specs.Bits.{words_of}
-use Rattle.mine_vertical.specs.RowWords.{words_in}
 use Rattle.mine_vertical.proofs.bit_rows.bits_of_cover.Given as goal
 
 abbrev pub invariant-loop-place : goal.invariant-loop-place
-invariant-loop-place l = words_in l.words ≡ words_of l.places (take l.place-index l.cover)
+invariant-loop-place l = l.words.items ≡ words_of l.places (take l.place-index l.cover)

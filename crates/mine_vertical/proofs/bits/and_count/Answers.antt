@@ -36,7 +36,7 @@ overflow_add-result c =
     let most = shared_most a b (λ i. (c.type_inv.a i).fits) in
     let e : c.shared_by_lanes.result ≡ shared_in_chunks (first_chunks 4 k a) (first_chunks 4 k b) = c.shared_by_lanes.ensures
     ∙ ap (λ l. shared_in_chunks l c.as_chunks-2.result.0.now) c.as_chunks.ensures.front ∙ ap (shared_in_chunks (first_chunks 4 k a)) (c.as_chunks-2.ensures.front ∙ other) in
-    let r : c.shared_by_words.result ≡ shared_bits (drop (k * 4) a) (drop (k * 4) b) = c.shared_by_words.ensures.ones
+    let r : c.shared_by_words-2.result ≡ shared_bits (drop (k * 4) a) (drop (k * 4) b) = c.shared_by_words-2.ensures.ones
     ∙ ap (λ l. shared_bits l c.as_chunks-2.result.1.now) c.as_chunks.ensures.back ∙ ap (shared_bits (drop (k * 4) a)) (c.as_chunks-2.ensures.back ∙ behind) in
     omega (arith, e, r, parts, most, c.requires.few)
 
@@ -50,6 +50,6 @@ returns c =
     let parts = in_chunks k a b c.requires.same (omega arith) in
     let e : c.shared_by_lanes.result ≡ shared_in_chunks (first_chunks 4 k a) (first_chunks 4 k b) = c.shared_by_lanes.ensures
     ∙ ap (λ l. shared_in_chunks l c.as_chunks-2.result.0.now) c.as_chunks.ensures.front ∙ ap (shared_in_chunks (first_chunks 4 k a)) (c.as_chunks-2.ensures.front ∙ other) in
-    let r : c.shared_by_words.result ≡ shared_bits (drop (k * 4) a) (drop (k * 4) b) = c.shared_by_words.ensures.ones
+    let r : c.shared_by_words-2.result ≡ shared_bits (drop (k * 4) a) (drop (k * 4) b) = c.shared_by_words-2.ensures.ones
     ∙ ap (λ l. shared_bits l c.as_chunks-2.result.1.now) c.as_chunks.ensures.back ∙ ap (shared_bits (drop (k * 4) a)) (c.as_chunks-2.ensures.back ∙ behind) in
     omega (arith, e, r, parts)

@@ -2,8 +2,7 @@ use Rattle.std.proofs.Common.{ℕ, ◌+◌, ◌&&◌, ◌/◌, ◌%◌, ◌^◌,
 use Rattle.std.proofs.lemmas.Bool.{eq-eqb, le-ltb, ne_eqb}
 use Rattle.mine_vertical.specs.Bits.{word_count, words_from}
 use Rattle.mine_vertical.specs.Planes.{has_bit}
-use Rattle.mine_vertical.specs.RowWords.{words_in}
-use Rattle.mine_vertical.proofs.PlaneLemmas.{place_apart, place_in, place_out, plane_end}
+use Rattle.mine_vertical.proofs.PlaneLemmas.{place_apart, place_in, place_out, plane_end, word_is_there}
 use Rattle.mine_vertical.proofs.WordLemmas.{length-words, words_none, words_same}
 use Rattle.mine_vertical.proofs.planes.plane_of.Goals as goal
 use Rattle.mine_vertical.proofs.planes.plane_of.Goals.{then-weight-bit-eq1, else-weight-bit-eq1}
@@ -13,6 +12,13 @@ loop-place-init c =
     let n = word_count (length c.args.weights.now) in
     let none = words_same (λ t. ltb t 0 && has_bit c.args.bit (get_or c.args.weights.now t 0)) (λ t. false) 0 n
     (λ t low. ap (λ b. b && has_bit c.args.bit (get_or c.args.weights.now t 0)) (le-ltb t 0 (omega arith))) ∙ words_none 0 n in c.in_ok-words.ensures ∙ sym none
+
+pub set-requires : goal.set-requires
+set-requires c =
+    let weights = c.args.weights.now in
+    let i = c.loop-place.place in
+    let long = ap length c.loop-place.invariant ∙ length-words (λ t. ltb t i && has_bit c.args.bit (get_or weights t 0)) 0 (word_count (length weights)) in
+    omega (arith, long, word_is_there i (length weights) c.loop-place-test.true)
 
 pub loop-place-preserved : goal.loop-place-preserved
 loop-place-preserved c =
@@ -27,12 +33,12 @@ loop-place-preserved c =
       | then-weight-bit-eq1 w ↦
           (let old = c.loop-place.invariant in
           let long = ap length old ∙ length-words before 0 n in
-          ap words_in w.words-is
+          ap (λ v. v.items) w.words-is
           ∙ w.set.ensures.set before after (old ∙ ap (words_from before 0) (sym long))
           (place_in has i (eq-eqb (get_or weights i 0 / 2 ^ bit % 2) 1 w.if-weight-bit-eq1.true)) (λ t differ. place_apart has i t differ)
           ∙ ap (words_from after 0) long)
       | else-weight-bit-eq1 w ↦
-          (ap words_in w.words-is ∙ c.loop-place.invariant
+          (ap (λ v. v.items) w.words-is ∙ c.loop-place.invariant
           ∙ sym (words_same after before 0 n (λ t low. place_out has i (ne_eqb (get_or weights i 0 / 2 ^ bit % 2) 1 w.if-weight-bit-eq1.false) t)))
     ]
 

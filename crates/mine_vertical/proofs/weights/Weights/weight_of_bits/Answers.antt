@@ -3,7 +3,6 @@ use Rattle.std.specs.Prelude.{All}
 use Rattle.std.specs.List.{sum_by}
 use Rattle.basket_sets.specs.Database.{MOST_WEIGHT}
 use Rattle.mine_vertical.specs.Planes.{are_ones, plane_weight}
-use Rattle.mine_vertical.specs.RowWords.{words_in}
 use Rattle.mine_vertical.specs.Weights.{KeepsWeights}
 use Rattle.mine_vertical.proofs.PlaneLemmas.{kept_few, kept_light, kept_narrow, kept_weigh, kept_wide, ones_weigh}
 use Rattle.mine_vertical.proofs.weights.Weights.weight_of_bits.Goals as goal
@@ -17,15 +16,15 @@ weight_by_planes-requires-clause-few c =
     let (cover, is, words, ones) = c.requires in
     let planes = c.self.inside.planes.items in
     let keeps = subst (λ l. KeepsWeights l c.self.inside.are_ones planes) c.self.view_is c.self.invariant in
-    kept_few c.args.self.now c.self.inside.are_ones planes keeps cover (words_in c.args.words.now) is words
+    kept_few c.args.self.now c.self.inside.are_ones planes keeps cover c.args.words.now.items is words
 
 pub weight_by_planes-requires-clause-wide : goal.weight_by_planes-requires-clause-wide
 weight_by_planes-requires-clause-wide c =
     let (cover, is, words, ones) = c.requires in
     let planes = c.self.inside.planes.items in
     let keeps = subst (λ l. KeepsWeights l c.self.inside.are_ones planes) c.self.view_is c.self.invariant in
-    subst (All (λ plane. length (words_in plane.words) ≡ length (words_in c.args.words.now))) (sym c.deref.ensures.value)
-    (kept_wide c.args.self.now c.self.inside.are_ones planes keeps cover (words_in c.args.words.now) is words c.if-self.false)
+    subst (All (λ plane. length plane.words.items ≡ length c.args.words.now.items)) (sym c.deref.ensures.value)
+    (kept_wide c.args.self.now c.self.inside.are_ones planes keeps cover c.args.words.now.items is words c.if-self.false)
 
 pub weight_by_planes-requires-clause-narrow : goal.weight_by_planes-requires-clause-narrow
 weight_by_planes-requires-clause-narrow c =
@@ -33,19 +32,19 @@ weight_by_planes-requires-clause-narrow c =
     let planes = c.self.inside.planes.items in
     let keeps = subst (λ l. KeepsWeights l c.self.inside.are_ones planes) c.self.view_is c.self.invariant in
     subst (All (λ plane. plane.bit < 40)) (sym c.deref.ensures.value)
-    (kept_narrow c.args.self.now c.self.inside.are_ones planes keeps cover (words_in c.args.words.now) is words c.if-self.false)
+    (kept_narrow c.args.self.now c.self.inside.are_ones planes keeps cover c.args.words.now.items is words c.if-self.false)
 
 pub weight_by_planes-requires-clause-light : goal.weight_by_planes-requires-clause-light
 weight_by_planes-requires-clause-light c =
     let (cover, is, words, ones) = c.requires in
     let planes = c.self.inside.planes.items in
     let keeps = subst (λ l. KeepsWeights l c.self.inside.are_ones planes) c.self.view_is c.self.invariant in
-    subst (λ l. sum_by (plane_weight (words_in c.args.words.now)) l ≤ MOST_WEIGHT) (sym c.deref.ensures.value)
-    (kept_light c.args.self.now c.self.inside.are_ones planes keeps cover (words_in c.args.words.now) is words c.if-self.false)
+    subst (λ l. sum_by (plane_weight c.args.words.now.items) l ≤ MOST_WEIGHT) (sym c.deref.ensures.value)
+    (kept_light c.args.self.now c.self.inside.are_ones planes keeps cover c.args.words.now.items is words c.if-self.false)
 
 pub returns : goal.returns
 returns c = λ cover is words ones.
     let planes = c.self.inside.planes.items in
     let keeps = subst (λ l. KeepsWeights l c.self.inside.are_ones planes) c.self.view_is c.self.invariant in
-    c.weight_by_planes.ensures ∙ ap (sum_by (plane_weight (words_in c.args.words.now))) c.deref.ensures.value
-    ∙ kept_weigh c.args.self.now c.self.inside.are_ones planes keeps cover (words_in c.args.words.now) is words c.if-self.false
+    c.weight_by_planes.ensures ∙ ap (sum_by (plane_weight c.args.words.now.items)) c.deref.ensures.value
+    ∙ kept_weigh c.args.self.now c.self.inside.are_ones planes keeps cover c.args.words.now.items is words c.if-self.false
