@@ -1,12 +1,12 @@
 //! The items that sets are known to have.
 ghost use Rattle.std.specs.Prelude.{◌≡◌, ◌<◌, ◌≤◌, ◌+◌, ◌-◌, ◌*◌, ◌++◌, ◌^◌, ◌/◌, ◌%◌, [], IfSome, IsTrue, drop, length, map, slice_index_or, take};
-ghost use Rattle.basket_lists.specs.Known.{IsBitOf, IsLonger, IsRestOf};
-ghost use Rattle.basket_lists.specs.Without.{ArePlacesWithout};
+ghost use Rattle.basket_lists.specs.Known.{IsBitOf, IsLonger};
 ghost use Rattle.basket_lists.specs.Packed.{IsPacked, bits_of, count_bits, items_in, items_mask, unpacked};
 ghost use Rattle.basket_sets.specs.Itemset.{AllBelow, rising};
 
-use crate::packed::{Packed, WORD, bits_hash, find_bits};
-use crate::places::Places;
+mod without;
+
+use crate::packed::{Packed, WORD};
 use basket_sets::{Itemset, is_rising};
 use std::alloc::{AllocError, Global};
 use std::marker::Model;
@@ -128,13 +128,6 @@ impl KnownItems {
         (packed.word & self.mask()).count_ones() as usize
     }
 
-    /// The hash of a packed set, whatever its count is.
-    pub fn hash(&self, packed: &Packed) -> u64
-        requires { IsPacked self.now packed.now }
-    {
-        bits_hash(self.bits(packed))
-    }
-
     /// The bit of an item in a word, if it is known.
     fn bit_of(&self, item: u32) -> Option<u128>
         ensures { IfSome result (IsBitOf self.now item) }
@@ -222,58 +215,6 @@ impl KnownItems {
         let bits = self.bits(packed);
         let count = put_bits(&self.items, (bits / WORD) as u64, 64, room, 0);
         put_bits(&self.items, (bits % WORD) as u64, 0, room, count)
-    }
-
-    /// Where the packed sets stand that are a packed set without one of its items, as far as the places
-    /// say it.
-    pub fn places_without(
-        &self,
-        sets: &[Packed],
-        places: &Places,
-        packed: &Packed,
-        found: &mut [u32; MOST_ITEMS],
-    )
-        requires { IsPacked self.now packed.now }
-        ensures { ArePlacesWithout (map (unpacked self.now) sets.now) (unpacked self.now packed.now).set (length (unpacked self.now packed.now).set) found.new }
-    {
-        let bits = self.bits(packed);
-        let count = self.add_places(sets, places, bits, 64, found, 0);
-        let _count = self.add_places(sets, places, bits, 0, found, count);
-    }
-
-    /// Adds those without an item that has a one among 64 bits, of which the lowest is at a place. So
-    /// many items have higher bits.
-    #[inline(always)]
-    fn add_places(
-        &self,
-        sets: &[Packed],
-        places: &Places,
-        bits: u128,
-        place: u32,
-        found: &mut [u32; MOST_ITEMS],
-        first: usize,
-    ) -> usize
-        requires some { 0 < length self.now }
-        requires bits { bits < 2 ^ length self.now }
-        requires place { place ≤ 64 }
-        requires rest { IsRestOf self.now bits first (bits / 2 ^ place % 2 ^ 64 * 2 ^ place + bits % 2 ^ place) }
-        requires found { ArePlacesWithout (map (unpacked self.now) sets.now) (items_in self.now bits) first found.old }
-        ensures rest { IsRestOf self.now bits result (bits % 2 ^ place) }
-        ensures found { ArePlacesWithout (map (unpacked self.now) sets.now) (items_in self.now bits) result found.new }
-    {
-        // Nothing is read here: it brings what holds of the items.
-        let _ = &self.items;
-        let count_bits = self.count_bits();
-        let mut rest = ((bits >> place) % WORD) as u64;
-        let mut count = first;
-        while rest != 0 {
-            let one = 1u64 << rest.ilog2();
-            let shorter = bits ^ (u128::from(one) << place);
-            found[count] = find_bits(sets, places, shorter, count_bits);
-            count += 1;
-            rest -= one;
-        }
-        count
     }
 }
 

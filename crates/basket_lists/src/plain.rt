@@ -1,17 +1,17 @@
 //! Sets whose items stand one behind another.
-ghost use Rattle.std.specs.Prelude.{◌≡◌, ◌<◌, ◌++◌, ◌^◌, [], ◌∷◌, IfOk, IsTrue, ◌↔◌, OnOk, length, map, slice_index_or, take};
+ghost use Rattle.std.specs.Prelude.{◌≡◌, ◌<◌, ◌++◌, ◌^◌, [], ◌∷◌, IfOk, IsTrue, ◌↔◌, OnOk, length, map, take};
 ghost use Rattle.std.specs.List.{slice_range};
 ghost use Rattle.std.specs.List.Sorted.{IsPermutation, IsSorted};
 ghost use Rattle.basket_lists.specs.CountedSets.{count_at, set_at};
 ghost use Rattle.basket_lists.specs.Plain.{IsPlaceOfSet};
-ghost use Rattle.basket_lists.specs.Without.{ArePlacesWithout, IsLongerBy, IsPlaceWithout};
 ghost use Rattle.basket_sets.specs.Itemset.{IsRising, with_item};
 ghost use Rattle.basket_sets.specs.Order.{report_order};
 
+mod without;
+
 use crate::keys::{sort_places, sort_places_shared};
-use crate::known::MOST_ITEMS;
 use crate::place::{Place, end_of, places_behind};
-use crate::places::{MOST_STEPS, NOWHERE, Places, item_hash, items_hash};
+use crate::places::items_hash;
 use std::alloc::{AllocError, Global};
 use std::cmp::Ordering;
 use std::marker::Model;
@@ -113,54 +113,6 @@ impl PlainSets {
         self.places[place].count
     }
 
-    /// Where the sets stand that are the set at a place without one of its items, as far as the places
-    /// say it.
-    pub fn places_without(&self, places: &Places, number: usize, found: &mut [u32; MOST_ITEMS])
-        requires { number < length self.now }
-        ensures { ArePlacesWithout self.now (set_at self.now number) MOST_ITEMS found.new }
-    {
-        let items = self.items(number);
-        let hash = items_hash(items);
-        first_places(places, items, hash, found);
-        for place in 0..items.len().min(MOST_ITEMS) {
-            let first = found[place];
-            if !self.is_without_at(first, items, place) {
-                let shorter = hash.wrapping_sub(item_hash(items[place]));
-                found[place] = self.find_without(places, items, place, shorter);
-            }
-        }
-    }
-
-    /// Whether the set that stands at a number is another without the item at a place.
-    fn is_without_at(&self, number: u32, items: &[u32], place: usize) -> bool
-        requires place { place < length items.now }
-        requires rises { IsRising items.now }
-        ensures { IsTrue result → IsPlaceWithout self.now items.now (slice_index_or items.now place 0) number }
-    {
-        let number = number as usize;
-        number < self.len() && is_without(self.items(number), items, place)
-    }
-
-    /// Where the set with this hash stands that is another without the item at a place, if the places say
-    /// it.
-    #[inline(never)]
-    fn find_without(&self, places: &Places, items: &[u32], place: usize, hash: u64) -> u32
-        requires place { place < length items.now }
-        requires rises { IsRising items.now }
-        ensures { IsPlaceWithout self.now items.now (slice_index_or items.now place 0) result }
-    {
-        for step in 0..MOST_STEPS {
-            let at = places.at(hash, step);
-            if at == NOWHERE {
-                return NOWHERE;
-            }
-            if self.is_without_at(at, items, place) {
-                return at;
-            }
-        }
-        NOWHERE
-    }
-
     /// The hash of the set at a place.
     pub fn hash(&self, place: usize) -> u64
         requires { place < length self.now }
@@ -217,14 +169,6 @@ impl PlainSets {
     }
 }
 
-/// The first place that is kept for a set without each of its items. All are read before a set is looked
-/// at, so that none waits for another.
-fn first_places(places: &Places, items: &[u32], hash: u64, found: &mut [u32; MOST_ITEMS]) {
-    for place in 0..items.len().min(MOST_ITEMS) {
-        found[place] = places.at(hash.wrapping_sub(item_hash(items[place])), 0);
-    }
-}
-
 /// Adds the items of the set at a place at the end, with one item more.
 fn add_longer(items: &mut Vec<u32>, place: Place, item: u32) -> Result<(), AllocError>
     requires { IsPlaceOfSet items.old.items place }
@@ -237,18 +181,6 @@ fn add_longer(items: &mut Vec<u32>, place: Place, item: u32) -> Result<(), Alloc
         items.insert(start + at, item)?;
     }
     Ok(())
-}
-
-/// Whether a set is another without the item at a place.
-fn is_without(set: &[u32], items: &[u32], place: usize) -> bool
-    requires place { place < length items.now }
-    requires rises { IsRising items.now }
-    ensures { IsTrue result → IsLongerBy (slice_index_or items.now place 0) set.now items.now }
-{
-    if items.len() != set.len() + 1 {
-        return false;
-    }
-    &items[..place] == &set[..place] && &items[place + 1..] == &set[place..]
 }
 
 /// The order of two sets in a report.

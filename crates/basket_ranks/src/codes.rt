@@ -12,8 +12,7 @@ use crate::ranks::{RankTable, ranked_items};
 use basket_sets::{Database, Itemset, Minimum, Names, Weighted, count_items, merge_equal};
 use std::alloc::{AllocError, Global};
 use std::marker::Model;
-use std::thread;
-use std::thread::Threads;
+use std::thread::{self, Threads};
 
 /// The frequent items by rank: rank 0 is the item of the greatest support, and of items of one
 /// support the least number has the least rank.

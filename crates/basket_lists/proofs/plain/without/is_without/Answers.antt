@@ -2,7 +2,7 @@ use Rattle.std.proofs.Common.{rules, ◌≡◌, ◌+◌, ◌-◌, ◌++◌, leng
 use Rattle.std.proofs.lemmas.List.{take-append-drop, take_rest}
 use Rattle.basket_sets.specs.Itemset.{with_item}
 use Rattle.basket_lists.proofs.WithoutLemmas.{put_back}
-use Rattle.basket_lists.proofs.plain.is_without.Goals as goal
+use Rattle.basket_lists.proofs.plain.without.is_without.Goals as goal
 
 pub returns-then-eq : goal.returns-then-eq
 returns-then-eq c told =

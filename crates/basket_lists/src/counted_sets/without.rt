@@ -1,0 +1,50 @@
+//! Where a list has its sets without one of their items.
+ghost use Rattle.std.specs.Prelude.{◌≤◌, ◌<◌, length};
+ghost use Rattle.basket_lists.specs.CountedSets.{set_at};
+ghost use Rattle.basket_lists.specs.Without.{ArePlacesWithout};
+
+use crate::counted_sets::CountedSets;
+use crate::known::MOST_ITEMS;
+use crate::places::{NOWHERE, Places};
+use std::alloc::{AllocError, Global};
+
+impl CountedSets {
+    /// Where the sets stand that are the set at a place without one of its items, each beside the place
+    /// of that item, as far as the places say it.
+    pub fn places_without(&self, places: &Places, number: usize, found: &mut [u32; MOST_ITEMS])
+        requires { number < length self.now }
+        ensures { ArePlacesWithout self.now (set_at self.now number) MOST_ITEMS found.new }
+    {
+        if number < self.packed.len() {
+            self.known
+                .places_without(&self.packed, places, &self.packed[number], found);
+        } else if self.packed.is_empty() {
+            self.plain.places_without(places, number, found);
+        } else {
+            *found = [NOWHERE; MOST_ITEMS];
+        }
+    }
+
+    /// The places of the sets from `start` up to `end`.
+    pub fn places(&self, alloc: Global, start: usize, end: usize) -> Result<Places, AllocError>
+        requires { end ≤ length self.now }
+    {
+        let mut places = Places::with_room(alloc, end.saturating_sub(start))?;
+        for place in start..end {
+            places.keep(self.hash(place), place);
+        }
+        Ok(places)
+    }
+
+    /// The hash of the set at a place.
+    fn hash(&self, place: usize) -> u64
+        requires { place < length self.now }
+    {
+        let packed = self.packed.len();
+        if place < packed {
+            self.known.hash(&self.packed[place])
+        } else {
+            self.plain.hash(place - packed)
+        }
+    }
+}
