@@ -1,6 +1,8 @@
-ghost use Rattle.std.specs.Prelude.{◌≡◌};
+ghost use Rattle.std.specs.Prelude.{◌≡◌, IfOk};
 
+use crate::frequent::Frequent;
 use basket_sets::Counted;
+use std::alloc::{AllocError, Global};
 use std::marker::Model;
 
 /// The frequent sets of a database and a minimum, in report order, each with its items side by side.
@@ -23,6 +25,14 @@ impl Unpacked {
         ensures { result ≡ record { sets = sets.items; total = total } }
     {
         Unpacked { sets, total }
+    }
+
+    /// A copy of a list, with the items of each set side by side.
+    pub fn of(alloc: Global, frequent: &Frequent) -> Result<Self, AllocError>
+        ensures { IfOk result (λ unpacked. unpacked ≡ frequent.now) }
+    {
+        let sets = frequent.sets().unpacked(alloc)?;
+        Ok(Unpacked::new(sets, frequent.total()))
     }
 
     /// The sets with their supports.

@@ -13,7 +13,7 @@ use crate::lookups::Lookups;
 use crate::met::MetRule;
 use crate::rights::{MOST_PLACES, Right, Sides, longer_rights};
 use crate::supports::count_of;
-use basket_core::{Fraction, Itemset, Unpacked};
+use basket_core::{Fraction, Frequent, Itemset, Unpacked};
 use std::alloc::{AllocError, Global};
 
 /// The rules of a union of so many items have room before they are made.
@@ -37,17 +37,18 @@ pub struct Rule {
 /// order, those of one union by their right sides in report order.
 pub fn rules(
     alloc: Global,
-    frequent: &Unpacked,
+    frequent: &Frequent,
     confidence: (u32, u32),
 ) -> Result<Vec<Rule>, AllocError>
     ensures baskets { IfOk result (λ rules. AreRules frequent.now confidence rules.items) }
     ensures lists { IfOk result (λ rules. IsConsistent frequent.now.sets → rules.items ≡ rules_among frequent.now confidence) }
 {
-    let mut lookups = Lookups::of(alloc, frequent.sets())?;
+    let list = Unpacked::of(alloc, frequent)?;
+    let mut lookups = Lookups::of(alloc, list.sets())?;
     let mut rules = Vec::new(alloc);
-    for number in 0..frequent.sets().len() {
-        let met = met_rules(alloc, frequent, number, confidence, &mut lookups)?;
-        add_rules(alloc, frequent, number, &met, &mut lookups, &mut rules)?;
+    for number in 0..list.sets().len() {
+        let met = met_rules(alloc, &list, number, confidence, &mut lookups)?;
+        add_rules(alloc, &list, number, &met, &mut lookups, &mut rules)?;
     }
     Ok(rules)
 }

@@ -49,3 +49,7 @@ pub record Lawful (m : Machine) : Type 0 where
   pub whole : EachRecord m.seats (λ r. 1 ≤ r.parts)
   -- each record has a number for each counter
   pub sizes : EachRecord m.seats (λ r. (length r.added ≡ length m.counters) × (length r.seen ≡ length m.counters))
+
+-- the second state is one of the first one's round: as many pieces, seats in all and counters
+abbrev pub IsOfRound : Machine → Machine → Type 0
+IsOfRound m n = (n.pieces ≡ m.pieces) × (n.parts ≡ m.parts) × (length n.counters ≡ length m.counters)

@@ -3,12 +3,24 @@ ghost use Rattle.std.specs.Prelude.{◌≡◌, ◌≢◌, ℕ, ◌≤◌, List, 
 ghost use Rattle.mine_round.specs.declared.state.Record.{Record};
 ghost use Rattle.mine_round.specs.declared.state.SeatState.TheVariants.{Spent, Holding};
 ghost use Rattle.mine_round.specs.Machine.{Machine, Event, split, claim, add, read, join, Fits, after, run, answers, opening, record_at};
-ghost use Rattle.mine_round.specs.Lawful.{Lawful};
+ghost use Rattle.mine_round.specs.Lawful.{IsOfRound, Lawful};
 
 /// Each run of the machine stays lawful, and an event that does not fit changes nothing.
 pub fn rounds_stay_lawful()
     ensures lawful { (pieces counters seats : ℕ) (events : List Event) → 1 ≤ seats → Lawful (run (opening pieces counters seats) events) }
     ensures unfit { (m : Machine) (event : Event) → ¬ Fits m event → after m event ≡ m }
+{}
+
+/// The records of all seats tell the words: lawful states of one round with the same seats are the same.
+pub fn records_tell_the_words()
+    ensures { (m n : Machine) → Lawful m → Lawful n → IsOfRound m n → n.seats ≡ m.seats → n ≡ m }
+{}
+
+/// Each step on a round's words is an event: a lawful state whose seats are those after an event is the
+/// state after it. The rule of the words has them lawful after each step, and the contract of a step says
+/// what the seat's record becomes, which is what the event makes of it.
+pub fn steps_are_events()
+    ensures { (m n : Machine) (event : Event) → Lawful m → Lawful n → IsOfRound m n → n.seats ≡ (after m event).seats → n ≡ after m event }
 {}
 
 /// In a lawful state no piece went to two seats.

@@ -42,5 +42,5 @@ runs-preserved g c =
     record {
       in_order = subst IsInReportOrder (sym c.split_at.ensures.back) (sorted_drop report_order (1 + c.same_size.result) c.runs.rest.now c.runs.invariant.in_order);
       so_far = run_more baskets c.runs.supports.items c.append.new.self.items c.in_ok-counted.counted.items c.runs.rest.now run c.split_at.result.1.now
-          c.split_at.ensures.by_index.0 c.in_ok-append.ensures.items (c.in_ok-counted.ensures ∙ ap (λ l. map (support_of l) run) c.baskets-baskets.ensures.baskets) ∙ c.runs.invariant.so_far;
+          c.split_at.ensures.by_index.0 c.in_ok-append.ensures.items (c.in_ok-counted.ensures ∙ ap (λ l. map (support_of l) run) c.baskets.ensures.baskets) ∙ c.runs.invariant.so_far;
     }
