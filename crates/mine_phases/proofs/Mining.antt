@@ -9,7 +9,7 @@ use Rattle.basket_ranks.specs.Codes.{Coding}
 use Rattle.basket_ranks.specs.Shards.{shard_start}
 use Rattle.basket_sets.specs.declared.counted.Counted.{Counted}
 use Rattle.mine_classes.specs.Mined.{ListsClassItems}
-use Rattle.mine_phases.specs.Classes.{AreMined, ranks_of}
+use Rattle.mine_phases.specs.Classes.{AreMined, IsClassWork, ranks_of}
 
 -- ---- numbers one after another
 
@@ -89,7 +89,7 @@ module _ (coding : Coding) (is_work : ℕ → ℕ → Type 0) where
 
   -- the next class behind those before it
   pub mined_next : (start : ℕ) (classes now : List (List Counted × ℕ)) (class : List Counted × ℕ) (rank : ℕ) → start + length classes ≡ rank → now ≡ classes ++ class ∷ []
-      → AreMined coding is_work (range_with_len start (length classes)) classes → ListsClassItems coding rank class.0 → is_work rank class.1
+      → AreMined coding is_work (range_with_len start (length classes)) classes → ListsClassItems coding rank class.0 → IsClassWork coding is_work rank class.1
       → AreMined coding is_work (range_with_len start (length now)) now
   mined_next start classes now class rank at is mined listed work =
       let long : length now ≡ length classes + 1 = ap length is ∙ length-append classes (class ∷ []) in

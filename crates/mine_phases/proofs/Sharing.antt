@@ -1,5 +1,5 @@
 -- What all workers of a phase of classes have told and mined together.
-use Rattle.std.proofs.Common.{◌≡◌, ◌≤◌, ◌<◌, ◌+◌, ◌++◌, ◌⊎◌, ℕ, suc, zero, List, [], ◌∷◌, map, fold, get_or, length, min, Option, Some, None, Ok, Err, Result, refl, reverse, ap, sym, ◌∙◌, subst, inl, inr, arith, zero-add}
+use Rattle.std.proofs.Common.{◌≡◌, ◌≤◌, ◌<◌, ◌+◌, ◌*◌, ◌^◌, ◌++◌, ◌⊎◌, ℕ, suc, zero, List, [], ◌∷◌, map, fold, get_or, length, min, Option, Some, None, Ok, Err, Result, refl, reverse, ap, sym, ◌∙◌, subst, inl, inr, arith, zero-add}
 use Rattle.std.specs.Prelude.{All, IsPermutation, Vec, slice_index}
 use Rattle.std.specs.Global.{Global}
 use Rattle.std.specs.List.{flat_map, range_with_len, sum, sum_by}
@@ -19,7 +19,7 @@ use Rattle.mine_round.specs.RoundView.{RoundView}
 use Rattle.mine_round.specs.SeatView.{SeatView}
 use Rattle.mine_round.specs.Totals.{added_by, claimed_by, seen_by}
 use Rattle.mine_phases.specs.declared.share.Share.{Share}
-use Rattle.mine_phases.specs.Classes.{AreMined, HasLargeClass, IsClassShare, IsWorkOfAll, MOST_WORK, claimed_size, piece_from_end, piece_size, ranks_of}
+use Rattle.mine_phases.specs.Classes.{AreMined, HasLargeClass, IsClassShare, IsWorkOfAll, MOST_SET_WORK, MOST_WORK, claimed_size, piece_from_end, piece_size, ranks_of}
 use Rattle.mine_phases.specs.Share.{fault_after, fault_of}
 use Rattle.mine_phases.proofs.Mining.{mined_append, sum_fits, sum_more}
 
@@ -174,7 +174,7 @@ module _ (coding : Coding) (is_work : ℕ → ℕ → Type 0) where
       → (k : ℕ) → k < count → is_work (first + k) (get_or (map (λ class. class.1) classes) k 0)
   works_at first zero classes mined k below = absurd (omega arith)
   works_at first (suc count) [] mined k below = absurd mined
-  works_at first (suc count) (class ∷ classes) mined zero below = let e : first ≡ first + zero = omega arith in subst (λ n. is_work n class.1) e mined.1
+  works_at first (suc count) (class ∷ classes) mined zero below = let e : first ≡ first + zero = omega arith in subst (λ n. is_work n class.1) e mined.1.0
   works_at first (suc count) (class ∷ classes) mined (suc k) below =
       let e : (first + 1) + k ≡ first + suc k = omega arith in
       subst (λ n. is_work n (get_or (map (λ class. class.1) classes) k 0)) e (works_at (first + 1) count classes mined.2 k (omega arith))
@@ -188,13 +188,28 @@ module _ (coding : Coding) (is_work : ℕ → ℕ → Type 0) where
       let e : (first + 1) + k ≡ first + suc k = omega arith in
       subst (λ n. ListsClassItems coding n (get_or (map (λ class. class.0) classes) k [])) e (lists_at (first + 1) count classes mined.2 k (omega arith))
 
-  pub work_of_all : (classes : List (List Counted × ℕ)) (total : ℕ) → AreMined coding is_work (range_with_len 0 (length coding.items)) classes
+  work_is_few : (first count : ℕ) (classes : List (List Counted × ℕ)) → AreMined coding is_work (range_with_len first count) classes
+      → sum (map (λ class. class.1) classes) ≤ sum_by (class_size coding) (range_with_len first count) * MOST_SET_WORK
+  work_is_few first zero [] mined = omega arith
+  work_is_few first zero (class ∷ classes) mined = absurd mined
+  work_is_few first (suc count) [] mined = absurd mined
+  work_is_few first (suc count) (class ∷ classes) mined =
+      let rest = work_is_few (first + 1) count classes mined.2 in
+      let works = sum_by-cons (λ n. n) class.1 (map (λ class. class.1) classes) in
+      let sizes = ap (λ n. n * MOST_SET_WORK) (sum_by-cons (class_size coding) first (range_with_len (first + 1) count)) in
+      omega (arith, rest, mined.1.1, works, sizes)
+
+  pub work_of_all : (limit : ℕ) (classes : List (List Counted × ℕ)) (total : ℕ) → IsCoding coding → ClassSizesAddUp → length (frequent_of_coding coding) ≤ limit → limit < 2 ^ 32
+      → AreMined coding is_work (range_with_len 0 (length coding.items)) classes
       → total ≡ min (sum (map (λ class. class.1) classes)) MOST_WORK → IsWorkOfAll is_work (length coding.items) total
-  work_of_all classes total mined added = record {
+  work_of_all limit classes total is sizes within small mined added = record {
     each = map (λ class. class.1) classes;
     long = length-map classes (λ class. class.1) ∙ mined_long 0 (length coding.items) classes mined;
     works = λ k below. let e : 0 + k ≡ k = omega arith in subst (λ n. is_work n (get_or (map (λ class. class.1) classes) k 0)) e (works_at 0 (length coding.items) classes mined k below);
-    added = added;
+    added =
+        let few = work_is_few 0 (length coding.items) classes mined in
+        let all = ap (λ n. n * MOST_SET_WORK) (sizes coding is) in
+        omega (arith, few, all, within, small, added);
   }
 
   pub once_of_all : (classes : List (List Counted × ℕ)) → ClassItemsAreAll → IsCoding coding → AreMined coding is_work (range_with_len 0 (length coding.items)) classes

@@ -1,5 +1,5 @@
 -- Mining class by class, shared by workers.
-use Rattle.std.specs.Prelude.{◌≡◌, ◌≤◌, ◌<◌, ◌-◌, ◌^◌, ◌⊎◌, ℕ, List, [], ◌∷◌, All, Err, IfOk, Vec, length, map, min, slice_index, sum}
+use Rattle.std.specs.Prelude.{◌≡◌, ◌≤◌, ◌<◌, ◌-◌, ◌*◌, ◌^◌, ◌⊎◌, ℕ, List, [], ◌∷◌, All, Err, IfOk, Vec, length, map, slice_index, sum}
 use Rattle.std.specs.Global.{Global}
 use Rattle.std.specs.List.{range_with_len, sum_by}
 use Rattle.basket_ranks.specs.Codes.{Coding}
@@ -12,16 +12,20 @@ use Rattle.mine_round.specs.SeatView.{SeatView}
 use Rattle.mine_phases.specs.declared.share.Share.{Share}
 use Rattle.mine_phases.specs.Share.{pieces_of}
 
--- the greatest number of work that is told
+-- the greatest number of work that can be told
 abbrev pub MOST_WORK : ℕ
 MOST_WORK = 2 ^ 64 - 1
 
--- the work of the classes of the ranks below a number, added up as far as it goes
+-- the most work that a set takes: it has no more extensions than there are ranks
+abbrev pub MOST_SET_WORK : ℕ
+MOST_SET_WORK = 2 ^ 32 - 1
+
+-- the work of the classes of the ranks below a number, added up
 pub record IsWorkOfAll (is_work : ℕ → ℕ → Type 0) (ranks total : ℕ) : Type 0 where
   pub each : List ℕ
   pub long : length each ≡ ranks
   pub works : (rank : ℕ) → rank < ranks → is_work rank (slice_index each rank)
-  pub added : total ≡ min (sum each) MOST_WORK
+  pub added : total ≡ sum each
 
 -- the ranks of a piece
 abbrev pub ranks_of : Coding → ℕ → ℕ → List ℕ
@@ -39,13 +43,17 @@ piece_from_end pieces claimed = pieces - 1 - claimed
 abbrev pub claimed_size : Coding → ℕ → ℕ → ℕ
 claimed_size coding pieces claimed = piece_size coding pieces (piece_from_end pieces claimed)
 
+-- the work that a class took, which is not more than its sets can take
+abbrev pub IsClassWork : Coding → (ℕ → ℕ → Type 0) → ℕ → ℕ → Type 0
+IsClassWork coding is_work rank work = is_work rank work × (work ≤ class_size coding rank * MOST_SET_WORK)
+
 -- for each rank its class, and the work that it took
 abbrev pub AreMined : Coding → (ℕ → ℕ → Type 0) → List ℕ → List (List Counted × ℕ) → Type 0
 AreMined coding is_work [] [] = Unit {0}
 AreMined coding is_work [] (class ∷ classes) = ⊥
 AreMined coding is_work (rank ∷ ranks) [] = ⊥
 AreMined coding is_work (rank ∷ ranks) (class ∷ classes) =
-    ListsClassItems coding rank class.0 × is_work rank class.1 × AreMined coding is_work ranks classes
+    ListsClassItems coding rank class.0 × IsClassWork coding is_work rank class.1 × AreMined coding is_work ranks classes
 
 -- a class alone has more sets than the limit
 pub record HasLargeClass (coding : Coding) (limit : ℕ) : Type 0 where

@@ -1,8 +1,9 @@
 //! The miners that go class by class.
-ghost use Rattle.std.specs.Prelude.{◌≡◌, ◌≤◌, ◌<◌, ◌+◌, ◌⊎◌, ℕ, Err, IfOk, IsTrue, OnOk, false, length};
+ghost use Rattle.std.specs.Prelude.{◌≡◌, ◌≤◌, ◌<◌, ◌+◌, ◌*◌, ◌⊎◌, ℕ, Err, IfOk, IsTrue, OnOk, false, length};
 ghost use Rattle.basket_core.specs.declared.fault.MineFault.TheVariants.{TooMany};
 ghost use Rattle.basket_ranks.specs.Codes.{Coding};
 ghost use Rattle.mine_classes.specs.Mined.{ListsClassItems, class_size};
+ghost use Rattle.mine_phases.specs.Classes.{MOST_SET_WORK};
 
 use basket_core::{CountedSets, MineFault, Tally};
 use mine_classes::Tables;
@@ -29,6 +30,7 @@ pub trait ClassMiner {
         requires going { T.is_over tally.old ≡ false }
         ensures listed { IfOk result (λ mined. ListsClassItems (coding_of self.now) rank mined.0) }
         ensures work { IfOk result (λ mined. is_work self.now rank mined.1) }
+        ensures few { IfOk result (λ mined. mined.1 ≤ class_size (coding_of self.now) rank * MOST_SET_WORK) }
         ensures told { IfOk result (λ mined. T.told_of tally.new ≡ T.told_of tally.old + length mined.0) }
         ensures going_on { IfOk result (λ mined. T.is_over tally.new ≡ false) }
         ensures too_many { (limit : ℕ) → result ≡ Err (TooMany limit)

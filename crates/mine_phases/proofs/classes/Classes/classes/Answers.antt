@@ -52,7 +52,7 @@ loop-rank-preserved g c =
       at = omega (arith, long, before.at);
       within = omega (arith, c.loop-rank-test.true);
       room = omega (arith, c.push_reserved.ensures.capacity, before.room);
-      mined = mined_next coding (g.M.ClassMiner.is_work c.args.self.now.miner.now) low classes now class c.loop-rank.rank before.at pushed before.mined c.in_ok-class.ensures.listed c.in_ok-class.ensures.work;
+      mined = mined_next coding (g.M.ClassMiner.is_work c.args.self.now.miner.now) low classes now class c.loop-rank.rank before.at pushed before.mined c.in_ok-class.ensures.listed (c.in_ok-class.ensures.work, c.in_ok-class.ensures.few);
       told = omega (arith, next, same, size, before.told, c.in_ok-class.ensures.told);
     }
 
