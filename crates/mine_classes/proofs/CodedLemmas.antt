@@ -80,9 +80,6 @@ module _ (baskets : List Weighted) (least rank : ℕ) where
   below_weight test [] = refl
   below_weight test (place ∷ places) = at (has place.basket rank) (below rank places) (flat_map (kept_place keeps rank) places) (below_weight test places)
     where
-      lows : List ℕ
-      lows = filter (λ other. ltb other rank) place.basket
-
       at : (h : Bool) (ls ms : List Weighted) → weight_where (λ basket. test (filter keeps basket)) ls ≡ weight_where test ms
           → weight_where (λ basket. test (filter keeps basket)) (cond h (weighted (filter (λ other. ltb other rank) place.basket) place.weight ∷ []) [] ++ ls)
           ≡ weight_where test (cond h (weighted (filter keeps place.basket) place.weight ∷ []) [] ++ ms)

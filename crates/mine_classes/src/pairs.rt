@@ -13,7 +13,7 @@ use basket_sets::Itemset;
 use std::alloc::{AllocError, Global};
 use std::marker::Model;
 
-/// A sum for each rank, used again from rank to rank.
+/// A sum for each rank, used again from rank to rank, and by databases of fewer ranks.
 #[derive(Debug, Drop)]
 pub struct Sums {
     /// A sum of 0 for each rank.

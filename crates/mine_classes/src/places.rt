@@ -17,7 +17,7 @@ use crate::words::{WORD_RANKS, clear_bits, set_bits, words_of};
 use std::alloc::{AllocError, Global};
 use std::marker::Model;
 
-/// A place for each rank, used again from rank to rank.
+/// A place for each rank, used again from rank to rank, and by databases of fewer ranks.
 #[derive(Debug, Drop)]
 pub struct Places {
     /// An empty slot for each rank.

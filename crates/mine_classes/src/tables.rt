@@ -5,7 +5,7 @@ use crate::pairs::Sums;
 use crate::places::Places;
 use std::alloc::{AllocError, Global};
 
-/// A place and a sum for each rank of a level, used again from rank to rank.
+/// A place and a sum for each rank, used again from rank to rank, and by databases of fewer ranks.
 #[derive(Debug, Drop)]
 pub struct Tables {
     pub sums: Sums,

@@ -55,7 +55,7 @@ impl WordBaskets {
         })
     }
 
-    /// The same of words that stand in order.
+    /// The same of words that stand in order, no two of them equal, which stay as they are.
     pub fn of_ordered(count: u32, words: Vec<Word>) -> Self
         requires few { count ≤ WORD_RANKS }
         requires some { All (λ (word : Bits). 1 ≤ word.weight) words.items }

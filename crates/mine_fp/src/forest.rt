@@ -85,8 +85,8 @@ fn names_of(alloc: Global, coded: &Coded, runs: &Runs) -> Result<Vec<(u32, u64)>
 }
 
 /// The sets of the class of a rank, as items, each once with its support (Han, Pei and Yin 2000), and
-/// how many conditional trees were made for them: none below one that is a single branch, from which
-/// the sets are read off. Each set is told to the tally as soon as it is known to be frequent.
+/// how many conditional trees they take: none below one that is a single branch, from which the sets
+/// are read off. A tree of the root alone counts, and nothing is made for it. Each set is told to the tally as soon as it is known to be frequent.
 pub fn fp_class<T: Tally>(
     alloc: Global,
     forest: &Forest<'_>,

@@ -7,7 +7,7 @@ use crate::trees::Trees;
 use basket_core::{CountedSets, Itemset, MineFault, Tally};
 use std::alloc::Global;
 
-/// The sets that were found, and how many conditional trees were made for them.
+/// The sets that were found, and how many conditional trees they took.
 #[derive(Debug, Drop)]
 pub struct Found {
     pub sets: CountedSets,

@@ -9,7 +9,7 @@ use mine_classes::{Places, Tables};
 use std::alloc::{AllocError, Global};
 use std::marker::Model;
 
-/// How many conditional trees were made.
+/// How many conditional trees there were. Nothing else raises the number than the call that makes one.
 #[derive(Debug, Drop)]
 pub struct Trees {
     number: u64,
@@ -30,16 +30,16 @@ impl Trees {
         Trees { number: 0 }
     }
 
-    /// How many there are.
+    /// How many there were.
     pub fn number(&self) -> u64
         ensures { result ≡ self.now }
     {
         self.number
     }
 
-    /// Makes the conditional tree of a rank, whose set stands at a place: the level below. Where no rank
-    /// is frequent together with it, the tree is the root alone. That is counted, as the definition
-    /// has it, and nothing is made for it.
+    /// Sums the pairs of a rank, whose set stands at a place, and makes its conditional tree: the level
+    /// below. Where no rank is frequent together with it, the tree is the root alone. That one is
+    /// counted, since the number is the definition's, and nothing is made for it.
     pub fn make(
         &mut self,
         alloc: Global,
