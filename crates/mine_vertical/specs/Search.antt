@@ -79,7 +79,7 @@ reached told_of limit_of is_over mined tally = record { sets = mined.sets; joins
 -- the search may go on: the tally is not over, and the joins are few enough for the sets
 pub record GoesOn (now : Reached) : Type 0 where
   pub going : now.is_over ≡ false
-  pub few : now.joins ≤ (length now.sets + 1) * 4294967295
+  pub few : now.joins ≤ length now.sets * 4294967295
 
 -- what is given: siblings of a node, where the search may go on
 pub record IsGiven {R : Type 0} (stands : List ℕ → List ℕ → List ℕ → R → Type 0) (task : Task R) (before : Reached) : Type 0 where
@@ -122,7 +122,13 @@ pub record IsDone {R A : Type 0} (stands : List ℕ → List ℕ → List ℕ �
 abbrev pub task_of : {R : Type 0} → Search → List (Sibling R) → Mined → ℕ → Task R
 task_of search siblings mined place = record { weights = search.weights.now; least = search.least; siblings = siblings; set = set_at mined.sets place; items = search.coded.now.items }
 
--- siblings that extend a set, over weights
+-- two siblings that extend a set, over weights
+pub record ArePair {R : Type 0} (stands : List ℕ → List ℕ → List ℕ → R → Type 0) (weights : List ℕ) (first second : Sibling R) (baskets : List Weighted) (set : List ℕ) : Type 0 where
+  pub weighs : weights ≡ weights_of baskets
+  pub first_is : IsSibling stands baskets set first
+  pub second_is : IsSibling stands baskets set second
+
+-- a sibling and others that extend a set, over weights
 pub record AreSiblings {R : Type 0} (stands : List ℕ → List ℕ → List ℕ → R → Type 0) (weights : List ℕ) (sibling : Sibling R) (others : List (Sibling R)) (baskets : List Weighted) (set : List ℕ) : Type 0 where
   pub weighs : weights ≡ weights_of baskets
   pub first : IsSibling stands baskets set sibling

@@ -1,5 +1,5 @@
 //! The class call.
-ghost use Rattle.std.specs.Prelude.{◌≡◌, ◌≤◌, ◌<◌, ◌+◌, ℕ, ◌⊎◌, Err, IfOk, IsTrue, false, length};
+ghost use Rattle.std.specs.Prelude.{◌≡◌, ◌≤◌, ◌<◌, ◌+◌, ◌-◌, ◌*◌, ◌^◌, ℕ, ◌⊎◌, Err, IfOk, IsTrue, false, length};
 ghost use Rattle.basket_core.specs.declared.fault.MineFault.TheVariants.{TooMany};
 ghost use Rattle.mine_vertical.specs.Joins.{class_joins};
 ghost use Rattle.mine_classes.specs.Mined.{ListsClassItems, RanksAreFrequent, class_size};
@@ -8,7 +8,7 @@ use crate::mined::Mined;
 use crate::room::Room;
 use crate::row::Row;
 use crate::search::{Progress, Search};
-use crate::siblings::{class_siblings, support_of_rank};
+use crate::siblings::class_siblings;
 use crate::vertical::Vertical;
 use basket_core::{CountedSets, Itemset, MineFault, Tally};
 use mine_classes::Tables;
@@ -31,6 +31,7 @@ pub fn eclat_class<R: Row, T: Tally>(
     requires going { T.is_over tally.old ≡ false }
     ensures listed { IfOk result (λ mined. ListsClassItems vertical.now rank mined.0) }
     ensures joins { IfOk result (λ mined. RanksAreFrequent vertical.now → mined.1 ≡ class_joins vertical.now rank) }
+    ensures few { IfOk result (λ mined. mined.1 ≤ class_size vertical.now rank * (2 ^ 32 - 1)) }
     ensures told { IfOk result (λ mined. T.told_of tally.new ≡ T.told_of tally.old + length mined.0) }
     ensures going_on { IfOk result (λ mined. T.is_over tally.new ≡ false) }
     ensures too_many { (limit : ℕ) → result ≡ Err (TooMany limit)
@@ -56,6 +57,7 @@ pub fn eclat_class_with<R: Row, T: Tally>(
     requires going { T.is_over tally.old ≡ false }
     ensures listed { IfOk result (λ mined. ListsClassItems vertical.now rank mined.0) }
     ensures joins { IfOk result (λ mined. RanksAreFrequent vertical.now → mined.1 ≡ class_joins vertical.now rank) }
+    ensures few { IfOk result (λ mined. mined.1 ≤ class_size vertical.now rank * (2 ^ 32 - 1)) }
     ensures told { IfOk result (λ mined. T.told_of tally.new ≡ T.told_of tally.old + length mined.0) }
     ensures going_on { IfOk result (λ mined. T.is_over tally.new ≡ false) }
     ensures too_many { (limit : ℕ) → result ≡ Err (TooMany limit)
@@ -74,7 +76,7 @@ pub fn eclat_class_with<R: Row, T: Tally>(
     let mut mined = Mined::new(alloc, coded.items(), coded.total())?;
     let least = vertical.least();
     let runs = vertical.runs();
-    let support = support_of_rank(runs, rank);
+    let support = runs.support(rank);
     if support < least {
         return Ok((mined.sets, 0));
     }

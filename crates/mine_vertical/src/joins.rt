@@ -5,7 +5,7 @@ ghost use Rattle.basket_sets.specs.Itemset.{AllBelow, IsRising};
 ghost use Rattle.basket_sets.specs.Support.{support_of};
 ghost use Rattle.mine_classes.specs.Pairs.{pairs_of};
 ghost use Rattle.mine_vertical.specs.Cover.{IsAdded, all_places, cover_of, weights_of};
-ghost use Rattle.mine_vertical.specs.Search.{IsSibling};
+ghost use Rattle.mine_vertical.specs.Search.{ArePair, IsSibling};
 
 use crate::marks::Marks;
 use crate::row::Row;
@@ -37,7 +37,8 @@ impl<R: Row> Sibling<R> {
         requires rises { IsRising cover.now }
         requires below { AllBelow (length weights.now) cover.now }
         ensures rank { IfOk result (λ sibling. sibling.rank ≡ rank) }
-        ensures row { IfOk result (λ sibling. R.stands weights.now (all_places weights.now) cover.now sibling.row) }
+        ensures row { IfOk result (λ sibling.
+            R.stands weights.now (all_places weights.now) cover.now sibling.row) }
     {
         let row = R::first(alloc, cover, weights)?;
         Ok(Sibling { rank, row })
@@ -53,7 +54,8 @@ impl<R: Row> Sibling<R> {
 
     /// The support of the set with its rank.
     pub fn count(&self) -> u64
-        ensures { (baskets : List Basket) (set : List ℕ) → IsSibling R.stands baskets set self.now → result ≡ support_of baskets (self.now.rank ∷ set) }
+        ensures { (baskets : List Basket) (set : List ℕ) → IsSibling R.stands baskets set self.now
+            → result ≡ support_of baskets (self.now.rank ∷ set) }
     {
         self.row.count()
     }
@@ -65,8 +67,10 @@ impl<R: Row> Sibling<R> {
 
     /// Adds a bit to the words of the places of its cover, or says that its row doesn't list them.
     pub fn add_bit(&self, words: &mut [u64], bit: u64) -> bool
-        requires { (baskets : List Basket) × (set : List ℕ) × (length (weights_of baskets) ≡ length words.old) × IsSibling R.stands baskets set self.now }
-        ensures { IsTrue result → (baskets : List Basket) (set : List ℕ) → length (weights_of baskets) ≡ length words.old → IsSibling R.stands baskets set self.now
+        requires { (baskets : List Basket) × (set : List ℕ)
+            × (length (weights_of baskets) ≡ length words.old) × IsSibling R.stands baskets set self.now }
+        ensures { IsTrue result → (baskets : List Basket) (set : List ℕ)
+            → length (weights_of baskets) ≡ length words.old → IsSibling R.stands baskets set self.now
             → IsAdded (cover_of baskets (self.now.rank ∷ set)) bit words.old words.new }
     {
         self.row.add_bit(words, bit)
@@ -74,7 +78,8 @@ impl<R: Row> Sibling<R> {
 
     /// Marks what its row keeps of others.
     pub fn mark(&self, marks: &mut Marks, weights: &Weights)
-        requires row { (baskets : List Basket) × (set : List ℕ) × (weights.now ≡ weights_of baskets) × IsSibling R.stands baskets set self.now }
+        requires row { (baskets : List Basket) × (set : List ℕ) × (weights.now ≡ weights_of baskets)
+            × IsSibling R.stands baskets set self.now }
         requires marks { R.at_rest weights.now marks.old }
         ensures { R.marked self.now.row weights.now marks.new }
     {
@@ -83,7 +88,8 @@ impl<R: Row> Sibling<R> {
 
     /// Undoes that.
     pub fn unmark(&self, marks: &mut Marks, weights: &Weights)
-        requires row { (baskets : List Basket) × (set : List ℕ) × (weights.now ≡ weights_of baskets) × IsSibling R.stands baskets set self.now }
+        requires row { (baskets : List Basket) × (set : List ℕ) × (weights.now ≡ weights_of baskets)
+            × IsSibling R.stands baskets set self.now }
         requires marks { R.marked self.now.row weights.now marks.old }
         ensures { R.at_rest weights.now marks.new }
     {
@@ -106,8 +112,8 @@ impl Joins {
         self.number
     }
 
-    /// The frequent pairs of a rank with lower ones. The definition has a join for each lower rank, and
-    /// so many are added, though no row is joined: the supports of the pairs are summed.
+    /// The frequent pairs of a rank with lower ranks, each with its support. The joins of the pairs are
+    /// the definition's number, one for each lower rank, and no count of steps: no row is joined here.
     pub fn pairs(
         &mut self,
         alloc: Global,
@@ -138,14 +144,17 @@ impl Joins {
         marks: &Marks,
         weights: &Weights,
     ) -> Result<u64, AllocError>
-        requires rows { (baskets : List Basket) × (set : List ℕ) × (weights.now ≡ weights_of baskets) × IsSibling R.stands baskets set first.now × IsSibling R.stands baskets set second.now }
+        requires rows { (baskets : List Basket) × (set : List ℕ)
+            × ArePair R.stands weights.now first.now second.now baskets set }
         requires marks { R.marked first.now.row weights.now marks.now }
         requires few { self.old.number < 18446744073709551615 }
         ensures joins { OnOk result (self.new.number ≡ self.old.number + 1) }
         ensures rank { OnOk result (both.new.rank ≡ second.now.rank) }
-        ensures row { OnOk result ((baskets : List Basket) (set : List ℕ) → weights.now ≡ weights_of baskets → IsSibling R.stands baskets set first.now → IsSibling R.stands baskets set second.now
+        ensures row { OnOk result ((baskets : List Basket) (set : List ℕ)
+            → ArePair R.stands weights.now first.now second.now baskets set
             → IsSibling R.stands baskets (first.now.rank ∷ set) both.new) }
-        ensures support { IfOk result (λ support. (baskets : List Basket) (set : List ℕ) → weights.now ≡ weights_of baskets → IsSibling R.stands baskets set first.now → IsSibling R.stands baskets set second.now
+        ensures support { IfOk result (λ support. (baskets : List Basket) (set : List ℕ)
+            → ArePair R.stands weights.now first.now second.now baskets set
             → support ≡ support_of baskets (second.now.rank ∷ first.now.rank ∷ set)) }
     {
         both.rank = second.rank;

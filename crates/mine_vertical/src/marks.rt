@@ -17,7 +17,8 @@ pub struct Marks {
 impl Marks {
     /// No place is marked.
     pub fn new(alloc: Global, places: u32) -> Result<Self, AllocError>
-        ensures { IfOk result (λ marks. (weights : List ℕ) → length weights ≡ places → IsMarked weights (λ place. false) marks) }
+        ensures { IfOk result (λ marks. (weights : List ℕ) → length weights ≡ places
+            → IsMarked weights (λ place. false) marks) }
     {
         Ok(Marks {
             weights: vec![in alloc; 0u64; places as usize]?,
@@ -37,7 +38,8 @@ impl Marks {
     pub fn mark(&mut self, places: &[u32], weights: &Weights)
         requires long { length self.old.weights.items ≡ length weights.now }
         requires below { AllBelow (length weights.now) places.now }
-        ensures { (test : ℕ → Bool) → IsMarked weights.now test self.old → IsMarked weights.now (λ place. has places.now place || test place) self.new }
+        ensures { (test : ℕ → Bool) → IsMarked weights.now test self.old
+            → IsMarked weights.now (λ place. has places.now place || test place) self.new }
     {
         for place in places {
             self.weights[*place as usize] = weights.of_place(*place);
@@ -47,7 +49,8 @@ impl Marks {
     /// Takes the marks of places away.
     pub fn clear(&mut self, places: &[u32])
         requires { AllBelow (length self.old.weights.items) places.now }
-        ensures { (weights : List ℕ) (test : ℕ → Bool) → IsMarked weights test self.old → IsMarked weights (λ place. not (has places.now place) && test place) self.new }
+        ensures { (weights : List ℕ) (test : ℕ → Bool) → IsMarked weights test self.old
+            → IsMarked weights (λ place. not (has places.now place) && test place) self.new }
     {
         for place in places {
             self.weights[*place as usize] = 0;
@@ -58,9 +61,12 @@ impl Marks {
     /// they weigh.
     pub fn keep(&self, places: &[u32], kept: &mut Vec<u32>) -> Result<u64, AllocError>
         requires below { AllBelow (length self.now.weights.items) places.now }
-        requires light { sum_by (λ place. slice_index self.now.weights.items place) places.now ≤ MOST_WEIGHT }
-        ensures places { OnOk result (kept.new.items ≡ filter (λ place. nat_lt 0 (slice_index self.now.weights.items place)) places.now) }
-        ensures sum { IfOk result (λ sum. sum ≡ sum_by (λ place. slice_index self.now.weights.items place) places.now) }
+        requires light { sum_by (λ place. slice_index self.now.weights.items place) places.now
+            ≤ MOST_WEIGHT }
+        ensures places { OnOk result (kept.new.items
+            ≡ filter (λ place. nat_lt 0 (slice_index self.now.weights.items place)) places.now) }
+        ensures sum { IfOk result (λ sum.
+            sum ≡ sum_by (λ place. slice_index self.now.weights.items place) places.now) }
     {
         kept.clear();
         kept.extend_from_slice(places)?;

@@ -57,12 +57,14 @@ impl Search<'_> {
         marks: &mut Marks,
         joins: &mut Joins,
     ) -> Result<usize, AllocError>
-        requires rows { (baskets : List Basket) × (set : List ℕ) × AreSiblings R.stands self.now.weights.now sibling.now others.now baskets set }
+        requires rows { (baskets : List Basket) × (set : List ℕ)
+            × AreSiblings R.stands self.now.weights.now sibling.now others.now baskets set }
         requires some { 1 ≤ self.now.least }
         requires few { joins.old.number + length others.now ≤ 18446744073709551615 }
         requires marks { R.at_rest self.now.weights.now marks.old }
         ensures within { IfOk result (λ kept. kept ≤ length list.new.items) }
-        ensures kept { IfOk result (λ kept. (baskets : List Basket) (set : List ℕ) → AreSiblings R.stands self.now.weights.now sibling.now others.now baskets set
+        ensures kept { IfOk result (λ kept. (baskets : List Basket) (set : List ℕ)
+            → AreSiblings R.stands self.now.weights.now sibling.now others.now baskets set
             → AreKept R.stands self.now.least sibling.now others.now (take kept list.new.items) baskets set) }
         ensures joins { OnOk result (joins.new.number ≡ joins.old.number + length others.now) }
         ensures marks { OnOk result (R.at_rest self.now.weights.now marks.new) }

@@ -171,16 +171,3 @@ pub fn class_siblings<R: Row>(
     let siblings = siblings_of(alloc, &kept, &ranks, &spans, &weights)?;
     Ok((weights, siblings))
 }
-
-/// The support of a rank.
-pub fn support_of_rank(runs: &Runs, rank: u32) -> u64
-    requires { rank < runs.now.ranks }
-    ensures { result ≡ support_of runs.now.baskets (rank ∷ []) }
-{
-    let (_, spans) = runs.of_rank(rank);
-    let mut support = 0;
-    for span in spans {
-        support += span.weight;
-    }
-    support
-}

@@ -2,7 +2,7 @@ use Rattle.std.proofs.Common.{◌≡◌, ◌+◌, ◌<◌, ◌∷◌, ◌++◌, 
 use Rattle.std.proofs.Math.ListN.{set}
 use Rattle.std.specs.Prelude.{slice_set}
 use Rattle.std.proofs.lemmas.List.{length-set, take-set, take_all, take_more_set}
-use Rattle.mine_vertical.specs.Search.{AreKept, IsSibling}
+use Rattle.mine_vertical.specs.Search.{AreKept, ArePair, IsSibling}
 use Rattle.mine_vertical.proofs.SearchLemmas.{dropped_more, kept_more, met, missed}
 use Rattle.mine_vertical.proofs.search.Search.joined.Goals as goal
 use Rattle.mine_vertical.proofs.search.Search.joined.Goals.{then-support-self, else-support-self}
@@ -18,7 +18,8 @@ unmark-requires-clause-row g c =
 pub join-requires-clause-rows : goal.join-requires-clause-rows
 join-requires-clause-rows g c =
     let (baskets, set, are) = c.requires.rows in
-    (baskets, set, are.weighs, are.first, subst (IsSibling g.R.Row.stands baskets set) (sym c.other-item.is) (are.rows c.loop-other.other-index c.other-item.result c.loop-other-test.true))
+    let one = subst (IsSibling g.R.Row.stands baskets set) (sym c.other-item.is) (are.rows c.loop-other.other-index c.other-item.result c.loop-other-test.true) in
+    (baskets, set, record { weighs = are.weighs; first_is = are.first; second_is = one })
 
 pub loop-other-preserved : goal.loop-other-preserved
 loop-other-preserved g c =
@@ -44,13 +45,14 @@ loop-other-preserved g c =
       ];
       kept = λ baskets taken are.
           let one = subst (IsSibling stands baskets taken) (sym c.other-item.is) (are.rows i other here) in
-          let support = c.in_ok-support.ensures.support baskets taken are.weighs are.first one in
+          let pair : ArePair stands search.weights.now sibling other baskets taken = record { weighs = are.weighs; first_is = are.first; second_is = one } in
+          let support = c.in_ok-support.ensures.support baskets taken pair in
           let before = c.loop-other.invariant.kept baskets taken are in
           elim c.if-support-self.branch [
             | then-support-self w ↦
                 subst (λ l. AreKept stands search.least sibling (take (i + 1) others) l baskets taken) (sym (ap (λ n. take n (slice_set list k both)) w.kept-is ∙ more))
                 (kept_more stands search.least sibling others i other baskets taken here c.other-item.is (take k c.loop-other.list.items) both c.in_ok-support.ensures.rank
-                (c.in_ok-support.ensures.row baskets taken are.weighs are.first one) (met baskets search.least (other.rank ∷ sibling.rank ∷ taken) c.requires.some (omega (arith, support, w.if-support-self.true))) before)
+                (c.in_ok-support.ensures.row baskets taken pair) (met baskets search.least (other.rank ∷ sibling.rank ∷ taken) c.requires.some (omega (arith, support, w.if-support-self.true))) before)
             | else-support-self w ↦
                 subst (λ l. AreKept stands search.least sibling (take (i + 1) others) l baskets taken) (sym (ap (λ n. take n (slice_set list k both)) w.kept-is ∙ same))
                 (dropped_more stands search.least sibling others i other baskets taken here c.other-item.is (take k c.loop-other.list.items)
