@@ -1,5 +1,5 @@
 -- From the frequent sets of coded baskets to those of a database.
-use Rattle.std.proofs.Common.{◌≡◌, ◌+◌, ◌^◌, ◌<◌, ℕ, List, [], ◌∷◌, get_or, length, min, refl, sym, ap, ◌∙◌, subst, arith, suc}
+use Rattle.std.proofs.Common.{◌≡◌, ◌+◌, ◌^◌, ◌<◌, ℕ, List, [], ◌∷◌, get_or, length, refl, sym, ap, ◌∙◌, subst, arith, suc}
 use Rattle.std.specs.List.{range_with_len, sum, sum_by}
 use Rattle.std.proofs.lemmas.List.Sums.{sum_by-cons}
 use Rattle.basket_sets.specs.declared.minimum.Minimum.{Minimum}
@@ -12,7 +12,7 @@ use Rattle.basket_ranks.proofs.theory.Coding.{coding_keeps_frequent, coded_total
 use Rattle.basket_ranks.proofs.theory.Depth.{deep_sets_are_many}
 use Rattle.mine_classes.specs.Mined.{CodedRanksAreFrequent, RanksAreFrequent}
 use Rattle.mine_fp.specs.Trees.{ClassTreesAddUp, class_trees, trees_of}
-use Rattle.mine_phases.specs.Classes.{IsWorkOfAll, MOST_WORK}
+use Rattle.mine_phases.specs.Classes.{IsWorkOfAll}
 use Rattle.mine_vertical.specs.Joins.{ClassJoinsAddUp, class_joins, joins_of}
 use Rattle.basket.specs.Classes.{IsJoins, IsTrees}
 use Rattle.basket.specs.Mining.{IsWorkOver}
@@ -64,19 +64,19 @@ sum_is f first (x ∷ each) are =
     sum_by-cons (λ n. n) x each ∙ (λ i. head i + rest i) ∙ sym (sum_by-cons f first (range_with_len (first + 1) (length each)))
 
 module _ (database : List Weighted) (minimum : Minimum) (coding : Coding) (made : coding ≡ coding_of database minimum) where
-  pub joins_are : (total : ℕ) → CodedRanksAreFrequent → ClassJoinsAddUp → IsWorkOfAll (IsJoins coding) (length coding.items) total → total ≡ min (joins_of (coding_of database minimum)) MOST_WORK
+  pub joins_are : (total : ℕ) → CodedRanksAreFrequent → ClassJoinsAddUp → IsWorkOfAll (IsJoins coding) (length coding.items) total → total ≡ joins_of (coding_of database minimum)
   joins_are total frequent adds so =
       let ranks : RanksAreFrequent coding = subst RanksAreFrequent (sym made) (frequent database minimum).0 in
-      so.added ∙ ap (λ n. min n MOST_WORK)
-      (sum_is (class_joins coding) 0 so.each (λ k below. let e : k ≡ 0 + k = omega arith in so.works k (subst (λ n. k < n) so.long below) ranks ∙ ap (class_joins coding) e)
+      so.added
+      ∙ sum_is (class_joins coding) 0 so.each (λ k below. let e : k ≡ 0 + k = omega arith in so.works k (subst (λ n. k < n) so.long below) ranks ∙ ap (class_joins coding) e)
       ∙ ap (λ n. sum_by (class_joins coding) (range_with_len 0 n)) so.long
-      ∙ adds coding ∙ ap joins_of made)
+      ∙ adds coding ∙ ap joins_of made
 
-  pub trees_are : (total : ℕ) → IsCoding coding → ClassTreesAddUp → IsWorkOfAll (IsTrees coding) (length coding.items) total → total ≡ min (trees_of (coding_of database minimum)) MOST_WORK
+  pub trees_are : (total : ℕ) → IsCoding coding → ClassTreesAddUp → IsWorkOfAll (IsTrees coding) (length coding.items) total → total ≡ trees_of (coding_of database minimum)
   trees_are total is adds so =
-      so.added ∙ ap (λ n. min n MOST_WORK)
-      (sum_is (class_trees coding) 0 so.each (λ k below. let e : k ≡ 0 + k = omega arith in so.works k (subst (λ n. k < n) so.long below) ∙ ap (class_trees coding) e)
-      ∙ ap (λ n. sum_by (class_trees coding) (range_with_len 0 n)) so.long ∙ adds coding is ∙ ap trees_of made)
+      so.added
+      ∙ sum_is (class_trees coding) 0 so.each (λ k below. let e : k ≡ 0 + k = omega arith in so.works k (subst (λ n. k < n) so.long below) ∙ ap (class_trees coding) e)
+      ∙ ap (λ n. sum_by (class_trees coding) (range_with_len 0 n)) so.long ∙ adds coding is ∙ ap trees_of made
 
   -- what is answered for the coding is answered for the database
   pub sets_are : (result : Result (Listing × Work) MineFault) → IfOk result (λ mined. mined.0 ≡ listing_of coding) → IfOk result (λ mined. mined.0.sets ≡ frequent_of database minimum)

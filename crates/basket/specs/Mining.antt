@@ -1,5 +1,5 @@
 -- How much a miner does for the frequent sets of a database.
-use Rattle.std.specs.Prelude.{◌≡◌, List, min}
+use Rattle.std.specs.Prelude.{◌≡◌, List}
 use Rattle.basket.specs.declared.mining.Work.{Work}
 use Rattle.basket_plan.specs.declared.plan.Miner.{Miner}
 use Rattle.basket_plan.specs.declared.plan.Miner.TheVariants.{Apriori, Eclat, EclatDiff, EclatBits, FpGrowth}
@@ -9,21 +9,20 @@ use Rattle.basket_sets.specs.declared.weighted.Weighted.{Weighted}
 use Rattle.mine_apriori.specs.Work.{candidate_count}
 use Rattle.mine_vertical.specs.Joins.{joins_of}
 use Rattle.mine_fp.specs.Trees.{trees_of}
-use Rattle.mine_phases.specs.Classes.{MOST_WORK}
 
 -- the candidates of Apriori
 abbrev pub candidate_work : List Weighted → Minimum → Work
 candidate_work baskets minimum = record { candidates = candidate_count baskets minimum; joins = 0; trees = 0 }
 
--- the joins of Eclat, as far as they are counted
+-- the joins of Eclat
 abbrev pub join_work : List Weighted → Minimum → Work
-join_work baskets minimum = record { candidates = 0; joins = min (joins_of (coding_of baskets minimum)) MOST_WORK; trees = 0 }
+join_work baskets minimum = record { candidates = 0; joins = joins_of (coding_of baskets minimum); trees = 0 }
 
--- the conditional trees of FP-growth, as far as they are counted
+-- the conditional trees of FP-growth
 abbrev pub tree_work : List Weighted → Minimum → Work
-tree_work baskets minimum = record { candidates = 0; joins = 0; trees = min (trees_of (coding_of baskets minimum)) MOST_WORK }
+tree_work baskets minimum = record { candidates = 0; joins = 0; trees = trees_of (coding_of baskets minimum) }
 
--- the work of a miner: Apriori counts each candidate, Eclat makes each join, and FP-growth builds each conditional tree
+-- the work of a miner: the candidates of Apriori, the joins of Eclat, the conditional trees of FP-growth
 abbrev pub work_of : Miner → List Weighted → Minimum → Work
 work_of Apriori = candidate_work
 work_of Eclat = join_work

@@ -97,6 +97,7 @@ pub fn fp_class<T: Tally>(
     requires going { T.is_over tally.old ≡ false }
     ensures listed { IfOk result (λ mined. ListsClassItems forest.now rank mined.0) }
     ensures trees { IfOk result (λ mined. mined.1 ≡ class_trees forest.now rank) }
+    ensures few { IfOk result (λ mined. mined.1 ≤ class_size forest.now rank) }
     ensures told { IfOk result (λ mined. T.told_of tally.new ≡ T.told_of tally.old + length mined.0) }
     ensures going_on { IfOk result (λ mined. T.is_over tally.new ≡ false) }
     ensures too_many { (limit : ℕ) → result ≡ Err (TooMany limit) → (limit ≡ T.limit_of tally.old)
@@ -122,6 +123,7 @@ pub fn fp_class_with<T: Tally>(
     requires going { T.is_over tally.old ≡ false }
     ensures listed { IfOk result (λ mined. ListsClassItems forest.now rank mined.0) }
     ensures trees { IfOk result (λ mined. mined.1 ≡ class_trees forest.now rank) }
+    ensures few { IfOk result (λ mined. mined.1 ≤ class_size forest.now rank) }
     ensures told { IfOk result (λ mined. T.told_of tally.new ≡ T.told_of tally.old + length mined.0) }
     ensures going_on { IfOk result (λ mined. T.is_over tally.new ≡ false) }
     ensures too_many { (limit : ℕ) → result ≡ Err (TooMany limit) → (limit ≡ T.limit_of tally.old)

@@ -57,6 +57,11 @@ returns-clause-at_most g c =
     let most = c.in_ok-class.ensures.tally.at_most in
     omega arith
 
+pub returns-clause-few : goal.returns-clause-few
+returns-clause-few g c =
+    let size = c.lists_have_class_size.ensures c.args.forest.now c.args.rank _ (returns-clause-listed g c) in
+    omega (arith, size, c.in_ok-class.ensures.few)
+
 pub returns-clause-trees : goal.returns-clause-trees
 returns-clause-trees g c =
     let level = c.forest.inside.level in

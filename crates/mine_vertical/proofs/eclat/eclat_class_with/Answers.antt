@@ -1,4 +1,5 @@
 use Rattle.std.proofs.Common.{◌≡◌, ◌≤◌, ◌<◌, ◌++◌, ◌∷◌, [], Err, length, map, refl, subst, sym, ap, ◌∙◌, inl, inr, arith, length-append}
+use Rattle.std.proofs.lemmas.List.{length-map}
 use Rattle.std.proofs.lemmas.Result.{err_from_is_err_and}
 use Rattle.basket_ranks.specs.Codes.{Coding, MOST_RANKS, decoded}
 use Rattle.basket_core.specs.declared.fault.MineFault.TheVariants.{TooMany}
@@ -18,7 +19,7 @@ use Rattle.mine_vertical.proofs.eclat.eclat_class_with.Goals as goal
 pub returns-then-support-least-clause-listed : goal.returns-then-support-least-clause-listed
 returns-then-support-least-clause-listed g c =
     rare_class c.args.vertical.now c.least-least.result c.runs-runs.result.now.baskets c.least-least.ensures c.runs-runs.ensures.weights c.rare_ranks_have_no_class.ensures c.args.rank c.in_ok-mined.mined.sets
-    (omega (arith, c.if-support-least.true, c.support.ensures)) c.in_ok-mined.ensures.sets
+    (omega (arith, c.if-support-least.true, c.support-support.ensures)) c.in_ok-mined.ensures.sets
 
 pub returns-in_err-add-clause-too_many : goal.returns-in_err-add-clause-too_many
 returns-in_err-add-clause-too_many g c = λ limit e.
@@ -26,7 +27,7 @@ returns-in_err-add-clause-too_many g c = λ limit e.
     let rank = c.args.rank in
     let least = c.least-least.result in
     let all = c.runs-runs.result.now.baskets in
-    let enough : least ≤ support_of all (rank ∷ []) = omega (arith, c.if-support-least.false, c.support.ensures) in
+    let enough : least ≤ support_of all (rank ∷ []) = omega (arith, c.if-support-least.false, c.support-support.ensures) in
     let size = whole_size coding least all c.least-least.ensures c.runs-runs.ensures.weights c.conditional_supports.ensures c.supports_settle_frequent.ensures c.classes_are_conditional.ensures c.lists_have_class_size.ensures
     rank (conditional least all rank) (λ set. refl) enough in
     let p = err_from_is_err_and c.from_residual-in_err-add.result c.from_residual-in_err-add.ensures.1 in
@@ -42,7 +43,7 @@ returns-in_err-add-clause-at_most g c =
     let rank = c.args.rank in
     let least = c.least-least.result in
     let all = c.runs-runs.result.now.baskets in
-    let enough : least ≤ support_of all (rank ∷ []) = omega (arith, c.if-support-least.false, c.support.ensures) in
+    let enough : least ≤ support_of all (rank ∷ []) = omega (arith, c.if-support-least.false, c.support-support.ensures) in
     let size = whole_size coding least all c.least-least.ensures c.runs-runs.ensures.weights c.conditional_supports.ensures c.supports_settle_frequent.ensures c.classes_are_conditional.ensures c.lists_have_class_size.ensures
     rank (conditional least all rank) (λ set. refl) enough in
     omega (arith, c.add.ensures.told)
@@ -53,7 +54,7 @@ returns-in_err-weights-clause-at_most g c =
     let rank = c.args.rank in
     let least = c.least-least.result in
     let all = c.runs-runs.result.now.baskets in
-    let enough : least ≤ support_of all (rank ∷ []) = omega (arith, c.if-support-least.false, c.support.ensures) in
+    let enough : least ≤ support_of all (rank ∷ []) = omega (arith, c.if-support-least.false, c.support-support.ensures) in
     let size = whole_size coding least all c.least-least.ensures c.runs-runs.ensures.weights c.conditional_supports.ensures c.supports_settle_frequent.ensures c.classes_are_conditional.ensures c.lists_have_class_size.ensures
     rank (conditional least all rank) (λ set. refl) enough in
     omega (arith, c.add.ensures.told)
@@ -64,7 +65,7 @@ returns-in_err-room-clause-at_most g c =
     let rank = c.args.rank in
     let least = c.least-least.result in
     let all = c.runs-runs.result.now.baskets in
-    let enough : least ≤ support_of all (rank ∷ []) = omega (arith, c.if-support-least.false, c.support.ensures) in
+    let enough : least ≤ support_of all (rank ∷ []) = omega (arith, c.if-support-least.false, c.support-support.ensures) in
     let size = whole_size coding least all c.least-least.ensures c.runs-runs.ensures.weights c.conditional_supports.ensures c.supports_settle_frequent.ensures c.classes_are_conditional.ensures c.lists_have_class_size.ensures
     rank (conditional least all rank) (λ set. refl) enough in
     omega (arith, c.add.ensures.told)
@@ -75,20 +76,21 @@ extend-requires-clause-given g c =
     let rank = c.args.rank in
     let least = c.least-least.result in
     let all = c.runs-runs.result.now.baskets in
-    let enough : least ≤ support_of all (rank ∷ []) = omega (arith, c.if-support-least.false, c.support.ensures) in
+    let enough : least ≤ support_of all (rank ∷ []) = omega (arith, c.if-support-least.false, c.support-support.ensures) in
     let (baskets, are) = c.in_ok-weights.ensures.siblings in
     let items = c.coded-coded.result.now.items in
     let set : c.in_ok-set.set ≡ decoded items (rank ∷ []) = c.in_ok-set.ensures.ok ∙ ap (λ item. rising (item ∷ [])) c.item.ensures in
     let known : rank < length items = omega (arith, c.requires.rank, ap (λ (k : Coding). length k.items) c.coded-coded.ensures.coded) in
     let few : length items < MOST_RANKS = omega (arith, c.coded-coded.ensures.coding.few, ap (λ (k : Coding). length k.items) c.coded-coded.ensures.coded) in
     let made = subst (λ s. AreClassSiblings g.R.Row.stands all least rank c.in_ok-weights.weights s baskets) (sym c.deref.ensures.value) are in
-    let listed = set_added c.in_ok-mined.mined.sets c.add.new.self.sets (record { set = c.in_ok-set.set; count = c.support.result }) 0 (sym (ap length c.in_ok-mined.ensures.sets)) c.in_ok-add.ensures.sets ∙ set in
+    let listed = set_added c.in_ok-mined.mined.sets c.add.new.self.sets (record { set = c.in_ok-set.set; count = c.support-support.result }) 0 (sym (ap length c.in_ok-mined.ensures.sets)) c.in_ok-add.ensures.sets ∙ set in
     let node = top_is g.R.Row.stands all least rank c.in_ok-weights.weights c.deref.result.now baskets (set_at c.add.new.self.sets 0) items made listed known few in
     let pairs : c.class_siblings.new.joins.number ≡ rank = omega (arith, c.in_ok-weights.ensures.joins, ap (λ j. j.number) c.add.ensures.joins, c.in_ok-mined.ensures.joins) in
+    let one = ap length (c.in_ok-add.ensures.sets ∙ ap (λ l. l ++ record { set = c.in_ok-set.set; count = c.support-support.result } ∷ []) c.in_ok-mined.ensures.sets) in
     record {
       node = (top baskets rank, node);
       some = c.least-least.ensures.some;
-      going = record { going = c.in_ok-add.ensures.going_on; few = omega (arith, pairs, known, few) };
+      going = record { going = c.in_ok-add.ensures.going_on; few = omega (arith, pairs, known, few, one) };
     }
 
 pub returns-in_err-extend-clause-too_many : goal.returns-in_err-extend-clause-too_many
@@ -97,7 +99,7 @@ returns-in_err-extend-clause-too_many g c = λ limit e.
     let rank = c.args.rank in
     let least = c.least-least.result in
     let all = c.runs-runs.result.now.baskets in
-    let enough : least ≤ support_of all (rank ∷ []) = omega (arith, c.if-support-least.false, c.support.ensures) in
+    let enough : least ≤ support_of all (rank ∷ []) = omega (arith, c.if-support-least.false, c.support-support.ensures) in
     let (baskets, are) = c.in_ok-weights.ensures.siblings in
     let size = whole_size coding least all c.least-least.ensures c.runs-runs.ensures.weights c.conditional_supports.ensures c.supports_settle_frequent.ensures c.classes_are_conditional.ensures c.lists_have_class_size.ensures
     rank baskets are.same enough in
@@ -106,9 +108,9 @@ returns-in_err-extend-clause-too_many g c = λ limit e.
     let known : rank < length items = omega (arith, c.requires.rank, ap (λ (k : Coding). length k.items) c.coded-coded.ensures.coded) in
     let few : length items < MOST_RANKS = omega (arith, c.coded-coded.ensures.coding.few, ap (λ (k : Coding). length k.items) c.coded-coded.ensures.coded) in
     let made = subst (λ s. AreClassSiblings g.R.Row.stands all least rank c.in_ok-weights.weights s baskets) (sym c.deref.ensures.value) are in
-    let listed = set_added c.in_ok-mined.mined.sets c.add.new.self.sets (record { set = c.in_ok-set.set; count = c.support.result }) 0 (sym (ap length c.in_ok-mined.ensures.sets)) c.in_ok-add.ensures.sets ∙ set in
+    let listed = set_added c.in_ok-mined.mined.sets c.add.new.self.sets (record { set = c.in_ok-set.set; count = c.support-support.result }) 0 (sym (ap length c.in_ok-mined.ensures.sets)) c.in_ok-add.ensures.sets ∙ set in
     let node = top_is g.R.Row.stands all least rank c.in_ok-weights.weights c.deref.result.now baskets (set_at c.add.new.self.sets 0) items made listed known few in
-    let one = ap length c.in_ok-add.ensures.sets ∙ length-append c.in_ok-mined.mined.sets (record { set = c.in_ok-set.set; count = c.support.result } ∷ []) in
+    let one = ap length c.in_ok-add.ensures.sets ∙ length-append c.in_ok-mined.mined.sets (record { set = c.in_ok-set.set; count = c.support-support.result } ∷ []) in
     let none = ap length c.in_ok-mined.ensures.sets in
     let p = err_from_is_err_and c.from_residual-in_err-extend.result c.from_residual-in_err-extend.ensures.1 in
     let both = sym p.1 ∙ e in
@@ -122,7 +124,7 @@ returns-in_err-extend-clause-at_most g c =
     let rank = c.args.rank in
     let least = c.least-least.result in
     let all = c.runs-runs.result.now.baskets in
-    let enough : least ≤ support_of all (rank ∷ []) = omega (arith, c.if-support-least.false, c.support.ensures) in
+    let enough : least ≤ support_of all (rank ∷ []) = omega (arith, c.if-support-least.false, c.support-support.ensures) in
     let (baskets, are) = c.in_ok-weights.ensures.siblings in
     let size = whole_size coding least all c.least-least.ensures c.runs-runs.ensures.weights c.conditional_supports.ensures c.supports_settle_frequent.ensures c.classes_are_conditional.ensures c.lists_have_class_size.ensures
     rank baskets are.same enough in
@@ -131,7 +133,7 @@ returns-in_err-extend-clause-at_most g c =
     let known : rank < length items = omega (arith, c.requires.rank, ap (λ (k : Coding). length k.items) c.coded-coded.ensures.coded) in
     let few : length items < MOST_RANKS = omega (arith, c.coded-coded.ensures.coding.few, ap (λ (k : Coding). length k.items) c.coded-coded.ensures.coded) in
     let made = subst (λ s. AreClassSiblings g.R.Row.stands all least rank c.in_ok-weights.weights s baskets) (sym c.deref.ensures.value) are in
-    let listed = set_added c.in_ok-mined.mined.sets c.add.new.self.sets (record { set = c.in_ok-set.set; count = c.support.result }) 0 (sym (ap length c.in_ok-mined.ensures.sets)) c.in_ok-add.ensures.sets ∙ set in
+    let listed = set_added c.in_ok-mined.mined.sets c.add.new.self.sets (record { set = c.in_ok-set.set; count = c.support-support.result }) 0 (sym (ap length c.in_ok-mined.ensures.sets)) c.in_ok-add.ensures.sets ∙ set in
     let node = top_is g.R.Row.stands all least rank c.in_ok-weights.weights c.deref.result.now baskets (set_at c.add.new.self.sets 0) items made listed known few in
     omega (arith, c.add.ensures.told, c.extend.ensures.done.at_most (top baskets rank) node)
 
@@ -141,7 +143,7 @@ returns g c =
     let rank = c.args.rank in
     let least = c.least-least.result in
     let all = c.runs-runs.result.now.baskets in
-    let enough : least ≤ support_of all (rank ∷ []) = omega (arith, c.if-support-least.false, c.support.ensures) in
+    let enough : least ≤ support_of all (rank ∷ []) = omega (arith, c.if-support-least.false, c.support-support.ensures) in
     let (baskets, are) = c.in_ok-weights.ensures.siblings in
     let size = whole_size coding least all c.least-least.ensures c.runs-runs.ensures.weights c.conditional_supports.ensures c.supports_settle_frequent.ensures c.classes_are_conditional.ensures c.lists_have_class_size.ensures
     rank baskets are.same enough in
@@ -150,16 +152,17 @@ returns g c =
     let known : rank < length items = omega (arith, c.requires.rank, ap (λ (k : Coding). length k.items) c.coded-coded.ensures.coded) in
     let few : length items < MOST_RANKS = omega (arith, c.coded-coded.ensures.coding.few, ap (λ (k : Coding). length k.items) c.coded-coded.ensures.coded) in
     let made = subst (λ s. AreClassSiblings g.R.Row.stands all least rank c.in_ok-weights.weights s baskets) (sym c.deref.ensures.value) are in
-    let listed = set_added c.in_ok-mined.mined.sets c.add.new.self.sets (record { set = c.in_ok-set.set; count = c.support.result }) 0 (sym (ap length c.in_ok-mined.ensures.sets)) c.in_ok-add.ensures.sets ∙ set in
+    let listed = set_added c.in_ok-mined.mined.sets c.add.new.self.sets (record { set = c.in_ok-set.set; count = c.support-support.result }) 0 (sym (ap length c.in_ok-mined.ensures.sets)) c.in_ok-add.ensures.sets ∙ set in
     let node = top_is g.R.Row.stands all least rank c.in_ok-weights.weights c.deref.result.now baskets (set_at c.add.new.self.sets 0) items made listed known few in
     let done = c.extend.ensures.done in
     let found = c.in_ok-extend.ensures.done.found (top baskets rank) node in
     let below = sets_below (is_met baskets least) rank [] in
-    let one : Counted = record { set = c.in_ok-set.set; count = c.support.result } in
-    let first : one ≡ record { set = decoded items (rank ∷ []); count = support_of all (rank ∷ []) } = λ i. record { set = set i; count = c.support.ensures i } in
+    let one : Counted = record { set = c.in_ok-set.set; count = c.support-support.result } in
+    let first : one ≡ record { set = decoded items (rank ∷ []); count = support_of all (rank ∷ []) } = λ i. record { set = set i; count = c.support-support.ensures i } in
     let added = c.in_ok-add.ensures.sets ∙ ap (λ l. l ++ one ∷ []) c.in_ok-mined.ensures.sets ∙ ap (λ x. x ∷ []) first in
     let sets = found.sets ∙ ap (λ l. l ++ map (found_at items (top baskets rank)) below) added
     ∙ ap (λ (k : Coding). whole k.items baskets least rank (support_of all (rank ∷ []))) c.coded-coded.ensures.coded in
+    let longer = ap length found.sets ∙ length-append c.add.new.self.sets (map (found_at items (top baskets rank)) below) in
     record {
       listed = subst (ListsClassItems coding rank) (sym sets)
           (whole_lists coding least all c.least-least.ensures c.runs-runs.ensures.weights c.conditional_supports.ensures c.supports_settle_frequent.ensures c.classes_are_conditional.ensures c.lists_have_class_size.ensures
@@ -168,8 +171,8 @@ returns g c =
           let joins = whole_joins coding least all c.least-least.ensures c.runs-runs.ensures.weights c.conditional_supports.ensures rank baskets are.same each c.requires.rank in
           let pairs : c.class_siblings.new.joins.number ≡ rank = omega (arith, c.in_ok-weights.ensures.joins, ap (λ j. j.number) c.add.ensures.joins, c.in_ok-mined.ensures.joins) in
           omega (arith, joins, pairs, found.joined, c.number-joins.ensures);
-      few = omega (arith, found.going.few, size, ap length found.sets, c.number-joins.ensures);
-      told = omega (arith, found.told, ap length found.sets ∙ length-append c.add.new.self.sets (map (found_at items (top baskets rank)) below), c.in_ok-add.ensures.told, ap length added);
+      few = omega (arith, found.going.few, size, longer, ap length added, length-map below (found_at items (top baskets rank)), c.number-joins.ensures);
+      told = omega (arith, found.told, longer, c.in_ok-add.ensures.told, ap length added);
       going_on = found.going.going;
       too_many = λ limit e. absurd cc;
       at_most = omega (arith, c.add.ensures.told, done.at_most (top baskets rank) node);
@@ -181,4 +184,4 @@ returns g c =
 pub returns-then-support-least-clause-joins : goal.returns-then-support-least-clause-joins
 returns-then-support-least-clause-joins g c = λ each.
     absurd (rare_rank c.args.vertical.now c.least-least.result c.runs-runs.result.now.baskets c.least-least.ensures c.runs-runs.ensures.weights c.args.rank each c.requires.rank
-    (omega (arith, c.if-support-least.true, c.support.ensures)))
+    (omega (arith, c.if-support-least.true, c.support-support.ensures)))
