@@ -14,7 +14,9 @@ use Rattle.std.proofs.lemmas.Grind.{flat_map-append}
 use Rattle.basket_sets.specs.declared.weighted.Weighted.{Weighted}
 use Rattle.basket_sets.specs.declared.counted.Counted.{Counted}
 use Rattle.basket_sets.specs.declared.minimum.Minimum.TheVariants.{Count}
-use Rattle.basket_ranks.specs.Codes.{decoded}
+use Rattle.basket_lists.specs.CountedSets.{set_at}
+use Rattle.basket_lists.proofs.theory.Places.{set_added, set_kept}
+use Rattle.basket_sets.specs.Support.{support_of}
 use Rattle.basket_sets.specs.Itemset.{AllBelow, with_item}
 use Rattle.basket_sets.proofs.theory.Members.{Member}
 use Rattle.basket_sets.proofs.theory.Rising.{Member-from_has, has-from_Member, has_place, contains_each}
@@ -192,10 +194,7 @@ module _ {R : Type 0} {stands : List ℕ → List ℕ → List ℕ → R → Typ
     pub rank_known : sibling.rank < length task.items
     rank_known = omega (arith, turn.lower, is.within)
 
-    pub set_is : (one : List ℕ) → one ≡ with_item (get_or task.items sibling.rank 0) task.set → one ≡ decoded task.items (sibling.rank ∷ ranks_at node node.set)
-    set_is one e = e ∙ ap (with_item (get_or task.items sibling.rank 0)) is.of_set
-
-    pub child_is : (set : List ℕ) (below : List (Sibling R)) → set ≡ with_item (get_or task.items sibling.rank 0) task.set
+    child_is : (set : List ℕ) (below : List (Sibling R)) → set ≡ with_item (get_or task.items sibling.rank 0) task.set
         → AreKept stands task.least sibling (take i task.siblings) below node.baskets node.set
         → IsNode stands (record { weights = task.weights; least = task.least; siblings = below; set = set; items = task.items }) (child node sibling.rank)
     child_is set below is_set are =
@@ -208,7 +207,7 @@ module _ {R : Type 0} {stands : List ℕ → List ℕ → List ℕ → R → Typ
               ∙ kept_before test node.below node.set i inside ∙ ap (λ n. kept_below test n node.set) turn.rank)
               ∙ sym (kept_with test rank node.set (falls node.baskets task.least rank node.set) rank);
           rows = are.rows;
-          of_set = set_is set is_set;
+          of_set = is_set ∙ ap (with_item (get_or task.items sibling.rank 0)) is.of_set;
           few = is.few;
           known = child_known;
           low = λ item h. lowest item (Member-from_has (rank ∷ ranks_at node node.set) item h);
@@ -220,11 +219,34 @@ module _ {R : Type 0} {stands : List ℕ → List ℕ → List ℕ → R → Typ
         lowest item (inr m) = omega (arith, turn.lower, is.low item (has-from_Member (ranks_at node node.set) item m))
 
     -- there are fewer siblings
-    pub fewer : (below : List (Sibling R)) → AreKept stands task.least sibling (take i task.siblings) below node.baskets node.set → length below < length task.siblings
+    fewer : (below : List (Sibling R)) → AreKept stands task.least sibling (take i task.siblings) below node.baskets node.set → length below < length task.siblings
     fewer below are =
         let one = sym (as_many below) ∙ ap length are.ranks in
         let two = length-filter_both (λ other. test (other ∷ sibling.rank ∷ node.set)) (λ other. not (test (other ∷ sibling.rank ∷ node.set))) (λ other. refl) (map (λ (s : Sibling R). s.rank) (take i task.siblings)) in
         omega (arith, one, two, as_many (take i task.siblings), turn.before, turn.here)
+
+    -- the sibling's set stands among those that were found, and the search goes on below it
+    pub record IsExtended (one : Counted) (below : Task R) : Type 0 where
+      pub found : one ≡ found_at task.items node (sibling.rank ∷ node.set)
+      pub inner : IsNode stands below (child node sibling.rank)
+      pub fewer : length below.siblings < length task.siblings
+
+    pub extended : {longer item count : ℕ} {before now : Reached} {with_one : List Counted} {list slice : List (Sibling R)} (place kept_few : ℕ)
+        → place < length before.sets → task.set ≡ set_at before.sets place → item ≡ get_or task.items sibling.rank 0 → count ≡ support_of node.baskets (sibling.rank ∷ node.set) → FindsPart i before now
+        → longer ≡ length now.sets → with_one ≡ now.sets ++ record { set = with_item item (set_at now.sets place); count = count } ∷ []
+        → AreKept stands task.least sibling (take i task.siblings) (take kept_few list) node.baskets node.set → slice ≡ list
+        → IsExtended (record { set = with_item item (set_at now.sets place); count = count })
+        (record { weights = task.weights; least = task.least; siblings = take kept_few slice; set = set_at with_one longer; items = task.items })
+    extended {longer} {item} {count} {before} {now} {with_one} {list} {slice} place kept_few here of_set is_item is_count part at adds are same =
+        let named = ap (with_item item) (set_kept before.sets (map (found_at task.items node) (found_by (take i kept))) now.sets place here part.sets ∙ sym of_set) ∙ ap (λ x. with_item x task.set) is_item in
+        let set = named ∙ ap (with_item (get_or task.items sibling.rank 0)) is.of_set in
+        let longer_is = set_added now.sets with_one (record { set = with_item item (set_at now.sets place); count = count }) longer at adds ∙ named in
+        let below = subst (λ l. AreKept stands task.least sibling (take i task.siblings) (take kept_few l) node.baskets node.set) (sym same) are in
+        record {
+          found = λ k. record { set = set k; count = is_count k };
+          inner = child_is (set_at with_one longer) (take kept_few slice) longer_is below;
+          fewer = fewer (take kept_few slice) below;
+        }
 
 -- nothing is found below a node without siblings
 pub finds_none : {R : Type 0} {stands : List ℕ → List ℕ → List ℕ → R → Type 0} {task : Task R} {node : Node} → IsNode stands task node → length task.siblings ≡ 0 → (now : Reached) → GoesOn now → FindsAll task now now node

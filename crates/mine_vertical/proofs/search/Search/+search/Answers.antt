@@ -4,10 +4,9 @@ use Rattle.std.proofs.lemmas.Result.{err_from_is_err_and}
 use Rattle.basket_sets.specs.Itemset.{IsRising, with_item}
 use Rattle.basket_sets.specs.declared.counted.Counted.{Counted}
 use Rattle.basket_lists.specs.CountedSets.{set_at}
-use Rattle.basket_lists.proofs.theory.Places.{set_added, set_kept}
 use Rattle.mine_vertical.specs.Remade.{AreOver}
-use Rattle.mine_vertical.specs.Search.{Adds, AreKept, IsNode, Node, found_at, is_met, joins_at, reached, sets_at, task_of}
-use Rattle.mine_vertical.proofs.NodeLemmas.{FindsPart, adds_one, as_many, child, child_is, fails, fewer, finds_none, found_by, kept, nothing_yet, part_at_most, part_is_all, rank_known, set_is, turn_adds, turn_at, turn_within}
+use Rattle.mine_vertical.specs.Search.{Adds, IsNode, Node, found_at, is_met, joins_at, reached, sets_at, task_of}
+use Rattle.mine_vertical.proofs.NodeLemmas.{FindsPart, adds_one, as_many, child, extended, fails, finds_none, found_by, kept, nothing_yet, part_at_most, part_is_all, rank_known, turn_adds, turn_at, turn_within}
 use Rattle.mine_vertical.proofs.RemadeLemmas.{kept_rises, over, stands_for}
 use Rattle.mine_vertical.proofs.search.Search.+search.Goals as goal
 use Rattle.mine_vertical.proofs.search.Search.+search.Goals.{extend-then-kept-gt0+in_ok-extend_set, extend-else-kept-gt0}
@@ -69,36 +68,19 @@ extend-returns-in_err-kept-clause-done g t c =
 pub extend-extend_set-requires : goal.extend-extend_set-requires
 extend-extend_set-requires g t c = λ κs lives.
     let (node, is) = c.requires.given.node in
-    let at = reached g.T.Tally.told_of g.T.Tally.limit_of g.T.Tally.is_over in
-    let items = c.args.self.now.coded.now.items in
-    let i = c.loop-at.at in
     let sibling = c.index-siblings-at.result in
-    let before = c.args.progress.now.mined in
+    let turn = turn_at is c.loop-at.at sibling c.loop-at-test.true c.index-siblings-at.is in
+    let part = c.loop-at.invariant.found node is in
     let now = c.loop-at.progress.mined in
     let one : Counted = record { set = with_item c.item-item.result (set_at now.sets c.args.place); count = c.count.result } in
-    let turn = turn_at is i sibling c.loop-at-test.true c.index-siblings-at.is in
-    let part = c.loop-at.invariant.found node is in
-    let adds = adds_one one i (at now c.loop-at.tally) (at (record { sets = c.add_longer.new.self.sets; joins = c.joined.new.joins }) c.add_longer.new.tally)
-    c.in_ok-longer.ensures.sets (omega (arith, c.in_ok-kept.ensures.joins, ap (λ j. j.number) c.add_longer.ensures.joins, turn.before)) c.in_ok-longer.ensures.told c.in_ok-longer.ensures.going_on (omega (arith, turn.few)) c.loop-at.invariant.going in
-    let named = ap (with_item c.item-item.result) (set_kept before.sets (map (found_at items node) (found_by is (take i (kept is)))) now.sets c.args.place c.requires.found part.sets)
-    ∙ ap (λ x. with_item x (set_at before.sets c.args.place)) c.item-item.ensures in
-    let longer = set_added now.sets c.add_longer.new.self.sets one c.in_ok-longer.longer c.in_ok-longer.ensures.place c.in_ok-longer.ensures.sets ∙ named in
-    let extensions = c.in_ok-kept.ensures.kept node.baskets node.set turn.siblings in
-    let slice = subst (λ l. AreKept g.R.Row.stands c.args.self.now.least sibling (take i c.args.siblings.now) (take c.in_ok-kept.kept l) node.baskets node.set) (sym c.deref.ensures.value) extensions in
-    let inner = child_is is turn (set_at c.add_longer.new.self.sets c.in_ok-longer.longer) (take c.in_ok-kept.kept c.deref.result.now) longer slice in
-    let more = ap length c.in_ok-longer.ensures.sets ∙ length-append now.sets (one ∷ []) in (
-      omega (arith, c.decreases, fewer is turn (take c.in_ok-kept.kept c.deref.result.now) slice),
-      (
-        lives.0,
-        (
-          lives.1,
-          (
-            omega (arith, c.in_ok-longer.ensures.place, more),
-            (record { node = (child node sibling.rank, inner); some = c.requires.given.some; going = adds.going }, c.in_ok-kept.ensures.marks),
-          ),
-        ),
-      ),
-    )
+    let at = reached g.T.Tally.told_of g.T.Tally.limit_of g.T.Tally.is_over in
+    let with_one = at (record { sets = c.add_longer.new.self.sets; joins = c.joined.new.joins }) c.add_longer.new.tally in
+    let adds = adds_one one c.loop-at.at (at now c.loop-at.tally) with_one c.in_ok-longer.ensures.sets
+    (omega (arith, c.in_ok-kept.ensures.joins, ap (λ j. j.number) c.add_longer.ensures.joins, turn.before)) c.in_ok-longer.ensures.told c.in_ok-longer.ensures.going_on (omega (arith, turn.few)) c.loop-at.invariant.going in
+    let below = extended is turn c.args.place c.in_ok-kept.kept c.requires.found refl c.item-item.ensures (c.count.ensures node.baskets node.set turn.siblings.first) part
+    c.in_ok-longer.ensures.place c.in_ok-longer.ensures.sets (c.in_ok-kept.ensures.kept node.baskets node.set turn.siblings) c.deref.ensures.value in
+    let more = ap length c.in_ok-longer.ensures.sets ∙ length-append now.sets (one ∷ []) in
+    (omega (arith, c.decreases, below.fewer), (lives.0, (lives.1, (omega (arith, c.in_ok-longer.ensures.place, more), (record { node = (child node sibling.rank, below.inner); some = c.requires.given.some; going = adds.going }, c.in_ok-kept.ensures.marks)))))
 
 pub extend-returns-in_err-extend_set-clause-done : goal.extend-returns-in_err-extend_set-clause-done
 extend-returns-in_err-extend_set-clause-done g t c =
@@ -106,43 +88,25 @@ extend-returns-in_err-extend_set-clause-done g t c =
     let done = c.extend_set.ensures.done in
     fails _ _ _ _ _ p.0 p.1
     (λ limit e node is.
-    let at = reached g.T.Tally.told_of g.T.Tally.limit_of g.T.Tally.is_over in
-    let items = c.args.self.now.coded.now.items in
-    let i = c.loop-at.at in
     let sibling = c.index-siblings-at.result in
-    let before = c.args.progress.now.mined in
+    let turn = turn_at is c.loop-at.at sibling c.loop-at-test.true c.index-siblings-at.is in
+    let part = c.loop-at.invariant.found node is in
     let now = c.loop-at.progress.mined in
     let one : Counted = record { set = with_item c.item-item.result (set_at now.sets c.args.place); count = c.count.result } in
-    let turn = turn_at is i sibling c.loop-at-test.true c.index-siblings-at.is in
-    let part = c.loop-at.invariant.found node is in
-    let named = ap (with_item c.item-item.result) (set_kept before.sets (map (found_at items node) (found_by is (take i (kept is)))) now.sets c.args.place c.requires.found part.sets)
-    ∙ ap (λ x. with_item x (set_at before.sets c.args.place)) c.item-item.ensures in
-    let longer = set_added now.sets c.add_longer.new.self.sets one c.in_ok-longer.longer c.in_ok-longer.ensures.place c.in_ok-longer.ensures.sets ∙ named in
-    let extensions = c.in_ok-kept.ensures.kept node.baskets node.set turn.siblings in
-    let slice = subst (λ l. AreKept g.R.Row.stands c.args.self.now.least sibling (take i c.args.siblings.now) (take c.in_ok-kept.kept l) node.baskets node.set) (sym c.deref.ensures.value) extensions in
-    let inner = child_is is turn (set_at c.add_longer.new.self.sets c.in_ok-longer.longer) (take c.in_ok-kept.kept c.deref.result.now) longer slice in
+    let below = extended is turn c.args.place c.in_ok-kept.kept c.requires.found refl c.item-item.ensures (c.count.ensures node.baskets node.set turn.siblings.first) part
+    c.in_ok-longer.ensures.place c.in_ok-longer.ensures.sets (c.in_ok-kept.ensures.kept node.baskets node.set turn.siblings) c.deref.ensures.value in
     let within = turn_within is turn _ _ part in
     let more = ap length c.in_ok-longer.ensures.sets ∙ length-append now.sets (one ∷ []) in
-    let many = done.too_many limit (c.in_err-extend_set.was ∙ ap Err (sym p.2 ∙ e)) (child node sibling.rank) inner in
+    let many = done.too_many limit (c.in_err-extend_set.was ∙ ap Err (sym p.2 ∙ e)) (child node sibling.rank) below.inner in
     record { limit_is = many.limit_is ∙ c.add_longer.ensures.limit ∙ c.loop-at.invariant.limit; why = elim many.why [ inl done ↦ inl done | inr less ↦ inr (omega (arith, within.1, less, more)) ] })
     (λ node is.
-    let at = reached g.T.Tally.told_of g.T.Tally.limit_of g.T.Tally.is_over in
-    let items = c.args.self.now.coded.now.items in
-    let i = c.loop-at.at in
     let sibling = c.index-siblings-at.result in
-    let before = c.args.progress.now.mined in
-    let now = c.loop-at.progress.mined in
-    let one : Counted = record { set = with_item c.item-item.result (set_at now.sets c.args.place); count = c.count.result } in
-    let turn = turn_at is i sibling c.loop-at-test.true c.index-siblings-at.is in
+    let turn = turn_at is c.loop-at.at sibling c.loop-at-test.true c.index-siblings-at.is in
     let part = c.loop-at.invariant.found node is in
-    let named = ap (with_item c.item-item.result) (set_kept before.sets (map (found_at items node) (found_by is (take i (kept is)))) now.sets c.args.place c.requires.found part.sets)
-    ∙ ap (λ x. with_item x (set_at before.sets c.args.place)) c.item-item.ensures in
-    let longer = set_added now.sets c.add_longer.new.self.sets one c.in_ok-longer.longer c.in_ok-longer.ensures.place c.in_ok-longer.ensures.sets ∙ named in
-    let extensions = c.in_ok-kept.ensures.kept node.baskets node.set turn.siblings in
-    let slice = subst (λ l. AreKept g.R.Row.stands c.args.self.now.least sibling (take i c.args.siblings.now) (take c.in_ok-kept.kept l) node.baskets node.set) (sym c.deref.ensures.value) extensions in
-    let inner = child_is is turn (set_at c.add_longer.new.self.sets c.in_ok-longer.longer) (take c.in_ok-kept.kept c.deref.result.now) longer slice in
+    let below = extended is turn c.args.place c.in_ok-kept.kept c.requires.found refl c.item-item.ensures (c.count.ensures node.baskets node.set turn.siblings.first) part
+    c.in_ok-longer.ensures.place c.in_ok-longer.ensures.sets (c.in_ok-kept.ensures.kept node.baskets node.set turn.siblings) c.deref.ensures.value in
     let within = turn_within is turn _ _ part in
-    omega (arith, within.0, c.in_ok-longer.ensures.told, done.at_most (child node sibling.rank) inner))
+    omega (arith, within.0, c.in_ok-longer.ensures.told, done.at_most (child node sibling.rank) below.inner))
     (done.limit ∙ c.add_longer.ensures.limit ∙ c.loop-at.invariant.limit)
 
 pub extend-loop-at-preserved : goal.extend-loop-at-preserved
@@ -151,40 +115,32 @@ extend-loop-at-preserved g t c =
     let found : (node : Node) (is : IsNode g.R.Row.stands (task_of c.args.self.now c.args.siblings.now c.args.progress.now.mined c.args.place) node)
     → FindsPart is (c.loop-at.at + 1) (state c.args.progress.now.mined c.args.tally.now) (state c.if-kept-gt0.progress.mined c.if-kept-gt0.tally)
     = λ node is.
-    let at = reached g.T.Tally.told_of g.T.Tally.limit_of g.T.Tally.is_over in
-    let items = c.args.self.now.coded.now.items in
-    let i = c.loop-at.at in
     let sibling = c.index-siblings-at.result in
-    let before = c.args.progress.now.mined in
+    let turn = turn_at is c.loop-at.at sibling c.loop-at-test.true c.index-siblings-at.is in
+    let part = c.loop-at.invariant.found node is in
     let now = c.loop-at.progress.mined in
     let one : Counted = record { set = with_item c.item-item.result (set_at now.sets c.args.place); count = c.count.result } in
-    let turn = turn_at is i sibling c.loop-at-test.true c.index-siblings-at.is in
-    let part = c.loop-at.invariant.found node is in
-    let adds = adds_one one i (at now c.loop-at.tally) (at (record { sets = c.add_longer.new.self.sets; joins = c.joined.new.joins }) c.add_longer.new.tally)
-    c.in_ok-longer.ensures.sets (omega (arith, c.in_ok-kept.ensures.joins, ap (λ j. j.number) c.add_longer.ensures.joins, turn.before)) c.in_ok-longer.ensures.told c.in_ok-longer.ensures.going_on (omega (arith, turn.few)) c.loop-at.invariant.going in
-    let named = ap (with_item c.item-item.result) (set_kept before.sets (map (found_at items node) (found_by is (take i (kept is)))) now.sets c.args.place c.requires.found part.sets)
-    ∙ ap (λ x. with_item x (set_at before.sets c.args.place)) c.item-item.ensures in
-    let longer = set_added now.sets c.add_longer.new.self.sets one c.in_ok-longer.longer c.in_ok-longer.ensures.place c.in_ok-longer.ensures.sets ∙ named in
-    let extensions = c.in_ok-kept.ensures.kept node.baskets node.set turn.siblings in
-    let is_set = set_is is turn one.set named in
-    let counts = c.count.ensures node.baskets node.set turn.siblings.first in
+    let at = reached g.T.Tally.told_of g.T.Tally.limit_of g.T.Tally.is_over in
     let with_one = at (record { sets = c.add_longer.new.self.sets; joins = c.joined.new.joins }) c.add_longer.new.tally in
-    let found = map (found_at items node) (sets_at c.args.self.now.least (child node sibling.rank)) in
+    let adds = adds_one one c.loop-at.at (at now c.loop-at.tally) with_one c.in_ok-longer.ensures.sets
+    (omega (arith, c.in_ok-kept.ensures.joins, ap (λ j. j.number) c.add_longer.ensures.joins, turn.before)) c.in_ok-longer.ensures.told c.in_ok-longer.ensures.going_on (omega (arith, turn.few)) c.loop-at.invariant.going in
+    let all = extended is turn c.args.place c.in_ok-kept.kept c.requires.found refl c.item-item.ensures (c.count.ensures node.baskets node.set turn.siblings.first) part
+    c.in_ok-longer.ensures.place c.in_ok-longer.ensures.sets (c.in_ok-kept.ensures.kept node.baskets node.set turn.siblings) refl in
+    let found = map (found_at c.args.self.now.coded.now.items node) (sets_at c.args.self.now.least (child node sibling.rank)) in
     let joined = joins_at c.args.self.now.least (child node sibling.rank) in
     let below : Adds found joined with_one (at c.if-kept-gt0.progress.mined c.if-kept-gt0.tally) = elim c.if-kept-gt0.branch [
       | extend-then-kept-gt0+in_ok-extend_set w ↦
-          (let slice = subst (λ l. AreKept g.R.Row.stands c.args.self.now.least sibling (take i c.args.siblings.now) (take c.in_ok-kept.kept l) node.baskets node.set) (sym w.deref.ensures.value) extensions in
-          let inner = child_is is turn (set_at c.add_longer.new.self.sets c.in_ok-longer.longer) (take c.in_ok-kept.kept w.deref.result.now) longer slice in
+          (let inner = (extended is turn c.args.place c.in_ok-kept.kept c.requires.found refl c.item-item.ensures (c.count.ensures node.baskets node.set turn.siblings.first) part
+          c.in_ok-longer.ensures.place c.in_ok-longer.ensures.sets (c.in_ok-kept.ensures.kept node.baskets node.set turn.siblings) w.deref.ensures.value).inner in
           subst (λ p. Adds found joined with_one (at p.mined c.if-kept-gt0.tally)) (sym w.progress-is)
           (subst (λ s. Adds found joined with_one (at w.extend_set.new.progress.mined s)) (sym w.tally-is) (w.in_ok-extend_set.ensures.done.found (child node sibling.rank) inner)))
       | extend-else-kept-gt0 w ↦
           (let none = length-take-le c.in_ok-kept.kept c.joined.new.list.items c.in_ok-kept.ensures.within in
-          let inner = child_is is turn (set_at c.add_longer.new.self.sets c.in_ok-longer.longer) (take c.in_ok-kept.kept c.joined.new.list.items) longer extensions in
           subst (λ p. Adds found joined with_one (at p.mined c.if-kept-gt0.tally)) (sym w.progress-is)
           (subst (λ s. Adds found joined with_one (at (record { sets = c.add_longer.new.self.sets; joins = c.joined.new.joins }) s)) (sym w.tally-is)
-          (finds_none inner (omega (arith, none, w.if-kept-gt0.false)) with_one adds.going)))
+          (finds_none all.inner (omega (arith, none, w.if-kept-gt0.false)) with_one adds.going)))
     ] in
-    turn_adds is turn one _ (at now c.loop-at.tally) with_one _ (λ k. record { set = is_set k; count = counts k }) part adds below
+    turn_adds is turn one _ (at now c.loop-at.tally) with_one _ all.found part adds below
     in
     let (known, first) = c.requires.given.node in
     record {
