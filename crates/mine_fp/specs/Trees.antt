@@ -1,4 +1,4 @@
--- How many conditional trees FP-growth makes.
+-- The conditional trees of FP-growth, by number.
 use Rattle.std.specs.Prelude.{◌≡◌, ◌||◌, ◌&&◌, not, ℕ, Bool, List, [], ◌∷◌, filter, length, nat_lt, if◌then◌else◌}
 use Rattle.std.specs.List.{flat_map, list_all, range_with_len, sum_by}
 use Rattle.basket_ranks.specs.Codes.{Coding, IsCoding}

@@ -9,7 +9,7 @@ use Rattle.basket_sets.specs.Frequent.{IsNonemptySet, is_frequent}
 use Rattle.basket_sets.specs.Itemset.{AllBelow}
 use Rattle.mine_vertical.specs.Walk.{sets_below}
 
--- whether a join makes a set: it has two or more ranks, and both without its least rank and without its second least one it is frequent
+-- whether a set is that of a join: it has two or more ranks, and both without its least rank and without its second least one it is frequent
 abbrev pub is_join : List Weighted → Minimum → List ℕ → Bool
 is_join baskets minimum [] = false
 is_join baskets minimum (rank ∷ []) = false
