@@ -13,7 +13,7 @@ use Rattle.basket.specs.declared.fault.RunFault.{RunFault}
 use Rattle.basket.specs.declared.fault.RunFault.TheVariants.{Input, Sets, Uncounted, Mine, Write}
 use Rattle.basket.specs.Outcome.{outcome, outcome_of, outcome_for, of_mining}
 use Rattle.basket_plan.specs.Plan.{Question}
-use Rattle.basket.specs.Engine.{FailsInput, MakesReport, RefusesInput, RefusesSets, WritesFront, WritesReport}
+use Rattle.basket.specs.Engine.{FailsInput, IsOutcomeFault, MakesReport, RefusesInput, RefusesSets, WritesFront, WritesReport}
 
 abbrev input_fault : ReadFault → Result Unit RunFault → ReadFault
 input_fault other (Err (Input fault)) = fault
@@ -122,6 +122,18 @@ module _ (question : Question) (left after : Option (List ℕ)) (failed : Bool) 
   not_write (Uncounted nth) made is = made
   not_write (Mine fault) made is = cc
   not_write Write made is = made
+
+told_whole : (question : Question) (bytes : List ℕ) (after : Option (List ℕ)) (fault : RunFault) → MakesReport question (Some bytes) after false (Err fault) → IsOutcomeFault (outcome bytes question) fault
+told_whole question bytes after (Input fault) made = λ readable minable. made.0 refl (λ is. readable (ap Input is))
+told_whole question bytes after (Mine fault) made = λ readable minable. made.1 (λ is. minable (ap Mine is))
+told_whole question bytes after (Sets fault) made = absurd made
+told_whole question bytes after (Uncounted nth) made = absurd made
+told_whole question bytes after Write made = absurd made
+
+-- what is told of a reader of known bytes that doesn't fail is the outcome
+pub told_outcome : (question : Question) (bytes : List ℕ) (left after : Option (List ℕ)) (fault : RunFault) → left ≡ Some bytes → MakesReport question left after false (Err fault)
+    → IsOutcomeFault (outcome bytes question) fault
+told_outcome question bytes left after fault known made = told_whole question bytes after fault (subst (λ l. MakesReport question l after false (Err fault)) known made)
 
 -- want of memory refuses nothing
 pub memory_refuses : (left : Option (List ℕ)) (question : Question) → RefusesSets left question Memory

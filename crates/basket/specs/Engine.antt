@@ -43,3 +43,7 @@ MakesReport question left after failed (Err (Mine fault)) = (failed ≡ false) �
 MakesReport question left after failed (Err (Sets fault)) = ⊥
 MakesReport question left after failed (Err (Uncounted nth)) = ⊥
 MakesReport question left after failed (Err Write) = ⊥
+
+-- the outcome is that fault, but for want of memory
+abbrev pub IsOutcomeFault : Result (List ℕ) RunFault → RunFault → Type 0
+IsOutcomeFault outcome fault = fault ≢ Input Memory → fault ≢ Mine mine.Memory → outcome ≡ Err fault

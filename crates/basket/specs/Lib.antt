@@ -5,6 +5,7 @@ pub mod Status
 pub mod Classes
 pub mod Mining
 pub mod Outcome
+pub mod Worked
 pub mod Made
 pub mod Engine
 pub mod Count

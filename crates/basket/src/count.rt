@@ -24,6 +24,10 @@ use std::thread::Threads;
 /// Reads sets and an input to their ends, and writes the sets with their counts: the empty set first,
 /// whose count is the weight of all baskets, then the others in their order, each once. Once its first
 /// byte is written nothing but the writer can refuse the others, and a flush ends the run.
+///
+/// `Sets` and `Input` have a fault of the bytes of one or of reading them, `Uncounted` says that a counted
+/// input lacks a set, and `Write` that the writer failed. Want of memory is in `Sets`, `Input` or `Mine`.
+/// What a reader has left is said only where it failed.
 pub fn run_count<R: RandomSource + Threads + Sync, S: Source, T: Source, W: Sink>(
     rt: &R,
     alloc: Global,
@@ -39,6 +43,8 @@ pub fn run_count<R: RandomSource + Threads + Sync, S: Source, T: Source, W: Sink
     // What is written, for readers and a writer that tell their bytes.
     ensures report { OnOk result (WritesCounts plan.now.layout (S.left sets.old) (T.left reader.old) (W.taken writer.old) (W.taken writer.new)) }
     ensures front { result ≡ Err RunFault.Write → WritesCountsFront plan.now.layout (S.left sets.old) (T.left reader.old) (W.taken writer.old) (W.taken writer.new) }
+    ensures whole { result ≡ Err RunFault.Write → W.ends_in_flush writer.new ≡ true → WritesCounts plan.now.layout (S.left sets.old) (T.left reader.old) (W.taken writer.old) (W.taken writer.new) }
+    ensures flushed { OnOk result (W.ends_in_flush writer.new ≡ true) }
     ensures nothing { IfErr result (λ fault. fault ≢ RunFault.Write → Keeps (W.taken writer.old) (W.taken writer.new)) }
 
     // When each fault comes.

@@ -26,6 +26,10 @@ use std::thread::Threads;
 
 /// Reads the input to its end and writes the report that the plan asks for. Once its first byte is
 /// written nothing but the writer can refuse the others, and a flush ends the run.
+///
+/// `Input` has a fault of the bytes or of reading them, `Mine` says that there are more sets than the
+/// plan's limit, and `Write` that the writer failed. Want of memory is in the first two. What the reader
+/// has left is said only where it failed.
 pub fn run<R: RandomSource + Threads + Sync, S: Source, W: Sink>(
     rt: &R,
     alloc: Global,
@@ -39,6 +43,8 @@ pub fn run<R: RandomSource + Threads + Sync, S: Source, W: Sink>(
     // What is written, for a reader and a writer that tell their bytes.
     ensures report { OnOk result (WritesReport (S.left reader.old) plan.now.question (W.taken writer.old) (W.taken writer.new)) }
     ensures front { result ≡ Err RunFault.Write → WritesFront (S.left reader.old) plan.now.question (W.taken writer.old) (W.taken writer.new) }
+    ensures whole { result ≡ Err RunFault.Write → W.ends_in_flush writer.new ≡ true → WritesReport (S.left reader.old) plan.now.question (W.taken writer.old) (W.taken writer.new) }
+    ensures flushed { OnOk result (W.ends_in_flush writer.new ≡ true) }
     ensures nothing { IfErr result (λ fault. fault ≢ RunFault.Write → Keeps (W.taken writer.old) (W.taken writer.new)) }
 
     // When each fault comes.
@@ -61,7 +67,7 @@ pub fn run<R: RandomSource + Threads + Sync, S: Source, W: Sink>(
 
 /// The report that the plan asks for over an input, which is read to its end. Items of a FIMI input
 /// are counted while it is read.
-fn reported<R: RandomSource + Threads + Sync, S: Source>(
+pub fn reported<R: RandomSource + Threads + Sync, S: Source>(
     rt: &R,
     alloc: Global,
     plan: &Plan,
@@ -90,14 +96,14 @@ fn report_input<R: RandomSource + Threads + Sync, S: Source>(
         Ok(input) => input,
         Err(fault) => return Err(RunFault::Input(fault)),
     };
-    match report(rt, alloc, input, plan) {
+    match report_read(rt, alloc, input, plan) {
         Ok(made) => Ok(made),
         Err(fault) => Err(RunFault::Mine(fault)),
     }
 }
 
 /// The report that the plan asks for over what an input says.
-fn report<R: Threads + Sync>(
+fn report_read<R: Threads + Sync>(
     rt: &R,
     alloc: Global,
     input: Input,

@@ -11,15 +11,20 @@ mod fault;
 mod input;
 mod items;
 mod made;
+mod memory;
 mod mining;
+pub mod worked;
 
+pub use basket_core::{CountedSets, Database, Frequent, Itemset, MineFault, Minimum};
 pub use basket_plan::{
     Ask, CountPlan, Form, Invocation, Layout, Miner, Origin, Plan, PlanFault, Task, invocation_of,
     plan_status,
 };
-pub use basket_report::{Style, sets_report};
+pub use basket_read::ReadFault;
+pub use basket_stream::{MemSink, MemSource, Sink, SliceSource, Source, StdSink, StdSource};
 pub use count::run_count;
 pub use engine::run;
 pub use fault::{RunFault, status_of};
+pub use memory::report;
 pub use mine_phases::{Gate, Open};
 pub use mining::{Work, mine, mine_in_place};

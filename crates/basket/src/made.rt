@@ -1,5 +1,5 @@
 //! A report that is made and not written yet.
-ghost use Rattle.std.specs.Prelude.{◌≡◌, ◌↔◌, List, false, IfOk, IsOk, OnErr, OnOk};
+ghost use Rattle.std.specs.Prelude.{◌≡◌, ◌↔◌, List, true, false, IfOk, IsOk, OnErr, OnOk};
 ghost use Rattle.std.specs.Io.KnownBytes.{Appends};
 ghost use Rattle.basket_report.specs.Block.{TakesFront};
 ghost use Rattle.basket_report.specs.Report.{report_of};
@@ -11,7 +11,7 @@ ghost use Rattle.basket_sets.specs.declared.minimum.Minimum.{Minimum as Bound};
 ghost use Rattle.basket_sets.specs.declared.weighted.Weighted.{Weighted as Basket};
 ghost use Rattle.basket.specs.Made.{made_text};
 
-use basket_core::{CountedSets, Failed, Frequent, Sink};
+use basket_core::{CountedSets, Failed, Frequent, MemSink, Sink};
 use basket_report::{SetLines, Style, sets_report, write_bytes};
 use basket_rules::{closed, maximal};
 use std::alloc::{AllocError, Global};
@@ -63,11 +63,14 @@ impl Made {
         Made::of_sets(alloc, maximal(alloc, &frequent)?, style)
     }
 
-    /// Writes the report to its end and flushes. Where the sink fails, it has taken a front of it.
+    /// Writes the report to its end and flushes. Where the sink fails, it has taken a front of it, and
+    /// all of it where the flush alone failed.
     pub fn write<W: Sink>(self, writer: &mut W) -> Result<(), Failed>
         requires { W.has_failed writer.old ≡ false }
         ensures ok { OnOk result (Appends (W.taken writer.old) (W.taken writer.new) (made_text self)) }
         ensures err { OnErr result (TakesFront (W.taken writer.old) (W.taken writer.new) (made_text self)) }
+        ensures whole { W.ends_in_flush writer.new ≡ true → Appends (W.taken writer.old) (W.taken writer.new) (made_text self) }
+        ensures flushed { OnOk result (W.ends_in_flush writer.new ≡ true) }
         ensures failed { (W.has_failed writer.new ≡ false) ↔ IsOk result }
     {
         match self {
@@ -75,13 +78,32 @@ impl Made {
             Made::Sets(sets, mut lines) => lines.write(&sets, writer),
         }
     }
+
+    /// The text of the report.
+    pub fn into_text(self, alloc: Global) -> Result<Vec<u8>, AllocError>
+        ensures { IfOk result (λ text. text.items ≡ made_text self) }
+    {
+        match self {
+            Made::Text(text) => Ok(text),
+            Made::Sets(sets, mut lines) => {
+                let mut sink = MemSink::unbounded(alloc);
+                match lines.write(&sets, &mut sink) {
+                    Ok(()) => Ok(sink.into_bytes()),
+                    Err(_) => Err(AllocError),
+                }
+            }
+        }
+    }
 }
 
-/// Writes all bytes and flushes. Where the sink fails, it has taken a front of them.
+/// Writes all bytes and flushes. Where the sink fails, it has taken a front of them, and all where the
+/// flush alone failed.
 fn write_all<W: Sink>(writer: &mut W, bytes: &[u8]) -> Result<(), Failed>
     requires { W.has_failed writer.old ≡ false }
     ensures ok { OnOk result (Appends (W.taken writer.old) (W.taken writer.new) bytes.now) }
     ensures err { OnErr result (TakesFront (W.taken writer.old) (W.taken writer.new) bytes.now) }
+    ensures whole { W.ends_in_flush writer.new ≡ true → Appends (W.taken writer.old) (W.taken writer.new) bytes.now }
+    ensures flushed { OnOk result (W.ends_in_flush writer.new ≡ true) }
     ensures failed { (W.has_failed writer.new ≡ false) ↔ IsOk result }
 {
     write_bytes(writer, bytes)?;

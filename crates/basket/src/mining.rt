@@ -67,6 +67,8 @@ impl Work {
 /// The list of the frequent sets, where it is no longer than the plan's limit, and how much the
 /// plan's miner did for it. The plan's workers pass the gate with each piece of their work, in the
 /// phase that counts the items, which is 1, and in those of the miner.
+///
+/// The fault is `TooMany` where there are more sets than the plan's limit, else `Memory`.
 pub fn mine<R: Threads + Sync, G: Gate + Sync>(
     rt: &R,
     alloc: Global,

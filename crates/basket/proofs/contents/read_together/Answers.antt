@@ -1,5 +1,3 @@
-use Rattle.basket_counts.specs.Counts.{counts_of}
-use Rattle.basket_parts.specs.Together.{together_of}
 use Rattle.basket.proofs.ContentsLemmas.{counts_refused, counts_together}
 use Rattle.basket.proofs.contents.read_together.Goals as goal
 

@@ -10,14 +10,14 @@ returns-in-Err g c = (
   λ is. c.in-Err.ensures.read_is_failed (ap Err is),
 )
 
-pub returns-in-Ok-report : goal.returns-in-Ok-report
-returns-in-Ok-report g c =
+pub returns-in-Ok-report_read : goal.returns-in-Ok-report_read
+returns-in-Ok-report_read g c =
     let said = said_by c.in-Ok.input in
     let working = not_failed _ said c.in-Ok.ensures.failed_is_err in
-    (working, report_is (g.S.Source.left c.args.reader.now) c.args.plan.now.question said _ (c.in-Ok.ensures.exact working) c.in-Ok-report.ensures.ok)
+    (working, report_is (g.S.Source.left c.args.reader.now) c.args.plan.now.question said _ (c.in-Ok.ensures.exact working) c.in-Ok-report_read.ensures.ok)
 
-pub returns-in-Err-report : goal.returns-in-Err-report
-returns-in-Err-report g c =
+pub returns-in-Err-report_read : goal.returns-in-Err-report_read
+returns-in-Err-report_read g c =
     let said = said_by c.in-Ok.input in
     let working = not_failed _ said c.in-Ok.ensures.failed_is_err in
-    (working, refuses_sets (g.S.Source.left c.args.reader.now) c.args.plan.now.question said c.in-Err-report.fault (c.in-Ok.ensures.exact working) (c.in-Err-report.ensures.err c.in-Err-report.fault refl))
+    (working, refuses_sets (g.S.Source.left c.args.reader.now) c.args.plan.now.question said c.in-Err-report_read.fault (c.in-Ok.ensures.exact working) (c.in-Err-report_read.ensures.err c.in-Err-report_read.fault refl))

@@ -20,6 +20,9 @@ returns-in-Err-clause-mine g c = told_mine c.args.plan.now.question (g.S.Source.
 pub returns-in-Err-clause-front : goal.returns-in-Err-clause-front
 returns-in-Err-clause-front g c = λ is. absurd (not_write c.args.plan.now.question (g.S.Source.left c.args.reader.now) _ _ c.in-Err.fault c.in-Err.ensures is)
 
+pub returns-in-Err-clause-whole : goal.returns-in-Err-clause-whole
+returns-in-Err-clause-whole g c = λ is. absurd (not_write c.args.plan.now.question (g.S.Source.left c.args.reader.now) _ _ c.in-Err.fault c.in-Err.ensures is)
+
 pub returns-in-Err-clause-write : goal.returns-in-Err-clause-write
 returns-in-Err-clause-write g c = (
   λ is. absurd (not_write c.args.plan.now.question (g.S.Source.left c.args.reader.now) _ _ c.in-Err.fault c.in-Err.ensures is),
@@ -28,6 +31,10 @@ returns-in-Err-clause-write g c = (
 
 pub returns-in_err-write-clause-front : goal.returns-in_err-write-clause-front
 returns-in_err-write-clause-front g c is = writes_front (g.S.Source.left c.args.reader.now) c.args.plan.now.question _ _ (made_text c.in-Ok.made) c.in-Ok.ensures.1 c.in_err-write.ensures.err
+
+pub returns-in_err-write-clause-whole : goal.returns-in_err-write-clause-whole
+returns-in_err-write-clause-whole g c = λ is flush.
+    writes_report (g.S.Source.left c.args.reader.now) c.args.plan.now.question _ _ (made_text c.in-Ok.made) c.in-Ok.ensures.1 (c.in_err-write.ensures.whole flush)
 
 pub returns-clause-report : goal.returns-clause-report
 returns-clause-report g c = writes_report (g.S.Source.left c.args.reader.now) c.args.plan.now.question _ _ (made_text c.in-Ok.made) c.in-Ok.ensures.1 c.in_ok-write.ensures.ok
