@@ -1,10 +1,10 @@
 //! Worked inputs, proved by computing their outcome.
-ghost use Rattle.std.specs.Prelude.{◌≡◌, Ok, Err, codes};
+ghost use Rattle.std.specs.Prelude.{◌≡◌, [], ◌∷◌, Ok, Err, codes};
 ghost use Rattle.basket_core.specs.declared.fault.MineFault.TheVariants.{TooMany};
 ghost use Rattle.basket_read.specs.Worked.{lines};
-ghost use Rattle.basket_plan.specs.declared.layout.Form.TheVariants.{Fimi};
+ghost use Rattle.basket_plan.specs.declared.layout.Form.TheVariants.{Fimi, Baskets};
 ghost use Rattle.basket_plan.specs.declared.plan.Ask.TheVariants.{Items, Sets, Rules};
-ghost use Rattle.basket_read.specs.declared.fault.ReadFault.TheVariants.{Byte};
+ghost use Rattle.basket_read.specs.declared.fault.ReadFault.TheVariants.{Byte, NotText};
 ghost use Rattle.basket.specs.Outcome.{outcome};
 ghost use Rattle.basket.specs.Worked.{asked, limited, nine_baskets};
 ghost use Rattle.basket.specs.declared.fault.RunFault.TheVariants.{Input, Mine};
@@ -24,6 +24,12 @@ pub fn nine_baskets_rules()
     ensures { outcome nine_baskets (asked Fimi (Rules 7 10) 2) ≡ Ok (lines (codes "5 => 1 (2) 1/1 3/2|4 => 2 (2) 1/1 9/7|5 => 2 (2) 1/1 9/7|2 5 => 1 (2) 1/1 3/2|1 5 => 2 (2) 1/1 9/7|5 => 1 2 (2) 1/1 9/4|")) }
 {}
 
+/// Names with a separator or a quote in them are quoted in the report as in the input.
+pub fn quoted_names_are_quoted()
+    ensures { outcome (lines (codes "\"semi, skim\",bread|bread,\"5\"\" pan\"|")) (asked Baskets Sets 1)
+        ≡ Ok (lines (codes "1,\"semi, skim\"|2,bread|1,\"5\"\" pan\"|1,\"semi, skim\",bread|1,bread,\"5\"\" pan\"|")) }
+{}
+
 /// Six sets are too many where there may be five. Items are not limited.
 pub fn six_sets_are_too_many()
     ensures five { outcome nine_baskets (limited Fimi Sets 3 5) ≡ Err (Mine (TooMany 5)) }
@@ -31,7 +37,8 @@ pub fn six_sets_are_too_many()
     ensures items { outcome nine_baskets (limited Fimi Items 3 1) ≡ Ok (lines (codes "1 (6)|2 (7)|3 (6)|")) }
 {}
 
-/// The first fault of a text is told, with the number of its line.
+/// The first fault of a text is told, with the number of its line or record.
 pub fn first_fault_is_told()
-    ensures { outcome (lines (codes "1 2|3 x|4 y|")) (asked Fimi Sets 1) ≡ Err (Input (Byte 2 120)) }
+    ensures byte { outcome (lines (codes "1 2|3 x|4 y|")) (asked Fimi Sets 1) ≡ Err (Input (Byte 2 120)) }
+    ensures no_text { outcome (97 ∷ 10 ∷ 255 ∷ 10 ∷ 254 ∷ []) (asked Baskets Items 1) ≡ Err (Input (NotText 2)) }
 {}
