@@ -6,9 +6,10 @@ mod shared;
 mod stage;
 
 use anyhow::Context;
-use basket::{Ask, Plan, Style, sets_report};
+use basket::{Ask, Plan};
 use basket_core::{Coded, Database, Frequent, MemSource, Minimum, parse_minimum};
 use basket_read::read_fimi;
+use basket_report::{Style, sets_report};
 use mine_apriori::Levels;
 use shared::print_miners;
 use stage::{Times, print_stages};
