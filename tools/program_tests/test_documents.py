@@ -141,6 +141,10 @@ class Documents(unittest.TestCase):
                 ).stdout
                 self.assertEqual(said.decode().strip(), wanted)
 
+    def test_the_program_of_the_library_page_is_the_one_that_runs(self) -> None:
+        shown_there = re.findall(r"(?s)```rust\n(.*?)```", text_of("docs/LIBRARY.md"))
+        self.assertEqual(shown_there, [text_of("crates/basket_example/src/main.rt")])
+
     def test_the_version_is_the_same_everywhere(self) -> None:
         version = run(["--version"]).out.decode().removeprefix("basket ").strip()
         self.assertRegex(version, r"^\d+\.\d+\.\d+$")
