@@ -11,13 +11,27 @@ fn main(rt: HostRuntime) -> anyhow::Result<()> {
     let plan = Plan::of(Ask::Sets, Minimum::Count(2));
     let (frequent, _) = mine(&rt, rt.alloc(), &database, &plan, &Open).context("the sets")?;
     let closed = closed(rt.alloc(), &frequent)?;
-    println!(&rt; "{} of {} sets are closed", closed.len(), frequent.sets().len())?;
+    println!(&rt;
+        "{} of {} sets are closed",
+        closed.len(),
+        frequent.sets().len()
+    )?;
     for rule in &rules(rt.alloc(), &frequent, (7, 10))? {
-        println!(&rt; "{:?} => {:?}: {}", rule.left.items(), rule.right.items(), rule.confidence)?;
+        println!(&rt;
+            "{:?} => {:?}: {}",
+            rule.left.items(),
+            rule.right.items(),
+            rule.confidence
+        )?;
     }
     let frequent = frequent.unpacked(rt.alloc())?;
     for found in frequent.sets() {
-        println!(&rt; "{:?}: {} of {}", found.set.items(), found.count, frequent.total())?;
+        println!(&rt;
+            "{:?}: {} of {}",
+            found.set.items(),
+            found.count,
+            frequent.total()
+        )?;
     }
     Ok(())
 }

@@ -23,6 +23,6 @@ returns c =
     let rules = c.loop-number.rules.items in
     let same = c.in_ok-list.ensures in
     let whole = subst (λ (l : Listing). length l.sets ≤ c.loop-number.number) same
-                (subst (λ l. length l ≤ c.loop-number.number) c.sets-number-end.ensures c.loop-number-test.false) in
+    (subst (λ l. length l ≤ c.loop-number.number) c.sets-number-end.ensures c.loop-number-test.false) in
     let lists = all_rules c.args.frequent.now c.args.confidence c.loop-number.number rules whole c.loop-number.invariant in
     record { baskets = rules_of_baskets c.args.frequent.now c.args.confidence rules lists; lists = lists }

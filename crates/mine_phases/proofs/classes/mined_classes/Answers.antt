@@ -139,5 +139,5 @@ returns-clause-work g c =
     c.args.cutting.some_pieces.0 (omega (arith, c.in_ok-collected.ensures.count, c.in_ok-collected.field-0.ok)) (rw c.in_ok-values.was at c.in_ok-seats.ensures.lists)
     (λ k d below. (c.in_ok-seats.ensures.each k d below).call.met.1.values) c.in_ok-collected.ensures.values in
     let within = subst (λ (k : Coding). length (frequent_of_coding k) ≤ c.args.limit) (sym c.requires.coding) (returns-clause-within g c) in
-    subst (λ (k : Coding). IsWorkOfAll is_work (length k.items) c.in_ok-classes.work) c.requires.coding 
+    subst (λ (k : Coding). IsWorkOfAll is_work (length k.items) c.in_ok-classes.work) c.requires.coding
     (work_of_all coding is_work c.args.limit _ _ (subst IsCoding (sym c.requires.coding) c.baskets-baskets.ensures.coding) c.class_sizes_add_up.ensures within (omega (arith, c.ranges.limit)) mined c.in_ok-classes.ensures.work)
