@@ -5,6 +5,7 @@ import os
 import signal
 import sys
 import threading
+from collections.abc import Iterator
 from pathlib import Path
 
 import pytest
@@ -107,6 +108,15 @@ def test_large_inputs_and_outputs_pass_through(
     assert _program.run(["sets"], content) == b"unread\n"
 
 
+@pytest.fixture
+def interrupts() -> Iterator[None]:
+    """Interrupts are raised, also in tests that a shell started in the background, which ignores them."""
+    before = signal.signal(signal.SIGINT, signal.default_int_handler)
+    yield
+    signal.signal(signal.SIGINT, before)
+
+
+@pytest.mark.usefixtures("interrupts")
 def test_an_interrupt_ends_the_program(
     monkeypatch: pytest.MonkeyPatch, tmp_path: Path
 ) -> None:
