@@ -16,10 +16,10 @@ use Rattle.basket_sets.specs.declared.minimum.Minimum.TheVariants.{Count, Share}
 -- whether the weight of all baskets matters: a share is one of it, and so is a lift
 abbrev pub is_share : Minimum → Bool
 is_share (Count least) = false
-is_share (Share numerator denominator) = true
+is_share (Share share) = true
 
 abbrev pub needs_total : Ask → Minimum → Bool
-needs_total (Rules above below) minimum = true
+needs_total (Rules confidence) minimum = true
 needs_total _ minimum = is_share minimum
 
 -- whether the subsets of the sets that meet the minimum matter

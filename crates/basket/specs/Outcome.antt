@@ -25,7 +25,7 @@ text_of wording Items baskets minimum = report_of wording (frequent_items_of bas
 text_of wording Sets baskets minimum = report_of wording (frequent_of baskets minimum)
 text_of wording Closed baskets minimum = report_of wording (closed_of baskets minimum)
 text_of wording Maximal baskets minimum = report_of wording (maximal_of baskets minimum)
-text_of wording (Rules above below) baskets minimum = rules_report_of wording (rules_of baskets minimum (above, below))
+text_of wording (Rules confidence) baskets minimum = rules_report_of wording (rules_of baskets minimum confidence)
 
 -- whether there are more frequent sets than the limit, which isn't asked for items
 abbrev pub are_too_many : Ask → List Weighted → Minimum → ℕ → Bool
@@ -38,7 +38,7 @@ text_in wording Items listing = report_of wording (filter (λ c. length c.set ==
 text_in wording Sets listing = report_of wording listing.sets
 text_in wording Closed listing = report_of wording (closed_in listing.sets)
 text_in wording Maximal listing = report_of wording (maximal_in listing.sets)
-text_in wording (Rules above below) listing = rules_report_of wording (rules_among listing (above, below))
+text_in wording (Rules confidence) listing = rules_report_of wording (rules_among listing confidence)
 
 abbrev pub are_too_many_in : Ask → Listing → ℕ → Bool
 are_too_many_in Items listing limit = false

@@ -83,9 +83,9 @@ pub fn report_listing(
         Ask::Items | Ask::Sets => Made::of_sets(alloc, frequent.into_sets(), style)?,
         Ask::Closed => Made::of_closed(alloc, frequent, style)?,
         Ask::Maximal => Made::of_maximal(alloc, frequent, style)?,
-        Ask::Rules(above, below) => {
+        Ask::Rules(confidence) => {
             let frequent = frequent.unpacked(alloc)?;
-            Made::Text(rules_report(alloc, &frequent, (above, below), style)?)
+            Made::Text(rules_report(alloc, &frequent, confidence, style)?)
         }
     })
 }

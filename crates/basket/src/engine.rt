@@ -149,10 +149,10 @@ fn report_baskets<R: Threads + Sync>(
             let (frequent, _) = mine_in_place(rt, alloc, database, plan, &Open)?;
             Ok(Made::of_maximal(alloc, frequent, style)?)
         }
-        Ask::Rules(above, below) => {
+        Ask::Rules(confidence) => {
             let (frequent, _) = mine_in_place(rt, alloc, database, plan, &Open)?;
             let frequent = frequent.unpacked(alloc)?;
-            Ok(Made::Text(rules_report(alloc, &frequent, (above, below), style)?))
+            Ok(Made::Text(rules_report(alloc, &frequent, confidence, style)?))
         }
     }
 }

@@ -15,7 +15,7 @@ mod memory;
 mod mining;
 pub mod worked;
 
-pub use basket_core::{CountedSets, Database, Frequent, Itemset, MineFault, Minimum};
+pub use basket_core::{CountedSets, Database, Frequent, Itemset, MineFault, Minimum, Share};
 pub use basket_plan::{
     Ask, CountPlan, Form, Invocation, Layout, Miner, Origin, Plan, PlanFault, Task, invocation_of,
     plan_status,

@@ -21,7 +21,7 @@ pub fn nine_baskets_sets()
 
 /// At a confidence of 7/10 there are six rules.
 pub fn nine_baskets_rules()
-    ensures { outcome nine_baskets (asked Fimi (Rules 7 10) 2) ≡ Ok (lines (codes "5 => 1 (2) 1/1 3/2|4 => 2 (2) 1/1 9/7|5 => 2 (2) 1/1 9/7|2 5 => 1 (2) 1/1 3/2|1 5 => 2 (2) 1/1 9/7|5 => 1 2 (2) 1/1 9/4|")) }
+    ensures { outcome nine_baskets (asked Fimi (Rules (7, 10)) 2) ≡ Ok (lines (codes "5 => 1 (2) 1/1 3/2|4 => 2 (2) 1/1 9/7|5 => 2 (2) 1/1 9/7|2 5 => 1 (2) 1/1 3/2|1 5 => 2 (2) 1/1 9/7|5 => 1 2 (2) 1/1 9/4|")) }
 {}
 
 /// Names with a separator or a quote in them are quoted in the report as in the input.

@@ -3,7 +3,7 @@ use Rattle.std.proofs.Common.{◌≡◌, ℕ, ◌+◌, ◌*◌, ◌-◌, ◌≤�
 use Rattle.std.specs.List.{list_all}
 use Rattle.std.specs.Option.{option_map}
 use Rattle.std.proofs.lemmas.Bool.{and_parts, leb-true, le-leb}
-use Rattle.basket_sets.specs.Minimum.{is_digit}
+use Rattle.basket_sets.specs.Number.{is_digit}
 use Rattle.basket_sets.specs.Database.{MOST_WEIGHT}
 use Rattle.basket_read.specs.Fimi.{MOST_NUMBER}
 use Rattle.basket_counts.specs.declared.place.Place.{Place}

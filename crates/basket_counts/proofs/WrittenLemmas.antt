@@ -8,7 +8,7 @@ use Rattle.std.proofs.lemmas.Fmt.{decimal_by_steps}
 use Rattle.std.proofs.lemmas.List.{append-nil, take_all}
 use Rattle.basket_sets.specs.declared.counted.Counted.{Counted}
 use Rattle.basket_sets.specs.Database.{MOST_WEIGHT}
-use Rattle.basket_sets.specs.Minimum.{is_digit, value_of}
+use Rattle.basket_sets.specs.Number.{is_digit, value_of}
 use Rattle.basket_sets.proofs.theory.Rising.{rising-rising}
 use Rattle.basket_read.specs.declared.fault.ReadFault.TheVariants.{TooLong}
 use Rattle.basket_read.specs.Cut.{Cut, cut_at}

@@ -2,7 +2,7 @@
 ghost use Rattle.std.specs.Prelude.{◌≡◌, ◌<◌, ◌≤◌, length, take, true, Some};
 ghost use Rattle.std.specs.List.{list_all};
 ghost use Rattle.basket_sets.specs.Database.{MOST_WEIGHT};
-ghost use Rattle.basket_sets.specs.Minimum.{is_digit};
+ghost use Rattle.basket_sets.specs.Number.{is_digit};
 ghost use Rattle.basket_counts.specs.Digits.{value_with, values_added};
 
 use crate::class::{Class, class_of};

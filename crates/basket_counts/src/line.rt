@@ -2,7 +2,7 @@
 ghost use Rattle.std.specs.Prelude.{◌≡◌, ◌<◌, ◌≤◌, ℕ, List, [], true, false, length, take, if◌then◌else◌, Some, None, IfOk, OnOk};
 ghost use Rattle.std.specs.List.{list_all};
 ghost use Rattle.basket_sets.specs.Database.{MOST_WEIGHT};
-ghost use Rattle.basket_sets.specs.Minimum.{is_digit};
+ghost use Rattle.basket_sets.specs.Number.{is_digit};
 ghost use Rattle.basket_read.specs.Fimi.{is_line_feed, MOST_NUMBER};
 ghost use Rattle.basket_counts.specs.declared.place.Place.TheVariants.{Number, Count};
 

@@ -1,6 +1,6 @@
 //! A text of which not all has been read.
 ghost use Rattle.std.specs.Prelude.{◌≡◌, ◌≢◌, ◌<◌, ◌≤◌, ◌+◌, ℕ, List, [], ◌∷◌, ◌++◌, length, None, OnOk, MatchResult, if◌then◌else◌};
-ghost use Rattle.basket_sets.specs.Minimum.{is_digit};
+ghost use Rattle.basket_sets.specs.Number.{is_digit};
 ghost use Rattle.basket_read.specs.Fimi.{MOST_BYTES};
 ghost use Rattle.basket_read.specs.Text.{Tells};
 ghost use Rattle.basket_counts.specs.Counts.{first_fault, entries_of};

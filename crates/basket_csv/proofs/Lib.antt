@@ -4,7 +4,6 @@ mod RecentLemmas
 mod FieldLemmas
 mod RecordLemmas
 mod GatheredLemmas
-mod NumberLemmas
 mod RowLemmas
 mod BasketLemmas
 mod ReadLemmas

@@ -4,7 +4,7 @@ use Rattle.std.specs.Prelude.{ℕ, ◌+◌, Bool, not, nat_lt, if◌then◌else�
 use Rattle.std.specs.List.{list_all, flat_map}
 use Rattle.std.specs.Str.{is_utf8, bytes_eq}
 use Rattle.basket_sets.specs.declared.weighted.Weighted.{Weighted}
-use Rattle.basket_sets.specs.Minimum.{number_of}
+use Rattle.basket_sets.specs.Number.{number_of}
 use Rattle.basket_read.specs.declared.fault.ReadFault.{ReadFault}
 use Rattle.basket_read.specs.declared.fault.ReadFault.TheVariants.{TooLong, NotText, ShortRecord, Weight}
 use Rattle.basket_read.specs.Fimi.{is_nil, or_else, basket_of_numbers, if_light, MOST_NUMBER, MOST_BYTES}

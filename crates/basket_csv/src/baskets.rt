@@ -14,7 +14,7 @@ use crate::dialect::Dialect;
 use crate::field::trim;
 use crate::gathered::Gathered;
 use crate::names::{Names, Numbering};
-use crate::number::weight_in;
+use crate::weight::weight_in;
 use crate::row::{number_names, text_at};
 use basket_read::ReadFault;
 use basket_sets::Database;

@@ -12,10 +12,9 @@ use crate::collector::{Collector, add_all};
 use crate::dialect::Dialect;
 use crate::field::trim;
 use crate::names::{Names, Numbering};
-use crate::number::number_in;
 use crate::row::{number_names, text_at};
 use basket_read::{CountedLine, ReadFault};
-use basket_sets::Itemset;
+use basket_sets::{Itemset, parse_number};
 use csv::ByteRecord;
 use std::alloc::Global;
 use std::hash::BuildHasher;
@@ -45,7 +44,7 @@ impl<S: BuildHasher> Collector for Counts<S> {
         if !number_names(row, 1, &mut self.names, &mut self.numbers)? {
             return Err(ReadFault::NotText { nth });
         }
-        let Some(count) = number_in(trim(text).as_bytes(), MAX_COUNT) else {
+        let Some(count) = parse_number(trim(text).as_bytes(), MAX_COUNT) else {
             return Err(ReadFault::RecordCount { nth });
         };
         let set = Itemset::from_items(self.alloc, &self.numbers)?;

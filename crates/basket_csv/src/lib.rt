@@ -12,12 +12,12 @@ mod input;
 mod key;
 pub mod laws;
 mod names;
-mod number;
 mod pairs;
 mod read;
 mod recent;
 mod records;
 mod row;
+mod weight;
 pub mod worked;
 
 pub use dialect::Dialect;

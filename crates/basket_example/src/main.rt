@@ -1,7 +1,7 @@
 #![tactic(auto)]
 
 use anyhow::Context;
-use basket::{Ask, Minimum, Open, Plan, SliceSource, mine};
+use basket::{Ask, Minimum, Open, Plan, Share, SliceSource, mine};
 use basket_read::read_fimi;
 use basket_rules::{closed, rules};
 
@@ -16,7 +16,8 @@ fn main(rt: HostRuntime) -> anyhow::Result<()> {
         closed.len(),
         frequent.sets().len()
     )?;
-    for rule in &rules(rt.alloc(), &frequent, (7, 10))? {
+    let confidence = Share::new(7, 10).context("the confidence")?;
+    for rule in &rules(rt.alloc(), &frequent, confidence)? {
         println!(&rt;
             "{:?} => {:?}: {}",
             rule.left.items(),
@@ -24,8 +25,8 @@ fn main(rt: HostRuntime) -> anyhow::Result<()> {
             rule.confidence
         )?;
     }
-    let frequent = frequent.unpacked(rt.alloc())?;
-    for found in frequent.sets() {
+    for found in frequent.sets().iter(rt.alloc()) {
+        let found = found?;
         println!(&rt;
             "{:?}: {} of {}",
             found.set.items(),

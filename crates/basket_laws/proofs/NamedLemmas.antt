@@ -16,9 +16,9 @@ some_named [] say some = absurd (some refl)
 some_named (rows ∷ parts) say some = λ e. cc
 
 pub named_parts_answer_as_the_whole : TogetherKeepsSets → TogetherKeepsCounts → TogetherKeepsFrequent → NamedPartsAnswerAsTheWhole
-named_parts_answer_as_the_whole keeps_sets keeps_counts keeps_frequent weighted parts numerator denominator sets lines bytes question some light rise have said read =
+named_parts_answer_as_the_whole keeps_sets keeps_counts keeps_frequent weighted parts share sets lines bytes question some light rise have said read =
     let names = names_of_parts weighted parts in
     let whole = named_parts_are_parts weighted parts in
-    answers_by_names keeps_sets keeps_counts keeps_frequent (named_parts weighted names parts) numerator denominator sets lines rise have said (some_named parts (baskets_in weighted names) some)
+    answers_by_names keeps_sets keeps_counts keeps_frequent (named_parts weighted names parts) share sets lines rise have said (some_named parts (baskets_in weighted names) some)
     (subst (λ b. total_of b ≤ MOST_WEIGHT) (sym whole) light) question names bytes read
-    ∙ ap (λ b. of_mining (outcome_for (OfBaskets b (Some names)) (of_named_counts_at question numerator denominator))) whole
+    ∙ ap (λ b. of_mining (outcome_for (OfBaskets b (Some names)) (of_named_counts_at question share))) whole

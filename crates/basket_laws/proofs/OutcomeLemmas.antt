@@ -74,25 +74,25 @@ module _ (whole : List Weighted) (question : Question) where
   same_text names Sets is = rw is refl
   same_text names Closed is = rw is (ap (λ sets. cond (nat_lt question.limit (length (frequent_of whole question.minimum))) (Err (TooMany question.limit)) (Ok (report_of (wording_with question.layout.separator names) sets))) (sym (list_decides_closed whole question.minimum)))
   same_text names Maximal is = rw is (ap (λ sets. cond (nat_lt question.limit (length (frequent_of whole question.minimum))) (Err (TooMany question.limit)) (Ok (report_of (wording_with question.layout.separator names) sets))) (sym (list_decides_maximal whole question.minimum)))
-  same_text names (Rules above below) is = rw is (ap (λ rules. cond (nat_lt question.limit (length (frequent_of whole question.minimum))) (Err (TooMany question.limit)) (Ok (rules_report_of (wording_with question.layout.separator names) rules))) (sym (list_decides_rules whole question.minimum (above, below))))
+  same_text names (Rules confidence) is = rw is (ap (λ rules. cond (nat_lt question.limit (length (frequent_of whole question.minimum))) (Err (TooMany question.limit)) (Ok (rules_report_of (wording_with question.layout.separator names) rules))) (sym (list_decides_rules whole question.minimum confidence)))
 
 -- ---- counts of parts
 
 module _
     (keeps_sets : TogetherKeepsSets) (keeps_counts : TogetherKeepsCounts) (keeps_frequent : TogetherKeepsFrequent)
-    (parts : List (List Weighted)) (numerator denominator : ℕ) (sets : List (List ℕ)) (lines : List CountedLine)
+    (parts : List (List Weighted)) (share : ℕ × ℕ) (sets : List (List ℕ)) (lines : List CountedLine)
     (rise : All IsRising sets)
-    (listed : (set : List ℕ) → IsNonemptySet set → IsTrue (is_frequent_in_some parts (Share numerator denominator) set) → Contains sets set)
+    (listed : (set : List ℕ) → IsNonemptySet set → IsTrue (is_frequent_in_some parts (Share share) set) → Contains sets set)
     (said : map said_of lines ≡ counts_of_parts parts sets)
     (some : parts ≢ []) (light : total_of (whole_of parts) ≤ MOST_WEIGHT) where
   abbrev minimum : Minimum
-  minimum = Share numerator denominator
+  minimum = Share share
 
   abbrev whole : List Weighted
   whole = whole_of parts
 
   in_lines : (set : List ℕ) → any set (asked_of sets) ≡ true → has_set lines set ≡ true
-  in_lines set there = has_is parts numerator denominator sets lines rise listed said set ∙ go parts some
+  in_lines set there = has_is parts share sets lines rise listed said set ∙ go parts some
     where
       go : (parts : List (List Weighted)) → parts ≢ [] → has_among (counts_of_parts parts sets) set ≡ true
       go [] some = absurd (some refl)
@@ -100,10 +100,10 @@ module _
 
   count_together : (set : List ℕ) → any set (asked_of sets) ≡ true → count_if (together lines) set ≡ Some (support_of whole set)
   count_together set there =
-      ap₂ (λ b n. cond b (Some n) None) (keeps_sets lines set ∙ in_lines set there) (keeps_counts lines set ∙ count_of_asked parts numerator denominator sets lines rise listed said set there)
+      ap₂ (λ b n. cond b (Some n) None) (keeps_sets lines set ∙ in_lines set there) (keeps_counts lines set ∙ count_of_asked parts share sets lines rise listed said set there)
 
   at_most_all : (set : List ℕ) → count_in lines set ≤ total_of whole
-  at_most_all set = subst (λ n. n ≤ total_of whole) (sym (count_is parts numerator denominator sets lines rise listed said set)) (go (any set (asked_of sets)))
+  at_most_all set = subst (λ n. n ≤ total_of whole) (sym (count_is parts share sets lines rise listed said set)) (go (any set (asked_of sets)))
     where
       go : (b : Bool) → cond b (support_of whole set) 0 ≤ total_of whole
       go true = support_falls whole set [] refl
@@ -123,11 +123,11 @@ module _
       let set = c.set in
       let nonempty = sound.0 in
       let met = sound.1 in
-      let count = keeps_counts lines set ∙ count_of_asked parts numerator denominator sets lines rise listed said set (frequent_is_asked parts numerator denominator sets lines rise listed said set nonempty met) in
+      let count = keeps_counts lines set ∙ count_of_asked parts share sets lines rise listed said set (frequent_is_asked parts share sets lines rise listed said set nonempty met) in
       none_any (λ subset. is_gap (count_in (together lines) set) subset (count_if (together lines) subset)) (subsets_of_size (length set - 1) set) (λ subset inside.
       let s = IsSubset-from_Member (length set - 1) set subset nonempty.0 inside in
       let within = contains_each set subset s.within in
-      let there = asked_subset subset s.rises (λ full. (frequent_is_asked parts numerator denominator sets lines rise listed said subset (s.rises, full) (subsets_are_frequent whole minimum set subset within met))) in
+      let there = asked_subset subset s.rises (λ full. (frequent_is_asked parts share sets lines rise listed said subset (s.rises, full) (subsets_are_frequent whole minimum set subset within met))) in
       ap₂ (λ n o. is_gap n subset o) count (count_together subset there) ∙ not_below (support_of whole subset) (support_of whole set) (support_falls whole set subset within))
     where
       asked_subset : (subset : List ℕ) → IsRising subset → (subset ≢ [] → any subset (asked_of sets) ≡ true) → any subset (asked_of sets) ≡ true
@@ -135,7 +135,7 @@ module _
       asked_subset (item ∷ items) up h = h (λ e. cc)
 
   same_sets : frequent_in (together lines) minimum ≡ frequent_of whole minimum
-  same_sets = keeps_frequent lines minimum ∙ same_list parts numerator denominator sets lines rise listed said
+  same_sets = keeps_frequent lines minimum ∙ same_list parts share sets lines rise listed said
 
   whole_lines : first_gap (together lines) minimum ≡ None
   whole_lines =
@@ -143,11 +143,11 @@ module _
       (λ c m. no_gap c (subst (Member c) same_sets m)))
 
   same_total : total_in (together lines) ≡ total_of whole
-  same_total = keeps_counts lines [] ∙ total_is parts numerator denominator sets lines rise listed said
+  same_total = keeps_counts lines [] ∙ total_is parts share sets lines rise listed said
 
   module _ (question : Question) where
     abbrev asked : Question
-    asked = of_counts_at question numerator denominator
+    asked = of_counts_at question share
 
     same_listing : listing_in asked (together lines) ≡ Ok (listing whole asked)
     same_listing =
@@ -176,7 +176,7 @@ module _
         ∙ ap of_mining (same_text whole asked None question.ask refl)
 
     abbrev asked_by_names : Question
-    asked_by_names = of_named_counts_at question numerator denominator
+    asked_by_names = of_named_counts_at question share
 
     -- the same of lines by names
     pub answers_by_names : (names : List (List ℕ)) (bytes : List ℕ) → named_counts_of question.layout.separator question.layout.header [] bytes ≡ Ok (lines, names)
@@ -188,8 +188,8 @@ module _
         ∙ ap of_mining (same_text whole asked_by_names (Some names) question.ask refl)
 
 pub parts_answer_as_the_whole : TogetherKeepsSets → TogetherKeepsCounts → TogetherKeepsFrequent → PartsAnswerAsTheWhole
-parts_answer_as_the_whole keeps_sets keeps_counts keeps_frequent parts numerator denominator sets question some light rise listed written few =
+parts_answer_as_the_whole keeps_sets keeps_counts keeps_frequent parts share sets question some light rise listed written few =
     let list = counts_of_parts parts sets in
     let same = texts_are parts sets in
-    answers keeps_sets keeps_counts keeps_frequent parts numerator denominator sets (lines_from 1 list) rise listed (said_again 1 list) some light question (texts_of_parts parts sets)
+    answers keeps_sets keeps_counts keeps_frequent parts share sets (lines_from 1 list) rise listed (said_again 1 list) some light question (texts_of_parts parts sets)
     (ap counts_of same ∙ reports_are_read_back list written (subst (λ text. length text ≤ MOST_BYTES) same few))

@@ -45,12 +45,12 @@ sets_of_counted lines [] = refl
 sets_of_counted lines (set ∷ sets) = ap (λ rest. set ∷ rest) (sets_of_counted lines sets)
 
 module _
-    (parts : List (List Weighted)) (numerator denominator : ℕ) (sets : List (List ℕ)) (lines : List CountedLine)
+    (parts : List (List Weighted)) (share : ℕ × ℕ) (sets : List (List ℕ)) (lines : List CountedLine)
     (rise : All IsRising sets)
-    (listed : (set : List ℕ) → IsNonemptySet set → IsTrue (is_frequent_in_some parts (Share numerator denominator) set) → Contains sets set)
+    (listed : (set : List ℕ) → IsNonemptySet set → IsTrue (is_frequent_in_some parts (Share share) set) → Contains sets set)
     (said : map said_of lines ≡ counts_of_parts parts sets) where
   abbrev minimum : Minimum
-  minimum = Share numerator denominator
+  minimum = Share share
 
   abbrev whole : List Weighted
   whole = whole_of parts
@@ -103,12 +103,12 @@ module _
   -- a frequent set of the whole is asked for
   pub frequent_is_asked : (set : List ℕ) → IsNonemptySet set → IsTrue (is_frequent whole minimum set) → any set (asked_of sets) ≡ true
   frequent_is_asked set nonempty met =
-      let some = some_part_has_it parts numerator denominator set met in
+      let some = some_part_has_it parts share set met in
       any_asked set sets ∙ any_from_Member set ([] ∷ sets) (inr (Member-from_Contains set sets (listed set nonempty some)))
 
   complete : (set : List ℕ) → IsNonemptySet set → IsTrue (is_frequent whole minimum set) → Contains (frequent_in lines minimum) (counted whole set)
   complete set nonempty met =
-      let some = some_part_has_it parts numerator denominator set met in
+      let some = some_part_has_it parts share set met in
       let there = frequent_is_asked set nonempty met in
       let passes = ap₂ (λ a b. a && b) (has_items set nonempty.1) (met_is set there ∙ met) in
       let m = Member-from_filter (is_frequent_in lines minimum) set (sets_of lines) (sets_from_has lines set (in_lines set some there)) passes in

@@ -64,14 +64,14 @@ some_parts (front ∷ fronts) last [] said none = cc
 some_parts fronts last (part ∷ parts) said none = cc
 
 pub runs_over_parts_agree : FrontsAreGood → GoodIsFaultless → TogetherKeepsSets → TogetherKeepsCounts → TogetherKeepsFrequent → RunsOverPartsAgree
-runs_over_parts_agree fronts_are_good good_is_faultless keeps_sets keeps_counts keeps_frequent fronts last asked baskets sets texts numerator denominator question good read rise have counts few =
+runs_over_parts_agree fronts_are_good good_is_faultless keeps_sets keeps_counts keeps_frequent fronts last asked baskets sets texts share question good read rise have counts few =
     let cut = cuts_are_parts fronts_are_good good_is_faultless fronts last baskets good in
     let parts = cut.0 in
     let whole = cut.2 in
     let light = (from_ok fronts_are_good good_is_faultless (text_cut fronts last) baskets good).light in
     let same = texts_are_counts question.layout asked sets read (parts_cut fronts last) parts texts cut.1 counts in
-    ap (λ text. outcome text (of_counts_at question numerator denominator)) same
-    ∙ parts_answer_as_the_whole keeps_sets keeps_counts keeps_frequent parts numerator denominator sets question (some_parts fronts last parts cut.1)
+    ap (λ text. outcome text (of_counts_at question share)) same
+    ∙ parts_answer_as_the_whole keeps_sets keeps_counts keeps_frequent parts share sets question (some_parts fronts last parts cut.1)
     (subst (λ b. total_of b ≤ MOST_WEIGHT) (sym whole) light) rise (have parts cut.1).0 (have parts cut.1).1 (subst (λ text. length text ≤ MOST_BYTES) same few)
-    ∙ ap (λ b. of_mining (outcome_for (OfBaskets b None) (of_counts_at question numerator denominator))) whole
-    ∙ sym (ap (λ r. outcome_of (where_read (said_for (of_baskets_at question numerator denominator)) (by_numbers contents.Baskets r)) (of_baskets_at question numerator denominator)) good)
+    ∙ ap (λ b. of_mining (outcome_for (OfBaskets b None) (of_counts_at question share))) whole
+    ∙ sym (ap (λ r. outcome_of (where_read (said_for (of_baskets_at question share)) (by_numbers contents.Baskets r)) (of_baskets_at question share)) good)

@@ -16,62 +16,62 @@ use Rattle.basket_laws.specs.Parts.{SomePartHasIt, is_frequent_in_some, whole_of
 
 -- the support is 0, or below the share of the total
 abbrev IsBelow : ℕ → ℕ → ℕ → ℕ → Type 0
-IsBelow numerator denominator support total = (support ≡ 0) ⊎ (support * denominator < numerator * total)
+IsBelow share support total = (support ≡ 0) ⊎ (support * share.1 < share.0 * total)
 
-below_unless_met : (numerator denominator support total : ℕ) → meets (Share numerator denominator) support total ≡ false → IsBelow numerator denominator support total
-below_unless_met numerator denominator support total unmet = go (nat_le 1 support) refl
+below_unless_met : (share support total : ℕ) → meets (Share share) support total ≡ false → IsBelow share support total
+below_unless_met share support total unmet = go (nat_le 1 support) refl
   where
-    go : (some : Bool) → nat_le 1 support ≡ some → IsBelow numerator denominator support total
+    go : (some : Bool) → nat_le 1 support ≡ some → IsBelow share support total
     go false none = inl (grind (arith, nat_tests, none))
     go true some =
-        let less : nat_le (numerator * total) (support * denominator) ≡ false = ap (λ b. b && nat_le (numerator * total) (support * denominator)) (sym some) ∙ unmet in
+        let less : nat_le (share.0 * total) (support * share.1) ≡ false = ap (λ b. b && nat_le (share.0 * total) (support * share.1)) (sym some) ∙ unmet in
         inr (grind (arith, nat_tests, less))
 
-not_met : (numerator denominator support total : ℕ) → IsBelow numerator denominator support total → meets (Share numerator denominator) support total ≡ true → ⊥
-not_met numerator denominator support total below met = elim below [
+not_met : (share support total : ℕ) → IsBelow share support total → meets (Share share) support total ≡ true → ⊥
+not_met share support total below met = elim below [
   | inl none ↦ grind (arith, nat_tests, none, met)
   | inr less ↦ grind (arith, nat_tests, less, met)
 ]
 
-add_below : (numerator denominator a b s t : ℕ) → IsBelow numerator denominator a s → IsBelow numerator denominator b t → IsBelow numerator denominator (a + b) (s + t)
-add_below numerator denominator a b s t one other =
-    let left : (a + b) * denominator ≡ a * denominator + b * denominator = add-mul a b denominator in
-    let right : numerator * (s + t) ≡ numerator * s + numerator * t = mul-add numerator s t in
+add_below : (share a b s t : ℕ) → IsBelow share a s → IsBelow share b t → IsBelow share (a + b) (s + t)
+add_below share a b s t one other =
+    let left : (a + b) * share.1 ≡ a * share.1 + b * share.1 = add-mul a b share.1 in
+    let right : share.0 * (s + t) ≡ share.0 * s + share.0 * t = mul-add share.0 s t in
     elim one [
       | inl a_none ↦ elim other [
         | inl b_none ↦ inl (omega (arith, a_none, b_none))
-        | inr b_less ↦ let none : a * denominator ≡ 0 = ap (λ n. n * denominator) a_none ∙ zero-mul denominator in inr (omega (arith, left, right, none, b_less))
+        | inr b_less ↦ let none : a * share.1 ≡ 0 = ap (λ n. n * share.1) a_none ∙ zero-mul share.1 in inr (omega (arith, left, right, none, b_less))
       ]
       | inr a_less ↦ elim other [
-        | inl b_none ↦ let none : b * denominator ≡ 0 = ap (λ n. n * denominator) b_none ∙ zero-mul denominator in inr (omega (arith, left, right, none, a_less))
+        | inl b_none ↦ let none : b * share.1 ≡ 0 = ap (λ n. n * share.1) b_none ∙ zero-mul share.1 in inr (omega (arith, left, right, none, a_less))
         | inr b_less ↦ inr (omega (arith, left, right, a_less, b_less))
       ]
     ]
 
-all_below : (parts : List (List Weighted)) (numerator denominator : ℕ) (set : List ℕ) → is_frequent_in_some parts (Share numerator denominator) set ≡ false
-    → IsBelow numerator denominator (support_of (whole_of parts) set) (total_of (whole_of parts))
-all_below [] numerator denominator set none = inl refl
-all_below (part ∷ parts) numerator denominator set none =
-    let neither : (is_frequent part (Share numerator denominator) set || is_frequent_in_some parts (Share numerator denominator) set) ≡ false = none in
-    go (is_frequent part (Share numerator denominator) set) refl (is_frequent_in_some parts (Share numerator denominator) set) (all_below parts numerator denominator set) neither
+all_below : (parts : List (List Weighted)) (share : ℕ × ℕ) (set : List ℕ) → is_frequent_in_some parts (Share share) set ≡ false
+    → IsBelow share (support_of (whole_of parts) set) (total_of (whole_of parts))
+all_below [] share set none = inl refl
+all_below (part ∷ parts) share set none =
+    let neither : (is_frequent part (Share share) set || is_frequent_in_some parts (Share share) set) ≡ false = none in
+    go (is_frequent part (Share share) set) refl (is_frequent_in_some parts (Share share) set) (all_below parts share set) neither
   where
-    go : (here : Bool) → is_frequent part (Share numerator denominator) set ≡ here → (later : Bool)
-        → (later ≡ false → IsBelow numerator denominator (support_of (whole_of parts) set) (total_of (whole_of parts)))
-        → (here || later) ≡ false → IsBelow numerator denominator (support_of (whole_of (part ∷ parts)) set) (total_of (whole_of (part ∷ parts)))
+    go : (here : Bool) → is_frequent part (Share share) set ≡ here → (later : Bool)
+        → (later ≡ false → IsBelow share (support_of (whole_of parts) set) (total_of (whole_of parts)))
+        → (here || later) ≡ false → IsBelow share (support_of (whole_of (part ∷ parts)) set) (total_of (whole_of (part ∷ parts)))
     go true is later rest e = absurd (false≢true (sym e))
     go false is true rest e = absurd (false≢true (sym e))
     go false is false rest e =
-        let first = below_unless_met numerator denominator (support_of part set) (total_of part) is in
+        let first = below_unless_met share (support_of part set) (total_of part) is in
         let others = rest refl in
         rw (support-append part (whole_of parts) set, support-append part (whole_of parts) [])
-        (add_below numerator denominator (support_of part set) (support_of (whole_of parts) set) (total_of part) (total_of (whole_of parts)) first others)
+        (add_below share (support_of part set) (support_of (whole_of parts) set) (total_of part) (total_of (whole_of parts)) first others)
 
 pub some_part_has_it : SomePartHasIt
-some_part_has_it parts numerator denominator set met = go (is_frequent_in_some parts (Share numerator denominator) set) refl
+some_part_has_it parts share set met = go (is_frequent_in_some parts (Share share) set) refl
   where
-    go : (some : Bool) → is_frequent_in_some parts (Share numerator denominator) set ≡ some → IsTrue (is_frequent_in_some parts (Share numerator denominator) set)
+    go : (some : Bool) → is_frequent_in_some parts (Share share) set ≡ some → IsTrue (is_frequent_in_some parts (Share share) set)
     go true is = is
-    go false is = absurd (not_met numerator denominator _ _ (all_below parts numerator denominator set is) met)
+    go false is = absurd (not_met share _ _ (all_below parts share set is) met)
 
 -- ---- a count as a share
 
@@ -86,6 +86,6 @@ module _ (baskets : List Weighted) (least : ℕ) (some : 1 ≤ total_of baskets)
       (λ e. let below : least ≤ support = grind (arith, nat_tests, e) in let product = mul-le least (total_of baskets) support (total_of baskets) below (omega arith) in grind (arith, nat_tests, product))
       (λ e. let product : least * total_of baskets ≤ support * total_of baskets = grind (arith, nat_tests, e) in let below = le_of_mul-le-mul_right product some in grind (arith, nat_tests, below))
 
-  pub count_is_share : frequent_of baskets (Count least) ≡ frequent_of baskets (Share least (total_of baskets))
-  count_is_share = ap (map (counted baskets)) (same_filter (is_frequent baskets (Count least)) (is_frequent baskets (Share least (total_of baskets)))
+  pub count_is_share : frequent_of baskets (Count least) ≡ frequent_of baskets (Share (least, total_of baskets))
+  count_is_share = ap (map (counted baskets)) (same_filter (is_frequent baskets (Count least)) (is_frequent baskets (Share (least, total_of baskets)))
       (λ set. ap (λ b. nat_le 1 (support_of baskets set) && b) (at_least (support_of baskets set))) (subsets_of (items_of baskets)))

@@ -31,11 +31,11 @@ said_again line [] = refl
 said_again line (c ∷ sets) = ap (λ rest. c ∷ rest) (said_again (line + 1) sets)
 
 pub texts_make_the_whole : TextsMakeTheWhole
-texts_make_the_whole parts numerator denominator sets rise listed written few =
+texts_make_the_whole parts share sets rise listed written few =
     let list = counts_of_parts parts sets in
     let lines = lines_from 1 list in
     let same = texts_are parts sets in (
       lines,
       ap counts_of same ∙ reports_are_read_back list written (subst (λ text. length text ≤ MOST_BYTES) same few),
-      ap (report_of Numbered) (parts_make_the_whole parts numerator denominator sets lines rise listed (said_again 1 list)),
+      ap (report_of Numbered) (parts_make_the_whole parts share sets lines rise listed (said_again 1 list)),
     )

@@ -36,15 +36,15 @@ NamedPartsAreParts = (weighted : Bool) (parts : List (List (List (List ℕ))))
     → whole_of (named_parts weighted (names_of_parts weighted parts) parts) ≡ baskets_in weighted [] (all_records parts)
 
 -- the question, asked of counts by names at a share
-abbrev pub of_named_counts_at : Question → ℕ → ℕ → Question
-of_named_counts_at question numerator denominator = record question { layout = in_form CsvCounts question.layout; minimum = Share numerator denominator }
+abbrev pub of_named_counts_at : Question → ℕ × ℕ → Question
+of_named_counts_at question share = record question { layout = in_form CsvCounts question.layout; minimum = Share share }
 
 -- where some bytes say, with these names first, what is counted over each part of sets that have each set which is frequent in some part, each question has the outcome that all records have
 abbrev pub NamedPartsAnswerAsTheWhole : Type 0
-NamedPartsAnswerAsTheWhole = (weighted : Bool) (parts : List (List (List (List ℕ)))) (numerator denominator : ℕ) (sets : List (List ℕ)) (lines : List CountedLine) (bytes : List ℕ) (question : Question)
+NamedPartsAnswerAsTheWhole = (weighted : Bool) (parts : List (List (List (List ℕ)))) (share : ℕ × ℕ) (sets : List (List ℕ)) (lines : List CountedLine) (bytes : List ℕ) (question : Question)
     → parts ≢ [] → total_of (baskets_in weighted [] (all_records parts)) ≤ MOST_WEIGHT → All IsRising sets
-    → ((set : List ℕ) → IsNonemptySet set → IsTrue (is_frequent_in_some (named_parts weighted (names_of_parts weighted parts) parts) (Share numerator denominator) set) → Contains sets set)
+    → ((set : List ℕ) → IsNonemptySet set → IsTrue (is_frequent_in_some (named_parts weighted (names_of_parts weighted parts) parts) (Share share) set) → Contains sets set)
     → map said_of lines ≡ counts_of_parts (named_parts weighted (names_of_parts weighted parts) parts) sets
     → named_counts_of question.layout.separator question.layout.header [] bytes ≡ Ok (lines, names_of_parts weighted parts)
-    → outcome bytes (of_named_counts_at question numerator denominator)
-    ≡ of_mining (outcome_for (OfBaskets (baskets_in weighted [] (all_records parts)) (Some (names_of_parts weighted parts))) (of_named_counts_at question numerator denominator))
+    → outcome bytes (of_named_counts_at question share)
+    ≡ of_mining (outcome_for (OfBaskets (baskets_in weighted [] (all_records parts)) (Some (names_of_parts weighted parts))) (of_named_counts_at question share))

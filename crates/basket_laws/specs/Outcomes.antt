@@ -23,13 +23,13 @@ abbrev pub in_form : Form → Layout → Layout
 in_form form layout = record layout { form = form }
 
 -- the question, asked of counts at a share
-abbrev pub of_counts_at : Question → ℕ → ℕ → Question
-of_counts_at question numerator denominator = record question { layout = in_form Counts question.layout; minimum = Share numerator denominator }
+abbrev pub of_counts_at : Question → ℕ × ℕ → Question
+of_counts_at question share = record question { layout = in_form Counts question.layout; minimum = Share share }
 
 -- the outcome of each question over the texts of the counts of parts is that over all parts one behind another
 abbrev pub PartsAnswerAsTheWhole : Type 0
-PartsAnswerAsTheWhole = (parts : List (List Weighted)) (numerator denominator : ℕ) (sets : List (List ℕ)) (question : Question)
+PartsAnswerAsTheWhole = (parts : List (List Weighted)) (share : ℕ × ℕ) (sets : List (List ℕ)) (question : Question)
     → parts ≢ [] → total_of (whole_of parts) ≤ MOST_WEIGHT → All IsRising sets
-    → ((set : List ℕ) → IsNonemptySet set → IsTrue (is_frequent_in_some parts (Share numerator denominator) set) → Contains sets set)
+    → ((set : List ℕ) → IsNonemptySet set → IsTrue (is_frequent_in_some parts (Share share) set) → Contains sets set)
     → All IsWritten (counts_of_parts parts sets) → length (texts_of_parts parts sets) ≤ MOST_BYTES
-    → outcome (texts_of_parts parts sets) (of_counts_at question numerator denominator) ≡ of_mining (outcome_for (OfBaskets (whole_of parts) None) (of_counts_at question numerator denominator))
+    → outcome (texts_of_parts parts sets) (of_counts_at question share) ≡ of_mining (outcome_for (OfBaskets (whole_of parts) None) (of_counts_at question share))

@@ -22,8 +22,8 @@ is_frequent_in_some parts minimum set = list_any (λ part. is_frequent part mini
 
 -- a set that is frequent in all parts together, at a share, is so in one of them
 abbrev pub SomePartHasIt : Type 0
-SomePartHasIt = (parts : List (List Weighted)) (numerator denominator : ℕ) (set : List ℕ)
-    → IsTrue (is_frequent (whole_of parts) (Share numerator denominator) set) → IsTrue (is_frequent_in_some parts (Share numerator denominator) set)
+SomePartHasIt = (parts : List (List Weighted)) (share : ℕ × ℕ) (set : List ℕ)
+    → IsTrue (is_frequent (whole_of parts) (Share share) set) → IsTrue (is_frequent_in_some parts (Share share) set)
 
 -- the set of a line with its count
 abbrev pub said_of : CountedLine → Counted
@@ -35,12 +35,12 @@ counts_of_parts parts sets = flat_map (λ part. map (counted part) (asked_of set
 
 -- lines with the counts of parts list, put together, exactly the frequent sets of all parts one behind another, where the sets that were counted have each that is frequent in some part
 abbrev pub PartsMakeTheWhole : Type 0
-PartsMakeTheWhole = (parts : List (List Weighted)) (numerator denominator : ℕ) (sets : List (List ℕ)) (lines : List CountedLine)
+PartsMakeTheWhole = (parts : List (List Weighted)) (share : ℕ × ℕ) (sets : List (List ℕ)) (lines : List CountedLine)
     → All IsRising sets
-    → ((set : List ℕ) → IsNonemptySet set → IsTrue (is_frequent_in_some parts (Share numerator denominator) set) → Contains sets set)
+    → ((set : List ℕ) → IsNonemptySet set → IsTrue (is_frequent_in_some parts (Share share) set) → Contains sets set)
     → map said_of lines ≡ counts_of_parts parts sets
-    → frequent_in lines (Share numerator denominator) ≡ frequent_of (whole_of parts) (Share numerator denominator)
+    → frequent_in lines (Share share) ≡ frequent_of (whole_of parts) (Share share)
 
 -- a minimum that is a count is the share that it has of all baskets, where there are some
 abbrev pub CountIsShare : Type 0
-CountIsShare = (baskets : List Weighted) (least : ℕ) → 1 ≤ total_of baskets → frequent_of baskets (Count least) ≡ frequent_of baskets (Share least (total_of baskets))
+CountIsShare = (baskets : List Weighted) (least : ℕ) → 1 ≤ total_of baskets → frequent_of baskets (Count least) ≡ frequent_of baskets (Share (least, total_of baskets))

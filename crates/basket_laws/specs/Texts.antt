@@ -26,9 +26,9 @@ texts_of_parts parts sets = flat_map (λ part. report_of Numbered (map (counted 
 
 -- the texts of parts one behind another are an input whose counted sets list the frequent sets of all parts
 abbrev pub TextsMakeTheWhole : Type 0
-TextsMakeTheWhole = (parts : List (List Weighted)) (numerator denominator : ℕ) (sets : List (List ℕ))
+TextsMakeTheWhole = (parts : List (List Weighted)) (share : ℕ × ℕ) (sets : List (List ℕ))
     → All IsRising sets
-    → ((set : List ℕ) → IsNonemptySet set → IsTrue (is_frequent_in_some parts (Share numerator denominator) set) → Contains sets set)
+    → ((set : List ℕ) → IsNonemptySet set → IsTrue (is_frequent_in_some parts (Share share) set) → Contains sets set)
     → All IsWritten (counts_of_parts parts sets) → length (texts_of_parts parts sets) ≤ MOST_BYTES
     → (lines : List CountedLine) × (counts_of (texts_of_parts parts sets) ≡ Ok lines)
-    × (report_of Numbered (frequent_in lines (Share numerator denominator)) ≡ report_of Numbered (frequent_of (whole_of parts) (Share numerator denominator)))
+    × (report_of Numbered (frequent_in lines (Share share)) ≡ report_of Numbered (frequent_of (whole_of parts) (Share share)))

@@ -4,3 +4,4 @@ pub mod Known
 pub mod Plain
 pub mod CountedSets
 pub mod Without
+pub mod Sets

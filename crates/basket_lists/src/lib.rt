@@ -12,7 +12,9 @@ mod parts;
 mod place;
 mod places;
 mod plain;
+mod sets;
 
 pub use counted_sets::CountedSets;
 pub use known::MOST_ITEMS;
 pub use places::{NOWHERE, Places};
+pub use sets::Sets;

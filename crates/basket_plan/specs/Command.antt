@@ -12,7 +12,8 @@ use Rattle.clap.specs.declared.builder.action.ArgAction.TheVariants as action
 use Rattle.clap.specs.declared.builder.value_parser.ValueParser.TheVariants as parser
 use Rattle.clap.specs.declared.error.kind.ErrorKind.{ErrorKind}
 use Rattle.clap.specs.declared.error.kind.ErrorKind.TheVariants as kind
-use Rattle.basket_sets.specs.Minimum.{minimum_of, share_of}
+use Rattle.basket_sets.specs.Minimum.{minimum_of}
+use Rattle.basket_sets.specs.Share.{share_of}
 use Rattle.basket_sets.specs.declared.minimum.Minimum.{Minimum}
 use Rattle.basket_plan.specs.Plan.{Counting, GREATEST_LIMIT, Planned}
 use Rattle.basket_plan.specs.declared.command.PlanFault.{PlanFault}
@@ -194,7 +195,7 @@ ask_in name rows =
     else (if bytes_eq name (codes "sets") then Some Sets
     else (if bytes_eq name (codes "closed") then Some Closed
     else (if bytes_eq name (codes "maximal") then Some Maximal
-    else (if bytes_eq name (codes "rules") then option_map (λ share. Rules share.0 share.1) (conf_in rows) else None))))
+    else (if bytes_eq name (codes "rules") then option_map Rules (conf_in rows) else None))))
 
 -- how the input is written
 abbrev pub layout_of_rows : List Row → Option Layout

@@ -4,7 +4,7 @@ ghost use Rattle.basket_plan.specs.declared.plan.TheConstants.{MOST_PIECES, MOST
 ghost use Rattle.basket_sets.specs.Minimum.{IsMinimum};
 
 use crate::layout::{Form, Layout};
-use basket_sets::Minimum;
+use basket_sets::{Minimum, Share};
 use std::marker::Model;
 
 /// The greatest number of workers.
@@ -24,8 +24,8 @@ pub enum Ask {
     Closed,
     /// Those of them of which no proper superset is frequent.
     Maximal,
-    /// The association rules of at least this confidence, a numerator and a denominator.
-    Rules(u32, u32),
+    /// The association rules of at least this confidence.
+    Rules(Share),
 }
 
 /// How the frequent sets are found. No report depends on it.

@@ -9,7 +9,7 @@ use crate::count_plan::CountPlan;
 use crate::invocation::Origin;
 use crate::layout::{Form, Layout};
 use crate::plan::{Ask, MOST_PIECES, MOST_WORKERS, Miner, Plan};
-use basket_sets::{Minimum, parse_minimum, parse_share};
+use basket_sets::{Minimum, Share, parse_minimum, parse_share};
 use clap::ArgMatches;
 use std::alloc::{AllocError, Global};
 
@@ -97,15 +97,12 @@ fn ask_in(name: &str, options: &ArgMatches<'_>) -> Option<Ask>
         "sets" => Some(Ask::Sets),
         "closed" => Some(Ask::Closed),
         "maximal" => Some(Ask::Maximal),
-        "rules" => {
-            let (above, below) = conf_in(options)?;
-            Some(Ask::Rules(above, below))
-        }
+        "rules" => Some(Ask::Rules(conf_in(options)?)),
         _ => None,
     }
 }
 
-fn conf_in(options: &ArgMatches<'_>) -> Option<(u32, u32)>
+fn conf_in(options: &ArgMatches<'_>) -> Option<Share>
     ensures { result ≡ conf_in (rows_of (found_of options.now)) }
 {
     parse_share(options.get_str("conf")?)

@@ -17,7 +17,7 @@ pub fn sets_at_two()
 /// `items --limit=5 --min 5% shop.dat` asks for the items of a share of 5 in 100 of a file.
 pub fn items_at_a_share()
     ensures { invocation_of_words (codes "items" ∷ codes "--limit=5" ∷ codes "--min" ∷ codes "5%" ∷ codes "shop.dat" ∷ [])
-        ≡ reporting (Some (codes "shop.dat")) (record { question = record { ask = Items; minimum = Share 5 100; limit = 5; layout = record { form = Fimi; separator = 44; header = false; weighted = false } }; miner = Apriori; workers = 1; pieces = 16 }) }
+        ≡ reporting (Some (codes "shop.dat")) (record { question = record { ask = Items; minimum = Share (5, 100); limit = 5; layout = record { form = Fimi; separator = 44; header = false; weighted = false } }; miner = Apriori; workers = 1; pieces = 16 }) }
 {}
 
 /// `sets --form baskets --sep semicolon --weight --min 2` asks for sets of names.

@@ -48,7 +48,7 @@ impl Codes {
         requires { IsRising (map (λ entry. entry.0) counts.now) }
         ensures { IfOk result (λ codes. codes ≡ record { items = ranks_of_counts counts.now total minimum; minimum = minimum; total = total }) }
     {
-        let items = ranked_items(alloc, counts, total, minimum)?;
+        let items = ranked_items(alloc, counts, total, &minimum)?;
         let ranks = RankTable::of(alloc, &items)?;
         Ok(Codes {
             items,

@@ -31,10 +31,10 @@ pub fn ranked_items(
     alloc: Global,
     counts: &[(u32, u64)],
     total: u64,
-    minimum: Minimum,
+    minimum: &Minimum,
 ) -> Result<Vec<u32>, AllocError>
     requires { IsRising (map (λ entry. entry.0) counts.now) }
-    ensures ranks { IfOk result (λ items. items.items ≡ ranks_of_counts counts.now total minimum) }
+    ensures ranks { IfOk result (λ items. items.items ≡ ranks_of_counts counts.now total minimum.now) }
     ensures few { IfOk result (λ items. length items.items < MOST_RANKS) }
     ensures distinct { IfOk result (λ items. IsDistinct nat_eq items.items) }
 {
@@ -56,9 +56,9 @@ fn frequent_entries(
     alloc: Global,
     counts: &[(u32, u64)],
     total: u64,
-    minimum: Minimum,
+    minimum: &Minimum,
 ) -> Result<Vec<Entry>, AllocError>
-    ensures { IfOk result (λ entries. entries_of entries.items ≡ filter (λ entry. meets minimum entry.1 total) counts.now) }
+    ensures { IfOk result (λ entries. entries_of entries.items ≡ filter (λ entry. meets minimum.now entry.1 total) counts.now) }
 {
     let mut entries = Vec::new(alloc);
     for (item, count) in counts {

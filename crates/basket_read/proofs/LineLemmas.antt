@@ -7,7 +7,7 @@ use Rattle.std.proofs.lemmas.List.{append-nil, map-append}
 use Rattle.std.proofs.lemmas.List.Elements.{filter-append}
 use Rattle.std.proofs.lemmas.List.Folds.{list_all-append}
 use Rattle.std.proofs.lemmas.List.Sums.{fold_push}
-use Rattle.basket_sets.specs.Minimum.{is_digit, value_of}
+use Rattle.basket_sets.specs.Number.{is_digit, value_of}
 use Rattle.basket_read.specs.declared.line.Place.TheVariants.{Head, First, Between, Number}
 use Rattle.basket_read.specs.Cut.{Cut, cut_at}
 use Rattle.basket_read.specs.Fimi.{is_blank, is_times, is_nil, is_number, numbers_of, is_weight, is_line_of, is_line, weight_before, MOST_NUMBER}

@@ -2,7 +2,7 @@
 use Rattle.std.specs.Prelude.{◌≡◌, ℕ, ◌+◌, Bool, true, false, not, nat_le, nat_lt, if◌then◌else◌, List, [], ◌∷◌, ◌++◌, map, filter, Option, Some, None}
 use Rattle.std.specs.List.{list_all}
 use Rattle.std.specs.Option.{option_map}
-use Rattle.basket_sets.specs.Minimum.{is_digit, value_of}
+use Rattle.basket_sets.specs.Number.{is_digit, value_of}
 use Rattle.basket_read.specs.declared.class.Class.{Class}
 use Rattle.basket_read.specs.declared.class.Class.TheVariants.{Digit, Blank, Times, LineFeed, Other}
 use Rattle.basket_read.specs.declared.line.Place.{Place}

@@ -1,7 +1,7 @@
 //! Numbers at the front of bytes.
 ghost use Rattle.std.specs.Prelude.{◌≡◌, ◌≤◌, ◌<◌, ℕ, List, ◌++◌, length, take, true};
 ghost use Rattle.std.specs.List.{list_all};
-ghost use Rattle.basket_sets.specs.Minimum.{is_digit, value_of};
+ghost use Rattle.basket_sets.specs.Number.{is_digit, value_of};
 ghost use Rattle.basket_read.specs.Fimi.{MOST_NUMBER};
 ghost use Rattle.basket_read.specs.Number.{number_with};
 

@@ -8,16 +8,16 @@ ghost use Rattle.basket_report.specs.Style.{wording_of};
 
 use crate::report::Report;
 use crate::style::Style;
-use basket_core::Unpacked;
+use basket_core::{Share, Unpacked};
 use basket_rules::{Lookups, met_rules};
 use std::alloc::{AllocError, Global};
 
-/// The report of the rules that meet the confidence, a numerator and a denominator. The rules of one
-/// union are made and written before those of the next.
+/// The report of the rules that meet the confidence. The rules of one union are made and written before
+/// those of the next.
 pub fn rules_report(
     alloc: Global,
     frequent: &Unpacked,
-    confidence: (u32, u32),
+    confidence: Share,
     style: Style<'_>,
 ) -> Result<Vec<u8>, AllocError>
     ensures baskets { IfOk result (λ report. ReportsRules (wording_of style.entry) frequent.now confidence report.items) }

@@ -13,7 +13,7 @@ use crate::lookups::Lookups;
 use crate::met::MetRule;
 use crate::rights::{MOST_PLACES, Right, Sides, longer_rights};
 use crate::supports::count_of;
-use basket_core::{Fraction, Frequent, Itemset, Unpacked};
+use basket_core::{Fraction, Frequent, Itemset, Share, Unpacked};
 use std::alloc::{AllocError, Global};
 
 /// The rules of a union of so many items have room before they are made.
@@ -33,12 +33,12 @@ pub struct Rule {
     pub lift: Fraction,
 }
 
-/// The rules that meet the confidence, a numerator and a denominator: union after union in report
-/// order, those of one union by their right sides in report order.
+/// The rules that meet the confidence: union after union in report order, those of one union by their
+/// right sides in report order.
 pub fn rules(
     alloc: Global,
     frequent: &Frequent,
-    confidence: (u32, u32),
+    confidence: Share,
 ) -> Result<Vec<Rule>, AllocError>
     ensures baskets { IfOk result (λ rules. AreRules frequent.now confidence rules.items) }
     ensures lists { IfOk result (λ rules. IsConsistent frequent.now.sets → rules.items ≡ rules_among frequent.now confidence) }
@@ -58,7 +58,7 @@ pub fn rules_with(
     alloc: Global,
     frequent: &Unpacked,
     number: usize,
-    confidence: (u32, u32),
+    confidence: Share,
 ) -> Result<Vec<Rule>, AllocError>
     requires { number < length frequent.now.sets }
     ensures baskets { IfOk result (λ rules. AreRulesWith frequent.now confidence number rules.items) }
@@ -112,7 +112,7 @@ pub fn met_rules(
     alloc: Global,
     frequent: &Unpacked,
     number: usize,
-    confidence: (u32, u32),
+    confidence: Share,
     lookups: &mut Lookups,
 ) -> Result<Vec<MetRule>, AllocError>
     requires { number < length frequent.now.sets }
@@ -148,7 +148,7 @@ fn keep_confident(
     alloc: Global,
     frequent: &Unpacked,
     number: usize,
-    confidence: (u32, u32),
+    confidence: Share,
     tried: &[Right],
     lookups: &mut Lookups,
     rules: &mut Vec<MetRule>,
@@ -174,7 +174,7 @@ fn keep_confident(
 fn rule_for(
     frequent: &Unpacked,
     number: usize,
-    confidence: (u32, u32),
+    confidence: Share,
     right: Right,
     whole: SetHash,
     lookups: &mut Lookups,
@@ -196,9 +196,9 @@ fn rule_for(
 }
 
 /// Whether a count is at least such a share of that of the left side.
-fn meets(confidence: (u32, u32), count: u64, left_count: u64) -> bool
+fn meets(confidence: Share, count: u64, left_count: u64) -> bool
     ensures { result ≡ nat_le (confidence.0 * left_count) (count * confidence.1) }
 {
-    u128::from(confidence.0) * u128::from(left_count)
-        <= u128::from(count) * u128::from(confidence.1)
+    u128::from(confidence.numerator()) * u128::from(left_count)
+        <= u128::from(count) * u128::from(confidence.denominator())
 }

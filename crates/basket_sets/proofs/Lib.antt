@@ -1,5 +1,5 @@
 pub mod theory
-mod Numbers
+mod NumberLemmas
 mod LeastLemmas
 mod CountLemmas
 mod MergeLemmas

@@ -7,6 +7,8 @@ pub mod Database
 pub mod ItemTable
 pub mod Merge
 pub mod Subsets
+pub mod Number
+pub mod Share
 pub mod Minimum
 pub mod Frequent
 pub mod Worked

@@ -1,6 +1,6 @@
 //! Rules of a list that Apriori finds.
 use super::{Row, frequent};
-use basket_core::Minimum;
+use basket_core::{Minimum, Share};
 use basket_rules::{Rule, rules, rules_with};
 use std::alloc::Global;
 use std::fmt::Write;
@@ -24,7 +24,7 @@ fn text(alloc: Global, rules: &[Rule]) -> Result<String, Fail> {
 fn rules_stand_union_after_union_and_by_their_right_sides(rt: HostRuntime) -> Result<(), Fail> {
     let alloc = rt.alloc();
     let frequent = frequent(alloc, FIVE_BASKETS, Minimum::Count(2))?;
-    let found = rules(alloc, &frequent, (3, 4))?;
+    let found = rules(alloc, &frequent, Share::new(3, 4).unwrap())?;
     assert_eq!(rt;
         text(alloc, &found)?.as_str(),
         "2 => 1 (3) 3/4 15/16|1 => 2 (3) 3/4 15/16|3 => 1 (3) 1/1 5/4|1 => 3 (3) 3/4 5/4|2 3 => 1 (2) 1/1 5/4|"
@@ -32,7 +32,7 @@ fn rules_stand_union_after_union_and_by_their_right_sides(rt: HostRuntime) -> Re
     // The last of the seven sets has all three items.
     let list = frequent.unpacked(alloc)?;
     assert_eq!(rt; list.sets().len(), 7);
-    let found = rules_with(alloc, &list, 6, (2, 3))?;
+    let found = rules_with(alloc, &list, 6, Share::new(2, 3).unwrap())?;
     assert_eq!(rt;
         text(alloc, &found)?.as_str(),
         "2 3 => 1 (2) 1/1 5/4|1 3 => 2 (2) 2/3 5/6|1 2 => 3 (2) 2/3 10/9|3 => 1 2 (2) 2/3 10/9|"

@@ -56,7 +56,8 @@ meets_more (Count least) support more total le h =
     let p = and_parts (leb 1 support) (leb least support) h in
     let one = leb-true 1 support p.0 in let enough = leb-true least support p.1 in
     and_from (leb 1 more) (leb least more) (le-leb 1 more (omega arith)) (le-leb least more (omega arith))
-meets_more (Share n d) support more total le h =
+meets_more (Share share) support more total le h =
+    let n = share.0 in let d = share.1 in
     let p = and_parts (leb 1 support) (leb (n * total) (support * d)) h in
     let one = leb-true 1 support p.0 in let enough = leb-true (n * total) (support * d) p.1 in
     and_from (leb 1 more) (leb (n * total) (more * d)) (le-leb 1 more (omega arith)) (le-leb (n * total) (more * d) (scaled support more d (n * total) le enough))
@@ -72,7 +73,7 @@ subsets_are_frequent baskets minimum set subset h k =
 -- a support that meets a minimum is at least 1
 pub at_least_one : (minimum : Minimum) (support total : ℕ) → meets minimum support total ≡ true → 1 ≤ support
 at_least_one (Count least) support total h = leb-true 1 support (and_parts (leb 1 support) (leb least support) h).0
-at_least_one (Share n d) support total h = leb-true 1 support (and_parts (leb 1 support) (leb (n * total) (support * d)) h).0
+at_least_one (Share share) support total h = leb-true 1 support (and_parts (leb 1 support) (leb (share.0 * total) (support * share.1)) h).0
 
 -- a frequent set has items of the database
 pub frequent_items : (baskets : List Weighted) (minimum : Minimum) (set : List ℕ) → is_frequent baskets minimum set ≡ true → (item : ℕ) → Member item set → Member item (items_of baskets)

@@ -1,6 +1,6 @@
 use Rattle.std.proofs.Common.{◌≡◌, ◌≤◌, ◌<◌, take, true, Some}
 use Rattle.std.specs.List.{list_all}
-use Rattle.basket_sets.specs.Minimum.{is_digit}
+use Rattle.basket_sets.specs.Number.{is_digit}
 use Rattle.basket_counts.specs.Digits.{values_added}
 use Rattle.basket_counts.proofs.digits.with_digits.Given as goal
 

@@ -13,7 +13,7 @@ use Rattle.basket_ranks.proofs.ranks.ranked_items.Goals as goal
 
 pub returns-clause-ranks : goal.returns-clause-ranks
 returns-clause-ranks c =
-    let passes : ℕ × ℕ → Bool = λ entry. meets c.args.minimum entry.1 c.args.total in
+    let passes : ℕ × ℕ → Bool = λ entry. meets c.args.minimum.now entry.1 c.args.total in
     let frequent = filter passes c.args.counts.now in
     let sorted = c.sort_unstable.new.self.items in
     let same = c.in_ok-entries.ensures in
@@ -25,7 +25,7 @@ returns-clause-ranks c =
 
 pub returns-clause-distinct : goal.returns-clause-distinct
 returns-clause-distinct c =
-    let passes : ℕ × ℕ → Bool = λ entry. meets c.args.minimum entry.1 c.args.total in
+    let passes : ℕ × ℕ → Bool = λ entry. meets c.args.minimum.now entry.1 c.args.total in
     let sorted = c.sort_unstable.new.self.items in
     let moved = IsPermutation-map entry_of _ _ c.sort_unstable.ensures.permutation in
     let up = subst (λ l. IsRising (map (λ e. e.0) l)) (sym c.in_ok-entries.ensures) (filter_rises passes c.args.counts.now c.requires) in

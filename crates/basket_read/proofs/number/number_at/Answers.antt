@@ -1,7 +1,7 @@
 use Rattle.std.proofs.Common.{◌≡◌, [], take, ap, sym, refl, ◌∙◌, arith}
 use Rattle.std.specs.List.{list_all}
 use Rattle.std.proofs.lemmas.List.{take-take}
-use Rattle.basket_sets.specs.Minimum.{is_digit, value_of}
+use Rattle.basket_sets.specs.Number.{is_digit, value_of}
 use Rattle.basket_read.proofs.RunLemmas.{take_both, within_both, number_goes_on}
 use Rattle.basket_read.proofs.number.number_at.Goals as goal
 

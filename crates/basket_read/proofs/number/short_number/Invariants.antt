@@ -1,6 +1,6 @@
 use Rattle.std.proofs.Common.{◌≡◌, ◌<◌, ◌^◌, take, true}
 use Rattle.std.specs.List.{list_all}
-use Rattle.basket_sets.specs.Minimum.{is_digit, value_of}
+use Rattle.basket_sets.specs.Number.{is_digit, value_of}
 use Rattle.basket_read.proofs.number.short_number.Given as goal
 
 abbrev pub invariant-loop-place : goal.invariant-loop-place

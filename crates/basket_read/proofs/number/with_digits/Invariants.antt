@@ -1,6 +1,6 @@
 use Rattle.std.proofs.Common.{◌≡◌, ◌≤◌, ℕ, List, ◌++◌, take, true}
 use Rattle.std.specs.List.{list_all}
-use Rattle.basket_sets.specs.Minimum.{is_digit, value_of}
+use Rattle.basket_sets.specs.Number.{is_digit, value_of}
 use Rattle.basket_read.specs.Fimi.{MOST_NUMBER}
 use Rattle.basket_read.proofs.number.with_digits.Given as goal
 

@@ -4,5 +4,5 @@ use Rattle.basket_sets.proofs.minimum.least_part.Goals as goal
 
 pub returns : goal.returns
 returns c =
-    let some : 0 < c.args.denominator = omega arith in
-    rw (c.from.ensures, c.from-2.ensures, c.from-denominator.ensures) (least_part c.args.numerator c.args.denominator c.args.total some)
+    let some : 0 < c.args.share.1 = omega (arith, c.denominator.ensures.value, c.denominator.ensures.some) in
+    rw (c.from.ensures, c.numerator.ensures, c.from-2.ensures, c.from-denominator.ensures, c.denominator.ensures.value) (least_part c.args.share.0 c.args.share.1 c.args.total some)

@@ -2,7 +2,7 @@ use Rattle.std.proofs.Common.{◌+◌, ap, ◌∙◌, cond, Some, None, sym}
 use Rattle.std.proofs.lemmas.Bool.{ne_eqb}
 use Rattle.basket_read.specs.Cut.{cut_at}
 use Rattle.basket_read.specs.Fimi.{is_line_feed}
-use Rattle.basket_sets.specs.Minimum.{is_digit}
+use Rattle.basket_sets.specs.Number.{is_digit}
 use Rattle.basket_read.specs.declared.fault.ReadFault.TheVariants.{Byte}
 use Rattle.basket_counts.specs.Line.{line_state, LineState, digit_fault_at}
 use Rattle.basket_counts.proofs.TextLemmas.{line_so_far, takes, refuses, takes_line_feed}

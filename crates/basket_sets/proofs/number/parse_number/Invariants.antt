@@ -1,7 +1,7 @@
 use Rattle.std.proofs.Common.{◌≡◌, ◌≤◌, take, true}
 use Rattle.std.specs.List.{list_all}
-use Rattle.basket_sets.specs.Minimum.{is_digit, value_of}
-use Rattle.basket_csv.proofs.number.number_in.Given as goal
+use Rattle.basket_sets.specs.Number.{is_digit, value_of}
+use Rattle.basket_sets.proofs.number.parse_number.Given as goal
 
 abbrev pub invariant-loop-byte : goal.invariant-loop-byte
 invariant-loop-byte l = record {
