@@ -1,2 +1,3 @@
 mod HelpLemmas
 mod CommandLemmas
+mod WrittenLemmas

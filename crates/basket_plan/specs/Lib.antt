@@ -1,3 +1,4 @@
 pub mod Plan
 pub mod Status
 pub mod Command
+pub mod Written

@@ -8,3 +8,4 @@ pub mod Merging
 pub mod Frequent
 pub mod Items
 pub mod Chunks
+pub mod Numerals

@@ -24,7 +24,8 @@ IsLeastPart share total least = (number : ℕ) → nat_le (share.0 * total) (num
 abbrev pub GREATEST_COUNT : ℕ
 GREATEST_COUNT = 1099511627775
 
-abbrev count_minimum : Option ℕ → Option Minimum → Option Minimum
+-- a count of at least 1 where a number is written, else the other minimum
+abbrev pub count_minimum : Option ℕ → Option Minimum → Option Minimum
 count_minimum (Some least) other = if nat_le 1 least then Some (Count least) else None
 count_minimum None other = other
 

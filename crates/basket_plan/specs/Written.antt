@@ -1,0 +1,109 @@
+-- The words that ask for a plan.
+use Rattle.std.specs.Prelude.{◌≡◌, ◌≤◌, ℕ, Bool, true, List, [], ◌∷◌, ◌++◌, codes, decimal, if◌then◌else◌, nat_eq, None, ⊤}
+use Rattle.clap.specs.Words.{Text}
+use Rattle.basket_sets.specs.Minimum.{IsMinimum}
+use Rattle.basket_sets.specs.Share.{GREATEST_PART, IsShare}
+use Rattle.basket_sets.specs.declared.minimum.Minimum.{Minimum}
+use Rattle.basket_sets.specs.declared.minimum.Minimum.TheVariants.{Count, Share}
+use Rattle.basket_plan.specs.Command.{invocation_of_words, reporting}
+use Rattle.basket_plan.specs.Plan.{GREATEST_LIMIT, Planned, is_separator}
+use Rattle.basket_plan.specs.declared.layout.Form.{Form}
+use Rattle.basket_plan.specs.declared.layout.Form.TheVariants.{Fimi, Baskets, Single, Counts, CsvCounts}
+use Rattle.basket_plan.specs.declared.plan.Ask.{Ask}
+use Rattle.basket_plan.specs.declared.plan.Ask.TheVariants.{Items, Sets, Closed, Maximal, Rules}
+use Rattle.basket_plan.specs.declared.plan.Miner.{Miner}
+use Rattle.basket_plan.specs.declared.plan.Miner.TheVariants.{Apriori, Eclat, EclatDiff, EclatBits, FpGrowth}
+use Rattle.basket_plan.specs.declared.plan.TheConstants.{MOST_PIECES, MOST_WORKERS}
+
+-- ---- values as texts
+
+abbrev pub share_text : ℕ × ℕ → Text
+share_text share = decimal share.0 ++ 47 ∷ decimal share.1
+
+abbrev pub minimum_text : Minimum → Text
+minimum_text (Count least) = decimal least
+minimum_text (Share share) = share_text share
+
+abbrev pub form_text : Form → Text
+form_text Fimi = codes "fimi"
+form_text Baskets = codes "baskets"
+form_text Single = codes "single"
+form_text Counts = codes "counts"
+form_text CsvCounts = codes "csv-counts"
+
+abbrev pub separator_text : ℕ → Text
+separator_text byte =
+    if nat_eq byte 44 then codes "comma"
+    else (if nat_eq byte 59 then codes "semicolon"
+    else (if nat_eq byte 9 then codes "tab" else codes "pipe"))
+
+abbrev pub miner_text : Miner → Text
+miner_text Apriori = codes "apriori"
+miner_text Eclat = codes "eclat"
+miner_text EclatDiff = codes "eclat-diff"
+miner_text EclatBits = codes "eclat-bits"
+miner_text FpGrowth = codes "fpgrowth"
+
+-- ---- words
+
+-- an option with its value in one word, `--name=value`
+abbrev pub option_word : Text → Text → Text
+option_word name value = codes "--" ++ name ++ 61 ∷ value
+
+-- a flag, where it is given
+abbrev pub flag_words : Text → Bool → List Text
+flag_words name given = if given then (codes "--" ++ name) ∷ [] else []
+
+-- the command, and the confidence of rules
+abbrev pub ask_words : Ask → List Text
+ask_words Items = codes "items" ∷ []
+ask_words Sets = codes "sets" ∷ []
+ask_words Closed = codes "closed" ∷ []
+ask_words Maximal = codes "maximal" ∷ []
+ask_words (Rules confidence) = codes "rules" ∷ option_word (codes "conf") (share_text confidence) ∷ []
+
+-- a command with texts for the values of its options
+abbrev pub words_with : Text → Text → Text → Text → Text → Text → Text → Bool → Bool → List Text
+words_with minimum form separator miner limit workers pieces header weight =
+    option_word (codes "min") minimum
+    ∷ option_word (codes "form") form
+    ∷ option_word (codes "sep") separator
+    ∷ option_word (codes "miner") miner
+    ∷ option_word (codes "limit") limit
+    ∷ option_word (codes "workers") workers
+    ∷ option_word (codes "pieces") pieces
+    ∷ flag_words (codes "header") header ++ flag_words (codes "weight") weight
+
+-- the words that ask for the plan, over standard input
+abbrev pub words_of : Planned → List Text
+words_of plan =
+    let q = plan.question in
+    ask_words q.ask ++ words_with (minimum_text q.minimum) (form_text q.layout.form) (separator_text q.layout.separator) (miner_text plan.miner)
+        (decimal q.limit) (decimal plan.workers) (decimal plan.pieces) q.layout.header q.layout.weighted
+
+-- ---- the law
+
+-- a share whose numbers are in the range of the command line
+abbrev pub IsShareInRange : ℕ × ℕ → Type 0
+IsShareInRange share = IsShare share × (share.1 ≤ GREATEST_PART)
+
+abbrev pub IsMinimumInRange : Minimum → Type 0
+IsMinimumInRange (Count least) = IsMinimum (Count least)
+IsMinimumInRange (Share share) = IsShareInRange share
+
+abbrev pub IsAskInRange : Ask → Type 0
+IsAskInRange (Rules confidence) = IsShareInRange confidence
+IsAskInRange _ = ⊤
+
+-- a plan with every number in its range
+pub record IsInRange (plan : Planned) : Type 0 where
+  pub ask : IsAskInRange plan.question.ask
+  pub minimum : IsMinimumInRange plan.question.minimum
+  pub limit : (1 ≤ plan.question.limit) × (plan.question.limit ≤ GREATEST_LIMIT)
+  pub separator : is_separator plan.question.layout.separator ≡ true
+  pub workers : (1 ≤ plan.workers) × (plan.workers ≤ MOST_WORKERS)
+  pub pieces : (1 ≤ plan.pieces) × (plan.pieces ≤ MOST_PIECES)
+
+-- the words of a plan ask for that plan, over standard input
+abbrev pub PlansAreReadBack : Type 0
+PlansAreReadBack = (plan : Planned) → IsInRange plan → invocation_of_words (words_of plan) ≡ reporting None plan
