@@ -5,9 +5,8 @@ use Rattle.std.specs.Option.{option_map}
 use Rattle.std.proofs.lemmas.Bool.{and_parts, and_from, le-leb, and_right}
 use Rattle.std.proofs.lemmas.List.{append-nil, map-append}
 use Rattle.std.proofs.lemmas.List.Elements.{filter-append}
-use Rattle.std.proofs.lemmas.List.Folds.{list_all-append}
-use Rattle.std.proofs.lemmas.List.Sums.{fold_push}
 use Rattle.basket_sets.specs.Number.{is_digit, value_of}
+pub use Rattle.basket_sets.proofs.theory.Numerals.{all_push, and_true, value_push}
 use Rattle.basket_read.specs.Cut.{Cut}
 use Rattle.basket_read.specs.Fimi.{is_nil, is_number, MOST_NUMBER}
 use Rattle.basket_counts.specs.declared.place.Place.{Place}
@@ -15,18 +14,6 @@ use Rattle.basket_counts.specs.declared.place.Place.TheVariants.{Between, Number
 use Rattle.basket_counts.specs.Digits.{value_with}
 use Rattle.basket_counts.specs.Line.{LineState, at_place, word_place, number_state, digit_added, numbers_at, blank_added, open_added, close_added, if_place}
 use Rattle.basket_counts.proofs.CutLemmas.{cut}
-
--- ---- tests of lists
-
-pub and_true : (b : Bool) → (b && true) ≡ b
-and_true true = refl
-and_true false = refl
-
-pub all_push : {X : Type 0} (p : X → Bool) (xs : List X) (x : X) → list_all p (xs ++ x ∷ []) ≡ (list_all p xs && p x)
-all_push p xs x = list_all-append p xs (x ∷ []) ∙ ap (λ b. list_all p xs && b) (and_true (p x))
-
-pub value_push : (word : List ℕ) (byte : ℕ) → value_of (word ++ byte ∷ []) ≡ value_of word * 10 + (byte - 48)
-value_push word byte = fold_push (λ value b. value * 10 + (b - 48)) 0 word byte
 
 -- ---- digits of a number or of a count
 

@@ -9,6 +9,7 @@ use Rattle.std.proofs.lemmas.List.{append-nil, take_all}
 use Rattle.basket_sets.specs.declared.counted.Counted.{Counted}
 use Rattle.basket_sets.specs.Database.{MOST_WEIGHT}
 use Rattle.basket_sets.specs.Number.{is_digit, value_of}
+use Rattle.basket_sets.proofs.theory.Numerals.{IsNumeral, numeral}
 use Rattle.basket_sets.proofs.theory.Rising.{rising-rising}
 use Rattle.basket_read.specs.declared.fault.ReadFault.TheVariants.{TooLong}
 use Rattle.basket_read.specs.Cut.{Cut, cut_at}
@@ -22,26 +23,9 @@ use Rattle.basket_counts.proofs.GrammarLemmas.{good_is_faultless}
 
 -- ---- the digits of a number
 
-record IsNumeral (number : ℕ) (word : List ℕ) : Type 0 where
-  digits : list_all is_digit word ≡ true
-  value : value_of word ≡ number
-  some : is_nil word ≡ false
-
-digit_is : (byte : ℕ) → 48 ≤ byte → byte ≤ 57 → is_digit byte ≡ true
-digit_is byte low high = and_from (leb 48 byte) (leb byte 57) (le-leb 48 byte low) (le-leb byte 57 high)
-
-numeral : (n : ℕ) → n < 2 ^ 64 → IsNumeral n (decimal n)
-numeral = decimal_by_steps IsNumeral
-    (λ m l. record { digits = and_true (is_digit (48 + m)) ∙ digit_is (48 + m) (omega arith) (omega arith); value = omega arith; some = refl })
-    (λ m ds l h. record {
-      digits = all_push is_digit ds (48 + m % 10) ∙ and_from (list_all is_digit ds) (is_digit (48 + m % 10)) h.digits (digit_is (48 + m % 10) (omega arith) (omega arith));
-      value = value_push ds (48 + m % 10) ∙ (let e = h.value in omega arith);
-      some = more ds (48 + m % 10);
-    })
-  where
-    more : (word : List ℕ) (byte : ℕ) → is_nil (word ++ byte ∷ []) ≡ false
-    more [] byte = refl
-    more (d ∷ word) byte = refl
+not_nil : (word : List ℕ) → 0 < length word → is_nil word ≡ false
+not_nil [] h = absurd (omega (arith, h))
+not_nil (x ∷ xs) h = refl
 
 number_is : (n bound : ℕ) → n ≤ bound → n < 2 ^ 64 → within bound (decimal n) ≡ true
 number_is n bound below small =
@@ -140,7 +124,7 @@ words_are [] h = refl
 words_are (item ∷ items) h =
     let n = item_numeral item (all_head IsItem item items h) in
     let rest = filter (λ word. not (is_nil word)) (map decimal items ++ [] ∷ []) in
-    ap (λ b. map value_of (cond (not b) (decimal item ∷ rest) rest)) n.some ∙ (λ i. n.value i ∷ words_are items (all_tail IsItem item items h) i)
+    ap (λ b. map value_of (cond (not b) (decimal item ∷ rest) rest)) (not_nil (decimal item) n.some) ∙ (λ i. n.value i ∷ words_are items (all_tail IsItem item items h) i)
 
 blank_spares : Spares is_blank
 blank_spares = record { digit = λ byte d. (digit_is_no_other byte d).0 }
@@ -203,7 +187,7 @@ module _ (counted : Counted) (written : IsWritten counted) where
       ∙ and_from (are_numbers front) (is_tail (tail_of counted.count)) says.numbers
       (ap (λ (k : Cut). is_tail_of k.ended k.last) tail_cut
       ∙ and_from (not (is_nil (decimal counted.count)) && is_count (decimal counted.count)) true
-      (and_from (not (is_nil (decimal counted.count))) (is_count (decimal counted.count)) (ap not count_numeral.some)
+      (and_from (not (is_nil (decimal counted.count))) (is_count (decimal counted.count)) (ap not (not_nil (decimal counted.count) count_numeral.some))
       (number_is counted.count MOST_WEIGHT written.count (let e = written.count in omega arith))) refl)
 
   body_says : (line : ℕ) → entry_of (body counted) line ≡ record { set = counted.set; count = Some counted.count; line = line } ∷ []
@@ -250,7 +234,7 @@ items_plain [] rest h = refl
 items_plain (item ∷ items) rest h =
     let n = item_numeral item (all_head IsItem item items h) in
     let same = first_item (decimal item) (items_text items) rest in
-    ap text_of same ∙ plain (decimal item) (32 ∷ (items_text items ++ 40 ∷ rest)) n.digits n.some ∙ sym same
+    ap text_of same ∙ plain (decimal item) (32 ∷ (items_text items ++ 40 ∷ rest)) n.digits (not_nil (decimal item) n.some) ∙ sym same
   where
     first_item : (word items rest : List ℕ) → ((word ++ 32 ∷ []) ++ items) ++ 40 ∷ rest ≡ word ++ 32 ∷ (items ++ 40 ∷ rest)
     first_item word items rest = simp append_assoc
