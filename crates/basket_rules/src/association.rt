@@ -126,14 +126,25 @@ pub fn met_rules(
         return Ok(rules);
     }
     lookups.hashes.set(frequent.sets()[number].set.items())?;
+    let wanted = Wanted {
+        frequent,
+        number,
+        confidence,
+    };
     let mut rights = longer_rights(alloc, &[Right::none()], count)?;
     for size in 0..most_right_items(count) {
-        let met = keep_confident(
-            alloc, frequent, number, confidence, &rights, lookups, &mut rules,
-        )?;
+        let met = keep_confident(alloc, &wanted, &rights, lookups, &mut rules)?;
         rights = longer_rights(alloc, &met, count)?;
     }
     Ok(rules)
+}
+
+/// The rules with the set at a place of a list as their union, and the confidence that they are to meet.
+#[derive(Drop)]
+struct Wanted<'a> {
+    frequent: &'a Unpacked,
+    number: usize,
+    confidence: Share,
 }
 
 /// How many items a right side has at most, since a left side has one too.
@@ -146,22 +157,20 @@ fn most_right_items(count: usize) -> usize
 /// Of the right sides, those whose rules meet the confidence. Their rules are added.
 fn keep_confident(
     alloc: Global,
-    frequent: &Unpacked,
-    number: usize,
-    confidence: Share,
+    wanted: &Wanted<'_>,
     tried: &[Right],
     lookups: &mut Lookups,
     rules: &mut Vec<MetRule>,
 ) -> Result<Vec<Right>, AllocError>
-    requires listed { number < length frequent.now.sets }
-    requires few { length (set_at frequent.now.sets number) ≤ MOST_PLACES }
-    ensures { IfOk result (λ met. KeepsConfident frequent.now confidence number tried.now met.items
-        (rules_in frequent.now number rules.old.items) (rules_in frequent.now number rules.new.items)) }
+    requires listed { wanted.now.number < length wanted.now.frequent.now.sets }
+    requires few { length (set_at wanted.now.frequent.now.sets wanted.now.number) ≤ MOST_PLACES }
+    ensures { IfOk result (λ met. KeepsConfident wanted.now.frequent.now wanted.now.confidence wanted.now.number tried.now met.items
+        (rules_in wanted.now.frequent.now wanted.now.number rules.old.items) (rules_in wanted.now.frequent.now wanted.now.number rules.new.items)) }
 {
     let whole = lookups.hashes.whole();
     let mut met = Vec::with_capacity(alloc, tried.len())?;
     for right in tried {
-        if let Some(rule) = rule_for(frequent, number, confidence, *right, whole, lookups)? {
+        if let Some(rule) = rule_for(wanted, *right, whole, lookups)? {
             rules.push(rule)?;
             met.push(*right)?;
         }
@@ -172,23 +181,21 @@ fn keep_confident(
 /// The rule whose sides make the set at the place, with this right side, where it meets the
 /// confidence. `whole` is the hash of that set.
 fn rule_for(
-    frequent: &Unpacked,
-    number: usize,
-    confidence: Share,
+    wanted: &Wanted<'_>,
     right: Right,
     whole: SetHash,
     lookups: &mut Lookups,
 ) -> Result<Option<MetRule>, AllocError>
-    requires listed { number < length frequent.now.sets }
-    requires few { length (set_at frequent.now.sets number) ≤ MOST_PLACES }
-    ensures { IfOk result (λ found. IsRuleFor frequent.now confidence number (side_of (set_at frequent.now.sets number) right) (found_rule frequent.now number found)) }
+    requires listed { wanted.now.number < length wanted.now.frequent.now.sets }
+    requires few { length (set_at wanted.now.frequent.now.sets wanted.now.number) ≤ MOST_PLACES }
+    ensures { IfOk result (λ found. IsRuleFor wanted.now.frequent.now wanted.now.confidence wanted.now.number (side_of (set_at wanted.now.frequent.now.sets wanted.now.number) right) (found_rule wanted.now.frequent.now wanted.now.number found)) }
 {
-    let sets = frequent.sets();
-    let union = &sets[number];
+    let sets = wanted.frequent.sets();
+    let union = &sets[wanted.number];
     let items = union.set.items();
     let part = lookups.hashes.side(right.places);
     let left_count = count_of(sets, items, !right.places, whole.without(part), lookups)?;
-    if !meets(confidence, union.count, left_count) {
+    if !meets(wanted.confidence, union.count, left_count) {
         return Ok(None);
     }
     let right_count = count_of(sets, items, right.places, part, lookups)?;

@@ -12,9 +12,9 @@ use Rattle.basket_rules.proofs.association.keep_confident.Goals as goal
 
 pub loop-right-preserved : goal.loop-right-preserved
 loop-right-preserved c =
-    let listing = c.args.frequent.now in
-    let confidence = c.args.confidence in
-    let number = c.args.number in
+    let listing = c.args.wanted.now.frequent.now in
+    let confidence = c.args.wanted.now.confidence in
+    let number = c.args.wanted.now.number in
     let tried = c.args.tried.now in
     let at = c.loop-right.right-index in
     let old = rules_in listing number c.args.rules.now.items in
