@@ -8,6 +8,7 @@ mod input;
 mod item_counts;
 pub mod laws;
 mod line;
+mod lines;
 mod number;
 mod parts;
 mod read;
