@@ -1,6 +1,7 @@
 //! Readers of baskets that answer exactly the baskets of an input, or its first fault.
 #![tactic(auto)]
 
+mod batches;
 mod class;
 mod counted_line;
 mod fault;
@@ -12,6 +13,7 @@ mod lines;
 mod number;
 mod parts;
 mod read;
+mod shared;
 mod text;
 pub mod worked;
 
@@ -20,3 +22,4 @@ pub use fault::ReadFault;
 pub use item_counts::ItemCounts;
 pub use parts::FimiParts;
 pub use read::{MAX_BLOCK, count_fimi, read_fimi, read_fimi_by};
+pub use shared::read_fimi_shared;
