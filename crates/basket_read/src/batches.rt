@@ -1,5 +1,6 @@
 //! Reading an input batch by batch.
 ghost use Rattle.std.specs.Prelude.{◌≡◌, ◌<◌, ◌≤◌, ℕ, List, [], ◌++◌, length, false, true, IfErr, IfSome, MatchResult, Option, OnOk};
+ghost use Rattle.std.specs.Thread.{IsSync};
 ghost use Rattle.basket_read.specs.Batches.{Stops};
 ghost use Rattle.basket_read.specs.Fimi.{settled_fault, fault_in, MOST_BYTES};
 ghost use Rattle.basket_read.specs.Text.{Tells};
@@ -29,7 +30,8 @@ pub trait Batched {
         batch: &[u8],
         workers: u32,
     ) -> Result<(), ReadFault>
-        requires { ∥ ((bytes : List ℕ) × has_read self.old bytes) ∥₁ }
+        requires sync { IsSync R.row }
+        requires read { ∥ ((bytes : List ℕ) × has_read self.old bytes) ∥₁ }
         ensures { (bytes : List ℕ) → has_read self.old bytes →
             MatchResult result (λ _. has_read self.new (bytes ++ batch.now)) (λ fault. Tells fault (settled_fault (bytes ++ batch.now))) };
 

@@ -14,8 +14,8 @@ reading-init g c =
       read = ([], consumes_same old old [] c.new-batch.result.items c.new-batch.ensures.items (consumes_none old), c.requires.new);
     }
 
-pub take_batch-requires : goal.take_batch-requires
-take_batch-requires g c = let read = c.reading.invariant.read in ∣ (read.0, read.2) ∣₁
+pub take_batch-requires-clause-read : goal.take_batch-requires-clause-read
+take_batch-requires-clause-read g c = let read = c.reading.invariant.read in ∣ (read.0, read.2) ∣₁
 
 pub returns-in-Ok-eq0-clause-some : goal.returns-in-Ok-eq0-clause-some
 returns-in-Ok-eq0-clause-some g c =
@@ -60,8 +60,8 @@ returns-in_err-extend_from_slice-in-Ok-clause-stops g c =
     is_err c.from_residual.result Memory _ (p.1 ∙ ap Err p.2)
     (stops_memory (g.S.Source.left c.args.reader.now) (g.S.Source.left c.read.new.self) (g.S.Source.has_failed c.read.new.self) c.in-Ok.ensures.failed)
 
-pub take_batch-requires-in-Err : goal.take_batch-requires-in-Err
-take_batch-requires-in-Err g c = let read = c.reading.invariant.read in ∣ (read.0, read.2) ∣₁
+pub take_batch-requires-in-Err-clause-read : goal.take_batch-requires-in-Err-clause-read
+take_batch-requires-in-Err-clause-read g c = let read = c.reading.invariant.read in ∣ (read.0, read.2) ∣₁
 
 pub returns-in_err-take_batch-in-Err-clause-stops : goal.returns-in_err-take_batch-in-Err-clause-stops
 returns-in_err-take_batch-in-Err-clause-stops g c =
@@ -88,8 +88,8 @@ returns-in-Err-clause-stops g c =
     stops_failed old now new (g.S.Source.has_failed c.read.new.self) given c.unwrap_or.result c.in-Err.ensures.failed consumed c.in-Err.ensures.bytes
     (λ _. c.unwrap_or.ensures ∙ ap (λ found. unwrap_or found Read) (c.fault_so_far.ensures given (c.in_ok-take_batch-in-Err.ensures read.0 read.2)))
 
-pub take_batch-requires-then-len-ge-BATCH : goal.take_batch-requires-then-len-ge-BATCH
-take_batch-requires-then-len-ge-BATCH g c = let read = c.reading.invariant.read in ∣ (read.0, read.2) ∣₁
+pub take_batch-requires-then-len-ge-BATCH-clause-read : goal.take_batch-requires-then-len-ge-BATCH-clause-read
+take_batch-requires-then-len-ge-BATCH-clause-read g c = let read = c.reading.invariant.read in ∣ (read.0, read.2) ∣₁
 
 pub returns-in_err-take_batch-clause-stops : goal.returns-in_err-take_batch-clause-stops
 returns-in_err-take_batch-clause-stops g c =

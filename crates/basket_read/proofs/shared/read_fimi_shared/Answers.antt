@@ -1,4 +1,4 @@
-use Rattle.std.proofs.Common.{◌≡◌, [], Err, ap, ◌∙◌, subst}
+use Rattle.std.proofs.Common.{◌≡◌, [], Err, sym, ap, ◌∙◌, subst}
 use Rattle.std.specs.Prelude.{IfSome}
 use Rattle.std.proofs.lemmas.Grind.{not_there}
 use Rattle.std.proofs.lemmas.Result.{err_from_is_err_and}
@@ -18,13 +18,21 @@ returns-in_err-buffer-clause-exact g c = λ _.
     memory_answer _ c.from_residual.result (p.1 ∙ ap Err p.2)
 
 pub returns-in_err-read_batches-clause-exact : goal.returns-in_err-read_batches-clause-exact
-returns-in_err-read_batches-clause-exact g c = λ working. ?
+returns-in_err-read_batches-clause-exact g c = λ working.
+    let p = err_from_is_err_and c.from_residual-in_err-read_batches.result c.from_residual-in_err-read_batches.ensures.1 in
+    subst (λ r. IfSome (g.S.Source.left c.args.reader.now) (λ bytes. Answers r (fimi_of bytes))) (sym (p.1 ∙ ap Err p.2)) (c.in_err-read_batches.ensures.stops.exact working)
 
 pub returns-in_err-read_batches-clause-failed : goal.returns-in_err-read_batches-clause-failed
-returns-in_err-read_batches-clause-failed g c = λ broken. ?
+returns-in_err-read_batches-clause-failed g c = λ broken.
+    let p = err_from_is_err_and c.from_residual-in_err-read_batches.result c.from_residual-in_err-read_batches.ensures.1 in
+    subst (λ r. IfSome (g.S.Source.left c.args.reader.now) (λ bytes. FailsAfter bytes (g.S.Source.left c.read_batches.new.reader) r)) (sym (p.1 ∙ ap Err p.2))
+    (c.in_err-read_batches.ensures.stops.fails broken)
 
 pub returns-in_err-read_batches-clause-read_is_failed : goal.returns-in_err-read_batches-clause-read_is_failed
-returns-in_err-read_batches-clause-read_is_failed g c = λ e. ?
+returns-in_err-read_batches-clause-read_is_failed g c = λ e.
+    let p = err_from_is_err_and c.from_residual-in_err-read_batches.result c.from_residual-in_err-read_batches.ensures.1 in
+    let is_read : c.in_err-read_batches.field-0.0 ≡ Read = cc (p.1, p.2, e) in
+    c.in_err-read_batches.ensures.stops.read_is_failed is_read
 
 pub finish-requires : goal.finish-requires
 finish-requires g c = ∥∥₁_map c.in_ok-read_batches.ensures.some (λ w. ([], w.0, w.1))
