@@ -52,7 +52,7 @@ pub fn read_batches<R: Threads + Sync, S: Source, P: Batched>(
     requires fresh { S.has_failed reader.old ≡ false }
     requires room { 0 < length buffer.old }
     requires new { P.has_read parts.old [] }
-    ensures some { OnOk result ∥ ((bytes : List ℕ) × P.has_read parts.new bytes) ∥₁ }
+    ensures some { OnOk result ((bytes : List ℕ) × P.has_read parts.new bytes) }
     ensures all { OnOk result ((S.has_failed reader.new ≡ false) × IfSome (S.left reader.old) (P.has_read parts.new)) }
     ensures stops { IfErr result (Stops (S.left reader.old) (S.left reader.new) (S.has_failed reader.new)) }
 {

@@ -22,4 +22,4 @@ pub use fault::ReadFault;
 pub use item_counts::ItemCounts;
 pub use parts::FimiParts;
 pub use read::{MAX_BLOCK, count_fimi, read_fimi, read_fimi_by};
-pub use shared::read_fimi_shared;
+pub use shared::{count_fimi_shared, read_fimi_shared};

@@ -20,7 +20,7 @@ take_batch-requires-clause-read g c = let read = c.reading.invariant.read in ∣
 pub returns-in-Ok-eq0-clause-some : goal.returns-in-Ok-eq0-clause-some
 returns-in-Ok-eq0-clause-some g c =
     let read = c.reading.invariant.read in
-    on_ok c.take_batch.result _ _ _ (c.take_batch.ensures read.0 read.2) (λ h. ∣ (read.0 ++ c.deref.result.now, h) ∣₁)
+    on_ok c.take_batch.result _ _ _ (c.take_batch.ensures read.0 read.2) (λ h. (read.0 ++ c.deref.result.now, h))
 
 pub returns-in-Ok-eq0-clause-all : goal.returns-in-Ok-eq0-clause-all
 returns-in-Ok-eq0-clause-all g c =

@@ -1,8 +1,6 @@
 use Rattle.std.proofs.Common.{◌≡◌, [], Err, sym, ap, ◌∙◌, subst}
 use Rattle.std.specs.Prelude.{IfSome}
-use Rattle.std.proofs.lemmas.Grind.{not_there}
 use Rattle.std.proofs.lemmas.Result.{err_from_is_err_and}
-use Rattle.std.proofs.Math.Logic.{∥∥₁_map}
 use Rattle.basket_read.specs.Fimi.{fimi_of}
 use Rattle.basket_read.specs.Input.{IsInputSoFar}
 use Rattle.basket_read.specs.Read.{FailsAfter}
@@ -35,7 +33,7 @@ returns-in_err-read_batches-clause-read_is_failed g c = λ e.
     c.in_err-read_batches.ensures.stops.read_is_failed is_read
 
 pub finish-requires : goal.finish-requires
-finish-requires g c = ∥∥₁_map c.in_ok-read_batches.ensures.some (λ w. ([], w.0, w.1))
+finish-requires g c = let read = c.in_ok-read_batches.ensures.some in ∣ ([], read.0, read.1) ∣₁
 
 pub returns-clause-exact : goal.returns-clause-exact
 returns-clause-exact g c = λ _.
@@ -44,5 +42,6 @@ returns-clause-exact g c = λ _.
 
 pub returns-clause-read_is_failed : goal.returns-clause-read_is_failed
 returns-clause-read_is_failed g c = λ e.
-    absurd (not_there c.in_ok-read_batches.ensures.some (λ w.
-    not_answered w.0 (subst (λ r. Answers r (fimi_of w.0)) e (answers_all c.finish.result (fimi_of w.0) (c.finish.ensures [] w.0 w.1)) (λ m. absurd cc))))
+    let read = c.in_ok-read_batches.ensures.some in
+    let answers = subst (λ r. Answers r (fimi_of read.0)) e (answers_all c.finish.result (fimi_of read.0) (c.finish.ensures [] read.0 read.1)) in
+    absurd (not_answered read.0 (answers (λ m. absurd cc)))
