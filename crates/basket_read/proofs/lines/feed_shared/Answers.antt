@@ -36,7 +36,7 @@ append-requires g c =
       c.in_ok-feed.ensures w.0 w.1 w.2,
       c.in-Ok.ensures,
       let few = w.3 in let within = c.in-Some.ensures.within in let cut = c.split_at.ensures.front_len in let rest = c.split_at.ensures.back_len in
-      let sum = length-append w.1 c.split_at.result.0.now in omega arith,
+          let sum = length-append w.1 c.split_at.result.0.now in omega arith,
     ))
 
 pub feed-requires-in-Err : goal.feed-requires-in-Err
