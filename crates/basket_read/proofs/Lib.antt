@@ -7,3 +7,4 @@ mod PartsLemmas
 mod ReadLemmas
 mod GrammarLemmas
 mod RunLemmas
+mod BehindLemmas

@@ -1,5 +1,5 @@
 //! Laws on the grammar of FIMI texts and on their faults.
-ghost use Rattle.basket_read.specs.Laws.{FrontsAreGood, GoodIsFaultless, FirstFaultIsExact, SettledFaultsStay, UnsettledMayBeGood};
+ghost use Rattle.basket_read.specs.Laws.{FrontsAreGood, GoodIsFaultless, FirstFaultIsExact, SettledFaultsStay, UnsettledMayBeGood, LinesSayTheirs};
 
 /// Each front of a good text is good.
 pub fn fronts_are_good()
@@ -24,4 +24,10 @@ pub fn settled_faults_stay()
 /// Bytes without a settled fault may go on so that they have none.
 pub fn unsettled_may_be_good()
     ensures { UnsettledMayBeGood }
+{}
+
+/// A text that is cut behind a line feed has the baskets of its parts, one part behind the other, and the
+/// first fault of the first part that has one, its line counted on.
+pub fn lines_say_theirs()
+    ensures { LinesSayTheirs }
 {}

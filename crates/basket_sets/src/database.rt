@@ -69,6 +69,19 @@ impl Database {
         }
     }
 
+    /// Adds the baskets of another database behind these. Where there is no memory, nothing is added.
+    pub fn append(&mut self, other: Database) -> Result<(), AllocError>
+        requires few { length self.old + length other ≤ MOST_BASKETS }
+        requires light { total_of self.old + total_of other ≤ MOST_WEIGHT }
+        ensures ok { OnOk result (self.new ≡ self.old ++ other) }
+        ensures err { OnErr result (self.new ≡ self.old) }
+    {
+        let Database { mut baskets, total } = other;
+        self.baskets.append(&mut baskets)?;
+        self.total += total;
+        Ok(())
+    }
+
     /// The baskets in the order in which they were added.
     pub fn baskets(&self) -> &[Weighted]
         ensures baskets { result.now ≡ self.now }

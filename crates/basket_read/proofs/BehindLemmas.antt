@@ -1,0 +1,151 @@
+-- A text behind whole lines.
+use Rattle.std.proofs.Common.{◌≡◌, ℕ, ◌+◌, Bool, true, ◌&&◌, List, [], ◌∷◌, ◌++◌, length, cond, fold, Option, Some, None, refl, sym, ap, ◌∙◌, subst, append_assoc, arith, ◌≤◌, false}
+use Rattle.std.specs.List.{list_all, flat_map}
+use Rattle.std.specs.Option.{option_map}
+use Rattle.std.proofs.lemmas.Bool.{and_parts}
+use Rattle.std.proofs.lemmas.Grind.{flat_map-append}
+use Rattle.std.proofs.lemmas.List.{append-nil, length-append}
+use Rattle.std.proofs.lemmas.List.Folds.{list_all-append}
+use Rattle.std.proofs.lemmas.List.Sums.{fold-append}
+use Rattle.basket_sets.specs.declared.weighted.Weighted.{Weighted}
+use Rattle.basket_sets.specs.Database.{MOST_BASKETS}
+use Rattle.basket_sets.specs.Minimum.{is_digit}
+use Rattle.basket_read.specs.declared.fault.ReadFault.{ReadFault}
+use Rattle.basket_read.specs.declared.fault.ReadFault.TheVariants.{Byte, Number}
+use Rattle.basket_read.specs.declared.text.Text.{Text}
+use Rattle.basket_read.specs.Cut.{Cut, cut_at, cut_more}
+use Rattle.basket_read.specs.Fimi.{is_line_feed, is_line, is_good, basket_of, baskets_of, line_after, fault_at, fault_after, first_fault, or_else, MOST_BYTES}
+use Rattle.basket_read.specs.Line.{line_state, line_at}
+use Rattle.basket_read.specs.Text.{HasBaskets, IsTextSoFar, HasRoomFor}
+use Rattle.basket_read.specs.Laws.{counted_on, SaysBoth, LinesSayTheirs}
+use Rattle.basket_read.proofs.CutLemmas.{cut}
+use Rattle.basket_read.proofs.RoomLemmas.{merely_at_most, ended_after, baskets_after}
+use Rattle.basket_read.proofs.TextLemmas.{found, first_fault_behind, first_fault_stays, good-from_faultless}
+
+-- parts that have ended before
+abbrev behind : List (List ℕ) → Cut → Cut
+behind ended k = cut (ended ++ k.ended) k.last
+
+fold_behind : (p : ℕ → Bool) (before ended : List (List ℕ)) (last xs : List ℕ)
+    → fold (cut_more p) (cut (before ++ ended) last) xs ≡ behind before (fold (cut_more p) (cut ended last) xs)
+fold_behind p before ended last [] = refl
+fold_behind p before ended last (x ∷ xs) =
+    at (p x)
+    (ap (λ e. fold (cut_more p) (cut e []) xs) (append_assoc before ended (last ∷ [])) ∙ fold_behind p before (ended ++ last ∷ []) [] xs)
+    (fold_behind p before ended (last ++ x ∷ []) xs)
+  where
+    at : (b : Bool)
+        → fold (cut_more p) (cut ((before ++ ended) ++ last ∷ []) []) xs ≡ behind before (fold (cut_more p) (cut (ended ++ last ∷ []) []) xs)
+        → fold (cut_more p) (cut (before ++ ended) (last ++ x ∷ [])) xs ≡ behind before (fold (cut_more p) (cut ended (last ++ x ∷ [])) xs)
+        → fold (cut_more p) (cond b (cut ((before ++ ended) ++ last ∷ []) []) (cut (before ++ ended) (last ++ x ∷ []))) xs
+        ≡ behind before (fold (cut_more p) (cond b (cut (ended ++ last ∷ []) []) (cut ended (last ++ x ∷ []))) xs)
+    at true ends joins = ends
+    at false ends joins = joins
+
+module _ (front : List ℕ) (whole : (cut_at is_line_feed front).last ≡ []) where
+  abbrev lines : List (List ℕ)
+  lines = (cut_at is_line_feed front).ended
+
+  pub cut_behind : (rest : List ℕ) → cut_at is_line_feed (front ++ rest) ≡ behind lines (cut_at is_line_feed rest)
+  cut_behind rest =
+      fold-append (cut_more is_line_feed) (cut [] []) front rest
+      ∙ ap (λ last. fold (cut_more is_line_feed) (cut lines last) rest) whole
+      ∙ ap (λ e. fold (cut_more is_line_feed) (cut e []) rest) (sym (append-nil lines))
+      ∙ fold_behind is_line_feed lines [] [] rest
+
+  baskets_front : baskets_of front ≡ flat_map basket_of lines
+  baskets_front =
+      ap (λ last. flat_map basket_of (lines ++ last ∷ [])) whole ∙ flat_map-append basket_of lines ([] ∷ []) ∙ append-nil (flat_map basket_of lines)
+
+  baskets_behind : (rest : List ℕ) → baskets_of (front ++ rest) ≡ baskets_of front ++ baskets_of rest
+  baskets_behind rest =
+      let k = cut_at is_line_feed rest in
+      ap (λ (j : Cut). flat_map basket_of (j.ended ++ j.last ∷ [])) (cut_behind rest)
+      ∙ ap (flat_map basket_of) (append_assoc lines k.ended (k.last ∷ []))
+      ∙ flat_map-append basket_of lines (k.ended ++ k.last ∷ [])
+      ∙ ap (λ l. l ++ baskets_of rest) (sym baskets_front)
+
+  module _ (good : is_good front ≡ true) where
+    good_behind : (rest : List ℕ) → is_good (front ++ rest) ≡ is_good rest
+    good_behind rest =
+        let k = cut_at is_line_feed rest in
+        let lines_good = (and_parts (list_all is_line lines) _ (sym (list_all-append is_line lines ((cut_at is_line_feed front).last ∷ [])) ∙ good)).0 in
+        ap (λ (j : Cut). list_all is_line (j.ended ++ j.last ∷ [])) (cut_behind rest)
+        ∙ ap (list_all is_line) (append_assoc lines k.ended (k.last ∷ []))
+        ∙ list_all-append is_line lines (k.ended ++ k.last ∷ [])
+        ∙ ap (λ b. b && is_good rest) lines_good
+
+    line_behind : (before : List ℕ) → line_after (front ++ before) ≡ length lines + line_after before
+    line_behind before =
+        let k = cut_at is_line_feed before in
+        let sum = length-append lines k.ended in
+        let same = ap (λ (j : Cut). length j.ended) (cut_behind before) in
+        omega (arith, sum, same)
+
+    fault_at_behind : (before : List ℕ) (byte : ℕ) → fault_at (front ++ before) byte ≡ counted_on (length lines) (fault_at before byte)
+    fault_at_behind before byte = ap (λ n. cond (is_digit byte) (Number n) (Byte n byte)) (line_behind before) ∙ at (is_digit byte)
+      where
+        at : (b : Bool)
+            → cond b (Number (length lines + line_after before)) (Byte (length lines + line_after before) byte)
+            ≡ counted_on (length lines) (cond b (Number (line_after before)) (Byte (line_after before) byte))
+        at true = refl
+        at false = refl
+
+    fault_behind : (before rest : List ℕ) → fault_after (front ++ before) rest ≡ option_map (counted_on (length lines)) (fault_after before rest)
+    fault_behind before [] = refl
+    fault_behind before (byte ∷ rest) =
+        let longer = append_assoc front before (byte ∷ []) in
+        (λ i. found ((ap is_good longer ∙ good_behind (before ++ byte ∷ [])) i) ((ap (λ l. fault_after l rest) longer ∙ fault_behind (before ++ byte ∷ []) rest) i) (fault_at_behind before byte i))
+        ∙ at (is_good (before ++ byte ∷ [])) (fault_after (before ++ byte ∷ []) rest) (fault_at before byte)
+      where
+        at : (b : Bool) (later : Option ReadFault) (fault : ReadFault)
+            → found b (option_map (counted_on (length lines)) later) (counted_on (length lines) fault) ≡ option_map (counted_on (length lines)) (found b later fault)
+        at true later fault = refl
+        at false later fault = refl
+
+pub lines_say_theirs : LinesSayTheirs
+lines_say_theirs front rest whole = record {
+  baskets = baskets_behind front whole rest;
+  fault = at (first_fault front) refl (option_map (counted_on (length (cut_at is_line_feed front).ended)) (first_fault rest))
+      (λ none. ap (λ l. fault_after l rest) (sym (append-nil front)) ∙ fault_behind front whole (good-from_faultless front none) [] rest);
+}
+  where
+    at : (fault : Option ReadFault) → first_fault front ≡ fault → (later : Option ReadFault) → (first_fault front ≡ None → fault_after front rest ≡ later)
+        → first_fault (front ++ rest) ≡ or_else (first_fault front) later
+    at (Some fault) e later goes_on = first_fault_stays front rest fault e ∙ ap (λ f. or_else f later) (sym e)
+    at None e later goes_on = first_fault_behind front rest e ∙ goes_on e ∙ ap (λ f. or_else f later) (sym e)
+
+-- ---- two texts that were read
+
+pub texts_joined : (text other new : Text) (past : List Weighted) (bytes more : List ℕ) → IsTextSoFar text past bytes → (cut_at is_line_feed bytes).last ≡ [] → IsTextSoFar other [] more
+    → new.lines ≡ text.lines + other.lines → new.past_weight ≡ text.past_weight → line_state new.line ≡ line_state other.line
+    → HasBaskets new.heavy (past ++ new.baskets) (flat_map basket_of (cut_at is_line_feed bytes).ended ++ flat_map basket_of (cut_at is_line_feed more).ended)
+    → IsTextSoFar new past (bytes ++ more)
+texts_joined text other new past bytes more t whole o lines weight line baskets =
+    let a = (cut_at is_line_feed bytes).ended in
+    let k = cut_at is_line_feed more in
+    let joined = cut_behind bytes whole more in
+    record {
+      faultless =
+          (lines_say_theirs bytes more whole).fault
+          ∙ (λ i. or_else (t.faultless i) (option_map (counted_on (length a)) (o.faultless i)));
+      lines = let sum = length-append a k.ended in let same = ap (λ (j : Cut). length j.ended) joined in omega (arith, lines, t.lines, o.lines, sum, same);
+      baskets = subst (HasBaskets new.heavy (past ++ new.baskets)) (sym (flat_map-append basket_of a k.ended) ∙ ap (λ (j : Cut). flat_map basket_of j.ended) (sym joined)) baskets;
+      past_weight = weight ∙ t.past_weight;
+      line = line ∙ o.line ∙ ap (λ (j : Cut). line_at j.last) (sym joined);
+    }
+
+-- of so few bytes they have few lines and few baskets together
+pub few_joined : (text other : Text) → HasRoomFor text other → text.lines + other.lines ≤ MOST_BYTES
+few_joined text other room =
+    merely_at_most (text.lines + other.lines) MOST_BYTES room
+    (λ w. let t = w.3.lines in let o = w.4.lines in let a = ended_after is_line_feed (cut [] []) w.1 in let b = ended_after is_line_feed (cut [] []) w.2 in let small = w.5 in omega arith)
+
+pub few_baskets_joined : (text other : Text) → HasRoomFor text other → text.heavy ≡ false → other.heavy ≡ false → length text.baskets + length other.baskets ≤ MOST_BASKETS
+few_baskets_joined text other room light light_other =
+    merely_at_most (length text.baskets + length other.baskets) MOST_BASKETS room
+    (λ w.
+    let same = subst (λ b. HasBaskets b (w.0 ++ text.baskets) (flat_map basket_of (cut_at is_line_feed w.1).ended)) light w.3.baskets in
+    let also = subst (λ b. HasBaskets b other.baskets (flat_map basket_of (cut_at is_line_feed w.2).ended)) light_other w.4.baskets in
+    let few = baskets_after (cut [] []) w.1 in let few_other = baskets_after (cut [] []) w.2 in let small = w.5 in
+    let long = ap length same.0 in let long_other = ap length also.0 in let parts = length-append w.0 text.baskets in omega arith)
