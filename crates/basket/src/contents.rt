@@ -12,10 +12,11 @@ use basket_counts::read_counts;
 use basket_csv::{Dialect, Names, read_baskets, read_named_counts, read_single};
 use basket_parts::Together;
 use basket_plan::{Form, Layout};
-use basket_read::{ReadFault, read_fimi};
+use basket_read::{ReadFault, read_fimi_shared};
 use basket_report::Style;
 use std::alloc::Global;
 use std::random::RandomSource;
+use std::thread::Threads;
 
 /// What an input says, and of CSV the names of its items.
 #[derive(Debug, Drop)]
@@ -26,12 +27,13 @@ pub enum Contents {
 }
 
 impl Contents {
-    /// Reads an input to its end. In CSV the known names have the first numbers.
-    pub fn read<R: RandomSource, S: Source>(
+    /// Reads an input to its end, FIMI by so many workers. In CSV the known names have the first numbers.
+    pub fn read<R: RandomSource + Threads + Sync, S: Source>(
         rt: &R,
         alloc: Global,
         layout: Layout,
         known: Names,
+        workers: u32,
         reader: &mut S,
     ) -> Result<Self, ReadFault>
         requires { S.has_failed reader.old ≡ false }
@@ -45,7 +47,7 @@ impl Contents {
             header: layout.header,
         };
         match layout.form {
-            Form::Fimi => numbered(read_fimi(alloc, reader)),
+            Form::Fimi => numbered(read_fimi_shared(rt, alloc, reader, workers)),
             Form::Baskets => named(read_baskets(
                 rt,
                 alloc,

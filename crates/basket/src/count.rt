@@ -75,7 +75,7 @@ fn counts<R: RandomSource + Threads + Sync, S: Source, T: Source>(
         Ok(asked) => asked,
         Err(fault) => return Err(RunFault::Sets(fault)),
     };
-    let contents = match Contents::read(rt, alloc, plan.layout(), names, reader) {
+    let contents = match Contents::read(rt, alloc, plan.layout(), names, plan.workers(), reader) {
         Ok(contents) => contents,
         Err(fault) => return Err(RunFault::Input(fault)),
     };

@@ -11,6 +11,7 @@ use basket_plan::Plan;
 use basket_read::ReadFault;
 use std::alloc::Global;
 use std::random::RandomSource;
+use std::thread::Threads;
 
 /// What an input says, and of CSV the names of its items.
 #[derive(Debug, Drop)]
@@ -22,7 +23,7 @@ pub enum Input {
 
 impl Input {
     /// Reads an input to its end, in the plan's layout.
-    pub fn read<R: RandomSource, S: Source>(
+    pub fn read<R: RandomSource + Threads + Sync, S: Source>(
         rt: &R,
         alloc: Global,
         plan: &Plan,
@@ -35,7 +36,8 @@ impl Input {
         ensures read_is_failed { result_said result ≡ Err ReadFault.Read → S.has_failed reader.new ≡ true }
         ensures whole { IfOk result (IsWholeInput plan.now.question.ask) }
     {
-        match Contents::read(rt, alloc, plan.layout(), Names::none(alloc), reader) {
+        let names = Names::none(alloc);
+        match Contents::read(rt, alloc, plan.layout(), names, plan.workers(), reader) {
             Ok(contents) => Input::of(alloc, plan, contents),
             Err(fault) => Err(fault),
         }

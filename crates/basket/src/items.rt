@@ -12,7 +12,7 @@ use crate::made::Made;
 use crate::mining::cutting;
 use basket_core::{MineFault, Source, add_counts};
 use basket_plan::{Ask, Form, Plan};
-use basket_read::{ItemCounts, count_fimi};
+use basket_read::{ItemCounts, count_fimi_shared};
 use basket_report::{Style, items_report};
 use mine_phases::{Open, count_shared};
 use std::alloc::{AllocError, Global};
@@ -30,7 +30,7 @@ pub fn report_items<R: Threads + Sync, S: Source>(
     requires lines { plan.now.question.layout.form ≡ Form.Fimi }
     ensures { MakesReport plan.now.question (S.left reader.old) (S.left reader.new) (S.has_failed reader.new) result }
 {
-    let counts = match count_fimi(alloc, reader) {
+    let counts = match count_fimi_shared(rt, alloc, reader, plan.workers()) {
         Ok(counts) => counts,
         Err(fault) => return Err(RunFault::Input(fault)),
     };

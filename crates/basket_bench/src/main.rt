@@ -1,27 +1,32 @@
-//! The stage bench: how long each stage of `basket sets` takes over a FIMI input, and how long each
-//! miner takes with one, two and four workers.
+//! The stage bench: how long each stage of `basket sets` takes over a FIMI input with one, two and four
+//! workers, by the calls that the program makes.
 #![tactic(auto)]
 
-mod shared;
 mod stage;
 
 use anyhow::Context;
-use basket::{Ask, Plan};
-use basket_core::{Coded, Database, Frequent, MemSource, Minimum, parse_minimum};
-use basket_read::read_fimi;
+use basket::{Ask, Miner, Open, Plan, SliceSource, mine};
+use basket_core::{Coded, Database, parse_minimum};
+use basket_read::read_fimi_shared;
 use basket_report::{Style, sets_report};
-use mine_apriori::Levels;
-use shared::print_miners;
-use stage::{Times, print_stages};
+use mine_phases::{Cutting, count_shared, runs_shared};
+use stage::print_stage;
 use std::io::Read;
 use std::thread::Threads;
-use std::time::{Duration, Instant};
 use std::{env, fs};
 
 const USAGE: &str = "usage: basket_bench MINIMUM RUNS < INPUT
-Times reading, coding, Apriori, the list and the report of a FIMI input, so many times over, and
-from the baskets to the list each miner by 1, 2 and 4 workers.
+Times reading, counting the items, putting the coded baskets in order, each miner with its list, and the
+report of a FIMI input, each by 1, 2 and 4 workers, so many times over.
 ";
+
+const MINERS: [(&str, Miner); 5] = [
+    ("apriori", Miner::Apriori),
+    ("eclat", Miner::Eclat),
+    ("eclat-diff", Miner::EclatDiff),
+    ("eclat-bits", Miner::EclatBits),
+    ("fpgrowth", Miner::FpGrowth),
+];
 
 fn main(rt: HostRuntime) -> anyhow::Result<()> {
     let words: Vec<String> = env::args(&rt)?.skip(1).collect(rt.alloc())?;
@@ -41,8 +46,8 @@ fn main(rt: HostRuntime) -> anyhow::Result<()> {
     }
 }
 
-/// Takes standard input in, runs the stages over it, and prints their times. The workers are threads
-/// of the second runtime.
+/// Takes standard input in, and prints the times of the stages over it. The workers are threads of the
+/// second runtime.
 fn bench<R: Threads + Sync>(
     rt: &HostRuntime,
     threads: &R,
@@ -51,15 +56,10 @@ fn bench<R: Threads + Sync>(
 ) -> anyhow::Result<()> {
     let mut input = Vec::new(rt.alloc());
     rt.stdin().read_to_end(&mut input)?;
-    let mut all = Vec::new(rt.alloc());
-    for _ in 0..runs {
-        all.push(timed(rt, &input, plan.minimum())?)?;
+    let database = read(rt, threads, &input, 1)?;
+    for plan in [plan, plan.with_workers(2), plan.with_workers(4)] {
+        print_stages(rt, threads, &input, &database, plan, runs)?;
     }
-    print_stages(rt, &all)?;
-    let database = read_fimi(rt.alloc(), &mut MemSource::new(&input, usize::MAX, None)).context(
-        "the input was not read",
-    )?;
-    print_miners(rt, threads, &database, plan, runs)?;
     if let Ok(status) = fs::read_to_string(rt, "/proc/self/status") {
         // The most memory that the process has had.
         for line in status
@@ -73,51 +73,52 @@ fn bench<R: Threads + Sync>(
     Ok(())
 }
 
-/// Runs each stage once.
-fn timed(rt: &HostRuntime, input: &[u8], minimum: Minimum) -> anyhow::Result<Times> {
-    let (database, read) = timed_read(rt, input)?;
-    let (coded, code) = timed_code(rt, &database, minimum)?;
-    let (frequent, apriori, list) = timed_search(rt, &coded)?;
-    let report = timed_report(rt, &frequent)?;
-    Ok(Times {
-        read,
-        code,
-        apriori,
-        list,
-        report,
+/// Prints the times of the stages by the workers of the plan.
+fn print_stages<R: Threads + Sync>(
+    rt: &HostRuntime,
+    threads: &R,
+    input: &[u8],
+    database: &Database,
+    plan: Plan,
+    runs: u32,
+) -> anyhow::Result<()> {
+    let workers = plan.workers();
+    let cutting = Cutting::new(workers, plan.pieces());
+    print_stage(rt, "read", workers, runs, || {
+        read(rt, threads, input, workers)?;
+        Ok(())
+    })?;
+    print_stage(rt, "count", workers, runs, || {
+        count_shared(threads, rt.alloc(), database.baskets(), cutting, &Open)?;
+        Ok(())
+    })?;
+    let coded = Coded::of(rt.alloc(), database, plan.minimum())?;
+    print_stage(rt, "order", workers, runs, || {
+        runs_shared(threads, rt.alloc(), &coded, cutting)?;
+        Ok(())
+    })?;
+    for (name, miner) in MINERS {
+        let plan = plan.with_miner(miner);
+        print_stage(rt, name, workers, runs, || {
+            mine(threads, rt.alloc(), database, &plan, &Open).context("the sets were not found")?;
+            Ok(())
+        })?;
+    }
+    let (frequent, _) =
+        mine(threads, rt.alloc(), database, &plan, &Open).context("the sets were not found")?;
+    print_stage(rt, "report", workers, runs, || {
+        sets_report(rt.alloc(), frequent.sets(), Style::Numbers)?;
+        Ok(())
     })
 }
 
-fn timed_read(rt: &HostRuntime, input: &[u8]) -> anyhow::Result<(Database, Duration)> {
-    let start = Instant::now(rt)?;
-    let database = read_fimi(rt.alloc(), &mut MemSource::new(input, usize::MAX, None)).context(
-        "the input was not read",
-    )?;
-    Ok((database, start.elapsed(rt)?))
-}
-
-fn timed_code(
+/// The baskets of the bytes.
+fn read<R: Threads + Sync>(
     rt: &HostRuntime,
-    database: &Database,
-    minimum: Minimum,
-) -> anyhow::Result<(Coded, Duration)> {
-    let start = Instant::now(rt)?;
-    let coded = Coded::of(rt.alloc(), database, minimum)?.merged(rt.alloc())?;
-    Ok((coded, start.elapsed(rt)?))
-}
-
-/// The list, how long the search took, and how long the list.
-fn timed_search(rt: &HostRuntime, coded: &Coded) -> anyhow::Result<(Frequent, Duration, Duration)> {
-    let start = Instant::now(rt)?;
-    let levels = Levels::searched(rt.alloc(), coded, u32::MAX).context("the sets were not found")?;
-    let apriori = start.elapsed(rt)?;
-    let start = Instant::now(rt)?;
-    let frequent = levels.finish(rt.alloc()).context("the list was not made")?;
-    Ok((frequent, apriori, start.elapsed(rt)?))
-}
-
-fn timed_report(rt: &HostRuntime, frequent: &Frequent) -> anyhow::Result<Duration> {
-    let start = Instant::now(rt)?;
-    let _report = sets_report(rt.alloc(), frequent.sets(), Style::Numbers)?;
-    Ok(start.elapsed(rt)?)
+    threads: &R,
+    input: &[u8],
+    workers: u32,
+) -> anyhow::Result<Database> {
+    let read = read_fimi_shared(threads, rt.alloc(), &mut SliceSource::new(input), workers);
+    Ok(read.context("the input was not read")?)
 }

@@ -10,16 +10,16 @@ use Rattle.basket.proofs.ContentsLemmas.{fails, fimi_fails, from_csv, from_fimi,
 use Rattle.basket.proofs.contents.Contents.read.Goals as goal
 
 pub returns-in-Fimi-clause-exact : goal.returns-in-Fimi-clause-exact
-returns-in-Fimi-clause-exact g c working = rw (c.numbered.ensures, c.in-Fimi.is) (says (λ a. contents.Baskets a None) (g.S.Source.left c.args.reader.now) fimi_of c.read_fimi.result (from_fimi (g.S.Source.left c.args.reader.now) fimi_of c.read_fimi.result (c.read_fimi.ensures.exact working)))
+returns-in-Fimi-clause-exact g c working = rw (c.numbered.ensures, c.in-Fimi.is) (says (λ a. contents.Baskets a None) (g.S.Source.left c.args.reader.now) fimi_of c.read_fimi_shared.result (from_fimi (g.S.Source.left c.args.reader.now) fimi_of c.read_fimi_shared.result (c.read_fimi_shared.ensures.exact working)))
 
 pub returns-in-Fimi-clause-failed : goal.returns-in-Fimi-clause-failed
-returns-in-Fimi-clause-failed g c failed = rw (c.numbered.ensures, c.in-Fimi.is) (fimi_fails (λ a. contents.Baskets a None) (g.S.Source.left c.args.reader.now) (g.S.Source.left c.read_fimi.new.reader) c.read_fimi.result (c.read_fimi.ensures.failed failed))
+returns-in-Fimi-clause-failed g c failed = rw (c.numbered.ensures, c.in-Fimi.is) (fimi_fails (λ a. contents.Baskets a None) (g.S.Source.left c.args.reader.now) (g.S.Source.left c.read_fimi_shared.new.reader) c.read_fimi_shared.result (c.read_fimi_shared.ensures.failed failed))
 
 pub returns-in-Fimi-clause-failed_is_err : goal.returns-in-Fimi-clause-failed_is_err
-returns-in-Fimi-clause-failed_is_err g c failed = rw c.numbered.ensures (still_err (λ a. contents.Baskets a None) c.read_fimi.result (c.read_fimi.ensures.failed_is_err failed))
+returns-in-Fimi-clause-failed_is_err g c failed = rw c.numbered.ensures (still_err (λ a. contents.Baskets a None) c.read_fimi_shared.result (c.read_fimi_shared.ensures.failed_is_err failed))
 
 pub returns-in-Fimi-clause-read_is_failed : goal.returns-in-Fimi-clause-read_is_failed
-returns-in-Fimi-clause-read_is_failed g c is = c.read_fimi.ensures.read_is_failed (still_read (λ a. contents.Baskets a None) c.read_fimi.result (sym c.numbered.ensures ∙ is))
+returns-in-Fimi-clause-read_is_failed g c is = c.read_fimi_shared.ensures.read_is_failed (still_read (λ a. contents.Baskets a None) c.read_fimi_shared.result (sym c.numbered.ensures ∙ is))
 
 pub returns-in-Baskets-clause-exact : goal.returns-in-Baskets-clause-exact
 returns-in-Baskets-clause-exact g c working = rw (c.named.ensures, c.in-Baskets.is) (says (λ both. contents.Baskets both.0 (Some both.1)) (g.S.Source.left c.args.reader.now) (λ bytes. baskets_of_csv c.args.layout.separator c.args.layout.header c.args.layout.weighted c.args.known bytes) c.read_baskets.result (from_csv (g.S.Source.left c.args.reader.now) (λ bytes. baskets_of_csv c.args.layout.separator c.args.layout.header c.args.layout.weighted c.args.known bytes) c.read_baskets.result (c.read_baskets.ensures.exact working)))
