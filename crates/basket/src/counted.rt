@@ -24,13 +24,12 @@ pub fn listing(alloc: Global, plan: &Plan, together: &Together) -> Result<Freque
     ensures not_read { result ≢ Err ReadFault.Read }
     ensures whole { IfOk result (IsWhole plan.now.question.ask) }
 {
-    let minimum = plan.minimum();
-    if needs_total(plan.ask(), minimum) && together.total().is_none() {
+    if needs_total(plan.ask(), plan.minimum()) && together.total().is_none() {
         return Err(ReadFault::NoTotal);
     }
     match gap(alloc, plan, together)? {
         Some(fault) => Err(fault),
-        None => Ok(together.frequent(alloc, minimum)?),
+        None => Ok(together.frequent(alloc, plan.minimum())?),
     }
 }
 

@@ -18,14 +18,14 @@ impl Together {
         let lines = self.lines();
         know_rising(lines);
         let total = self.weight();
-        let sets = frequent_sets(alloc, lines, minimum, total)?;
+        let sets = frequent_sets(alloc, lines, &minimum, total)?;
         Ok(Frequent::of_counted(sets, total))
     }
 }
 
 /// Whether the line's set has an item, and its count meets the minimum.
-pub fn is_frequent(line: &CountedLine, minimum: Minimum, total: u64) -> bool
-    ensures { result ≡ is_frequent_line minimum total line.now }
+pub fn is_frequent(line: &CountedLine, minimum: &Minimum, total: u64) -> bool
+    ensures { result ≡ is_frequent_line minimum.now total line.now }
 {
     !line.set.is_empty() && minimum.met(line.count, total)
 }
@@ -33,10 +33,10 @@ pub fn is_frequent(line: &CountedLine, minimum: Minimum, total: u64) -> bool
 fn frequent_sets(
     alloc: Global,
     lines: &[CountedLine],
-    minimum: Minimum,
+    minimum: &Minimum,
     total: u64,
 ) -> Result<CountedSets, AllocError>
-    ensures { IfOk result (λ sets. sets ≡ map counted_of (filter (is_frequent_line minimum total) lines.now)) }
+    ensures { IfOk result (λ sets. sets ≡ map counted_of (filter (is_frequent_line minimum.now total) lines.now)) }
 {
     let mut sets = CountedSets::empty(alloc);
     for line in lines {

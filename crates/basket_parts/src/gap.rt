@@ -21,7 +21,7 @@ impl Together {
         let total = self.weight();
         let mut subset = Vec::new(alloc);
         for line in self.lines() {
-            if is_frequent(line, minimum, total) && self.has_gap(line, &mut subset)? {
+            if is_frequent(line, &minimum, total) && self.has_gap(line, &mut subset)? {
                 return Ok(Some(ReadFault::Subset { line: line.line }));
             }
         }
