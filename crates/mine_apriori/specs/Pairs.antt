@@ -53,8 +53,3 @@ all_lesser lists = map (lesser_from 0 lists) (range_with_len 0 (length lists))
 -- the ranks of some pairs are below a number
 abbrev pub AreBelow : ℕ → List (ℕ × ℕ) → Type 0
 AreBelow count pairs = AllBelow count (map (λ pair. pair.0) pairs)
-
--- baskets that give each set the same support have the same pairs
-abbrev pub PairsBySupports : Type 0
-PairsBySupports = (baskets others : List Weighted) (least count : ℕ) → ((set : List ℕ) → support_of baskets set ≡ support_of others set)
-    → pairs_by_greater baskets least count ≡ pairs_by_greater others least count

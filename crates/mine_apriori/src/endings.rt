@@ -5,7 +5,7 @@ ghost use Rattle.mine_apriori.specs.Endings.{AreEndings, ending_of};
 ghost use Rattle.mine_apriori.specs.Join.{without};
 ghost use Rattle.mine_apriori.specs.Sizes.{AreOfOneSize};
 
-use crate::used::{mark, no_items};
+use crate::used::{KNOWN_ITEMS, mark, no_items};
 use basket_core::Itemset;
 use std::alloc::{AllocError, Global};
 
@@ -43,7 +43,7 @@ pub fn endings(alloc: Global, sets: &[Itemset]) -> Result<Vec<bool>, AllocError>
     requires { AreOfOneSize sets.now }
     ensures { IfOk result (λ table. AreEndings sets.now table.items) }
 {
-    let mut table = no_items(alloc)?;
+    let mut table = no_items(alloc, KNOWN_ITEMS)?;
     for set in sets {
         mark(&mut table, &[ending_of(set.items())]);
     }

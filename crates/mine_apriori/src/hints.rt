@@ -88,6 +88,11 @@ impl Hints {
         Ok(())
     }
 
+    /// The table of the run from a leaf up to another.
+    pub fn table_of_leaves(&self, leaves: &[u32], start: usize, end: usize) -> Table<'_> {
+        self.table(self.bounds.len().saturating_sub(1), leaves, start, end)
+    }
+
     /// The table of the run of a depth from a node up to another.
     pub fn table(&self, depth: usize, items: &[u32], start: usize, end: usize) -> Table<'_> {
         if end.saturating_sub(start) < LONG_RUN {

@@ -13,6 +13,13 @@ use crate::used::may_be_used;
 use basket_core::Itemset;
 use std::alloc::{AllocError, Global};
 
+/// Sets of one size, and the table of their endings.
+#[derive(Clone, Copy, Debug)]
+struct Level<'a> {
+    sets: &'a [Itemset],
+    endings: &'a [bool],
+}
+
 /// The sets of one more item all of whose subsets of the sets' size are in the list, in report
 /// order (Agrawal and Srikant 1994).
 pub fn candidates(alloc: Global, sets: &[Itemset]) -> Result<Vec<Itemset>, AllocError>
@@ -24,17 +31,13 @@ pub fn candidates(alloc: Global, sets: &[Itemset]) -> Result<Vec<Itemset>, Alloc
     let mut joined = Vec::new(alloc);
     let size = sets.first().map_or(0, |set| set.len());
     let mut hints = vec![in alloc; 0; size]?;
-    let table = endings(alloc, sets)?;
+    let endings = endings(alloc, sets)?;
+    let level = Level {
+        sets,
+        endings: &endings,
+    };
     for place in 0..sets.len() {
-        join_later(
-            alloc,
-            sets,
-            place,
-            &table,
-            &mut joined,
-            &mut hints,
-            &mut found,
-        )?;
+        join_later(alloc, level, place, &mut joined, &mut hints, &mut found)?;
     }
     Ok(found)
 }
@@ -45,21 +48,21 @@ pub fn candidates(alloc: Global, sets: &[Itemset]) -> Result<Vec<Itemset>, Alloc
 /// joins lack the subset without the first item, which the endings tell without a search.
 fn join_later(
     alloc: Global,
-    sets: &[Itemset],
+    level: Level<'_>,
     place: usize,
-    endings: &[bool],
     joined: &mut Vec<u32>,
     hints: &mut [usize],
     found: &mut Vec<Itemset>,
 ) -> Result<(), AllocError>
-    requires within { place < length sets.now }
-    requires endings { AreEndings sets.now endings.now }
-    requires hinted { length (slice_index_or sets.now place []) ≤ length hints.old }
-    requires joinable { AreJoinable (length (slice_index_or sets.now place []) - 1) sets.now }
-    ensures joins { let set = slice_index_or sets.now place [] in
-        OnOk result (found.new.items ≡ found.old.items ++ joined_with (length set - 1) sets.now set (drop (place + 1) sets.now)) }
-    ensures rises { IsRising (slice_index_or sets.now place []) }
+    requires within { place < length level.sets.now }
+    requires endings { AreEndings level.sets.now level.endings.now }
+    requires hinted { length (slice_index_or level.sets.now place []) ≤ length hints.old }
+    requires joinable { AreJoinable (length (slice_index_or level.sets.now place []) - 1) level.sets.now }
+    ensures joins { let set = slice_index_or level.entry.sets.now place [] in
+        OnOk result (found.new.items ≡ found.old.items ++ joined_with (length set - 1) level.entry.sets.now set (drop (place + 1) level.entry.sets.now)) }
+    ensures rises { IsRising (slice_index_or level.entry.sets.now place []) }
 {
+    let sets = level.sets;
     let set = sets[place].items();
     let later = &sets[place + 1..];
     let last = set.len() - 1;
@@ -68,7 +71,7 @@ fn join_later(
         if other[..last] != set[..last] {
             return Ok(());
         }
-        if may_be_used(endings, ending_with(set, other[last])) {
+        if may_be_used(level.endings, ending_with(set, other[last])) {
             fill(joined, set, other[last])?;
             if has_all_subsets(sets, joined, hints) {
                 found.push(Itemset::from_items(alloc, joined)?)?;

@@ -1,7 +1,6 @@
 //! Laws on the definitions, for whoever proves a miner. Each is a function that does nothing: its
 //! contract is the law.
 ghost use Rattle.mine_apriori.specs.Candidates.{CandidatesAreExact, CandidatesAreInReportOrder, CandidatesAreOneLarger};
-ghost use Rattle.mine_apriori.specs.Pairs.{PairsBySupports};
 ghost use Rattle.mine_apriori.specs.Work.{CandidatesBySets};
 
 /// The candidates of sets of one size are exactly the sets of one more item all of whose subsets
@@ -23,9 +22,4 @@ pub fn candidates_are_one_larger()
 /// Baskets with the same frequent sets have the same candidates.
 pub fn candidates_by_sets()
     ensures { CandidatesBySets }
-{}
-
-/// Baskets that give each set the same support have the same pairs.
-pub fn pairs_by_supports()
-    ensures { PairsBySupports }
 {}

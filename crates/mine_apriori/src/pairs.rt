@@ -21,9 +21,19 @@ pub fn frequent_pairs(alloc: Global, coded: &Coded) -> Result<Vec<Vec<(u32, u64)
     if is_small_triangle(coded.ranks(), coded.baskets().len()) {
         return pairs_by_triangle(alloc, coded);
     }
+    let (runs, least) = runs_with_least(alloc, coded)?;
+    pairs_by_runs(alloc, &runs, least)
+}
+
+/// The runs of the coded baskets, and the least support that a frequent pair of them has.
+pub fn runs_with_least(alloc: Global, coded: &Coded) -> Result<(Runs, u64), AllocError>
+    ensures { IfOk result (λ found. ArePairs coded.now (pairs_by_greater found.0.baskets found.1 found.0.ranks)) }
+{
+    // The baskets of a coding are light enough for a least support.
+    let _ = coded.baskets();
     let least = coded.minimum().least(coded.total());
     let runs = Runs::of(alloc, ListBaskets::of_coded(alloc, coded)?)?;
-    pairs_by_runs(alloc, &runs, least)
+    Ok((runs, least))
 }
 
 /// The runs of the coded baskets, which keep the frequent pairs of each rank, or none where none are

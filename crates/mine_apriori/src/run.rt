@@ -7,6 +7,14 @@ ghost use Rattle.mine_apriori.specs.Used.{Tells, is_marked};
 
 use crate::hints::{Hints, Table};
 
+/// What is left of a basket on its way through a tree: items, what is marked of them, and the weight.
+#[derive(Clone, Copy, Debug)]
+pub struct Rest<'a> {
+    pub items: &'a [u32],
+    pub marks: &'a [bool],
+    pub weight: u64,
+}
+
 /// The place of an item in a rising run, or the place before which it is missing. In a run with no
 /// gaps the item stands as far behind the first as it is greater, so that place is tried first. In
 /// any run it stands there or before.
@@ -103,26 +111,25 @@ pub fn count_leaves(
     start: usize,
     end: usize,
     hints: &Hints,
-    depth: usize,
-    items: &[u32],
-    marks: &[bool],
-    weight: u64,
+    rest: Rest<'_>,
     counts: &mut [u64],
 )
     requires ordered { start ≤ end }
     requires within { end ≤ length leaves.now }
     requires run { RisesWithin leaves.now start end }
-    requires rising { IsRising items.now }
-    requires marks { (leaf : ℕ) → start ≤ leaf → leaf < end → Tells marks.now items.now (slice_index leaves.now leaf) }
+    requires rising { IsRising rest.items.now }
+    requires marks { (leaf : ℕ) → start ≤ leaf → leaf < end → Tells rest.marks.now rest.items.now (slice_index leaves.now leaf) }
     requires long { length counts.old ≡ length leaves.now }
-    requires fits { AllWithin (λ count. count + weight < 2 ^ 64) counts.old start end }
-    ensures { AddsWithin (λ leaf. has items.now (slice_index leaves.now leaf)) weight start end counts.old counts.new }
+    requires fits { AllWithin (λ count. count + rest.weight < 2 ^ 64) counts.old start end }
+    ensures { AddsWithin (λ leaf. has rest.entry.items.now (slice_index leaves.now leaf)) rest.entry.weight start end counts.old counts.new }
 {
-    if end - start <= marked_at_most(items.len()) && are_known(leaves, start, end, marks) {
-        count_marked(leaves, start, end, marks, weight, counts);
+    if end - start <= marked_at_most(rest.items.len())
+        && are_known(leaves, start, end, rest.marks)
+    {
+        count_marked(leaves, start, end, rest, counts);
     } else {
-        let table = hints.table(depth, leaves, start, end);
-        count_sparse(leaves, start, end, table, items, weight, counts);
+        let table = hints.table_of_leaves(leaves, start, end);
+        count_sparse(leaves, start, end, table, rest, counts);
     }
 }
 
@@ -137,24 +144,17 @@ pub fn are_known(nodes: &[u32], start: usize, end: usize, marks: &[bool]) -> boo
 
 /// Adds the weight at each leaf of a run whose item is marked. The marks can't be predicted, so
 /// what is added is looked up, where a compiler would turn an `if` into a branch.
-fn count_marked(
-    leaves: &[u32],
-    start: usize,
-    end: usize,
-    marks: &[bool],
-    weight: u64,
-    counts: &mut [u64],
-)
+fn count_marked(leaves: &[u32], start: usize, end: usize, rest: Rest<'_>, counts: &mut [u64])
     requires within { end ≤ length leaves.now }
-    requires known { (leaf : ℕ) → start ≤ leaf → leaf < end → slice_index leaves.now leaf < length marks.now }
+    requires known { (leaf : ℕ) → start ≤ leaf → leaf < end → slice_index leaves.now leaf < length rest.marks.now }
     requires ordered { start ≤ end }
     requires long { length counts.old ≡ length leaves.now }
-    requires fits { AllWithin (λ count. count + weight < 2 ^ 64) counts.old start end }
-    ensures { AddsWithin (λ leaf. is_marked marks.now (slice_index leaves.now leaf)) weight start end counts.old counts.new }
+    requires fits { AllWithin (λ count. count + rest.weight < 2 ^ 64) counts.old start end }
+    ensures { AddsWithin (λ leaf. is_marked rest.entry.marks.now (slice_index leaves.now leaf)) rest.entry.weight start end counts.old counts.new }
 {
-    let parts = [0, weight];
+    let parts = [0, rest.weight];
     for leaf in start..end {
-        counts[leaf] += parts[usize::from(marks[leaves[leaf] as usize])];
+        counts[leaf] += parts[usize::from(rest.marks[leaves[leaf] as usize])];
     }
 }
 
@@ -164,20 +164,19 @@ fn count_sparse(
     start: usize,
     end: usize,
     table: Table<'_>,
-    items: &[u32],
-    weight: u64,
+    rest: Rest<'_>,
     counts: &mut [u64],
 )
     requires ordered { start ≤ end }
     requires within { end ≤ length leaves.now }
     requires run { RisesWithin leaves.now start end }
-    requires rising { IsRising items.now }
+    requires rising { IsRising rest.items.now }
     requires long { length counts.old ≡ length leaves.now }
-    requires fits { AllWithin (λ count. count + weight < 2 ^ 64) counts.old start end }
-    ensures { AddsWithin (λ leaf. has items.now (slice_index leaves.now leaf)) weight start end counts.old counts.new }
+    requires fits { AllWithin (λ count. count + rest.weight < 2 ^ 64) counts.old start end }
+    ensures { AddsWithin (λ leaf. has rest.entry.items.now (slice_index leaves.now leaf)) rest.entry.weight start end counts.old counts.new }
 {
     let mut from = start;
-    for item in items {
+    for item in rest.items {
         if from == end {
             return;
         }
@@ -186,7 +185,7 @@ fn count_sparse(
             .saturating_sub(from - start);
         match find_by(&leaves[from..end], *item, hint) {
             Ok(found) => {
-                counts[from + found] += weight;
+                counts[from + found] += rest.weight;
                 from += found + 1;
             }
             Err(passed) => from += passed,

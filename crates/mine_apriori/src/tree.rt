@@ -14,8 +14,8 @@ ghost use Rattle.mine_apriori.specs.Used.{IsClear};
 
 use crate::hints::Hints;
 use crate::nodes::{Nodes, items_at, nodes_at};
-use crate::run::{are_known, count_leaves, find_by, marked_at_most};
-use crate::used::{keep_used, longest, mark, no_items, unmark, used_items};
+use crate::run::{Rest, are_known, count_leaves, find_by, marked_at_most};
+use crate::used::{keep_used, known_for, longest, mark, no_items, unmark, used_items};
 use basket_core::{Itemset, Weighted};
 use std::alloc::{AllocError, Global};
 use std::marker::Model;
@@ -30,6 +30,8 @@ pub struct CandidateTree<'a> {
     /// The last item of each set. A leaf's number is that of its set.
     leaves: Vec<u32>,
     used: Vec<bool>,
+    /// How many items the marks of a basket know.
+    known: usize,
     hints: Hints,
 }
 
@@ -65,6 +67,7 @@ impl<'a> CandidateTree<'a> {
         Ok(CandidateTree {
             sets,
             inner,
+            known: known_for(&leaves),
             leaves,
             used: used_items(alloc, sets)?,
             hints,
@@ -90,7 +93,7 @@ impl<'a> CandidateTree<'a> {
         ensures { OnOk result (WithSupports self.now baskets.now counts.old counts.new) }
     {
         let mut kept = vec![in alloc; 0; longest(baskets)]?;
-        let mut marks = no_items(alloc)?;
+        let mut marks = no_items(alloc, self.known)?;
         for place in baskets {
             self.count_basket(place, &mut kept, &mut marks, counts);
         }
@@ -114,22 +117,36 @@ impl<'a> CandidateTree<'a> {
             0 (length self.now) counts.old counts.new }
         ensures clear { IsClear marks.new }
     {
-        let items = place.basket.items();
+        let whole = Rest {
+            items: place.basket.items(),
+            marks: &[],
+            weight: place.weight,
+        };
         let roots = self.roots();
         if self.inner.len() > 1 {
             // Where the candidates are large, most baskets are left with fewer items than a set
             // has, and need no marks.
-            let len = keep_used(&self.used, items, kept);
-            let kept = &kept[..len];
+            let len = keep_used(&self.used, whole.items, kept);
+            let items = &kept[..len];
             if len <= self.inner.len() {
-                self.walk(0, 0, roots, kept, &[], place.weight, counts);
+                self.walk(0, 0, roots, Rest { items, ..whole }, counts);
                 return;
             }
-            mark(marks, kept);
-            self.walk(0, 0, roots, kept, marks, place.weight, counts);
-            unmark(marks, kept);
+            mark(marks, items);
+            self.walk(
+                0,
+                0,
+                roots,
+                Rest {
+                    items,
+                    marks,
+                    ..whole
+                },
+                counts,
+            );
+            unmark(marks, items);
         } else {
-            self.walk(0, 0, roots, items, &[], place.weight, counts);
+            self.walk(0, 0, roots, whole, counts);
         }
     }
 
@@ -151,26 +168,24 @@ impl<'a> CandidateTree<'a> {
         depth: usize,
         start: usize,
         end: usize,
-        items: &[u32],
-        marks: &[bool],
-        weight: u64,
+        rest: Rest<'_>,
         counts: &mut [u64],
     )
         requires inner { depth < leaf_depth self.now }
-        requires known { (node : ℕ) → start ≤ node → node < end → slice_index (node_items self.now depth) node < length marks.now }
+        requires known { (node : ℕ) → start ≤ node → node < end → slice_index (node_items self.now depth) node < length rest.marks.now }
         requires run { IsRun self.now depth start end }
-        requires rising { IsRising items.now }
-        requires marks { AreTold self.now depth start end items.now marks.now }
+        requires rising { IsRising rest.items.now }
+        requires marks { AreTold self.now depth start end rest.items.now rest.marks.now }
         requires long { length counts.old ≡ length self.now }
-        requires fits { AllWithin (λ count. count + weight < 2 ^ 64) counts.old (first_leaf self.now depth start) (first_leaf self.now depth end) }
-        ensures { AddsWithin (λ leaf. contains items.now (drop depth (slice_index_or self.now leaf []))) weight
+        requires fits { AllWithin (λ count. count + rest.weight < 2 ^ 64) counts.old (first_leaf self.now depth start) (first_leaf self.now depth end) }
+        ensures { AddsWithin (λ leaf. contains rest.entry.items.now (drop depth (slice_index_or self.now leaf []))) rest.entry.weight
             (first_leaf self.now depth start) (first_leaf self.now depth end) counts.old counts.new }
     {
         let nodes = &self.inner[depth];
         for node in start..end {
-            if marks[nodes.items[node] as usize] {
+            if rest.marks[nodes.items[node] as usize] {
                 let (first, behind) = (nodes.firsts[node], nodes.firsts[node + 1]);
-                self.walk(depth + 1, first, behind, items, marks, weight, counts);
+                self.walk(depth + 1, first, behind, rest, counts);
             }
         }
     }
@@ -179,48 +194,29 @@ impl<'a> CandidateTree<'a> {
     /// among the items, as the marks tell too of each item of those sets that they know. An item is
     /// looked for behind the last that was found.
     #[cycle(walk)]
-    fn walk(
-        &self,
-        depth: usize,
-        start: usize,
-        end: usize,
-        items: &[u32],
-        marks: &[bool],
-        weight: u64,
-        counts: &mut [u64],
-    )
+    fn walk(&self, depth: usize, start: usize, end: usize, rest: Rest<'_>, counts: &mut [u64])
         requires deep { depth ≤ leaf_depth self.now }
         requires run { IsRun self.now depth start end }
-        requires rising { IsRising items.now }
-        requires marks { AreTold self.now depth start end items.now marks.now }
+        requires rising { IsRising rest.items.now }
+        requires marks { AreTold self.now depth start end rest.items.now rest.marks.now }
         requires long { length counts.old ≡ length self.now }
-        requires fits { AllWithin (λ count. count + weight < 2 ^ 64) counts.old (first_leaf self.now depth start) (first_leaf self.now depth end) }
-        ensures { AddsWithin (λ leaf. contains items.now (drop depth (slice_index_or self.now leaf []))) weight
+        requires fits { AllWithin (λ count. count + rest.weight < 2 ^ 64) counts.old (first_leaf self.now depth start) (first_leaf self.now depth end) }
+        ensures { AddsWithin (λ leaf. contains rest.entry.items.now (drop depth (slice_index_or self.now leaf []))) rest.entry.weight
             (first_leaf self.now depth start) (first_leaf self.now depth end) counts.old counts.new }
     {
         let Some(nodes) = self.inner.get(depth) else {
-            count_leaves(
-                &self.leaves,
-                start,
-                end,
-                &self.hints,
-                depth,
-                items,
-                marks,
-                weight,
-                counts,
-            );
+            count_leaves(&self.leaves, start, end, &self.hints, rest, counts);
             return;
         };
         // An item with fewer behind it than a set has below the depth can't begin the rest of one.
-        let most = items.len().saturating_sub(self.inner.len() - depth);
-        if end - start <= marked_at_most(most) && are_known(&nodes.items, start, end, marks) {
-            self.walk_marked(depth, start, end, items, marks, weight, counts);
+        let most = rest.items.len().saturating_sub(self.inner.len() - depth);
+        if end - start <= marked_at_most(most) && are_known(&nodes.items, start, end, rest.marks) {
+            self.walk_marked(depth, start, end, rest, counts);
             return;
         }
         let table = self.hints.table(depth, &nodes.items, start, end);
         let mut from = start;
-        for (place, item) in items[..most].iter().enumerate() {
+        for (place, item) in rest.items[..most].iter().enumerate() {
             if from == end {
                 return;
             }
@@ -231,15 +227,8 @@ impl<'a> CandidateTree<'a> {
                 Ok(found) => {
                     let node = from + found;
                     let (first, behind) = (nodes.firsts[node], nodes.firsts[node + 1]);
-                    self.walk(
-                        depth + 1,
-                        first,
-                        behind,
-                        &items[place + 1..],
-                        marks,
-                        weight,
-                        counts,
-                    );
+                    let items = &rest.items[place + 1..];
+                    self.walk(depth + 1, first, behind, Rest { items, ..rest }, counts);
                     from = node + 1;
                 }
                 Err(passed) => from += passed,

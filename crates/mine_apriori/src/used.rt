@@ -7,7 +7,7 @@ use basket_core::{Itemset, Weighted};
 use std::alloc::{AllocError, Global};
 
 /// How many items a table knows. Greater items count as used.
-const KNOWN_ITEMS: usize = 65_536;
+pub const KNOWN_ITEMS: usize = 65_536;
 
 /// For each item below the length of the table, whether some set has it.
 pub fn used_items(alloc: Global, sets: &[Itemset]) -> Result<Vec<bool>, AllocError>
@@ -20,11 +20,20 @@ pub fn used_items(alloc: Global, sets: &[Itemset]) -> Result<Vec<bool>, AllocErr
     Ok(table)
 }
 
-/// A table with no item marked.
-pub fn no_items(alloc: Global) -> Result<Vec<bool>, AllocError>
+/// How many items a table need know for some items: those up to the greatest, as far as tables go.
+pub fn known_for(items: &[u32]) -> usize {
+    let mut known = 0usize;
+    for item in items {
+        known = known.max(*item as usize + 1);
+    }
+    known.min(KNOWN_ITEMS)
+}
+
+/// A table with no item marked, which knows so many.
+pub fn no_items(alloc: Global, known: usize) -> Result<Vec<bool>, AllocError>
     ensures { IfOk result (λ table. IsClear table.items) }
 {
-    let table = vec![in alloc; false; KNOWN_ITEMS]?;
+    let table = vec![in alloc; false; known]?;
     Ok(table)
 }
 

@@ -5,4 +5,3 @@ mod Shares
 mod SupportLemmas
 mod Mining
 mod Sharing
-mod PairParts

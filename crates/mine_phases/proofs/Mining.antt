@@ -6,10 +6,10 @@ use Rattle.std.proofs.lemmas.List.{length-append}
 use Rattle.std.proofs.lemmas.List.FromFn.{length-range_with_len}
 use Rattle.std.proofs.lemmas.List.Sums.{sum_by-append, sum_by_push}
 use Rattle.basket_ranks.specs.Codes.{Coding}
-use Rattle.basket_ranks.specs.Shards.{shard_start}
+use Rattle.basket_ranks.specs.Shards.{shard_of, shard_start}
 use Rattle.basket_sets.specs.declared.counted.Counted.{Counted}
 use Rattle.mine_classes.specs.Mined.{ListsClassItems}
-use Rattle.mine_phases.specs.Classes.{AreMined, IsClassWork, ranks_of}
+use Rattle.mine_phases.specs.Classes.{AreMined, IsClassWork}
 
 -- ---- numbers one after another
 
@@ -64,16 +64,15 @@ sum_fits f start count all below =
     let s = sum_next f start count in
     let m = sum_more f start (count + 1) all (omega arith) in omega (arith, s, m)
 
--- ---- the ranks of a piece
+-- ---- the numbers of a piece
 
-pub ranks_are : (coding : Coding) (pieces piece low high ranks : ℕ) → ranks ≡ length coding.items → low ≡ shard_start piece pieces ranks → high ≡ shard_start (piece + 1) pieces ranks
-    → low ≤ high → high ≤ ranks → ranks_of coding pieces piece ≡ range_with_len low (high - low)
-ranks_are coding pieces piece low high ranks all start end rises within =
-    let n = length coding.items in
-    let long : length (range_with_len 0 n) ≡ ranks = length-range_with_len 0 n ∙ sym all in
+pub numbers_are : (n pieces piece low high count : ℕ) → count ≡ n → low ≡ shard_start piece pieces count → high ≡ shard_start (piece + 1) pieces count
+    → low ≤ high → high ≤ count → shard_of piece pieces (range_with_len 0 n) ≡ range_with_len low (high - low)
+numbers_are n pieces piece low high count all start end rises within =
+    let long : length (range_with_len 0 n) ≡ count = length-range_with_len 0 n ∙ sym all in
     let fits : high ≤ n = omega (arith, all, within) in
     ap (λ m. slice_range (range_with_len 0 n) (shard_start piece pieces m) (shard_start (piece + 1) pieces m)) long
-    ∙ ap (λ m. slice_range (range_with_len 0 n) m (shard_start (piece + 1) pieces ranks)) (sym start)
+    ∙ ap (λ m. slice_range (range_with_len 0 n) m (shard_start (piece + 1) pieces count)) (sym start)
     ∙ ap (slice_range (range_with_len 0 n) low) (sym end)
     ∙ slice_of_range low high n rises fits
 

@@ -95,12 +95,12 @@ module _ (a b : List (ℕ × ℕ)) (front back baskets : List Weighted) (a_is : 
 
 -- ---- the counts of all parts
 
--- what the values of all pieces have is what each piece has
-pub entries_by_piece : {V X : Type 0} (entries : V → X) (of_piece : ℕ → X) (pieces : ℕ) (values : List V) → HasEach (λ piece value. entries value ≡ of_piece piece) pieces values
-    → map entries values ≡ map of_piece (range_with_len 0 pieces)
-entries_by_piece entries of_piece pieces [] has = ap (λ n. map of_piece (range_with_len 0 n)) has.count
-entries_by_piece entries of_piece pieces (first ∷ values) has =
-    fill_by_all of_piece (map entries (first ∷ values)) pieces (entries first) (length-map (first ∷ values) entries ∙ has.count)
+-- what the values of all parts have is what each part has
+pub entries_by_part : {V X : Type 0} (entries : V → X) (of_part : ℕ → X) (pieces : ℕ) (values : List V) → HasEach (λ piece value. entries value ≡ of_part piece) pieces values
+    → map entries values ≡ map of_part (range_with_len 0 pieces)
+entries_by_part entries of_part pieces [] has = ap (λ n. map of_part (range_with_len 0 n)) has.count
+entries_by_part entries of_part pieces (first ∷ values) has =
+    fill_by_all of_part (map entries (first ∷ values)) pieces (entries first) (length-map (first ∷ values) entries ∙ has.count)
     (λ piece below. get_or-map entries (first ∷ values) piece first (entries first) (let count = has.count in omega arith) ∙ has.each piece first below)
 
 -- the baskets from where a part starts to where it ends are the part
@@ -110,11 +110,11 @@ part_is baskets low high i pieces n whole start end =
     ap (λ m. slice_range baskets m high) (start ∙ ap (shard_start i pieces) whole)
     ∙ ap (slice_range baskets (shard_start i pieces (length baskets))) (end ∙ ap (shard_start (i + 1) pieces) whole)
 
-pub counts_by_piece : {V : Type 0} (entries : V → List (ℕ × ℕ)) (baskets : List Weighted) (pieces : ℕ) (values : List V) → 1 ≤ pieces
+pub counts_by_part : {V : Type 0} (entries : V → List (ℕ × ℕ)) (baskets : List Weighted) (pieces : ℕ) (values : List V) → 1 ≤ pieces
     → HasEach (λ piece value. entries value ≡ item_supports (shard_of piece pieces baskets)) pieces values → CountParts baskets (map entries values)
-counts_by_piece entries baskets pieces values some has = record {
+counts_by_part entries baskets pieces values some has = record {
   parts = map (λ piece. shard_of piece pieces baskets) (range_with_len 0 pieces);
-  counts = entries_by_piece entries (λ piece. item_supports (shard_of piece pieces baskets)) pieces values has
+  counts = entries_by_part entries (λ piece. item_supports (shard_of piece pieces baskets)) pieces values has
       ∙ sym (map-map item_supports (λ piece. shard_of piece pieces baskets) (range_with_len 0 pieces));
   whole = flat_map-map (λ part. part) (λ piece. shard_of piece pieces baskets) (range_with_len 0 pieces) ∙ shards_are_all pieces baskets some;
 }

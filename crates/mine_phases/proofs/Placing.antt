@@ -1,19 +1,25 @@
 -- Values put at the places of their pieces: each finds its place vacant, and where each piece came once, no place stays vacant.
 use Rattle.std.proofs.Common.{◌≡◌, ◌≢◌, ℕ, zero, suc, ◌+◌, ◌<◌, ◌≤◌, cond, List, [], ◌∷◌, ◌++◌, map, length, replicate, get_or, set, Option, Some, None, refl, ap, sym, ◌∙◌, inl, inr, ◌⊎◌, arith, zero-add, true}
 use Rattle.std.specs.Prelude.{◌==◌, All, IsPermutation, is_none, position, slice_get}
-use Rattle.std.specs.List.{range_with_len}
+use Rattle.std.specs.List.{flat_map, range_with_len, sum_by}
 use Rattle.std.proofs.lemmas.Bool.{cases_eq, cases_lt}
 use Rattle.std.proofs.lemmas.Bool.Decides.{nat_tests}
 use Rattle.std.proofs.lemmas.List.Sums.{sum_by-cons, sum_by-append}
-use Rattle.std.proofs.lemmas.List.Sorted.{sum_by-IsPermutation}
+use Rattle.std.proofs.lemmas.List.Concat.{flat_map-append}
+use Rattle.std.proofs.lemmas.List.Sorted.{IsPermutation-refl, sum_by-IsPermutation}
 use Rattle.std.proofs.lemmas.List.Elements.{recursion_from_All}
 use Rattle.std.proofs.lemmas.List.Quantifiers.{position-Some}
 use Rattle.std.proofs.Math.ListN.{length-set}
+use Rattle.basket_ranks.proofs.theory.Shards.{shards_are_all}
+use Rattle.basket_ranks.specs.Shards.{shard_of}
 use Rattle.basket_sets.proofs.theory.Members.{Member, at_Member}
 use Rattle.mine_round.specs.Collector.{LacksValue}
 use Rattle.mine_round.specs.Lawful.{times, once_below}
+use Rattle.mine_round.specs.SeatView.{SeatView}
+use Rattle.mine_round.specs.Totals.{HoldsNumbersBelow, claimed_by}
+use Rattle.mine_phases.specs.Pieces.{parts_of}
 use Rattle.mine_phases.specs.Placed.{HaveRoom, filled, placed}
-use Rattle.mine_phases.specs.Share.{pieces_of}
+use Rattle.mine_phases.specs.Share.{numbers_of}
 
 -- ---- how often a piece stands in a list
 
@@ -57,6 +63,33 @@ times-range low (suc n) x h = elim (cases_eq low x) [
 pub times-permutation : (n : ℕ) (pieces : List ℕ) → IsPermutation pieces (range_with_len 0 n) → (x : ℕ) → times x pieces ≡ once_below n x
 times-permutation n pieces same x =
     sym (sum_by-IsPermutation (λ z. cond (z == x) 1 0) pieces (range_with_len 0 n) same) ∙ times-range 0 n x (omega arith) ∙ ap (λ k. once_below k x) (zero-add n)
+
+-- ---- the parts of all pieces
+
+pub sum_by-map : {X Y : Type 0} (f : Y → ℕ) (g : X → Y) (xs : List X) → sum_by f (map g xs) ≡ sum_by (λ x. f (g x)) xs
+sum_by-map f g [] = refl
+sum_by-map f g (x ∷ xs) = sum_by-cons f (g x) (map g xs) ∙ ap (λ n. f (g x) + n) (sum_by-map f g xs) ∙ sym (sum_by-cons (λ y. f (g y)) x xs)
+
+pub sum_by-flat_map : {X Y : Type 0} (f : Y → ℕ) (g : X → List Y) (xs : List X) → sum_by f (flat_map g xs) ≡ sum_by (λ x. sum_by f (g x)) xs
+sum_by-flat_map f g [] = refl
+sum_by-flat_map f g (x ∷ xs) = sum_by-append f (g x) (flat_map g xs) ∙ ap (λ n. sum_by f (g x) + n) (sum_by-flat_map f g xs) ∙ sym (sum_by-cons (λ y. sum_by f (g y)) x xs)
+
+flat_map-flat_map : {X Y Z : Type 0} (f : Y → List Z) (g : X → List Y) (xs : List X) → flat_map (λ x. flat_map f (g x)) xs ≡ flat_map f (flat_map g xs)
+flat_map-flat_map f g [] = refl
+flat_map-flat_map f g (x ∷ xs) = ap (λ l. flat_map f (g x) ++ l) (flat_map-flat_map f g xs) ∙ sym (flat_map-append f (g x) (flat_map g xs))
+
+-- where seats claimed each piece once, their pieces have each part once
+pub parts_once : (parts pieces : ℕ) (seats : List SeatView) → 1 ≤ pieces → IsPermutation (claimed_by seats) (range_with_len 0 pieces)
+    → HoldsNumbersBelow parts (flat_map (λ seat. parts_of parts pieces seat.held.claimed) seats)
+parts_once parts pieces seats some same x =
+    let part : ℕ → List ℕ = λ piece. shard_of piece pieces (range_with_len 0 parts) in
+    let one_of : ℕ → ℕ = λ z. cond (z == x) 1 0 in
+    ap (times x) (flat_map-flat_map part (λ (seat : SeatView). seat.held.claimed) seats)
+    ∙ sum_by-flat_map one_of part (claimed_by seats)
+    ∙ sym (sum_by-IsPermutation (λ piece. sum_by one_of (part piece)) (claimed_by seats) (range_with_len 0 pieces) same)
+    ∙ sym (sum_by-flat_map one_of part (range_with_len 0 pieces))
+    ∙ ap (times x) (shards_are_all pieces (range_with_len 0 parts) some)
+    ∙ times-permutation parts (range_with_len 0 parts) (IsPermutation-refl (range_with_len 0 parts)) x
 
 module _ {X : Type 0} where
   -- ---- places
@@ -146,13 +179,13 @@ module _ {X : Type 0} where
   placed-append places (value ∷ values) others = placed-append (set places value.0 (Some value.1)) values others
 
   -- so many values move so many pieces
-  pub moved_all : (places : List (Option X)) (values : List (ℕ × X)) → HaveRoom places (pieces_of values) → (y : ℕ)
-      → times y (pieces_of values) + filled places y ≡ filled (placed places values) y
+  pub moved_all : (places : List (Option X)) (values : List (ℕ × X)) → HaveRoom places (numbers_of values) → (y : ℕ)
+      → times y (numbers_of values) + filled places y ≡ filled (placed places values) y
   moved_all places [] room y = zero-add (filled places y)
   moved_all places (value ∷ values) room y =
-      let at = next_is_vacant places value.0 (pieces_of values) room in
-      moved places value.0 value.1 (pieces_of values) at.0 at.1 y
-      ∙ moved_all (set places value.0 (Some value.1)) values (room_next places value.0 value.1 (pieces_of values) room) y
+      let at = next_is_vacant places value.0 (numbers_of values) room in
+      moved places value.0 value.1 (numbers_of values) at.0 at.1 y
+      ∙ moved_all (set places value.0 (Some value.1)) values (room_next places value.0 value.1 (numbers_of values) room) y
 
   -- ---- all pieces
 
@@ -160,19 +193,19 @@ module _ {X : Type 0} where
   abbrev pub AreAll : List (Option X) → List ℕ → Type 0
   AreAll places pieces = (x : ℕ) → times x pieces + filled places x ≡ once_below (length places) x
 
-  pub all_at_first : (places : List (Option X)) (pieces : List ℕ) → places ≡ replicate (length places) None → IsPermutation pieces (range_with_len 0 (length places)) → AreAll places pieces
-  all_at_first places pieces vacant same x =
-      let t = times-permutation (length places) pieces same x in
+  pub all_at_first : (places : List (Option X)) (pieces : List ℕ) → places ≡ replicate (length places) None → HoldsNumbersBelow (length places) pieces → AreAll places pieces
+  all_at_first places pieces vacant holds x =
+      let t = holds x in
       let f = filled_vacant places (length places) vacant x in omega arith
 
   pub room_for_front : (places : List (Option X)) (front rest : List ℕ) → AreAll places (front ++ rest) → HaveRoom places front
   room_for_front places front rest all x = let a = all x in let t = times-append x front rest in omega arith
 
-  pub all_behind : (places : List (Option X)) (values : List (ℕ × X)) (rest : List ℕ) → AreAll places (pieces_of values ++ rest) → AreAll (placed places values) rest
+  pub all_behind : (places : List (Option X)) (values : List (ℕ × X)) (rest : List ℕ) → AreAll places (numbers_of values ++ rest) → AreAll (placed places values) rest
   all_behind places values rest all x =
       let a = all x in
-      let t = times-append x (pieces_of values) rest in
-      let m = moved_all places values (room_for_front places (pieces_of values) rest all) x in
+      let t = times-append x (numbers_of values) rest in
+      let m = moved_all places values (room_for_front places (numbers_of values) rest all) x in
       let l = ap (λ k. once_below k x) (length-placed places values) in omega arith
 
   -- at the end no place is vacant

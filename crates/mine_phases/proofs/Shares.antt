@@ -7,7 +7,7 @@ use Rattle.std.proofs.lemmas.List.Elements.{All-append, All-cons, All-head, All-
 use Rattle.basket_core.specs.declared.fault.MineFault.{MineFault}
 use Rattle.mine_round.specs.SeatView.{SeatView}
 use Rattle.mine_phases.specs.declared.share.Share.{Share}
-use Rattle.mine_phases.specs.Share.{pieces_of}
+use Rattle.mine_phases.specs.Share.{numbers_of}
 
 module _ {X : Type 0} where
   -- what a share says of its values, where it has them
@@ -20,9 +20,9 @@ module _ {X : Type 0} where
   says_at P seat list (Err fault) e h = absurd cc
 
   -- the pieces of all values are those of all seats, as each share says them
-  pub pieces_are_claimed : (P : SeatView → List (ℕ × X) → Type 0) (pieces : SeatView → List ℕ) → ((seat : SeatView) (values : List (ℕ × X)) → P seat values → pieces_of values ≡ pieces seat)
+  pub pieces_are_claimed : (P : SeatView → List (ℕ × X) → Type 0) (pieces : SeatView → List ℕ) → ((seat : SeatView) (values : List (ℕ × X)) → P seat values → numbers_of values ≡ pieces seat)
       → (shares : List (Share (Vec (ℕ × X) Global))) (lists : List (Vec (ℕ × X) Global)) → map Ok lists ≡ map (λ share. share.values) shares → All (Says P) shares
-      → flat_map (λ list. pieces_of list.items) lists ≡ flat_map pieces (map (λ share. share.seat) shares)
+      → flat_map (λ list. numbers_of list.items) lists ≡ flat_map pieces (map (λ share. share.seat) shares)
   pieces_are_claimed P pieces claimed [] [] e says = refl
   pieces_are_claimed P pieces claimed [] (list ∷ lists) e says = absurd cc
   pieces_are_claimed P pieces claimed (share ∷ shares) [] e says = absurd cc
@@ -30,7 +30,7 @@ module _ {X : Type 0} where
       let head : Ok list ≡ share.values = cc in
       let tail : map Ok lists ≡ map (λ share. share.values) shares = cc in
       let first = claimed share.seat list.items (says_at P share.seat list share.values head (All-head (Says P) share shares says)) in
-      ap (λ l. l ++ flat_map (λ list. pieces_of list.items) lists) first
+      ap (λ l. l ++ flat_map (λ list. numbers_of list.items) lists) first
       ∙ ap (λ l. pieces share.seat ++ l) (pieces_are_claimed P pieces claimed shares lists tail (All-tail (Says P) share shares says))
 
   -- what holds of each value of a share holds of all values

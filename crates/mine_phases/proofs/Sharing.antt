@@ -1,5 +1,5 @@
 -- What all workers of a phase of classes have told and mined together.
-use Rattle.std.proofs.Common.{◌≡◌, ◌≤◌, ◌<◌, ◌+◌, ◌*◌, ◌^◌, ◌++◌, ◌⊎◌, ℕ, suc, zero, List, [], ◌∷◌, map, fold, get_or, length, min, Option, Some, None, Ok, Err, Result, refl, reverse, ap, sym, ◌∙◌, subst, inl, inr, arith, zero-add}
+use Rattle.std.proofs.Common.{◌≡◌, ◌≤◌, ◌<◌, ◌+◌, ◌*◌, ◌^◌, ◌++◌, ◌⊎◌, ℕ, suc, zero, List, [], ◌∷◌, map, fold, get_or, length, Option, Some, None, Ok, Err, Result, refl, reverse, ap, sym, ◌∙◌, subst, inl, inr, arith, zero-add}
 use Rattle.std.specs.Prelude.{All, IsPermutation, Vec, slice_index}
 use Rattle.std.specs.Global.{Global}
 use Rattle.std.specs.List.{flat_map, range_with_len, sum, sum_by}
@@ -19,9 +19,10 @@ use Rattle.mine_round.specs.RoundView.{RoundView}
 use Rattle.mine_round.specs.SeatView.{SeatView}
 use Rattle.mine_round.specs.Totals.{added_by, claimed_by, seen_by}
 use Rattle.mine_phases.specs.declared.share.Share.{Share}
-use Rattle.mine_phases.specs.Classes.{AreMined, HasLargeClass, IsClassShare, IsWorkOfAll, MOST_SET_WORK, MOST_WORK, claimed_size, piece_from_end, piece_size, ranks_of}
+use Rattle.mine_phases.specs.Classes.{AreMined, HasLargeClass, IsClassShare, IsWorkOfAll, MOST_SET_WORK, claimed_size, piece_from_end, piece_size, ranks_of}
 use Rattle.mine_phases.specs.Share.{fault_after, fault_of}
 use Rattle.mine_phases.proofs.Mining.{mined_append, sum_fits, sum_more}
+use Rattle.mine_phases.proofs.Placing.{sum_by-flat_map, sum_by-map}
 
 -- ---- the fault to tell
 
@@ -103,14 +104,6 @@ map-flat_map f g [] = refl
 map-flat_map f g (x ∷ xs) = map-append f (g x) (flat_map g xs) ∙ ap (λ l. map f (g x) ++ l) (map-flat_map f g xs)
 
 -- ---- the sizes of pieces
-
-sum_by-map : {X Y : Type 0} (f : Y → ℕ) (g : X → Y) (xs : List X) → sum_by f (map g xs) ≡ sum_by (λ x. f (g x)) xs
-sum_by-map f g [] = refl
-sum_by-map f g (x ∷ xs) = sum_by-cons f (g x) (map g xs) ∙ ap (λ n. f (g x) + n) (sum_by-map f g xs) ∙ sym (sum_by-cons (λ y. f (g y)) x xs)
-
-sum_by-flat_map : {X Y : Type 0} (f : Y → ℕ) (g : X → List Y) (xs : List X) → sum_by f (flat_map g xs) ≡ sum_by (λ x. sum_by f (g x)) xs
-sum_by-flat_map f g [] = refl
-sum_by-flat_map f g (x ∷ xs) = sum_by-append f (g x) (flat_map g xs) ∙ ap (λ n. sum_by f (g x) + n) (sum_by-flat_map f g xs) ∙ sym (sum_by-cons (λ y. sum_by f (g y)) x xs)
 
 module _ (coding : Coding) (pieces : ℕ) (some : 1 ≤ pieces) (is : IsCoding coding) (sizes : ClassSizesAddUp) where
   pub pieces_are_all : sum_by (claimed_size coding pieces) (range_with_len 0 pieces) ≡ length (frequent_of_coding coding)
@@ -199,17 +192,21 @@ module _ (coding : Coding) (is_work : ℕ → ℕ → Type 0) where
       let sizes = ap (λ n. n * MOST_SET_WORK) (sum_by-cons (class_size coding) first (range_with_len (first + 1) count)) in
       omega (arith, rest, mined.1.1, works, sizes)
 
-  pub work_of_all : (limit : ℕ) (classes : List (List Counted × ℕ)) (total : ℕ) → IsCoding coding → ClassSizesAddUp → length (frequent_of_coding coding) ≤ limit → limit < 2 ^ 32
-      → AreMined coding is_work (range_with_len 0 (length coding.items)) classes
-      → total ≡ min (sum (map (λ class. class.1) classes)) MOST_WORK → IsWorkOfAll is_work (length coding.items) total
-  work_of_all limit classes total is sizes within small mined added = record {
+  -- the work of all classes fits a number
+  pub work_fits : (limit : ℕ) (classes : List (List Counted × ℕ)) → IsCoding coding → ClassSizesAddUp → length (frequent_of_coding coding) ≤ limit → limit < 2 ^ 32
+      → AreMined coding is_work (range_with_len 0 (length coding.items)) classes → sum (map (λ class. class.1) classes) < 2 ^ 64
+  work_fits limit classes is sizes within small mined =
+      let few = work_is_few 0 (length coding.items) classes mined in
+      let all = ap (λ n. n * MOST_SET_WORK) (sizes coding is) in
+      omega (arith, few, all, within, small)
+
+  pub work_of_all : (classes : List (List Counted × ℕ)) (total : ℕ) → AreMined coding is_work (range_with_len 0 (length coding.items)) classes
+      → total ≡ sum (map (λ class. class.1) classes) → IsWorkOfAll is_work (length coding.items) total
+  work_of_all classes total mined added = record {
     each = map (λ class. class.1) classes;
     long = length-map classes (λ class. class.1) ∙ mined_long 0 (length coding.items) classes mined;
     works = λ k below. let e : 0 + k ≡ k = omega arith in subst (λ n. is_work n (get_or (map (λ class. class.1) classes) k 0)) e (works_at 0 (length coding.items) classes mined k below);
-    added =
-        let few = work_is_few 0 (length coding.items) classes mined in
-        let all = ap (λ n. n * MOST_SET_WORK) (sizes coding is) in
-        omega (arith, few, all, within, small, added);
+    added = added;
   }
 
   pub once_of_all : (classes : List (List Counted × ℕ)) → ClassItemsAreAll → IsCoding coding → AreMined coding is_work (range_with_len 0 (length coding.items)) classes

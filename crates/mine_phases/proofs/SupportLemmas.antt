@@ -18,11 +18,8 @@ use Rattle.mine_round.specs.Totals.{added_by, claimed_by}
 use Rattle.mine_phases.specs.Supports.{AddsSupports, part_support}
 use Rattle.mine_phases.specs.declared.share.Share.{Share}
 use Rattle.mine_phases.proofs.Claims.{behind, behind-le, behind_push}
+use Rattle.mine_phases.proofs.Placing.{sum_by-map}
 use Rattle.mine_phases.proofs.Shares.{Ends, each_seat, some_seat}
-
-sum_by-map : {X Y : Type 0} (f : Y → ℕ) (g : X → Y) (xs : List X) → sum_by f (map g xs) ≡ sum_by (λ x. f (g x)) xs
-sum_by-map f g [] = refl
-sum_by-map f g (x ∷ xs) = sum_by-cons f (g x) (map g xs) ∙ ap (λ n. f (g x) + n) (sum_by-map f g xs) ∙ sym (sum_by-cons (λ y. f (g y)) x xs)
 
 module _ (baskets : List Weighted) (pieces : ℕ) (set : List ℕ) where
   -- the support in the baskets before a part

@@ -10,11 +10,7 @@ use Rattle.mine_classes.specs.Mined.{ListsClassItems, class_size}
 use Rattle.mine_round.specs.RoundView.{RoundView}
 use Rattle.mine_round.specs.SeatView.{SeatView}
 use Rattle.mine_phases.specs.declared.share.Share.{Share}
-use Rattle.mine_phases.specs.Share.{pieces_of}
-
--- the greatest number of work that can be told
-abbrev pub MOST_WORK : ℕ
-MOST_WORK = 2 ^ 64 - 1
+use Rattle.mine_phases.specs.Share.{numbers_of}
 
 -- the most work that a set takes: it has no more extensions than there are ranks
 abbrev pub MOST_SET_WORK : ℕ
@@ -64,7 +60,7 @@ pub record HasLargeClass (coding : Coding) (limit : ℕ) : Type 0 where
 -- the values are the classes of the pieces that a seat claimed, counted from the last, of which it told each set; it was answered that no piece is left, and it last saw no more sets than the limit
 pub record MinesPieces (coding : Coding) (is_work : ℕ → ℕ → Type 0) (limit pieces : ℕ) (seat : SeatView) (values : List (ℕ × Vec (List Counted × ℕ) Global)) : Type 0 where
   pub ended : 0 < seat.held.past
-  pub claimed : pieces_of values ≡ map (piece_from_end pieces) seat.held.claimed
+  pub claimed : numbers_of values ≡ map (piece_from_end pieces) seat.held.claimed
   pub mined : All (λ value. AreMined coding is_work (ranks_of coding pieces value.0) value.1.items) values
   pub told : slice_index seat.held.added 0 ≡ sum_by (claimed_size coding pieces) seat.held.claimed
   pub within : slice_index seat.held.seen 0 ≤ limit

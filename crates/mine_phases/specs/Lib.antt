@@ -3,6 +3,6 @@ pub mod Placed
 pub mod Counting
 pub mod Pieces
 pub mod Supports
-pub mod Found
+pub mod RoundTally
 pub mod Classes
 pub mod Pairs

@@ -8,9 +8,9 @@ use Rattle.basket_core.specs.declared.fault.MineFault.TheVariants.{Memory, TooMa
 use Rattle.mine_round.specs.SeatView.{SeatView}
 use Rattle.mine_phases.specs.declared.share.Share.{Share}
 
--- the pieces of values that came with them
-abbrev pub pieces_of : {X : Type 0} → List (ℕ × X) → List ℕ
-pieces_of values = map (λ value. value.0) values
+-- the numbers that values came with
+abbrev pub numbers_of : {X : Type 0} → List (ℕ × X) → List ℕ
+numbers_of values = map (λ value. value.0) values
 
 -- the fault to tell of two: that there are too many sets, before want of memory
 abbrev pub worse : Option MineFault → MineFault → Option MineFault

@@ -8,24 +8,17 @@ ghost use Rattle.mine_apriori.specs.Pairs.{ArePairs, lists_of};
 ghost use Rattle.mine_apriori.specs.Work.{candidate_count};
 
 use crate::cutting::Cutting;
-use crate::gate::{Gate, pass_alone};
+use crate::gate::Gate;
 use crate::level::count_level;
-use crate::pairs::{PHASE, count_pairs};
-use crate::phase::Phase;
+use crate::pairs::count_pairs;
 use crate::triangle::triangle_pairs;
 use basket_core::{Coded, Frequent, MineFault};
-use mine_apriori::laws::pairs_by_supports;
-use mine_apriori::{FirstLevel, Levels, frequent_pairs, is_small_triangle};
-use mine_classes::{ListBaskets, Runs};
+use mine_apriori::{FirstLevel, is_small_triangle, runs_with_least};
 use std::alloc::{AllocError, Global};
 use std::thread::Threads;
 
-/// The number of the phase that counts the candidates of three items.
-const FIRST_OF_LEVELS: u32 = 3;
-
 /// The frequent pairs of ranks. The workers count each pair of ranks where these are few, and
-/// otherwise only the pairs that occur, rank by rank. One worker has all pieces, and needs no counts
-/// beside its own.
+/// otherwise only the pairs that occur, rank by rank.
 fn pairs<R: Threads + Sync, G: Gate + Sync>(
     rt: &R,
     alloc: Global,
@@ -35,18 +28,10 @@ fn pairs<R: Threads + Sync, G: Gate + Sync>(
 ) -> Result<Vec<Vec<(u32, u64)>>, AllocError>
     ensures { IfOk result (λ lists. ArePairs coded.now (lists_of lists.items)) }
 {
-    if cutting.workers == 1 {
-        pass_alone(gate, PHASE, cutting.pieces);
-        return frequent_pairs(alloc, coded);
-    }
     if is_small_triangle(coded.ranks(), coded.baskets().len()) {
         return triangle_pairs(rt, alloc, coded, cutting, gate);
     }
-    pairs_by_supports();
-    // The baskets of a coding are light enough for a least support.
-    let _baskets = coded.baskets();
-    let least = coded.minimum().least(coded.total());
-    let runs = Runs::of(alloc, ListBaskets::of_coded(alloc, coded)?)?;
+    let (runs, least) = runs_with_least(alloc, coded)?;
     count_pairs(rt, alloc, &runs, least, cutting, gate)
 }
 
@@ -69,12 +54,9 @@ pub fn apriori_shared<R: Threads + Sync, G: Gate + Sync>(
     let first = FirstLevel::of(alloc, coded, limit)?;
     let pairs = pairs(rt, alloc, coded, cutting, gate)?;
     let mut levels = first.with_pairs(alloc, &pairs)?;
-    let mut number = FIRST_OF_LEVELS;
     while !levels.asked().is_empty() {
-        let phase = Phase::new(number, cutting, gate);
-        let counts = count_level(rt, alloc, coded.baskets(), levels.asked(), &phase)?;
+        let counts = count_level(rt, alloc, coded.baskets(), levels.asked(), cutting, gate)?;
         levels = levels.answer(alloc, &counts)?;
-        number = number.saturating_add(1);
     }
     let candidates = levels.counted();
     Ok((levels.finish(alloc)?, candidates))

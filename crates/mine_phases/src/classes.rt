@@ -7,14 +7,14 @@ ghost use Rattle.basket_core.specs.Listing.{listing_of};
 ghost use Rattle.basket_sets.specs.Frequent.{ListsOnce};
 ghost use Rattle.mine_round.specs.Record.{unused};
 ghost use Rattle.mine_phases.specs.Classes.{AreMined, HasLargeClass, IsClassShare, IsWorkOfAll, piece_size, ranks_of};
-ghost use Rattle.mine_phases.specs.Found.{CountsSets, still};
+ghost use Rattle.mine_phases.specs.RoundTally.{CountsSets, still};
 
 use crate::class_miner::ClassMiner;
 use crate::cutting::Cutting;
-use crate::found::{Found, Start};
 use crate::gate::Gate;
 use crate::joined::{Class, joined};
 use crate::placed::collected;
+use crate::round_tally::{RoundTally, Start};
 use crate::share::{Share, by_workers, claim_piece};
 use basket_core::{Coded, CountedSets, Frequent, MineFault, Tally, shard};
 use mine_classes::Tables;
@@ -124,7 +124,7 @@ impl<M: ClassMiner, G: Gate> Classes<'_, M, G> {
         ensures too_many { (most : ℕ) → result.1 ≡ Err (TooMany most)
             → (most ≡ self.now.limit) × ((self.now.limit < slice_index result.0.held.seen 0) ⊎ HasLargeClass (M.coding_of self.now.miner.now) self.now.limit) }
     {
-        let mut tally = Found::<S>::new(self.round, seat, self.limit);
+        let mut tally = RoundTally::<S>::new(self.round, seat, self.limit);
         let classes = self.classes(alloc, tables, piece, &mut tally);
         (tally.into_seat(), classes)
     }

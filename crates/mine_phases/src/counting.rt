@@ -8,9 +8,9 @@ ghost use Rattle.basket_sets.specs.Support.{total_of};
 ghost use Rattle.mine_phases.specs.Counting.{CountParts};
 
 use crate::cutting::Cutting;
-use crate::gate::{Gate, pass_alone};
+use crate::gate::Gate;
 use crate::phase::Phase;
-use crate::pieces::{PieceWork, by_pieces};
+use crate::pieces::{PartWork, by_pieces};
 use basket_core::{Weighted, add_counts, count_items, shard};
 use std::alloc::{AllocError, Global};
 use std::thread::Threads;
@@ -21,32 +21,36 @@ const PHASE: u32 = 1;
 /// Items, rising, each with its support.
 type Counts = Vec<(u32, u64)>;
 
-/// Baskets whose items are counted.
+/// Each part has a list of counts, and may have a table of half a megabyte while it is counted.
+const MOST_PARTS: u32 = 128;
+
+/// Baskets whose items are counted, in so many parts.
 #[derive(Drop)]
 struct Counting<'a> {
     baskets: &'a [Weighted],
+    parts: u32,
     ghost light: { total_of baskets.now ≤ MOST_WEIGHT },
 }
 
-impl PieceWork<Counts> for Counting<'_> {
+impl PartWork<Counts> for Counting<'_> {
     type Tools = ();
+
+    ghost part_count = { λ work. work.parts };
 
     ghost are_tools = { λ work tools. Unit {0} };
 
-    ghost is_value = { λ work pieces piece counts. counts.items ≡ item_supports (shard_of piece pieces work.baskets.now) };
+    ghost is_value = { λ work part counts. counts.items ≡ item_supports (shard_of part work.parts work.baskets.now) };
+
+    fn parts(&self) -> u32 {
+        self.parts
+    }
 
     fn tools(&self, _alloc: Global) -> Result<(), AllocError> {
         Ok(())
     }
 
-    fn value(
-        &self,
-        alloc: Global,
-        _tools: &mut (),
-        piece: u32,
-        pieces: u32,
-    ) -> Result<Counts, AllocError> {
-        let (start, end) = shard(piece, pieces, self.baskets.len());
+    fn value(&self, alloc: Global, _tools: &mut (), part: u32) -> Result<Counts, AllocError> {
+        let (start, end) = shard(part, self.parts, self.baskets.len());
         count_items(alloc, &self.baskets[start..end])
     }
 }
@@ -70,9 +74,18 @@ fn add_up(alloc: Global, lists: &[Counts]) -> Result<Counts, AllocError>
     }
 }
 
+/// In how many parts the items are counted. One worker needs no lists to be added up.
+fn parts_for(cutting: Cutting) -> u32
+    ensures { 1 ≤ result }
+{
+    match cutting.workers {
+        1 => 1,
+        _ => cutting.pieces.min(MOST_PARTS),
+    }
+}
+
 /// The items of the baskets in rising order, each with its support, counted by so many workers over
-/// so many parts of the baskets. One worker has all parts, and needs no lists to be added up. Only memory
-/// may be wanting.
+/// parts of the baskets, of which each piece has some. Only memory may be wanting.
 pub fn count_shared<R: Threads + Sync, G: Gate + Sync>(
     rt: &R,
     alloc: Global,
@@ -83,11 +96,8 @@ pub fn count_shared<R: Threads + Sync, G: Gate + Sync>(
     requires light { total_of baskets.now ≤ MOST_WEIGHT }
     ensures counts { IfOk result (λ counts. counts.items ≡ item_supports baskets.now) }
 {
-    if cutting.workers == 1 {
-        pass_alone(gate, PHASE, cutting.pieces);
-        return count_items(alloc, baskets);
-    }
-    let phase = Phase::new(PHASE, cutting, gate);
-    let lists = by_pieces(rt, alloc, &Counting { baskets }, &phase)?;
+    let parts = parts_for(cutting);
+    let counting = Counting { baskets, parts };
+    let lists = by_pieces(rt, alloc, &counting, &Phase::new(PHASE, cutting, gate))?;
     add_up(alloc, &lists)
 }

@@ -5,6 +5,7 @@ ghost use Rattle.basket_sets.specs.Order.{IsInReportOrder};
 ghost use Rattle.basket_sets.specs.Support.{support_of, total_of};
 ghost use Rattle.mine_apriori.specs.Sizes.{AreOfOneSize};
 
+use crate::cutting::Cutting;
 use crate::gate::Gate;
 use crate::phase::Phase;
 use crate::supports::{SupportCounter, count_supports};
@@ -32,19 +33,29 @@ impl SupportCounter for CandidateTree<'_> {
     }
 }
 
-/// The support of each set in the baskets, counted by the workers of a phase over parts of the baskets.
+/// The support of each set in the baskets, counted by so many workers over so many parts of the baskets.
+/// The number of the phase is the size of the sets.
 pub fn count_level<R: Threads + Sync, G: Gate + Sync>(
     rt: &R,
     alloc: Global,
     baskets: &[Weighted],
     sets: &[Itemset],
-    phase: &Phase<'_, G>,
+    cutting: Cutting,
+    gate: &G,
 ) -> Result<Vec<u64>, AllocError>
     requires sized { AreOfOneSize sets.now }
     requires in_order { IsInReportOrder sets.now }
     requires light { total_of baskets.now ≤ MOST_WEIGHT }
     ensures { IfOk result (λ counts. counts.items ≡ map (support_of baskets.now) sets.now) }
 {
+    let size = sets.first().map_or(0, |set| set.len());
+    let number = u32::try_from(size).unwrap_or(u32::MAX);
     let tree = CandidateTree::of(alloc, sets)?;
-    count_supports(rt, alloc, baskets, &tree, phase)
+    count_supports(
+        rt,
+        alloc,
+        baskets,
+        &tree,
+        &Phase::new(number, cutting, gate),
+    )
 }

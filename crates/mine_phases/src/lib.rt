@@ -6,7 +6,7 @@
 //! workers share. `counting` counts the items. Of `apriori`, `triangle` counts the pairs of few ranks,
 //! `pairs` finds the frequent pairs of many, and `level` counts the candidates of a level. `runs` makes
 //! ready what `classes` mines class by class with a `class_miner`, whose sets are told to the tally
-//! `found`. `share` is what a worker hands back, `placed` puts the values of pieces in their order, and
+//! `round_tally`. `share` is what a worker hands back, `placed` puts the values of pieces in their order, and
 //! workers pass a `gate` with each piece.
 #![tactic(auto)]
 
@@ -15,7 +15,6 @@ mod class_miner;
 mod classes;
 mod counting;
 mod cutting;
-mod found;
 mod gate;
 mod joined;
 mod level;
@@ -23,6 +22,7 @@ mod pairs;
 mod phase;
 mod pieces;
 mod placed;
+mod round_tally;
 mod runs;
 mod share;
 mod supports;
@@ -35,6 +35,4 @@ pub use counting::count_shared;
 pub use cutting::Cutting;
 pub use gate::{Gate, Open};
 pub use level::count_level;
-pub use pairs::count_pairs;
-pub use phase::Phase;
 pub use runs::runs_shared;

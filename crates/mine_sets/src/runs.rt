@@ -5,7 +5,7 @@ ghost use Rattle.basket_sets.specs.Support.{support_of};
 ghost use Rattle.mine_apriori.specs.Sizes.{AreOfSize};
 
 use basket_sets::{Database, Itemset};
-use mine_phases::{Cutting, Gate, Phase, count_level};
+use mine_phases::{Cutting, Gate, count_level};
 use std::alloc::{AllocError, Global};
 use std::thread::Threads;
 
@@ -30,9 +30,7 @@ pub fn count_in_order<R: Threads + Sync, G: Gate + Sync>(
             rest = others;
         } else {
             let (run, longer) = rest.split_at(1 + same_size(first.len(), others));
-            let number = u32::try_from(first.len()).unwrap_or(u32::MAX);
-            let phase = Phase::new(number, cutting, gate);
-            let mut counted = count_level(rt, alloc, database.baskets(), run, &phase)?;
+            let mut counted = count_level(rt, alloc, database.baskets(), run, cutting, gate)?;
             supports.append(&mut counted)?;
             rest = longer;
         }

@@ -13,7 +13,7 @@ use Rattle.mine_apriori.proofs.join.join_later.Goals.{then-may_be_used+in_ok-fil
 
 pub has_all_subsets-requires-clause-is_join : goal.has_all_subsets-requires-clause-is_join
 has_all_subsets-requires-clause-is_join c =
-    let sets = c.args.sets.now in
+    let sets = c.args.level.sets.now in
     let place = c.args.place in
     let set = c.items-set.result.now in
     let other = c.items-other.result.now in
@@ -33,7 +33,7 @@ has_all_subsets-requires-clause-is_join c =
 
 pub loop-other-preserved : goal.loop-other-preserved
 loop-other-preserved c =
-    let sets = c.args.sets.now in
+    let sets = c.args.level.sets.now in
     let place = c.args.place in
     let set = c.items-set.result.now in
     let other = c.items-other.result.now in
@@ -70,8 +70,8 @@ loop-other-preserved c =
           ∙ step_dropped last sets set later index other found c.loop-other-test.true other_at same (tested ∙ w.if-has_all_subsets.false)
           ∙ c.loop-other.invariant)
       | else-may_be_used w ↦
-          (let missing = no_subset (suc last) sets c.args.endings.now (join last set other) is.long c.requires.endings
-          (ap (may_be_used c.args.endings.now) (sym c.ending_with.ensures) ∙ sym c.may_be_used.ensures ∙ w.if-may_be_used.false) in
+          (let missing = no_subset (suc last) sets c.args.level.endings.now (join last set other) is.long c.requires.endings
+          (ap (may_be_used c.args.level.endings.now) (sym c.ending_with.ensures) ∙ sym c.may_be_used.ensures ∙ w.if-may_be_used.false) in
           ap (λ v. v.items ++ joined_with last sets set (drop (index + 1) later)) w.found-is
           ∙ step_dropped last sets set later index other found c.loop-other-test.true other_at same missing
           ∙ c.loop-other.invariant)

@@ -1,25 +1,9 @@
-use Rattle.std.proofs.Common.{◌≡◌, ℕ, List, subst, ap, ◌∙◌}
+use Rattle.std.proofs.Common.{subst, sym}
 use Rattle.std.proofs.lemmas.Result.{IfOk-weaker}
-use Rattle.basket_sets.specs.Minimum.{IsLeastSupport}
-use Rattle.basket_sets.specs.Support.{support_of, total_of}
-use Rattle.mine_classes.specs.ListBaskets.{RankBaskets}
-use Rattle.mine_apriori.specs.Pairs.{ArePairs, lists_of, pairs_by_greater}
-use Rattle.mine_apriori.proofs.PairLemmas.{same_pairs}
+use Rattle.mine_apriori.specs.Pairs.{ArePairs, lists_of}
 use Rattle.mine_apriori.proofs.pairs.frequent_pairs.Goals as goal
 
 pub returns : goal.returns
 returns c =
-    let coding = c.args.coded.now in
-    let least = c.least-least.result in
-    let settles : IsLeastSupport coding.minimum (total_of coding.baskets) least = subst (λ m. IsLeastSupport m (total_of coding.baskets) least) c.minimum.ensures
-    (subst (λ n. IsLeastSupport c.minimum.result n least) c.total.ensures c.least-least.ensures) in
-    let runs = c.in_ok-runs.runs in
-    let made : runs ≡ c.in_ok-of_coded.field-0 = c.in_ok-runs.ensures in
-    let same : (set : List ℕ) → support_of runs.baskets set ≡ support_of coding.baskets set =
-    λ set. ap (λ (o : RankBaskets). support_of o.baskets set) made ∙ c.in_ok-of_coded.ensures.supports set in
-    IfOk-weaker c.pairs_by_runs.result (λ lists. lists_of lists.items ≡ pairs_by_greater runs.baskets least runs.ranks) (λ lists. ArePairs coding (lists_of lists.items))
-    (λ lists is. record {
-      least = least;
-      settles = settles;
-      pairs = is ∙ same_pairs runs.baskets coding.baskets least runs.ranks same ∙ ap (pairs_by_greater coding.baskets least) (ap (λ (o : RankBaskets). o.ranks) made ∙ c.in_ok-of_coded.ensures.ranks);
-    }) c.pairs_by_runs.ensures
+    IfOk-weaker c.pairs_by_runs.result _ (λ lists. ArePairs c.args.coded.now (lists_of lists.items))
+    (λ lists is. subst (ArePairs c.args.coded.now) (sym is) c.in_ok-runs.ensures) c.pairs_by_runs.ensures

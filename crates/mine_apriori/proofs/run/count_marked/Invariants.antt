@@ -4,4 +4,4 @@ use Rattle.mine_apriori.specs.Used.{is_marked}
 use Rattle.mine_apriori.proofs.run.count_marked.Given as goal
 
 abbrev pub invariant-loop-leaf : goal.invariant-loop-leaf
-invariant-loop-leaf l = AddsWithin (λ leaf. is_marked l.marks (get_or l.leaves leaf 0)) l.weight l.start l.leaf l.initial.counts l.counts
+invariant-loop-leaf l = AddsWithin (λ leaf. is_marked l.rest.marks.now (get_or l.leaves leaf 0)) l.rest.weight l.start l.leaf l.initial.counts l.counts

@@ -9,15 +9,16 @@ use Rattle.basket_ranks.specs.Codes.{Coding, IsCoding, baskets_of, frequent_of_c
 use Rattle.basket_core.specs.declared.fault.MineFault.TheVariants.{TooMany}
 use Rattle.basket_sets.specs.declared.counted.Counted.{Counted}
 use Rattle.basket_sets.specs.Frequent.{ListsOnce}
+use Rattle.mine_classes.specs.Mined.{ClassSizesAddUp}
 use Rattle.mine_round.specs.SeatView.{SeatView}
-use Rattle.mine_round.specs.Totals.{claimed_by}
+use Rattle.mine_round.specs.Totals.{HoldsNumbersBelow, added_by, claimed_by, seen_by}
 use Rattle.mine_phases.specs.declared.share.Share.{Share}
 use Rattle.mine_phases.specs.Classes.{AreMined, IsClassShare, IsWorkOfAll, MinesPieces, claimed_size, piece_from_end, ranks_of}
 use Rattle.mine_phases.specs.Placed.{placed}
-use Rattle.mine_phases.specs.Share.{fault_of, pieces_of}
-use Rattle.mine_phases.proofs.Placing.{each_value}
+use Rattle.mine_phases.specs.Share.{fault_of, numbers_of}
+use Rattle.mine_phases.proofs.Placing.{each_value, times-permutation}
 use Rattle.mine_phases.proofs.Shares.{Says, all_values, each_seat, pieces_are_claimed, some_ended, some_seat}
-use Rattle.mine_phases.proofs.Sharing.{ToldAll, all_from_end, map-flat_map, mined_pieces, no_more_than_limit, once_of_all, too_many_are, work_of_all}
+use Rattle.mine_phases.proofs.Sharing.{ToldAll, all_from_end, map-flat_map, mined_pieces, no_more_than_limit, once_of_all, too_many_are, work_fits, work_of_all}
 use Rattle.mine_phases.proofs.classes.mined_classes.Goals as goal
 
 -- what a worker hands back: the classes of its pieces
@@ -72,13 +73,13 @@ collected-requires g c =
     let some : 1 ≤ length shares = omega (arith, c.in_ok-seats.ensures.count, c.in_ok-round.ensures.seats, c.args.cutting.some_workers.0) in
     let ended = c.in-Ok.ensures.ended (subst (λ l. Any (λ (s : SeatView). 0 < s.held.past) l) (sym seats) (some_ended P (λ seat values says. says.ended) shares lists some all says)) in
     let claimed : List ℕ = claimed_by c.in_ok-seats.seats.items in
-    let mined : map (piece_from_end pieces) claimed ≡ flat_map (λ list. pieces_of list.items) lists =
+    let mined : map (piece_from_end pieces) claimed ≡ flat_map (λ list. numbers_of list.items) lists =
     ap (λ l. map (piece_from_end pieces) (claimed_by l)) seats
     ∙ map-flat_map (piece_from_end pieces) (λ (s : SeatView). s.held.claimed) (map (λ (s : Pieces). s.seat) shares)
     ∙ sym (pieces_are_claimed P (λ seat. map (piece_from_end pieces) seat.held.claimed) (λ seat values says. says.claimed) shares lists all says) in
     let whole : c.in-Ok.field-0.claimed ≡ pieces = ended ∙ c.in_ok-round.ensures.round.0 in
-    subst (λ l. IsPermutation l (range_with_len 0 pieces)) mined
-    (all_from_end pieces claimed (subst (λ n. IsPermutation claimed (range_with_len 0 n)) whole c.in-Ok.ensures.claimed))
+    subst (HoldsNumbersBelow pieces) mined
+    (times-permutation pieces (map (piece_from_end pieces) claimed) (all_from_end pieces claimed (subst (λ n. IsPermutation claimed (range_with_len 0 n)) whole c.in-Ok.ensures.claimed)))
 
 -- the classes by piece are the classes of all ranks
 mined_all : (coding : Coding) (is_work : ℕ → ℕ → Type 0) (limit pieces : ℕ) (shares : List Pieces)
@@ -90,6 +91,19 @@ mined_all coding is_work limit pieces shares lists values some count all says is
     mined_pieces coding is_work pieces values some count
     (λ piece d below. each_value Mined (replicate pieces None) pieces (flat_map (λ list. list.items) lists) values refl is
     (all_values (MinesPieces coding is_work limit pieces) Mined (λ seat values says. says.mined) shares lists all says) piece d below)
+
+-- where all workers ended well, there are no more sets than the limit
+few_sets : (coding : Coding) (is_work : ℕ → ℕ → Type 0) (limit pieces : ℕ) (shares : List Pieces) (lists : List (Vec (ℕ × Vec (List Counted × ℕ) Global) Global)) (seats : List SeatView) (count total : ℕ)
+    → 1 ≤ pieces → 1 ≤ length shares → IsCoding coding → ClassSizesAddUp → map Ok lists ≡ map (λ share. share.values) shares → All (Says (MinesPieces coding is_work limit pieces)) shares
+    → seats ≡ map (λ share. share.seat) shares → (Any (λ seat. 0 < seat.held.past) seats → count ≡ pieces) → IsPermutation (claimed_by seats) (range_with_len 0 count)
+    → total ≡ added_by seats 0 → total ≡ seen_by seats 0 → length (frequent_of_coding coding) ≤ limit
+few_sets coding is_work limit pieces shares lists seats count total some worked is sizes all says same ended claimed sum greatest =
+    let Told : SeatView → Type 0 = ToldAll (claimed_size coding pieces) limit in
+    let told : All Told (map (λ (s : Pieces). s.seat) shares) = each_seat Told shares lists all
+    (λ k d below. IfOk-weaker (get_or shares k d).values _ (λ values. Told (get_or shares k d).seat) (λ values says. record { ended = says.ended; told = says.told; within = says.within }) (says k d below)) in
+    let by_seats : All Told seats = All-same Told _ _ same told in
+    let whole = ended (some_seat Told (λ s. 0 < s.held.past) (λ seat says. says.ended) seats (omega (arith, ap length same, length-map shares (λ (s : Pieces). s.seat), worked)) by_seats) in
+    no_more_than_limit coding limit pieces seats total some is sizes by_seats (subst (λ n. IsPermutation (claimed_by seats) (range_with_len 0 n)) whole claimed) sum greatest
 
 pub returns-clause-once : goal.returns-clause-once
 returns-clause-once g c =
@@ -105,39 +119,38 @@ returns-clause-once g c =
 pub returns-clause-within : goal.returns-clause-within
 returns-clause-within g c =
     let coding : Coding = g.M.ClassMiner.coding_of c.args.miner.now in
+    let is_work = g.M.ClassMiner.is_work c.args.miner.now in
     let pieces = c.args.cutting.pieces in
-    let shares = c.in_ok-seats.ensures.shares in
-    let lists = c.in_ok-values.values.items in
-    let seats = c.in_ok-seats.seats.items in
-    let Told : SeatView → Type 0 = ToldAll (claimed_size coding pieces) c.args.limit in
-    let all : map Ok lists ≡ map (λ (s : Pieces). s.values) shares = rw c.in_ok-values.was at c.in_ok-seats.ensures.lists in
-    let told : All Told (map (λ (s : Pieces). s.seat) shares) = each_seat Told shares lists all
-    (λ k d below. IfOk-weaker (get_or shares k d).values _ (λ values. Told (get_or shares k d).seat) (λ values says. record { ended = says.ended; told = says.told; within = says.within })
-    (c.in_ok-seats.ensures.each k d below).call.met.1.values) in
-    let by_seats : All Told seats = All-same Told _ _ c.in_ok-seats.ensures.seats told in
-    let some : 1 ≤ length seats = omega (
-      arith,
-      ap length c.in_ok-seats.ensures.seats,
-      length-map shares (λ (s : Pieces). s.seat),
-      c.in_ok-seats.ensures.count,
-      c.in_ok-round.ensures.seats,
-      c.args.cutting.some_workers.0,
-    ) in
-    let ended = c.in-Ok.ensures.ended (some_seat Told (λ s. 0 < s.held.past) (λ seat says. says.ended) seats some by_seats) ∙ c.in_ok-round.ensures.round.0 in
-    let claimed = subst (λ n. IsPermutation (claimed_by seats) (range_with_len 0 n)) ended c.in-Ok.ensures.claimed in
     let first : 0 < length c.in-Ok.field-0.counters.items = omega (arith, c.in-Ok.ensures.counters, c.in-Ok.field-0.counters.ok, c.in_ok-round.ensures.round.1) in
-    let few = no_more_than_limit coding c.args.limit pieces seats _ c.args.cutting.some_pieces.0 (subst IsCoding (sym c.requires.coding) c.baskets-baskets.ensures.coding) c.class_sizes_add_up.ensures by_seats claimed
+    let few = few_sets coding is_work c.args.limit pieces c.in_ok-seats.ensures.shares c.in_ok-values.values.items c.in_ok-seats.seats.items _ _
+    c.args.cutting.some_pieces.0 (omega (arith, c.in_ok-seats.ensures.count, c.in_ok-round.ensures.seats, c.args.cutting.some_workers.0))
+    (subst IsCoding (sym c.requires.coding) c.baskets-baskets.ensures.coding) c.class_sizes_add_up.ensures (rw c.in_ok-values.was at c.in_ok-seats.ensures.lists)
+    (λ k d below. (c.in_ok-seats.ensures.each k d below).call.met.1.values) c.in_ok-seats.ensures.seats (λ any. c.in-Ok.ensures.ended any ∙ c.in_ok-round.ensures.round.0) c.in-Ok.ensures.claimed
     (c.in-Ok.ensures.sums 0 first) (c.in-Ok.ensures.greatest 0 first) in
-    let same = ap (λ (k : Coding). length (frequent_of_coding k)) c.requires.coding in
-    omega (arith, few, same)
+    omega (arith, few, ap (λ (k : Coding). length (frequent_of_coding k)) c.requires.coding)
+
+pub joined-requires : goal.joined-requires
+joined-requires g c =
+    let coding : Coding = g.M.ClassMiner.coding_of c.args.miner.now in
+    let is_work = g.M.ClassMiner.is_work c.args.miner.now in
+    let pieces = c.args.cutting.pieces in
+    let first : 0 < length c.in-Ok.field-0.counters.items = omega (arith, c.in-Ok.ensures.counters, c.in-Ok.field-0.counters.ok, c.in_ok-round.ensures.round.1) in
+    let mined = mined_all coding is_work c.args.limit pieces c.in_ok-seats.ensures.shares c.in_ok-values.values.items c.in_ok-collected.field-0.items
+    c.args.cutting.some_pieces.0 (omega (arith, c.in_ok-collected.ensures.count, c.in_ok-collected.field-0.ok)) (rw c.in_ok-values.was at c.in_ok-seats.ensures.lists)
+    (λ k d below. (c.in_ok-seats.ensures.each k d below).call.met.1.values) c.in_ok-collected.ensures.values in
+    let few = few_sets coding is_work c.args.limit pieces c.in_ok-seats.ensures.shares c.in_ok-values.values.items c.in_ok-seats.seats.items _ _
+    c.args.cutting.some_pieces.0 (omega (arith, c.in_ok-seats.ensures.count, c.in_ok-round.ensures.seats, c.args.cutting.some_workers.0))
+    (subst IsCoding (sym c.requires.coding) c.baskets-baskets.ensures.coding) c.class_sizes_add_up.ensures (rw c.in_ok-values.was at c.in_ok-seats.ensures.lists)
+    (λ k d below. (c.in_ok-seats.ensures.each k d below).call.met.1.values) c.in_ok-seats.ensures.seats (λ any. c.in-Ok.ensures.ended any ∙ c.in_ok-round.ensures.round.0) c.in-Ok.ensures.claimed
+    (c.in-Ok.ensures.sums 0 first) (c.in-Ok.ensures.greatest 0 first) in
+    work_fits coding is_work c.args.limit _ (subst IsCoding (sym c.requires.coding) c.baskets-baskets.ensures.coding) c.class_sizes_add_up.ensures few (omega (arith, c.ranges.limit)) mined
 
 pub returns-clause-work : goal.returns-clause-work
 returns-clause-work g c =
     let coding : Coding = g.M.ClassMiner.coding_of c.args.miner.now in
     let is_work = g.M.ClassMiner.is_work c.args.miner.now in
-    let mined = mined_all coding is_work c.args.limit c.args.cutting.pieces c.in_ok-seats.ensures.shares c.in_ok-values.values.items c.in_ok-collected.field-0.items
+    let pieces = c.args.cutting.pieces in
+    let mined = mined_all coding is_work c.args.limit pieces c.in_ok-seats.ensures.shares c.in_ok-values.values.items c.in_ok-collected.field-0.items
     c.args.cutting.some_pieces.0 (omega (arith, c.in_ok-collected.ensures.count, c.in_ok-collected.field-0.ok)) (rw c.in_ok-values.was at c.in_ok-seats.ensures.lists)
     (λ k d below. (c.in_ok-seats.ensures.each k d below).call.met.1.values) c.in_ok-collected.ensures.values in
-    let within = subst (λ (k : Coding). length (frequent_of_coding k) ≤ c.args.limit) (sym c.requires.coding) (returns-clause-within g c) in
-    subst (λ (k : Coding). IsWorkOfAll is_work (length k.items) c.in_ok-classes.work) c.requires.coding
-    (work_of_all coding is_work c.args.limit _ _ (subst IsCoding (sym c.requires.coding) c.baskets-baskets.ensures.coding) c.class_sizes_add_up.ensures within (omega (arith, c.ranges.limit)) mined c.in_ok-classes.ensures.work)
+    subst (λ (k : Coding). IsWorkOfAll is_work (length k.items) c.in_ok-classes.work) c.requires.coding (work_of_all coding is_work _ _ mined c.in_ok-classes.ensures.work)

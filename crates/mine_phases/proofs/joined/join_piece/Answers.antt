@@ -9,4 +9,4 @@ pub returns-clause-work : goal.returns-clause-work
 returns-clause-work c =
     let none = nil_from_length (into_iter_items c.loop-class.class-iterator) (omega (arith, c.in-None.ensures.steps.0, c.loop-class.class-iterator.rest.ok)) in
     let zero = ap (λ l. sum (map (λ (class : List Counted × ℕ). class.1) l)) none in
-    omega (arith, zero, c.loop-class.invariant.work, c.loop-class.invariant.fits)
+    omega (arith, zero, c.loop-class.invariant.work)

@@ -1,7 +1,6 @@
-use Rattle.std.proofs.Common.{◌≡◌, ◌≤◌, ◌+◌, ◌++◌, map, min}
+use Rattle.std.proofs.Common.{◌≡◌, ◌+◌, ◌++◌, map}
 use Rattle.std.specs.List.{sum}
 use Rattle.std.specs.Vec.Iter.{into_iter_items}
-use Rattle.mine_phases.specs.Classes.{MOST_WORK}
 use Rattle.mine_phases.proofs.joined.join_piece.Given as goal
 
 abbrev pub invariant-loop-class : goal.invariant-loop-class
@@ -9,6 +8,5 @@ invariant-loop-class l = record {
   can : (goal.iterator-loop-class).can_next l.class-iterator;
   ends : (goal.iterator-loop-class).is_finite l.class-iterator;
   classes : l.classes.items ++ map (λ class. class.0) (into_iter_items l.class-iterator) ≡ l.initial.classes.items ++ map (λ class. class.0) l.fn.piece.items;
-  work : min (l.work + sum (map (λ class. class.1) (into_iter_items l.class-iterator))) MOST_WORK ≡ min (l.fn.work + sum (map (λ class. class.1) l.fn.piece.items)) MOST_WORK;
-  fits : l.work ≤ MOST_WORK;
+  work : l.work + sum (map (λ class. class.1) (into_iter_items l.class-iterator)) ≡ sum (map (λ class. class.1) l.fn.piece.items);
 }

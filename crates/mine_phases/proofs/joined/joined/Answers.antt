@@ -9,4 +9,4 @@ pub returns-clause-work : goal.returns-clause-work
 returns-clause-work c =
     let none = nil_from_length (into_iter_items c.loop-piece.piece-iterator) (omega (arith, c.in-None.ensures.steps.0, c.loop-piece.piece-iterator.rest.ok)) in
     let zero = ap (λ (l : List (Vec (List Counted × ℕ) Global)). sum (map (λ (class : List Counted × ℕ). class.1) (flat_map (λ piece. piece.items) l))) none in
-    omega (arith, zero, c.loop-piece.invariant.work, c.loop-piece.invariant.fits)
+    omega (arith, zero, c.loop-piece.invariant.work)

@@ -1,10 +1,10 @@
 use Rattle.std.proofs.Common.{◌≡◌, ap, sym, ◌∙◌, subst, length, None, Some, replicate, arith}
-use Rattle.std.specs.Prelude.{IsPermutation}
-use Rattle.std.specs.List.{flat_map, range_with_len}
+use Rattle.std.specs.List.{flat_map}
 use Rattle.std.specs.Vec.Iter.{into_iter_items}
 use Rattle.std.proofs.lemmas.List.{length-map, length-replicate, nil_from_length}
+use Rattle.mine_round.specs.Totals.{HoldsNumbersBelow}
 use Rattle.mine_phases.specs.Placed.{placed}
-use Rattle.mine_phases.specs.Share.{pieces_of}
+use Rattle.mine_phases.specs.Share.{numbers_of}
 use Rattle.mine_phases.proofs.Placing.{AreAll, all_at_first, room_for_front, all_behind, placed-append, length-placed, none_vacant}
 use Rattle.mine_phases.proofs.placed.collected.Goals as goal
 
@@ -13,20 +13,20 @@ loop-list-init g c =
     let all = c.into_iter-list-iterator.ensures.into_iter_gives.0 in
     let places = c.in_ok-collector.collector in
     let vacant = c.in_ok-collector.ensures in
-    let count : length places ≡ c.args.pieces = ap length vacant ∙ length-replicate c.args.pieces None in
+    let count : length places ≡ c.args.count = ap length vacant ∙ length-replicate c.args.count None in
     record {
       can = tt;
       ends = tt;
-      all = subst (λ l. AreAll places (flat_map (λ list. pieces_of list.items) l)) (sym all)
-          (all_at_first places (flat_map (λ list. pieces_of list.items) c.args.lists.items) (vacant ∙ ap (λ n. replicate n None) (sym count))
-          (subst (λ n. IsPermutation (flat_map (λ list. pieces_of list.items) c.args.lists.items) (range_with_len 0 n)) (sym count) c.requires));
+      all = subst (λ l. AreAll places (flat_map (λ list. numbers_of list.items) l)) (sym all)
+          (all_at_first places (flat_map (λ list. numbers_of list.items) c.args.lists.items) (vacant ∙ ap (λ n. replicate n None) (sym count))
+          (subst (λ n. HoldsNumbersBelow n (flat_map (λ list. numbers_of list.items) c.args.lists.items)) (sym count) c.requires));
       rest = ap (λ l. placed places (flat_map (λ list. list.items) l)) all ∙ ap (λ p. placed p (flat_map (λ list. list.items) c.args.lists.items)) vacant;
     }
 
 pub put_all-requires : goal.put_all-requires
 put_all-requires g c =
-    room_for_front c.loop-list.collector (pieces_of c.in-Some.list.items) (flat_map (λ list. pieces_of list.items) (into_iter_items c.next.new.self))
-    (subst (λ l. AreAll c.loop-list.collector (flat_map (λ list. pieces_of list.items) l)) c.in-Some.ensures.steps.0 c.loop-list.invariant.all)
+    room_for_front c.loop-list.collector (numbers_of c.in-Some.list.items) (flat_map (λ list. numbers_of list.items) (into_iter_items c.next.new.self))
+    (subst (λ l. AreAll c.loop-list.collector (flat_map (λ list. numbers_of list.items) l)) c.in-Some.ensures.steps.0 c.loop-list.invariant.all)
 
 pub loop-list-preserved : goal.loop-list-preserved
 loop-list-preserved g c =
@@ -38,9 +38,9 @@ loop-list-preserved g c =
     record {
       can = tt;
       ends = tt;
-      all = subst (λ p. AreAll p (flat_map (λ list. pieces_of list.items) left)) (sym put)
-          (all_behind places list.items (flat_map (λ list. pieces_of list.items) left)
-          (subst (λ l. AreAll places (flat_map (λ list. pieces_of list.items) l)) steps c.loop-list.invariant.all));
+      all = subst (λ p. AreAll p (flat_map (λ list. numbers_of list.items) left)) (sym put)
+          (all_behind places list.items (flat_map (λ list. numbers_of list.items) left)
+          (subst (λ l. AreAll places (flat_map (λ list. numbers_of list.items) l)) steps c.loop-list.invariant.all));
       rest = ap (λ p. placed p (flat_map (λ list. list.items) left)) put ∙ sym (placed-append places list.items (flat_map (λ list. list.items) left))
           ∙ ap (λ l. placed places (flat_map (λ list. list.items) l)) (sym steps) ∙ c.loop-list.invariant.rest;
     }
@@ -48,13 +48,13 @@ loop-list-preserved g c =
 pub unreachable-requires : goal.unreachable-requires
 unreachable-requires g c =
     let none = nil_from_length (into_iter_items c.loop-list.list-iterator) (omega (arith, c.in-None.ensures.steps.0, c.loop-list.list-iterator.rest.ok)) in
-    none_vacant c.loop-list.collector c.in_default.field-0.piece (subst (λ l. AreAll c.loop-list.collector (flat_map (λ list. pieces_of list.items) l)) none c.loop-list.invariant.all) c.in_default.ensures.missing
+    none_vacant c.loop-list.collector c.in_default.field-0.piece (subst (λ l. AreAll c.loop-list.collector (flat_map (λ list. numbers_of list.items) l)) none c.loop-list.invariant.all) c.in_default.ensures.missing
 
 pub returns-clause-count : goal.returns-clause-count
 returns-clause-count g c =
     let left = flat_map (λ list. list.items) (into_iter_items c.loop-list.list-iterator) in
     let all = flat_map (λ list. list.items) c.args.lists.items in
-    let same : length c.in-Ok.values.items ≡ c.args.pieces =
+    let same : length c.in-Ok.values.items ≡ c.args.count =
     sym (length-map c.in-Ok.values.items Some) ∙ ap length c.in-Ok.ensures.values ∙ sym (length-placed c.loop-list.collector left) ∙ ap length c.loop-list.invariant.rest
-    ∙ length-placed (replicate c.args.pieces None) all ∙ length-replicate c.args.pieces None in
+    ∙ length-placed (replicate c.args.count None) all ∙ length-replicate c.args.count None in
     omega (arith, same, c.in-Ok.values.ok)

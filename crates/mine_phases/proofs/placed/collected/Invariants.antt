@@ -2,7 +2,7 @@ use Rattle.std.proofs.Common.{◌≡◌, None, replicate}
 use Rattle.std.specs.List.{flat_map}
 use Rattle.std.specs.Vec.Iter.{into_iter_items}
 use Rattle.mine_phases.specs.Placed.{placed}
-use Rattle.mine_phases.specs.Share.{pieces_of}
+use Rattle.mine_phases.specs.Share.{numbers_of}
 use Rattle.mine_phases.proofs.Placing.{AreAll}
 use Rattle.mine_phases.proofs.placed.collected.Given as goal
 
@@ -10,6 +10,6 @@ abbrev pub invariant-loop-list : goal.invariant-loop-list
 invariant-loop-list g l = record {
   can : (goal.iterator-loop-list g).can_next l.list-iterator;
   ends : (goal.iterator-loop-list g).is_finite l.list-iterator;
-  all : AreAll l.collector (flat_map (λ list. pieces_of list.items) (into_iter_items l.list-iterator));
-  rest : placed l.collector (flat_map (λ list. list.items) (into_iter_items l.list-iterator)) ≡ placed (replicate l.fn.pieces None) (flat_map (λ list. list.items) l.fn.lists.items);
+  all : AreAll l.collector (flat_map (λ list. numbers_of list.items) (into_iter_items l.list-iterator));
+  rest : placed l.collector (flat_map (λ list. list.items) (into_iter_items l.list-iterator)) ≡ placed (replicate l.fn.count None) (flat_map (λ list. list.items) l.fn.lists.items);
 }

@@ -13,7 +13,7 @@ abbrev pub decreases-walk_marked : goal.decreases-walk_marked
 decreases-walk_marked l = 2 * (leaf_depth l.self.now - l.depth)
 
 abbrev pub invariant-walk-loop-place : goal.invariant-walk-loop-place
-invariant-walk-loop-place l = TreeWalk l.self l.depth l.start l.end l.items (take l.most l.items) l.weight l.initial.counts l.place l.from l.counts
+invariant-walk-loop-place l = TreeWalk l.self l.depth l.start l.end l.rest.items.now (take l.most l.rest.items.now) l.rest.weight l.initial.counts l.place l.from l.counts
 
 abbrev pub invariant-walk_marked-loop-node : goal.invariant-walk_marked-loop-node
-invariant-walk_marked-loop-node l = AddsWithin (rest_in l.self l.depth l.items) l.weight (first_leaf l.self l.depth l.start) (first_leaf l.self l.depth l.node) l.initial.counts l.counts
+invariant-walk_marked-loop-node l = AddsWithin (rest_in l.self l.depth l.rest.items.now) l.rest.weight (first_leaf l.self l.depth l.start) (first_leaf l.self l.depth l.node) l.initial.counts l.counts

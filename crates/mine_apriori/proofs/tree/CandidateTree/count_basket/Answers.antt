@@ -33,12 +33,12 @@ walk-requires-else-len-gt1-clause-run c =
 pub walk-requires-clause-rising : goal.walk-requires-clause-rising
 walk-requires-clause-rising c =
     subst IsRising (sym (c.keep_used-len.ensures.kept))
-    (IsStrictlySortedBy-filter nat_cmp (may_be_used c.deref.result.now) c.items-items.result.now (subst IsRising (sym c.items-items.ensures.items) c.items-items.ensures.rising))
+    (IsStrictlySortedBy-filter nat_cmp (may_be_used c.deref.result.now) c.items.result.now (subst IsRising (sym c.items.ensures.items) c.items.ensures.rising))
 
 pub walk-requires-then-len-gt1-clause-rising : goal.walk-requires-then-len-gt1-clause-rising
 walk-requires-then-len-gt1-clause-rising c =
     subst IsRising (sym (c.keep_used-len.ensures.kept))
-    (IsStrictlySortedBy-filter nat_cmp (may_be_used c.deref.result.now) c.items-items.result.now (subst IsRising (sym c.items-items.ensures.items) c.items-items.ensures.rising))
+    (IsStrictlySortedBy-filter nat_cmp (may_be_used c.deref.result.now) c.items.result.now (subst IsRising (sym c.items.ensures.items) c.items.ensures.rising))
 
 -- the marks tell of what is kept
 told : (c : After-mark) → (item : ℕ) → Tells c.mark.new.table (take c.keep_used-len.result c.keep_used-len.new.kept) item
@@ -58,7 +58,7 @@ returns-then-len-clause-counted c =
     let table = c.self.inside.used.items in
     let marked = subst (λ s. AreMarked s table) c.self.view_is c.self.invariant.1 in
     let items = take c.keep_used-len.result c.keep_used-len.new.kept in
-    let kept = c.keep_used-len.ensures.kept ∙ ap (λ t. filter (may_be_used t) c.items-items.result.now) c.deref.ensures.value ∙ ap (filter (may_be_used table)) c.items-items.ensures.items in
+    let kept = c.keep_used-len.ensures.kept ∙ ap (λ t. filter (may_be_used t) c.items.result.now) c.deref.ensures.value ∙ ap (filter (may_be_used table)) c.items.ensures.items in
     walked_from_roots sets items basket c.roots-roots.result c.args.place.now.weight c.args.counts.now c.walk.new.counts c.roots-roots.ensures
     (λ k below. ap (λ l. contains l (get_or sets k [])) kept ∙ kept_contains sets table basket k marked below) c.walk.ensures
 
@@ -69,11 +69,11 @@ returns-else-len-clause-counted c =
     let table = c.self.inside.used.items in
     let marked = subst (λ s. AreMarked s table) c.self.view_is c.self.invariant.1 in
     let items = take c.keep_used-len.result c.keep_used-len.new.kept in
-    let kept = c.keep_used-len.ensures.kept ∙ ap (λ t. filter (may_be_used t) c.items-items.result.now) c.deref.ensures.value ∙ ap (filter (may_be_used table)) c.items-items.ensures.items in
+    let kept = c.keep_used-len.ensures.kept ∙ ap (λ t. filter (may_be_used t) c.items.result.now) c.deref.ensures.value ∙ ap (filter (may_be_used table)) c.items.ensures.items in
     walked_from_roots sets items basket c.roots-roots.result c.args.place.now.weight c.args.counts.now c.walk-then-len-gt1.new.counts c.roots-roots.ensures
     (λ k below. ap (λ l. contains l (get_or sets k [])) kept ∙ kept_contains sets table basket k marked below) c.walk-then-len-gt1.ensures
 
 pub returns-else-len-gt1-clause-counted : goal.returns-else-len-gt1-clause-counted
 returns-else-len-gt1-clause-counted c =
-    walked_from_roots c.args.self.now c.items-items.result.now c.args.place.now.basket c.roots-roots.result c.args.place.now.weight c.args.counts.now c.walk-else-len-gt1.new.counts c.roots-roots.ensures
-    (λ k below. ap (λ l. contains l (get_or c.args.self.now k [])) c.items-items.ensures.items) c.walk-else-len-gt1.ensures
+    walked_from_roots c.args.self.now c.items.result.now c.args.place.now.basket c.roots-roots.result c.args.place.now.weight c.args.counts.now c.walk-else-len-gt1.new.counts c.roots-roots.ensures
+    (λ k below. ap (λ l. contains l (get_or c.args.self.now k [])) c.items.ensures.items) c.walk-else-len-gt1.ensures

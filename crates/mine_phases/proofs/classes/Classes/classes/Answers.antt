@@ -6,7 +6,7 @@ use Rattle.basket_ranks.specs.Codes.{Coding}
 use Rattle.basket_core.specs.declared.fault.MineFault.TheVariants.{TooMany}
 use Rattle.mine_classes.specs.Mined.{class_size}
 use Rattle.mine_phases.specs.Classes.{AreMined}
-use Rattle.mine_phases.proofs.Mining.{mined_next, ranks_are, sum_fits, sum_next}
+use Rattle.mine_phases.proofs.Mining.{mined_next, numbers_are, sum_fits, sum_next}
 use Rattle.mine_phases.proofs.classes.Classes.classes.Goals as goal
 
 pub returns-in_err-class-clause-too_many : goal.returns-in_err-class-clause-too_many
@@ -28,7 +28,7 @@ returns-in_err-class-clause-at_most g c =
     let same = ap (class_size coding) before.at in
     let below : count < high - low = omega (arith, c.loop-rank-test.true, before.at) in
     let fits = sum_fits (class_size coding) low count (high - low) below in
-    let ranks = ap (sum_by (class_size coding)) (ranks_are coding c.args.self.now.pieces c.args.piece low high c.args.self.now.ranks c.requires.ranks c.shard-start.ensures.start c.shard-start.ensures.end c.shard-start.ensures.within.0 c.shard-start.ensures.within.1) in
+    let ranks = ap (sum_by (class_size coding)) (numbers_are (length coding.items) c.args.self.now.pieces c.args.piece low high c.args.self.now.ranks c.requires.ranks c.shard-start.ensures.start c.shard-start.ensures.end c.shard-start.ensures.within.0 c.shard-start.ensures.within.1) in
     omega (arith, same, fits, ranks, before.told, c.class.ensures.at_most)
 
 pub loop-rank-preserved : goal.loop-rank-preserved
@@ -63,7 +63,7 @@ returns-clause-mined g c =
     let high = c.shard-start.result.1 in
     let before = c.loop-rank.invariant in
     let count : length c.loop-rank.classes.items ≡ high - low = omega (arith, c.loop-rank-test.false, before.at, before.within) in
-    let ranks = ranks_are coding c.args.self.now.pieces c.args.piece low high c.args.self.now.ranks c.requires.ranks c.shard-start.ensures.start c.shard-start.ensures.end c.shard-start.ensures.within.0 c.shard-start.ensures.within.1 in
+    let ranks = numbers_are (length coding.items) c.args.self.now.pieces c.args.piece low high c.args.self.now.ranks c.requires.ranks c.shard-start.ensures.start c.shard-start.ensures.end c.shard-start.ensures.within.0 c.shard-start.ensures.within.1 in
     subst (λ rs. AreMined coding (g.M.ClassMiner.is_work c.args.self.now.miner.now) rs c.loop-rank.classes.items) (ap (range_with_len low) count ∙ sym ranks) before.mined
 
 pub returns-clause-told : goal.returns-clause-told
@@ -73,7 +73,7 @@ returns-clause-told g c =
     let high = c.shard-start.result.1 in
     let before = c.loop-rank.invariant in
     let count : length c.loop-rank.classes.items ≡ high - low = omega (arith, c.loop-rank-test.false, before.at, before.within) in
-    let ranks = ranks_are coding c.args.self.now.pieces c.args.piece low high c.args.self.now.ranks c.requires.ranks c.shard-start.ensures.start c.shard-start.ensures.end c.shard-start.ensures.within.0 c.shard-start.ensures.within.1 in
+    let ranks = numbers_are (length coding.items) c.args.self.now.pieces c.args.piece low high c.args.self.now.ranks c.requires.ranks c.shard-start.ensures.start c.shard-start.ensures.end c.shard-start.ensures.within.0 c.shard-start.ensures.within.1 in
     let same = ap (sum_by (class_size coding)) (ap (range_with_len low) count ∙ sym ranks) in
     omega (arith, same, before.told)
 

@@ -10,7 +10,7 @@ use Rattle.basket_core.specs.declared.fault.MineFault.TheVariants.{TooMany}
 use Rattle.basket_sets.specs.declared.counted.Counted.{Counted}
 use Rattle.mine_round.specs.SeatView.{SeatView}
 use Rattle.mine_phases.specs.Classes.{AreMined, claimed_size, piece_from_end, piece_size, ranks_of}
-use Rattle.mine_phases.specs.Share.{pieces_of}
+use Rattle.mine_phases.specs.Share.{numbers_of}
 use Rattle.mine_phases.proofs.Claims.{behind, behind-le, behind_push}
 use Rattle.mine_phases.proofs.classes.Classes.share.Goals as goal
 
@@ -53,7 +53,7 @@ loop-alloc-preserved g c =
       sums = (rw c.in-Ok-mined.is at c.piece-back.ensures.sums) ∙ was.sums;
       places = (rw c.in-Ok-mined.is at c.piece-back.ensures.places) ∙ was.places;
       within = omega (arith, high, within, c.requires.pieces.1);
-      claimed = ap pieces_of pushed ∙ map-append (λ value. value.0) c.loop-alloc.values.items _ ∙ ap (λ l. l ++ piece_from_end pieces number ∷ []) was.claimed
+      claimed = ap numbers_of pushed ∙ map-append (λ value. value.0) c.loop-alloc.values.items _ ∙ ap (λ l. l ++ piece_from_end pieces number ∷ []) was.claimed
           ∙ sym (ap (map (piece_from_end pieces)) claimed ∙ map-append (piece_from_end pieces) before (number ∷ []));
       mined = All-same Mined _ _ pushed (All-push Mined c.loop-alloc.values.items _ was.mined (rw c.in-Ok-mined.is at c.piece-back.ensures.mined));
       told = omega (arith, added, same, sum, push, was.told, told);

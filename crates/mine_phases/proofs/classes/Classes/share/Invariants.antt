@@ -2,8 +2,8 @@ use Rattle.std.proofs.Common.{◌≡◌, ◌≤◌, ◌-◌, map, slice_index}
 use Rattle.std.specs.Prelude.{All}
 use Rattle.std.specs.List.{sum_by}
 use Rattle.mine_phases.specs.Classes.{AreMined, claimed_size, piece_from_end, ranks_of}
-use Rattle.mine_phases.specs.Found.{CountsSets}
-use Rattle.mine_phases.specs.Share.{pieces_of}
+use Rattle.mine_phases.specs.RoundTally.{CountsSets}
+use Rattle.mine_phases.specs.Share.{numbers_of}
 use Rattle.mine_phases.proofs.Claims.{behind}
 use Rattle.mine_phases.proofs.classes.Classes.share.Given as goal
 
@@ -13,7 +13,7 @@ invariant-loop-alloc g l = record {
   sums : l.tables.sums ≡ l.self.ranks;
   places : l.tables.places ≡ l.self.ranks;
   within : behind l.seat.held.claimed ≤ l.self.pieces;
-  claimed : pieces_of l.values.items ≡ map (piece_from_end l.self.pieces) l.seat.held.claimed;
+  claimed : numbers_of l.values.items ≡ map (piece_from_end l.self.pieces) l.seat.held.claimed;
   mined : All (λ value. AreMined (g.M.ClassMiner.coding_of l.self.miner.now) (g.M.ClassMiner.is_work l.self.miner.now) (ranks_of (g.M.ClassMiner.coding_of l.self.miner.now) l.self.pieces value.0) value.1.items) l.values.items;
   told : slice_index l.seat.held.added 0 ≡ sum_by (claimed_size (g.M.ClassMiner.coding_of l.self.miner.now) l.self.pieces) l.seat.held.claimed;
 }

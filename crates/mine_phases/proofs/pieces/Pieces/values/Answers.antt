@@ -1,7 +1,8 @@
-use Rattle.std.proofs.Common.{◌++◌, ◌∷◌, [], ap, sym, ◌∙◌, arith}
-use Rattle.std.proofs.lemmas.List.{map-append}
-use Rattle.std.proofs.lemmas.List.Elements.{All-push, All-same}
-use Rattle.mine_phases.specs.Share.{pieces_of}
+use Rattle.std.proofs.Common.{ℕ, List, ◌++◌, ◌∷◌, [], ap, sym, ◌∙◌, arith}
+use Rattle.std.specs.List.{flat_map, range_with_len}
+use Rattle.std.proofs.lemmas.List.{append-nil}
+use Rattle.std.proofs.lemmas.List.Concat.{flat_map-append}
+use Rattle.basket_ranks.specs.Shards.{shard_of}
 use Rattle.mine_phases.proofs.Claims.{behind, behind-le, behind_push}
 use Rattle.mine_phases.proofs.pieces.Pieces.values.Goals as goal
 
@@ -14,18 +15,19 @@ loop-piece-smaller g c =
 
 pub loop-piece-preserved : goal.loop-piece-preserved
 loop-piece-preserved g c =
-    let before = c.loop-piece.seat.held.claimed in
+    let before = c.loop-piece.seat.held in
     let was = c.loop-piece.invariant in
     let piece = c.in-Some.piece in
+    let pieces = c.args.self.now.phase.now.cutting.pieces in
     let claimed = ap (λ h. h.claimed) c.in-Some.ensures.piece.1 in
-    let high = ap behind claimed ∙ behind_push before piece c.in-Some.ensures.rises in
+    let high = ap behind claimed ∙ behind_push before.claimed piece c.in-Some.ensures.rises in
     let within = c.in-Some.ensures.piece.0 in
-    let pushed = c.in_ok-push.ensures.items in
+    let part : ℕ → List ℕ = λ p. shard_of p pieces (range_with_len 0 (g.P.PartWork.part_count c.args.self.now.work.now)) in
     record {
       own = c.claim_piece.ensures.own ∙ was.own;
       within = omega arith;
-      tools = c.in_ok-value.ensures.tools;
-      claimed = ap pieces_of pushed ∙ map-append (λ value. value.0) c.loop-piece.values.items _ ∙ ap (λ l. l ++ piece ∷ []) was.claimed ∙ sym claimed;
-      each = All-same (λ value. g.P.PieceWork.is_value c.args.self.now.work.now c.args.self.now.phase.now.cutting.pieces value.0 value.1) _ _ pushed
-          (All-push (λ value. g.P.PieceWork.is_value c.args.self.now.work.now c.args.self.now.phase.now.cutting.pieces value.0 value.1) c.loop-piece.values.items _ was.each c.in_ok-value.ensures.value);
+      tools = c.in_ok-add_values.ensures.tools;
+      claimed = c.in_ok-add_values.ensures.parts ∙ ap (λ l. l ++ part piece) was.claimed ∙ ap (λ l. flat_map part before.claimed ++ l) (sym (append-nil (part piece)))
+          ∙ sym (flat_map-append part before.claimed (piece ∷ [])) ∙ ap (flat_map part) (sym claimed);
+      each = c.in_ok-add_values.ensures.each;
     }

@@ -1,6 +1,6 @@
 //! The sets that the workers of a round have found together.
 ghost use Rattle.std.specs.Prelude.{◌≡◌, ◌≤◌, ◌<◌, ◌+◌, ◌-◌, ◌^◌, IsTrue, min, slice_index};
-ghost use Rattle.mine_phases.specs.Found.{CountsSets, no_seat, still};
+ghost use Rattle.mine_phases.specs.RoundTally.{CountsSets, no_seat, still};
 ghost use Rattle.mine_round.specs.SeatView.{SeatView};
 
 use basket_core::Tally;
@@ -23,7 +23,7 @@ impl Start for Brand {
 /// A worker's tally. It counts the sets of all workers in the one counter of a round, to which it adds
 /// its own in portions, and is over where the number that its worker last saw there is above the limit.
 #[derive(Drop)]
-pub struct Found<'a, S: Start> {
+pub struct RoundTally<'a, S: Start> {
     round: &'a Round,
     seat: RoundSeat,
     limit: u32,
@@ -34,19 +34,19 @@ pub struct Found<'a, S: Start> {
     of: PhantomData<S>,
 }
 
-impl<'a, S: Start> Model for Found<'a, S> {
-    ghost use Rattle.mine_phases.specs.Found.{FoundView, IsFound};
+impl<'a, S: Start> Model for RoundTally<'a, S> {
+    ghost use Rattle.mine_phases.specs.RoundTally.{TallyView, IsRoundTally};
 
-    ghost Value = { FoundView };
+    ghost Value = { TallyView };
 
     ghost view = { λ f. record { round = f.round.now; seat = f.seat; limit = f.limit; told = f.told; waiting = f.waiting; over = f.over } };
 
-    ghost invariant = { λ f. IsFound S.start (record { round = f.round.now; seat = f.seat; limit = f.limit; told = f.told; waiting = f.waiting; over = f.over }) };
+    ghost invariant = { λ f. IsRoundTally S.start (record { round = f.round.now; seat = f.seat; limit = f.limit; told = f.told; waiting = f.waiting; over = f.over }) };
 }
 
-impl<'a, S: Start> Found<'a, S> {
+impl<'a, S: Start> RoundTally<'a, S> {
     ghost use Rattle.std.specs.Prelude.{false};
-    ghost use Rattle.mine_phases.specs.Found.{IsFound};
+    ghost use Rattle.mine_phases.specs.RoundTally.{IsRoundTally};
 
     /// The tally of a worker that has seen no more sets than the limit.
     pub fn new(round: &'a Round, seat: RoundSeat, limit: u32) -> Self
@@ -55,7 +55,7 @@ impl<'a, S: Start> Found<'a, S> {
         requires few { slice_index seat.held.seen 0 ≤ limit }
         ensures { result ≡ record { round = round.now; seat = seat; limit = limit; told = 0; waiting = 0; over = false } }
     {
-        Found {
+        RoundTally {
             round,
             seat,
             limit,
@@ -81,7 +81,7 @@ impl<'a, S: Start> Found<'a, S> {
     }
 }
 
-impl<'a, S: Start> Tally for Found<'a, S> {
+impl<'a, S: Start> Tally for RoundTally<'a, S> {
     ghost limit_of = { λ f. f.limit };
 
     ghost told_of = { λ f. f.told };

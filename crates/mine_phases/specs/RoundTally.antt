@@ -3,10 +3,10 @@ use Rattle.std.specs.Prelude.{◌≡◌, ◌≤◌, ◌<◌, ◌+◌, ℕ, Bool,
 use Rattle.mine_round.specs.Record.{unused}
 use Rattle.mine_round.specs.RoundView.{RoundView}
 use Rattle.mine_round.specs.SeatView.{SeatView}
-use Rattle.mine_phases.specs.declared.found.TheConstants.{PORTION}
+use Rattle.mine_phases.specs.declared.round_tally.TheConstants.{PORTION}
 
 -- a tally: its round and its seat, its limit, how many sets were told to it, how many of these its seat has yet to add, and whether it is over
-pub record FoundView : Type 0 where
+pub record TallyView : Type 0 where
   pub round : RoundView
   pub seat : SeatView
   pub limit : ℕ
@@ -31,10 +31,10 @@ pub record CountsSets (round : RoundView) (seat : SeatView) : Type 0 where
   pub known : slice_index seat.held.added 0 ≤ slice_index seat.held.seen 0
 
 -- the tally counts in the one counter of its round: its seat added there what was told since the start, but for what waits, and it is over where the seat has last seen more there than the limit; then none waits
-pub record IsFound (start : SeatView) (found : FoundView) : Type 0 where
-  pub counts : CountsSets found.round found.seat
-  pub same : still found.seat ≡ still start
-  pub all_told : slice_index found.seat.held.added 0 + found.waiting ≡ slice_index start.held.added 0 + found.told
-  pub few_wait : found.waiting < PORTION
-  pub none_waits : IsTrue found.over → found.waiting ≡ 0
-  pub above : found.over ≡ nat_lt found.limit (slice_index found.seat.held.seen 0)
+pub record IsRoundTally (start : SeatView) (tally : TallyView) : Type 0 where
+  pub counts : CountsSets tally.round tally.seat
+  pub same : still tally.seat ≡ still start
+  pub all_told : slice_index tally.seat.held.added 0 + tally.waiting ≡ slice_index start.held.added 0 + tally.told
+  pub few_wait : tally.waiting < PORTION
+  pub none_waits : IsTrue tally.over → tally.waiting ≡ 0
+  pub above : tally.over ≡ nat_lt tally.limit (slice_index tally.seat.held.seen 0)
