@@ -3,9 +3,11 @@ ghost use Rattle.std.specs.Prelude.{◌≡◌, ◌≤◌, All, IfOk, length, sum
 ghost use Rattle.basket_sets.specs.Counts.{AllBelow};
 ghost use Rattle.basket_sets.specs.Database.{MOST_WEIGHT};
 ghost use Rattle.mine_classes.specs.declared.words.Word.{Word as Bits};
+ghost use Rattle.mine_classes.specs.Covers.{AreCovers, weights_of};
 ghost use Rattle.mine_classes.specs.ListBaskets.{AreRankBaskets, HaveSameWeights};
 ghost use Rattle.mine_classes.specs.Words.{rank_bits, word_places};
 
+use crate::covers::covers_of_words;
 use crate::list_baskets::ListBaskets;
 use crate::words::{WORD_RANKS, Word, add, bit_of, merged};
 use basket_ranks::Coded;
@@ -89,6 +91,21 @@ impl WordBaskets {
         ensures { IfOk result (λ lists. lists ≡ self.now) }
     {
         ListBaskets::of_words(alloc, self.count, &self.words)
+    }
+
+    /// The weight of each basket, by the basket's place.
+    #[tactic(auto, using(crate::proofs::CoversLemmas::word_weights))]
+    pub fn weights(&self, alloc: Global) -> Result<Vec<u64>, AllocError>
+        ensures { IfOk result (λ weights. weights.items ≡ weights_of self.now.baskets) }
+    {
+        self.words.iter().map(|word| word.weight).collect(alloc)
+    }
+
+    /// The cover of each rank: the places, rising, of the baskets that have it.
+    pub fn covers(&self, alloc: Global) -> Result<Vec<Vec<u32>>, AllocError>
+        ensures { IfOk result (λ covers. AreCovers self.now covers.items) }
+    {
+        covers_of_words(alloc, self.count, &self.words)
     }
 
     /// The words, in order.
