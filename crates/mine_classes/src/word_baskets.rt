@@ -5,7 +5,7 @@ ghost use Rattle.basket_sets.specs.Database.{MOST_WEIGHT};
 ghost use Rattle.mine_classes.specs.declared.words.Word.{Word as Bits};
 ghost use Rattle.mine_classes.specs.Covers.{AreCovers, weights_of};
 ghost use Rattle.mine_classes.specs.ListBaskets.{AreRankBaskets, HaveSameWeights};
-ghost use Rattle.mine_classes.specs.Words.{rank_bits, word_places};
+ghost use Rattle.mine_classes.specs.Words.{AreInOrder, rank_bits, word_places};
 
 use crate::covers::covers_of_words;
 use crate::list_baskets::ListBaskets;
@@ -23,20 +23,14 @@ pub struct WordBaskets {
 }
 
 impl Model for WordBaskets {
-    ghost use Rattle.std.specs.Prelude.{All, ◌≤◌, sum_by};
-    ghost use Rattle.basket_sets.specs.Database.{MOST_WEIGHT};
-    ghost use Rattle.mine_classes.specs.declared.words.TheConstants.{WORD_RANKS};
-    ghost use Rattle.mine_classes.specs.declared.words.Word.{Word as Bits};
     ghost use Rattle.mine_classes.specs.ListBaskets.{RankBaskets};
-    ghost use Rattle.mine_classes.specs.Words.{word_places};
+    ghost use Rattle.mine_classes.specs.Words.{KeepsWords, word_places};
 
     ghost Value = { RankBaskets };
 
     ghost view = { λ w. record { ranks = w.count; baskets = word_places w.count w.words.items } };
 
-    ghost invariant = { λ w. (w.count ≤ WORD_RANKS)
-        × All (λ (word : Bits). 1 ≤ word.weight) w.words.items
-        × (sum_by (λ (word : Bits). word.weight) w.words.items ≤ MOST_WEIGHT) };
+    ghost invariant = { λ w. KeepsWords w.count w.words.items };
 }
 
 impl WordBaskets {
@@ -57,11 +51,12 @@ impl WordBaskets {
         })
     }
 
-    /// The same of words that stand in order, no two of them equal, which stay as they are.
+    /// The same of words that stay as they are.
     pub fn of_ordered(count: u32, words: Vec<Word>) -> Self
         requires few { count ≤ WORD_RANKS }
         requires some { All (λ (word : Bits). 1 ≤ word.weight) words.items }
         requires light { sum_by (λ (word : Bits). word.weight) words.items ≤ MOST_WEIGHT }
+        requires order { AreInOrder words.items }
         ensures ranked { AreRankBaskets result }
         ensures baskets { result ≡ record { ranks = count; baskets = word_places count words.items } }
     {
