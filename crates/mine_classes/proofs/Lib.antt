@@ -13,5 +13,6 @@ mod PlaceLemmas
 mod BitLemmas
 mod BitRankLemmas
 mod WordLemmas
+mod CoversLemmas
 mod CodedLemmas
 mod MinedLemmas

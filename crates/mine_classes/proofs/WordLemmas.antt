@@ -1,9 +1,11 @@
 -- Words with weights.
-use Rattle.std.proofs.Common.{◌≡◌, ℕ, ◌+◌, ◌<◌, ◌≤◌, Bool, List, [], ◌∷◌, ◌++◌, length, take, get_or, set, cond, refl, sym, ap, ◌∙◌, subst, arith}
+use Rattle.std.proofs.Common.{◌≡◌, ℕ, ◌+◌, ◌-◌, ◌<◌, ◌≤◌, Bool, List, [], ◌∷◌, ◌++◌, length, take, get_or, set, cond, refl, sym, ap, ◌∙◌, subst, inl, inr, arith}
 use Rattle.std.specs.Prelude.{All}
 use Rattle.std.specs.List.{range_with_len, sum_by}
 use Rattle.std.specs.List.Sorted.{IsPermutation}
-use Rattle.std.proofs.lemmas.List.{get_or-map, length-map, map-append, take_more}
+use Rattle.std.proofs.Math.Seq.{get_or-append_seam, map-set_same}
+use Rattle.std.proofs.lemmas.Bool.{cases_lt}
+use Rattle.std.proofs.lemmas.List.{get_or-map, get_or_append_left, get_or_default, length-append, length-map, length-set, map-append, take_more}
 use Rattle.std.proofs.lemmas.List.Sorted.{IsPermutation-map, sum_by-IsPermutation}
 use Rattle.std.proofs.lemmas.List.Sums.{sum_by-append, sum_by-cons, sum_by-set}
 use Rattle.basket_sets.specs.declared.weighted.Weighted.{Weighted}
@@ -13,7 +15,7 @@ use Rattle.basket_sets.proofs.theory.Members.{Member-filter}
 use Rattle.basket_sets.proofs.theory.Rising.{Member-from_has}
 use Rattle.mine_classes.specs.declared.words.Word.{Word}
 use Rattle.mine_classes.specs.ListBaskets.{AreRankBaskets, HaveSameWeights, IsRankBasket, weight_where}
-use Rattle.mine_classes.specs.Words.{has_rank, ranks_in, word_place, word_places}
+use Rattle.mine_classes.specs.Words.{AreInOrder, EndsBy, has_rank, ranks_in, word_place, word_places}
 use Rattle.mine_classes.proofs.ConditionalLemmas.{cond_sum}
 use Rattle.mine_classes.proofs.theory.Kept.{Member-range, filtered_range_rises}
 
@@ -86,3 +88,46 @@ word_more count before place old new word is so_far added test =
     ∙ ap (λ p. weight_where test (word_places count old) + weight_where test (p ∷ [])) is
     ∙ sym (ap (weight_where test) (map-append (word_place count) old (word ∷ [])) ∙ sum_by-append (weigh test) (word_places count old) (word_place count word ∷ []))
     ∙ added test
+
+-- ---- words in order
+
+-- a word whose bits stay
+bits_stay : (words : List Word) (i : ℕ) (d new : Word) → i < length words → new.bits ≡ (get_or words i d).bits → (k : ℕ) (e : Word) → k < length words → (get_or (set words i new) k e).bits ≡ (get_or words k e).bits
+bits_stay words i d new here same k e low =
+    sym (get_or-map (λ (w : Word). w.bits) (set words i new) k e e.bits (subst (λ n. k < n) (sym (length-set words i new)) low))
+    ∙ ap (λ l. get_or l k e.bits) (map-set_same (λ (w : Word). w.bits) words i new d same) ∙ get_or-map (λ (w : Word). w.bits) words k e e.bits low
+
+pub heavier_order : (words : List Word) (i : ℕ) (d new : Word) → i < length words → new.bits ≡ (get_or words i d).bits → AreInOrder words → AreInOrder (set words i new)
+heavier_order words i d new here same order k e low =
+    let long = length-set words i new in
+    let first = bits_stay words i d new here same k e (omega (arith, low, long)) in
+    let second = bits_stay words i d new here same (k + 1) e (omega (arith, low, long)) in
+    let less = order k e (omega (arith, low, long)) in
+    omega (arith, first, second, less)
+
+pub heavier_end : (words : List Word) (i : ℕ) (d new : Word) → i < length words → i ≡ length words - 1 → new.bits ≡ (get_or words i d).bits → EndsBy new.bits (set words i new)
+heavier_end words i d new here last same e some =
+    let at : length (set words i new) - 1 ≡ i = omega (arith, last, length-set words i new) in
+    let stays = ap (λ n. (get_or (set words i new) n e).bits) at ∙ bits_stay words i d new here same i e here ∙ ap (λ (w : Word). w.bits) (get_or_default words i e d here) ∙ sym same in
+    omega (arith, stays)
+
+pub pushed_order : (words : List Word) (word : Word) → AreInOrder words → ((last : Word) → 0 < length words → (get_or words (length words - 1) last).bits < word.bits) → AreInOrder (words ++ word ∷ [])
+pushed_order words word order above k e low = elim (cases_lt (k + 1) (length words)) [
+  | inl less ↦
+      (let first = ap (λ (w : Word). w.bits) (get_or_append_left words (word ∷ []) e k (omega (arith, less))) in
+      let second = ap (λ (w : Word). w.bits) (get_or_append_left words (word ∷ []) e (k + 1) less) in
+      let before = order k e less in omega (arith, first, second, before))
+  | inr more ↦
+      (let long = length-append words (word ∷ []) in
+      let at : k ≡ length words - 1 = omega (arith, low, long, more) in
+      let end : k + 1 ≡ length words = omega (arith, low, long, more) in
+      let first = ap (λ (w : Word). w.bits) (get_or_append_left words (word ∷ []) e k (omega (arith, end)) ∙ ap (λ n. get_or words n e) at) in
+      let second = ap (λ n. (get_or (words ++ word ∷ []) n e).bits) end ∙ ap (λ (w : Word). w.bits) (get_or-append_seam words word [] e) in
+      let less = above e (omega (arith, end)) in omega (arith, first, second, less))
+]
+
+pub pushed_end : (words : List Word) (word : Word) → EndsBy word.bits (words ++ word ∷ [])
+pushed_end words word e some =
+    let at : length (words ++ word ∷ []) - 1 ≡ length words = omega (arith, length-append words (word ∷ [])) in
+    let is = ap (λ n. (get_or (words ++ word ∷ []) n e).bits) at ∙ ap (λ (w : Word). w.bits) (get_or-append_seam words word [] e) in
+    omega (arith, is)

@@ -8,5 +8,6 @@ pub mod Pairs
 pub mod Places
 pub mod Words
 pub mod Form
+pub mod Covers
 pub mod Worked
 pub mod Mined

@@ -1,5 +1,5 @@
 -- What a miner of classes answers, and what the answers for all classes add up to.
-use Rattle.std.specs.Prelude.{◌≡◌, ◌≤◌, ◌<◌, ◌+◌, ◌^◌, ℕ, IsTrue, List, [], ◌∷◌, length, map, slice_index_or}
+use Rattle.std.specs.Prelude.{◌≡◌, ◌≤◌, ◌<◌, ◌+◌, ◌-◌, ◌^◌, ℕ, IsTrue, List, [], ◌∷◌, length, map, slice_index_or}
 use Rattle.std.specs.List.{flat_map, range_with_len, sum_by}
 use Rattle.basket_sets.specs.declared.weighted.Weighted.{Weighted}
 use Rattle.basket_sets.specs.declared.minimum.Minimum.{Minimum}
@@ -18,6 +18,10 @@ pub record ListsClassItems (coding : Coding) (rank : ℕ) (list : List Counted) 
 -- how many sets a class of coded baskets has
 abbrev pub class_size : Coding → ℕ → ℕ
 class_size coding rank = length (class_of coding.baskets coding.minimum rank)
+
+-- how many steps a miner counts for each set that it finds, at most
+abbrev pub MOST_SET_WORK : ℕ
+MOST_SET_WORK = 2 ^ 32 - 1
 
 -- each rank is that of a frequent item
 abbrev pub RanksAreFrequent : Coding → Type 0

@@ -1,5 +1,6 @@
 //! The form in which the baskets of a conditional database are kept.
 ghost use Rattle.std.specs.Prelude.{◌≡◌, IfOk};
+ghost use Rattle.mine_classes.specs.Covers.{AreCovers, weights_of};
 ghost use Rattle.mine_classes.specs.Form.{form_baskets};
 ghost use Rattle.mine_classes.specs.ListBaskets.{AreRankBaskets, HaveSameWeights};
 
@@ -35,6 +36,26 @@ impl Form {
         match self {
             Form::Lists(lists) => Ok(Form::Lists(lists.sorted(alloc)?)),
             Form::Words(words) => Ok(Form::Words(words)),
+        }
+    }
+
+    /// The weight of each basket, by the basket's place.
+    pub fn weights(&self, alloc: Global) -> Result<Vec<u64>, AllocError>
+        ensures { IfOk result (λ weights. weights.items ≡ weights_of (form_baskets self.now).baskets) }
+    {
+        match self {
+            Form::Lists(lists) => lists.weights(alloc),
+            Form::Words(words) => words.weights(alloc),
+        }
+    }
+
+    /// The cover of each rank: the places, rising, of the baskets that have it.
+    pub fn covers(&self, alloc: Global) -> Result<Vec<Vec<u32>>, AllocError>
+        ensures { IfOk result (λ covers. AreCovers (form_baskets self.now) covers.items) }
+    {
+        match self {
+            Form::Lists(lists) => lists.covers(alloc),
+            Form::Words(words) => words.covers(alloc),
         }
     }
 }

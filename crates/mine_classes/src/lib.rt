@@ -9,6 +9,7 @@
 #![tactic(auto)]
 
 mod conditional;
+mod covers;
 mod entries;
 mod form;
 mod found;

@@ -3,9 +3,11 @@ ghost use Rattle.std.specs.Prelude.{◌≡◌, ◌≤◌, All, IfOk, length, sum
 ghost use Rattle.basket_sets.specs.Counts.{AllBelow};
 ghost use Rattle.basket_sets.specs.Database.{MOST_WEIGHT};
 ghost use Rattle.mine_classes.specs.declared.words.Word.{Word as Bits};
+ghost use Rattle.mine_classes.specs.Covers.{AreCovers, weights_of};
 ghost use Rattle.mine_classes.specs.ListBaskets.{AreRankBaskets, HaveSameWeights};
-ghost use Rattle.mine_classes.specs.Words.{rank_bits, word_places};
+ghost use Rattle.mine_classes.specs.Words.{AreInOrder, rank_bits, word_places};
 
+use crate::covers::covers_of_words;
 use crate::list_baskets::ListBaskets;
 use crate::words::{WORD_RANKS, Word, add, bit_of, merged};
 use basket_ranks::Coded;
@@ -21,20 +23,14 @@ pub struct WordBaskets {
 }
 
 impl Model for WordBaskets {
-    ghost use Rattle.std.specs.Prelude.{All, ◌≤◌, sum_by};
-    ghost use Rattle.basket_sets.specs.Database.{MOST_WEIGHT};
-    ghost use Rattle.mine_classes.specs.declared.words.TheConstants.{WORD_RANKS};
-    ghost use Rattle.mine_classes.specs.declared.words.Word.{Word as Bits};
     ghost use Rattle.mine_classes.specs.ListBaskets.{RankBaskets};
-    ghost use Rattle.mine_classes.specs.Words.{word_places};
+    ghost use Rattle.mine_classes.specs.Words.{KeepsWords, word_places};
 
     ghost Value = { RankBaskets };
 
     ghost view = { λ w. record { ranks = w.count; baskets = word_places w.count w.words.items } };
 
-    ghost invariant = { λ w. (w.count ≤ WORD_RANKS)
-        × All (λ (word : Bits). 1 ≤ word.weight) w.words.items
-        × (sum_by (λ (word : Bits). word.weight) w.words.items ≤ MOST_WEIGHT) };
+    ghost invariant = { λ w. KeepsWords w.count w.words.items };
 }
 
 impl WordBaskets {
@@ -55,11 +51,12 @@ impl WordBaskets {
         })
     }
 
-    /// The same of words that stand in order, no two of them equal, which stay as they are.
+    /// The same of words that stay as they are.
     pub fn of_ordered(count: u32, words: Vec<Word>) -> Self
         requires few { count ≤ WORD_RANKS }
         requires some { All (λ (word : Bits). 1 ≤ word.weight) words.items }
         requires light { sum_by (λ (word : Bits). word.weight) words.items ≤ MOST_WEIGHT }
+        requires order { AreInOrder words.items }
         ensures ranked { AreRankBaskets result }
         ensures baskets { result ≡ record { ranks = count; baskets = word_places count words.items } }
     {
@@ -89,6 +86,21 @@ impl WordBaskets {
         ensures { IfOk result (λ lists. lists ≡ self.now) }
     {
         ListBaskets::of_words(alloc, self.count, &self.words)
+    }
+
+    /// The weight of each basket, by the basket's place.
+    #[tactic(auto, using(crate::proofs::CoversLemmas::word_weights))]
+    pub fn weights(&self, alloc: Global) -> Result<Vec<u64>, AllocError>
+        ensures { IfOk result (λ weights. weights.items ≡ weights_of self.now.baskets) }
+    {
+        self.words.iter().map(|word| word.weight).collect(alloc)
+    }
+
+    /// The cover of each rank: the places, rising, of the baskets that have it.
+    pub fn covers(&self, alloc: Global) -> Result<Vec<Vec<u32>>, AllocError>
+        ensures { IfOk result (λ covers. AreCovers self.now covers.items) }
+    {
+        covers_of_words(alloc, self.count, &self.words)
     }
 
     /// The words, in order.

@@ -1,12 +1,13 @@
 //! Baskets of up to 64 ranks, each as the bits of a word.
-ghost use Rattle.std.specs.Prelude.{◌≡◌, ◌≤◌, ◌<◌, ◌+◌, ◌-◌, ◌^◌, ◌++◌, [], ◌∷◌, ℕ, All, IfOk, IsTrue, OnOk, length, map, replicate, slice_index_or, sum_by};
+ghost use Rattle.std.specs.Prelude.{◌≡◌, ◌≢◌, ◌≤◌, ◌<◌, ◌+◌, ◌-◌, ◌^◌, ◌++◌, [], ◌∷◌, ℕ, All, IfOk, IsTrue, OnOk, false, length, map, replicate, slice_index_or, sum_by};
+ghost use Rattle.std.specs.List.Sorted.{IsNonDecreasingBy};
 ghost use Rattle.basket_sets.specs.Counts.{AllBelow};
 ghost use Rattle.basket_sets.specs.Database.{MOST_WEIGHT};
 ghost use Rattle.basket_sets.specs.Itemset.{IsRising};
 ghost use Rattle.mine_classes.specs.declared.words.Word.{Word as Bits};
 ghost use Rattle.mine_classes.specs.ListBaskets.{AreRankBaskets, HaveSameWeights};
 ghost use Rattle.mine_classes.specs.Span.{IsWithin, baskets_at};
-ghost use Rattle.mine_classes.specs.Words.{AreBits, has_rank, ranks_in, table_bits, table_word, word_places};
+ghost use Rattle.mine_classes.specs.Words.{AreBits, AreInOrder, EndsBy, has_rank, ranks_in, table_bits, table_word, word_places};
 
 use crate::span::{BASKETS_AHEAD, Span, read_ahead};
 use std::alloc::{AllocError, Global};
@@ -113,7 +114,8 @@ fn bits_of(of: &[u64], basket: &[u32]) -> u64
 
 /// Whether the last word has these bits.
 fn repeats(words: &[Word], bits: u64) -> bool
-    ensures { IsTrue result → (0 < length words.now) × ((d : Bits) → (slice_index_or words.now (length words.now - 1) d).bits ≡ bits) }
+    ensures same { IsTrue result → (0 < length words.now) × ((d : Bits) → (slice_index_or words.now (length words.now - 1) d).bits ≡ bits) }
+    ensures other { result ≡ false → (d : Bits) → 0 < length words.now → (slice_index_or words.now (length words.now - 1) d).bits ≢ bits }
 {
     match words.last() {
         Some(last) => last.bits == bits,
@@ -128,6 +130,8 @@ pub fn add(words: &mut Vec<Word>, word: Word) -> Result<(), AllocError>
     ensures some { OnOk result (All (λ (other : Bits). 1 ≤ other.weight) words.new.items) }
     ensures light { OnOk result (sum_by (λ (other : Bits). other.weight) words.new.items ≡ sum_by (λ (other : Bits). other.weight) words.old.items + word.weight) }
     ensures weights { OnOk result ((count : ℕ) → HaveSameWeights (word_places count (words.old.items ++ word ∷ [])) (word_places count words.new.items)) }
+    ensures order { OnOk result (AreInOrder words.old.items → EndsBy word.bits words.old.items → AreInOrder words.new.items) }
+    ensures end { OnOk result (EndsBy word.bits words.new.items) }
 {
     if repeats(words, word.bits) {
         let last = words.len() - 1;
@@ -167,10 +171,12 @@ pub fn words_of(
     Ok(words)
 }
 
-/// The words with equal neighbours merged.
+/// The words, which are sorted, with equal ones merged.
 pub fn merged(alloc: Global, words: &[Word]) -> Result<Vec<Word>, AllocError>
     requires some { All (λ (word : Bits). 1 ≤ word.weight) words.now }
     requires light { sum_by (λ (word : Bits). word.weight) words.now ≤ MOST_WEIGHT }
+    requires sorted { IsNonDecreasingBy (λ (word : Bits). word.bits) words.now }
+    ensures order { IfOk result (λ merged. AreInOrder merged.items) }
     ensures some { IfOk result (λ merged. All (λ (word : Bits). 1 ≤ word.weight) merged.items) }
     ensures light { IfOk result (λ merged. sum_by (λ (word : Bits). word.weight) merged.items ≡ sum_by (λ (word : Bits). word.weight) words.now) }
     ensures weights { IfOk result (λ merged. (count : ℕ) → HaveSameWeights (word_places count words.now) (word_places count merged.items)) }

@@ -1,5 +1,5 @@
 //! Baskets of up to 64 ranks, each as the bits of a word: their pairs, and those of a rank.
-ghost use Rattle.std.specs.Prelude.{◌≡◌, ◌≤◌, ◌<◌, ◌+◌, ℕ, All, IfOk, length, map, slice_index, sum_by};
+ghost use Rattle.std.specs.Prelude.{◌≡◌, ◌≤◌, ◌<◌, ◌+◌, ℕ, All, IfOk, IsTrue, length, map, slice_index, sum_by};
 ghost use Rattle.std.specs.List.{flat_map, list_all, range_with_len};
 ghost use Rattle.basket_ranks.specs.Codes.{decoded_place};
 ghost use Rattle.basket_sets.specs.Counts.{AllBelow};
@@ -10,7 +10,7 @@ ghost use Rattle.mine_classes.specs.declared.words.Word.{Word as Bits};
 ghost use Rattle.mine_classes.specs.Conditional.{kept_place};
 ghost use Rattle.mine_classes.specs.ListBaskets.{AreRankBaskets, HaveSameWeights};
 ghost use Rattle.mine_classes.specs.Pairs.{pairs_of};
-ghost use Rattle.mine_classes.specs.Words.{ranks_in, word_places};
+ghost use Rattle.mine_classes.specs.Words.{AreInOrder, ranks_in, word_places};
 ghost use Rattle.mine_fp.specs.Trees.{is_branch};
 ghost use Rattle.mine_fp.specs.Words.{pair_weight, rank_weight};
 
@@ -64,14 +64,16 @@ pub fn below(
     let count = pairs.len() as u32;
     let words = words_below(alloc, baskets.words(), rank, pairs)?;
     // Where none or only the greatest of the lower ranks were dropped, they are as they were.
-    if count == rank || are_in_order(&words) {
+    if are_in_order(&words) {
         return Ok(WordBaskets::of_ordered(count, words));
     }
     WordBaskets::of(alloc, count, words)
 }
 
 /// Whether the words are in order, no two of them equal.
-fn are_in_order(words: &[Word]) -> bool {
+fn are_in_order(words: &[Word]) -> bool
+    ensures { IsTrue result → AreInOrder words.now }
+{
     words.is_sorted_by(|word, next| word.bits < next.bits)
 }
 

@@ -13,7 +13,8 @@ use Rattle.basket_sets.specs.Support.{support_of}
 use Rattle.basket_sets.proofs.theory.Members.{Member, Member-filter, Member-from_filter}
 use Rattle.basket_sets.proofs.theory.Rising.{Member-from_has, has-from_Member, cons_rises, nil_rises, first_below, rest_rises, same_rising, contains_each, has_each, has_place, same_test}
 use Rattle.basket_sets.proofs.theory.Support.{support-cons}
-use Rattle.mine_vertical.specs.Cover.{IsCover, all_places, basket_at, common, cover_of, cover_weight, lacking, weights_of}
+use Rattle.mine_classes.specs.Covers.{basket_at, cover_of, weights_of}
+use Rattle.mine_vertical.specs.Cover.{IsCover, all_places, common, cover_weight, lacking}
 
 -- ---- numbers in a row
 

@@ -11,7 +11,6 @@ mod BitLemmas
 mod WordLemmas
 mod PlaneLemmas
 mod MarkLemmas
-mod CoversLemmas
 mod WorkedLemmas
 mod RemadeLemmas
 mod PlacesLemmas

@@ -24,7 +24,8 @@ use Rattle.mine_classes.specs.declared.words.Word.{Word}
 use Rattle.mine_classes.specs.ListBaskets.{AreRankBaskets, RankBaskets, weight_where}
 use Rattle.mine_classes.specs.Words.{has_rank, ranks_in, word_place, word_places}
 use Rattle.mine_vertical.specs.Bits.{word_at, words_from}
-use Rattle.mine_vertical.specs.Cover.{IsAdded, basket_at, cover_of, weights_of}
+use Rattle.mine_classes.specs.Covers.{basket_at, cover_of, weights_of}
+use Rattle.mine_vertical.specs.Cover.{IsAdded}
 use Rattle.mine_vertical.specs.Planes.{has_bit}
 use Rattle.mine_vertical.specs.Remade.{AreBitsOf, HaveSameNonempty, bit_places}
 use Rattle.mine_vertical.proofs.CoverLemmas.{Member-into_range, Member-range, from_cover, into_cover}

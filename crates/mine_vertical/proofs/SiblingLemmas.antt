@@ -1,11 +1,11 @@
 -- The siblings that a class begins with.
 use Rattle.std.proofs.Common.{◌≡◌, ℕ, zero, suc, ◌+◌, ◌<◌, ◌≤◌, Bool, true, false, ◌&&◌, List, [], ◌∷◌, ◌++◌, length, get_or, map, cond, leb, ltb, refl, sym, ap, ◌∙◌, subst, inl, inr, arith, zero-add, add-one}
-use Rattle.std.specs.Prelude.{All, nat_eq}
+use Rattle.std.specs.Prelude.{All, nat_eq, sum}
 use Rattle.std.specs.List.{AllByRecursion, IsDistinct, filter, list_all, range_with_len, slice_range, sum_by}
 use Rattle.std.proofs.lemmas.Bool.{and_parts, cases_Bool, ltb-true}
-use Rattle.std.proofs.lemmas.List.{append-nil, get_or-map}
+use Rattle.std.proofs.lemmas.List.{append-nil, get_or-map, length-map}
 use Rattle.std.proofs.lemmas.List.Elements.{filter-append}
-use Rattle.std.proofs.lemmas.List.Sums.{sum_by-cons}
+use Rattle.std.proofs.lemmas.List.Sums.{sum-map, sum_by-cons}
 use Rattle.basket_ranks.specs.Codes.{IsCodedPlace, decoded, decoded_place}
 use Rattle.basket_ranks.proofs.theory.Coding.{into_decoded}
 use Rattle.basket_ranks.proofs.theory.Decoding.{rank_from_decoded}
@@ -24,8 +24,7 @@ use Rattle.mine_classes.specs.ListBaskets.{weight_where}
 use Rattle.mine_classes.specs.Pairs.{kept_ranks}
 use Rattle.mine_classes.specs.Runs.{AreRunsOf, below}
 use Rattle.mine_classes.specs.Span.{baskets_at}
-use Rattle.mine_classes.specs.Span.{basket_at as span_at}
-use Rattle.mine_vertical.specs.Cover.{basket_at, cover_of, weights_of}
+use Rattle.mine_classes.specs.Covers.{basket_at, cover_of, weights_of}
 use Rattle.mine_vertical.specs.Search.{is_met}
 use Rattle.mine_vertical.specs.Walk.{kept_below}
 use Rattle.mine_vertical.proofs.CoverLemmas.{Member-range, range_more}
@@ -69,31 +68,21 @@ decoded_cover kept baskets distinct coded l here =
     ap (λ b. has b (get_or kept l 0) && true) (decoded_at kept baskets t inside)
     ∙ ap (λ b. b && true) (decoded_has kept (basket_at baskets t) l distinct (at_place (λ b. IsRising b × AllBelow (length kept) b) baskets coded t inside).1 here))
 
--- ---- the basket of a span
+-- ---- weights
 
-pub span_basket : (ranks : List ℕ) (spans : List Span) (i : ℕ) (span : Span) → i < length spans → span ≡ get_or spans i span → basket_at (baskets_at ranks spans) i ≡ slice_range ranks span.start span.end
-span_basket ranks [] i span here is = absurd (omega arith)
-span_basket ranks (s ∷ spans) zero span here is = ap (λ (x : Span). slice_range ranks x.start x.end) (sym is)
-span_basket ranks (s ∷ spans) (suc i) span here is = span_basket ranks spans i span (omega arith) is
+pub weights_some : (baskets : List Weighted) → All HasWeight baskets → All (λ weight. 1 ≤ weight) (weights_of baskets)
+weights_some baskets all k d here =
+    let inside : k < length baskets = omega (arith, here, length-map baskets (λ (p : Weighted). p.weight)) in
+    subst (λ n. 1 ≤ n) (sym (get_or-map (λ (p : Weighted). p.weight) baskets k (weighted [] 0) d inside)) (all k (weighted [] 0) inside)
 
-pub spans_length : (ranks : List ℕ) (spans : List Span) → length (baskets_at ranks spans) ≡ length spans
-spans_length ranks [] = refl
-spans_length ranks (s ∷ spans) = ap suc (spans_length ranks spans)
+pub weights_weigh : (baskets : List Weighted) → sum (weights_of baskets) ≡ total_of baskets
+weights_weigh baskets = sum-map (λ (p : Weighted). p.weight) baskets
 
-pub spans_weights : (ranks : List ℕ) (spans : List Span) → weights_of (baskets_at ranks spans) ≡ map (λ (s : Span). s.weight) spans
-spans_weights ranks [] = refl
-spans_weights ranks (s ∷ spans) = ap (λ l. s.weight ∷ l) (spans_weights ranks spans)
-
-pub spans_weigh : (ranks : List ℕ) (spans : List Span) → weight_where (λ basket. true) (baskets_at ranks spans) ≡ sum_by (λ (s : Span). s.weight) spans
+spans_weigh : (ranks : List ℕ) (spans : List Span) → weight_where (λ basket. true) (baskets_at ranks spans) ≡ sum_by (λ (s : Span). s.weight) spans
 spans_weigh ranks [] = refl
 spans_weigh ranks (s ∷ spans) =
     sum_by-cons (λ (p : Weighted). p.weight) (weighted (slice_range ranks s.start s.end) s.weight) (baskets_at ranks spans)
     ∙ ap (λ n. s.weight + n) (spans_weigh ranks spans) ∙ sym (sum_by-cons (λ (x : Span). x.weight) s spans)
-
-pub spans_some : (ranks : List ℕ) (spans : List Span) → All HasWeight (baskets_at ranks spans) → All (λ (s : Span). 1 ≤ s.weight) spans
-spans_some ranks spans all k d here =
-    subst HasWeight (get_or-map (span_at ranks) spans k d (span_at ranks d) here)
-    (all k (span_at ranks d) (subst (λ n. k < n) (sym (spans_length ranks spans)) here))
 
 -- one more place of a cover
 pub cover_keeps : (p : ℕ → Bool) (n : ℕ) → p n ≡ true → filter p (range_with_len 0 (n + 1)) ≡ filter p (range_with_len 0 n) ++ n ∷ []

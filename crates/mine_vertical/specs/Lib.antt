@@ -9,6 +9,5 @@ pub mod Joins
 pub mod Bits
 pub mod Planes
 pub mod Marks
-pub mod Covers
 pub mod BitRows
 pub mod Remade

@@ -1,5 +1,5 @@
 -- The database of a set, made anew from the rows of its extensions.
-use Rattle.std.specs.Prelude.{◌≡◌, ◌≢◌, ◌<◌, ◌++◌, ℕ, Bool, false, List, [], ◌∷◌, All, length, map, slice_index, if◌then◌else◌}
+use Rattle.std.specs.Prelude.{◌≡◌, ◌≢◌, ◌<◌, ◌++◌, ℕ, Bool, false, List, [], ◌∷◌, length, slice_index, if◌then◌else◌}
 use Rattle.std.specs.List.{list_all}
 use Rattle.basket_sets.specs.declared.weighted.Weighted.{Weighted}
 use Rattle.basket_sets.specs.Database.{weighted}
@@ -7,9 +7,7 @@ use Rattle.basket_sets.specs.Itemset.{has}
 use Rattle.basket_sets.specs.Support.{support_of}
 use Rattle.mine_classes.specs.ListBaskets.{weight_where}
 use Rattle.mine_classes.specs.Words.{has_rank, ranks_in}
-use Rattle.mine_vertical.specs.declared.joins.Sibling.{Sibling}
-use Rattle.mine_vertical.specs.Cover.{cover_of, weights_of}
-use Rattle.mine_vertical.specs.Search.{IsSibling}
+use Rattle.mine_classes.specs.Covers.{cover_of, weights_of}
 
 -- the words of the places of baskets have a bit for each of some ranks, which is one where the basket has the rank and a set
 pub record AreBitsOf (baskets : List Weighted) (set ranks bits : List ℕ) : Type 0 where
@@ -25,12 +23,6 @@ bit_places count (word ∷ words) (weight ∷ weights) = weighted (ranks_in coun
 -- two lists have the same baskets with the same weights, but for empty ones
 abbrev pub HaveSameNonempty : List Weighted → List Weighted → Type 0
 HaveSameNonempty baskets others = (test : List ℕ → Bool) → test [] ≡ false → weight_where test baskets ≡ weight_where test others
-
--- siblings over the weights of baskets, for ranks that the baskets number by their places
-pub record AreOver {R : Type 0} (stands : List ℕ → List ℕ → List ℕ → R → Type 0) (ranks weights : List ℕ) (siblings : List (Sibling R)) (baskets : List Weighted) : Type 0 where
-  pub weighs : weights ≡ weights_of baskets
-  pub ranks_are : map (λ sibling. sibling.rank) siblings ≡ ranks
-  pub rows : All (IsSibling stands baskets []) siblings
 
 -- other baskets, in which each set of ranks has the support that it has, with the ranks of a set, in some baskets
 abbrev pub GiveSupports : List Weighted → List ℕ → List ℕ → List Weighted → Type 0

@@ -10,10 +10,11 @@ use Rattle.basket_sets.specs.Itemset.{AllBelow, has}
 use Rattle.basket_sets.specs.Support.{support_of}
 use Rattle.basket_lists.specs.CountedSets.{set_at}
 use Rattle.basket_ranks.specs.Codes.{MOST_RANKS, decoded}
+use Rattle.mine_classes.specs.Mined.{MOST_SET_WORK}
 use Rattle.mine_vertical.specs.declared.joins.Sibling.{Sibling}
 use Rattle.mine_vertical.specs.declared.mined.Mined.{Mined}
 use Rattle.mine_vertical.specs.declared.search.Search.{Search}
-use Rattle.mine_vertical.specs.Cover.{cover_of, weights_of}
+use Rattle.mine_classes.specs.Covers.{cover_of, weights_of}
 use Rattle.mine_vertical.specs.Walk.{joins_below, kept_below, sets_below}
 
 -- whether a set has a least support in some baskets
@@ -79,7 +80,7 @@ reached told_of limit_of is_over mined tally = record { sets = mined.sets; joins
 -- the search may go on: the tally is not over, and the joins are few enough for the sets
 pub record GoesOn (now : Reached) : Type 0 where
   pub going : now.is_over ≡ false
-  pub few : now.joins ≤ length now.sets * 4294967295
+  pub few : now.joins ≤ length now.sets * MOST_SET_WORK
 
 -- what is given: siblings of a node, where the search may go on
 pub record IsGiven {R : Type 0} (stands : List ℕ → List ℕ → List ℕ → R → Type 0) (task : Task R) (before : Reached) : Type 0 where

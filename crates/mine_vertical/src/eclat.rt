@@ -1,8 +1,8 @@
 //! The class call.
-ghost use Rattle.std.specs.Prelude.{◌≡◌, ◌≤◌, ◌<◌, ◌+◌, ◌-◌, ◌*◌, ◌^◌, ℕ, ◌⊎◌, Err, IfOk, IsTrue, false, length};
+ghost use Rattle.std.specs.Prelude.{◌≡◌, ◌≤◌, ◌<◌, ◌+◌, ◌*◌, ℕ, ◌⊎◌, Err, IfOk, IsTrue, false, length};
 ghost use Rattle.basket_core.specs.declared.fault.MineFault.TheVariants.{TooMany};
 ghost use Rattle.mine_vertical.specs.Joins.{class_joins};
-ghost use Rattle.mine_classes.specs.Mined.{ListsClassItems, RanksAreFrequent, class_size};
+ghost use Rattle.mine_classes.specs.Mined.{ListsClassItems, MOST_SET_WORK, RanksAreFrequent, class_size};
 
 use crate::mined::Mined;
 use crate::room::Room;
@@ -31,7 +31,7 @@ pub fn eclat_class<R: Row, T: Tally>(
     requires going { T.is_over tally.old ≡ false }
     ensures listed { IfOk result (λ mined. ListsClassItems vertical.now rank mined.0) }
     ensures joins { IfOk result (λ mined. RanksAreFrequent vertical.now → mined.1 ≡ class_joins vertical.now rank) }
-    ensures few { IfOk result (λ mined. mined.1 ≤ class_size vertical.now rank * (2 ^ 32 - 1)) }
+    ensures few { IfOk result (λ mined. mined.1 ≤ class_size vertical.now rank * MOST_SET_WORK) }
     ensures told { IfOk result (λ mined. T.told_of tally.new ≡ T.told_of tally.old + length mined.0) }
     ensures going_on { IfOk result (λ mined. T.is_over tally.new ≡ false) }
     ensures too_many { (limit : ℕ) → result ≡ Err (TooMany limit)
@@ -57,7 +57,7 @@ pub fn eclat_class_with<R: Row, T: Tally>(
     requires going { T.is_over tally.old ≡ false }
     ensures listed { IfOk result (λ mined. ListsClassItems vertical.now rank mined.0) }
     ensures joins { IfOk result (λ mined. RanksAreFrequent vertical.now → mined.1 ≡ class_joins vertical.now rank) }
-    ensures few { IfOk result (λ mined. mined.1 ≤ class_size vertical.now rank * (2 ^ 32 - 1)) }
+    ensures few { IfOk result (λ mined. mined.1 ≤ class_size vertical.now rank * MOST_SET_WORK) }
     ensures told { IfOk result (λ mined. T.told_of tally.new ≡ T.told_of tally.old + length mined.0) }
     ensures going_on { IfOk result (λ mined. T.is_over tally.new ≡ false) }
     ensures too_many { (limit : ℕ) → result ≡ Err (TooMany limit)

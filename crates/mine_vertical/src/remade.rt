@@ -9,16 +9,17 @@ ghost use Rattle.basket_sets.specs.Itemset.{IsRising};
 ghost use Rattle.mine_classes.specs.declared.words.Word.{Word as Bits};
 ghost use Rattle.mine_classes.specs.ListBaskets.{weight_where};
 ghost use Rattle.mine_classes.specs.Words.{word_places};
-ghost use Rattle.mine_vertical.specs.Cover.{weights_of};
-ghost use Rattle.mine_vertical.specs.Remade.{AreBitsOf, AreOver, GiveSupports, HaveSameNonempty, bit_places};
+ghost use Rattle.mine_classes.specs.Covers.{weights_of};
+ghost use Rattle.mine_vertical.specs.Remade.{AreBitsOf, GiveSupports, HaveSameNonempty, bit_places};
 ghost use Rattle.mine_vertical.specs.Search.{IsSibling};
+ghost use Rattle.mine_vertical.specs.Siblings.{AreOver};
 
 use crate::joins::Sibling;
 use crate::row::Row;
-use crate::siblings::{siblings_of, weights_at};
+use crate::siblings::siblings_of;
 use crate::weights::Weights;
-use mine_classes::WordBaskets;
 use mine_classes::words::{WORD_RANKS, Word, bit_of};
+use mine_classes::{Form, WordBaskets};
 use std::alloc::{AllocError, Global};
 
 /// The bits of each place: that of a sibling where the sibling's cover has the place. Nothing where rows
@@ -63,27 +64,6 @@ fn words_of_places(alloc: Global, bits: &[u64], weights: &Weights) -> Result<Vec
     Ok(words)
 }
 
-/// The weights of merged words, and a sibling over them for each rank, whose bit has the place of the rank.
-fn siblings_of_words<R: Row>(
-    alloc: Global,
-    kept: &[u32],
-    words: Vec<Word>,
-) -> Result<(Weights, Vec<Sibling<R>>), AllocError>
-    requires rises { IsRising kept.now }
-    requires few { length kept.now ≤ 64 }
-    requires some { All (λ (word : Bits). 1 ≤ word.weight) words.items }
-    requires light { sum_by (λ (word : Bits). word.weight) words.items ≤ MOST_WEIGHT }
-    ensures { IfOk result (λ made. (others : List Basket) × AreOver R.stands kept.now made.0 made.1.items others
-        × ((test : List ℕ → Bool) → weight_where test others ≡ weight_where (λ basket. test (decoded kept.now basket)) (word_places (length kept.now) words.items))) }
-{
-    let unmerged = words.len();
-    let merged = WordBaskets::of(alloc, kept.len() as u32, words)?;
-    let (_, ranks, spans) = merged.lists(alloc)?.into_parts();
-    let weights = weights_at(alloc, &spans, unmerged)?;
-    let siblings = siblings_of(alloc, kept, &ranks, &spans, &weights)?;
-    Ok((weights, siblings))
-}
-
 /// The ranks of siblings.
 fn ranks_of<R: Row>(alloc: Global, siblings: &[Sibling<R>]) -> Result<Vec<u32>, AllocError>
     ensures { IfOk result (λ ranks. ranks.items ≡ map (λ sibling. sibling.rank) siblings.now) }
@@ -111,6 +91,8 @@ pub fn remade<R: Row>(
         return Ok(None);
     };
     let words = words_of_places(alloc, &bits, weights)?;
+    let unmerged = words.len();
     let kept = ranks_of(alloc, siblings)?;
-    Ok(Some(siblings_of_words(alloc, &kept, words)?))
+    let merged = WordBaskets::of(alloc, kept.len() as u32, words)?;
+    Ok(Some(siblings_of(alloc, &kept, &Form::Words(merged), unmerged)?))
 }

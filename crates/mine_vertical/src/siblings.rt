@@ -1,25 +1,22 @@
 //! The siblings that a class begins with: the ranks that are frequent together with its rank.
-ghost use Rattle.std.specs.Prelude.{◌≡◌, ◌≤◌, ◌<◌, ◌+◌, [], ◌∷◌, List, ℕ, All, IfOk, OnOk, length, map, replicate, sum, sum_by};
+ghost use Rattle.std.specs.Prelude.{◌≡◌, ◌≤◌, ◌<◌, ◌+◌, List, All, IfOk, OnOk, length, map};
 ghost use Rattle.basket_ranks.specs.Codes.{IsCoding, baskets_of, decoded_place};
 ghost use Rattle.basket_sets.specs.declared.minimum.Minimum.TheVariants.{Count};
 ghost use Rattle.basket_sets.specs.declared.weighted.Weighted.{Weighted as Basket};
-ghost use Rattle.basket_sets.specs.Database.{MOST_WEIGHT};
-ghost use Rattle.basket_sets.specs.Itemset.{AllBelow, IsRising};
-ghost use Rattle.basket_sets.specs.Support.{support_of};
+ghost use Rattle.basket_sets.specs.Database.{HasWeight, MOST_WEIGHT};
+ghost use Rattle.basket_sets.specs.Support.{total_of};
 ghost use Rattle.mine_classes.specs.Conditional.{conditional};
+ghost use Rattle.mine_classes.specs.Covers.{weights_of};
+ghost use Rattle.mine_classes.specs.Form.{form_baskets};
 ghost use Rattle.mine_classes.specs.ListBaskets.{HaveSameWeights};
 ghost use Rattle.mine_classes.specs.Pairs.{kept_ranks};
-ghost use Rattle.mine_classes.specs.Span.{IsWithin, baskets_at};
-ghost use Rattle.mine_vertical.specs.Cover.{weights_of};
-ghost use Rattle.mine_vertical.specs.Covers.{AreCovers, HasPlace, covers_in};
-ghost use Rattle.mine_vertical.specs.Search.{IsSibling};
-ghost use Rattle.mine_vertical.specs.Siblings.{AreClassSiblings};
+ghost use Rattle.mine_vertical.specs.Siblings.{AreClassSiblings, AreOver};
 
 use crate::joins::{Joins, Sibling};
 use crate::row::Row;
 use crate::weights::Weights;
 use mine_classes::laws::conditional_supports;
-use mine_classes::{Conditional, Runs, Span, Tables};
+use mine_classes::{Conditional, Form, Runs, Tables};
 use std::alloc::{AllocError, Global};
 
 /// The conditional database of a rank, its baskets merged: each gets a place in the covers.
@@ -48,98 +45,40 @@ fn conditional_of(
     Ok(conditional.sorted(alloc)?)
 }
 
-/// The weights of baskets, which were so many before equal ones were merged. More than 4,294,967,295
-/// baskets count as a refused growth.
-pub fn weights_at(alloc: Global, spans: &[Span], unmerged: usize) -> Result<Weights, AllocError>
-    requires some { All (λ span. 1 ≤ span.weight) spans.now }
-    requires light { sum_by (λ span. span.weight) spans.now ≤ MOST_WEIGHT }
-    ensures { IfOk result (λ weights. weights ≡ map (λ span. span.weight) spans.now) }
+/// The weights of merged baskets, which were so many before. More than 4,294,967,295 baskets count as a
+/// refused growth.
+fn merged_weights(alloc: Global, baskets: &Form, unmerged: usize) -> Result<Weights, AllocError>
+    requires some { All HasWeight (form_baskets baskets.now).baskets }
+    requires light { total_of (form_baskets baskets.now).baskets ≤ MOST_WEIGHT }
+    ensures { IfOk result (λ weights. weights ≡ weights_of (form_baskets baskets.now).baskets) }
 {
-    if spans.len() > u32::MAX as usize {
+    let weights = baskets.weights(alloc)?;
+    if weights.len() > u32::MAX as usize {
         return Err(AllocError);
     }
-    let weights: Vec<u64> = spans.iter().map(|span| span.weight).collect(alloc)?;
-    Weights::of_vec(alloc, weights, spans.len() <= unmerged / 2)
+    let is_halved = weights.len() <= unmerged / 2;
+    Weights::of_vec(alloc, weights, is_halved)
 }
 
-/// How often each rank below a number stands in a list: how much room its cover needs.
-fn rank_counts(alloc: Global, count: usize, ranks: &[u32]) -> Result<Vec<u32>, AllocError>
-    ensures { IfOk result (λ counts. length counts.items ≡ count) }
-{
-    let mut counts = vec![in alloc; 0u32; count]?;
-    for rank in ranks {
-        if let Some(times) = counts.get_mut(*rank as usize) {
-            *times = times.saturating_add(1);
-        }
-    }
-    Ok(counts)
-}
-
-/// An empty cover for each number, with room for so many places.
-fn no_covers(alloc: Global, counts: &[u32]) -> Result<Vec<Vec<u32>>, AllocError>
-    ensures { IfOk result (λ covers. covers_in covers.items ≡ replicate (length counts.now) []) }
-{
-    let mut covers = Vec::with_capacity(alloc, counts.len())?;
-    for times in counts {
-        let cover = Vec::with_capacity(alloc, *times as usize)?;
-        covers.push(cover)?;
-    }
-    Ok(covers)
-}
-
-/// Adds a place to the covers of the ranks of its basket.
-fn add_place(covers: &mut [Vec<u32>], place: u32, basket: &[u32]) -> Result<(), AllocError>
-    requires rises { IsRising basket.now }
-    requires below { AllBelow (length covers.old) basket.now }
-    ensures { OnOk result (HasPlace place basket.now (covers_in covers.old) (covers_in covers.new)) }
-{
-    for rank in basket {
-        covers[*rank as usize].push(place)?;
-    }
-    Ok(())
-}
-
-/// The cover of each rank below a number, in one pass.
-fn covers_of_ranks(
-    alloc: Global,
-    count: usize,
-    ranks: &[u32],
-    spans: &[Span],
-) -> Result<Vec<Vec<u32>>, AllocError>
-    requires within { All (IsWithin (length ranks.now)) spans.now }
-    requires rises { All (λ basket. IsRising basket.basket × AllBelow count basket.basket) (baskets_at ranks.now spans.now) }
-    requires few { length spans.now ≤ 4294967295 }
-    ensures { IfOk result (λ covers. AreCovers (baskets_at ranks.now spans.now) count (covers_in covers.items)) }
-{
-    let counts = rank_counts(alloc, count, ranks)?;
-    let mut covers = no_covers(alloc, &counts)?;
-    for (place, span) in spans.iter().enumerate() {
-        add_place(&mut covers, place as u32, span.of(ranks))?;
-    }
-    Ok(covers)
-}
-
-/// The siblings of the ranks that are kept, whose numbers in the baskets are their places.
+/// The weights of merged baskets, which were so many before, and a sibling over them for each rank that
+/// is kept, whose number in the baskets is its place.
 pub fn siblings_of<R: Row>(
     alloc: Global,
     kept: &[u32],
-    ranks: &[u32],
-    spans: &[Span],
-    weights: &Weights,
-) -> Result<Vec<Sibling<R>>, AllocError>
-    requires within { All (IsWithin (length ranks.now)) spans.now }
-    requires coding { IsCoding (record { items = kept.now; minimum = Count 1; baskets = baskets_at ranks.now spans.now }) }
-    requires few { length spans.now ≤ 4294967295 }
-    requires weights { weights.now ≡ weights_of (baskets_at ranks.now spans.now) }
-    ensures ranks { IfOk result (λ siblings. map (λ sibling. sibling.rank) siblings.items ≡ kept.now) }
-    ensures rows { IfOk result (λ siblings. All (IsSibling R.stands (map (decoded_place kept.now) (baskets_at ranks.now spans.now)) []) siblings.items) }
+    baskets: &Form,
+    unmerged: usize,
+) -> Result<(Weights, Vec<Sibling<R>>), AllocError>
+    requires ranks { (form_baskets baskets.now).ranks ≡ length kept.now }
+    requires coding { IsCoding (record { items = kept.now; minimum = Count 1; baskets = (form_baskets baskets.now).baskets }) }
+    ensures { IfOk result (λ made. AreOver R.stands kept.now made.0 made.1.items (map (decoded_place kept.now) (form_baskets baskets.now).baskets)) }
 {
-    let covers = covers_of_ranks(alloc, kept.len(), ranks, spans)?;
+    let weights = merged_weights(alloc, baskets, unmerged)?;
+    let covers = baskets.covers(alloc)?;
     let mut siblings = Vec::with_capacity(alloc, kept.len())?;
     for (place, rank) in kept.iter().enumerate() {
-        siblings.push(Sibling::first(alloc, *rank, &covers[place], weights)?)?;
+        siblings.push(Sibling::first(alloc, *rank, &covers[place], &weights)?)?;
     }
-    Ok(siblings)
+    Ok((weights, siblings))
 }
 
 /// The weights of the conditional database of a rank, and a sibling for each rank of it. The joins of
@@ -164,10 +103,6 @@ pub fn class_siblings<R: Row>(
     conditional_supports();
     let conditional = conditional_of(alloc, runs, tables, joins, rank, least)?;
     let kept = conditional.ranks().to_vec(alloc)?;
-    let baskets = conditional.into_baskets(alloc)?;
-    let (_, ranks, spans) = baskets.into_parts();
     let (_, unmerged) = runs.of_rank(rank);
-    let weights = weights_at(alloc, &spans, unmerged.len())?;
-    let siblings = siblings_of(alloc, &kept, &ranks, &spans, &weights)?;
-    Ok((weights, siblings))
+    siblings_of(alloc, &kept, &conditional.into_form(), unmerged.len())
 }

@@ -32,6 +32,11 @@ loop-word-preserved c =
       light = (let all = ap (sum_by weight) (take_more words i none here) ∙ sum_by-append weight (take i words) (word ∷ []) in
           let one = sum_by-cons weight word [] in
           omega (arith, all, one, c.in_ok-add.ensures.light, c.loop-word.invariant.light));
+      order = c.in_ok-add.ensures.order c.loop-word.invariant.order (c.loop-word.invariant.end i (omega arith) here);
+      end = λ k low high last some.
+          let now = c.in_ok-add.ensures.end last some in
+          let next = c.requires.sorted i k none (omega arith) high in
+          omega (arith, now, next);
       weights = λ count. subst (λ l. HaveSameWeights l (word_places count new)) (next_word count words i none here)
           (word_more count (word_places count (take i words)) (word_place count word) c.loop-word.merged.items new word refl (c.loop-word.invariant.weights count) (c.in_ok-add.ensures.weights count));
     }

@@ -22,8 +22,8 @@ kept_weights pairs rank count own baskets words is weights =
     let named = subst (λ (l : List Weighted). HaveSameWeights (flat_map (kept_place (has kept) rank) l) (map (decoded_place kept) (word_places (length kept) words))) is weights in
     subst (λ n. HaveSameWeights (flat_map (kept_place (has kept) rank) baskets) (map (decoded_place kept) (word_places n words))) (length-map pairs (λ (pair : ℕ × ℕ). pair.0)) named
 
-pub returns-then-count-rank-clause-weights : goal.returns-then-count-rank-clause-weights
-returns-then-count-rank-clause-weights c =
+pub returns-then-are_in_order-clause-weights : goal.returns-then-are_in_order-clause-weights
+returns-then-are_in_order-clause-weights c =
     let kept = map (λ (pair : ℕ × ℕ). pair.0) c.args.pairs.now in
     let baskets = c.args.baskets.now in
     subst (λ (l : List Weighted). HaveSameWeights (flat_map (kept_place (has kept) c.args.rank) baskets.baskets) (map (decoded_place kept) l)) (sym (ap (λ v. v.baskets) c.of_ordered.ensures.baskets))

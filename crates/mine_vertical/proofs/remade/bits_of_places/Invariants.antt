@@ -3,7 +3,7 @@ use Rattle.std.specs.Prelude.{All}
 use Rattle.basket_sets.specs.declared.weighted.Weighted.{Weighted}
 use Rattle.basket_sets.specs.Itemset.{has}
 use Rattle.mine_classes.specs.Words.{has_rank}
-use Rattle.mine_vertical.specs.Cover.{cover_of, weights_of}
+use Rattle.mine_classes.specs.Covers.{cover_of, weights_of}
 use Rattle.mine_vertical.specs.Search.{IsSibling}
 use Rattle.mine_vertical.proofs.remade.bits_of_places.Given as goal
 

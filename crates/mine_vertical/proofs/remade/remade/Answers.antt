@@ -1,11 +1,15 @@
-use Rattle.std.proofs.Common.{◌≡◌, ℕ, Bool, ◌++◌, List, cond, length, map, subst, sym, ap, ◌∙◌}
+use Rattle.std.proofs.Common.{◌≡◌, ℕ, Bool, ◌++◌, List, cond, length, map, subst, sym, ap, ◌∙◌, arith}
 use Rattle.std.specs.List.{list_all}
-use Rattle.basket_ranks.specs.Codes.{decoded}
-use Rattle.basket_sets.specs.Itemset.{contains, has}
+use Rattle.std.proofs.lemmas.List.{length-map}
+use Rattle.basket_ranks.specs.Codes.{decoded, decoded_place}
+use Rattle.basket_sets.specs.declared.weighted.Weighted.{Weighted}
+use Rattle.basket_sets.specs.Itemset.{IsRising, contains, has}
 use Rattle.basket_sets.specs.Support.{support_of}
 use Rattle.mine_classes.specs.ListBaskets.{weight_where}
-use Rattle.mine_vertical.specs.Remade.{AreBitsOf, AreOver, bit_places}
-use Rattle.mine_vertical.proofs.PlacesLemmas.{nothing_in, supports_are}
+use Rattle.mine_classes.specs.Words.{word_places}
+use Rattle.mine_vertical.specs.Remade.{AreBitsOf, bit_places}
+use Rattle.mine_vertical.specs.Siblings.{AreOver}
+use Rattle.mine_vertical.proofs.PlacesLemmas.{coded, decoded_weighs, nothing_in, supports_are}
 use Rattle.mine_vertical.proofs.remade.remade.Goals as goal
 
 pub words_of_places-requires : goal.words_of_places-requires
@@ -14,6 +18,13 @@ words_of_places-requires g c =
     let made = rw c.in-Some.is at c.in_ok-bits.ensures in
     ap length c.deref.ensures.value ∙ (made baskets set (sym (ap length weigh) ∙ sym c.places.ensures) all).long ∙ sym (ap length weigh)
 
+pub siblings_of-requires-clause-coding : goal.siblings_of-requires-clause-coding
+siblings_of-requires-clause-coding g c =
+    let kept = c.deref-2.result.now in
+    let kept_are = c.deref-2.ensures.value ∙ c.in_ok-kept.ensures in
+    coded kept c.in_ok-merged.merged (subst IsRising (sym kept_are) c.requires.rises) (omega (arith, c.if-siblings-gt-WORD_RANKS.false, ap length kept_are, length-map c.args.siblings.now (λ s. s.rank)))
+    (omega (arith, c.in_ok-merged.ensures.ranks, c.len.ensures, c.deref-2.ensures.len)) c.in_ok-merged.ensures.ranked
+
 pub returns : goal.returns
 returns g c =
     let siblings = c.args.siblings.now in
@@ -21,16 +32,20 @@ returns g c =
     let ranks = map (λ s. s.rank) siblings in
     let kept = c.deref-2.result.now in
     let bits = c.deref.result.now in
+    let merged = c.in_ok-merged.merged.baskets in
+    let others : List Weighted = map (decoded_place kept) merged in
     let made = rw c.in-Some.is at c.in_ok-bits.ensures in
-    let (others, are, same) = c.in_ok-siblings_of_words.ensures in
+    let count : c.len.result ≡ length kept = omega (arith, c.len.ensures, c.deref-2.ensures.len) in
     let kept_are : kept ≡ ranks = c.deref-2.ensures.value ∙ c.in_ok-kept.ensures in (
       others,
-      subst (λ k. AreOver g.R.Row.stands k c.in_ok-siblings_of_words.field-0.0 c.in_ok-siblings_of_words.field-0.1.items others) kept_are are,
+      subst (λ k. AreOver g.R.Row.stands k c.in_ok-siblings_of.field-0.0 c.in_ok-siblings_of.field-0.1.items others) kept_are c.in_ok-siblings_of.ensures,
       λ baskets set weigh all more some.
           let test : List ℕ → Bool = λ basket. contains (decoded kept basket) more in
           let is = subst (λ k. AreBitsOf baskets set k bits) (sym kept_are)
           (subst (λ b. AreBitsOf baskets set ranks b) (sym c.deref.ensures.value) (made baskets set (sym (ap length weigh) ∙ sym c.places.ensures) all)) in
-          same (λ basket. contains basket more) ∙ sym (c.in_ok-words.ensures.weights (length kept) test (nothing_in kept more some))
+          decoded_weighs kept (λ basket. contains basket more) merged ∙ sym (c.in_ok-merged.ensures.weights test)
+          ∙ ap (λ n. weight_where test (word_places n c.in_ok-words.words.items)) count
+          ∙ sym (c.in_ok-words.ensures.weights (length kept) test (nothing_in kept more some))
           ∙ ap (λ w. weight_where test (bit_places (length kept) bits w)) weigh
           ∙ supports_are baskets set kept bits is more some
           ∙ ap (λ k. cond (list_all (has k) more) (support_of baskets (more ++ set)) 0) kept_are,

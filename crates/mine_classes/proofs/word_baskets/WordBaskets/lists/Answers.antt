@@ -8,4 +8,4 @@ pub of_words-requires-clause-ranked : goal.of_words-requires-clause-ranked
 of_words-requires-clause-ranked c =
     let count = c.self.inside.count in
     subst (λ l. AreRankBaskets (record { ranks = count; baskets = word_places count l })) (sym c.deref.ensures.value)
-    (words_ranked count c.self.inside.words.items c.self.invariant.1 c.self.invariant.2)
+    (words_ranked count c.self.inside.words.items c.self.invariant.some c.self.invariant.light)

@@ -1,7 +1,8 @@
-use Rattle.std.proofs.Common.{ℕ, ◌≤◌, subst, sym, ap, ◌∙◌, arith}
+use Rattle.std.proofs.Common.{rules, ℕ, ◌≤◌, subst, sym, ap, ◌∙◌, arith}
 use Rattle.std.specs.Prelude.{All}
 use Rattle.std.specs.List.{sum_by}
-use Rattle.std.proofs.lemmas.List.Sorted.{All-permutation, sum_by-IsPermutation}
+use Rattle.std.proofs.lemmas.List.Sorted.{All-permutation, IsNonDecreasingBy-from_sort_by_key, sum_by-IsPermutation}
+use Rattle.std.specs.List.Sorted.{IsNonDecreasingBy}
 use Rattle.mine_classes.specs.declared.words.Word.{Word}
 use Rattle.mine_classes.specs.ListBaskets.{weight_where}
 use Rattle.mine_classes.specs.Words.{word_places}
@@ -20,6 +21,11 @@ pub merged-requires-clause-light : goal.merged-requires-clause-light
 merged-requires-clause-light c =
     let same = ap (sum_by weight) c.deref.ensures.value ∙ sum_by-IsPermutation weight c.args.words.items c.sort_unstable_by_key.new.self.items c.sort_unstable_by_key.ensures.permutation in
     omega (arith, same, c.requires.light)
+
+pub merged-requires-clause-sorted : goal.merged-requires-clause-sorted
+merged-requires-clause-sorted c =
+    subst (IsNonDecreasingBy (λ (word : Word). word.bits)) (sym c.deref.ensures.value)
+    (IsNonDecreasingBy-from_sort_by_key (λ (word : Word). word.bits) c.sort_unstable_by_key.new.self.items c.sort_unstable_by_key.ensures.sorted (λ a r q k. search rules))
 
 pub returns-clause-weights : goal.returns-clause-weights
 returns-clause-weights c = λ test.

@@ -4,7 +4,7 @@ use Rattle.std.proofs.lemmas.Result.{err_from_is_err_and}
 use Rattle.basket_sets.specs.Itemset.{IsRising, with_item}
 use Rattle.basket_sets.specs.declared.counted.Counted.{Counted}
 use Rattle.basket_lists.specs.CountedSets.{set_at}
-use Rattle.mine_vertical.specs.Remade.{AreOver}
+use Rattle.mine_vertical.specs.Siblings.{AreOver}
 use Rattle.mine_vertical.specs.Search.{Adds, IsNode, Node, found_at, is_met, joins_at, reached, sets_at, task_of}
 use Rattle.mine_vertical.proofs.NodeLemmas.{FindsPart, adds_one, as_many, child, extended, fails, finds_none, found_by, kept, nothing_yet, part_at_most, part_is_all, rank_known, turn_adds, turn_at, turn_within}
 use Rattle.mine_vertical.proofs.RemadeLemmas.{kept_rises, over, stands_for}

@@ -3,8 +3,8 @@ use Rattle.std.specs.Prelude.{replicate}
 use Rattle.std.proofs.lemmas.List.{map-append, replicate_more}
 use Rattle.std.specs.declared.vec.Vec.{Vec}
 use Rattle.std.specs.declared.alloc.Global.{Global}
-use Rattle.mine_vertical.specs.Covers.{covers_in}
-use Rattle.mine_vertical.proofs.siblings.no_covers.Goals as goal
+use Rattle.mine_classes.specs.Covers.{covers_in}
+use Rattle.mine_classes.proofs.covers.no_covers.Goals as goal
 
 pub loop-times-preserved : goal.loop-times-preserved
 loop-times-preserved c =
