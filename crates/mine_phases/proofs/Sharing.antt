@@ -14,12 +14,12 @@ use Rattle.basket_core.specs.declared.fault.MineFault.{MineFault}
 use Rattle.basket_core.specs.declared.fault.MineFault.TheVariants.{Memory, TooMany}
 use Rattle.basket_sets.specs.declared.counted.Counted.{Counted}
 use Rattle.basket_sets.specs.Frequent.{ListsOnce}
-use Rattle.mine_classes.specs.Mined.{ClassItemsAreAll, ClassSizesAddUp, ListsClassItems, class_size}
+use Rattle.mine_classes.specs.Mined.{ClassItemsAreAll, ClassSizesAddUp, ListsClassItems, MOST_SET_WORK, class_size}
 use Rattle.mine_round.specs.RoundView.{RoundView}
 use Rattle.mine_round.specs.SeatView.{SeatView}
 use Rattle.mine_round.specs.Totals.{added_by, claimed_by, seen_by}
 use Rattle.mine_phases.specs.declared.share.Share.{Share}
-use Rattle.mine_phases.specs.Classes.{AreMined, HasLargeClass, IsClassShare, IsWorkOfAll, MOST_SET_WORK, claimed_size, piece_from_end, piece_size, ranks_of}
+use Rattle.mine_phases.specs.Classes.{AreMined, HasLargeClass, IsClassShare, IsWorkOfAll, claimed_size, piece_from_end, piece_size, ranks_of}
 use Rattle.mine_phases.specs.Share.{fault_after, fault_of}
 use Rattle.mine_phases.proofs.Mining.{mined_append, sum_fits, sum_more}
 use Rattle.mine_phases.proofs.Placing.{sum_by-flat_map, sum_by-map}

@@ -1,20 +1,16 @@
 -- Mining class by class, shared by workers.
-use Rattle.std.specs.Prelude.{◌≡◌, ◌≤◌, ◌<◌, ◌-◌, ◌*◌, ◌^◌, ◌⊎◌, ℕ, List, [], ◌∷◌, All, Err, IfOk, Vec, length, map, slice_index, sum}
+use Rattle.std.specs.Prelude.{◌≡◌, ◌≤◌, ◌<◌, ◌-◌, ◌*◌, ◌⊎◌, ℕ, List, [], ◌∷◌, All, Err, IfOk, Vec, length, map, slice_index, sum}
 use Rattle.std.specs.Global.{Global}
 use Rattle.std.specs.List.{range_with_len, sum_by}
 use Rattle.basket_ranks.specs.Codes.{Coding}
 use Rattle.basket_ranks.specs.Shards.{shard_of}
 use Rattle.basket_core.specs.declared.fault.MineFault.TheVariants.{TooMany}
 use Rattle.basket_sets.specs.declared.counted.Counted.{Counted}
-use Rattle.mine_classes.specs.Mined.{ListsClassItems, class_size}
+use Rattle.mine_classes.specs.Mined.{ListsClassItems, MOST_SET_WORK, class_size}
 use Rattle.mine_round.specs.RoundView.{RoundView}
 use Rattle.mine_round.specs.SeatView.{SeatView}
 use Rattle.mine_phases.specs.declared.share.Share.{Share}
 use Rattle.mine_phases.specs.Share.{numbers_of}
-
--- the most work that a set takes: it has no more extensions than there are ranks
-abbrev pub MOST_SET_WORK : ℕ
-MOST_SET_WORK = 2 ^ 32 - 1
 
 -- the work of the classes of the ranks below a number, added up
 pub record IsWorkOfAll (is_work : ℕ → ℕ → Type 0) (ranks total : ℕ) : Type 0 where

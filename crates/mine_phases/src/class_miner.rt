@@ -2,8 +2,7 @@
 ghost use Rattle.std.specs.Prelude.{◌≡◌, ◌≤◌, ◌<◌, ◌+◌, ◌*◌, ◌⊎◌, ℕ, Err, IfOk, IsTrue, OnOk, false, length};
 ghost use Rattle.basket_core.specs.declared.fault.MineFault.TheVariants.{TooMany};
 ghost use Rattle.basket_ranks.specs.Codes.{Coding};
-ghost use Rattle.mine_classes.specs.Mined.{ListsClassItems, class_size};
-ghost use Rattle.mine_phases.specs.Classes.{MOST_SET_WORK};
+ghost use Rattle.mine_classes.specs.Mined.{ListsClassItems, MOST_SET_WORK, class_size};
 
 use basket_core::{CountedSets, MineFault, Tally};
 use mine_classes::Tables;
