@@ -122,17 +122,3 @@ module _ (layout : Layout) (asked : Option (List ℕ)) (sets names : List (List 
     counts_make (Err (Input fault)) is = absurd is
     counts_make (Err (Sets fault)) is = absurd is
     counts_make (Err Write) is = absurd is
-
--- ---- the writer
-
-pub writes_counts : (layout : Layout) (asked left before after : Option (List ℕ)) (text : List ℕ) → OfBoth asked left (λ sets bytes. count_outcome layout sets bytes ≡ Ok text)
-    → Appends before after text → WritesCounts layout asked left before after
-writes_counts layout None left before after text is taken = tt
-writes_counts layout (Some sets) None before after text is taken = tt
-writes_counts layout (Some sets) (Some bytes) before after text is taken = (text, is, taken)
-
-pub writes_counts_front : (layout : Layout) (asked left before after : Option (List ℕ)) (text : List ℕ) → OfBoth asked left (λ sets bytes. count_outcome layout sets bytes ≡ Ok text)
-    → ((n : ℕ) × (n ≤ length text) × Appends before after (take n text)) → WritesCountsFront layout asked left before after
-writes_counts_front layout None left before after text is front = tt
-writes_counts_front layout (Some sets) None before after text is front = tt
-writes_counts_front layout (Some sets) (Some bytes) before after text is (n, small, front) = (text, n, is, small, front)

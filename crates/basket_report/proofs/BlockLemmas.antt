@@ -30,10 +30,6 @@ module _ (start taken : Option (List ℕ)) where
     at_write = way.at_write;
   }
 
-  -- a writer that has failed waits for nothing
-  pub none_waits : (failed flush : Bool) (waiting text : List ℕ) → failed ≡ true → IsOnItsWay start taken failed flush waiting text → IsOnItsWay start taken failed flush [] text
-  none_waits failed flush waiting text broken way = record { working = λ is. absurd (false≢true (sym is ∙ broken)); failed = way.failed; at_write = way.at_write }
-
 -- what waited is written, as far as the writer goes
 pub is_sent : (start before after : Option (List ℕ)) (was_failed was_flush failed flush : Bool) (waiting text : List ℕ) (result : Result Unit Failed) → was_failed ≡ false → IsOnItsWay start before was_failed was_flush waiting text
     → OnOk result (Appends before after waiting) → OnErr result (TakesFront before after waiting) → OnErr result (flush ≡ false) → (failed ≡ false) ↔ IsOk result → IsOnItsWay start after failed flush [] text
