@@ -1,7 +1,6 @@
 -- The counts of given sets.
-use Rattle.std.proofs.Common.{◌≡◌, ◌≢◌, ◌∙◌, ◌<◌, ◌≤◌, ◌+◌, ℕ, zero, suc, Bool, true, false, List, [], ◌∷◌, Option, Some, None, Result, Ok, Err, Global, ap, arith, cond, drop, get_or, length, refl, subst, take}
+use Rattle.std.proofs.Common.{◌≡◌, ◌≢◌, ◌∙◌, ◌<◌, ◌+◌, ℕ, zero, suc, Bool, true, false, List, [], ◌∷◌, Option, Some, None, Result, Ok, Err, Global, ap, arith, cond, drop, get_or, length, refl, subst}
 use Rattle.std.specs.Prelude.{IfSome, MatchResult}
-use Rattle.std.specs.Io.KnownBytes.{Appends}
 use Rattle.basket_parts.specs.Together.{count_if, count_in, has_set}
 use Rattle.basket_plan.specs.declared.layout.Layout.{Layout}
 use Rattle.basket_read.specs.declared.counted_line.CountedLine.{CountedLine}
@@ -12,7 +11,7 @@ use Rattle.basket.specs.declared.fault.RunFault.{RunFault}
 use Rattle.basket.specs.declared.fault.RunFault.TheVariants.{Input, Sets, Uncounted, Mine, Write}
 use Rattle.basket.specs.declared.made.Made.{Made}
 use Rattle.basket.specs.Contents.{Answers, AskedAnswers, asked_in, contents_of}
-use Rattle.basket.specs.Count.{IsCountsFault, MakesCounts, OfBoth, WritesCounts, WritesCountsFront, count_outcome, counts_in, first_uncounted, of_asked, of_contents}
+use Rattle.basket.specs.Count.{IsCountsFault, MakesCounts, OfBoth, count_outcome, counts_in, first_uncounted, of_asked, of_contents}
 use Rattle.basket.specs.Made.{made_text}
 use Rattle.mine_sets.specs.Asked.{asked_of}
 

@@ -1,10 +1,9 @@
 -- Counted sets that are written are read back.
-use Rattle.std.proofs.Common.{◌≡◌, ℕ, ◌+◌, ◌%◌, ◌^◌, ◌<◌, ◌≤◌, Bool, true, false, ◌&&◌, not, leb, eqb, List, [], ◌∷◌, ◌++◌, length, map, filter, take, drop, codes, decimal, suc, cond, Some, None, Ok, refl, sym, ap, ◌∙◌, append_assoc, arith, nat_eq}
+use Rattle.std.proofs.Common.{◌≡◌, ℕ, ◌+◌, ◌^◌, ◌<◌, ◌≤◌, Bool, true, false, ◌&&◌, not, leb, eqb, List, [], ◌∷◌, ◌++◌, length, map, filter, take, drop, codes, decimal, suc, cond, Some, None, Ok, refl, sym, ap, ◌∙◌, append_assoc, arith, nat_eq}
 use Rattle.std.specs.Prelude.{All}
 use Rattle.std.specs.List.{list_all, flat_map}
 use Rattle.std.specs.Cmp.Lexicographic.{pointwise}
 use Rattle.std.proofs.lemmas.Bool.{and_parts, and_from, le-leb, le-ltb, leb-true, ne_eqb}
-use Rattle.std.proofs.lemmas.Fmt.{decimal_by_steps}
 use Rattle.std.proofs.lemmas.List.{append-nil, take_all}
 use Rattle.basket_sets.specs.declared.counted.Counted.{Counted}
 use Rattle.basket_sets.specs.Database.{MOST_WEIGHT}
@@ -17,7 +16,7 @@ use Rattle.basket_read.specs.Fimi.{is_blank, is_line_feed, is_nil, is_number, ar
 use Rattle.basket_counts.specs.Counts.{is_open, is_close, is_count, is_tail_of, is_tail, is_line_of, is_line, is_good, first_fault, fault_in, entry, count_before, entry_of_parts, entry_of, entries_from, entries_of, counted_before, counts_among, counts_said}
 use Rattle.basket_counts.specs.Laws.{items_text, set_line, IsWritten, lines_from, ListsAreReadBack}
 use Rattle.basket_counts.proofs.CutLemmas.{cut, cut_ended, cut_joined}
-use Rattle.basket_counts.proofs.NumberLemmas.{all_push, value_push, and_true, within}
+use Rattle.basket_counts.proofs.NumberLemmas.{all_push, within}
 use Rattle.basket_counts.proofs.LineLemmas.{digit_is_no_other}
 use Rattle.basket_counts.proofs.GrammarLemmas.{good_is_faultless}
 
