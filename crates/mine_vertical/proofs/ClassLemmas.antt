@@ -113,6 +113,12 @@ module _ (coding : Coding) (least : ℕ) (all : List Weighted) (is : IsLeastSupp
         as_many [] = refl
         as_many (set ∷ found) = ap suc (as_many found)
 
+-- a frequent rank has a class with a set
+pub class_has_one : (coding : Coding) (least : ℕ) (all : List Weighted) → IsLeastSupport coding.minimum (total_of coding.baskets) least → HaveSameWeights coding.baskets all
+    → ConditionalSupports → SupportsSettleFrequent → ClassesAreConditional → ListsHaveClassSize → (rank : ℕ) → least ≤ support_of all (rank ∷ []) → 1 ≤ class_size coding rank
+class_has_one coding least all is weights conditionals settle classes sizes rank enough =
+    let size = whole_size coding least all is weights conditionals settle classes sizes rank (conditional least all rank) (λ set. refl) enough in omega arith
+
 -- and the joins that it makes, with one for each rank below, are those of the class
 pub whole_joins : (coding : Coding) (least : ℕ) (all : List Weighted) → IsLeastSupport coding.minimum (total_of coding.baskets) least → HaveSameWeights coding.baskets all → ConditionalSupports
     → (rank : ℕ) (baskets : List Weighted) → ((set : List ℕ) → support_of baskets set ≡ support_of (conditional least all rank) set) → RanksAreFrequent coding → rank < length coding.items

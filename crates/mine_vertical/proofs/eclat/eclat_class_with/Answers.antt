@@ -1,4 +1,4 @@
-use Rattle.std.proofs.Common.{◌≡◌, ◌≤◌, ◌<◌, ◌++◌, ◌∷◌, [], Err, length, map, refl, subst, sym, ap, ◌∙◌, inl, inr, arith, length-append}
+use Rattle.std.proofs.Common.{◌≡◌, ◌≤◌, ◌<◌, ◌++◌, ◌∷◌, [], Err, length, map, subst, sym, ap, ◌∙◌, inl, inr, arith, length-append}
 use Rattle.std.proofs.lemmas.List.{length-map}
 use Rattle.std.proofs.lemmas.Result.{err_from_is_err_and}
 use Rattle.basket_ranks.specs.Codes.{Coding, MOST_RANKS, decoded}
@@ -6,13 +6,12 @@ use Rattle.basket_core.specs.declared.fault.MineFault.TheVariants.{TooMany}
 use Rattle.basket_sets.specs.declared.counted.Counted.{Counted}
 use Rattle.basket_sets.specs.Itemset.{rising}
 use Rattle.basket_sets.specs.Support.{support_of}
-use Rattle.mine_classes.specs.Conditional.{conditional}
 use Rattle.mine_classes.specs.Mined.{ListsClassItems}
 use Rattle.basket_lists.specs.CountedSets.{set_at}
 use Rattle.mine_vertical.specs.Search.{found_at, is_met}
 use Rattle.mine_vertical.specs.Siblings.{AreClassSiblings}
 use Rattle.mine_vertical.specs.Walk.{sets_below}
-use Rattle.mine_vertical.proofs.ClassLemmas.{rare_class, rare_rank, top, top_is, whole, whole_joins, whole_lists, whole_size}
+use Rattle.mine_vertical.proofs.ClassLemmas.{class_has_one, rare_class, rare_rank, top, top_is, whole, whole_joins, whole_lists, whole_size}
 use Rattle.basket_lists.proofs.theory.Places.{set_added}
 use Rattle.mine_vertical.proofs.eclat.eclat_class_with.Goals as goal
 
@@ -23,13 +22,9 @@ returns-then-support-least-clause-listed g c =
 
 pub returns-in_err-add-clause-too_many : goal.returns-in_err-add-clause-too_many
 returns-in_err-add-clause-too_many g c = λ limit e.
-    let coding = c.args.vertical.now in
-    let rank = c.args.rank in
-    let least = c.least-least.result in
-    let all = c.runs-runs.result.now.baskets in
-    let enough : least ≤ support_of all (rank ∷ []) = omega (arith, c.if-support-least.false, c.support-support.ensures) in
-    let size = whole_size coding least all c.least-least.ensures c.runs-runs.ensures.weights c.conditional_supports.ensures c.supports_settle_frequent.ensures c.classes_are_conditional.ensures c.lists_have_class_size.ensures
-    rank (conditional least all rank) (λ set. refl) enough in
+    let one = class_has_one c.args.vertical.now c.least-least.result c.runs-runs.result.now.baskets c.least-least.ensures c.runs-runs.ensures.weights
+    c.conditional_supports.ensures c.supports_settle_frequent.ensures c.classes_are_conditional.ensures c.lists_have_class_size.ensures
+    c.args.rank (omega (arith, c.if-support-least.false, c.support-support.ensures)) in
     let p = err_from_is_err_and c.from_residual-in_err-add.result c.from_residual-in_err-add.ensures.1 in
     let both = sym p.1 ∙ e in
     let fault : p.0 ≡ TooMany limit = cc in
@@ -39,35 +34,23 @@ returns-in_err-add-clause-too_many g c = λ limit e.
 
 pub returns-in_err-add-clause-at_most : goal.returns-in_err-add-clause-at_most
 returns-in_err-add-clause-at_most g c =
-    let coding = c.args.vertical.now in
-    let rank = c.args.rank in
-    let least = c.least-least.result in
-    let all = c.runs-runs.result.now.baskets in
-    let enough : least ≤ support_of all (rank ∷ []) = omega (arith, c.if-support-least.false, c.support-support.ensures) in
-    let size = whole_size coding least all c.least-least.ensures c.runs-runs.ensures.weights c.conditional_supports.ensures c.supports_settle_frequent.ensures c.classes_are_conditional.ensures c.lists_have_class_size.ensures
-    rank (conditional least all rank) (λ set. refl) enough in
+    let one = class_has_one c.args.vertical.now c.least-least.result c.runs-runs.result.now.baskets c.least-least.ensures c.runs-runs.ensures.weights
+    c.conditional_supports.ensures c.supports_settle_frequent.ensures c.classes_are_conditional.ensures c.lists_have_class_size.ensures
+    c.args.rank (omega (arith, c.if-support-least.false, c.support-support.ensures)) in
     omega (arith, c.add.ensures.told)
 
 pub returns-in_err-weights-clause-at_most : goal.returns-in_err-weights-clause-at_most
 returns-in_err-weights-clause-at_most g c =
-    let coding = c.args.vertical.now in
-    let rank = c.args.rank in
-    let least = c.least-least.result in
-    let all = c.runs-runs.result.now.baskets in
-    let enough : least ≤ support_of all (rank ∷ []) = omega (arith, c.if-support-least.false, c.support-support.ensures) in
-    let size = whole_size coding least all c.least-least.ensures c.runs-runs.ensures.weights c.conditional_supports.ensures c.supports_settle_frequent.ensures c.classes_are_conditional.ensures c.lists_have_class_size.ensures
-    rank (conditional least all rank) (λ set. refl) enough in
+    let one = class_has_one c.args.vertical.now c.least-least.result c.runs-runs.result.now.baskets c.least-least.ensures c.runs-runs.ensures.weights
+    c.conditional_supports.ensures c.supports_settle_frequent.ensures c.classes_are_conditional.ensures c.lists_have_class_size.ensures
+    c.args.rank (omega (arith, c.if-support-least.false, c.support-support.ensures)) in
     omega (arith, c.add.ensures.told)
 
 pub returns-in_err-room-clause-at_most : goal.returns-in_err-room-clause-at_most
 returns-in_err-room-clause-at_most g c =
-    let coding = c.args.vertical.now in
-    let rank = c.args.rank in
-    let least = c.least-least.result in
-    let all = c.runs-runs.result.now.baskets in
-    let enough : least ≤ support_of all (rank ∷ []) = omega (arith, c.if-support-least.false, c.support-support.ensures) in
-    let size = whole_size coding least all c.least-least.ensures c.runs-runs.ensures.weights c.conditional_supports.ensures c.supports_settle_frequent.ensures c.classes_are_conditional.ensures c.lists_have_class_size.ensures
-    rank (conditional least all rank) (λ set. refl) enough in
+    let one = class_has_one c.args.vertical.now c.least-least.result c.runs-runs.result.now.baskets c.least-least.ensures c.runs-runs.ensures.weights
+    c.conditional_supports.ensures c.supports_settle_frequent.ensures c.classes_are_conditional.ensures c.lists_have_class_size.ensures
+    c.args.rank (omega (arith, c.if-support-least.false, c.support-support.ensures)) in
     omega (arith, c.add.ensures.told)
 
 pub extend-requires-clause-given : goal.extend-requires-clause-given
