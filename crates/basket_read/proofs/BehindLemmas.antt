@@ -1,5 +1,5 @@
 -- A text behind whole lines.
-use Rattle.std.proofs.Common.{◌≡◌, ℕ, ◌+◌, Bool, true, false, ◌&&◌, List, [], ◌∷◌, ◌++◌, length, cond, fold, Option, Some, None, refl, sym, ap, ◌∙◌, append_assoc, arith}
+use Rattle.std.proofs.Common.{◌≡◌, ℕ, ◌+◌, Bool, true, ◌&&◌, List, [], ◌∷◌, ◌++◌, length, cond, fold, Option, Some, None, refl, sym, ap, ◌∙◌, subst, append_assoc, arith, ◌≤◌, false}
 use Rattle.std.specs.List.{list_all, flat_map}
 use Rattle.std.specs.Option.{option_map}
 use Rattle.std.proofs.lemmas.Bool.{and_parts}
@@ -7,13 +7,19 @@ use Rattle.std.proofs.lemmas.Grind.{flat_map-append}
 use Rattle.std.proofs.lemmas.List.{append-nil, length-append}
 use Rattle.std.proofs.lemmas.List.Folds.{list_all-append}
 use Rattle.std.proofs.lemmas.List.Sums.{fold-append}
+use Rattle.basket_sets.specs.declared.weighted.Weighted.{Weighted}
+use Rattle.basket_sets.specs.Database.{MOST_BASKETS}
 use Rattle.basket_sets.specs.Minimum.{is_digit}
 use Rattle.basket_read.specs.declared.fault.ReadFault.{ReadFault}
 use Rattle.basket_read.specs.declared.fault.ReadFault.TheVariants.{Byte, Number}
+use Rattle.basket_read.specs.declared.text.Text.{Text}
 use Rattle.basket_read.specs.Cut.{Cut, cut_at, cut_more}
-use Rattle.basket_read.specs.Fimi.{is_line_feed, is_line, is_good, basket_of, baskets_of, line_after, fault_at, fault_after, first_fault, or_else}
+use Rattle.basket_read.specs.Fimi.{is_line_feed, is_line, is_good, basket_of, baskets_of, line_after, fault_at, fault_after, first_fault, or_else, MOST_BYTES}
+use Rattle.basket_read.specs.Line.{line_state, line_at}
+use Rattle.basket_read.specs.Text.{HasBaskets, IsTextSoFar, HasRoomFor}
 use Rattle.basket_read.specs.Laws.{counted_on, SaysBoth, LinesSayTheirs}
 use Rattle.basket_read.proofs.CutLemmas.{cut}
+use Rattle.basket_read.proofs.RoomLemmas.{merely_at_most, ended_after, baskets_after}
 use Rattle.basket_read.proofs.TextLemmas.{found, first_fault_behind, first_fault_stays, good-from_faultless}
 
 -- parts that have ended before
@@ -108,3 +114,38 @@ lines_say_theirs front rest whole = record {
         → first_fault (front ++ rest) ≡ or_else (first_fault front) later
     at (Some fault) e later goes_on = first_fault_stays front rest fault e ∙ ap (λ f. or_else f later) (sym e)
     at None e later goes_on = first_fault_behind front rest e ∙ goes_on e ∙ ap (λ f. or_else f later) (sym e)
+
+-- ---- two texts that were read
+
+pub texts_joined : (text other new : Text) (past : List Weighted) (bytes more : List ℕ) → IsTextSoFar text past bytes → (cut_at is_line_feed bytes).last ≡ [] → IsTextSoFar other [] more
+    → new.lines ≡ text.lines + other.lines → new.past_weight ≡ text.past_weight → line_state new.line ≡ line_state other.line
+    → HasBaskets new.heavy (past ++ new.baskets) (flat_map basket_of (cut_at is_line_feed bytes).ended ++ flat_map basket_of (cut_at is_line_feed more).ended)
+    → IsTextSoFar new past (bytes ++ more)
+texts_joined text other new past bytes more t whole o lines weight line baskets =
+    let a = (cut_at is_line_feed bytes).ended in
+    let k = cut_at is_line_feed more in
+    let joined = cut_behind bytes whole more in
+    record {
+      faultless =
+          (lines_say_theirs bytes more whole).fault
+          ∙ (λ i. or_else (t.faultless i) (option_map (counted_on (length a)) (o.faultless i)));
+      lines = let sum = length-append a k.ended in let same = ap (λ (j : Cut). length j.ended) joined in omega (arith, lines, t.lines, o.lines, sum, same);
+      baskets = subst (HasBaskets new.heavy (past ++ new.baskets)) (sym (flat_map-append basket_of a k.ended) ∙ ap (λ (j : Cut). flat_map basket_of j.ended) (sym joined)) baskets;
+      past_weight = weight ∙ t.past_weight;
+      line = line ∙ o.line ∙ ap (λ (j : Cut). line_at j.last) (sym joined);
+    }
+
+-- of so few bytes they have few lines and few baskets together
+pub few_joined : (text other : Text) → HasRoomFor text other → text.lines + other.lines ≤ MOST_BYTES
+few_joined text other room =
+    merely_at_most (text.lines + other.lines) MOST_BYTES room
+    (λ w. let t = w.3.lines in let o = w.4.lines in let a = ended_after is_line_feed (cut [] []) w.1 in let b = ended_after is_line_feed (cut [] []) w.2 in let small = w.5 in omega arith)
+
+pub few_baskets_joined : (text other : Text) → HasRoomFor text other → text.heavy ≡ false → other.heavy ≡ false → length text.baskets + length other.baskets ≤ MOST_BASKETS
+few_baskets_joined text other room light light_other =
+    merely_at_most (length text.baskets + length other.baskets) MOST_BASKETS room
+    (λ w.
+    let same = subst (λ b. HasBaskets b (w.0 ++ text.baskets) (flat_map basket_of (cut_at is_line_feed w.1).ended)) light w.3.baskets in
+    let also = subst (λ b. HasBaskets b other.baskets (flat_map basket_of (cut_at is_line_feed w.2).ended)) light_other w.4.baskets in
+    let few = baskets_after (cut [] []) w.1 in let few_other = baskets_after (cut [] []) w.2 in let small = w.5 in
+    let long = ap length same.0 in let long_other = ap length also.0 in let parts = length-append w.0 text.baskets in omega arith)

@@ -1,7 +1,7 @@
 -- What a read of blocks answers.
 use Rattle.std.proofs.Common.{◌≡◌, ◌≢◌, ◌≤◌, ℕ, Bool, true, false, List, [], ◌∷◌, ◌++◌, cond, Option, Some, None, Result, Ok, Err, append-nil, refl, sym, ap, ◌∙◌, subst, append_assoc, leb, ltb, take, length}
 use Rattle.std.proofs.lemmas.Bool.{leb-true}
-use Rattle.std.specs.Prelude.{IfOk, IfSome, unwrap_or}
+use Rattle.std.specs.Prelude.{IfErr, IfOk, IfSome, MatchResult, OnOk, unwrap_or}
 use Rattle.std.specs.Io.KnownBytes.{Consumes, IsAtEnd, Keeps}
 use Rattle.basket_sets.specs.declared.weighted.Weighted.{Weighted}
 use Rattle.basket_sets.specs.Minimum.{is_digit}
@@ -11,6 +11,7 @@ use Rattle.basket_read.specs.declared.fault.ReadFault.{ReadFault}
 use Rattle.basket_read.specs.declared.fault.ReadFault.TheVariants.{Memory, Read, TooLong, Byte, Number, Heavy}
 use Rattle.basket_read.specs.Fimi.{is_good, line_after, fault_after, first_fault, or_else, fault_in, text_of, settled_fault, baskets_of, answer_of, fimi_of, MOST_BYTES}
 use Rattle.basket_read.specs.ItemCounts.{AreLightCounts, Counts}
+use Rattle.basket_read.specs.Batches.{Stops}
 use Rattle.basket_read.specs.Read.{FailsAfter}
 use Rattle.basket_read.specs.Text.{Tells, Answers}
 use Rattle.basket_read.specs.declared.item_counts.ItemCounts.{ItemCounts}
@@ -59,6 +60,13 @@ consumes_more (Some all) None new a b p q = absurd p
 consumes_more (Some all) (Some rest) None a b p q = absurd q
 consumes_more (Some all) (Some rest) (Some left) a b p q = p ∙ ap (λ l. a ++ l) q ∙ sym (append_assoc a b left)
 
+pub consumes_none : (old : Option (List ℕ)) → Consumes old old []
+consumes_none None = tt
+consumes_none (Some all) = refl
+
+pub consumes_same : (old new : Option (List ℕ)) (given same : List ℕ) → same ≡ given → Consumes old new given → Consumes old new same
+consumes_same old new given same e p = subst (Consumes old new) (sym e) p
+
 -- a fault in the bytes that a reader gave is that of all its bytes
 pub refused_answer : (old new : Option (List ℕ)) (given : List ℕ) (fault : ReadFault) (answer : Result (List Weighted) ReadFault)
     → answer ≡ Err fault → Consumes old new given → Tells fault (settled_fault given) → IfSome old (λ bytes. Answers answer (fimi_of bytes))
@@ -93,12 +101,12 @@ of_all_bytes (Some all) (Some rest) (Some left) given taken P p q none end h =
     subst P (sym (p ∙ ap (λ l. given ++ l) (q ∙ (λ i. none i ++ end i)) ∙ append-nil given)) h
 
 -- a reader that failed behind the bytes that it gave
-pub fails_after : (old now new : Option (List ℕ)) (given : List ℕ) (fault : ReadFault) → Consumes old now given → Keeps now new → fault ≡ unwrap_or (fault_in given) Read
+pub fails_after : (old now new : Option (List ℕ)) (given : List ℕ) (fault : ReadFault) → Consumes old now given → Keeps now new → (fault ≢ Memory → fault ≡ unwrap_or (fault_in given) Read)
     → IfSome old (λ bytes. FailsAfter bytes new (Err fault))
 fails_after None now new given fault p kept is = tt
 fails_after (Some all) None new given fault p kept is = absurd p
 fails_after (Some all) (Some rest) None given fault p kept is = absurd kept
-fails_after (Some all) (Some rest) (Some left) given fault p kept is = (given, p ∙ ap (λ l. given ++ l) (sym kept), λ no_memory. is)
+fails_after (Some all) (Some rest) (Some left) given fault p kept is = (given, p ∙ ap (λ l. given ++ l) (sym kept), is)
 
 -- the baskets that an input says are light
 light_answer : (found : Option ReadFault) (all baskets : List Weighted) → answer_of found all ≡ Ok baskets → total_of baskets ≤ MOST_WEIGHT
@@ -112,3 +120,56 @@ light_answer None all baskets e = at (leb (total_of all) MOST_WEIGHT) refl e
 pub light_counts : (bytes : List ℕ) (answer : Result ItemCounts ReadFault) → Counts answer (fimi_of bytes) → IfOk answer AreLightCounts
 light_counts bytes (Ok counts) (baskets, is, counted) = (baskets, counted, light_answer (fault_in bytes) (baskets_of (text_of bytes)) baskets is)
 light_counts bytes (Err fault) h = tt
+
+-- ---- reading that stops
+
+unlike : {A : Type 0} (b : Bool) → b ≡ false → b ≡ true → A
+unlike true e t = absurd cc
+unlike false e t = absurd cc
+
+pub stops_memory : (old new : Option (List ℕ)) (failed : Bool) → failed ≡ false → Stops old new failed Memory
+stops_memory old new failed working = record {
+  exact = λ _. memory_answer old (Err Memory) refl;
+  fails = unlike failed working;
+  read_is_failed = λ e. absurd cc;
+}
+
+-- at a fault in the bytes that a reader gave
+pub stops_fault : (old new : Option (List ℕ)) (failed : Bool) (given : List ℕ) (fault : ReadFault) → failed ≡ false → Consumes old new given → Tells fault (settled_fault given)
+    → Stops old new failed fault
+stops_fault old new failed given fault working p told = record {
+  exact = λ _. refused_answer old new given fault (Err fault) refl p told;
+  fails = unlike failed working;
+  read_is_failed = λ e. absurd (not_settled given (subst (λ f. Tells f (settled_fault given)) e told (λ m. absurd cc)));
+}
+
+-- where the reader failed
+pub stops_failed : (old now new : Option (List ℕ)) (failed : Bool) (given : List ℕ) (fault : ReadFault) → failed ≡ true → Consumes old now given → Keeps now new
+    → (fault ≢ Memory → fault ≡ unwrap_or (fault_in given) Read) → Stops old new failed fault
+stops_failed old now new failed given fault broken p kept is = record {
+  exact = λ working. unlike failed working broken;
+  fails = λ _. fails_after old now new given fault p kept is;
+  read_is_failed = λ _. broken;
+}
+
+-- what was found before it failed
+pub told_fault : (given : List ℕ) (fault : ReadFault) → Tells fault (settled_fault given) → fault ≢ Memory → fault ≡ unwrap_or (fault_in given) Read
+told_fault given fault told no_memory = ap (λ f. unwrap_or f Read) (sym (fault-settled given fault (told no_memory)))
+
+-- of a result that may be well
+pub if_err : {A : Type 0} (result : Result A ReadFault) (P : A → Type 0) (Q R : ReadFault → Type 0) → MatchResult result P Q → ((fault : ReadFault) → Q fault → R fault) → IfErr result R
+if_err (Ok x) P Q R h all = tt
+if_err (Err fault) P Q R h all = all fault h
+
+pub on_ok : {A : Type 0} (result : Result A ReadFault) (P R : Type 0) (Q : ReadFault → Type 0) → MatchResult result (λ _. P) Q → (P → R) → OnOk result R
+on_ok (Ok x) P R Q h all = all h
+on_ok (Err fault) P R Q h all = tt
+
+pub is_err : {A : Type 0} (result : Result A ReadFault) (fault : ReadFault) (R : ReadFault → Type 0) → result ≡ Err fault → R fault → IfErr result R
+is_err result fault R e h = subst (λ r. IfErr r R) (sym e) h
+
+-- ---- an answer to all that was read
+
+pub if_some : {A : Type 0} (o : Option A) (P Q : A → Type 0) → IfSome o P → ((x : A) → P x → Q x) → IfSome o Q
+if_some None P Q h all = tt
+if_some (Some x) P Q h all = all x h

@@ -39,7 +39,7 @@ light_together text past bytes t light =
     omega (arith, same.1)
 
 -- a separator for each part that has ended
-ended_after : (p : ℕ → Bool) (c : Cut) (xs : List ℕ) → length (fold (cut_more p) c xs).ended ≤ length c.ended + length xs
+pub ended_after : (p : ℕ → Bool) (c : Cut) (xs : List ℕ) → length (fold (cut_more p) c xs).ended ≤ length c.ended + length xs
 ended_after p c [] = omega arith
 ended_after p c (x ∷ xs) = at (p x) (ended_after p (cut (c.ended ++ c.last ∷ []) []) xs) (ended_after p (cut c.ended (c.last ++ x ∷ [])) xs)
   where
@@ -67,7 +67,7 @@ abbrev bytes_of : Cut → ℕ
 bytes_of k = 2 * length (flat_map basket_of k.ended) + length k.last
 
 -- a basket and its line feed take two bytes
-baskets_after : (c : Cut) (xs : List ℕ) →
+pub baskets_after : (c : Cut) (xs : List ℕ) →
     2 * length (flat_map basket_of (fold (cut_more is_line_feed) c xs).ended) + length (fold (cut_more is_line_feed) c xs).last ≤ 2 * length (flat_map basket_of c.ended) + length c.last + length xs
 baskets_after c [] = omega arith
 baskets_after c (x ∷ xs) = at (is_line_feed x) (baskets_after (cut (c.ended ++ c.last ∷ []) []) xs) (baskets_after (cut c.ended (c.last ++ x ∷ [])) xs)

@@ -1,5 +1,5 @@
 -- What a text that is being read stands for.
-use Rattle.std.specs.Prelude.{◌≡◌, ◌≢◌, ◌<◌, ◌≤◌, ◌+◌, ℕ, Bool, true, false, List, ◌++◌, length, Option, Some, None, Result, Ok, Err}
+use Rattle.std.specs.Prelude.{◌≡◌, ◌≢◌, ◌<◌, ◌≤◌, ◌+◌, ℕ, Bool, true, false, List, [], ◌++◌, length, Option, Some, None, Result, Ok, Err}
 use Rattle.std.specs.List.{flat_map}
 use Rattle.basket_sets.specs.declared.weighted.Weighted.{Weighted}
 use Rattle.basket_sets.specs.Support.{total_of}
@@ -27,6 +27,15 @@ pub record IsTextSoFar (text : Text) (past : List Weighted) (bytes : List ℕ) :
 -- the text that was read is of so few bytes that an input may have so many more
 abbrev pub HasRoom : Text → ℕ → Type 0
 HasRoom text more = ∥ ((past : List Weighted) × (bytes : List ℕ) × IsTextSoFar text past bytes × (length bytes + more ≤ MOST_BYTES)) ∥₁
+
+-- the two texts that were read are of so few bytes together that an input may have so many
+abbrev pub HasRoomFor : Text → Text → Type 0
+HasRoomFor text other =
+    ∥ ((past : List Weighted) × (bytes : List ℕ) × (more : List ℕ) × IsTextSoFar text past bytes × IsTextSoFar other [] more × (length bytes + length more ≤ MOST_BYTES)) ∥₁
+
+-- the bytes end a line, whatever stands before them
+abbrev pub EndsLine : List ℕ → Type 0
+EndsLine bytes = (before : List ℕ) → (cut_at is_line_feed (before ++ bytes)).last ≡ []
 
 -- but for want of memory, the fault is the one that was found
 abbrev pub Tells : ReadFault → Option ReadFault → Type 0

@@ -6,10 +6,13 @@ ghost use Rattle.basket_sets.specs.ItemTable.{HasCounted};
 ghost use Rattle.basket_sets.specs.declared.weighted.Weighted.{Weighted};
 ghost use Rattle.basket_read.specs.Input.{IsInputSoFar, IsSomeInput};
 
+use crate::batches::Batched;
 use crate::fault::ReadFault;
+use crate::lines::feed_shared;
 use crate::text::Text;
 use basket_sets::{Database, ItemTable};
 use std::alloc::{AllocError, Global};
+use std::thread::Threads;
 
 /// The greatest number of bytes of an input.
 const MAX_BYTES: u32 = 4_294_967_295;
@@ -123,6 +126,46 @@ impl Input {
         Ok(())
     }
 
+    /// Takes more of the input, up to its first fault, by so many workers.
+    pub fn take_shared<R: Threads + Sync>(
+        &mut self,
+        rt: &R,
+        alloc: Global,
+        piece: &[u8],
+        workers: u32,
+    ) -> Result<(), ReadFault>
+        requires { IsSomeInput self.old }
+        ensures { (past : List Weighted) (bytes : List ℕ) → IsInputSoFar self.old past bytes →
+            MatchResult result (λ _. IsInputSoFar self.new past (bytes ++ piece.now)) (λ fault. Tells fault (settled_fault (bytes ++ piece.now))) }
+    {
+        let (front, rest) = piece.split_at(piece.len().min(MARK.len()));
+        self.take(front)?;
+        self.take_rest(rt, alloc, rest, workers)
+    }
+
+    /// The same, where the front is mostly decided.
+    fn take_rest<R: Threads + Sync>(
+        &mut self,
+        rt: &R,
+        alloc: Global,
+        piece: &[u8],
+        workers: u32,
+    ) -> Result<(), ReadFault>
+        requires { IsSomeInput self.old }
+        ensures { (past : List Weighted) (bytes : List ℕ) → IsInputSoFar self.old past bytes →
+            MatchResult result (λ _. IsInputSoFar self.new past (bytes ++ piece.now)) (λ fault. Tells fault (settled_fault (bytes ++ piece.now))) }
+    {
+        let Front::Decided = self.front else {
+            return self.take(piece);
+        };
+        if piece.len() > (MAX_BYTES - self.taken) as usize {
+            return self.take(piece);
+        }
+        feed_shared(rt, alloc, &mut self.text, piece, workers)?;
+        self.taken += piece.len() as u32;
+        Ok(())
+    }
+
     /// The fault of the bytes so far if none follow.
     pub fn fault_so_far(&self) -> Option<ReadFault>
         ensures { (past : List Weighted) (bytes : List ℕ) → IsInputSoFar self.now past bytes → result ≡ fault_in bytes }
@@ -159,5 +202,30 @@ impl Input {
         }
         let Input { text, .. } = self;
         text.finish()
+    }
+}
+
+impl Batched for Input {
+    ghost use Rattle.std.specs.Prelude.{[]};
+    ghost use Rattle.basket_read.specs.Input.{IsInputSoFar};
+
+    ghost has_read = { λ input bytes. IsInputSoFar input [] bytes };
+
+    ghost taken = { λ input. input.taken };
+
+    ghost few = { λ input bytes r. (r.taken, r.few) };
+
+    fn take_batch<R: Threads + Sync>(
+        &mut self,
+        rt: &R,
+        alloc: Global,
+        batch: &[u8],
+        workers: u32,
+    ) -> Result<(), ReadFault> {
+        self.take_shared(rt, alloc, batch, workers)
+    }
+
+    fn fault_so_far(&self) -> Option<ReadFault> {
+        Input::fault_so_far(self)
     }
 }

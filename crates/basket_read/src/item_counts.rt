@@ -1,13 +1,15 @@
 //! The counts of the items of a FIMI input that comes in pieces.
-ghost use Rattle.std.specs.Prelude.{◌≡◌, ℕ, List, [], ◌++◌, MatchResult};
+ghost use Rattle.std.specs.Prelude.{◌≡◌, ℕ, List, [], ◌++◌, MatchResult, OnOk};
 ghost use Rattle.basket_read.specs.Fimi.{settled_fault, fault_in, fimi_of};
 ghost use Rattle.basket_read.specs.ItemCounts.{Counts, HasRead};
 ghost use Rattle.basket_read.specs.Text.{Tells};
 
+use crate::batches::Batched;
 use crate::fault::ReadFault;
 use crate::input::Input;
 use basket_sets::{Database, ItemTable};
-use std::alloc::Global;
+use std::alloc::{AllocError, Global};
+use std::thread::Threads;
 
 /// What an input says of its items: their supports in the first of its baskets, and the others.
 #[derive(Debug, Drop)]
@@ -44,6 +46,14 @@ impl ItemParts {
             MatchResult result (λ _. HasRead self.new (bytes ++ piece.now)) (λ fault. Tells fault (settled_fault (bytes ++ piece.now))) }
     {
         self.input.take(piece)?;
+        Ok(self.count()?)
+    }
+
+    /// Counts the baskets that are kept, where the table may have become large enough for them.
+    fn count(&mut self) -> Result<(), AllocError>
+        requires { ∥ ((bytes : List ℕ) × HasRead self.old bytes) ∥₁ }
+        ensures { (bytes : List ℕ) → HasRead self.old bytes → OnOk result (HasRead self.new bytes) }
+    {
         if self.input.kept() / 2 >= self.refused {
             let counted = self.input.count(&mut self.table)?;
             self.refused = if counted { 0 } else { self.input.kept() };
@@ -66,5 +76,30 @@ impl ItemParts {
         let ItemParts { input, table, .. } = self;
         let rest = input.finish()?;
         Ok(ItemCounts { table, rest })
+    }
+}
+
+impl Batched for ItemParts {
+    ghost use Rattle.basket_read.specs.ItemCounts.{HasRead};
+
+    ghost has_read = { HasRead };
+
+    ghost taken = { λ parts. parts.input.taken };
+
+    ghost few = { λ parts bytes read. (read.1.taken, read.1.few) };
+
+    fn take_batch<R: Threads + Sync>(
+        &mut self,
+        rt: &R,
+        alloc: Global,
+        batch: &[u8],
+        workers: u32,
+    ) -> Result<(), ReadFault> {
+        self.input.take_shared(rt, alloc, batch, workers)?;
+        Ok(self.count()?)
+    }
+
+    fn fault_so_far(&self) -> Option<ReadFault> {
+        ItemParts::fault_so_far(self)
     }
 }

@@ -1,6 +1,7 @@
 //! Readers of baskets that answer exactly the baskets of an input, or its first fault.
 #![tactic(auto)]
 
+mod batches;
 mod class;
 mod counted_line;
 mod fault;
@@ -8,9 +9,11 @@ mod input;
 mod item_counts;
 pub mod laws;
 mod line;
+mod lines;
 mod number;
 mod parts;
 mod read;
+mod shared;
 mod text;
 pub mod worked;
 
@@ -19,3 +22,4 @@ pub use fault::ReadFault;
 pub use item_counts::ItemCounts;
 pub use parts::FimiParts;
 pub use read::{MAX_BLOCK, count_fimi, read_fimi, read_fimi_by};
+pub use shared::{count_fimi_shared, read_fimi_shared};

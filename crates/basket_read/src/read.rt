@@ -17,7 +17,7 @@ use std::alloc::Global;
 pub const MAX_BLOCK: usize = 1_048_576;
 
 /// The block of `read_fimi`.
-const BLOCK: usize = 65_536;
+pub(crate) const BLOCK: usize = 65_536;
 
 /// Reads a FIMI input to its end, in blocks of 65,536 bytes.
 pub fn read_fimi<S: Source>(alloc: Global, reader: &mut S) -> Result<Database, ReadFault>

@@ -4,9 +4,10 @@ ghost use Rattle.basket_sets.specs.declared.weighted.Weighted.{Weighted};
 ghost use Rattle.basket_sets.specs.Database.{MOST_BASKETS, MOST_WEIGHT};
 ghost use Rattle.basket_sets.specs.ItemTable.{HasCounted};
 ghost use Rattle.basket_sets.specs.Support.{total_of};
-ghost use Rattle.basket_read.specs.Fimi.{first_fault, basket_of_numbers, baskets_of, if_light};
+ghost use Rattle.basket_read.specs.Cut.{cut_at};
+ghost use Rattle.basket_read.specs.Fimi.{is_line_feed, first_fault, basket_of_numbers, baskets_of, if_light};
 ghost use Rattle.basket_read.specs.Line.{line_state, line_at, blank_added};
-ghost use Rattle.basket_read.specs.Text.{HasBaskets, IsTextSoFar, HasRoom, Tells, AnswersBehind};
+ghost use Rattle.basket_read.specs.Text.{HasBaskets, IsTextSoFar, HasRoom, HasRoomFor, Tells, AnswersBehind};
 
 use crate::class::{Class, class_of};
 use crate::fault::ReadFault;
@@ -141,6 +142,43 @@ impl Text {
         }
         self.line.clear();
         Ok(())
+    }
+
+    /// Adds what was read of the text that follows, where this one ends behind a line feed.
+    pub fn append(&mut self, other: Text) -> Result<(), AllocError>
+        requires { HasRoomFor self.old other }
+        ensures { (past : List Weighted) (lines more : List ℕ) → IsTextSoFar self.old past lines → (cut_at is_line_feed lines).last ≡ [] → IsTextSoFar other [] more →
+            OnOk result (IsTextSoFar self.new past (lines ++ more)) }
+    {
+        let Text {
+            lines,
+            baskets,
+            heavy,
+            line,
+            ..
+        } = other;
+        self.add_baskets(baskets, heavy)?;
+        self.lines += lines;
+        self.line = line;
+        Ok(())
+    }
+
+    /// Adds baskets behind those that are kept, unless all weigh too much.
+    fn add_baskets(&mut self, baskets: Database, heavy: bool) -> Result<(), AllocError>
+        requires { self.old.heavy ≡ false → heavy ≡ false → length self.old.baskets + length baskets ≤ MOST_BASKETS }
+        ensures lines { self.new.lines ≡ self.old.lines }
+        ensures past_weight { self.new.past_weight ≡ self.old.past_weight }
+        ensures baskets { (past before more : List Weighted) → self.old.past_weight ≡ total_of past → HasBaskets self.old.heavy (past ++ self.old.baskets) before → HasBaskets heavy baskets more →
+            OnOk result (HasBaskets self.new.heavy (past ++ self.new.baskets) (before ++ more)) }
+    {
+        let weight = self.past_weight.saturating_add(self.baskets.total());
+        if heavy || weight.saturating_add(baskets.total()) > Database::MAX_WEIGHT {
+            self.heavy = true;
+        }
+        if self.heavy {
+            return Ok(());
+        }
+        self.baskets.append(baskets)
     }
 
     /// How many baskets are kept.

@@ -67,7 +67,7 @@ pub returns-in-Err-clause-failed : goal.returns-in-Err-clause-failed
 returns-in-Err-clause-failed g c = λ failed.
     let read = c.reading.invariant.read in
     fails_after _ _ _ read.0 c.unwrap_or.result read.1 c.in-Err.ensures.bytes
-    (c.unwrap_or.ensures ∙ ap (λ found. unwrap_or found Read) (c.fault_so_far.ensures read.0 read.2))
+    (λ _. c.unwrap_or.ensures ∙ ap (λ found. unwrap_or found Read) (c.fault_so_far.ensures read.0 read.2))
 
 pub returns-in-Ok-eq0-clause-light : goal.returns-in-Ok-eq0-clause-light
 returns-in-Ok-eq0-clause-light g c =
