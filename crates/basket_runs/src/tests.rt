@@ -5,7 +5,7 @@ use basket::{
     invocation_of, mine, run, run_count, status_of,
 };
 use basket_core::{Database, MemSink, MemSource, MineFault, Sink, Source, parse_minimum};
-use basket_read::{ReadFault, read_fimi};
+use basket_read::{ReadFault, read_fimi, read_fimi_shared};
 use itoa::Buffer;
 use std::alloc::{AllocError, Global};
 use std::io;

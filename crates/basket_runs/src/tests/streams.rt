@@ -109,3 +109,34 @@ fn a_writer_that_fails_has_taken_a_front_of_the_report(rt: HostRuntime) -> Resul
     assert_eq!(rt; text.as_str(), "cannot write the report");
     Ok(())
 }
+
+/// Lines of two numbers, and a sign in one of them.
+fn pairs(alloc: Global, sign: Option<u32>) -> Result<Vec<u8>, AllocError> {
+    let mut text = Vec::new(alloc);
+    let mut buffer = Buffer::new();
+    for line in 1..70_001u32 {
+        text.extend_from_slice(buffer.format(line).as_bytes())?;
+        let rest = if sign == Some(line) { " -7\n" } else { " 7\n" };
+        text.extend_from_slice(rest.as_bytes())?;
+    }
+    Ok(text)
+}
+
+#[test]
+fn workers_read_what_one_reads(rt: HostRuntime) -> Result<(), Fail> {
+    let alloc = rt.alloc();
+    for sign in [None, Some(2), Some(67_000)] {
+        let text = pairs(alloc, sign)?;
+        let one = read_fimi(alloc, &mut MemSource::new(&text, 10_000, None));
+        for workers in [2, 3] {
+            let mut reader = MemSource::new(&text, 10_000, None);
+            let same = match (&one, &read_fimi_shared(&rt, alloc, &mut reader, workers)) {
+                (Ok(one), Ok(all)) => one.baskets() == all.baskets(),
+                (Err(one), Err(all)) => one == all,
+                _ => false,
+            };
+            assert!(rt; same, "a sign in {sign:?}, by {workers}");
+        }
+    }
+    Ok(())
+}
