@@ -17,7 +17,7 @@ use Rattle.basket_read.specs.Cut.{Cut, cut_at, cut_more}
 use Rattle.basket_read.specs.Fimi.{is_line_feed, is_line, is_good, basket_of, baskets_of, line_after, fault_at, fault_after, first_fault, or_else, MOST_BYTES}
 use Rattle.basket_read.specs.Line.{line_state, line_at}
 use Rattle.basket_read.specs.Text.{HasBaskets, IsTextSoFar, HasRoomFor}
-use Rattle.basket_read.specs.Laws.{counted_on, SaysBoth, LinesSayTheirs}
+use Rattle.basket_read.specs.Laws.{counted_on, LinesSayTheirs}
 use Rattle.basket_read.proofs.CutLemmas.{cut}
 use Rattle.basket_read.proofs.RoomLemmas.{merely_at_most, ended_after, baskets_after}
 use Rattle.basket_read.proofs.TextLemmas.{found, first_fault_behind, first_fault_stays, good-from_faultless}

@@ -1,6 +1,7 @@
 -- How a text goes on with one more byte, and what its first fault is.
-use Rattle.std.proofs.Common.{◌≡◌, ℕ, ◌+◌, ◌<◌, Bool, true, false, ◌&&◌, List, [], ◌∷◌, ◌++◌, length, cond, Option, Some, None, Ok, Err, refl, sym, ap, ◌∙◌, subst, append_assoc, take, drop, get_or}
+use Rattle.std.proofs.Common.{◌≡◌, ℕ, ◌+◌, ◌<◌, Bool, true, false, ◌&&◌, List, [], ◌∷◌, ◌++◌, length, cond, Option, Some, None, Result, Ok, Err, refl, sym, ap, ◌∙◌, subst, append_assoc, take, drop, get_or}
 use Rattle.std.specs.List.{list_all, flat_map}
+use Rattle.std.specs.Prelude.{IfOk, MatchResult}
 use Rattle.std.proofs.lemmas.Bool.{and_parts, le-leb}
 use Rattle.std.proofs.lemmas.List.{append-nil, length-append, take_more, take-append-drop}
 use Rattle.std.proofs.lemmas.Grind.{flat_map-append}
@@ -218,3 +219,12 @@ fault_in_piece bytes piece i fault below told no_memory =
     ap first_fault
     (ap (λ l. bytes ++ l) (sym (take-append-drop (i + 1) piece)) ∙ sym (append_assoc bytes (take (i + 1) piece) (drop (i + 1) piece)))
     ∙ first_fault_stays (bytes ++ take (i + 1) piece) (drop (i + 1) piece) fault (ap first_fault (sym (take_next bytes piece i below)) ∙ told no_memory)
+
+-- and so is a fault in its front
+pub fault_in_front : (bytes front rest piece : List ℕ) (fault : ReadFault) → front ++ rest ≡ piece → Tells fault (first_fault (bytes ++ front)) → Tells fault (first_fault (bytes ++ piece))
+fault_in_front bytes front rest piece fault whole told no_memory =
+    ap first_fault (ap (λ l. bytes ++ l) (sym whole) ∙ sym (append_assoc bytes front rest)) ∙ first_fault_stays (bytes ++ front) rest fault (told no_memory)
+
+pub if_ok : {A : Type 0} (result : Result A ReadFault) (P : A → Type 0) (Q : ReadFault → Type 0) → MatchResult result P Q → IfOk result P
+if_ok (Ok x) P Q h = h
+if_ok (Err fault) P Q h = tt

@@ -10,8 +10,8 @@ use basket_stream::Source;
 use std::alloc::Global;
 use std::thread::Threads;
 
-/// How many bytes workers take together, and less than a block more.
-const BATCH: usize = 4_194_304;
+/// How many bytes of a batch there are for a worker. It has less than a block more.
+const SHARE: usize = 262_144;
 
 /// What an input is read into by several workers.
 pub trait Batched {
@@ -51,11 +51,13 @@ pub fn read_batches<R: Threads + Sync, S: Source, P: Batched>(
 ) -> Result<(), ReadFault>
     requires fresh { S.has_failed reader.old ≡ false }
     requires room { 0 < length buffer.old }
+    requires some { 1 ≤ workers }
     requires new { P.has_read parts.old [] }
-    ensures some { OnOk result ((bytes : List ℕ) × P.has_read parts.new bytes) }
+    ensures read { OnOk result ((bytes : List ℕ) × P.has_read parts.new bytes) }
     ensures all { OnOk result ((S.has_failed reader.new ≡ false) × IfSome (S.left reader.old) (P.has_read parts.new)) }
     ensures stops { IfErr result (Stops (S.left reader.old) (S.left reader.new) (S.has_failed reader.new)) }
 {
+    let full = workers as usize * SHARE;
     let mut batch = Vec::new(alloc);
     'reading: loop {
         match reader.read(buffer) {
@@ -66,7 +68,7 @@ pub fn read_batches<R: Threads + Sync, S: Source, P: Batched>(
                 return Err(parts.fault_so_far().unwrap_or(ReadFault::Read));
             }
         }
-        if batch.len() >= BATCH {
+        if batch.len() >= full {
             parts.take_batch(rt, alloc, &batch, workers)?;
             batch.clear();
         }

@@ -12,6 +12,7 @@ use crate::lines::feed_shared;
 use crate::text::Text;
 use basket_sets::{Database, ItemTable};
 use std::alloc::{AllocError, Global};
+use std::mem;
 use std::thread::Threads;
 
 /// The greatest number of bytes of an input.
@@ -161,7 +162,9 @@ impl Input {
         if piece.len() > (MAX_BYTES - self.taken) as usize {
             return self.take(piece);
         }
-        feed_shared(rt, alloc, &mut self.text, piece, workers)?;
+        let before = mem::replace(&mut self.text, Text::new(alloc));
+        let text = feed_shared(rt, alloc, before, piece, workers)?;
+        self.text = text;
         self.taken += piece.len() as u32;
         Ok(())
     }

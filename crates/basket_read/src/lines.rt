@@ -14,73 +14,71 @@ use std::thread::{Threads, join};
 const LEAST: usize = 65_536;
 
 /// Takes more of a text, up to its first fault, as `Text::feed` does, by so many workers.
+#[cycle(halves)]
 pub fn feed_shared<R: Threads + Sync>(
     rt: &R,
     alloc: Global,
-    text: &mut Text,
+    mut text: Text,
     piece: &[u8],
     workers: u32,
-) -> Result<(), ReadFault>
-    requires { HasRoom text.old (length piece.now) }
-    ensures { (past : List Weighted) (bytes : List ℕ) → IsTextSoFar text.old past bytes →
-        MatchResult result (λ _. IsTextSoFar text.new past (bytes ++ piece.now)) (λ fault. Tells fault (first_fault (bytes ++ piece.now))) }
+) -> Result<Text, ReadFault>
+    requires { HasRoom text (length piece.now) }
+    ensures { (past : List Weighted) (bytes : List ℕ) → IsTextSoFar text past bytes →
+        MatchResult result (λ read. IsTextSoFar read past (bytes ++ piece.now)) (λ fault. Tells fault (first_fault (bytes ++ piece.now))) }
 {
-    let Some(end) = line_end(piece, 0) else {
-        return text.feed(piece);
-    };
-    let (line, lines) = piece.split_at(end);
-    text.feed(line)?;
-    match read_halves(rt, alloc, lines, workers) {
-        Ok(read) => Ok(text.append(read)?),
-        // The text comes to the fault again, and knows the number of its line.
-        Err(_) => text.feed(lines),
+    if workers < 2 || piece.len() < LEAST {
+        text.feed(piece)?;
+        return Ok(text);
     }
+    let middle = piece.len() as u128 * u128::from(workers / 2) / u128::from(workers);
+    let Some(end) = line_end(piece, middle as usize) else {
+        text.feed(piece)?;
+        return Ok(text);
+    };
+    let (front, rest) = piece.split_at(end);
+    let (text, read) = feed_halves(rt, alloc, text, front, rest, workers);
+    let mut text = text?;
+    if let Ok(read) = read {
+        text.append(read)?;
+        return Ok(text);
+    }
+    // The text comes to the fault again, and knows the number of its line.
+    text.feed(rest)?;
+    Ok(text)
 }
 
-/// Reads a text by so many workers.
+/// What the text is with a front, and what follows the front is as a text of its own.
 #[cycle(halves)]
-fn read_halves<R: Threads + Sync>(
+fn feed_halves<R: Threads + Sync>(
     rt: &R,
     alloc: Global,
-    text: &[u8],
+    text: Text,
+    front: &[u8],
+    rest: &[u8],
     workers: u32,
-) -> Result<Text, ReadFault>
-    requires { length text.now ≤ MOST_BYTES }
-    ensures { IfOk result (λ read. IsTextSoFar read [] text.now) }
+) -> (Result<Text, ReadFault>, Result<Text, ReadFault>)
+    requires front { HasRoom text (length front.now) }
+    requires rest { length rest.now ≤ MOST_BYTES }
+    requires several { 2 ≤ workers }
+    ensures front { (past : List Weighted) (bytes : List ℕ) → IsTextSoFar text past bytes →
+        MatchResult result.0 (λ read. IsTextSoFar read past (bytes ++ front.now)) (λ fault. Tells fault (first_fault (bytes ++ front.now))) }
+    ensures rest { IfOk result.1 (λ read. IsTextSoFar read [] rest.now) }
 {
-    if workers < 2 || text.len() < LEAST {
-        return read_alone(alloc, text);
-    }
     let few = workers / 2;
     let others = workers - few;
-    let middle = text.len() as u64 * u64::from(few) / u64::from(workers);
-    let Some(end) = line_end(text, middle as usize) else {
-        return read_alone(alloc, text);
-    };
-    let (front, rest) = text.split_at(end);
-    let (front, rest) = join(
+    let (read, text) = join(
         rt,
-        || -> Result<Text, ReadFault>
-            requires { IsSync R.row × (length front.now ≤ MOST_BYTES) }
-            ensures { IfOk result (λ read. IsTextSoFar read [] front.entry.now) }
-        { read_halves(rt, alloc, front, few) },
         || -> Result<Text, ReadFault>
             requires { IsSync R.row × (length rest.now ≤ MOST_BYTES) }
             ensures { IfOk result (λ read. IsTextSoFar read [] rest.entry.now) }
-        { read_halves(rt, alloc, rest, others) },
+        { feed_shared(rt, alloc, Text::new(alloc), rest, others) },
+        || -> Result<Text, ReadFault>
+            requires { IsSync R.row × HasRoom text (length front.now) }
+            ensures { (past : List Weighted) (bytes : List ℕ) → IsTextSoFar text past bytes →
+                MatchResult result (λ read. IsTextSoFar read past (bytes ++ front.entry.now)) (λ fault. Tells fault (first_fault (bytes ++ front.entry.now))) }
+        { feed_shared(rt, alloc, text, front, few) },
     );
-    let mut read = front?;
-    read.append(rest?)?;
-    Ok(read)
-}
-
-fn read_alone(alloc: Global, text: &[u8]) -> Result<Text, ReadFault>
-    requires { length text.now ≤ MOST_BYTES }
-    ensures { IfOk result (λ read. IsTextSoFar read [] text.now) }
-{
-    let mut read = Text::new(alloc);
-    read.feed(text)?;
-    Ok(read)
+    (text, read)
 }
 
 /// Behind the first line feed at this place or behind it.

@@ -17,8 +17,8 @@ reading-init g c =
 pub take_batch-requires-clause-read : goal.take_batch-requires-clause-read
 take_batch-requires-clause-read g c = let read = c.reading.invariant.read in ∣ (read.0, read.2) ∣₁
 
-pub returns-in-Ok-eq0-clause-some : goal.returns-in-Ok-eq0-clause-some
-returns-in-Ok-eq0-clause-some g c =
+pub returns-in-Ok-eq0-clause-read : goal.returns-in-Ok-eq0-clause-read
+returns-in-Ok-eq0-clause-read g c =
     let read = c.reading.invariant.read in
     on_ok c.take_batch.result _ _ _ (c.take_batch.ensures read.0 read.2) (λ h. (read.0 ++ c.deref.result.now, h))
 
@@ -88,8 +88,8 @@ returns-in-Err-clause-stops g c =
     stops_failed old now new (g.S.Source.has_failed c.read.new.self) given c.unwrap_or.result c.in-Err.ensures.failed consumed c.in-Err.ensures.bytes
     (λ _. c.unwrap_or.ensures ∙ ap (λ found. unwrap_or found Read) (c.fault_so_far.ensures given (c.in_ok-take_batch-in-Err.ensures read.0 read.2)))
 
-pub take_batch-requires-then-len-ge-BATCH-clause-read : goal.take_batch-requires-then-len-ge-BATCH-clause-read
-take_batch-requires-then-len-ge-BATCH-clause-read g c = let read = c.reading.invariant.read in ∣ (read.0, read.2) ∣₁
+pub take_batch-requires-then-len-full-clause-read : goal.take_batch-requires-then-len-full-clause-read
+take_batch-requires-then-len-full-clause-read g c = let read = c.reading.invariant.read in ∣ (read.0, read.2) ∣₁
 
 pub returns-in_err-take_batch-clause-stops : goal.returns-in_err-take_batch-clause-stops
 returns-in_err-take_batch-clause-stops g c =
@@ -99,23 +99,23 @@ returns-in_err-take_batch-clause-stops g c =
     let new = g.S.Source.left c.read.new.self in
     let p = err_from_is_err_and c.from_residual-in_err-take_batch.result c.from_residual-in_err-take_batch.ensures.1 in
     let fault = c.in_err-take_batch.field-0.0 in
-    let given = read.0 ++ c.deref-then-len-ge-BATCH.result.now in
+    let given = read.0 ++ c.deref-then-len-full.result.now in
     let before = read.0 ++ c.reading.batch.items in
     let more = take c.in-Ok.count c.read.new.buf in
     let same : given ≡ before ++ more =
-    ap (λ b. read.0 ++ b) (c.deref-then-len-ge-BATCH.ensures.value ∙ c.in_ok-extend_from_slice-in-Ok.ensures.items) ∙ sym (append_assoc read.0 c.reading.batch.items more) in
+    ap (λ b. read.0 ++ b) (c.deref-then-len-full.ensures.value ∙ c.in_ok-extend_from_slice-in-Ok.ensures.items) ∙ sym (append_assoc read.0 c.reading.batch.items more) in
     let consumed = consumes_same old new (before ++ more) given same (consumes_more old now new before more read.1 c.in-Ok.ensures.bytes.0) in
     is_err c.from_residual-in_err-take_batch.result fault _ (p.1 ∙ ap Err p.2)
     (stops_fault old new (g.S.Source.has_failed c.read.new.self) given fault c.in-Ok.ensures.failed consumed (c.in_err-take_batch.ensures read.0 read.2))
 
-pub reading-smaller-then-len-ge-BATCH : goal.reading-smaller-then-len-ge-BATCH
-reading-smaller-then-len-ge-BATCH g c =
+pub reading-smaller-then-len-full : goal.reading-smaller-then-len-full
+reading-smaller-then-len-full g c =
     let read = c.reading.invariant.read in
     let before = g.P.Batched.few c.reading.parts read.0 read.2 in
-    let given = read.0 ++ c.deref-then-len-ge-BATCH.result.now in
-    let after = g.P.Batched.few c.take_batch-then-len-ge-BATCH.new.self given (c.in_ok-take_batch.ensures read.0 read.2) in
-    let long = length-append read.0 c.deref-then-len-ge-BATCH.result.now in
-    let batch = ap length (c.deref-then-len-ge-BATCH.ensures.value ∙ c.in_ok-extend_from_slice-in-Ok.ensures.items) in
+    let given = read.0 ++ c.deref-then-len-full.result.now in
+    let after = g.P.Batched.few c.take_batch-then-len-full.new.self given (c.in_ok-take_batch.ensures read.0 read.2) in
+    let long = length-append read.0 c.deref-then-len-full.result.now in
+    let batch = ap length (c.deref-then-len-full.ensures.value ∙ c.in_ok-extend_from_slice-in-Ok.ensures.items) in
     let sum = length-append c.reading.batch.items (take c.in-Ok.count c.read.new.buf) in
     let some = length-take c.in-Ok.count c.read.new.buf in
     let within = c.in-Ok.ensures.bound in
@@ -123,18 +123,18 @@ reading-smaller-then-len-ge-BATCH g c =
     let none = ap length c.clear.ensures.items in
     omega arith
 
-pub reading-preserved-then-len-ge-BATCH : goal.reading-preserved-then-len-ge-BATCH
-reading-preserved-then-len-ge-BATCH g c =
+pub reading-preserved-then-len-full : goal.reading-preserved-then-len-full
+reading-preserved-then-len-full g c =
     let read = c.reading.invariant.read in
     let old = g.S.Source.left c.args.reader.now in
     let now = g.S.Source.left c.reading.reader in
     let new = g.S.Source.left c.read.new.self in
-    let given = read.0 ++ c.deref-then-len-ge-BATCH.result.now in
+    let given = read.0 ++ c.deref-then-len-full.result.now in
     let before = read.0 ++ c.reading.batch.items in
     let more = take c.in-Ok.count c.read.new.buf in
     let same : given ++ c.clear.new.self.items ≡ before ++ more =
     ap (λ b. given ++ b) c.clear.ensures.items ∙ append-nil given
-    ∙ ap (λ b. read.0 ++ b) (c.deref-then-len-ge-BATCH.ensures.value ∙ c.in_ok-extend_from_slice-in-Ok.ensures.items) ∙ sym (append_assoc read.0 c.reading.batch.items more) in
+    ∙ ap (λ b. read.0 ++ b) (c.deref-then-len-full.ensures.value ∙ c.in_ok-extend_from_slice-in-Ok.ensures.items) ∙ sym (append_assoc read.0 c.reading.batch.items more) in
     record {
       unfailed = c.in-Ok.ensures.failed;
       short = let none = ap length c.clear.ensures.items in omega arith;
@@ -169,7 +169,7 @@ reading-preserved g c =
     ap (λ b. read.0 ++ b) c.in_ok-extend_from_slice-in-Ok.ensures.items ∙ sym (append_assoc read.0 c.reading.batch.items more) in
     record {
       unfailed = c.in-Ok.ensures.failed;
-      short = let below = c.if-len-ge-BATCH.false in let long = c.len.ensures in omega arith;
+      short = let below = c.if-len-full.false in let long = c.len.ensures in omega arith;
       read = (
         read.0,
         consumes_same old new (before ++ more) (read.0 ++ c.extend_from_slice.new.self.items) same (consumes_more old now new before more read.1 c.in-Ok.ensures.bytes.0),

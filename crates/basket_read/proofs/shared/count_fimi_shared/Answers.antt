@@ -36,10 +36,10 @@ returns-clause-exact g c = λ _.
     if_some (g.S.Source.left c.args.reader.now) (HasRead c.read_batches.new.parts) (λ bytes. Counts c.finish.result (fimi_of bytes)) c.in_ok-read_batches.ensures.all.1 c.finish.ensures
 
 pub returns-clause-light : goal.returns-clause-light
-returns-clause-light g c = let read = c.in_ok-read_batches.ensures.some in light_counts read.0 c.finish.result (c.finish.ensures read.0 read.1)
+returns-clause-light g c = let read = c.in_ok-read_batches.ensures.read in light_counts read.0 c.finish.result (c.finish.ensures read.0 read.1)
 
 pub returns-clause-read_is_failed : goal.returns-clause-read_is_failed
 returns-clause-read_is_failed g c = λ e.
-    let read = c.in_ok-read_batches.ensures.some in
+    let read = c.in_ok-read_batches.ensures.read in
     let counts = subst (λ r. Counts r (fimi_of read.0)) e (c.finish.ensures read.0 read.1) in
     absurd (not_answered read.0 (counts (λ m. absurd cc)))

@@ -33,7 +33,7 @@ returns-in_err-read_batches-clause-read_is_failed g c = λ e.
     c.in_err-read_batches.ensures.stops.read_is_failed is_read
 
 pub finish-requires : goal.finish-requires
-finish-requires g c = let read = c.in_ok-read_batches.ensures.some in ∣ ([], read.0, read.1) ∣₁
+finish-requires g c = let read = c.in_ok-read_batches.ensures.read in ∣ ([], read.0, read.1) ∣₁
 
 pub returns-clause-exact : goal.returns-clause-exact
 returns-clause-exact g c = λ _.
@@ -42,6 +42,6 @@ returns-clause-exact g c = λ _.
 
 pub returns-clause-read_is_failed : goal.returns-clause-read_is_failed
 returns-clause-read_is_failed g c = λ e.
-    let read = c.in_ok-read_batches.ensures.some in
+    let read = c.in_ok-read_batches.ensures.read in
     let answers = subst (λ r. Answers r (fimi_of read.0)) e (answers_all c.finish.result (fimi_of read.0) (c.finish.ensures [] read.0 read.1)) in
     absurd (not_answered read.0 (answers (λ m. absurd cc)))
