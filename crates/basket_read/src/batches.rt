@@ -10,7 +10,7 @@ use basket_stream::Source;
 use std::alloc::Global;
 use std::thread::Threads;
 
-/// How many bytes of a batch there are for a worker. It has less than a block more.
+/// A batch has so many bytes for each worker, and up to a block more.
 const SHARE: usize = 262_144;
 
 /// What an input is read into by several workers.
@@ -18,6 +18,7 @@ pub trait Batched {
     // It has read these bytes, which have no fault that is settled.
     ghost has_read: { Self → List ℕ → Type 0 };
 
+    // How many bytes those are.
     ghost taken: { Self → ℕ };
 
     ghost few: { (parts : Self) (bytes : List ℕ) → has_read parts bytes → (taken parts ≡ length bytes) × (length bytes ≤ MOST_BYTES) };

@@ -47,7 +47,7 @@ pub fn feed_shared<R: Threads + Sync>(
     Ok(text)
 }
 
-/// What the text is with a front, and what follows the front is as a text of its own.
+/// What the text is with the front, and what the rest is as a text of its own.
 #[cycle(halves)]
 fn feed_halves<R: Threads + Sync>(
     rt: &R,
