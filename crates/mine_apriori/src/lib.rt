@@ -29,7 +29,8 @@ pub use first_level::FirstLevel;
 pub use join::candidates;
 pub use levels::{Levels, apriori};
 pub use pairs::{
-    is_small_triangle, pairs_by_triangle, pays_for_classes, runs_keeping, runs_with_least,
+    frequent_pairs, is_small_triangle, pairs_by_triangle, pays_for_classes, runs_keeping,
+    runs_with_least,
 };
 pub use shard::count_shard;
 pub use tree::CandidateTree;

@@ -2,12 +2,12 @@
 //! baskets or the ranks are cut into so many parts, and what is found doesn't depend on which
 //! worker takes which.
 //!
-//! A `phase` either finds a value for each of its `pieces`, or adds `supports` to counters that its
-//! workers share. `counting` counts the items. Of `apriori`, `triangle` counts the pairs of few ranks,
+//! A `phase` either finds a value for each part that its `pieces` have, or adds `supports` to counters
+//! that its workers share. `counting` counts the items. Of `apriori`, `triangle` counts the pairs of few ranks,
 //! `pairs` finds the frequent pairs of many, and `level` counts the candidates of a level. `runs` makes
-//! ready what `classes` mines class by class with a `class_miner`, whose sets are told to the tally
-//! `round_tally`. `share` is what a worker hands back, `placed` puts the values of pieces in their order, and
-//! workers pass a `gate` with each piece.
+//! ready what `classes` mines class by class with a `class_miner`, whose sets are told to a
+//! `round_tally`. `share` is what a worker hands back, `placed` puts values in their order, and workers
+//! pass a `gate` with each piece.
 #![tactic(auto)]
 
 mod apriori;
@@ -35,4 +35,5 @@ pub use counting::count_shared;
 pub use cutting::Cutting;
 pub use gate::{Gate, Open};
 pub use level::count_level;
+pub use pairs::count_pairs;
 pub use runs::runs_shared;
