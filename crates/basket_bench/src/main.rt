@@ -104,8 +104,9 @@ fn print_stages<R: Threads + Sync>(
             Ok(())
         })?;
     }
-    let (frequent, _) =
-        mine(threads, rt.alloc(), database, &plan, &Open).context("the sets were not found")?;
+    let (frequent, _) = mine(threads, rt.alloc(), database, &plan, &Open).context(
+        "the sets were not found",
+    )?;
     print_stage(rt, "report", workers, runs, || {
         sets_report(rt.alloc(), frequent.sets(), Style::Numbers)?;
         Ok(())

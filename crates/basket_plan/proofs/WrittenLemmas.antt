@@ -74,7 +74,7 @@ module _ (minimum form separator miner limit workers pieces : Text) where
         ≡ numbers_fault (number_fault GREATEST_LIMIT limit) (number_fault MOST_WORKERS workers) (number_fault MOST_PIECES pieces)
     plan : invocation_of_command (subcommand_of command_line (ask_words ask ++ words_with minimum form separator miner limit workers pieces header weight))
         ≡ option_and_then (reporting None) (plan_from (ask_of_words ask) (form_of form) (separator_of separator) header weight (miner_of miner) (minimum_of minimum)
-            (number_of GREATEST_LIMIT limit) (number_of MOST_WORKERS workers) (number_of MOST_PIECES pieces))
+        (number_of GREATEST_LIMIT limit) (number_of MOST_WORKERS workers) (number_of MOST_PIECES pieces))
 
   taken : (ask : Ask) (header weight : Bool) → IsTaken ask header weight
   unfolding clap_on_literals
@@ -166,14 +166,14 @@ pub plans_are_read_back : PlansAreReadBack
 plans_are_read_back plan range =
     let q = plan.question in
     let is = taken (minimum_text q.minimum) (form_text q.layout.form) (separator_text q.layout.separator) (miner_text plan.miner)
-        (decimal q.limit) (decimal plan.workers) (decimal plan.pieces) q.ask q.layout.header q.layout.weighted in
+    (decimal q.limit) (decimal plan.workers) (decimal plan.pieces) q.ask q.layout.header q.layout.weighted in
     let limit = no_fault GREATEST_LIMIT q.limit range.limit.0 range.limit.1 (omega arith) in
     let workers = no_fault MOST_WORKERS plan.workers range.workers.0 range.workers.1 (omega arith) in
     let pieces = no_fault MOST_PIECES plan.pieces range.pieces.0 range.pieces.1 (omega arith) in
     ap₂ where_taken (is.fault ∙ (λ i. numbers_fault (limit i) (workers i) (pieces i)))
     (is.plan ∙ (λ i. option_and_then (reporting None) (plan_from
-        (ask_read q.ask range.ask i) (form_read q.layout.form i) (separator_read q.layout.separator range.separator i) q.layout.header q.layout.weighted
-        (miner_read plan.miner i) (minimum_read q.minimum range.minimum i)
-        (number_read GREATEST_LIMIT q.limit range.limit.0 range.limit.1 (omega arith) i)
-        (number_read MOST_WORKERS plan.workers range.workers.0 range.workers.1 (omega arith) i)
-        (number_read MOST_PIECES plan.pieces range.pieces.0 range.pieces.1 (omega arith) i))))
+    (ask_read q.ask range.ask i) (form_read q.layout.form i) (separator_read q.layout.separator range.separator i) q.layout.header q.layout.weighted
+    (miner_read plan.miner i) (minimum_read q.minimum range.minimum i)
+    (number_read GREATEST_LIMIT q.limit range.limit.0 range.limit.1 (omega arith) i)
+    (number_read MOST_WORKERS plan.workers range.workers.0 range.workers.1 (omega arith) i)
+    (number_read MOST_PIECES plan.pieces range.pieces.0 range.pieces.1 (omega arith) i))))

@@ -79,7 +79,7 @@ abbrev pub words_of : Planned → List Text
 words_of plan =
     let q = plan.question in
     ask_words q.ask ++ words_with (minimum_text q.minimum) (form_text q.layout.form) (separator_text q.layout.separator) (miner_text plan.miner)
-        (decimal q.limit) (decimal plan.workers) (decimal plan.pieces) q.layout.header q.layout.weighted
+    (decimal q.limit) (decimal plan.workers) (decimal plan.pieces) q.layout.header q.layout.weighted
 
 -- ---- the law
 

@@ -35,11 +35,7 @@ pub struct Rule {
 
 /// The rules that meet the confidence: union after union in report order, those of one union by their
 /// right sides in report order.
-pub fn rules(
-    alloc: Global,
-    frequent: &Frequent,
-    confidence: Share,
-) -> Result<Vec<Rule>, AllocError>
+pub fn rules(alloc: Global, frequent: &Frequent, confidence: Share) -> Result<Vec<Rule>, AllocError>
     ensures baskets { IfOk result (λ rules. AreRules frequent.now confidence rules.items) }
     ensures lists { IfOk result (λ rules. IsConsistent frequent.now.sets → rules.items ≡ rules_among frequent.now confidence) }
 {

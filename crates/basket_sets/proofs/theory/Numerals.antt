@@ -94,8 +94,8 @@ module _ (numerator denominator : ℕ) (is : IsShare (numerator, denominator)) (
   share_read =
       ap (λ b. cond b (ratio_of (number_of GREATEST_PART (text_before SLASH text)) (number_of GREATEST_PART (text_after SLASH text))) (cond (has_byte PERCENT text && nat_eq (length (text_after PERCENT text)) 0) (ratio_of (number_of GREATEST_PART (text_before PERCENT text)) (Some 100)) None)) found
       ∙ ap₂ ratio_of
-          (ap (number_of GREATEST_PART) before ∙ number_read GREATEST_PART numerator (omega (arith, is.1, within)) small)
-          (ap (number_of GREATEST_PART) after ∙ number_read GREATEST_PART denominator within (omega (arith, within)))
+      (ap (number_of GREATEST_PART) before ∙ number_read GREATEST_PART numerator (omega (arith, is.1, within)) small)
+      (ap (number_of GREATEST_PART) after ∙ number_read GREATEST_PART denominator within (omega (arith, within)))
       ∙ ratio
 
   -- a share is no number
