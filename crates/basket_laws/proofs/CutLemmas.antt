@@ -1,19 +1,18 @@
 -- FIMI texts that are cut behind line feeds.
 use Rattle.std.proofs.Common.{◌≡◌, ◌∙◌, ◌≤◌, ◌++◌, ℕ, Bool, true, false, cond, List, [], ◌∷◌, Option, Some, None, Result, Ok, Err, ap, arith, drop, length, refl, subst, sym, take}
-use Rattle.std.specs.Prelude.{◌&&◌, fold, nat_eq, nat_le, nat_lt}
+use Rattle.std.specs.Prelude.{◌&&◌, nat_eq, nat_le, nat_lt}
 use Rattle.std.specs.Cmp.Lexicographic.{pointwise}
-use Rattle.std.specs.List.{flat_map, list_all, starts_with}
+use Rattle.std.specs.List.{flat_map, starts_with}
+use Rattle.std.specs.Option.{option_map}
 use Rattle.std.proofs.lemmas.Bool.{false≢true}
 use Rattle.std.proofs.lemmas.Bool.Decides.{nat_tests}
 use Rattle.std.proofs.lemmas.List.{append_assoc, append-nil, length-append, take_all}
-use Rattle.std.proofs.lemmas.List.Concat.{flat_map-append}
-use Rattle.std.proofs.lemmas.List.Folds.{list_all-append}
 use Rattle.std.proofs.lemmas.List.Sums.{fold-append}
 use Rattle.basket_read.specs.declared.fault.ReadFault.{ReadFault}
 use Rattle.basket_read.specs.declared.fault.ReadFault.TheVariants.{Heavy, TooLong}
-use Rattle.basket_read.specs.Cut.{Cut, cut_at, cut_more, parts_of}
-use Rattle.basket_read.specs.Fimi.{MARK, MOST_BYTES, answer_of, basket_of, baskets_of, fimi_of, first_fault, is_good, is_line, is_line_feed, or_else, text_of}
-use Rattle.basket_read.specs.Laws.{FrontsAreGood, GoodIsFaultless}
+use Rattle.basket_read.specs.Cut.{Cut, cut_at, cut_more}
+use Rattle.basket_read.specs.Fimi.{MARK, MOST_BYTES, answer_of, baskets_of, fimi_of, first_fault, is_good, is_line_feed, or_else, text_of}
+use Rattle.basket_read.specs.Laws.{FrontsAreGood, GoodIsFaultless, LinesSayTheirs}
 use Rattle.basket_sets.specs.declared.weighted.Weighted.{Weighted}
 use Rattle.basket_sets.specs.Database.{MOST_WEIGHT}
 use Rattle.basket_sets.specs.Support.{total_of}
@@ -24,61 +23,14 @@ both : (a b : Bool) → (a && b) ≡ true → (a ≡ true) × (b ≡ true)
 both true b e = (refl, e)
 both false b e = absurd (false≢true e)
 
--- ---- lines
+-- a front ends a line
+ends : (front : List ℕ) → (cut_at is_line_feed (with_line_feed front)).last ≡ []
+ends front = ap (λ (c : Cut). c.last) (fold-append (cut_more is_line_feed) (record { ended = []; last = [] }) front (10 ∷ []))
 
--- parts that have ended before
-abbrev behind : List (List ℕ) → Cut → Cut
-behind ended cut = record { ended = ended ++ cut.ended; last = cut.last }
-
-fold_behind : (p : ℕ → Bool) (before ended : List (List ℕ)) (last xs : List ℕ)
-    → fold (cut_more p) (record { ended = before ++ ended; last = last }) xs ≡ behind before (fold (cut_more p) (record { ended = ended; last = last }) xs)
-fold_behind p before ended last [] = refl
-fold_behind p before ended last (x ∷ xs) =
-    go (p x)
-    (ap (λ e. fold (cut_more p) (record { ended = e; last = [] }) xs) (append_assoc before ended (last ∷ [])) ∙ fold_behind p before (ended ++ last ∷ []) [] xs)
-    (fold_behind p before ended (last ++ x ∷ []) xs)
-  where
-    go : (b : Bool)
-        → fold (cut_more p) (record { ended = (before ++ ended) ++ last ∷ []; last = [] }) xs ≡ behind before (fold (cut_more p) (record { ended = ended ++ last ∷ []; last = [] }) xs)
-        → fold (cut_more p) (record { ended = before ++ ended; last = last ++ x ∷ [] }) xs ≡ behind before (fold (cut_more p) (record { ended = ended; last = last ++ x ∷ [] }) xs)
-        → fold (cut_more p) (cond b (record { ended = (before ++ ended) ++ last ∷ []; last = [] }) (record { ended = before ++ ended; last = last ++ x ∷ [] })) xs
-        ≡ behind before (fold (cut_more p) (cond b (record { ended = ended ++ last ∷ []; last = [] }) (record { ended = ended; last = last ++ x ∷ [] })) xs)
-    go true ends joins = ends
-    go false ends joins = joins
-
--- the lines of a text that ends with a line feed, without the empty one behind that
-abbrev lines_of : List ℕ → List (List ℕ)
-lines_of front = (cut_at is_line_feed front).ended ++ (cut_at is_line_feed front).last ∷ []
-
-cut_front : (front : List ℕ) → cut_at is_line_feed (with_line_feed front) ≡ record { ended = lines_of front; last = [] }
-cut_front front = fold-append (cut_more is_line_feed) (record { ended = []; last = [] }) front (10 ∷ [])
-
-cut_both : (front rest : List ℕ) → cut_at is_line_feed (with_line_feed front ++ rest) ≡ behind (lines_of front) (cut_at is_line_feed rest)
-cut_both front rest =
-    fold-append (cut_more is_line_feed) (record { ended = []; last = [] }) (with_line_feed front) rest
-    ∙ ap (λ c. fold (cut_more is_line_feed) c rest) (cut_front front)
-    ∙ ap (λ e. fold (cut_more is_line_feed) (record { ended = e; last = [] }) rest) (sym (append-nil (lines_of front)))
-    ∙ fold_behind is_line_feed (lines_of front) [] [] rest
-
-parts_both : (front rest : List ℕ) → parts_of is_line_feed (with_line_feed front ++ rest) ≡ lines_of front ++ parts_of is_line_feed rest
-parts_both front rest =
-    ap (λ (c : Cut). c.ended ++ c.last ∷ []) (cut_both front rest) ∙ append_assoc (lines_of front) (cut_at is_line_feed rest).ended ((cut_at is_line_feed rest).last ∷ [])
-
-parts_front : (front : List ℕ) → parts_of is_line_feed (with_line_feed front) ≡ lines_of front ++ [] ∷ []
-parts_front front = ap (λ (c : Cut). c.ended ++ c.last ∷ []) (cut_front front)
-
-good_both : (front rest : List ℕ) → is_good (with_line_feed front ++ rest) ≡ true → (list_all is_line (lines_of front) ≡ true) × (is_good rest ≡ true)
-good_both front rest good =
-    both (list_all is_line (lines_of front)) (is_good rest)
-    (sym (ap (list_all is_line) (parts_both front rest) ∙ list_all-append is_line (lines_of front) (parts_of is_line_feed rest)) ∙ good)
-
-good_front : (front : List ℕ) → list_all is_line (lines_of front) ≡ true → is_good (with_line_feed front) ≡ true
-good_front front lines = ap (list_all is_line) (parts_front front) ∙ list_all-append is_line (lines_of front) ([] ∷ []) ∙ ap (λ b. b && true) lines
-
-said_both : (front rest : List ℕ) → baskets_of (with_line_feed front) ++ baskets_of rest ≡ baskets_of (with_line_feed front ++ rest)
-said_both front rest =
-    ap (λ baskets. baskets ++ baskets_of rest) (ap (flat_map basket_of) (parts_front front) ∙ flat_map-append basket_of (lines_of front) ([] ∷ []) ∙ append-nil (flat_map basket_of (lines_of front)))
-    ∙ sym (ap (flat_map basket_of) (parts_both front rest) ∙ flat_map-append basket_of (lines_of front) (parts_of is_line_feed rest))
+none_of_both : (first second : Option ReadFault) (counted : ReadFault → ReadFault) → or_else first (option_map counted second) ≡ None → (first ≡ None) × (second ≡ None)
+none_of_both (Some fault) second counted e = absurd cc
+none_of_both None (Some fault) counted e = absurd cc
+none_of_both None None counted e = (refl, refl)
 
 -- ---- the mark
 
@@ -121,7 +73,7 @@ has_text (a ∷ b ∷ c ∷ front) = go (starts_with nat_eq (a ∷ b ∷ c ∷ [
       before = λ rest. ap (λ m. cond m (with_line_feed front ++ rest) (with_line_feed (a ∷ b ∷ c ∷ front) ++ rest)) is;
     }
 
-module _ (fronts_are_good : FrontsAreGood) (good_is_faultless : GoodIsFaultless) where
+module _ (fronts_are_good : FrontsAreGood) (good_is_faultless : GoodIsFaultless) (lines_say_theirs : LinesSayTheirs) where
   -- a good text has no mark
   unmarked : (bytes : List ℕ) → is_good bytes ≡ true → text_of bytes ≡ bytes
   unmarked [] good = refl
@@ -190,11 +142,13 @@ module _ (fronts_are_good : FrontsAreGood) (good_is_faultless : GoodIsFaultless)
   halves front rest baskets e =
       let s = from_ok (with_line_feed front ++ rest) baskets e in
       let t = has_text front in
-      let good = good_both t.text rest (ap is_good (sym (t.before rest)) ∙ s.good) in
-      let plain = unmarked rest good.1 in
+      let both = lines_say_theirs (with_line_feed t.text) rest (ends t.text) in
+      let none = none_of_both (first_fault (with_line_feed t.text)) (first_fault rest) _ (sym both.fault ∙ (good_is_faultless (with_line_feed t.text ++ rest)).0 (ap is_good (sym (t.before rest)) ∙ s.good)) in
+      let good : is_good rest ≡ true = (good_is_faultless rest).1 none.1 in
+      let plain = unmarked rest good in
       let first = baskets_of (with_line_feed t.text) in
       let second = baskets_of rest in
-      let whole : first ++ second ≡ baskets = said_both t.text rest ∙ ap baskets_of (sym (t.before rest)) ∙ s.said in
+      let whole : first ++ second ≡ baskets = sym both.baskets ∙ ap baskets_of (sym (t.before rest)) ∙ s.said in
       let long = length-append (with_line_feed front) rest in
       let weight = support-append first second [] in
       let all : total_of (first ++ second) ≤ MOST_WEIGHT = subst (λ b. total_of b ≤ MOST_WEIGHT) (sym whole) s.light in
@@ -202,9 +156,9 @@ module _ (fronts_are_good : FrontsAreGood) (good_is_faultless : GoodIsFaultless)
       record {
         first = first;
         second = second;
-        of_first = into_ok (with_line_feed front) (omega (arith, long, few)) (ap is_good t.alone ∙ good_front t.text good.0)
+        of_first = into_ok (with_line_feed front) (omega (arith, long, few)) (ap is_good t.alone ∙ (good_is_faultless (with_line_feed t.text)).1 none.0)
             (subst (λ b. total_of b ≤ MOST_WEIGHT) (ap baskets_of (sym t.alone)) (omega (arith, weight, all))) ∙ ap (λ text. Ok (baskets_of text)) t.alone;
-        of_second = into_ok rest (omega (arith, long, few)) (ap is_good plain ∙ good.1)
+        of_second = into_ok rest (omega (arith, long, few)) (ap is_good plain ∙ good)
             (subst (λ b. total_of b ≤ MOST_WEIGHT) (ap baskets_of (sym plain)) (omega (arith, weight, all))) ∙ ap (λ text. Ok (baskets_of text)) plain;
         both_are = whole;
       }

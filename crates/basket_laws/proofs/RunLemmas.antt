@@ -12,7 +12,7 @@ use Rattle.basket_parts.specs.Laws.{TogetherKeepsCounts, TogetherKeepsFrequent, 
 use Rattle.basket_plan.specs.declared.layout.Form.TheVariants.{Fimi}
 use Rattle.basket_plan.specs.declared.layout.Layout.{Layout}
 use Rattle.basket_read.specs.Fimi.{MOST_BYTES, fimi_of}
-use Rattle.basket_read.specs.Laws.{FrontsAreGood, GoodIsFaultless}
+use Rattle.basket_read.specs.Laws.{FrontsAreGood, GoodIsFaultless, LinesSayTheirs}
 use Rattle.basket_report.specs.Report.{report_of}
 use Rattle.basket_report.specs.Style.{Numbered}
 use Rattle.basket_sets.specs.declared.weighted.Weighted.{Weighted}
@@ -63,12 +63,12 @@ some_parts [] last [] said none = cc
 some_parts (front ∷ fronts) last [] said none = cc
 some_parts fronts last (part ∷ parts) said none = cc
 
-pub runs_over_parts_agree : FrontsAreGood → GoodIsFaultless → TogetherKeepsSets → TogetherKeepsCounts → TogetherKeepsFrequent → RunsOverPartsAgree
-runs_over_parts_agree fronts_are_good good_is_faultless keeps_sets keeps_counts keeps_frequent fronts last asked baskets sets texts share question good read rise have counts few =
-    let cut = cuts_are_parts fronts_are_good good_is_faultless fronts last baskets good in
+pub runs_over_parts_agree : FrontsAreGood → GoodIsFaultless → LinesSayTheirs → TogetherKeepsSets → TogetherKeepsCounts → TogetherKeepsFrequent → RunsOverPartsAgree
+runs_over_parts_agree fronts_are_good good_is_faultless lines_say_theirs keeps_sets keeps_counts keeps_frequent fronts last asked baskets sets texts share question good read rise have counts few =
+    let cut = cuts_are_parts fronts_are_good good_is_faultless lines_say_theirs fronts last baskets good in
     let parts = cut.0 in
     let whole = cut.2 in
-    let light = (from_ok fronts_are_good good_is_faultless (text_cut fronts last) baskets good).light in
+    let light = (from_ok fronts_are_good good_is_faultless lines_say_theirs (text_cut fronts last) baskets good).light in
     let same = texts_are_counts question.layout asked sets read (parts_cut fronts last) parts texts cut.1 counts in
     ap (λ text. outcome text (of_counts_at question share)) same
     ∙ parts_answer_as_the_whole keeps_sets keeps_counts keeps_frequent parts share sets question (some_parts fronts last parts cut.1)

@@ -1,7 +1,7 @@
 //! Laws on texts that are cut.
 ghost use Rattle.basket_laws.specs.Cuts.{CutsAreParts};
 
-use basket_read::laws::{fronts_are_good, good_is_faultless};
+use basket_read::laws::{fronts_are_good, good_is_faultless, lines_say_theirs};
 
 /// Each part of a FIMI input that is cut behind line feeds is an input, and the baskets of the parts, one
 /// part behind another, are those of the whole.
@@ -10,4 +10,5 @@ pub fn cuts_are_parts()
 {
     fronts_are_good();
     good_is_faultless();
+    lines_say_theirs();
 }

@@ -2,7 +2,7 @@
 ghost use Rattle.basket_laws.specs.Runs.{RunsOverPartsAgree};
 
 use basket_parts::laws::{together_keeps_counts, together_keeps_frequent, together_keeps_sets};
-use basket_read::laws::{fronts_are_good, good_is_faultless};
+use basket_read::laws::{fronts_are_good, good_is_faultless, lines_say_theirs};
 
 /// Where a FIMI input is cut behind line feeds, and sets that have each set which is frequent in some
 /// part are counted over each part, the counts one behind another answer each question at the share as
@@ -12,6 +12,7 @@ pub fn runs_over_parts_agree()
 {
     fronts_are_good();
     good_is_faultless();
+    lines_say_theirs();
     together_keeps_sets();
     together_keeps_counts();
     together_keeps_frequent();
