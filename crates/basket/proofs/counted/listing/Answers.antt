@@ -10,4 +10,4 @@ returns-in_ok-frequent-in-None-clause-whole c =
     let lines = c.args.together.now in
     let listing : Minimum → Listing = λ minimum. record { sets = frequent_in lines minimum; total = total_in lines } in
     listing_is_whole c.args.plan.now.question lines c.in_ok-frequent-in-None.field-0 (sym c.in_ok-fault.ensures ∙ c.in-None.is) c.in_ok-frequent-in-None.ensures.rising
-    (c.in_ok-frequent-in-None.ensures.frequent ∙ ap listing c.minimum.ensures)
+    (c.in_ok-frequent-in-None.ensures.frequent ∙ ap listing c.minimum-in-None.ensures)
