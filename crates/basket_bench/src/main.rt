@@ -3,21 +3,21 @@
 #![tactic(auto)]
 
 mod stage;
+mod timed;
 
 use anyhow::Context;
-use basket::{Ask, Miner, Open, Plan, SliceSource, mine};
+use basket::{Ask, Miner, Open, Plan, mine};
 use basket_core::{Coded, Database, parse_minimum};
-use basket_read::read_fimi_shared;
-use basket_report::{Style, sets_report};
-use mine_phases::{Cutting, count_shared, runs_shared};
+use mine_phases::Cutting;
 use stage::print_stage;
 use std::io::Read;
 use std::thread::Threads;
 use std::{env, fs};
+use timed::{read, timed_count, timed_miner, timed_read, timed_report, timed_runs};
 
 const USAGE: &str = "usage: basket_bench MINIMUM RUNS < INPUT
-Times reading, counting the items, putting the coded baskets in order, each miner with its list, and the
-report of a FIMI input, each by 1, 2 and 4 workers, so many times over.
+Times reading, counting the items, the runs of the coded baskets, each miner with its list, and the report
+of a FIMI input, each by 1, 2 and 4 workers, so many times over.
 ";
 
 const MINERS: [(&str, Miner); 5] = [
@@ -84,42 +84,19 @@ fn print_stages<R: Threads + Sync>(
 ) -> anyhow::Result<()> {
     let workers = plan.workers();
     let cutting = Cutting::new(workers, plan.pieces());
-    print_stage(rt, "read", workers, runs, || {
-        read(rt, threads, input, workers)?;
-        Ok(())
-    })?;
-    print_stage(rt, "count", workers, runs, || {
-        count_shared(threads, rt.alloc(), database.baskets(), cutting, &Open)?;
-        Ok(())
-    })?;
+    let times = timed_read(rt, threads, input, workers, runs)?;
+    print_stage(rt, "read", workers, times)?;
+    let times = timed_count(rt, threads, database, cutting, runs)?;
+    print_stage(rt, "count", workers, times)?;
     let coded = Coded::of(rt.alloc(), database, plan.minimum())?;
-    print_stage(rt, "order", workers, runs, || {
-        runs_shared(threads, rt.alloc(), &coded, cutting)?;
-        Ok(())
-    })?;
+    let times = timed_runs(rt, threads, &coded, cutting, runs)?;
+    print_stage(rt, "runs", workers, times)?;
     for (name, miner) in MINERS {
-        let plan = plan.with_miner(miner);
-        print_stage(rt, name, workers, runs, || {
-            mine(threads, rt.alloc(), database, &plan, &Open).context("the sets were not found")?;
-            Ok(())
-        })?;
+        let times = timed_miner(rt, threads, database, &plan.with_miner(miner), runs)?;
+        print_stage(rt, name, workers, times)?;
     }
     let (frequent, _) = mine(threads, rt.alloc(), database, &plan, &Open).context(
         "the sets were not found",
     )?;
-    print_stage(rt, "report", workers, runs, || {
-        sets_report(rt.alloc(), frequent.sets(), Style::Numbers)?;
-        Ok(())
-    })
-}
-
-/// The baskets of the bytes.
-fn read<R: Threads + Sync>(
-    rt: &HostRuntime,
-    threads: &R,
-    input: &[u8],
-    workers: u32,
-) -> anyhow::Result<Database> {
-    let read = read_fimi_shared(threads, rt.alloc(), &mut SliceSource::new(input), workers);
-    Ok(read.context("the input was not read")?)
+    print_stage(rt, "report", workers, timed_report(rt, &frequent, runs)?)
 }

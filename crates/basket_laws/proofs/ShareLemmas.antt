@@ -15,10 +15,10 @@ use Rattle.basket_sets.proofs.theory.Support.{support-append}
 use Rattle.basket_laws.specs.Parts.{SomePartHasIt, is_frequent_in_some, whole_of}
 
 -- the support is 0, or below the share of the total
-abbrev IsBelow : ℕ → ℕ → ℕ → ℕ → Type 0
+abbrev IsBelow : ℕ × ℕ → ℕ → ℕ → Type 0
 IsBelow share support total = (support ≡ 0) ⊎ (support * share.1 < share.0 * total)
 
-below_unless_met : (share support total : ℕ) → meets (Share share) support total ≡ false → IsBelow share support total
+below_unless_met : (share : ℕ × ℕ) (support total : ℕ) → meets (Share share) support total ≡ false → IsBelow share support total
 below_unless_met share support total unmet = go (nat_le 1 support) refl
   where
     go : (some : Bool) → nat_le 1 support ≡ some → IsBelow share support total
@@ -27,13 +27,13 @@ below_unless_met share support total unmet = go (nat_le 1 support) refl
         let less : nat_le (share.0 * total) (support * share.1) ≡ false = ap (λ b. b && nat_le (share.0 * total) (support * share.1)) (sym some) ∙ unmet in
         inr (grind (arith, nat_tests, less))
 
-not_met : (share support total : ℕ) → IsBelow share support total → meets (Share share) support total ≡ true → ⊥
+not_met : (share : ℕ × ℕ) (support total : ℕ) → IsBelow share support total → meets (Share share) support total ≡ true → ⊥
 not_met share support total below met = elim below [
   | inl none ↦ grind (arith, nat_tests, none, met)
   | inr less ↦ grind (arith, nat_tests, less, met)
 ]
 
-add_below : (share a b s t : ℕ) → IsBelow share a s → IsBelow share b t → IsBelow share (a + b) (s + t)
+add_below : (share : ℕ × ℕ) (a b s t : ℕ) → IsBelow share a s → IsBelow share b t → IsBelow share (a + b) (s + t)
 add_below share a b s t one other =
     let left : (a + b) * share.1 ≡ a * share.1 + b * share.1 = add-mul a b share.1 in
     let right : share.0 * (s + t) ≡ share.0 * s + share.0 * t = mul-add share.0 s t in
