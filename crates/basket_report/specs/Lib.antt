@@ -5,5 +5,6 @@ pub mod Room
 pub mod Block
 pub mod Table
 pub mod Report
+pub mod Strip
 pub mod Items
 pub mod Rules

@@ -135,7 +135,7 @@ impl Block {
     }
 
     /// Writes what waits.
-    fn send<W: Sink>(&mut self, writer: &mut W)
+    pub fn send<W: Sink>(&mut self, writer: &mut W)
         ensures way { (start : Option (List ℕ)) (text : List ℕ)
             → IsOnItsWay start (W.taken writer.old) (W.has_failed writer.old) (W.ends_in_flush writer.old) self.old text
             → IsOnItsWay start (W.taken writer.new) (W.has_failed writer.new) (W.ends_in_flush writer.new) [] text }
@@ -147,7 +147,7 @@ impl Block {
 }
 
 /// Writes bytes, unless the writer has failed.
-fn send_bytes<W: Sink>(writer: &mut W, bytes: &[u8])
+pub fn send_bytes<W: Sink>(writer: &mut W, bytes: &[u8])
     ensures { (start : Option (List ℕ)) (text : List ℕ)
         → IsOnItsWay start (W.taken writer.old) (W.has_failed writer.old) (W.ends_in_flush writer.old) bytes.now text
         → IsOnItsWay start (W.taken writer.new) (W.has_failed writer.new) (W.ends_in_flush writer.new) [] text }

@@ -1,4 +1,5 @@
 //! What is known of sets before their lines are written.
+ghost use Rattle.std.specs.Prelude.{◌≤◌};
 
 use crate::count_texts::CountTexts;
 use crate::texts::Texts;
@@ -61,5 +62,12 @@ impl Extent {
         let digits = self.greatest.checked_ilog10().unwrap_or(0) as usize + 1;
         let counts = self.lines.saturating_mul(COUNT_ROOM);
         self.items.saturating_mul(digits + 1).saturating_add(counts)
+    }
+
+    /// How long its lines are on average, at least 1.
+    pub fn line_room(self) -> usize
+        ensures { 1 ≤ result }
+    {
+        (self.room() / self.lines.max(1)).max(1)
     }
 }

@@ -14,6 +14,7 @@ mod room;
 mod rules;
 mod set_lines;
 mod sets;
+mod strip;
 mod style;
 mod table;
 mod texts;

@@ -1,0 +1,17 @@
+-- The lines of neighbouring sets.
+use Rattle.std.specs.Prelude.{◌≡◌, ◌≤◌, ℕ, List, ◌++◌, length, take}
+use Rattle.basket_sets.specs.declared.counted.Counted.{Counted}
+use Rattle.basket_report.specs.Report.{report_of}
+use Rattle.basket_report.specs.Style.{Numbered}
+
+-- a text, and the places of the sets whose lines it has
+pub record Stretch : Type 0 where
+  pub from : ℕ
+  pub to : ℕ
+  pub text : List ℕ
+
+-- the text has the lines of these of the sets
+pub record HasLines (sets : List Counted) (strip : Stretch) : Type 0 where
+  pub ordered : strip.from ≤ strip.to
+  pub within : strip.to ≤ length sets
+  pub lines : report_of Numbered (take strip.from sets) ++ strip.text ≡ report_of Numbered (take strip.to sets)

@@ -1,0 +1,122 @@
+//! The lines of neighbouring sets, which a worker makes.
+ghost use Rattle.std.specs.Prelude.{◌≡◌, ◌≤◌, ◌<◌, ◌+◌, ◌-◌, ◌*◌, ◌^◌, ◌++◌, [], IfOk, IsTrue, length};
+ghost use Rattle.basket_report.specs.Lines.{set_line};
+ghost use Rattle.basket_report.specs.Report.{set_of};
+ghost use Rattle.basket_report.specs.Strip.{HasLines};
+
+use crate::count_texts::CountTexts;
+use crate::extent::Extent;
+use crate::item_text::ITEM_TEXT_ROOM;
+use crate::room::{LINE_ROOM, put_line};
+use crate::texts::Texts;
+use basket_core::{CountedSets, MOST_ITEMS};
+use std::alloc::{AllocError, Global};
+use std::marker::Model;
+
+/// So many bytes are made at once.
+const ROOM: usize = 131_072;
+
+/// The lines of longer sets are made by another way.
+const LONGEST: usize = 1_024;
+
+/// The lines of the sets from one place up to another, at the front of a room.
+#[derive(Debug, Drop)]
+pub struct Strip {
+    counts: CountTexts,
+    room: Vec<u8>,
+    from: usize,
+    to: usize,
+    /// How many bytes the lines have.
+    end: usize,
+}
+
+impl Model for Strip {
+    ghost use Rattle.std.specs.Prelude.{◌≡◌, ◌≤◌, length, take};
+    ghost use Rattle.basket_report.specs.Strip.{Stretch};
+    ghost use Rattle.basket_report.specs.declared.strip.TheConstants.{ROOM};
+
+    ghost Value = { Stretch };
+
+    ghost view = { λ strip. record { from = strip.from; to = strip.to; text = take strip.end strip.room.items } };
+
+    ghost invariant = { λ strip. (length strip.room.items ≡ ROOM) × (strip.end ≤ ROOM) };
+}
+
+impl Strip {
+    /// No lines yet.
+    pub fn new(alloc: Global, extent: Extent) -> Result<Self, AllocError>
+        ensures { IfOk result (λ strip. strip ≡ record { from = 0; to = 0; text = [] }) }
+    {
+        Ok(Strip {
+            counts: extent.counts(alloc)?,
+            room: vec![in alloc; 0u8; ROOM]?,
+            from: 0,
+            to: 0,
+            end: 0,
+        })
+    }
+
+    /// How many of the sets a strip has room for, where they are like most of them.
+    pub fn share(extent: Extent) -> usize {
+        (ROOM / 2 / extent.line_room()).max(1)
+    }
+
+    /// Makes the lines of the sets from a place on, of so many at most, and of no more than there is room
+    /// for.
+    pub fn fill(&mut self, texts: &Texts, sets: &CountedSets, from: usize, most: usize)
+        requires { from ≤ length sets.now }
+        ensures from { self.new.from ≡ from }
+        ensures lines { HasLines sets.now self.new }
+    {
+        self.from = from;
+        self.to = from;
+        self.end = 0;
+        let last = sets.len().min(from.saturating_add(most));
+        let mut room = [0u32; MOST_ITEMS];
+        for place in from..last {
+            let items = sets.items(place, &mut room);
+            if !self.has_room(items.len()) {
+                break;
+            }
+            self.put(texts, items, sets.count(place));
+        }
+    }
+
+    /// Whether there is room for the line of a set of so many items.
+    fn has_room(&self, items: usize) -> bool
+        ensures { IsTrue result → length self.now.text + ITEM_TEXT_ROOM * items + LINE_ROOM ≤ ROOM }
+    {
+        items <= LONGEST && ITEM_TEXT_ROOM * items + LINE_ROOM <= ROOM - self.end
+    }
+
+    /// Adds the line of the next set.
+    fn put(&mut self, texts: &Texts, items: &[u32], count: u64)
+        requires room { length self.old.text + ITEM_TEXT_ROOM * length items.now + LINE_ROOM ≤ ROOM }
+        requires next { self.old.to < 2 ^ 64 - 1 }
+        ensures { self.new ≡ record { from = self.old.from; to = self.old.to + 1; text = self.old.text ++ set_line (set_of items.now count) } }
+    {
+        self.end = put_line(&mut self.room, self.end, texts, &mut self.counts, items, count);
+        self.to += 1;
+    }
+
+    /// The place of the first set.
+    pub fn from(&self) -> usize
+        ensures { result ≡ self.now.from }
+    {
+        self.from
+    }
+
+    /// The place behind the last set.
+    pub fn to(&self) -> usize
+        ensures { result ≡ self.now.to }
+    {
+        self.to
+    }
+
+    /// The lines.
+    pub fn text(&self) -> &[u8]
+        ensures { result.now ≡ self.now.text }
+    {
+        &self.room[..self.end]
+    }
+}
