@@ -32,6 +32,3 @@ kept_contains sets table basket k marked below = same_test _ _
     (λ h. contains_each basket (get_or sets k []) (λ item m. (Member-filter (may_be_used table) item basket (has_each (filter (may_be_used table) basket) (get_or sets k []) h item m)).0))
     (λ h. contains_each (filter (may_be_used table) basket) (get_or sets k []) (λ item m.
     Member-from_filter (may_be_used table) item basket (has_each basket (get_or sets k []) h item m) (marked k item below (has-from_Member (get_or sets k []) item m))))
-
-pub filter_more : (p : ℕ → Bool) (xs : List ℕ) (i : ℕ) → i < length xs → filter p (take (i + 1) xs) ≡ filter p (take i xs) ++ cond (p (get_or xs i 0)) (get_or xs i 0 ∷ []) []
-filter_more p xs i below = ap (filter p) (take_more xs i 0 below) ∙ filter-append p (take i xs) (get_or xs i 0 ∷ [])
