@@ -22,7 +22,10 @@ pub fn frequent_ranks(alloc: Global, coded: &Coded) -> Result<RankSets, AllocErr
 {
     let minimum = coded.minimum();
     let total = coded.total();
-    let mut found = RankSets::new(alloc);
+    let mut found = RankSets {
+        sets: Vec::new(alloc),
+        counts: Vec::new(alloc),
+    };
     for (rank, count) in &count_items(alloc, coded.baskets())? {
         if minimum.met(*count, total) {
             found.push(Itemset::from_items(alloc, &[*rank])?, *count)?;

@@ -149,12 +149,7 @@ pub(crate) struct Known<'a> {
 
 impl<'a> Known<'a> {
     /// The search that goes on from there. The sets from `last` on are those of the size.
-    pub(crate) fn ask(
-        self,
-        alloc: Global,
-        limit: u32,
-        last: usize,
-    ) -> Result<Levels<'a>, MineFault>
+    pub(crate) fn ask(self, alloc: Global, limit: u32, last: usize) -> Result<Levels<'a>, MineFault>
         requires coding { IsCoding self.coded.now }
         requires some { 1 ≤ self.size }
         requires found { AreFound self.coded.now self.size self.found }
