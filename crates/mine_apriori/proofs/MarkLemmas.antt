@@ -1,5 +1,5 @@
 -- A table that knows which items a basket has.
-use Rattle.std.proofs.Common.{◌≡◌, ℕ, ◌+◌, ◌-◌, ◌<◌, ◌≤◌, ◌^◌, Bool, true, false, ◌&&◌, ◌||◌, not, List, [], length, take, drop, get_or, replicate, cond, refl, sym, ap, ◌∙◌, subst, inl, inr, arith, suc}
+use Rattle.std.proofs.Common.{◌≡◌, ℕ, ◌+◌, ◌-◌, ◌<◌, ◌≤◌, ◌^◌, Bool, true, false, ◌&&◌, ◌||◌, not, List, [], length, take, drop, get_or, replicate, cond, sym, ap, ◌∙◌, subst, inl, inr, arith, suc}
 use Rattle.std.proofs.Math.Bool.{and-not_self}
 use Rattle.std.proofs.lemmas.Bool.{cases_lt}
 use Rattle.std.proofs.lemmas.List.{get_or_default, get_or_past, get_or-replicate, length-replicate, get_or-map, take_rest}

@@ -1,9 +1,8 @@
 -- Items that no candidate has are left out of a basket.
-use Rattle.std.proofs.Common.{◌≡◌, ℕ, ◌+◌, ◌<◌, Bool, ◌||◌, List, [], ◌∷◌, ◌++◌, length, take, get_or, filter, cond, sym, ap, ◌∙◌, inl, inr, arith}
+use Rattle.std.proofs.Common.{◌≡◌, ℕ, ◌+◌, ◌<◌, Bool, ◌||◌, List, [], length, take, get_or, filter, sym, ap, ◌∙◌, inl, inr, arith}
 use Rattle.std.proofs.Math.Bool.{or-true}
 use Rattle.std.proofs.lemmas.Bool.{cases_eq}
-use Rattle.std.proofs.lemmas.List.{take_more, get_or-take, length-take}
-use Rattle.std.proofs.lemmas.List.Elements.{filter-append}
+use Rattle.std.proofs.lemmas.List.{get_or-take, length-take}
 use Rattle.basket_sets.specs.Itemset.{has, contains}
 use Rattle.basket_sets.proofs.theory.Rising.{same_test}
 use Rattle.basket_sets.proofs.theory.Members.{Member-filter, Member-from_filter}
