@@ -21,20 +21,13 @@ below_all run item up less = (omega arith, λ k h. absurd (omega arith), λ k a 
 pub rises_between : (run : List ℕ) → IsRising run → RisesWithin run 0 (length run)
 rises_between run up i j low less below = below_from_sorted run i j 0 up less below
 
--- what stands before a place is below an item, and the rest above it
-pub missing_between : (run : List ℕ) (item place : ℕ) → place ≤ length run
-    → ((k : ℕ) → k < length (take place run) → get_or (take place run) k 0 < item)
-    → ((k : ℕ) → k < length (take (length run - place) (drop place run)) → item < get_or (take (length run - place) (drop place run)) k 0)
+-- what stands before a place is below an item, and the rest above it, where its neighbours are
+pub missing_between : (run : List ℕ) (item place : ℕ) → IsRising run → place ≤ length run → (1 ≤ place → get_or run (place - 1) 0 < item) → (place < length run → item < get_or run place 0)
     → IsMissingAt run item place
-missing_between run item place within before behind = (
+missing_between run item place up within before behind = (
   within,
-  λ k less. (let at = get_or-take place run k 0 less in let b = before k (omega (arith, length-take place run)) in omega (arith, at, b)),
-  λ k from below.
-      (let rest = take_rest run place in
-      let long : k - place < length (take (length run - place) (drop place run)) = omega (arith, ap length rest, length-drop place run, from, below) in
-      let there : place + (k - place) ≡ k = omega (arith, from) in
-      let at = ap (λ l. get_or l (k - place) 0) rest ∙ get_or-drop place run (k - place) 0 ∙ ap (λ n. get_or run n 0) there in
-      let b = behind (k - place) long in omega (arith, at, b)),
+  λ k less. (let le = rises_by_places run up k (place - 1) (omega arith) (omega arith) in let b = before (omega arith) in omega arith),
+  λ k from below. (let le = rises_by_places run up place k from below in let b = behind (omega arith) in omega arith),
 )
 
 -- in a run that rises each item is as much above the first as it stands behind it, or more

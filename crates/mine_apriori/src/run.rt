@@ -67,34 +67,12 @@ pub fn find_by(run: &[u32], item: u32, hint: usize) -> Result<usize, usize>
     if hint < run.len() && run[hint] == item {
         return Ok(hint);
     }
-    if hint <= run.len() && ends_below(&run[..hint], item) && begins_above(&run[hint..], item) {
+    let below = hint == 0 || hint <= run.len() && run[hint - 1] < item;
+    let above = hint == run.len() || hint < run.len() && item < run[hint];
+    if below && above {
         return Err(hint);
     }
     find(run, item)
-}
-
-/// Whether the last of rising items, and so each, is below an item.
-#[inline]
-fn ends_below(items: &[u32], item: u32) -> bool
-    requires { IsRising items.now }
-    ensures { IsTrue result → (k : ℕ) → k < length items.now → slice_index items.now k < item }
-{
-    match items.last() {
-        Some(last) => *last < item,
-        None => true,
-    }
-}
-
-/// Whether the first of rising items, and so each, is above an item.
-#[inline]
-fn begins_above(items: &[u32], item: u32) -> bool
-    requires { IsRising items.now }
-    ensures { IsTrue result → (k : ℕ) → k < length items.now → item < slice_index items.now k }
-{
-    match items.first() {
-        Some(first) => item < *first,
-        None => true,
-    }
 }
 
 /// How long a run is at most that is gone over by the marks, where so many items would be looked up
