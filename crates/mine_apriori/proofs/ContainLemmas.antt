@@ -1,17 +1,11 @@
 -- What a rising list contains, item by item.
-use Rattle.std.proofs.Common.{◌≡◌, ℕ, ◌+◌, ◌-◌, ◌<◌, Bool, true, false, ◌&&◌, List, [], ◌∷◌, length, take, drop, get_or, refl, sym, ap, ◌∙◌, subst, inl, inr, arith, zero, suc}
+use Rattle.std.proofs.Common.{◌≡◌, ℕ, ◌+◌, ◌-◌, ◌<◌, true, ◌&&◌, List, [], ◌∷◌, length, take, drop, get_or, refl, sym, ap, ◌∙◌, subst, inl, inr, arith, zero, suc}
 use Rattle.std.proofs.lemmas.Bool.{cases_Bool, and_from, and_right}
 use Rattle.std.proofs.lemmas.List.{get_or_default, get_or-take, length-take, length-drop}
 use Rattle.std.proofs.lemmas.Map.Keys.{below_from_sorted, sorted_from_strictly_increasing}
 use Rattle.basket_sets.specs.Itemset.{IsRising, has, contains}
 use Rattle.basket_sets.proofs.theory.Members.{Member, Member-from_Contains, Contains-from_Member}
-use Rattle.basket_sets.proofs.theory.Rising.{has_each, contains_each, first_below, rest_rises, nil_rises, length-le-contains}
-use Rattle.basket_sets.proofs.theory.Rising.{has_place}
-
-pub same_truth : (a b : Bool) → (a ≡ true → b ≡ true) → (b ≡ true → a ≡ true) → a ≡ b
-same_truth true b f g = sym (f refl)
-same_truth false true f g = g refl
-same_truth false false f g = refl
+use Rattle.basket_sets.proofs.theory.Rising.{contains_each, first_below, has_each, has_place, length-le-contains, nil_rises, rest_rises, same_test}
 
 pub drop_rises : (n : ℕ) (items : List ℕ) → IsRising items → IsRising (drop n items)
 drop_rises zero items up = up
@@ -45,7 +39,7 @@ member_from_drop (suc n) (y ∷ items) z m = inr (member_from_drop n items z m)
 -- a set whose first item is at a place is in the list where the rest of it is in what is behind that place
 pub contains_at : (items : List ℕ) (i x : ℕ) (tail : List ℕ) → IsRising items → IsRising (x ∷ tail) → i < length items → x ≡ get_or items i 0
     → contains items (x ∷ tail) ≡ contains (drop (i + 1) items) tail
-contains_at items i x tail up over below is = same_truth (contains items (x ∷ tail)) (contains (drop (i + 1) items) tail)
+contains_at items i x tail up over below is = same_test (contains items (x ∷ tail)) (contains (drop (i + 1) items) tail)
     (λ h. contains_each (drop (i + 1) items) tail (λ z m.
     let less = first_below x tail over z m in
     let one : suc i ≡ i + 1 = omega arith in

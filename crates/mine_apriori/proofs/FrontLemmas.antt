@@ -24,35 +24,45 @@ stands_at sets place index other below is =
     let long : length (drop (place + 1) sets) ≡ length sets - (place + 1) = length-drop (place + 1) sets in
     (omega arith, sym (get_or-drop (place + 1) sets index other) ∙ sym is)
 
--- two sets that share their front make a join
-pub join_of_pair : (last : ℕ) (sets : List (List ℕ)) (place later : ℕ) (set other : List ℕ) → AreJoinable last sets → place < later → later < length sets
-    → get_or sets place set ≡ set → get_or sets later other ≡ other → share_front last set other ≡ true → IsJoin last sets (join last set other)
-join_of_pair last sets place later set other joinable less below is is' same =
-    let long : length set ≡ suc last = ap length (sym is) ∙ joinable.sized place set (omega arith) in
-    let long' : length other ≡ suc last = ap length (sym is') ∙ joinable.sized later other below in
-    let front = take last set in
-    let x = get_or set last 0 in
-    let y = get_or other last 0 in
-    let p = parted last set long in
-    let q = shared last set other long' same in
-    let n : length front ≡ last = omega (arith, length_front last set long) in
-    let joined : join last set other ≡ (front ++ x ∷ []) ++ y ∷ [] = ap (λ s. s ++ y ∷ []) p in
-    let first : without (suc last) (join last set other) ≡ set = (λ i. without (suc (sym n i)) (joined i)) ∙ without_second front x y ∙ sym p in
-    let second : without last (join last set other) ≡ other = (λ i. without (sym n i) (joined i)) ∙ without_first front x y ∙ sym q in
-    record {
-      long = length_behind set y (suc last) long;
-      first = ap (is_one_of sets) first ∙ is_one_of-from_Member sets set (Member-from_Contains set sets (place, omega arith, is));
-      second = ap (is_one_of sets) second ∙ is_one_of-from_Member sets other (Member-from_Contains other sets (later, below, is'));
-    }
+-- two sets of a list that share their front
+pub record ArePair (last : ℕ) (sets : List (List ℕ)) (place later : ℕ) (set other : List ℕ) : Type 0 where
+  pub joinable : AreJoinable last sets
+  pub less : place < later
+  pub below : later < length sets
+  pub first : get_or sets place set ≡ set
+  pub second : get_or sets later other ≡ other
+  pub shares : share_front last set other ≡ true
 
-pub pair_rises : (last : ℕ) (sets : List (List ℕ)) (place later : ℕ) (set other : List ℕ) → AreJoinable last sets → place < later → later < length sets
-    → get_or sets place set ≡ set → get_or sets later other ≡ other → share_front last set other ≡ true → IsRising set → IsRising (join last set other)
-pair_rises last sets place later set other joinable less below is is' same rises =
-    let long : length set ≡ suc last = ap length (sym is) ∙ joinable.sized place set (omega arith) in
-    let long' : length other ≡ suc last = ap length (sym is') ∙ joinable.sized later other below in
-    let e : get_or sets place other ≡ set = get_or_default sets place other set (omega arith) ∙ is in
-    let ordered : slice_cmp nat_cmp set other ≡ Less = sym (λ i. slice_cmp nat_cmp (e i) (is' i)) ∙ Less-from_sorted (slice_cmp nat_cmp) sets place later other joinable.sorted less below in
-    join_rises last set other long long' same ordered rises
+module _ (last : ℕ) (sets : List (List ℕ)) (place later : ℕ) (set other : List ℕ) (pair : ArePair last sets place later set other) where
+  long_set : length set ≡ suc last
+  long_set = ap length (sym pair.first) ∙ pair.joinable.sized place set (omega (arith, pair.less, pair.below))
+
+  long_other : length other ≡ suc last
+  long_other = ap length (sym pair.second) ∙ pair.joinable.sized later other pair.below
+
+  -- they make a join
+  pub join_of_pair : IsJoin last sets (join last set other)
+  join_of_pair =
+      let front = take last set in
+      let x = get_or set last 0 in
+      let y = get_or other last 0 in
+      let p = parted last set long_set in
+      let q = shared last set other long_other pair.shares in
+      let n : length front ≡ last = omega (arith, length_front last set long_set) in
+      let joined : join last set other ≡ (front ++ x ∷ []) ++ y ∷ [] = ap (λ s. s ++ y ∷ []) p in
+      let first : without (suc last) (join last set other) ≡ set = (λ i. without (suc (sym n i)) (joined i)) ∙ without_second front x y ∙ sym p in
+      let second : without last (join last set other) ≡ other = (λ i. without (sym n i) (joined i)) ∙ without_first front x y ∙ sym q in
+      record {
+        long = length_behind set y (suc last) long_set;
+        first = ap (is_one_of sets) first ∙ is_one_of-from_Member sets set (Member-from_Contains set sets (place, omega (arith, pair.less, pair.below), pair.first));
+        second = ap (is_one_of sets) second ∙ is_one_of-from_Member sets other (Member-from_Contains other sets (later, pair.below, pair.second));
+      }
+
+  pub pair_rises : IsRising set → IsRising (join last set other)
+  pair_rises rises =
+      let e : get_or sets place other ≡ set = get_or_default sets place other set (omega (arith, pair.less, pair.below)) ∙ pair.first in
+      let ordered : slice_cmp nat_cmp set other ≡ Less = sym (λ i. slice_cmp nat_cmp (e i) (pair.second i)) ∙ Less-from_sorted (slice_cmp nat_cmp) sets place later other pair.joinable.sorted pair.less pair.below in
+      join_rises last set other long_set long_other pair.shares ordered rises
 
 -- one set more is joined, and kept or not
 kept_one : (joined : List ℕ) (rest found : List (List ℕ)) (s k : Bool) → s ≡ true → k ≡ true → (found ++ joined ∷ []) ++ rest ≡ found ++ cond s (cond k (joined ∷ rest) rest) []

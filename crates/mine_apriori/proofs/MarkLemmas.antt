@@ -1,16 +1,17 @@
 -- A table that knows which items a basket has.
-use Rattle.std.proofs.Common.{◌≡◌, ℕ, ◌+◌, ◌-◌, ◌<◌, ◌≤◌, ◌^◌, Bool, true, false, ◌&&◌, ◌||◌, not, List, [], length, take, drop, get_or, replicate, cond, refl, sym, ap, ◌∙◌, subst, inl, inr, arith, suc}
+use Rattle.std.proofs.Common.{◌≡◌, ℕ, ◌+◌, ◌-◌, ◌<◌, ◌≤◌, ◌^◌, Bool, true, false, ◌&&◌, ◌||◌, not, List, [], length, take, drop, get_or, replicate, cond, sym, ap, ◌∙◌, subst, inl, inr, arith, suc}
+use Rattle.std.proofs.Math.Bool.{and-not_self}
 use Rattle.std.proofs.lemmas.Bool.{cases_lt}
 use Rattle.std.proofs.lemmas.List.{get_or_default, get_or_past, get_or-replicate, length-replicate, get_or-map, take_rest}
 use Rattle.std.proofs.lemmas.Map.Keys.{below_from_sorted}
 use Rattle.std.specs.List.{All, AllWithin}
 use Rattle.basket_sets.specs.Itemset.{IsRising, has, contains}
 use Rattle.basket_sets.proofs.theory.Members.{Member}
-use Rattle.basket_sets.proofs.theory.Rising.{has-from_Member, Member-from_has}
+use Rattle.basket_sets.proofs.theory.Rising.{has-from_Member, Member-from_has, same_test}
 use Rattle.mine_apriori.proofs.NodeLemmas.{first_leaf_within, run_is_cut}
 use Rattle.mine_apriori.proofs.TreeLemmas.{AreFull, AtInner, IsNodeAt, rest_in, rest_is, tree_children, first_read, child_first, leaf_count, leaf_first}
 use Rattle.mine_apriori.proofs.RunLemmas.{adds_agree, adds_nothing}
-use Rattle.mine_apriori.proofs.ContainLemmas.{same_truth, member_behind, member_from_drop}
+use Rattle.mine_apriori.proofs.ContainLemmas.{member_behind, member_from_drop}
 use Rattle.basket_sets.specs.Order.{IsInReportOrder}
 use Rattle.mine_apriori.specs.declared.nodes.Nodes.{Nodes}
 use Rattle.mine_apriori.specs.Nodes.{AreNodes, starts_of, first_leaf, item_of, node_items, node_firsts}
@@ -32,14 +33,10 @@ pub marked_tells : (old new : List Bool) (items : List ℕ) → IsClear old → 
 marked_tells old new items clear long now item below =
     get_or_default new item false true below ∙ now item ∙ ap (λ b. b || has items item) (get_or_default old item true false (omega arith) ∙ clear item)
 
-false_unless : (b : Bool) → (b && not b) ≡ false
-false_unless true = refl
-false_unless false = refl
-
 -- and is clear once their marks are taken away
 pub clear_again : (old new : List Bool) (items : List ℕ) → ((item : ℕ) → Tells old items item) → ((item : ℕ) → is_marked new item ≡ (is_marked old item && not (has items item))) → IsClear new
 clear_again old new items tells now item = elim (cases_lt item (length old)) [
-  | inl known ↦ now item ∙ ap (λ b. b && not (has items item)) (tells item known) ∙ false_unless (has items item)
+  | inl known ↦ now item ∙ ap (λ b. b && not (has items item)) (tells item known) ∙ and-not_self (has items item)
   | inr beyond ↦ now item ∙ ap (λ b. b && not (has items item)) (get_or_past old item false beyond)
 ]
 
@@ -49,7 +46,7 @@ clear_again old new items tells now item = elim (cases_lt item (length old)) [
 has_behind : (items : List ℕ) (i item : ℕ) → IsRising items → i < length items → get_or items i 0 < item → has (drop (i + 1) items) item ≡ has items item
 has_behind items i item up below less =
     let one : suc i ≡ i + 1 = omega arith in
-    same_truth (has (drop (i + 1) items) item) (has items item)
+    same_test (has (drop (i + 1) items) item) (has items item)
     (λ h. has-from_Member items item (member_from_drop (i + 1) items item (Member-from_has (drop (i + 1) items) item h)))
     (λ h. has-from_Member (drop (i + 1) items) item (subst (λ n. Member item (drop n items)) one (member_behind items i item up below less (Member-from_has items item h))))
 

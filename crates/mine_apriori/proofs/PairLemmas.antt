@@ -33,15 +33,8 @@ use Rattle.mine_classes.specs.Runs.{ArePairsOf}
 use Rattle.mine_apriori.specs.Pairs.{ArePairs, pairs_by_greater, partners, pairs_with, pairs_by_lesser, pairs_at, lesser_from, all_lesser, lists_of, AreBelow}
 use Rattle.mine_apriori.specs.Levels.{level_of}
 use Rattle.mine_apriori.proofs.LevelsLemmas.{from_level, into_level, level_in_order}
-use Rattle.mine_apriori.proofs.PlaceLemmas.{range_more}
+use Rattle.mine_apriori.proofs.PlaceLemmas.{Member-range, range_more}
 use Rattle.mine_apriori.proofs.TriangleLemmas.{below_at}
-
--- ---- ranges
-
-pub Member-range : (x first count : ℕ) → Member x (range_with_len first count) → (first ≤ x) × (x < first + count)
-Member-range x first zero m = absurd m
-Member-range x first (suc count) (inl e) = (omega (arith, e), omega (arith, e))
-Member-range x first (suc count) (inr m) = let r = Member-range x (first + 1) count m in (omega (arith, r.0), omega (arith, r.1))
 
 filter_none : (p : ℕ → Bool) (xs : List ℕ) → ((x : ℕ) → Member x xs → p x ≡ false) → filter p xs ≡ []
 filter_none p [] none = refl

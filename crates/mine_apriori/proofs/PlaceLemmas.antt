@@ -5,11 +5,17 @@ use Rattle.std.proofs.lemmas.Bool.{cases_lt}
 use Rattle.std.proofs.lemmas.List.{get_or_append_left, get_or-append-add, length-append, map-id}
 use Rattle.std.proofs.lemmas.List.Concat.{flat_map-append}
 use Rattle.std.proofs.lemmas.List.FromFn.{map-range_with_len_more, length-map-range_with_len, get_or-map-range_with_len}
+use Rattle.basket_sets.proofs.theory.Members.{Member}
 use Rattle.mine_apriori.specs.Triangle.{all_pairs, pairs_below, place_of}
 
 pub range_more : (first count last : ℕ) → first + count ≡ last → range_with_len first (count + 1) ≡ range_with_len first count ++ last ∷ []
 range_more first count last is =
     sym (map-id (range_with_len first (count + 1))) ∙ map-range_with_len_more (λ x. x) first count last is ∙ ap (λ l. l ++ last ∷ []) (map-id (range_with_len first count))
+
+pub Member-range : (x first count : ℕ) → Member x (range_with_len first count) → (first ≤ x) × (x < first + count)
+Member-range x first zero m = absurd m
+Member-range x first (suc count) (inl e) = (omega (arith, e), omega (arith, e))
+Member-range x first (suc count) (inr m) = let r = Member-range x (first + 1) count m in (omega (arith, r.0), omega (arith, r.1))
 
 -- ---- how many pairs there are
 

@@ -1,14 +1,13 @@
 -- A walk over a run of nodes: for each item in turn a node with it is looked for behind the last that was found, and counted.
 use Rattle.std.proofs.Common.{◌≡◌, ◌≢◌, ℕ, ◌+◌, ◌-◌, ◌<◌, ◌≤◌, ◌^◌, Bool, true, false, ◌&&◌, ◌||◌, List, length, take, drop, get_or, set, cond, refl, sym, ap, ◌∙◌, subst, inl, inr, ◌⊎◌, arith, zero, suc}
 use Rattle.std.specs.List.{AllWithin}
+use Rattle.std.proofs.Math.Bool.{and-true, or-false, or-true}
 use Rattle.std.proofs.lemmas.Bool.{cases_lt, cases_eq, eq-eqb, ne_eqb, and_left}
 use Rattle.std.proofs.lemmas.List.{get_or-set_same, get_or-set_other, get_or-take, get_or-drop, length-drop, length-take, get_or_default, take_all, take_rest}
 use Rattle.std.proofs.lemmas.Map.Keys.{below_from_sorted, non_decreasing_from_sorted, sorted_from_strictly_increasing}
 use Rattle.basket_sets.specs.Itemset.{IsRising, has}
-use Rattle.basket_sets.proofs.theory.Rising.{has_more, has_place, not_before}
 use Rattle.basket_sets.proofs.theory.Members.{Contains-from_Member}
-use Rattle.basket_sets.proofs.theory.Rising.{Member-from_has}
-use Rattle.mine_apriori.proofs.ContainLemmas.{same_truth}
+use Rattle.basket_sets.proofs.theory.Rising.{Member-from_has, has_more, has_place, not_before, same_test}
 use Rattle.mine_apriori.specs.Run.{CountsBelow, RisesWithin, AddsWithin, IsMissingAt}
 
 pub rises_by_places : (items : List ℕ) → IsRising items → (i j : ℕ) → i ≤ j → j < length items → get_or items i 0 ≤ get_or items j 0
@@ -22,20 +21,13 @@ below_all run item up less = (omega arith, λ k h. absurd (omega arith), λ k a 
 pub rises_between : (run : List ℕ) → IsRising run → RisesWithin run 0 (length run)
 rises_between run up i j low less below = below_from_sorted run i j 0 up less below
 
--- what stands before a place is below an item, and the rest above it
-pub missing_between : (run : List ℕ) (item place : ℕ) → place ≤ length run
-    → ((k : ℕ) → k < length (take place run) → get_or (take place run) k 0 < item)
-    → ((k : ℕ) → k < length (take (length run - place) (drop place run)) → item < get_or (take (length run - place) (drop place run)) k 0)
+-- what stands before a place is below an item, and the rest above it, where its neighbours are
+pub missing_between : (run : List ℕ) (item place : ℕ) → IsRising run → place ≤ length run → (1 ≤ place → get_or run (place - 1) 0 < item) → (place < length run → item < get_or run place 0)
     → IsMissingAt run item place
-missing_between run item place within before behind = (
+missing_between run item place up within before behind = (
   within,
-  λ k less. (let at = get_or-take place run k 0 less in let b = before k (omega (arith, length-take place run)) in omega (arith, at, b)),
-  λ k from below.
-      (let rest = take_rest run place in
-      let long : k - place < length (take (length run - place) (drop place run)) = omega (arith, ap length rest, length-drop place run, from, below) in
-      let there : place + (k - place) ≡ k = omega (arith, from) in
-      let at = ap (λ l. get_or l (k - place) 0) rest ∙ get_or-drop place run (k - place) 0 ∙ ap (λ n. get_or run n 0) there in
-      let b = behind (k - place) long in omega (arith, at, b)),
+  λ k less. (let le = rises_by_places run up k (place - 1) (omega arith) (omega arith) in let b = before (omega arith) in omega arith),
+  λ k from below. (let le = rises_by_places run up place k from below in let b = behind (omega arith) in omega arith),
 )
 
 -- in a run that rises each item is as much above the first as it stands behind it, or more
@@ -165,8 +157,8 @@ adds_at weight at old below = record {
 -- ---- the walk
 
 -- an item below all that are behind a place is in the list where it is before the place
-has_before : (items : List ℕ) (place item : ℕ) → ((k : ℕ) → place ≤ k → k < length items → item < get_or items k 0) → has items item ≡ has (take place items) item
-has_before items place item behind = same_truth (has items item) (has (take place items) item)
+pub has_before : (items : List ℕ) (place item : ℕ) → ((k : ℕ) → place ≤ k → k < length items → item < get_or items k 0) → has items item ≡ has (take place items) item
+has_before items place item behind = same_test (has items item) (has (take place items) item)
     (λ h. (let c = Contains-from_Member item items (Member-from_has items item h) in
     let below = c.1 in
     let at : get_or items c.0 0 ≡ item = get_or_default items c.0 0 item below ∙ c.2 in
@@ -178,18 +170,6 @@ has_before items place item behind = same_truth (has items item) (has (take plac
     let l = length-take place items in
     let at : get_or items c.0 0 ≡ item = get_or_default items c.0 0 item (omega arith) ∙ sym (get_or-take place items c.0 item (omega arith)) ∙ c.2 in
     ap (has items) (sym at) ∙ has_place items c.0 (omega arith)))
-
-or_false : (b : Bool) → (b || false) ≡ b
-or_false true = refl
-or_false false = refl
-
-pub and_true : (b : Bool) → (b && true) ≡ b
-and_true true = refl
-and_true false = refl
-
-or_is_true : (b : Bool) → (b || true) ≡ true
-or_is_true true = refl
-or_is_true false = refl
 
 -- the leaves that are counted after so many items: those whose test holds and whose node has one of them
 abbrev pub counted_by : List ℕ → (ℕ → ℕ) → (ℕ → Bool) → ℕ → ℕ → Bool
@@ -225,11 +205,11 @@ module _ (first : ℕ → ℕ) (nodes : List ℕ) (head : ℕ → ℕ) (test : �
 
   now : (place leaf : ℕ) → place < length front → head leaf ≡ get_or front place 0 → counted_by front head test (place + 1) leaf ≡ test leaf
   now place leaf below is = ap (λ b. b && test leaf)
-      (has_more front place (head leaf) below ∙ ap (λ b. has (take place front) (head leaf) || b) (eq-eqb _ _ (sym is)) ∙ or_is_true (has (take place front) (head leaf)))
+      (has_more front place (head leaf) below ∙ ap (λ b. has (take place front) (head leaf) || b) (eq-eqb _ _ (sym is)) ∙ or-true (has (take place front) (head leaf)))
 
   as_before : (place leaf : ℕ) → place < length front → head leaf ≢ get_or front place 0 → counted_by front head test (place + 1) leaf ≡ counted_by front head test place leaf
   as_before place leaf below is = ap (λ b. b && test leaf)
-      (has_more front place (head leaf) below ∙ ap (λ b. has (take place front) (head leaf) || b) (ne_eqb _ _ (λ e. is (sym e))) ∙ or_false (has (take place front) (head leaf)))
+      (has_more front place (head leaf) below ∙ ap (λ b. has (take place front) (head leaf) || b) (ne_eqb _ _ (λ e. is (sym e))) ∙ or-false (has (take place front) (head leaf)))
 
   -- the node that was found has room for the weight
   pub fits_at : (place from : ℕ) (counts : List ℕ) (node : ℕ) → IsWalked first nodes head test start end front weight old place from counts
@@ -402,10 +382,10 @@ module _ (leaves : List ℕ) (start end : ℕ) (items : List ℕ) (weight : ℕ)
   pub leaf_walk_is_over : (place from : ℕ) (counts : List ℕ) → LeafWalk leaves start end items weight old place from counts → from ≡ end
       → AddsWithin (λ leaf. has items (get_or leaves leaf 0)) weight start end old counts
   leaf_walk_is_over place from counts walked all =
-      adds_agree (λ leaf a b. and_true (has items (get_or leaves leaf 0)))
+      adds_agree (λ leaf a b. and-true (has items (get_or leaves leaf 0)))
       (walk_is_over (λ leaf. leaf) leaves (λ leaf. get_or leaves leaf 0) (λ leaf. true) start end items weight old (leaves_are_cut leaves start end run) up place from counts walked all)
 
   pub leaf_walk_ends : (place from : ℕ) (counts : List ℕ) → LeafWalk leaves start end items weight old place from counts → length items ≤ place
       → AddsWithin (λ leaf. has items (get_or leaves leaf 0)) weight start end old counts
   leaf_walk_ends place from counts walked all =
-      adds_agree (λ leaf a b. and_true (has (take place items) (get_or leaves leaf 0)) ∙ ap (λ l. has l (get_or leaves leaf 0)) (take_all place items all)) walked.counted
+      adds_agree (λ leaf a b. and-true (has (take place items) (get_or leaves leaf 0)) ∙ ap (λ l. has l (get_or leaves leaf 0)) (take_all place items all)) walked.counted

@@ -1,6 +1,7 @@
 -- A basket's walk over a tree of sets.
 use Rattle.std.proofs.Common.{◌≡◌, ℕ, ◌+◌, ◌-◌, ◌<◌, ◌≤◌, ◌^◌, Bool, ◌&&◌, List, [], ◌∷◌, length, take, drop, get_or, map, refl, sym, ap, ◌∙◌, subst, inl, inr, arith, suc}
 use Rattle.std.specs.List.{All, AllWithin}
+use Rattle.std.proofs.Math.Bool.{and-true}
 use Rattle.std.proofs.lemmas.Bool.{cases_lt}
 use Rattle.std.proofs.lemmas.List.{drop_more, get_or-map, get_or_append_left, get_or_push, length-map, length_push, length-drop, length-take, get_or-take, take_all, take_rest, nil_from_length, get_or_read}
 use Rattle.basket_sets.specs.Itemset.{IsRising, has, contains}
@@ -12,7 +13,7 @@ use Rattle.mine_apriori.specs.Tree.{IsTree, IsRun, leaf_depth}
 use Rattle.mine_apriori.specs.Sizes.{AreOfOneSize}
 use Rattle.mine_apriori.proofs.ContainLemmas.{drop_rises, take_rises, contains_at, begins_early}
 use Rattle.mine_apriori.proofs.NodeLemmas.{child_run, children_of, leaf_starts, leaf_is, first_leaf_within, first_leaf_end, run_is_cut}
-use Rattle.mine_apriori.proofs.RunLemmas.{IsCut, IsWalked, and_true, adds_agree, walk_finds, walk_misses, walk_is_over, fits_at, found_in_part, missing_in_part, part_rises}
+use Rattle.mine_apriori.proofs.RunLemmas.{IsCut, IsWalked, adds_agree, walk_finds, walk_misses, walk_is_over, fits_at, found_in_part, missing_in_part, part_rises}
 
 -- each set has as many items as the tree has depths, that of the leaves among them
 abbrev pub AreFull : List (List ℕ) → Type 0
@@ -85,7 +86,7 @@ module _ (sets : List (List ℕ)) (full : AreFull sets) (order : IsInReportOrder
       let l = length-drop (leaf_depth sets + 1) (get_or sets leaf []) in
       let n = full leaf [] below in
       let none = nil_from_length (drop (leaf_depth sets + 1) (get_or sets leaf [])) (omega arith) in
-      sym (ap (contains items) (rest_is (leaf_depth sets) leaf (omega arith) below ∙ ap (λ rest. item_of sets (leaf_depth sets) leaf ∷ rest) none) ∙ and_true (has items (item_of sets (leaf_depth sets) leaf)))
+      sym (ap (contains items) (rest_is (leaf_depth sets) leaf (omega arith) below ∙ ap (λ rest. item_of sets (leaf_depth sets) leaf ∷ rest) none) ∙ and-true (has items (item_of sets (leaf_depth sets) leaf)))
 
   pub leaf_first : (node : ℕ) → node ≤ length sets → first_leaf sets (leaf_depth sets) node ≡ node
   leaf_first node le = leaf_is sets (suc (leaf_depth sets)) full order (leaf_depth sets) node refl le

@@ -1,7 +1,8 @@
 -- Counts of pairs, one basket after another.
-use Rattle.std.proofs.Common.{◌≡◌, ◌≢◌, ℕ, ◌+◌, ◌-◌, ◌<◌, ◌≤◌, Bool, true, false, ◌&&◌, ◌||◌, List, [], ◌∷◌, length, take, drop, get_or, map, set, cond, eqb, refl, sym, ap, ◌∙◌, subst, inl, inr, arith, zero, suc, add-zero}
+use Rattle.std.proofs.Common.{◌≡◌, ◌≢◌, ℕ, ◌+◌, ◌-◌, ◌<◌, ◌≤◌, Bool, true, false, ◌&&◌, ◌||◌, List, [], ◌∷◌, length, take, drop, get_or, map, set, cond, refl, sym, ap, ◌∙◌, subst, inl, inr, arith, zero, suc, add-zero}
+use Rattle.std.proofs.Math.Bool.{or-false, or-true}
 use borrow.Rule.Slice.PartMut.{put_mid}
-use Rattle.std.proofs.lemmas.Bool.{cases_Bool, cases_eq, cases_lt, eq-eqb, ne_eqb, lt-ltb}
+use Rattle.std.proofs.lemmas.Bool.{cases_eq, cases_lt, eq-eqb, ne_eqb, lt-ltb}
 use Rattle.std.specs.Prelude.{IsTrue}
 use Rattle.std.specs.List.{filter, range_with_len}
 use Rattle.std.proofs.lemmas.List.{get_or-drop, get_or-map, get_or-set_same, get_or-set_other, get_or-take, get_or_default, length-drop, length-map, length-take-le}
@@ -19,18 +20,11 @@ use Rattle.mine_classes.specs.Conditional.{is_kept}
 use Rattle.mine_classes.specs.Pairs.{WithBasket, is_met, pairs_of}
 use Rattle.mine_apriori.specs.Shard.{WithSupports}
 use Rattle.mine_apriori.specs.Triangle.{AreSupports, HaveRows, WithPairs, all_pairs, place_of}
-use Rattle.mine_apriori.proofs.PlaceLemmas.{find_pair, pair_at, pair_of, row_before}
+use Rattle.mine_apriori.proofs.PlaceLemmas.{Member-range, find_pair, pair_at, pair_of, row_before}
+use Rattle.mine_apriori.proofs.RunLemmas.{has_before, rises_by_places}
 
 pub below_at : (count : ℕ) (ranks : List ℕ) (k : ℕ) → AllBelow count ranks → k < length ranks → get_or ranks k 0 < count
 below_at count ranks k below here = below (get_or ranks k 0) (has_place ranks k here)
-
-or_true : (b : Bool) → (b || true) ≡ true
-or_true true = refl
-or_true false = refl
-
-or_false : (b : Bool) → (b || false) ≡ b
-or_false true = refl
-or_false false = refl
 
 -- ---- the counts of one rank
 
@@ -40,35 +34,20 @@ with_more ranks i weight old now up here inside long added rank below = elim (ca
   | inl e ↦
       (let as_was : get_or now rank 0 ≡ get_or old rank 0 + 0 = added rank below
       ∙ ap (λ b. get_or old rank 0 + cond b weight 0) (ap (has (take i ranks)) e ∙ not_before ranks i up here) in
-      let new = ap (λ b. get_or old rank 0 + cond b weight 0) (has_more ranks i rank here ∙ ap (λ b. has (take i ranks) rank || b) (eq-eqb (get_or ranks i 0) rank (sym e)) ∙ or_true (has (take i ranks) rank)) in
+      let new = ap (λ b. get_or old rank 0 + cond b weight 0) (has_more ranks i rank here ∙ ap (λ b. has (take i ranks) rank || b) (eq-eqb (get_or ranks i 0) rank (sym e)) ∙ or-true (has (take i ranks) rank)) in
       subst (λ r. get_or (set now r (get_or now r 0 + weight)) rank 0 ≡ get_or old rank 0 + cond (has (take (i + 1) ranks) rank) weight 0) e
       (get_or-set_same now rank (get_or now rank 0 + weight) 0 (omega arith) ∙ ap (λ n. n + weight) (as_was ∙ add-zero (get_or old rank 0)) ∙ sym new))
   | inr differ ↦
       get_or-set_other now (get_or ranks i 0) rank (get_or now (get_or ranks i 0) 0 + weight) 0 differ ∙ added rank below
       ∙ ap (λ b. get_or old rank 0 + cond b weight 0)
-      (sym (has_more ranks i rank here ∙ ap (λ b. has (take i ranks) rank || b) (ne_eqb (get_or ranks i 0) rank (λ e. differ (sym e))) ∙ or_false (has (take i ranks) rank)))
+      (sym (has_more ranks i rank here ∙ ap (λ b. has (take i ranks) rank || b) (ne_eqb (get_or ranks i 0) rank (λ e. differ (sym e))) ∙ or-false (has (take i ranks) rank)))
 ]
-
--- a rank that is not yet counted has its count as it was
-pub as_it_was : (ranks : List ℕ) (i weight : ℕ) (old now : List ℕ) → IsRising ranks → i < length ranks → get_or ranks i 0 < length old → WithBasket (take i ranks) weight old now
-    → get_or now (get_or ranks i 0) 0 ≡ get_or old (get_or ranks i 0) 0
-as_it_was ranks i weight old now up here inside added =
-    added (get_or ranks i 0) inside ∙ ap (λ b. get_or old (get_or ranks i 0) 0 + cond b weight 0) (not_before ranks i up here) ∙ add-zero (get_or old (get_or ranks i 0) 0)
 
 -- ---- the counts of a basket
 
 -- of the ranks below one of a basket it has those that stand before that one
 front_has : (ranks : List ℕ) (place lesser : ℕ) → IsRising ranks → place < length ranks → lesser < get_or ranks place 0 → has (take place ranks) lesser ≡ has ranks lesser
-front_has [] place lesser up here less = absurd (omega arith)
-front_has (first ∷ ranks) zero lesser up here less = elim (cases_Bool (has (first ∷ ranks) lesser)) [
-  | inl e ↦ absurd (at_least (Member-from_has (first ∷ ranks) lesser e))
-  | inr e ↦ sym e
-]
-  where
-    at_least : Member lesser (first ∷ ranks) → ⊥
-    at_least (inl e) = omega (arith, e)
-    at_least (inr m) = let low = first_below first ranks up lesser m in omega arith
-front_has (first ∷ ranks) (suc place) lesser up here less = ap (λ b. eqb first lesser || b) (front_has ranks place lesser (rest_rises first ranks up) (omega arith) less)
+front_has ranks place lesser up here less = sym (has_before ranks place lesser (λ k from within. let le = rises_by_places ranks up place k from within in omega arith))
 
 -- the ranks before a place are below the rank at the place
 before_below : (ranks : List ℕ) (place rank : ℕ) → IsRising ranks → place < length ranks → Member rank (take place ranks) → rank < get_or ranks place 0
@@ -130,7 +109,7 @@ module _ (ranks : List ℕ) (weight : ℕ) (old : List ℕ) (up : IsRising ranks
     other_rank : (greater lesser : ℕ) → greater ≢ rank
         → get_or old (place_of greater lesser) 0 + cond (has (take place ranks) greater && has ranks lesser) weight 0 ≡ get_or old (place_of greater lesser) 0 + cond (has (take (place + 1) ranks) greater && has ranks lesser) weight 0
     other_rank greater lesser differ = ap (λ b. get_or old (place_of greater lesser) 0 + cond (b && has ranks lesser) weight 0)
-        (sym (has_more ranks place greater here ∙ ap (λ b. has (take place ranks) greater || b) (ne_eqb rank greater (λ e. differ (sym e))) ∙ or_false (has (take place ranks) greater)))
+        (sym (has_more ranks place greater here ∙ ap (λ b. has (take place ranks) greater || b) (ne_eqb rank greater (λ e. differ (sym e))) ∙ or-false (has (take place ranks) greater)))
 
     pub first_more : (start k : ℕ) (row : List ℕ) → start ≡ length (all_pairs rank) → k ≡ rank → length row ≡ k → WithBasket (take place ranks) weight (take k (drop start now)) row
         → WithFirst ranks weight old (place + 1) (put_mid start k now row)
@@ -160,7 +139,7 @@ module _ (ranks : List ℕ) (weight : ℕ) (old : List ℕ) (up : IsRising ranks
             ∙ ap (λ n. n + cond (has (take place ranks) lesser) weight 0) (row_at start k now lesser (omega arith) ∙ ap (λ n. get_or now (n + lesser) 0) begins ∙ untouched lesser less)
             ∙ ap (λ b. get_or old (place_of rank lesser) 0 + cond b weight 0) (front_has ranks place lesser up here less)
             ∙ ap (λ b. get_or old (place_of rank lesser) 0 + cond (b && has ranks lesser) weight 0)
-            (sym (has_more ranks place rank here ∙ ap (λ b. has (take place ranks) rank || b) (eq-eqb rank rank refl) ∙ or_true (has (take place ranks) rank)))
+            (sym (has_more ranks place rank here ∙ ap (λ b. has (take place ranks) rank || b) (eq-eqb rank rank refl) ∙ or-true (has (take place ranks) rank)))
 
 -- ---- the counts of all baskets
 
@@ -174,9 +153,6 @@ both false false = refl
 abbrev pub WithPairSupports : List Weighted → List ℕ → List ℕ → Type 0
 WithPairSupports baskets old new = (greater lesser : ℕ) → lesser < greater → place_of greater lesser < length old
     → get_or new (place_of greater lesser) 0 ≡ get_or old (place_of greater lesser) 0 + support_of baskets (lesser ∷ greater ∷ [])
-
-pub supports_begin : (old : List ℕ) → WithPairSupports [] old old
-supports_begin old greater lesser less within = sym (add-zero (get_or old (place_of greater lesser) 0))
 
 module _ (baskets : List Weighted) (i : ℕ) (d : Weighted) (old now : List ℕ) (here : i < length baskets) (same : length now ≡ length old) (so_far : WithPairSupports (take i baskets) old now) where
   pub supports_more : (new : List ℕ) → WithPairs (get_or baskets i d).basket (get_or baskets i d).weight now new → WithPairSupports (take (i + 1) baskets) old new
@@ -212,11 +188,6 @@ supports_by_place baskets old new with count k here within =
 
 -- ---- the pairs of a rank
 
-Member-range : (x first count : ℕ) → Member x (range_with_len first count) → x < first + count
-Member-range x first zero m = absurd m
-Member-range x first (suc count) (inl e) = omega (arith, e)
-Member-range x first (suc count) (inr m) = let r = Member-range x (first + 1) count m in omega (arith, r)
-
 filter_same : (p q : ℕ → Bool) (xs : List ℕ) → ((x : ℕ) → Member x xs → p x ≡ q x) → filter p xs ≡ filter q xs
 filter_same p q [] same = refl
 filter_same p q (x ∷ xs) same = ap (λ b. cond b (x ∷ filter p xs) (filter p xs)) (same x (inl refl)) ∙ ap (λ l. cond (q x) (x ∷ l) l) (filter_same p q xs (λ y m. same y (inr m)))
@@ -235,10 +206,10 @@ module _ (baskets : List Weighted) (count : ℕ) (supports : List ℕ) (greater 
   row_pairs least row is =
       ap (λ n. map (λ rank. (rank, get_or row rank 0)) (filter (λ rank. is_met least (get_or row rank 0)) (range_with_len 0 n))) (ap length is ∙ row_long (length (all_pairs greater)) greater supports row_within)
       ∙ ap (map (λ rank. (rank, get_or row rank 0))) (filter_same (λ rank. is_met least (get_or row rank 0)) (is_kept baskets least greater) (range_with_len 0 greater)
-      (λ lesser m. let r = Member-range lesser 0 greater m in let less : lesser < greater = omega (arith, r) in
+      (λ lesser m. let r = Member-range lesser 0 greater m in let less : lesser < greater = omega (arith, r.1) in
       ap (is_met least) (support lesser less) ∙ ap (λ b. b && is_met least (support_of baskets (lesser ∷ greater ∷ []))) (sym (lt-ltb lesser greater less))))
       ∙ map_same (λ rank. (rank, get_or row rank 0)) (λ other. (other, support_of baskets (other ∷ greater ∷ []))) (filter (is_kept baskets least greater) (range_with_len 0 greater))
-      (λ lesser m. ap (λ n. (lesser, n)) (support lesser (let r = Member-range lesser 0 greater (Member-filter (is_kept baskets least greater) lesser (range_with_len 0 greater) m).0 in omega arith)))
+      (λ lesser m. ap (λ n. (lesser, n)) (support lesser (let r = Member-range lesser 0 greater (Member-filter (is_kept baskets least greater) lesser (range_with_len 0 greater) m).0 in omega (arith, r.1))))
     where
       support : (lesser : ℕ) → lesser < greater → get_or row lesser 0 ≡ support_of baskets (lesser ∷ greater ∷ [])
       support lesser less =

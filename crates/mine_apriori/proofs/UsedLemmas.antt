@@ -1,9 +1,8 @@
 -- Items that no candidate has are left out of a basket.
-use Rattle.std.proofs.Common.{◌≡◌, ℕ, ◌+◌, ◌<◌, Bool, ◌||◌, List, [], ◌∷◌, ◌++◌, length, take, get_or, filter, cond, sym, ap, ◌∙◌, inl, inr, arith}
+use Rattle.std.proofs.Common.{◌≡◌, ℕ, ◌+◌, ◌<◌, Bool, ◌||◌, List, [], length, take, get_or, filter, sym, ap, ◌∙◌, inl, inr, arith}
 use Rattle.std.proofs.Math.Bool.{or-true}
 use Rattle.std.proofs.lemmas.Bool.{cases_eq}
-use Rattle.std.proofs.lemmas.List.{take_more, get_or-take, length-take}
-use Rattle.std.proofs.lemmas.List.Elements.{filter-append}
+use Rattle.std.proofs.lemmas.List.{get_or-take, length-take}
 use Rattle.basket_sets.specs.Itemset.{has, contains}
 use Rattle.basket_sets.proofs.theory.Rising.{same_test}
 use Rattle.basket_sets.proofs.theory.Members.{Member-filter, Member-from_filter}
@@ -32,6 +31,3 @@ kept_contains sets table basket k marked below = same_test _ _
     (λ h. contains_each basket (get_or sets k []) (λ item m. (Member-filter (may_be_used table) item basket (has_each (filter (may_be_used table) basket) (get_or sets k []) h item m)).0))
     (λ h. contains_each (filter (may_be_used table) basket) (get_or sets k []) (λ item m.
     Member-from_filter (may_be_used table) item basket (has_each basket (get_or sets k []) h item m) (marked k item below (has-from_Member (get_or sets k []) item m))))
-
-pub filter_more : (p : ℕ → Bool) (xs : List ℕ) (i : ℕ) → i < length xs → filter p (take (i + 1) xs) ≡ filter p (take i xs) ++ cond (p (get_or xs i 0)) (get_or xs i 0 ∷ []) []
-filter_more p xs i below = ap (filter p) (take_more xs i 0 below) ∙ filter-append p (take i xs) (get_or xs i 0 ∷ [])

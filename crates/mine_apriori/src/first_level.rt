@@ -6,7 +6,7 @@ ghost use Rattle.basket_sets.specs.Support.{support_of};
 ghost use Rattle.mine_apriori.specs.Levels.{AreFound, AreTooMany, level_of};
 ghost use Rattle.mine_apriori.specs.Pairs.{ArePairs, lists_of};
 
-use crate::levels::Levels;
+use crate::levels::{Known, Levels};
 use crate::pairs::by_lesser;
 use crate::rank_sets::RankSets;
 use crate::triangle::pair_count;
@@ -22,7 +22,10 @@ pub fn frequent_ranks(alloc: Global, coded: &Coded) -> Result<RankSets, AllocErr
 {
     let minimum = coded.minimum();
     let total = coded.total();
-    let mut found = RankSets::new(alloc);
+    let mut found = RankSets {
+        sets: Vec::new(alloc),
+        counts: Vec::new(alloc),
+    };
     for (rank, count) in &count_items(alloc, coded.baskets())? {
         if minimum.met(*count, total) {
             found.push(Itemset::from_items(alloc, &[*rank])?, *count)?;
@@ -106,14 +109,12 @@ impl<'a> FirstLevel<'a> {
         } = self;
         let last = found.sets.len();
         add_second_level(alloc, coded, pairs, &mut found)?;
-        Levels::ask(
-            alloc,
+        let known = Known {
             coded,
-            limit,
-            2,
+            size: 2,
             found,
-            last,
-            pair_count(last as u32) as u64,
-        )
+            counted: pair_count(last as u32) as u64,
+        };
+        known.ask(alloc, limit, last)
     }
 }

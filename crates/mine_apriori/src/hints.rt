@@ -21,7 +21,7 @@ pub struct Hints {
 }
 
 /// The table of a run.
-#[derive(Clone, Copy, Debug)]
+#[derive(Clone, Copy)]
 pub struct Table<'a> {
     first: u32,
     places: &'a [u32],
@@ -34,11 +34,10 @@ impl Hints {
             bounds: Vec::new(alloc),
             places: Vec::new(alloc),
         };
-        let roots = [
-            inner
-                .first()
-                .map_or(leaves.len(), |nodes| nodes.items.len()),
-        ];
+        let roots = [match inner.first() {
+            Some(nodes) => nodes.items.len(),
+            None => leaves.len(),
+        }];
         let mut ends: &[usize] = &roots;
         for nodes in inner {
             hints.add_depth(alloc, &nodes.items, ends)?;
@@ -75,7 +74,7 @@ impl Hints {
             return Ok(());
         }
         let base = self.places.len();
-        let first = run.first().map_or(0, |first| *first);
+        let first = run.first().copied().unwrap_or(0);
         let mut before = 0u32;
         for item in run {
             let place = item.saturating_sub(first) as usize;
@@ -110,7 +109,7 @@ impl Hints {
             _ => &[],
         };
         Table {
-            first: items.get(start).map_or(0, |first| *first),
+            first: items.get(start).copied().unwrap_or(0),
             places,
         }
     }

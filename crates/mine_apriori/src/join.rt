@@ -14,7 +14,7 @@ use basket_core::Itemset;
 use std::alloc::{AllocError, Global};
 
 /// Sets of one size, and the table of their endings.
-#[derive(Clone, Copy, Debug)]
+#[derive(Clone, Copy)]
 struct Level<'a> {
     sets: &'a [Itemset],
     endings: &'a [bool],
@@ -29,7 +29,10 @@ pub fn candidates(alloc: Global, sets: &[Itemset]) -> Result<Vec<Itemset>, Alloc
 {
     let mut found = Vec::new(alloc);
     let mut joined = Vec::new(alloc);
-    let size = sets.first().map_or(0, |set| set.len());
+    let size = match sets.first() {
+        Some(set) => set.len(),
+        None => 0,
+    };
     let mut hints = vec![in alloc; 0; size]?;
     let endings = endings(alloc, sets)?;
     let level = Level {

@@ -50,41 +50,13 @@ impl<'a> Levels<'a> {
         ensures too_many { (most : ℕ) → result ≡ Err (TooMany most) → (most ≡ limit) × AreTooMany coded.now limit }
     {
         let found = frequent_ranks(alloc, coded)?;
-        Levels::ask(alloc, coded, limit, 1, found, 0, 0)
-    }
-
-    /// The search with all frequent sets up to a size found, of which those from `last` on have
-    /// that size. So many sets of at most that size were asked.
-    pub(crate) fn ask(
-        alloc: Global,
-        coded: &'a Coded,
-        limit: u32,
-        size: usize,
-        found: RankSets,
-        last: usize,
-        counted: u64,
-    ) -> Result<Self, MineFault>
-        requires coding { IsCoding coded.now }
-        requires some { 1 ≤ size }
-        requires found { AreFound coded.now size found }
-        requires within { last ≤ length found.sets.items }
-        requires last { drop last found.sets.items ≡ level_of coded.now size }
-        requires counted { counted ≡ length (candidates_up_to coded.now.baskets coded.now.minimum size) }
-        ensures ok { IfOk result (λ levels. levels ≡ record { coding = coded.now; limit = limit; size = size }) }
-        ensures too_many { (most : ℕ) → result ≡ Err (TooMany most) → (most ≡ limit) × AreTooMany coded.now limit }
-    {
-        if found.sets.len() > limit as usize {
-            return Err(MineFault::TooMany { limit });
-        }
-        let asked = candidates(alloc, &found.sets[last..])?;
-        Ok(Levels {
+        let known = Known {
             coded,
-            limit,
-            size,
+            size: 1,
             found,
-            counted: counted + asked.len() as u64,
-            asked,
-        })
+            counted: 0,
+        };
+        known.ask(alloc, limit, 0)
     }
 
     /// The search at its end, where nothing is asked any more.
@@ -142,7 +114,13 @@ impl<'a> Levels<'a> {
         } = self;
         let last = found.sets.len();
         found.add_frequent(alloc, coded, &asked, counts)?;
-        Levels::ask(alloc, coded, limit, size, found, last, counted)
+        let known = Known {
+            coded,
+            size,
+            found,
+            counted,
+        };
+        known.ask(alloc, limit, last)
     }
 
     /// The list of all frequent sets. There are at most as many as the limit.
@@ -156,6 +134,49 @@ impl<'a> Levels<'a> {
         let mut classes = Vec::with_capacity(alloc, 1)?;
         classes.push(found.decoded(alloc, coded)?)?;
         Ok(Frequent::of_classes(alloc, coded, classes)?)
+    }
+}
+
+/// What a search knows once all frequent sets up to a size are found.
+#[derive(Drop)]
+pub(crate) struct Known<'a> {
+    pub coded: &'a Coded,
+    pub size: usize,
+    pub found: RankSets,
+    /// How many sets of at most the size were asked.
+    pub counted: u64,
+}
+
+impl<'a> Known<'a> {
+    /// The search that goes on from there. The sets from `last` on are those of the size.
+    pub(crate) fn ask(self, alloc: Global, limit: u32, last: usize) -> Result<Levels<'a>, MineFault>
+        requires coding { IsCoding self.coded.now }
+        requires some { 1 ≤ self.size }
+        requires found { AreFound self.coded.now self.size self.found }
+        requires within { last ≤ length self.found.sets.items }
+        requires last { drop last self.found.sets.items ≡ level_of self.coded.now self.size }
+        requires counted { self.counted ≡ length (candidates_up_to self.coded.now.baskets self.coded.now.minimum self.size) }
+        ensures ok { IfOk result (λ levels. levels ≡ record { coding = self.entry.coded.now; limit = limit; size = self.entry.size }) }
+        ensures too_many { (most : ℕ) → result ≡ Err (TooMany most) → (most ≡ limit) × AreTooMany self.entry.coded.now limit }
+    {
+        let Known {
+            coded,
+            size,
+            found,
+            counted,
+        } = self;
+        if found.sets.len() > limit as usize {
+            return Err(MineFault::TooMany { limit });
+        }
+        let asked = candidates(alloc, &found.sets[last..])?;
+        Ok(Levels {
+            coded,
+            limit,
+            size,
+            found,
+            counted: counted + asked.len() as u64,
+            asked,
+        })
     }
 }
 

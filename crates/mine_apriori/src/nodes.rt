@@ -1,5 +1,5 @@
 //! The inner nodes of a tree of candidates.
-ghost use Rattle.std.specs.Prelude.{◌≡◌, ◌<◌, ◌+◌, ◌^◌, [], ◌∷◌, ◌++◌, IfOk, OnOk, length, slice_index, take, All, map};
+ghost use Rattle.std.specs.Prelude.{◌≡◌, ◌<◌, ◌+◌, ◌^◌, [], ◌∷◌, ◌++◌, IfOk, OnOk, length, slice_index, All, map};
 ghost use Rattle.basket_sets.specs.Itemset.{IsRising};
 ghost use Rattle.mine_apriori.specs.Nodes.{begins, AreDeep, AreNodes};
 
@@ -29,15 +29,6 @@ impl Nodes {
     }
 }
 
-/// The items of a set up to the depth, with the one at it.
-fn front(set: &Itemset, depth: usize) -> &[u32]
-    requires { depth < length set.now }
-    ensures { result.now ≡ take (depth + 1) set.now }
-{
-    let items = set.items();
-    &items[..depth + 1]
-}
-
 /// Whether a set begins a node of the depth: it is the first, or differs up to there from the one
 /// before it.
 fn begins(sets: &[Itemset], depth: usize, number: usize) -> bool
@@ -45,7 +36,12 @@ fn begins(sets: &[Itemset], depth: usize, number: usize) -> bool
     requires within { number < length sets.now }
     ensures { result ≡ begins sets.now depth number }
 {
-    number == 0 || front(&sets[number - 1], depth) != front(&sets[number], depth)
+    if number == 0 {
+        return true;
+    }
+    let before = sets[number - 1].items();
+    let items = sets[number].items();
+    before[..depth + 1] != items[..depth + 1]
 }
 
 /// The nodes of a depth, by one pass over the sets.

@@ -16,17 +16,6 @@ pub struct RankSets {
 }
 
 impl RankSets {
-    /// None yet.
-    pub fn new(alloc: Global) -> Self
-        ensures sets { result.sets.items ≡ [] }
-        ensures counts { result.counts.items ≡ [] }
-    {
-        RankSets {
-            sets: Vec::new(alloc),
-            counts: Vec::new(alloc),
-        }
-    }
-
     /// Adds a set with its support.
     pub fn push(&mut self, set: Itemset, count: u64) -> Result<(), AllocError>
         ensures sets { OnOk result (self.new.sets.items ≡ self.old.sets.items ++ set ∷ []) }

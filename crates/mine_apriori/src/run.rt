@@ -8,7 +8,7 @@ ghost use Rattle.mine_apriori.specs.Used.{Tells, is_marked};
 use crate::hints::{Hints, Table};
 
 /// What is left of a basket on its way through a tree: items, what is marked of them, and the weight.
-#[derive(Clone, Copy, Debug)]
+#[derive(Clone, Copy)]
 pub struct Rest<'a> {
     pub items: &'a [u32],
     pub marks: &'a [bool],
@@ -67,34 +67,12 @@ pub fn find_by(run: &[u32], item: u32, hint: usize) -> Result<usize, usize>
     if hint < run.len() && run[hint] == item {
         return Ok(hint);
     }
-    if hint <= run.len() && ends_below(&run[..hint], item) && begins_above(&run[hint..], item) {
+    let below = hint == 0 || hint <= run.len() && run[hint - 1] < item;
+    let above = hint == run.len() || hint < run.len() && item < run[hint];
+    if below && above {
         return Err(hint);
     }
     find(run, item)
-}
-
-/// Whether the last of rising items, and so each, is below an item.
-#[inline]
-fn ends_below(items: &[u32], item: u32) -> bool
-    requires { IsRising items.now }
-    ensures { IsTrue result → (k : ℕ) → k < length items.now → slice_index items.now k < item }
-{
-    match items.last() {
-        Some(last) => *last < item,
-        None => true,
-    }
-}
-
-/// Whether the first of rising items, and so each, is above an item.
-#[inline]
-fn begins_above(items: &[u32], item: u32) -> bool
-    requires { IsRising items.now }
-    ensures { IsTrue result → (k : ℕ) → k < length items.now → item < slice_index items.now k }
-{
-    match items.first() {
-        Some(first) => item < *first,
-        None => true,
-    }
 }
 
 /// How long a run is at most that is gone over by the marks, where so many items would be looked up
@@ -111,17 +89,17 @@ pub fn count_leaves(
     start: usize,
     end: usize,
     hints: &Hints,
-    rest: Rest<'_>,
+    rest: &Rest<'_>,
     counts: &mut [u64],
 )
     requires ordered { start ≤ end }
     requires within { end ≤ length leaves.now }
     requires run { RisesWithin leaves.now start end }
-    requires rising { IsRising rest.items.now }
-    requires marks { (leaf : ℕ) → start ≤ leaf → leaf < end → Tells rest.marks.now rest.items.now (slice_index leaves.now leaf) }
+    requires rising { IsRising rest.now.items.now }
+    requires marks { (leaf : ℕ) → start ≤ leaf → leaf < end → Tells rest.now.marks.now rest.now.items.now (slice_index leaves.now leaf) }
     requires long { length counts.old ≡ length leaves.now }
-    requires fits { AllWithin (λ count. count + rest.weight < 2 ^ 64) counts.old start end }
-    ensures { AddsWithin (λ leaf. has rest.entry.items.now (slice_index leaves.now leaf)) rest.entry.weight start end counts.old counts.new }
+    requires fits { AllWithin (λ count. count + rest.now.weight < 2 ^ 64) counts.old start end }
+    ensures { AddsWithin (λ leaf. has rest.now.items.now (slice_index leaves.now leaf)) rest.now.weight start end counts.old counts.new }
 {
     if end - start <= marked_at_most(rest.items.len())
         && are_known(leaves, start, end, rest.marks)
@@ -144,17 +122,18 @@ pub fn are_known(nodes: &[u32], start: usize, end: usize, marks: &[bool]) -> boo
 
 /// Adds the weight at each leaf of a run whose item is marked. The marks can't be predicted, so
 /// what is added is looked up, where a compiler would turn an `if` into a branch.
-fn count_marked(leaves: &[u32], start: usize, end: usize, rest: Rest<'_>, counts: &mut [u64])
+fn count_marked(leaves: &[u32], start: usize, end: usize, rest: &Rest<'_>, counts: &mut [u64])
     requires within { end ≤ length leaves.now }
-    requires known { (leaf : ℕ) → start ≤ leaf → leaf < end → slice_index leaves.now leaf < length rest.marks.now }
+    requires known { (leaf : ℕ) → start ≤ leaf → leaf < end → slice_index leaves.now leaf < length rest.now.marks.now }
     requires ordered { start ≤ end }
     requires long { length counts.old ≡ length leaves.now }
-    requires fits { AllWithin (λ count. count + rest.weight < 2 ^ 64) counts.old start end }
-    ensures { AddsWithin (λ leaf. is_marked rest.entry.marks.now (slice_index leaves.now leaf)) rest.entry.weight start end counts.old counts.new }
+    requires fits { AllWithin (λ count. count + rest.now.weight < 2 ^ 64) counts.old start end }
+    ensures { AddsWithin (λ leaf. is_marked rest.now.marks.now (slice_index leaves.now leaf)) rest.now.weight start end counts.old counts.new }
 {
+    let marks = rest.marks;
     let parts = [0, rest.weight];
     for leaf in start..end {
-        counts[leaf] += parts[usize::from(rest.marks[leaves[leaf] as usize])];
+        counts[leaf] += parts[usize::from(marks[leaves[leaf] as usize])];
     }
 }
 
@@ -164,17 +143,18 @@ fn count_sparse(
     start: usize,
     end: usize,
     table: Table<'_>,
-    rest: Rest<'_>,
+    rest: &Rest<'_>,
     counts: &mut [u64],
 )
     requires ordered { start ≤ end }
     requires within { end ≤ length leaves.now }
     requires run { RisesWithin leaves.now start end }
-    requires rising { IsRising rest.items.now }
+    requires rising { IsRising rest.now.items.now }
     requires long { length counts.old ≡ length leaves.now }
-    requires fits { AllWithin (λ count. count + rest.weight < 2 ^ 64) counts.old start end }
-    ensures { AddsWithin (λ leaf. has rest.entry.items.now (slice_index leaves.now leaf)) rest.entry.weight start end counts.old counts.new }
+    requires fits { AllWithin (λ count. count + rest.now.weight < 2 ^ 64) counts.old start end }
+    ensures { AddsWithin (λ leaf. has rest.now.items.now (slice_index leaves.now leaf)) rest.now.weight start end counts.old counts.new }
 {
+    let weight = rest.weight;
     let mut from = start;
     for item in rest.items {
         if from == end {
@@ -185,7 +165,7 @@ fn count_sparse(
             .saturating_sub(from - start);
         match find_by(&leaves[from..end], *item, hint) {
             Ok(found) => {
-                counts[from + found] += rest.weight;
+                counts[from + found] += weight;
                 from += found + 1;
             }
             Err(passed) => from += passed,

@@ -92,6 +92,9 @@ impl<'a> CandidateTree<'a> {
         requires light { (k : ℕ) → k < length counts.old → slice_index counts.old k + total_of baskets.now ≤ MOST_WEIGHT }
         ensures { OnOk result (WithSupports self.now baskets.now counts.old counts.new) }
     {
+        if baskets.is_empty() {
+            return Ok(());
+        }
         let mut kept = vec![in alloc; 0; longest(baskets)]?;
         let mut marks = no_items(alloc, self.known)?;
         for place in baskets {
@@ -129,7 +132,7 @@ impl<'a> CandidateTree<'a> {
             let len = keep_used(&self.used, whole.items, kept);
             let items = &kept[..len];
             if len <= self.inner.len() {
-                self.walk(0, 0, roots, Rest { items, ..whole }, counts);
+                self.walk(0, 0, roots, &Rest { items, ..whole }, counts);
                 return;
             }
             mark(marks, items);
@@ -137,7 +140,7 @@ impl<'a> CandidateTree<'a> {
                 0,
                 0,
                 roots,
-                Rest {
+                &Rest {
                     items,
                     marks,
                     ..whole
@@ -146,7 +149,7 @@ impl<'a> CandidateTree<'a> {
             );
             unmark(marks, items);
         } else {
-            self.walk(0, 0, roots, whole, counts);
+            self.walk(0, 0, roots, &whole, counts);
         }
     }
 
@@ -168,22 +171,23 @@ impl<'a> CandidateTree<'a> {
         depth: usize,
         start: usize,
         end: usize,
-        rest: Rest<'_>,
+        rest: &Rest<'_>,
         counts: &mut [u64],
     )
         requires inner { depth < leaf_depth self.now }
-        requires known { (node : ℕ) → start ≤ node → node < end → slice_index (node_items self.now depth) node < length rest.marks.now }
+        requires known { (node : ℕ) → start ≤ node → node < end → slice_index (node_items self.now depth) node < length rest.now.marks.now }
         requires run { IsRun self.now depth start end }
-        requires rising { IsRising rest.items.now }
-        requires marks { AreTold self.now depth start end rest.items.now rest.marks.now }
+        requires rising { IsRising rest.now.items.now }
+        requires marks { AreTold self.now depth start end rest.now.items.now rest.now.marks.now }
         requires long { length counts.old ≡ length self.now }
-        requires fits { AllWithin (λ count. count + rest.weight < 2 ^ 64) counts.old (first_leaf self.now depth start) (first_leaf self.now depth end) }
-        ensures { AddsWithin (λ leaf. contains rest.entry.items.now (drop depth (slice_index_or self.now leaf []))) rest.entry.weight
+        requires fits { AllWithin (λ count. count + rest.now.weight < 2 ^ 64) counts.old (first_leaf self.now depth start) (first_leaf self.now depth end) }
+        ensures { AddsWithin (λ leaf. contains rest.now.items.now (drop depth (slice_index_or self.now leaf []))) rest.now.weight
             (first_leaf self.now depth start) (first_leaf self.now depth end) counts.old counts.new }
     {
         let nodes = &self.inner[depth];
+        let marks = rest.marks;
         for node in start..end {
-            if rest.marks[nodes.items[node] as usize] {
+            if marks[nodes.items[node] as usize] {
                 let (first, behind) = (nodes.firsts[node], nodes.firsts[node + 1]);
                 self.walk(depth + 1, first, behind, rest, counts);
             }
@@ -194,14 +198,14 @@ impl<'a> CandidateTree<'a> {
     /// among the items, as the marks tell too of each item of those sets that they know. An item is
     /// looked for behind the last that was found.
     #[cycle(walk)]
-    fn walk(&self, depth: usize, start: usize, end: usize, rest: Rest<'_>, counts: &mut [u64])
+    fn walk(&self, depth: usize, start: usize, end: usize, rest: &Rest<'_>, counts: &mut [u64])
         requires deep { depth ≤ leaf_depth self.now }
         requires run { IsRun self.now depth start end }
-        requires rising { IsRising rest.items.now }
-        requires marks { AreTold self.now depth start end rest.items.now rest.marks.now }
+        requires rising { IsRising rest.now.items.now }
+        requires marks { AreTold self.now depth start end rest.now.items.now rest.now.marks.now }
         requires long { length counts.old ≡ length self.now }
-        requires fits { AllWithin (λ count. count + rest.weight < 2 ^ 64) counts.old (first_leaf self.now depth start) (first_leaf self.now depth end) }
-        ensures { AddsWithin (λ leaf. contains rest.entry.items.now (drop depth (slice_index_or self.now leaf []))) rest.entry.weight
+        requires fits { AllWithin (λ count. count + rest.now.weight < 2 ^ 64) counts.old (first_leaf self.now depth start) (first_leaf self.now depth end) }
+        ensures { AddsWithin (λ leaf. contains rest.now.items.now (drop depth (slice_index_or self.now leaf []))) rest.now.weight
             (first_leaf self.now depth start) (first_leaf self.now depth end) counts.old counts.new }
     {
         let Some(nodes) = self.inner.get(depth) else {
@@ -228,7 +232,7 @@ impl<'a> CandidateTree<'a> {
                     let node = from + found;
                     let (first, behind) = (nodes.firsts[node], nodes.firsts[node + 1]);
                     let items = &rest.items[place + 1..];
-                    self.walk(depth + 1, first, behind, Rest { items, ..rest }, counts);
+                    self.walk(depth + 1, first, behind, &Rest { items, ..*rest }, counts);
                     from = node + 1;
                 }
                 Err(passed) => from += passed,
