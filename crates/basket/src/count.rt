@@ -55,7 +55,7 @@ pub fn run_count<R: RandomSource + Threads + Sync, S: Source, T: Source, W: Sink
         Ok(made) => made,
         Err(fault) => return Err(fault),
     };
-    made.write(writer)?;
+    made.write(rt, writer)?;
     Ok(())
 }
 
@@ -93,12 +93,11 @@ fn counted<R: RandomSource + Threads + Sync>(
     ensures { let answer = counts_in plan.now.layout (asked_of sets.items) contents in
         MatchResult result (λ made. answer ≡ Ok (made_text made)) (IsCountsFault answer) }
 {
-    let separator = plan.layout().separator;
     match contents {
         Contents::Baskets(database, names) => {
             let cutting = Cutting::new(plan.workers(), plan.pieces());
             let counted = count_sets(rt, alloc, &database, sets, cutting, &Open)?;
-            Ok(listed(alloc, &counted, &names, separator)?)
+            Ok(listed(alloc, &counted, &names, plan)?)
         }
         Contents::Counts(together, names) => {
             let asked = asked_for(rt, alloc, sets)?;
@@ -106,7 +105,7 @@ fn counted<R: RandomSource + Threads + Sync>(
                 Ok(counted) => counted,
                 Err(fault) => return Err(fault),
             };
-            Ok(listed(alloc, &counted, &names, separator)?)
+            Ok(listed(alloc, &counted, &names, plan)?)
         }
     }
 }
@@ -116,12 +115,13 @@ fn listed(
     alloc: Global,
     counted: &[Counted],
     names: &Option<Names>,
-    separator: u8,
+    plan: &CountPlan,
 ) -> Result<Made, AllocError>
-    ensures { IfOk result (λ made. made_text made ≡ report_of (wording_with separator names.now) counted.now) }
+    ensures { IfOk result (λ made. made_text made ≡ report_of (wording_with plan.now.layout.separator names.now) counted.now) }
 {
     let list = CountedSets::of_sets(alloc, counted)?;
-    Made::of_sets(alloc, list, style_of(names, separator))
+    let style = style_of(names, plan.layout().separator);
+    Made::of_sets(alloc, list, style, plan.workers())
 }
 
 /// The sets with the sums of their counts, or the first that has none.

@@ -71,17 +71,18 @@ pub fn report_listing(
 {
     let style = style_of(names, plan.layout().separator);
     let limit = plan.limit();
+    let workers = plan.workers();
     if let Ask::Items = plan.ask() {
         let items = single_items(alloc, frequent.sets())?;
-        return Ok(Made::of_sets(alloc, items, style)?);
+        return Ok(Made::of_sets(alloc, items, style, workers)?);
     }
     if frequent.sets().len() > limit as usize {
         return Err(MineFault::TooMany { limit });
     }
     Ok(match plan.ask() {
-        Ask::Items | Ask::Sets => Made::of_sets(alloc, frequent.into_sets(), style)?,
-        Ask::Closed => Made::of_closed(alloc, frequent, style)?,
-        Ask::Maximal => Made::of_maximal(alloc, frequent, style)?,
+        Ask::Items | Ask::Sets => Made::of_sets(alloc, frequent.into_sets(), style, workers)?,
+        Ask::Closed => Made::of_closed(alloc, frequent, style, workers)?,
+        Ask::Maximal => Made::of_maximal(alloc, frequent, style, workers)?,
         Ask::Rules(confidence) => {
             let frequent = frequent.unpacked(alloc)?;
             Made::Text(rules_report(alloc, &frequent, confidence, style)?)

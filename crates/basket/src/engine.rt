@@ -61,7 +61,7 @@ pub fn run<R: RandomSource + Threads + Sync, S: Source, W: Sink>(
         Ok(made) => made,
         Err(fault) => return Err(fault),
     };
-    made.write(writer)?;
+    made.write(rt, writer)?;
     Ok(())
 }
 
@@ -131,6 +131,7 @@ fn report_baskets<R: Threads + Sync>(
     ensures err { (fault : MiningFault) → result ≡ Err fault → fault ≢ MineFault.Memory → outcome_for (OfBaskets database names.now) plan.now.question ≡ Err fault }
 {
     let style = style_of(names, plan.layout().separator);
+    let workers = plan.workers();
     match plan.ask() {
         Ask::Items => {
             let counts = count_shared(rt, alloc, database.baskets(), cutting(plan), &Open)?;
@@ -139,15 +140,15 @@ fn report_baskets<R: Threads + Sync>(
         }
         Ask::Sets => {
             let (frequent, _) = mine_in_place(rt, alloc, database, plan, &Open)?;
-            Ok(Made::of_sets(alloc, frequent.into_sets(), style)?)
+            Ok(Made::of_sets(alloc, frequent.into_sets(), style, workers)?)
         }
         Ask::Closed => {
             let (frequent, _) = mine_in_place(rt, alloc, database, plan, &Open)?;
-            Ok(Made::of_closed(alloc, frequent, style)?)
+            Ok(Made::of_closed(alloc, frequent, style, workers)?)
         }
         Ask::Maximal => {
             let (frequent, _) = mine_in_place(rt, alloc, database, plan, &Open)?;
-            Ok(Made::of_maximal(alloc, frequent, style)?)
+            Ok(Made::of_maximal(alloc, frequent, style, workers)?)
         }
         Ask::Rules(confidence) => {
             let (frequent, _) = mine_in_place(rt, alloc, database, plan, &Open)?;

@@ -15,6 +15,7 @@ use basket_core::{CountedSets, Failed, Frequent, MemSink, Sink};
 use basket_report::{SetLines, Style, sets_report, write_bytes};
 use basket_rules::{closed, maximal};
 use std::alloc::{AllocError, Global};
+use std::thread::Threads;
 
 /// A report: its text, or the sets whose lines are made while they are written.
 #[derive(Drop)]
@@ -24,13 +25,18 @@ pub enum Made {
 }
 
 impl Made {
-    /// The report of the sets.
-    pub fn of_sets(alloc: Global, sets: CountedSets, style: Style<'_>) -> Result<Self, AllocError>
+    /// The report of the sets, whose lines so many workers will make.
+    pub fn of_sets(
+        alloc: Global,
+        sets: CountedSets,
+        style: Style<'_>,
+        workers: u32,
+    ) -> Result<Self, AllocError>
         ensures { IfOk result (λ made. made_text made ≡ report_of (wording_of style.entry) sets) }
     {
         match style {
             Style::Numbers => {
-                let lines = SetLines::new(alloc, &sets)?;
+                let lines = SetLines::new(alloc, &sets, workers)?;
                 Ok(Made::Sets(sets, lines))
             }
             Style::Names { .. } => Ok(Made::Text(sets_report(alloc, &sets, style)?)),
@@ -42,12 +48,13 @@ impl Made {
         alloc: Global,
         frequent: Frequent,
         style: Style<'_>,
+        workers: u32,
     ) -> Result<Self, AllocError>
         ensures lists { IfOk result (λ made. IsConsistent frequent.sets → made_text made ≡ report_of (wording_of style.entry) (closed_in frequent.sets)) }
         ensures baskets { IfOk result (λ made. (baskets : List Basket) (minimum : Bound) → IsListingOf baskets minimum frequent
             → made_text made ≡ report_of (wording_of style.entry) (closed_of baskets minimum)) }
     {
-        Made::of_sets(alloc, closed(alloc, &frequent)?, style)
+        Made::of_sets(alloc, closed(alloc, &frequent)?, style, workers)
     }
 
     /// The report of those of the frequent sets that are maximal.
@@ -55,17 +62,18 @@ impl Made {
         alloc: Global,
         frequent: Frequent,
         style: Style<'_>,
+        workers: u32,
     ) -> Result<Self, AllocError>
         ensures lists { IfOk result (λ made. IsConsistent frequent.sets → made_text made ≡ report_of (wording_of style.entry) (maximal_in frequent.sets)) }
         ensures baskets { IfOk result (λ made. (baskets : List Basket) (minimum : Bound) → IsListingOf baskets minimum frequent
             → made_text made ≡ report_of (wording_of style.entry) (maximal_of baskets minimum)) }
     {
-        Made::of_sets(alloc, maximal(alloc, &frequent)?, style)
+        Made::of_sets(alloc, maximal(alloc, &frequent)?, style, workers)
     }
 
     /// Writes the report to its end and flushes. Where the sink fails, it has taken a front of it, and
     /// all of it where the flush alone failed.
-    pub fn write<W: Sink>(self, writer: &mut W) -> Result<(), Failed>
+    pub fn write<R: Threads + Sync, W: Sink>(self, rt: &R, writer: &mut W) -> Result<(), Failed>
         requires { W.has_failed writer.old ≡ false }
         ensures ok { OnOk result (Appends (W.taken writer.old) (W.taken writer.new) (made_text self)) }
         ensures err { OnErr result (TakesFront (W.taken writer.old) (W.taken writer.new) (made_text self)) }
@@ -75,19 +83,23 @@ impl Made {
     {
         match self {
             Made::Text(text) => write_all(writer, &text),
-            Made::Sets(sets, mut lines) => lines.write(&sets, writer),
+            Made::Sets(sets, mut lines) => lines.write(rt, &sets, writer),
         }
     }
 
     /// The text of the report.
-    pub fn into_text(self, alloc: Global) -> Result<Vec<u8>, AllocError>
+    pub fn into_text<R: Threads + Sync>(
+        self,
+        rt: &R,
+        alloc: Global,
+    ) -> Result<Vec<u8>, AllocError>
         ensures { IfOk result (λ text. text.items ≡ made_text self) }
     {
         match self {
             Made::Text(text) => Ok(text),
             Made::Sets(sets, mut lines) => {
                 let mut sink = MemSink::unbounded(alloc);
-                match lines.write(&sets, &mut sink) {
+                match lines.write(rt, &sets, &mut sink) {
                     Ok(()) => Ok(sink.into_bytes()),
                     Err(_) => Err(AllocError),
                 }

@@ -26,5 +26,5 @@ pub fn report<R: RandomSource + Threads + Sync>(
         Ok(made) => made,
         Err(fault) => return Err(fault),
     };
-    Ok(made.into_text(alloc)?)
+    Ok(made.into_text(rt, alloc)?)
 }

@@ -1,10 +1,11 @@
 //! How long the stages take, so many times over, by the calls that the program makes.
 use anyhow::Context;
 use basket::{Open, Plan, SliceSource, mine};
-use basket_core::{Coded, Database, Frequent};
+use basket_core::{Coded, Database, Frequent, StdSink};
 use basket_read::read_fimi_shared;
-use basket_report::{Style, sets_report};
+use basket_report::SetLines;
 use mine_phases::{Cutting, count_shared, runs_shared};
+use std::io::sink;
 use std::thread::Threads;
 use std::time::{Duration, Instant};
 
@@ -87,16 +88,21 @@ pub fn timed_miner<R: Threads + Sync>(
     Ok(times)
 }
 
-/// From the list to its text.
-pub fn timed_report(
+/// From the list to the lines, which nobody takes.
+pub fn timed_report<R: Threads + Sync>(
     rt: &HostRuntime,
+    threads: &R,
     frequent: &Frequent,
+    workers: u32,
     runs: u32,
 ) -> anyhow::Result<Vec<Duration>> {
     let mut times = Vec::new(rt.alloc());
     for _ in 0..runs {
         let start = Instant::now(rt)?;
-        let _report = sets_report(rt.alloc(), frequent.sets(), Style::Numbers)?;
+        let sets = frequent.sets();
+        let mut lines = SetLines::new(rt.alloc(), sets, workers)?;
+        let written = lines.write(threads, sets, &mut StdSink::new(sink()));
+        written.context("the report was not written")?;
         times.push(start.elapsed(rt)?)?;
     }
     Ok(times)
