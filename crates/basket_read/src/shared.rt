@@ -38,7 +38,7 @@ pub fn read_fimi_shared<R: Threads + Sync, S: Source>(
     let mut buffer = vec![in alloc; 0u8; BLOCK]?;
     let mut input = Input::new(alloc);
     read_batches(rt, alloc, reader, &mut buffer, &mut input, workers)?;
-    input.finish()
+    input.into_baskets()
 }
 
 /// Reads a FIMI input to its end and counts its items, as `count_fimi` does. So many workers read.
