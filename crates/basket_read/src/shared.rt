@@ -6,11 +6,11 @@ ghost use Rattle.basket_read.specs.Text.{Answers};
 ghost use Rattle.basket_read.specs.ItemCounts.{AreLightCounts, Counts};
 ghost use Rattle.basket_read.specs.Read.{FailsAfter};
 
-use crate::batches::read_batches;
+use crate::batches::{SHARE, read_batches};
 use crate::fault::ReadFault;
 use crate::input::Input;
 use crate::item_counts::{ItemCounts, ItemParts};
-use crate::read::{BLOCK, count_fimi, read_fimi};
+use crate::read::{count_fimi, read_fimi};
 use basket_sets::Database;
 use basket_stream::Source;
 use std::alloc::Global;
@@ -35,7 +35,7 @@ pub fn read_fimi_shared<R: Threads + Sync, S: Source>(
     if workers < 2 {
         return read_fimi(alloc, reader);
     }
-    let mut buffer = vec![in alloc; 0u8; BLOCK]?;
+    let mut buffer = vec![in alloc; 0u8; workers as usize * SHARE]?;
     let mut input = Input::new(alloc);
     read_batches(rt, alloc, reader, &mut buffer, &mut input, workers)?;
     input.into_baskets()
@@ -62,7 +62,7 @@ pub fn count_fimi_shared<R: Threads + Sync, S: Source>(
     if workers < 2 {
         return count_fimi(alloc, reader);
     }
-    let mut buffer = vec![in alloc; 0u8; BLOCK]?;
+    let mut buffer = vec![in alloc; 0u8; workers as usize * SHARE]?;
     let mut parts = ItemParts::new(alloc);
     read_batches(rt, alloc, reader, &mut buffer, &mut parts, workers)?;
     parts.finish()
