@@ -126,8 +126,7 @@ pub texts_joined : (text other new : Text) (past behind : List Weighted) (bytes 
 texts_joined text other new past behind bytes more t whole o lines line (now, same, counted, baskets) =
     let a = (cut_at is_line_feed bytes).ended in
     let k = cut_at is_line_feed more in
-    let joined = cut_behind bytes whole more in
-    (
+    let joined = cut_behind bytes whole more in (
       now,
       same,
       record {

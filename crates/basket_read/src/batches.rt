@@ -11,9 +11,6 @@ use basket_stream::Source;
 use std::alloc::Global;
 use std::thread::Threads;
 
-/// A batch has so many bytes for each worker.
-pub const SHARE: usize = 2_097_152;
-
 /// What an input is read into by several workers.
 pub trait Batched {
     // It has read these bytes, which have no fault that is settled.

@@ -1,4 +1,4 @@
-use Rattle.std.proofs.Common.{◌≡◌, ◌++◌, length-append, take, ap, ◌∙◌, arith, Err, unwrap_or}
+use Rattle.std.proofs.Common.{◌++◌, length-append, take, ap, ◌∙◌, arith, Err, unwrap_or}
 use Rattle.std.proofs.lemmas.List.{length-take}
 use Rattle.std.proofs.lemmas.Result.{err_from_is_err_and}
 use Rattle.basket_read.specs.declared.fault.ReadFault.TheVariants.{Read}

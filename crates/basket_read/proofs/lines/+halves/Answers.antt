@@ -43,8 +43,7 @@ feed_shared-append-requires g t c =
     let rest = c.split_at.result.1.now in
     let r = subst (ReadsRest c.args.counting rest) c.in-Ok.is c.feed_halves-text.ensures.rest in
     ∥∥₁_map c.requires (λ w.
-    let f = subst (Reads c.args.counting w.0 (w.1 ++ front)) c.in_ok-text.was (c.feed_halves-text.ensures.front w.0 w.1 w.2) in
-    (
+    let f = subst (Reads c.args.counting w.0 (w.1 ++ front)) c.in_ok-text.was (c.feed_halves-text.ensures.front w.0 w.1 w.2) in (
       f.0,
       r.0,
       w.1 ++ front,
