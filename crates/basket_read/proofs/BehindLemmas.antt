@@ -1,14 +1,16 @@
 -- A text behind whole lines.
-use Rattle.std.proofs.Common.{◌≡◌, ℕ, ◌+◌, Bool, true, ◌&&◌, List, [], ◌∷◌, ◌++◌, length, cond, fold, Option, Some, None, refl, sym, ap, ◌∙◌, subst, append_assoc, arith, ◌≤◌, false}
+use Rattle.std.proofs.Common.{◌≡◌, ℕ, ◌+◌, Bool, true, ◌&&◌, List, [], ◌∷◌, ◌++◌, length, cond, fold, Option, Some, None, refl, sym, ap, ◌∙◌, subst, append_assoc, arith, ◌≤◌, false, ◌⊎◌, inl, inr}
 use Rattle.std.specs.List.{list_all, flat_map}
 use Rattle.std.specs.Option.{option_map}
 use Rattle.std.proofs.lemmas.Bool.{and_parts}
 use Rattle.std.proofs.lemmas.Grind.{flat_map-append}
 use Rattle.std.proofs.lemmas.List.{append-nil, length-append}
 use Rattle.std.proofs.lemmas.List.Folds.{list_all-append}
-use Rattle.std.proofs.lemmas.List.Sums.{fold-append}
+use Rattle.std.proofs.lemmas.List.Sums.{fold-append, sum_by-append}
 use Rattle.basket_sets.specs.declared.weighted.Weighted.{Weighted}
-use Rattle.basket_sets.specs.Database.{MOST_BASKETS}
+use Rattle.basket_sets.specs.Database.{MOST_BASKETS, MOST_WEIGHT}
+use Rattle.basket_sets.specs.ItemTable.{HasCounted, Tabled}
+use Rattle.basket_sets.specs.Support.{total_of, weight_at}
 use Rattle.basket_sets.specs.Number.{is_digit}
 use Rattle.basket_read.specs.declared.fault.ReadFault.{ReadFault}
 use Rattle.basket_read.specs.declared.fault.ReadFault.TheVariants.{Byte, Number}
@@ -16,7 +18,7 @@ use Rattle.basket_read.specs.declared.text.Text.{Text}
 use Rattle.basket_read.specs.Cut.{Cut, cut_at, cut_more}
 use Rattle.basket_read.specs.Fimi.{is_line_feed, is_line, is_good, basket_of, baskets_of, line_after, fault_at, fault_after, first_fault, or_else, MOST_BYTES}
 use Rattle.basket_read.specs.Line.{line_state, line_at}
-use Rattle.basket_read.specs.Text.{HasBaskets, IsTextSoFar, HasRoomFor}
+use Rattle.basket_read.specs.Text.{HasBaskets, HasJoined, IsTextSoFar, HasRoomFor}
 use Rattle.basket_read.specs.Laws.{counted_on, LinesSayTheirs}
 use Rattle.basket_read.proofs.CutLemmas.{cut}
 use Rattle.basket_read.proofs.RoomLemmas.{merely_at_most, ended_after, baskets_after}
@@ -117,35 +119,61 @@ lines_say_theirs front rest whole = record {
 
 -- ---- two texts that were read
 
-pub texts_joined : (text other new : Text) (past : List Weighted) (bytes more : List ℕ) → IsTextSoFar text past bytes → (cut_at is_line_feed bytes).last ≡ [] → IsTextSoFar other [] more
-    → new.lines ≡ text.lines + other.lines → new.past_weight ≡ text.past_weight → line_state new.line ≡ line_state other.line
-    → HasBaskets new.heavy (past ++ new.baskets) (flat_map basket_of (cut_at is_line_feed bytes).ended ++ flat_map basket_of (cut_at is_line_feed more).ended)
-    → IsTextSoFar new past (bytes ++ more)
-texts_joined text other new past bytes more t whole o lines weight line baskets =
+pub texts_joined : (text other new : Text) (past behind : List Weighted) (bytes more : List ℕ) → IsTextSoFar text past bytes → (cut_at is_line_feed bytes).last ≡ [] → IsTextSoFar other behind more
+    → new.lines ≡ text.lines + other.lines → line_state new.line ≡ line_state other.line
+    → HasJoined past behind new.table new.heavy new.baskets (flat_map basket_of (cut_at is_line_feed bytes).ended ++ flat_map basket_of (cut_at is_line_feed more).ended)
+    → (now : List Weighted) × (behind ≡ [] → now ≡ past) × IsTextSoFar new now (bytes ++ more)
+texts_joined text other new past behind bytes more t whole o lines line (now, same, counted, baskets) =
     let a = (cut_at is_line_feed bytes).ended in
     let k = cut_at is_line_feed more in
-    let joined = cut_behind bytes whole more in
-    record {
-      faultless =
-          (lines_say_theirs bytes more whole).fault
-          ∙ (λ i. or_else (t.faultless i) (option_map (counted_on (length a)) (o.faultless i)));
-      lines = let sum = length-append a k.ended in let same = ap (λ (j : Cut). length j.ended) joined in omega (arith, lines, t.lines, o.lines, sum, same);
-      baskets = subst (HasBaskets new.heavy (past ++ new.baskets)) (sym (flat_map-append basket_of a k.ended) ∙ ap (λ (j : Cut). flat_map basket_of j.ended) (sym joined)) baskets;
-      past_weight = weight ∙ t.past_weight;
-      line = line ∙ o.line ∙ ap (λ (j : Cut). line_at j.last) (sym joined);
-    }
+    let joined = cut_behind bytes whole more in (
+      now,
+      same,
+      record {
+        faultless =
+            (lines_say_theirs bytes more whole).fault
+            ∙ (λ i. or_else (t.faultless i) (option_map (counted_on (length a)) (o.faultless i)));
+        lines = let sum = length-append a k.ended in let same_lines = ap (λ (j : Cut). length j.ended) joined in omega (arith, lines, t.lines, o.lines, sum, same_lines);
+        baskets = subst (HasBaskets new.heavy (now ++ new.baskets)) (sym (flat_map-append basket_of a k.ended) ∙ ap (λ (j : Cut). flat_map basket_of j.ended) (sym joined)) baskets;
+        counted = counted;
+        line = line ∙ o.line ∙ ap (λ (j : Cut). line_at j.last) (sym joined);
+      },
+    )
+
+-- where no baskets are kept, or none behind them were counted, the counted ones stand before the others
+pub baskets_joined : (past kept behind baskets before more : List Weighted) → past ++ kept ≡ before → behind ++ baskets ≡ more → (kept ≡ []) ⊎ (behind ≡ [])
+    → (past ++ behind) ++ (kept ++ baskets) ≡ before ++ more
+baskets_joined past kept behind baskets before more e f (inl none) =
+    ap (λ l. (past ++ behind) ++ (l ++ baskets)) none ∙ append_assoc past behind baskets ∙ (λ i. (sym (append-nil past) ∙ ap (λ l. past ++ l) (sym none) ∙ e) i ++ f i)
+baskets_joined past kept behind baskets before more e f (inr none) =
+    ap (λ l. (past ++ l) ++ (kept ++ baskets)) none ∙ ap (λ l. l ++ (kept ++ baskets)) (append-nil past) ∙ sym (append_assoc past kept baskets)
+    ∙ (λ i. e i ++ (ap (λ l. l ++ baskets) (sym none) ∙ f) i)
+
+pub light_joined : (past kept behind baskets before more all : List Weighted) (table : Tabled) → HasBaskets false (past ++ kept) before → HasBaskets false (behind ++ baskets) more
+    → total_of past + total_of kept + (total_of behind + total_of baskets) ≤ MOST_WEIGHT → HasCounted table (past ++ behind) → all ≡ kept ++ baskets → (kept ≡ []) ⊎ (behind ≡ [])
+    → HasJoined past behind table false all (before ++ more)
+light_joined past kept behind baskets before more all table h k light counted is joins = (
+  past ++ behind,
+  λ none. ap (λ l. past ++ l) none ∙ append-nil past,
+  counted,
+  (
+    ap (λ l. (past ++ behind) ++ l) is ∙ baskets_joined past kept behind baskets before more h.0 k.0 joins,
+    let a = sum_by-append (weight_at []) past kept in let b = sum_by-append (weight_at []) behind baskets in let both = sum_by-append (weight_at []) before more in
+        let e = ap total_of h.0 in let f = ap total_of k.0 in omega arith,
+  ),
+)
 
 -- of so few bytes they have few lines and few baskets together
 pub few_joined : (text other : Text) → HasRoomFor text other → text.lines + other.lines ≤ MOST_BYTES
 few_joined text other room =
     merely_at_most (text.lines + other.lines) MOST_BYTES room
-    (λ w. let t = w.3.lines in let o = w.4.lines in let a = ended_after is_line_feed (cut [] []) w.1 in let b = ended_after is_line_feed (cut [] []) w.2 in let small = w.5 in omega arith)
+    (λ w. let t = w.4.lines in let o = w.5.lines in let a = ended_after is_line_feed (cut [] []) w.2 in let b = ended_after is_line_feed (cut [] []) w.3 in let small = w.6 in omega arith)
 
 pub few_baskets_joined : (text other : Text) → HasRoomFor text other → text.heavy ≡ false → other.heavy ≡ false → length text.baskets + length other.baskets ≤ MOST_BASKETS
 few_baskets_joined text other room light light_other =
     merely_at_most (length text.baskets + length other.baskets) MOST_BASKETS room
     (λ w.
-    let same = subst (λ b. HasBaskets b (w.0 ++ text.baskets) (flat_map basket_of (cut_at is_line_feed w.1).ended)) light w.3.baskets in
-    let also = subst (λ b. HasBaskets b other.baskets (flat_map basket_of (cut_at is_line_feed w.2).ended)) light_other w.4.baskets in
-    let few = baskets_after (cut [] []) w.1 in let few_other = baskets_after (cut [] []) w.2 in let small = w.5 in
-    let long = ap length same.0 in let long_other = ap length also.0 in let parts = length-append w.0 text.baskets in omega arith)
+    let same = subst (λ b. HasBaskets b (w.0 ++ text.baskets) (flat_map basket_of (cut_at is_line_feed w.2).ended)) light w.4.baskets in
+    let also = subst (λ b. HasBaskets b (w.1 ++ other.baskets) (flat_map basket_of (cut_at is_line_feed w.3).ended)) light_other w.5.baskets in
+    let few = baskets_after (cut [] []) w.2 in let few_other = baskets_after (cut [] []) w.3 in let small = w.6 in
+    let long = ap length same.0 in let long_other = ap length also.0 in let parts = length-append w.0 text.baskets in let parts_other = length-append w.1 other.baskets in omega arith)

@@ -179,15 +179,15 @@ module _ (input : Input) (past : List Weighted) (bytes : List ℕ) (r : IsInputS
       (record { front = at; taken = refl; few = omega arith; text = t })
 
   -- behind the front the text goes on
-  pub with_text : (text : Text) (piece : List ℕ) → input.front ≡ Decided → length bytes + length piece ≤ MOST_BYTES → IsTextSoFar text past (text_of bytes ++ piece)
-      → IsInputSoFar (record { front = input.front; taken = input.taken + length piece; text = text }) past (bytes ++ piece)
-  with_text text piece e few t =
+  pub with_text : (text : Text) (now : List Weighted) (piece : List ℕ) → input.front ≡ Decided → length bytes + length piece ≤ MOST_BYTES → IsTextSoFar text now (text_of bytes ++ piece)
+      → IsInputSoFar (record { front = input.front; taken = input.taken + length piece; text = text }) now (bytes ++ piece)
+  with_text text now piece e few t =
       let h = (at_front Decided e).0 in
       record {
         front = subst (λ f. IsFront f (bytes ++ piece)) (sym e) (decided-append bytes piece h).1;
         taken = ap (λ n. n + length piece) r.taken ∙ sym (length-append bytes piece);
         few = let sum = length-append bytes piece in omega arith;
-        text = subst (λ f. IsTextSoFar text past (text_behind f (bytes ++ piece))) (sym e) (subst (IsTextSoFar text past) (sym (decided-append bytes piece h).0) t);
+        text = subst (λ f. IsTextSoFar text now (text_behind f (bytes ++ piece))) (sym e) (subst (IsTextSoFar text now) (sym (decided-append bytes piece h).0) t);
       }
 
   -- the fault of a text behind the front is that of the input

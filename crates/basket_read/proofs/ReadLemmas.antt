@@ -108,6 +108,10 @@ fails_after (Some all) None new given fault p kept is = absurd p
 fails_after (Some all) (Some rest) None given fault p kept is = absurd kept
 fails_after (Some all) (Some rest) (Some left) given fault p kept is = (given, p ∙ ap (λ l. given ++ l) (sym kept), is)
 
+keeps_all : (left : Option (List ℕ)) → Keeps left left
+keeps_all None = tt
+keeps_all (Some rest) = refl
+
 -- the baskets that an input says are light
 light_answer : (found : Option ReadFault) (all baskets : List Weighted) → answer_of found all ≡ Ok baskets → total_of baskets ≤ MOST_WEIGHT
 light_answer (Some fault) all baskets e = absurd cc
@@ -134,27 +138,27 @@ stops_memory old new failed working = record {
   read_is_failed = λ e. absurd cc;
 }
 
--- at a fault in the bytes that a reader gave
-pub stops_fault : (old new : Option (List ℕ)) (failed : Bool) (given : List ℕ) (fault : ReadFault) → failed ≡ false → Consumes old new given → Tells fault (settled_fault given)
+-- what was found before it failed
+pub told_fault : (given : List ℕ) (fault : ReadFault) → Tells fault (settled_fault given) → fault ≢ Memory → fault ≡ unwrap_or (fault_in given) Read
+told_fault given fault told no_memory = ap (λ f. unwrap_or f Read) (sym (fault-settled given fault (told no_memory)))
+
+-- at a fault in the bytes that a reader gave, whether it failed behind them or not
+pub stops_fault : (old new : Option (List ℕ)) (failed : Bool) (given : List ℕ) (fault : ReadFault) → Consumes old new given → Tells fault (settled_fault given)
     → Stops old new failed fault
-stops_fault old new failed given fault working p told = record {
+stops_fault old new failed given fault p told = record {
   exact = λ _. refused_answer old new given fault (Err fault) refl p told;
-  fails = unlike failed working;
+  fails = λ _. fails_after old new new given fault p (keeps_all new) (told_fault given fault told);
   read_is_failed = λ e. absurd (not_settled given (subst (λ f. Tells f (settled_fault given)) e told (λ m. absurd cc)));
 }
 
 -- where the reader failed
-pub stops_failed : (old now new : Option (List ℕ)) (failed : Bool) (given : List ℕ) (fault : ReadFault) → failed ≡ true → Consumes old now given → Keeps now new
+pub stops_failed : (old new : Option (List ℕ)) (failed : Bool) (given : List ℕ) (fault : ReadFault) → failed ≡ true → Consumes old new given
     → (fault ≢ Memory → fault ≡ unwrap_or (fault_in given) Read) → Stops old new failed fault
-stops_failed old now new failed given fault broken p kept is = record {
+stops_failed old new failed given fault broken p is = record {
   exact = λ working. unlike failed working broken;
-  fails = λ _. fails_after old now new given fault p kept is;
+  fails = λ _. fails_after old new new given fault p (keeps_all new) is;
   read_is_failed = λ _. broken;
 }
-
--- what was found before it failed
-pub told_fault : (given : List ℕ) (fault : ReadFault) → Tells fault (settled_fault given) → fault ≢ Memory → fault ≡ unwrap_or (fault_in given) Read
-told_fault given fault told no_memory = ap (λ f. unwrap_or f Read) (sym (fault-settled given fault (told no_memory)))
 
 -- of a result that may be well
 pub if_err : {A : Type 0} (result : Result A ReadFault) (P : A → Type 0) (Q R : ReadFault → Type 0) → MatchResult result P Q → ((fault : ReadFault) → Q fault → R fault) → IfErr result R

@@ -30,13 +30,18 @@ merely_at_most a b h f = elim (cases_lt b a) [
 ]
 
 -- what the baskets that are past and those that are kept weigh together
-pub light_together : (text : Text) (past : List Weighted) (bytes : List ℕ) → IsTextSoFar text past bytes → text.heavy ≡ false
+light_together : (text : Text) (past : List Weighted) (bytes : List ℕ) → IsTextSoFar text past bytes → text.heavy ≡ false
     → total_of past + total_of text.baskets ≤ MOST_WEIGHT
 light_together text past bytes t light =
     let same = subst (λ b. HasBaskets b (past ++ text.baskets) (flat_map basket_of (cut_at is_line_feed bytes).ended)) light t.baskets in
     let sum = sum_by-append (weight_at []) past text.baskets in
     let whole = ap total_of same.0 in
     omega (arith, same.1)
+
+pub light_table : (text : Text) (more : ℕ) → HasRoom text more → text.heavy ≡ false → text.table.total + total_of text.baskets ≤ MOST_WEIGHT
+light_table text more room light =
+    merely_at_most (text.table.total + total_of text.baskets) MOST_WEIGHT room
+    (λ w. let together = light_together text w.0 w.1 w.2 light in omega (arith, w.2.counted.total))
 
 -- a separator for each part that has ended
 pub ended_after : (p : ℕ → Bool) (c : Cut) (xs : List ℕ) → length (fold (cut_more p) c xs).ended ≤ length c.ended + length xs
@@ -89,9 +94,9 @@ few_baskets text more room light =
 
 -- after a part of a piece there is room for its rest
 pub room_after : (text new : Text) (before : List ℕ) (more : ℕ) (all : ℕ) → length before + more ≤ all → HasRoom text all
-    → ((past : List Weighted) (bytes : List ℕ) → IsTextSoFar text past bytes → IsTextSoFar new past (bytes ++ before)) → HasRoom new more
+    → ((past : List Weighted) (bytes : List ℕ) → IsTextSoFar text past bytes → (now : List Weighted) × IsTextSoFar new now (bytes ++ before)) → HasRoom new more
 room_after text new before more all few room step =
-    ∥∥₁_map room (λ w. (w.0, w.1 ++ before, step w.0 w.1 w.2, let sum = length-append w.1 before in let small = w.3 in omega arith))
+    ∥∥₁_map room (λ w. let new_text = step w.0 w.1 w.2 in (new_text.0, w.1 ++ before, new_text.1, let sum = length-append w.1 before in let small = w.3 in omega arith))
 
 -- a set of some numbers is not empty
 pub rising_nonempty : (numbers : List ℕ) → numbers ≢ [] → rising numbers ≢ []

@@ -270,6 +270,6 @@ text_goes_on text past bytes run line t goes_on =
           ∙ all_push is_line k.ended (k.last ++ run) ∙ and_from (list_all is_line k.ended) (is_line (k.last ++ run)) lines.0 s.good);
       lines = t.lines ∙ ap (λ (j : Cut). length j.ended) (sym joined);
       baskets = subst (λ (j : Cut). HasBaskets text.heavy (past ++ text.baskets) (flat_map basket_of j.ended)) (sym joined) t.baskets;
-      past_weight = t.past_weight;
+      counted = t.counted;
       line = s.state ∙ ap (λ (j : Cut). line_at j.last) (sym joined);
     }

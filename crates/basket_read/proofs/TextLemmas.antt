@@ -8,6 +8,7 @@ use Rattle.std.proofs.lemmas.Grind.{flat_map-append}
 use Rattle.basket_sets.specs.declared.weighted.Weighted.{Weighted}
 use Rattle.basket_sets.specs.Number.{is_digit}
 use Rattle.basket_sets.specs.Database.{MOST_WEIGHT}
+use Rattle.basket_sets.specs.ItemTable.{HasCounted}
 use Rattle.basket_sets.specs.Support.{total_of}
 use Rattle.basket_read.specs.declared.fault.ReadFault.{ReadFault}
 use Rattle.basket_read.specs.declared.fault.ReadFault.TheVariants.{Byte, Number, Heavy}
@@ -16,7 +17,7 @@ use Rattle.basket_read.specs.declared.text.Text.{Text}
 use Rattle.basket_read.specs.Cut.{Cut, cut_at}
 use Rattle.basket_read.specs.Fimi.{is_blank, is_times, is_line_feed, is_line, is_good, basket_of, basket_of_numbers, baskets_of, line_after, fault_at, fault_after, first_fault, or_else, if_light}
 use Rattle.basket_read.specs.Line.{line_state, line_at, digit_added, blank_added, times_added}
-use Rattle.basket_read.specs.Text.{HasBaskets, IsTextSoFar, Tells}
+use Rattle.basket_read.specs.Text.{GoesOn, HasBaskets, IsTextSoFar, Tells}
 use Rattle.basket_read.proofs.CutLemmas.{cut_ended, cut_joined}
 use Rattle.basket_read.proofs.LineLemmas.{all_push, digit_is_no_other, blank_is_no_other, times_is_no_other, line_digit, line_blank, line_times, line_other, line_numbers, line_weight}
 
@@ -119,7 +120,7 @@ module _ (text : Text) (past : List Weighted) (bytes : List ℕ) (t : IsTextSoFa
         faultless = no_fault_here bytes t.faultless byte e good;
         lines = t.lines ∙ ap (λ (k : Cut). length k.ended) (sym joined);
         baskets = subst (λ (k : Cut). HasBaskets text.heavy (past ++ text.baskets) (flat_map basket_of k.ended)) (sym joined) t.baskets;
-        past_weight = t.past_weight;
+        counted = t.counted;
         line = is ∙ ap (λ (k : Cut). line_at k.last) (sym joined);
       }
 
@@ -176,7 +177,7 @@ module _ (text : Text) (past : List Weighted) (bytes : List ℕ) (t : IsTextSoFa
   pub takes_line_feed : (new : Text) (byte : ℕ) → is_line_feed byte ≡ true → line_state new.line ≡ line_at [] → new.lines ≡ text.lines + 1
       → ((baskets : List Weighted) → HasBaskets text.heavy (past ++ text.baskets) baskets
       → HasBaskets new.heavy (past ++ new.baskets) (baskets ++ basket_of_numbers (blank_added (line_state text.line)).numbers (blank_added (line_state text.line)).weight))
-      → new.past_weight ≡ text.past_weight → IsTextSoFar new past (bytes ++ byte ∷ [])
+      → new.table ≡ text.table → IsTextSoFar new past (bytes ++ byte ∷ [])
   takes_line_feed new byte e is lines more same =
       let ended = cut_ended is_line_feed bytes byte e in
       record {
@@ -185,7 +186,7 @@ module _ (text : Text) (past : List Weighted) (bytes : List ℕ) (t : IsTextSoFa
         baskets = subst (HasBaskets new.heavy (past ++ new.baskets))
             (ap (λ l. flat_map basket_of (cut_at is_line_feed bytes).ended ++ l) its_basket ∙ all_baskets ∙ ap (λ (k : Cut). flat_map basket_of k.ended) (sym ended))
             (more (flat_map basket_of (cut_at is_line_feed bytes).ended) t.baskets);
-        past_weight = same ∙ t.past_weight;
+        counted = subst (λ table. HasCounted table past) (sym same) t.counted;
         line = is ∙ ap (λ (k : Cut). line_at k.last) (sym ended);
       }
 
@@ -228,3 +229,15 @@ fault_in_front bytes front rest piece fault whole told no_memory =
 pub if_ok : {A : Type 0} (result : Result A ReadFault) (P : A → Type 0) (Q : ReadFault → Type 0) → MatchResult result P Q → IfOk result P
 if_ok (Ok x) P Q h = h
 if_ok (Err fault) P Q h = tt
+
+-- ---- what is past goes on
+
+pub stays_past : {A : Type 0} (counting : Bool) (past : List Weighted) (result : Result A ReadFault) (P : List Weighted → Type 0) (Q : ReadFault → Type 0)
+    → MatchResult result (λ _. P past) Q → MatchResult result (λ _. GoesOn counting past P) Q
+stays_past counting past (Ok x) P Q h = (past, λ _. refl, h)
+stays_past counting past (Err fault) P Q h = h
+
+pub not_counting : {A : Type 0} (past : List Weighted) (result : Result A ReadFault) (P : List Weighted → Type 0) (Q : ReadFault → Type 0)
+    → MatchResult result (λ _. GoesOn false past P) Q → MatchResult result (λ _. P past) Q
+not_counting past (Ok x) P Q h = subst P (h.1 refl) h.2
+not_counting past (Err fault) P Q h = h

@@ -23,6 +23,6 @@ abbrev pub Counts : Result ItemCounts ReadFault → Result (List Weighted) ReadF
 Counts (Ok counts) answer = (baskets : List Weighted) × (answer ≡ Ok baskets) × AreCountsOf counts baskets
 Counts (Err fault) answer = fault ≢ Memory → answer ≡ Err fault
 
--- the parts are of these bytes, which have no fault that is settled, and the table has counted the baskets that are past
+-- the parts are of these bytes, which have no fault that is settled
 abbrev pub HasRead : ItemParts → List ℕ → Type 0
-HasRead parts bytes = (past : List Weighted) × IsInputSoFar parts.input past bytes × HasCounted parts.table past
+HasRead parts bytes = (past : List Weighted) × IsInputSoFar parts.input past bytes

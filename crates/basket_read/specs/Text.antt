@@ -4,8 +4,10 @@ use Rattle.std.specs.List.{flat_map}
 use Rattle.basket_sets.specs.declared.weighted.Weighted.{Weighted}
 use Rattle.basket_sets.specs.Support.{total_of}
 use Rattle.basket_sets.specs.Database.{MOST_WEIGHT}
+use Rattle.basket_sets.specs.ItemTable.{HasCounted, Tabled}
 use Rattle.basket_read.specs.declared.fault.ReadFault.{ReadFault}
 use Rattle.basket_read.specs.declared.fault.ReadFault.TheVariants.{Memory}
+use Rattle.basket_read.specs.declared.item_counts.ItemCounts.{ItemCounts}
 use Rattle.basket_read.specs.declared.text.Text.{Text}
 use Rattle.basket_read.specs.Cut.{cut_at}
 use Rattle.basket_read.specs.Fimi.{is_line_feed, basket_of, first_fault, MOST_BYTES}
@@ -21,7 +23,7 @@ pub record IsTextSoFar (text : Text) (past : List Weighted) (bytes : List ℕ) :
   pub faultless : first_fault bytes ≡ None
   pub lines : text.lines ≡ length (cut_at is_line_feed bytes).ended
   pub baskets : HasBaskets text.heavy (past ++ text.baskets) (flat_map basket_of (cut_at is_line_feed bytes).ended)
-  pub past_weight : text.past_weight ≡ total_of past
+  pub counted : HasCounted text.table past
   pub line : line_state text.line ≡ line_at (cut_at is_line_feed bytes).last
 
 -- the text that was read is of so few bytes that an input may have so many more
@@ -31,7 +33,17 @@ HasRoom text more = ∥ ((past : List Weighted) × (bytes : List ℕ) × IsTextS
 -- the two texts that were read are of so few bytes together that an input may have so many
 abbrev pub HasRoomFor : Text → Text → Type 0
 HasRoomFor text other =
-    ∥ ((past : List Weighted) × (bytes : List ℕ) × (more : List ℕ) × IsTextSoFar text past bytes × IsTextSoFar other [] more × (length bytes + length more ≤ MOST_BYTES)) ∥₁
+    ∥ ((past : List Weighted) × (behind : List Weighted) × (bytes : List ℕ) × (more : List ℕ)
+    × IsTextSoFar text past bytes × IsTextSoFar other behind more × (length bytes + length more ≤ MOST_BYTES)) ∥₁
+
+-- baskets joined those of a text, past and not: no others are past where none of them were
+abbrev pub HasJoined : List Weighted → List Weighted → Tabled → Bool → List Weighted → List Weighted → Type 0
+HasJoined past behind table heavy kept baskets =
+    (now : List Weighted) × (behind ≡ [] → now ≡ past) × HasCounted table now × HasBaskets heavy (now ++ kept) baskets
+
+-- what is past goes on from what was past: more of it only where baskets are counted
+abbrev pub GoesOn : Bool → List Weighted → (List Weighted → Type 0) → Type 0
+GoesOn counting past P = (now : List Weighted) × (counting ≡ false → now ≡ past) × P now
 
 -- the bytes end a line, whatever stands before them
 abbrev pub EndsLine : List ℕ → Type 0
@@ -46,7 +58,7 @@ abbrev pub Answers : Result (List Weighted) ReadFault → Result (List Weighted)
 Answers (Ok baskets) answer = answer ≡ Ok baskets
 Answers (Err fault) answer = fault ≢ Memory → answer ≡ Err fault
 
--- the same, where the answer is behind baskets that are past
-abbrev pub AnswersBehind : List Weighted → Result (List Weighted) ReadFault → Result (List Weighted) ReadFault → Type 0
-AnswersBehind past (Ok baskets) answer = answer ≡ Ok (past ++ baskets)
-AnswersBehind past (Err fault) answer = fault ≢ Memory → answer ≡ Err fault
+-- the same, where the first baskets of the answer are past, and are counted
+abbrev pub CountsBehind : List Weighted → Result ItemCounts ReadFault → Result (List Weighted) ReadFault → Type 0
+CountsBehind past (Ok counts) answer = HasCounted counts.table past × (answer ≡ Ok (past ++ counts.rest))
+CountsBehind past (Err fault) answer = fault ≢ Memory → answer ≡ Err fault

@@ -1,5 +1,6 @@
 //! Reading an input batch by batch.
-ghost use Rattle.std.specs.Prelude.{◌≡◌, ◌<◌, ◌≤◌, ℕ, List, [], ◌++◌, length, false, true, IfErr, IfSome, MatchResult, Option, OnOk};
+ghost use Rattle.std.specs.Prelude.{◌≡◌, ◌<◌, ◌≤◌, ℕ, List, [], ◌++◌, length, take, false, IfErr, IfSome, MatchResult, Option, OnOk};
+ghost use Rattle.std.specs.Io.KnownBytes.{Consumes, IsAtEnd};
 ghost use Rattle.std.specs.Thread.{IsSync};
 ghost use Rattle.basket_read.specs.Batches.{Stops};
 ghost use Rattle.basket_read.specs.Fimi.{settled_fault, fault_in, MOST_BYTES};
@@ -9,9 +10,6 @@ use crate::fault::ReadFault;
 use basket_stream::Source;
 use std::alloc::Global;
 use std::thread::Threads;
-
-/// A batch has so many bytes for each worker, and up to a block more.
-const SHARE: usize = 262_144;
 
 /// What an input is read into by several workers.
 pub trait Batched {
@@ -41,7 +39,7 @@ pub trait Batched {
         ensures { (bytes : List ℕ) → has_read self.now bytes → result ≡ fault_in bytes };
 }
 
-/// Reads an input to its end, in blocks of the buffer.
+/// Reads an input to its end, in batches of the buffer.
 pub fn read_batches<R: Threads + Sync, S: Source, P: Batched>(
     rt: &R,
     alloc: Global,
@@ -52,26 +50,38 @@ pub fn read_batches<R: Threads + Sync, S: Source, P: Batched>(
 ) -> Result<(), ReadFault>
     requires fresh { S.has_failed reader.old ≡ false }
     requires room { 0 < length buffer.old }
-    requires some { 1 ≤ workers }
     requires new { P.has_read parts.old [] }
     ensures read { OnOk result ((bytes : List ℕ) × P.has_read parts.new bytes) }
     ensures all { OnOk result ((S.has_failed reader.new ≡ false) × IfSome (S.left reader.old) (P.has_read parts.new)) }
     ensures stops { IfErr result (Stops (S.left reader.old) (S.left reader.new) (S.has_failed reader.new)) }
 {
-    let full = workers as usize * SHARE;
-    let mut batch = Vec::new(alloc);
     'reading: loop {
-        match reader.read(buffer) {
-            Ok(0) => return parts.take_batch(rt, alloc, &batch, workers),
-            Ok(count) => batch.extend_from_slice(&buffer[..count])?,
-            Err(_) => {
-                parts.take_batch(rt, alloc, &batch, workers)?;
-                return Err(parts.fault_so_far().unwrap_or(ReadFault::Read));
-            }
+        let count = fill(reader, buffer);
+        parts.take_batch(rt, alloc, &buffer[..count], workers)?;
+        if reader.failed() {
+            return Err(parts.fault_so_far().unwrap_or(ReadFault::Read));
         }
-        if batch.len() >= full {
-            parts.take_batch(rt, alloc, &batch, workers)?;
-            batch.clear();
+        if count < buffer.len() {
+            return Ok(());
         }
     }
+}
+
+/// Fills the front of the buffer, and answers how much of it: all but where the input ends, or the
+/// reader fails.
+fn fill<S: Source>(reader: &mut S, buffer: &mut [u8]) -> usize
+    requires { S.has_failed reader.old ≡ false }
+    ensures within { result ≤ length buffer.new }
+    ensures given { Consumes (S.left reader.old) (S.left reader.new) (take result buffer.new) }
+    ensures ended { S.has_failed reader.new ≡ false → result < length buffer.new → IsAtEnd (S.left reader.new) }
+{
+    let mut filled = 0;
+    while filled < buffer.len() {
+        match reader.read(&mut buffer[filled..]) {
+            Ok(0) => return filled,
+            Ok(count) => filled += count,
+            Err(_) => return filled,
+        }
+    }
+    filled
 }

@@ -1,16 +1,16 @@
 //! An input of which not all has been read.
 ghost use Rattle.std.specs.Prelude.{◌≡◌, ◌≢◌, ◌+◌, ◌≤◌, ℕ, List, [], ◌∷◌, ◌++◌, length, MatchResult, OnOk};
 ghost use Rattle.basket_read.specs.Fimi.{settled_fault, fault_in, fimi_of};
-ghost use Rattle.basket_read.specs.Text.{Tells, AnswersBehind};
-ghost use Rattle.basket_sets.specs.ItemTable.{HasCounted};
+ghost use Rattle.basket_read.specs.Text.{Answers, CountsBehind, GoesOn, Tells};
 ghost use Rattle.basket_sets.specs.declared.weighted.Weighted.{Weighted};
 ghost use Rattle.basket_read.specs.Input.{IsInputSoFar, IsSomeInput};
 
 use crate::batches::Batched;
 use crate::fault::ReadFault;
+use crate::item_counts::ItemCounts;
 use crate::lines::feed_shared;
 use crate::text::Text;
-use basket_sets::{Database, ItemTable};
+use basket_sets::Database;
 use std::alloc::{AllocError, Global};
 use std::mem;
 use std::thread::Threads;
@@ -127,21 +127,22 @@ impl Input {
         Ok(())
     }
 
-    /// Takes more of the input, up to its first fault, by so many workers.
+    /// Takes more of the input, up to its first fault, by so many workers, which may count its baskets.
     pub fn take_shared<R: Threads + Sync>(
         &mut self,
         rt: &R,
         alloc: Global,
         piece: &[u8],
         workers: u32,
+        counting: bool,
     ) -> Result<(), ReadFault>
         requires { IsSomeInput self.old }
         ensures { (past : List Weighted) (bytes : List ℕ) → IsInputSoFar self.old past bytes →
-            MatchResult result (λ _. IsInputSoFar self.new past (bytes ++ piece.now)) (λ fault. Tells fault (settled_fault (bytes ++ piece.now))) }
+            MatchResult result (λ _. GoesOn counting past (λ now. IsInputSoFar self.new now (bytes ++ piece.now))) (λ fault. Tells fault (settled_fault (bytes ++ piece.now))) }
     {
         let (front, rest) = piece.split_at(piece.len().min(MARK.len()));
         self.take(front)?;
-        self.take_rest(rt, alloc, rest, workers)
+        self.take_rest(rt, alloc, rest, workers, counting)
     }
 
     /// The same, where the front is mostly decided.
@@ -151,10 +152,11 @@ impl Input {
         alloc: Global,
         piece: &[u8],
         workers: u32,
+        counting: bool,
     ) -> Result<(), ReadFault>
         requires { IsSomeInput self.old }
         ensures { (past : List Weighted) (bytes : List ℕ) → IsInputSoFar self.old past bytes →
-            MatchResult result (λ _. IsInputSoFar self.new past (bytes ++ piece.now)) (λ fault. Tells fault (settled_fault (bytes ++ piece.now))) }
+            MatchResult result (λ _. GoesOn counting past (λ now. IsInputSoFar self.new now (bytes ++ piece.now))) (λ fault. Tells fault (settled_fault (bytes ++ piece.now))) }
     {
         let Front::Decided = self.front else {
             return self.take(piece);
@@ -163,7 +165,7 @@ impl Input {
             return self.take(piece);
         }
         let before = mem::replace(&mut self.text, Text::new(alloc));
-        let text = feed_shared(rt, alloc, before, piece, workers)?;
+        let text = feed_shared(rt, before, piece, workers, counting)?;
         self.text = text;
         self.taken += piece.len() as u32;
         Ok(())
@@ -186,25 +188,34 @@ impl Input {
 
     /// Counts the baskets of the lines that have ended, which are past then, unless they weigh too much
     /// or the table would be too large for them. The answer is whether they were counted.
-    pub fn count(&mut self, table: &mut ItemTable) -> Result<bool, AllocError>
-        requires { ∥ ((past : List Weighted) × (bytes : List ℕ) × IsInputSoFar self.old past bytes × HasCounted table.old past) ∥₁ }
+    pub fn count(&mut self) -> Result<bool, AllocError>
+        requires { IsSomeInput self.old }
         ensures taken { self.new.taken ≡ self.old.taken }
-        ensures counted { (past : List Weighted) (bytes : List ℕ) → IsInputSoFar self.old past bytes → HasCounted table.old past →
-            OnOk result ((now : List Weighted) × IsInputSoFar self.new now bytes × HasCounted table.new now) }
+        ensures counted { (past : List Weighted) (bytes : List ℕ) → IsInputSoFar self.old past bytes →
+            OnOk result ((now : List Weighted) × IsInputSoFar self.new now bytes) }
     {
-        self.text.count(table)
+        self.text.count()
     }
 
-    /// The baskets of the whole input that are not past.
-    pub fn finish(self) -> Result<Database, ReadFault>
+    /// The counts of the whole input.
+    pub fn finish(self) -> Result<ItemCounts, ReadFault>
         requires { IsSomeInput self }
-        ensures { (past : List Weighted) (bytes : List ℕ) → IsInputSoFar self past bytes → AnswersBehind past result (fimi_of bytes) }
+        ensures { (past : List Weighted) (bytes : List ℕ) → IsInputSoFar self past bytes → CountsBehind past result (fimi_of bytes) }
     {
         if let Some(fault) = self.fault_so_far() {
             return Err(fault);
         }
         let Input { text, .. } = self;
         text.finish()
+    }
+
+    /// The baskets of the whole input, where none are past.
+    pub fn into_baskets(self) -> Result<Database, ReadFault>
+        requires { IsSomeInput self }
+        ensures { (bytes : List ℕ) → IsInputSoFar self [] bytes → Answers result (fimi_of bytes) }
+    {
+        let ItemCounts { rest, .. } = self.finish()?;
+        Ok(rest)
     }
 }
 
@@ -225,7 +236,7 @@ impl Batched for Input {
         batch: &[u8],
         workers: u32,
     ) -> Result<(), ReadFault> {
-        self.take_shared(rt, alloc, batch, workers)
+        self.take_shared(rt, alloc, batch, workers, false)
     }
 
     fn fault_so_far(&self) -> Option<ReadFault> {

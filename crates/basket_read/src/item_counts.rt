@@ -22,7 +22,6 @@ pub struct ItemCounts {
 #[derive(Debug, Drop)]
 pub struct ItemParts {
     input: Input,
-    table: ItemTable,
     /// How many baskets were kept when the table was too small for them, or 0. It is tried again
     /// once there are twice as many.
     refused: usize,
@@ -34,7 +33,6 @@ impl ItemParts {
     {
         ItemParts {
             input: Input::new(alloc),
-            table: ItemTable::new(alloc),
             refused: 0,
         }
     }
@@ -55,7 +53,7 @@ impl ItemParts {
         ensures { (bytes : List ℕ) → HasRead self.old bytes → OnOk result (HasRead self.new bytes) }
     {
         if self.input.kept() / 2 >= self.refused {
-            let counted = self.input.count(&mut self.table)?;
+            let counted = self.input.count()?;
             self.refused = if counted { 0 } else { self.input.kept() };
         }
         Ok(())
@@ -73,9 +71,8 @@ impl ItemParts {
         requires { ∥ ((bytes : List ℕ) × HasRead self bytes) ∥₁ }
         ensures { (bytes : List ℕ) → HasRead self bytes → Counts result (fimi_of bytes) }
     {
-        let ItemParts { input, table, .. } = self;
-        let rest = input.finish()?;
-        Ok(ItemCounts { table, rest })
+        let ItemParts { input, .. } = self;
+        input.finish()
     }
 }
 
@@ -95,7 +92,8 @@ impl Batched for ItemParts {
         batch: &[u8],
         workers: u32,
     ) -> Result<(), ReadFault> {
-        self.input.take_shared(rt, alloc, batch, workers)?;
+        self.input
+            .take_shared(rt, alloc, batch, workers, self.refused == 0)?;
         Ok(self.count()?)
     }
 

@@ -3,46 +3,43 @@ ghost use Rattle.std.specs.Prelude.{◌≡◌, ◌<◌, ◌≤◌, ℕ, List, []
 ghost use Rattle.std.specs.Thread.{IsSync};
 ghost use Rattle.basket_sets.specs.declared.weighted.Weighted.{Weighted};
 ghost use Rattle.basket_read.specs.Fimi.{first_fault, MOST_BYTES};
-ghost use Rattle.basket_read.specs.Text.{IsTextSoFar, EndsLine, HasRoom, Tells};
+ghost use Rattle.basket_read.specs.Text.{EndsLine, GoesOn, HasRoom, IsTextSoFar, Tells};
 
 use crate::fault::ReadFault;
 use crate::text::Text;
-use std::alloc::Global;
 use std::thread::{Threads, join};
 
 /// A shorter text is not worth a thread.
 const LEAST: usize = 65_536;
 
-/// Takes more of a text, up to its first fault, as `Text::feed` does, by so many workers.
+/// Takes more of a text, up to its first fault, as `Text::feed` does, by so many workers. Where they
+/// count, each counts the baskets of its part.
 #[cycle(halves)]
 pub fn feed_shared<R: Threads + Sync>(
     rt: &R,
-    alloc: Global,
     mut text: Text,
     piece: &[u8],
     workers: u32,
+    counting: bool,
 ) -> Result<Text, ReadFault>
     requires { HasRoom text (length piece.now) }
     ensures { (past : List Weighted) (bytes : List ℕ) → IsTextSoFar text past bytes →
-        MatchResult result (λ read. IsTextSoFar read past (bytes ++ piece.now)) (λ fault. Tells fault (first_fault (bytes ++ piece.now))) }
+        MatchResult result (λ read. GoesOn counting past (λ now. IsTextSoFar read now (bytes ++ piece.now))) (λ fault. Tells fault (first_fault (bytes ++ piece.now))) }
 {
-    if workers < 2 || piece.len() < LEAST {
-        text.feed(piece)?;
-        return Ok(text);
-    }
-    let middle = piece.len() as u128 * u128::from(workers / 2) / u128::from(workers);
-    let Some(end) = line_end(piece, middle as usize) else {
-        text.feed(piece)?;
+    let Some(end) = middle_of(piece, workers) else {
+        feed_part(&mut text, piece, counting)?;
         return Ok(text);
     };
     let (front, rest) = piece.split_at(end);
-    let (text, read) = feed_halves(rt, alloc, text, front, rest, workers);
+    let (text, read) = feed_halves(rt, text, front, rest, workers, counting);
     let mut text = text?;
     if let Ok(read) = read {
-        text.append(read)?;
-        return Ok(text);
+        if text.may_join(counting) {
+            text.append(read)?;
+            return Ok(text);
+        }
     }
-    // The text comes to the fault again, and knows the number of its line.
+    // The text comes to a fault again, and knows the number of its line.
     text.feed(rest)?;
     Ok(text)
 }
@@ -51,34 +48,68 @@ pub fn feed_shared<R: Threads + Sync>(
 #[cycle(halves)]
 fn feed_halves<R: Threads + Sync>(
     rt: &R,
-    alloc: Global,
     text: Text,
     front: &[u8],
     rest: &[u8],
     workers: u32,
+    counting: bool,
 ) -> (Result<Text, ReadFault>, Result<Text, ReadFault>)
     requires front { HasRoom text (length front.now) }
     requires rest { length rest.now ≤ MOST_BYTES }
     requires several { 2 ≤ workers }
     ensures front { (past : List Weighted) (bytes : List ℕ) → IsTextSoFar text past bytes →
-        MatchResult result.0 (λ read. IsTextSoFar read past (bytes ++ front.now)) (λ fault. Tells fault (first_fault (bytes ++ front.now))) }
-    ensures rest { IfOk result.1 (λ read. IsTextSoFar read [] rest.now) }
+        MatchResult result.0 (λ read. GoesOn counting past (λ now. IsTextSoFar read now (bytes ++ front.now))) (λ fault. Tells fault (first_fault (bytes ++ front.now))) }
+    ensures rest { IfOk result.1 (λ read. GoesOn counting [] (λ now. IsTextSoFar read now rest.now)) }
 {
     let few = workers / 2;
     let others = workers - few;
+    let alloc = text.alloc();
     let (read, text) = join(
         rt,
         || -> Result<Text, ReadFault>
             requires { IsSync R.row × (length rest.now ≤ MOST_BYTES) }
-            ensures { IfOk result (λ read. IsTextSoFar read [] rest.entry.now) }
-        { feed_shared(rt, alloc, Text::new(alloc), rest, others) },
+            ensures { IfOk result (λ read. GoesOn counting [] (λ now. IsTextSoFar read now rest.entry.now)) }
+        { feed_shared(rt, Text::new(alloc), rest, others, counting) },
         || -> Result<Text, ReadFault>
             requires { IsSync R.row × HasRoom text (length front.now) }
             ensures { (past : List Weighted) (bytes : List ℕ) → IsTextSoFar text past bytes →
-                MatchResult result (λ read. IsTextSoFar read past (bytes ++ front.entry.now)) (λ fault. Tells fault (first_fault (bytes ++ front.entry.now))) }
-        { feed_shared(rt, alloc, text, front, few) },
+                MatchResult result (λ read. GoesOn counting past (λ now. IsTextSoFar read now (bytes ++ front.entry.now))) (λ fault. Tells fault (first_fault (bytes ++ front.entry.now))) }
+        { feed_shared(rt, text, front, few, counting) },
     );
     (text, read)
+}
+
+/// Takes more of a text, up to its first fault. Where its baskets are counted, so are those of each
+/// block before the next.
+fn feed_part(text: &mut Text, piece: &[u8], counting: bool) -> Result<(), ReadFault>
+    requires { HasRoom text.old (length piece.now) }
+    ensures { (past : List Weighted) (bytes : List ℕ) → IsTextSoFar text.old past bytes →
+        MatchResult result (λ _. GoesOn counting past (λ now. IsTextSoFar text.new now (bytes ++ piece.now))) (λ fault. Tells fault (first_fault (bytes ++ piece.now))) }
+{
+    if !counting {
+        return text.feed(piece);
+    }
+    let mut taken = 0;
+    while taken < piece.len() {
+        let end = piece.len().min(taken + LEAST);
+        text.feed(&piece[taken..end])?;
+        text.count()?;
+        taken = end;
+    }
+    Ok(())
+}
+
+/// Where a piece is cut in two, behind a line feed, if that is worth a thread.
+fn middle_of(piece: &[u8], workers: u32) -> Option<usize>
+    ensures several { IfSome result (λ _. 2 ≤ workers) }
+    ensures within { IfSome result (λ end. end ≤ length piece.now) }
+    ensures ends { IfSome result (λ end. EndsLine (take end piece.now)) }
+{
+    if workers < 2 || piece.len() < LEAST {
+        return None;
+    }
+    let middle = piece.len() as u128 * u128::from(workers / 2) / u128::from(workers);
+    line_end(piece, middle as usize)
 }
 
 /// Behind the first line feed at this place or behind it.

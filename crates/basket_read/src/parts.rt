@@ -66,7 +66,7 @@ impl FimiParts {
             return Err(fault);
         }
         let FimiParts { input, .. } = self;
-        input.finish()
+        input.into_baskets()
     }
 
     /// The fault of the bytes so far if none follow.

@@ -10,11 +10,17 @@ use crate::batches::read_batches;
 use crate::fault::ReadFault;
 use crate::input::Input;
 use crate::item_counts::{ItemCounts, ItemParts};
-use crate::read::{BLOCK, count_fimi, read_fimi};
+use crate::read::{count_fimi, read_fimi};
 use basket_sets::Database;
 use basket_stream::Source;
 use std::alloc::Global;
 use std::thread::Threads;
+
+/// A batch has so many bytes for each worker that keeps its baskets, which take more than their text.
+const SHARE: usize = 524_288;
+
+/// And so many for each that counts them, since each batch has a table for each worker.
+const COUNTING_SHARE: usize = 2_097_152;
 
 /// Reads a FIMI input to its end, as `read_fimi` does, by so many workers.
 pub fn read_fimi_shared<R: Threads + Sync, S: Source>(
@@ -35,10 +41,10 @@ pub fn read_fimi_shared<R: Threads + Sync, S: Source>(
     if workers < 2 {
         return read_fimi(alloc, reader);
     }
-    let mut buffer = vec![in alloc; 0u8; BLOCK]?;
+    let mut buffer = vec![in alloc; 0u8; workers as usize * SHARE]?;
     let mut input = Input::new(alloc);
     read_batches(rt, alloc, reader, &mut buffer, &mut input, workers)?;
-    input.finish()
+    input.into_baskets()
 }
 
 /// Reads a FIMI input to its end and counts its items, as `count_fimi` does. So many workers read.
@@ -62,7 +68,7 @@ pub fn count_fimi_shared<R: Threads + Sync, S: Source>(
     if workers < 2 {
         return count_fimi(alloc, reader);
     }
-    let mut buffer = vec![in alloc; 0u8; BLOCK]?;
+    let mut buffer = vec![in alloc; 0u8; workers as usize * COUNTING_SHARE]?;
     let mut parts = ItemParts::new(alloc);
     read_batches(rt, alloc, reader, &mut buffer, &mut parts, workers)?;
     parts.finish()

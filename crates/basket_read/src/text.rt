@@ -1,16 +1,17 @@
 //! A text of which not all has been read.
-ghost use Rattle.std.specs.Prelude.{◌≡◌, ◌≢◌, ◌<◌, ◌≤◌, ◌+◌, ℕ, List, [], ◌∷◌, ◌++◌, length, take, false, OnOk, IfOk, IfErr, MatchResult};
+ghost use Rattle.std.specs.Prelude.{◌≡◌, ◌≢◌, ◌<◌, ◌≤◌, ◌+◌, ◌⊎◌, ℕ, List, [], ◌∷◌, ◌++◌, length, take, false, OnOk, IfOk, IfErr, IsTrue, MatchResult};
 ghost use Rattle.basket_sets.specs.declared.weighted.Weighted.{Weighted};
-ghost use Rattle.basket_sets.specs.Database.{MOST_BASKETS, MOST_WEIGHT};
+ghost use Rattle.basket_sets.specs.Database.{MOST_BASKETS};
 ghost use Rattle.basket_sets.specs.ItemTable.{HasCounted};
 ghost use Rattle.basket_sets.specs.Support.{total_of};
 ghost use Rattle.basket_read.specs.Cut.{cut_at};
 ghost use Rattle.basket_read.specs.Fimi.{is_line_feed, first_fault, basket_of_numbers, baskets_of, if_light};
 ghost use Rattle.basket_read.specs.Line.{line_state, line_at, blank_added};
-ghost use Rattle.basket_read.specs.Text.{HasBaskets, IsTextSoFar, HasRoom, HasRoomFor, Tells, AnswersBehind};
+ghost use Rattle.basket_read.specs.Text.{CountsBehind, HasBaskets, HasJoined, HasRoom, HasRoomFor, IsTextSoFar, Tells};
 
 use crate::class::{Class, class_of};
 use crate::fault::ReadFault;
+use crate::item_counts::ItemCounts;
 use crate::line::Line;
 use basket_sets::{Database, ItemTable, Itemset};
 use std::alloc::{AllocError, Global};
@@ -22,8 +23,8 @@ pub struct Text {
     lines: u32,
     /// The baskets of the lines that have ended, but for those that are past: that were counted.
     baskets: Database,
-    /// What those that are past weigh together.
-    past_weight: u64,
+    /// The counts of those that are past.
+    table: ItemTable,
     /// Whether the baskets weigh too much for a database, which then has not all of them.
     heavy: bool,
     line: Line,
@@ -37,7 +38,7 @@ impl Text {
             alloc,
             lines: 0,
             baskets: Database::new(alloc),
-            past_weight: 0,
+            table: ItemTable::new(alloc),
             heavy: false,
             line: Line::new(alloc),
         }
@@ -119,8 +120,8 @@ impl Text {
         requires { self.old.heavy ≡ false → length self.old.baskets < MOST_BASKETS }
         ensures line { OnOk result (line_state self.new.line ≡ line_at []) }
         ensures lines { self.new.lines ≡ self.old.lines }
-        ensures past_weight { self.new.past_weight ≡ self.old.past_weight }
-        ensures baskets { (past baskets : List Weighted) → self.old.past_weight ≡ total_of past → HasBaskets self.old.heavy (past ++ self.old.baskets) baskets →
+        ensures table { self.new.table ≡ self.old.table }
+        ensures baskets { (past baskets : List Weighted) → self.old.table.total ≡ total_of past → HasBaskets self.old.heavy (past ++ self.old.baskets) baskets →
             let line = blank_added (line_state self.old.line) in
             OnOk result (HasBaskets self.new.heavy (past ++ self.new.baskets) (baskets ++ basket_of_numbers line.numbers line.weight)) }
         ensures err { IfErr result (λ fault. fault ≡ ReadFault.Memory) }
@@ -129,7 +130,7 @@ impl Text {
         let numbers = self.line.numbers();
         if !numbers.is_empty() {
             let weight = u64::from(self.line.weight());
-            let room = Database::MAX_WEIGHT.saturating_sub(self.past_weight);
+            let room = Database::MAX_WEIGHT.saturating_sub(self.table.total());
             if weight > room.saturating_sub(self.baskets.total()) {
                 self.heavy = true;
             }
@@ -144,40 +145,62 @@ impl Text {
         Ok(())
     }
 
-    /// Adds what was read of the text that follows, where this one ends behind a line feed.
+    /// What the text allocates with.
+    pub fn alloc(&self) -> Global {
+        self.alloc
+    }
+
+    /// Whether a text may follow that has counted baskets, if it counts.
+    pub fn may_join(&self, counting: bool) -> bool
+        ensures { IsTrue result → (self.now.baskets ≡ []) ⊎ (counting ≡ false) }
+    {
+        self.baskets.is_empty() || !counting
+    }
+
+    /// Adds what was read of the text that follows, where this one ends behind a line feed. Baskets that
+    /// it has counted can't stand behind some that are kept.
     pub fn append(&mut self, other: Text) -> Result<(), AllocError>
         requires { HasRoomFor self.old other }
-        ensures { (past : List Weighted) (lines more : List ℕ) → IsTextSoFar self.old past lines → (cut_at is_line_feed lines).last ≡ [] → IsTextSoFar other [] more →
-            OnOk result (IsTextSoFar self.new past (lines ++ more)) }
+        ensures { (past behind : List Weighted) (lines more : List ℕ) → IsTextSoFar self.old past lines → (cut_at is_line_feed lines).last ≡ []
+            → IsTextSoFar other behind more → (self.old.baskets ≡ []) ⊎ (behind ≡ [])
+            → OnOk result ((now : List Weighted) × (behind ≡ [] → now ≡ past) × IsTextSoFar self.new now (lines ++ more)) }
     {
         let Text {
             lines,
             baskets,
+            table,
             heavy,
             line,
             ..
         } = other;
-        self.add_baskets(baskets, heavy)?;
+        self.add_baskets(&table, baskets, heavy)?;
         self.lines += lines;
         self.line = line;
         Ok(())
     }
 
-    /// Adds baskets behind those that are kept, unless all weigh too much.
-    fn add_baskets(&mut self, baskets: Database, heavy: bool) -> Result<(), AllocError>
+    /// Adds baskets behind those of the text, the first of them counted, unless all weigh too much.
+    fn add_baskets(
+        &mut self,
+        table: &ItemTable,
+        baskets: Database,
+        heavy: bool,
+    ) -> Result<(), AllocError>
         requires { self.old.heavy ≡ false → heavy ≡ false → length self.old.baskets + length baskets ≤ MOST_BASKETS }
         ensures lines { self.new.lines ≡ self.old.lines }
-        ensures past_weight { self.new.past_weight ≡ self.old.past_weight }
-        ensures baskets { (past before more : List Weighted) → self.old.past_weight ≡ total_of past → HasBaskets self.old.heavy (past ++ self.old.baskets) before → HasBaskets heavy baskets more →
-            OnOk result (HasBaskets self.new.heavy (past ++ self.new.baskets) (before ++ more)) }
+        ensures baskets { (past behind before more : List Weighted) → HasCounted self.old.table past → HasBaskets self.old.heavy (past ++ self.old.baskets) before
+            → HasCounted table.now behind → HasBaskets heavy (behind ++ baskets) more → (self.old.baskets ≡ []) ⊎ (behind ≡ [])
+            → OnOk result (HasJoined past behind self.new.table self.new.heavy self.new.baskets (before ++ more)) }
     {
-        let weight = self.past_weight.saturating_add(self.baskets.total());
-        if heavy || weight.saturating_add(baskets.total()) > Database::MAX_WEIGHT {
+        let weight = self.table.total().saturating_add(self.baskets.total());
+        let more = table.total().saturating_add(baskets.total());
+        if heavy || weight.saturating_add(more) > Database::MAX_WEIGHT {
             self.heavy = true;
         }
         if self.heavy {
             return Ok(());
         }
+        self.table.append(table)?;
         self.baskets.append(baskets)
     }
 
@@ -188,33 +211,34 @@ impl Text {
 
     /// Counts the baskets of the lines that have ended, which are past then, unless they weigh too much
     /// or the table would be too large for them. The answer is whether they were counted.
-    pub fn count(&mut self, table: &mut ItemTable) -> Result<bool, AllocError>
-        requires light { self.old.heavy ≡ false → self.old.past_weight + total_of self.old.baskets ≤ MOST_WEIGHT }
-        requires room { self.old.heavy ≡ false → table.old.total + total_of self.old.baskets ≤ MOST_WEIGHT }
-        ensures { (past : List Weighted) (bytes : List ℕ) → IsTextSoFar self.old past bytes → HasCounted table.old past →
-            OnOk result ((now : List Weighted) × IsTextSoFar self.new now bytes × HasCounted table.new now) }
+    pub fn count(&mut self) -> Result<bool, AllocError>
+        requires { HasRoom self.old 0 }
+        ensures { (past : List Weighted) (bytes : List ℕ) → IsTextSoFar self.old past bytes →
+            OnOk result ((now : List Weighted) × IsTextSoFar self.new now bytes) }
     {
         if self.heavy {
             return Ok(false);
         }
-        let counted = table.add(self.baskets.baskets())?;
+        let counted = self.table.add(self.baskets.baskets())?;
         if counted {
-            self.past_weight += self.baskets.total();
             self.baskets.clear();
         }
         Ok(counted)
     }
 
-    /// The baskets of the whole text that are not past, if all don't weigh too much.
-    pub fn finish(mut self) -> Result<Database, ReadFault>
+    /// The counts of the whole text, if its baskets don't weigh too much.
+    pub fn finish(mut self) -> Result<ItemCounts, ReadFault>
         requires { HasRoom self 0 }
-        ensures { (past : List Weighted) (bytes : List ℕ) → IsTextSoFar self past bytes → AnswersBehind past result (if_light (baskets_of bytes)) }
+        ensures { (past : List Weighted) (bytes : List ℕ) → IsTextSoFar self past bytes → CountsBehind past result (if_light (baskets_of bytes)) }
     {
         self.end_line()?;
         if self.heavy {
             return Err(ReadFault::Heavy);
         }
-        let Text { baskets, .. } = self;
-        Ok(baskets)
+        let Text { table, baskets, .. } = self;
+        Ok(ItemCounts {
+            table,
+            rest: baskets,
+        })
     }
 }

@@ -1,22 +1,23 @@
 -- Counting items in a table: its slots while the places are added, and the entries that it gives in the end.
-use Rattle.std.proofs.Common.{◌≡◌, ◌≢◌, ℕ, ◌+◌, ◌<◌, ◌≤◌, ◌^◌, Bool, true, false, ◌&&◌, ◌||◌, List, [], ◌∷◌, ◌++◌, length, take, get_or, set, map, cond, Option, Some, None, unwrap_or, Result, Ok, Err, refl, sym, ap, ◌∙◌, subst, inl, inr, arith, add-zero, ◌-◌, zero, suc}
+use Rattle.std.proofs.Common.{◌≡◌, ◌≢◌, ℕ, ◌+◌, ◌<◌, ◌≤◌, ◌^◌, Bool, true, false, ◌&&◌, ◌||◌, List, [], ◌∷◌, ◌++◌, length, take, get_or, set, map, cond, Option, Some, None, unwrap_or, Result, Ok, Err, refl, sym, ap, ◌∙◌, subst, inl, inr, arith, add-zero, zero-add, ◌-◌, zero, suc}
 use Rattle.std.specs.List.{zip}
 use Rattle.std.specs.Prelude.{IfOk}
-use Rattle.std.proofs.lemmas.List.{append-nil, length-take, take_more, get_or-set_same, get_or-set_other, get_or_default}
+use Rattle.std.proofs.lemmas.List.{append-nil, length-take, take_more, get_or-set_same, get_or-set_other, get_or_default, get_or_past}
 use Rattle.std.proofs.lemmas.List.Concat.{flat_map-append}
-use Rattle.std.proofs.lemmas.List.Sums.{sum_by_more_le, sum_by_push}
+use Rattle.std.proofs.lemmas.List.Sums.{sum_by_more_le}
 use Rattle.std.proofs.Math.Bool.{or-false, or-true}
 use Rattle.std.proofs.lemmas.Bool.{cases_eq, cases_lt, cases_order, or_cases, cond-true, cond-false, eq-eqb, ne_eqb, false≢true}
 use Rattle.std.proofs.lemmas.Map.Keys.{below_from_sorted}
 use Rattle.basket_sets.specs.declared.weighted.Weighted.{Weighted}
 use Rattle.basket_sets.specs.Itemset.{IsRising, has}
 use Rattle.basket_sets.specs.Counts.{item_supports, tally, IsTable, AllBelow, entries_from, entries_of}
-use Rattle.basket_sets.specs.Slot.{slot_with}
+use Rattle.basket_sets.specs.ItemTable.{Tabled, HasCounted}
+use Rattle.basket_sets.specs.Slot.{slot_with, slots_joined}
 use Rattle.basket_sets.specs.Database.{MOST_WEIGHT}
 use Rattle.basket_sets.specs.Support.{weight_at, support_of, total_of, all_items, items_of}
 use Rattle.basket_sets.proofs.theory.Members.{Member, Contains-from_Member}
 use Rattle.basket_sets.proofs.theory.Rising.{has-append, has_more, not_before, Member-from_has, has-from_Member, nil_rises, cons_rises, same_rising, rising-rises, Member-rising, Member-into_rising}
-use Rattle.basket_sets.proofs.theory.Support.{support_falls, in_items}
+use Rattle.basket_sets.proofs.theory.Support.{support_falls, support-append, in_items}
 
 -- ---- the items of the baskets so far
 
@@ -104,38 +105,65 @@ fits_more baskets i place item sum below is light h small =
     let falls = support_falls baskets (item ∷ []) [] refl in
     omega arith
 
+-- what is known of an item in two lists of baskets
+pub tally-append : (a b : List Weighted) (item : ℕ) → tally (a ++ b) item ≡ slots_joined (tally a item) (tally b item)
+tally-append a b item =
+    (λ i. cond (items i) (Some (support-append a b (item ∷ []) i)) None)
+    ∙ at (has (all_items a) item) (has (all_items b) item) (support_absent a item) (support_absent b item)
+  where
+    items : has (all_items (a ++ b)) item ≡ (has (all_items a) item || has (all_items b) item)
+    items = ap (λ l. has l item) (flat_map-append (λ p. p.basket) a b) ∙ has-append (all_items a) (all_items b) item
+
+    at : (g h : Bool) → (g ≡ false → support_of a (item ∷ []) ≡ 0) → (h ≡ false → support_of b (item ∷ []) ≡ 0)
+        → cond (g || h) (Some (support_of a (item ∷ []) + support_of b (item ∷ []))) None
+        ≡ slots_joined (cond g (Some (support_of a (item ∷ []))) None) (cond h (Some (support_of b (item ∷ []))) None)
+    at true true none_a none_b = refl
+    at true false none_a none_b = ap (λ n. Some (support_of a (item ∷ []) + n)) (none_b refl) ∙ ap Some (add-zero (support_of a (item ∷ [])))
+    at false true none_a none_b = ap (λ n. Some (n + support_of b (item ∷ []))) (none_a refl)
+    at false false none_a none_b = refl
+
 -- the table behind one more place
 pub table_push : (before : List Weighted) (place : Weighted) (old table : List (Option ℕ)) → length table ≡ length old
     → HasAdded old place.weight place.basket table → IsTable before old → IsTable (before ++ place ∷ []) table
 table_push before place old table long added so_far item within =
     added item ∙ ap (λ s. cond (has place.basket item) (slot_with place.weight s) s) (so_far item (omega arith))
-    ∙ at (has place.basket item) (has (all_items before) item) refl refl
+    ∙ at (has place.basket item) (tally before item)
+    ∙ ap (slots_joined (tally before item)) (sym one) ∙ sym (tally-append before (place ∷ []) item)
   where
-    items_now : has (all_items (before ++ place ∷ [])) item ≡ (has (all_items before) item || has place.basket item)
-    items_now =
-        ap (λ l. has l item) (flat_map-append (λ p. p.basket) before (place ∷ []) ∙ ap (λ l. all_items before ++ l) (append-nil place.basket))
-        ∙ has-append (all_items before) place.basket item
+    one : tally (place ∷ []) item ≡ cond (has place.basket item) (Some (cond (has place.basket item) place.weight 0)) None
+    one = λ i. cond (has (append-nil place.basket i) item) (Some ((zero-add (weight_at (item ∷ []) place) ∙ weight_of_item place item) i)) None
 
-    support_now : support_of (before ++ place ∷ []) (item ∷ []) ≡ support_of before (item ∷ []) + cond (has place.basket item) place.weight 0
-    support_now = sum_by_push (weight_at (item ∷ [])) before place ∙ ap (λ n. support_of before (item ∷ []) + n) (weight_of_item place item)
+    at : (h : Bool) (slot : Option ℕ) → cond h (slot_with place.weight slot) slot ≡ slots_joined slot (cond h (Some (cond h place.weight 0)) None)
+    at true slot = refl
+    at false slot = refl
 
-    now : (g h : Bool) (n : ℕ) → has (all_items (before ++ place ∷ [])) item ≡ (g || h) → support_of (before ++ place ∷ []) (item ∷ []) ≡ n → tally (before ++ place ∷ []) item ≡ cond (g || h) (Some n) None
-    now g h n e f = ap (λ t. cond t (Some (support_of (before ++ place ∷ []) (item ∷ []))) None) e ∙ ap (λ m. cond (g || h) (Some m) None) f
+-- the tables of two lists of baskets, put together
+pub counted_both : (before more : List Weighted) (a b : Tabled) (slots : List (Option ℕ)) (total : ℕ) → HasCounted a before → HasCounted b more
+    → length b.slots ≤ length slots → length slots ≡ length a.slots → total ≡ a.total + b.total
+    → ((item : ℕ) → get_or slots item None ≡ slots_joined (get_or a.slots item None) (get_or b.slots item None))
+    → HasCounted (record { slots = slots; total = total }) (before ++ more)
+counted_both before more a b slots total counted also shorter long sum joined = record {
+  slots = λ item within. joined item ∙ (λ i. slots_joined (counted.slots item (omega arith) i) (known item i)) ∙ sym (tally-append before more item);
+  within = λ item h. elim (or_cases (has (all_items before) item) (has (all_items more) item) (sym (items item) ∙ h)) [
+    | inl e ↦ (let k = counted.within item e in omega arith)
+    | inr e ↦ (let k = also.within item e in omega arith)
+  ];
+  total = let both = support-append before more [] in omega (arith, counted.total, also.total);
+}
+  where
+    items : (item : ℕ) → has (all_items (before ++ more)) item ≡ (has (all_items before) item || has (all_items more) item)
+    items item = ap (λ l. has l item) (flat_map-append (λ p. p.basket) before more) ∙ has-append (all_items before) (all_items more) item
 
-    at : (h g : Bool) → has place.basket item ≡ h → has (all_items before) item ≡ g
-        → cond h (slot_with place.weight (cond g (Some (support_of before (item ∷ []))) None)) (cond g (Some (support_of before (item ∷ []))) None)
-        ≡ tally (before ++ place ∷ []) item
-    at h g e f = cases h g e f ∙ sym (now g h _ (items_now ∙ ap (λ t. t || has place.basket item) f ∙ ap (λ t. g || t) e) support_now)
+    -- the table of fewer slots knows of no item behind them
+    known : (item : ℕ) → get_or b.slots item None ≡ tally more item
+    known item = elim (cases_lt item (length b.slots)) [
+      | inl below ↦ also.slots item below
+      | inr past ↦ get_or_past b.slots item None past ∙ at (has (all_items more) item) (λ h. omega (arith, also.within item h))
+    ]
       where
-        s : ℕ
-        s = support_of before (item ∷ [])
-
-        cases : (h g : Bool) → has place.basket item ≡ h → has (all_items before) item ≡ g
-            → cond h (slot_with place.weight (cond g (Some s) None)) (cond g (Some s) None) ≡ cond (g || h) (Some (s + cond (has place.basket item) place.weight 0)) None
-        cases true true e f = ap (λ t. Some (s + cond t place.weight 0)) (sym e)
-        cases true false e f = ap (λ n. Some (n + place.weight)) (sym (support_absent before item f)) ∙ ap (λ t. Some (s + cond t place.weight 0)) (sym e)
-        cases false true e f = ap Some (sym (add-zero s)) ∙ ap (λ t. Some (s + cond t place.weight 0)) (sym e)
-        cases false false e f = refl
+        at : (h : Bool) → (h ≡ true → ⊥) → None ≡ cond h (Some (support_of more (item ∷ []))) None
+        at true apart = absurd (apart refl)
+        at false apart = refl
 
 -- no support grows by more than the weight of the place
 pub bounded_push : (place : Weighted) (old table : List (Option ℕ)) (item : ℕ) → HasAdded old place.weight place.basket table

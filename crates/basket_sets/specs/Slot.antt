@@ -18,3 +18,8 @@ above_of-support_in (suc support) = refl
 -- a slot with some more weight
 abbrev pub slot_with : ℕ → Option ℕ → Option ℕ
 slot_with weight slot = Some (unwrap_or slot 0 + weight)
+
+-- a slot with the support of another
+abbrev pub slots_joined : Option ℕ → Option ℕ → Option ℕ
+slots_joined slot None = slot
+slots_joined slot (Some support) = slot_with support slot

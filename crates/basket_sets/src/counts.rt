@@ -4,7 +4,7 @@ ghost use Rattle.basket_sets.specs.declared.weighted.Weighted.{Weighted as Place
 ghost use Rattle.basket_sets.specs.Counts.{item_supports, tally, IsTable, AllBelow, entries_of};
 ghost use Rattle.basket_sets.specs.Database.{MOST_WEIGHT};
 ghost use Rattle.basket_sets.specs.Itemset.{IsRising, has};
-ghost use Rattle.basket_sets.specs.Slot.{slot_with};
+ghost use Rattle.basket_sets.specs.Slot.{slot_with, slots_joined};
 ghost use Rattle.basket_sets.specs.Support.{total_of, all_items, items_of};
 
 use crate::slot::Slot;
@@ -89,6 +89,19 @@ fn add_to_table(table: &mut [Slot], place: &Weighted)
 {
     for item in place.basket.items() {
         table[*item as usize].add(place.weight);
+    }
+}
+
+/// Adds the supports of another table.
+pub fn add_slots(table: &mut [Slot], more: &[Slot])
+    requires within { length more.now ≤ length table.old }
+    requires fits { (item : ℕ) → unwrap_or (slice_index_or table.old item None) 0 + unwrap_or (slice_index_or more.now item None) 0 ≤ MOST_WEIGHT }
+    ensures { (item : ℕ) → slice_index_or table.new item None ≡ slots_joined (slice_index_or table.old item None) (slice_index_or more.now item None) }
+{
+    for (item, slot) in more.iter().enumerate() {
+        if let Some(support) = slot.support() {
+            table[item].add(support);
+        }
     }
 }
 

@@ -7,7 +7,7 @@ ghost use Rattle.basket_sets.specs.ItemTable.{HasCounted};
 ghost use Rattle.basket_sets.specs.Itemset.{IsRising};
 ghost use Rattle.basket_sets.specs.Support.{all_items, total_of};
 
-use crate::counts::{SMALL_TABLE, add_places, greatest_item, listed, occurrences};
+use crate::counts::{SMALL_TABLE, add_places, add_slots, greatest_item, listed, occurrences};
 use crate::slot::Slot;
 use crate::weighted::Weighted;
 use std::alloc::{AllocError, Global};
@@ -65,20 +65,32 @@ impl ItemTable {
         if greatest >= SMALL_TABLE && greatest >= occurrences {
             return Ok(false);
         }
-        self.reach(greatest)?;
+        self.reach(greatest + 1)?;
         self.count(baskets, occurrences);
         Ok(true)
     }
 
-    /// Makes the table reach an item.
-    fn reach(&mut self, item: usize) -> Result<(), AllocError>
-        requires { item < 2 ^ 32 }
-        ensures reaches { OnOk result (item < length self.new.slots) }
+    /// Counts the baskets that another table has counted.
+    pub fn append(&mut self, other: &ItemTable) -> Result<(), AllocError>
+        requires { self.old.total + other.now.total ≤ MOST_WEIGHT }
+        ensures { OnOk result ((before more : List Place) → HasCounted self.old before → HasCounted other.now more → HasCounted self.new (before ++ more)) }
+    {
+        self.reach(other.slots.len())?;
+        add_slots(&mut self.slots, &other.slots);
+        self.total += other.total;
+        self.occurrences = self.occurrences.saturating_add(other.occurrences);
+        Ok(())
+    }
+
+    /// Makes the table have so many slots.
+    fn reach(&mut self, slots: usize) -> Result<(), AllocError>
+        requires { slots ≤ 2 ^ 32 }
+        ensures reaches { OnOk result (slots ≤ length self.new.slots) }
         ensures same { OnOk result ((before : List Place) → HasCounted self.old before → HasCounted self.new before) }
         ensures total { self.new.total ≡ self.old.total }
     {
-        if item >= self.slots.len() {
-            self.slots.resize(item + 1, Slot::empty())?;
+        if slots > self.slots.len() {
+            self.slots.resize(slots, Slot::empty())?;
         }
         Ok(())
     }

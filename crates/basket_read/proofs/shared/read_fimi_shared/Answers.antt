@@ -6,7 +6,6 @@ use Rattle.basket_read.specs.Input.{IsInputSoFar}
 use Rattle.basket_read.specs.Read.{FailsAfter}
 use Rattle.basket_read.specs.Text.{Answers}
 use Rattle.basket_read.specs.declared.fault.ReadFault.TheVariants.{Read}
-use Rattle.basket_read.proofs.PartsLemmas.{answers_all}
 use Rattle.basket_read.proofs.ReadLemmas.{memory_answer, not_answered, if_some}
 use Rattle.basket_read.proofs.shared.read_fimi_shared.Goals as goal
 
@@ -32,16 +31,16 @@ returns-in_err-read_batches-clause-read_is_failed g c = λ e.
     let is_read : c.in_err-read_batches.field-0.0 ≡ Read = cc (p.1, p.2, e) in
     c.in_err-read_batches.ensures.stops.read_is_failed is_read
 
-pub finish-requires : goal.finish-requires
-finish-requires g c = let read = c.in_ok-read_batches.ensures.read in ∣ ([], read.0, read.1) ∣₁
+pub into_baskets-requires : goal.into_baskets-requires
+into_baskets-requires g c = let read = c.in_ok-read_batches.ensures.read in ∣ ([], read.0, read.1) ∣₁
 
 pub returns-clause-exact : goal.returns-clause-exact
 returns-clause-exact g c = λ _.
-    if_some (g.S.Source.left c.args.reader.now) (IsInputSoFar c.read_batches.new.parts []) (λ bytes. Answers c.finish.result (fimi_of bytes)) c.in_ok-read_batches.ensures.all.1
-    (λ bytes r. answers_all c.finish.result (fimi_of bytes) (c.finish.ensures [] bytes r))
+    if_some (g.S.Source.left c.args.reader.now) (IsInputSoFar c.read_batches.new.parts []) (λ bytes. Answers c.into_baskets.result (fimi_of bytes)) c.in_ok-read_batches.ensures.all.1
+    c.into_baskets.ensures
 
 pub returns-clause-read_is_failed : goal.returns-clause-read_is_failed
 returns-clause-read_is_failed g c = λ e.
     let read = c.in_ok-read_batches.ensures.read in
-    let answers = subst (λ r. Answers r (fimi_of read.0)) e (answers_all c.finish.result (fimi_of read.0) (c.finish.ensures [] read.0 read.1)) in
+    let answers = subst (λ r. Answers r (fimi_of read.0)) e (c.into_baskets.ensures read.0 read.1) in
     absurd (not_answered read.0 (answers (λ m. absurd cc)))

@@ -38,5 +38,5 @@ returns-in_err-feed-2 c = λ past bytes r.
 
 pub returns : goal.returns
 returns c = λ past bytes r.
-    with_text c.args.self.now past bytes r c.feed-2.new.self c.args.piece.now c.requires.decided (omega (arith, r.few, r.taken))
+    with_text c.args.self.now past bytes r c.feed-2.new.self past c.args.piece.now c.requires.decided (omega (arith, r.few, r.taken))
     (c.in_ok-feed-2.ensures past (text_of bytes) (at_front c.args.self.now past bytes r Decided c.requires.decided).1)

@@ -6,4 +6,4 @@ pub take-requires : goal.take-requires
 take-requires c = ∥∥₁_map c.requires (λ w. (w.1.0, w.0, w.1.1))
 
 pub count-requires : goal.count-requires
-count-requires c = ∥∥₁_map c.requires (λ w. (w.0 ++ c.args.piece.now, (w.1.0, c.in_ok-take.ensures w.1.0 w.0 w.1.1, w.1.2)))
+count-requires c = ∥∥₁_map c.requires (λ w. (w.0 ++ c.args.piece.now, (w.1.0, c.in_ok-take.ensures w.1.0 w.0 w.1.1)))

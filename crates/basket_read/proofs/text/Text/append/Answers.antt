@@ -12,7 +12,8 @@ pub overflow_add-self : goal.overflow_add-self
 overflow_add-self c = omega (arith, few_joined c.args.self.now c.args.other c.requires, c.in_ok-add_baskets.ensures.lines)
 
 pub returns : goal.returns
-returns c = λ past lines more t whole o.
-    texts_joined c.args.self.now c.args.other _ past lines more t whole o
-    (let same = c.in_ok-add_baskets.ensures.lines in omega arith) c.in_ok-add_baskets.ensures.past_weight refl
-    (c.in_ok-add_baskets.ensures.baskets past (flat_map basket_of (cut_at is_line_feed lines).ended) (flat_map basket_of (cut_at is_line_feed more).ended) t.past_weight t.baskets o.baskets)
+returns c = λ past behind lines more t whole o joins.
+    texts_joined c.args.self.now c.args.other _ past behind lines more t whole o
+    (let same = c.in_ok-add_baskets.ensures.lines in omega arith) refl
+    (c.in_ok-add_baskets.ensures.baskets past behind (flat_map basket_of (cut_at is_line_feed lines).ended) (flat_map basket_of (cut_at is_line_feed more).ended)
+    t.counted t.baskets o.counted o.baskets joins)

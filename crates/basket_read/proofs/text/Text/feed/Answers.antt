@@ -14,8 +14,11 @@ take-requires c =
     let here = c.in-Some.ensures.lookup.3 in
     room_after c.args.self.now c.take_numbers.new.self (take i c.args.piece.now) 1 (length c.args.piece.now)
     (omega (arith, length-take i c.args.piece.now, here.0)) c.requires
-    (λ past bytes t. subst (IsTextSoFar c.take_numbers.new.self past) (behind_both bytes c.args.piece.now c.loop-taken.taken c.in_ok-taken.field-0)
-    (c.in_ok-taken.ensures.text past (bytes ++ take c.loop-taken.taken c.args.piece.now) (c.loop-taken.invariant.text past bytes t)))
+    (λ past bytes t. (
+      past,
+      subst (IsTextSoFar c.take_numbers.new.self past) (behind_both bytes c.args.piece.now c.loop-taken.taken c.in_ok-taken.field-0)
+          (c.in_ok-taken.ensures.text past (bytes ++ take c.loop-taken.taken c.args.piece.now) (c.loop-taken.invariant.text past bytes t)),
+    ))
 
 pub returns-in_err-take-in-Some : goal.returns-in_err-take-in-Some
 returns-in_err-take-in-Some c = λ past bytes t.

@@ -49,4 +49,4 @@ returns-else-not-add_times c = λ past bytes t.
 pub returns-in_ok-end_line-in-LineFeed : goal.returns-in_ok-end_line-in-LineFeed
 returns-in_ok-end_line-in-LineFeed c = λ past bytes t.
     takes_line_feed c.args.self.now past bytes t _ c.args.byte c.in-LineFeed.ensures c.in_ok-end_line-in-LineFeed.ensures.line
-    (ap (λ n. n + 1) c.in_ok-end_line-in-LineFeed.ensures.lines) (λ baskets. c.in_ok-end_line-in-LineFeed.ensures.baskets past baskets t.past_weight) c.in_ok-end_line-in-LineFeed.ensures.past_weight
+    (ap (λ n. n + 1) c.in_ok-end_line-in-LineFeed.ensures.lines) (λ baskets. c.in_ok-end_line-in-LineFeed.ensures.baskets past baskets t.counted.total) c.in_ok-end_line-in-LineFeed.ensures.table
