@@ -54,15 +54,18 @@ TABLES = {
 }
 
 SHARED = [
+    (MANY, "items --min 1"),
     (SPARSE, "sets --min 1/1000 --miner apriori"),
-    (FORTY, "sets --min 1% --miner fpgrowth"),
+    (SPARSE, "sets --min 1/1000 --miner eclat-bits"),
+    (FORTY, "sets --min 1% --miner eclat-bits"),
+    (DENSE, "sets --min 10% --miner eclat-bits"),
     (DENSE, "sets --min 5% --miner eclat-bits"),
 ]
 
 # Of which sets `count` has to write the supports: those that are frequent at a minimum.
 GIVEN = [(SPARSE, "1/1000"), (SPARSE, "1/10000"), (DENSE, "10%")]
 
-STAGES = [(SPARSE, "1/200"), (SPARSE, "1/1000")]
+STAGES = [(SPARSE, "1/1000"), (FORTY, "1%"), (DENSE, "10%")]
 
 # The shell ends at once and leaves the program to this process. A process has at least
 # the memory of the one that begins it, and a shell has little.
