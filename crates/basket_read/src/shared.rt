@@ -16,11 +16,11 @@ use basket_stream::Source;
 use std::alloc::Global;
 use std::thread::Threads;
 
-/// A batch has so many bytes for each worker that keeps its baskets, which take more than their text.
-const SHARE: usize = 524_288;
+/// A batch has so many bytes where its baskets are kept, since they take more than their text.
+const BATCH: usize = 2_097_152;
 
-/// And so many for each that counts them, since each batch has a table for each worker.
-const COUNTING_SHARE: usize = 2_097_152;
+/// And so many where they are counted, since each batch has a table for each worker.
+const COUNTING_BATCH: usize = 8_388_608;
 
 /// Reads a FIMI input to its end, as `read_fimi` does, by so many workers.
 pub fn read_fimi_shared<R: Threads + Sync, S: Source>(
@@ -41,7 +41,7 @@ pub fn read_fimi_shared<R: Threads + Sync, S: Source>(
     if workers < 2 {
         return read_fimi(alloc, reader);
     }
-    let mut buffer = vec![in alloc; 0u8; workers as usize * SHARE]?;
+    let mut buffer = vec![in alloc; 0u8; BATCH]?;
     let mut input = Input::new(alloc);
     read_batches(rt, alloc, reader, &mut buffer, &mut input, workers)?;
     input.into_baskets()
@@ -68,7 +68,7 @@ pub fn count_fimi_shared<R: Threads + Sync, S: Source>(
     if workers < 2 {
         return count_fimi(alloc, reader);
     }
-    let mut buffer = vec![in alloc; 0u8; workers as usize * COUNTING_SHARE]?;
+    let mut buffer = vec![in alloc; 0u8; COUNTING_BATCH]?;
     let mut parts = ItemParts::new(alloc);
     read_batches(rt, alloc, reader, &mut buffer, &mut parts, workers)?;
     parts.finish()
