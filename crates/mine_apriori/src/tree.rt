@@ -120,37 +120,31 @@ impl<'a> CandidateTree<'a> {
             0 (length self.now) counts.old counts.new }
         ensures clear { IsClear marks.new }
     {
-        let whole = Rest {
-            items: place.basket.items(),
-            marks: &[],
-            weight: place.weight,
-        };
+        let (basket, weight) = (place.basket.items(), place.weight);
         let roots = self.roots();
-        if self.inner.len() > 1 {
-            // Where the candidates are large, most baskets are left with fewer items than a set
-            // has, and need no marks.
-            let len = keep_used(&self.used, whole.items, kept);
-            let items = &kept[..len];
-            if len <= self.inner.len() {
-                self.walk(0, 0, roots, &Rest { items, ..whole }, counts);
-                return;
-            }
-            mark(marks, items);
-            self.walk(
-                0,
-                0,
-                roots,
-                &Rest {
-                    items,
-                    marks,
-                    ..whole
-                },
-                counts,
-            );
-            unmark(marks, items);
-        } else {
-            self.walk(0, 0, roots, &whole, counts);
+        if self.inner.len() <= 1 {
+            let rest = Rest {
+                items: basket,
+                marks: &[],
+                weight,
+            };
+            self.walk(0, 0, roots, &rest, counts);
+            return;
         }
+        let len = keep_used(&self.used, basket, kept);
+        // Where the candidates are large, most baskets are left with fewer items than a set has.
+        if len <= self.inner.len() {
+            return;
+        }
+        let items = &kept[..len];
+        mark(marks, items);
+        let rest = Rest {
+            items,
+            marks,
+            weight,
+        };
+        self.walk(0, 0, roots, &rest, counts);
+        unmark(marks, items);
     }
 
     /// How many nodes the first depth has.
