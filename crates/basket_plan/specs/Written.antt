@@ -62,7 +62,7 @@ ask_words Closed = codes "closed" ∷ []
 ask_words Maximal = codes "maximal" ∷ []
 ask_words (Rules confidence) = codes "rules" ∷ option_word (codes "conf") (share_text confidence) ∷ []
 
--- a command with texts for the values of its options
+-- the options with texts for their values
 abbrev pub words_with : Text → Text → Text → Text → Text → Text → Text → Bool → Bool → List Text
 words_with minimum form separator miner limit workers pieces header weight =
     option_word (codes "min") minimum

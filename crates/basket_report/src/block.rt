@@ -113,7 +113,7 @@ impl Block {
         }
     }
 
-    /// Writes what waits, and flushes. What waits afterwards isn't said.
+    /// Writes what waits, and flushes. Nothing waits afterwards.
     pub fn finish<W: Sink>(&mut self, writer: &mut W) -> Result<(), Failed>
         ensures ok { (start : Option (List ℕ)) (text : List ℕ)
             → IsOnItsWay start (W.taken writer.old) (W.has_failed writer.old) (W.ends_in_flush writer.old) self.old text
@@ -126,6 +126,7 @@ impl Block {
             → W.ends_in_flush writer.new ≡ true → Appends start (W.taken writer.new) text }
         ensures flushed { OnOk result (W.ends_in_flush writer.new ≡ true) }
         ensures failed { (W.has_failed writer.new ≡ false) ↔ IsOk result }
+        ensures none { self.new ≡ [] }
     {
         self.send(writer);
         if writer.failed() {

@@ -12,7 +12,7 @@ const MOST_TEXTS: usize = 65_536;
 /// Room for what a line has beside its items: two parentheses, a space, a line feed and most counts.
 const COUNT_ROOM: usize = 10;
 
-#[derive(Clone, Copy, Debug)]
+#[derive(Clone, Copy)]
 pub struct Extent {
     lines: usize,
     /// The items of all lines.

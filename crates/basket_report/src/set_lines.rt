@@ -58,7 +58,7 @@ impl SetLines {
     }
 
     /// Writes what waits, then the lines of the sets, and flushes. Where the writer fails, it has taken
-    /// a front of them, and all where the flush alone failed. What waits afterwards isn't said.
+    /// a front of them, and all where the flush alone failed. Nothing waits afterwards.
     pub fn write<R: Threads + Sync, W: Sink>(
         &mut self,
         rt: &R,
@@ -71,6 +71,7 @@ impl SetLines {
         ensures whole { W.ends_in_flush writer.new ≡ true → Appends (W.taken writer.old) (W.taken writer.new) (self.old ++ report_of Numbered sets.now) }
         ensures flushed { OnOk result (W.ends_in_flush writer.new ≡ true) }
         ensures failed { (W.has_failed writer.new ≡ false) ↔ IsOk result }
+        ensures none { self.new ≡ [] }
     {
         self.block.send(writer);
         let mut place = 0;
