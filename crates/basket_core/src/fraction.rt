@@ -1,5 +1,5 @@
 //! Fractions in lowest terms.
-ghost use Rattle.std.specs.Prelude.{◌≡◌, ◌≤◌, ◌%◌};
+ghost use Rattle.std.specs.Prelude.{◌≡◌, ◌≤◌, ◌++◌, ◌%◌, ◌∷◌, decimal, Some};
 ghost use Rattle.std.specs.Int.{IsGcd};
 ghost use Rattle.basket_core.specs.Fraction.{IsLowest, IsRatioOf, lowest};
 
@@ -89,6 +89,8 @@ fn short_divisor(a: u64, b: u64) -> u64
 
 /// The numerator, a slash and the denominator.
 impl fmt::Display for Fraction {
+    ghost output = { λ fraction. Some (decimal fraction.numerator ++ 47 ∷ decimal fraction.denominator) };
+
     fn fmt<W: fmt::Write>(&self, f: &mut fmt::Formatter<W>) -> fmt::Result {
         write!(f, "{}/{}", self.numerator, self.denominator)
     }

@@ -1,5 +1,5 @@
-use Rattle.std.specs.Prelude.{ℕ, Bool, IsTrue, ◌<◌, List, [], ◌∷◌, ◌==◌, nat_lt, if◌then◌else◌}
-use Rattle.std.specs.List.{list_any, list_all}
+use Rattle.std.specs.Prelude.{ℕ, Bool, IsTrue, ◌<◌, List, [], ◌∷◌, ◌++◌, ◌==◌, decimal, nat_lt, if◌then◌else◌}
+use Rattle.std.specs.List.{flat_map, list_any, list_all}
 use Rattle.std.specs.List.Sorted.{IsStrictlySortedBy}
 use Rattle.std.specs.Ordering.{nat_cmp}
 
@@ -28,3 +28,8 @@ rising (number ∷ numbers) = with_item number (rising numbers)
 -- each item of the list is below the bound
 abbrev pub AllBelow : ℕ → List ℕ → Type 0
 AllBelow bound items = (item : ℕ) → IsTrue (has items item) → item < bound
+
+-- the items with one space between
+abbrev pub spaced : List ℕ → List ℕ
+spaced [] = []
+spaced (item ∷ others) = decimal item ++ flat_map (λ other. 32 ∷ decimal other) others

@@ -1,4 +1,4 @@
-ghost use Rattle.std.specs.Prelude.{◌≡◌, ◌≤◌, ◌<◌, [], ◌↔◌, length, map, slice_index_or, IsTrue, IsOk, IfOk, nat_eq};
+ghost use Rattle.std.specs.Prelude.{◌≡◌, ◌≤◌, ◌<◌, [], ◌↔◌, length, map, slice_index_or, IsTrue, IsOk, IfOk, Some, nat_eq};
 ghost use Rattle.std.specs.Cmp.{partial_equiv_from_equiv};
 ghost use Rattle.std.specs.Cmp.Lexicographic.{pointwise, nat_list_eq_equiv};
 ghost use Rattle.std.specs.Hash as fed;
@@ -6,7 +6,7 @@ ghost use Rattle.std.specs.List.{filter_map};
 ghost use Rattle.std.specs.Ordering.{as_partial_cmp};
 ghost use Rattle.std.proofs.Common.{refl};
 ghost use Rattle.basket_sets.specs.Order.{report_order, report_order_total, report_order_ties, report_order_partial, items_fed_alike};
-ghost use Rattle.basket_sets.specs.Itemset.{AllBelow, IsRising, has, contains, rising, with_item};
+ghost use Rattle.basket_sets.specs.Itemset.{AllBelow, IsRising, has, contains, rising, spaced, with_item};
 ghost use Rattle.basket_sets.specs.declared.itemset.TheConstants.{INLINE_ITEMS};
 
 use crate::names::{Names, put_names};
@@ -211,12 +211,15 @@ impl Hash for Itemset {
 
 /// The items with one space between.
 impl fmt::Display for Itemset {
+    ghost output = { λ set. Some (spaced set) };
+
     fn fmt<W: fmt::Write>(&self, f: &mut fmt::Formatter<W>) -> fmt::Result {
-        for (place, item) in self.items().iter().enumerate() {
-            if place > 0 {
-                f.write_str(" ")?;
-            }
-            write!(f, "{item}")?;
+        let Some((first, others)) = self.items().split_first() else {
+            return Ok(());
+        };
+        write!(f, "{first}")?;
+        for item in others {
+            write!(f, " {item}")?;
         }
         Ok(())
     }
