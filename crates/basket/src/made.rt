@@ -88,11 +88,7 @@ impl Made {
     }
 
     /// The text of the report.
-    pub fn into_text<R: Threads + Sync>(
-        self,
-        rt: &R,
-        alloc: Global,
-    ) -> Result<Vec<u8>, AllocError>
+    pub fn into_text<R: Threads + Sync>(self, rt: &R, alloc: Global) -> Result<Vec<u8>, AllocError>
         ensures { IfOk result (λ text. text.items ≡ made_text self) }
     {
         match self {

@@ -98,5 +98,10 @@ fn print_stages<R: Threads + Sync>(
     let (frequent, _) = mine(threads, rt.alloc(), database, &plan, &Open).context(
         "the sets were not found",
     )?;
-    print_stage(rt, "report", workers, timed_report(rt, threads, &frequent, workers, runs)?)
+    print_stage(
+        rt,
+        "report",
+        workers,
+        timed_report(rt, threads, &frequent, workers, runs)?,
+    )
 }

@@ -130,12 +130,7 @@ fn fill_strips<R: Threads + Sync>(
 
 /// Writes the lines of the strips, as far as one has those of the sets behind those of the strip before,
 /// from a place on. The answer is the place behind them.
-fn send_strips<W: Sink>(
-    writer: &mut W,
-    strips: &[Strip],
-    sets: &CountedSets,
-    place: usize,
-) -> usize
+fn send_strips<W: Sink>(writer: &mut W, strips: &[Strip], sets: &CountedSets, place: usize) -> usize
     requires place { place ≤ length sets.now }
     requires strips { All (HasLines sets.now) strips.now }
     ensures place { (place ≤ result) × (result ≤ length sets.now) }

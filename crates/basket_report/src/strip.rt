@@ -95,7 +95,14 @@ impl Strip {
         requires next { self.old.to < 2 ^ 64 - 1 }
         ensures { self.new ≡ record { from = self.old.from; to = self.old.to + 1; text = self.old.text ++ set_line (set_of items.now count) } }
     {
-        self.end = put_line(&mut self.room, self.end, texts, &mut self.counts, items, count);
+        self.end = put_line(
+            &mut self.room,
+            self.end,
+            texts,
+            &mut self.counts,
+            items,
+            count,
+        );
         self.to += 1;
     }
 
