@@ -212,15 +212,22 @@ class Counts(unittest.TestCase):
 
     def test_items_with_great_numbers_are_counted_as_python_counts_them(self) -> None:
         # The greatest come first, so that the first baskets wait for a table with room for them,
-        # and with numbers that no table has room for all of them do.
-        for greatest in (90_000, 4_294_967_295):
+        # and with numbers that no table has room for all of them do, or those of one worker.
+        for greatest, first, last in (
+            (90_000, 60_000, 0),
+            (4_294_967_295, 60_000, 0),
+            (4_294_967_295, 60_000, 30_000),
+            (4_294_967_295, 30_000, 0),
+        ):
             baskets = [
                 [place % 7, greatest - 60_000 + place % 60_000 // 2, greatest]
+                if last < place <= first
+                else [place % 7, 10 + place % 11]
                 for place in range(60_000, 0, -1)
             ]
             counts = Counter(item for basket in baskets for item in basket)
             wanted = "".join(f"{item} ({counts[item]})\n" for item in sorted(counts))
-            with self.subTest(greatest=greatest):
+            with self.subTest(greatest=greatest, first=first, last=last):
                 ended = run(
                     ["items", "--min", "1", "--workers", "2"], inputs.fimi(baskets)
                 )

@@ -6,6 +6,7 @@ import tempfile
 import unittest
 from pathlib import Path
 
+from . import inputs
 from .inputs import lines_of, text_of
 from .program import Run, run, run_script
 from .test_reports import (
@@ -188,6 +189,23 @@ class Count(unittest.TestCase):
         self.assertEqual(lines_of(ended.out), f"(9)|{SETS}")
         ended = counted(text_of(SETS), ended.out, "--form", "counts")
         self.assertEqual(lines_of(ended.out), f"(9)|{SETS}")
+
+    def test_lines_of_few_items_and_of_thousands_are_written_by_any_number_of_workers(
+        self,
+    ) -> None:
+        sets = [
+            list(range(place, place + (3_000 if place % 500 == 0 else 2)))
+            for place in range(1, 6_000)
+        ]
+        given = inputs.fimi([list(range(1, 10_000)), list(range(1, 5_001))])
+        wanted = "(2)\n" + "".join(
+            f"{' '.join(map(str, items))} ({1 + (items[-1] <= 5_000)})\n"
+            for items in sets
+        )
+        for workers in ("1", "4"):
+            with self.subTest(workers=workers):
+                ended = counted(inputs.fimi(sets), given, "--workers", workers)
+                self.assertEqual((ended.out.decode(), ended.said), (wanted, ""))
 
     def test_the_example_of_help_holds(self) -> None:
         said = run(["count", "--help"]).out.decode()
