@@ -52,9 +52,9 @@ pub fn runs_keeping(coded: &Coded, mut runs: Runs, pairs: Vec<Vec<(u32, u64)>>) 
 /// Whether a miner that goes class by class has a count for each pair of ranks. The runs are made in any
 /// case, and sum the pairs of a rank as fast as a triangle that is larger than the caches, and faster
 /// where most baskets are equal to others.
-pub fn pays_for_classes(coded: &Coded, runs: &Runs) -> bool {
+pub fn pays_for_classes(coded: &Coded, lists: &ListBaskets) -> bool {
     let baskets = coded.baskets().len();
-    runs.len() > baskets / SHARED && is_small_triangle(coded.ranks(), baskets / 2)
+    lists.len() > baskets / SHARED && is_small_triangle(coded.ranks(), baskets / 2)
 }
 
 /// Whether a count for each pair of ranks takes no more memory than the baskets, of which there are

@@ -7,8 +7,6 @@ mod MergedLemmas
 mod RunLemmas
 mod RunStepLemmas
 mod RunLoopLemmas
-mod BehindLemmas
-mod HalfLemmas
 mod PairLemmas
 mod SumLemmas
 mod PlaceLemmas

@@ -1,5 +1,5 @@
 -- Parts of a list of ranks, with weights.
-use Rattle.std.specs.Prelude.{◌≤◌, ◌<◌, ◌+◌, ◌^◌, ℕ, List, map}
+use Rattle.std.specs.Prelude.{◌≤◌, ℕ, List, map}
 use Rattle.std.specs.List.{slice_range}
 use Rattle.basket_sets.specs.declared.weighted.Weighted.{Weighted}
 use Rattle.basket_sets.specs.Database.{weighted}
@@ -16,12 +16,3 @@ basket_at ranks span = weighted (slice_range ranks span.start span.end) span.wei
 
 abbrev pub baskets_at : List ℕ → List Span → List Weighted
 baskets_at ranks spans = map (basket_at ranks) spans
-
--- the same part of a list that stands behind so many ranks
-abbrev pub behind : ℕ → Span → Span
-behind ranks span = record { start = ranks + span.start; end = ranks + span.end; weight = span.weight }
-
--- its ends are places behind so many ranks
-pub record FitsBehind (ranks : ℕ) (span : Span) : Type 0 where
-  pub ordered : span.start ≤ span.end
-  pub fits : ranks + span.end < 2 ^ 32

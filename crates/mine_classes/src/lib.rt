@@ -13,7 +13,6 @@ mod covers;
 mod entries;
 mod form;
 mod found;
-mod halves;
 pub mod laws;
 mod list_baskets;
 mod pairs;

@@ -11,8 +11,6 @@ ghost use Rattle.mine_classes.specs.Pairs.{pairs_of};
 ghost use Rattle.mine_classes.specs.Runs.{ArePairsOf, AreRunsOf, HaveAllRuns, HaveRuns, lists_in, with_run};
 ghost use Rattle.mine_classes.specs.Span.{IsWithin, baskets_at};
 
-mod behind;
-
 use crate::list_baskets::ListBaskets;
 use crate::pairs::Sums;
 use crate::span::Span;
@@ -38,8 +36,7 @@ pub struct Runs {
 impl Model for Runs {
     ghost use Rattle.mine_classes.specs.ListBaskets.{RankBaskets, AreRankBaskets};
     ghost use Rattle.mine_classes.specs.Runs.{ArePairsOf, AreRunsOf, HaveAllRuns, lists_in};
-    ghost use Rattle.std.specs.Prelude.{All, length};
-    ghost use Rattle.mine_classes.specs.Span.{IsWithin, baskets_at};
+    ghost use Rattle.mine_classes.specs.Span.{baskets_at};
 
     ghost Value = { RankBaskets };
 
@@ -47,8 +44,7 @@ impl Model for Runs {
 
     ghost invariant = { λ r. AreRankBaskets (record { ranks = r.count; baskets = baskets_at r.ranks.items r.baskets.items })
         × HaveAllRuns r.count r.ranks.items (baskets_at r.ranks.items r.baskets.items) (lists_in r.of.items)
-        × ArePairsOf (baskets_at r.ranks.items r.baskets.items) r.least r.pairs.items
-        × All (IsWithin (length r.ranks.items)) r.baskets.items };
+        × ArePairsOf (baskets_at r.ranks.items r.baskets.items) r.least r.pairs.items };
 }
 
 impl Runs {
@@ -84,13 +80,6 @@ impl Runs {
         ensures { result ≡ self.now.ranks }
     {
         self.count
-    }
-
-    /// How many baskets there are.
-    pub fn len(&self) -> usize
-        ensures { result ≡ length self.now.baskets }
-    {
-        self.baskets.len()
     }
 
     /// The ranks of all baskets, and where the runs of a rank stand among them.

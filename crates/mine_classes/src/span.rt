@@ -1,8 +1,8 @@
-ghost use Rattle.std.specs.Prelude.{◌≡◌, ◌≤◌, ◌<◌, ◌+◌, ◌^◌, IfOk, length};
+ghost use Rattle.std.specs.Prelude.{◌≡◌, ◌≤◌, ◌+◌, IfOk, length};
 ghost use Rattle.std.specs.List.{slice_range};
 ghost use Rattle.basket_sets.specs.Database.{MOST_WEIGHT};
 ghost use Rattle.mine_classes.specs.Runs.{run_at};
-ghost use Rattle.mine_classes.specs.Span.{FitsBehind, IsWithin, behind};
+ghost use Rattle.mine_classes.specs.Span.{IsWithin};
 
 use std::alloc::AllocError;
 
@@ -35,14 +35,6 @@ impl Span {
         Span { end, ..*self }
     }
 
-    /// The same part of a list that stands behind so many ranks.
-    pub fn behind(&self, ranks: u32) -> Span
-        requires { FitsBehind ranks self.now }
-        ensures { result ≡ behind ranks self.now }
-    {
-        self.moved(ranks + self.start, ranks + self.end)
-    }
-
     /// A part of another list with the same weight.
     pub fn moved(&self, start: u32, end: u32) -> Span
         ensures { result ≡ record { start = start; end = end; weight = self.now.weight } }
@@ -65,8 +57,7 @@ impl Span {
 
 /// A place in a list of ranks. More than 4,294,967,295 ranks count as a refused growth.
 pub fn place(len: usize) -> Result<u32, AllocError>
-    ensures is { IfOk result (λ place. place ≡ len) }
-    ensures fits { IfOk result (λ _. len < 2 ^ 32) }
+    ensures { IfOk result (λ place. place ≡ len) }
 {
     if len > u32::MAX as usize {
         return Err(AllocError);

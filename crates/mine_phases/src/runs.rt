@@ -8,11 +8,11 @@ use crate::gate::Open;
 use crate::triangle::triangle_pairs;
 use basket_core::Coded;
 use mine_apriori::{pays_for_classes, runs_keeping};
-use mine_classes::Runs;
+use mine_classes::{ListBaskets, Runs};
 use std::alloc::{AllocError, Global};
 use std::thread::Threads;
 
-/// The runs of the coded baskets, which so many workers make. They keep the frequent pairs of each
+/// The runs of the coded baskets, which so many workers put in order. They keep the frequent pairs of each
 /// rank where it pays to count each pair of ranks, which the workers do over so many parts of the baskets.
 pub fn runs_shared<R: Threads + Sync>(
     rt: &R,
@@ -25,11 +25,11 @@ pub fn runs_shared<R: Threads + Sync>(
     ensures weights { IfOk result (λ runs. HaveSameWeights coded.now.baskets runs.baskets) }
     ensures supports { IfOk result (λ runs. (set : List ℕ) → support_of runs.baskets set ≡ support_of coded.now.baskets set) }
 {
-    let runs = Runs::of_coded(rt, alloc, coded, cutting.workers)?;
-    let pairs = if pays_for_classes(coded, &runs) {
+    let lists = ListBaskets::grouped(rt, alloc, coded, cutting.workers)?;
+    let pairs = if pays_for_classes(coded, &lists) {
         triangle_pairs(rt, alloc, coded, cutting, &Open)?
     } else {
         Vec::new(alloc)
     };
-    Ok(runs_keeping(coded, runs, pairs))
+    Ok(runs_keeping(coded, Runs::of(alloc, lists)?, pairs))
 }

@@ -37,7 +37,7 @@ loop-number-preserved c =
     let front : length locals ≡ first = length-take-le first c.loop-number.locals.items (omega (arith, was.room)) in
     let long : c.put_places-end.result ≡ first + length more =
     sym (length-take-le c.put_places-end.result now (omega (arith, c.put_places-end.ensures.within, c.put_places-end.auto.locals))) ∙ ap length grown ∙ length-append locals more ∙ ap (λ n. n + length more) front in
-    let inside : IsWithin c.put_places-end.result span = record { ordered = omega (arith, c.in_ok-start.ensures.is, c.in_ok-place.ensures.is, long); within = omega (arith, c.in_ok-place.ensures.is) } in
+    let inside : IsWithin c.put_places-end.result span = record { ordered = omega (arith, c.in_ok-start.ensures, c.in_ok-place.ensures, long); within = omega (arith, c.in_ok-place.ensures) } in
     record {
       room = subst (λ l. c.put_places-end.result ≤ length l) (sym same) (omega (arith, c.put_places-end.ensures.within, c.put_places-end.auto.locals));
       within = subst (All (IsWithin c.put_places-end.result)) (sym pushed)
@@ -45,5 +45,5 @@ loop-number-preserved c =
       placed = ap (λ l. baskets_at (take c.put_places-end.result l) c.push.new.self.items) same
           ∙ ap (λ l. baskets_at l c.push.new.self.items) grown ∙ ap (baskets_at (locals ++ more)) pushed
           ∙ placed_more ranks locals c.args.of.now c.args.baskets.now spans i none span c.loop-number-test.true (subst (λ n. All (IsWithin n) spans) (sym front) was.within)
-          more (ap (table_places c.args.of.now) c.of-basket_ranks.ensures) (c.in_ok-start.ensures.is ∙ sym front) (c.in_ok-place.ensures.is ∙ long ∙ ap (λ n. n + length more) (sym front)) refl was.placed;
+          more (ap (table_places c.args.of.now) c.of-basket_ranks.ensures) (c.in_ok-start.ensures ∙ sym front) (c.in_ok-place.ensures ∙ long ∙ ap (λ n. n + length more) (sym front)) refl was.placed;
     }

@@ -13,7 +13,7 @@ of_spans-requires-clause-ranked c =
     let table = c.self.inside.of in
     let whole = c.deref.ensures.value ∙ written table.len table.items c.put.new.of (omega (arith, table.ok)) (omega (arith, table.ok, c.put.auto.of, c.deref_mut.ensures.len)) in
     let coded = c.in_ok-coded.ensures.placed ∙ table_coded kept c.requires.rises c.deref.result.now c.args.self.now baskets (subst (ArePlaces kept) (sym whole) c.put.ensures) c.requires.ranked.places in
-    rw (c.in_ok-count.ensures.is, coded) (coded_rank_baskets kept c.args.self.now baskets c.requires.ranked)
+    rw (c.in_ok-count.ensures, coded) (coded_rank_baskets kept c.args.self.now baskets c.requires.ranked)
 
 pub returns-clause-weights : goal.returns-clause-weights
 returns-clause-weights c = λ test.
