@@ -14,7 +14,7 @@ use std::alloc::{AllocError, Global};
 use std::marker::Model;
 
 /// So many bytes are made at once.
-const ROOM: usize = 131_072;
+const ROOM: usize = 524_288;
 
 /// The lines of longer sets are made by another way.
 const LONGEST: usize = 1_024;
