@@ -1,9 +1,7 @@
 -- The counts of given sets.
-use Rattle.std.proofs.Common.{◌≡◌, ◌≢◌, ◌∙◌, ◌<◌, ◌+◌, ℕ, zero, suc, Bool, true, false, List, [], ◌∷◌, Option, Some, None, Result, Ok, Err, Global, ap, arith, cond, drop, get_or, length, refl, subst}
+use Rattle.std.proofs.Common.{◌≡◌, ◌≢◌, ◌∙◌, ◌<◌, ◌+◌, ℕ, zero, suc, Bool, true, false, List, [], ◌∷◌, Option, Some, None, Result, Ok, Err, Global, ap, arith, drop, get_or, length, refl, subst}
 use Rattle.std.specs.Prelude.{IfSome, MatchResult}
-use Rattle.basket_parts.specs.Together.{count_if, count_in, has_set}
 use Rattle.basket_plan.specs.declared.layout.Layout.{Layout}
-use Rattle.basket_read.specs.declared.counted_line.CountedLine.{CountedLine}
 use Rattle.basket_read.specs.declared.fault.ReadFault.{ReadFault}
 use Rattle.basket_read.specs.declared.fault.ReadFault.TheVariants.{Memory, Read}
 use Rattle.basket.specs.declared.contents.Contents.{Contents}
@@ -11,31 +9,11 @@ use Rattle.basket.specs.declared.fault.RunFault.{RunFault}
 use Rattle.basket.specs.declared.fault.RunFault.TheVariants.{Input, Sets, Uncounted, Mine, Write}
 use Rattle.basket.specs.declared.made.Made.{Made}
 use Rattle.basket.specs.Contents.{Answers, AskedAnswers, asked_in, contents_of}
-use Rattle.basket.specs.Count.{IsCountsFault, MakesCounts, OfBoth, count_outcome, counts_in, first_uncounted, of_asked, of_contents}
+use Rattle.basket.specs.Count.{IsCountsFault, MakesCounts, OfBoth, count_outcome, counts_in, of_asked, of_contents}
 use Rattle.basket.specs.Made.{made_text}
 use Rattle.mine_sets.specs.Asked.{asked_of}
 
 -- ---- sums of counts
-
--- a set that has a sum is there
-pub sum_there : (lines : List CountedLine) (set : List ℕ) (count : ℕ) → Some count ≡ count_if lines set → (has_set lines set ≡ true) × (count ≡ count_in lines set)
-sum_there lines set count e = go (has_set lines set) e
-  where
-    go : (b : Bool) → Some count ≡ cond b (Some (count_in lines set)) None → (b ≡ true) × (count ≡ count_in lines set)
-    go true e = (refl, ap (some_or count) e)
-      where
-        some_or : ℕ → Option ℕ → ℕ
-        some_or other (Some n) = n
-        some_or other None = other
-    go false e = absurd cc
-
--- one that has none is not
-pub sum_missing : (lines : List CountedLine) (set : List ℕ) → None ≡ count_if lines set → has_set lines set ≡ false
-sum_missing lines set e = go (has_set lines set) e
-  where
-    go : (b : Bool) → None ≡ cond b (Some (count_in lines set)) None → b ≡ false
-    go true e = absurd cc
-    go false e = refl
 
 -- the rest of the sets from a place on
 rest_from : (sets : List (List ℕ)) (place : ℕ) → place < length sets → drop place sets ≡ get_or sets place [] ∷ drop (place + 1) sets
@@ -44,19 +22,6 @@ rest_from (set ∷ sets) zero below = refl
 rest_from (set ∷ sets) (suc place) below =
     let one_more : suc (place + 1) ≡ suc place + 1 = omega arith in
     rest_from sets place (omega (arith, below)) ∙ ap (λ n. get_or sets place [] ∷ drop n (set ∷ sets)) one_more
-
--- where a set is there, the first that is not is one behind it
-pub uncounted_behind : (lines : List CountedLine) (sets : List (List ℕ)) (place : ℕ) → place < length sets → has_set lines (get_or sets place []) ≡ true
-    → first_uncounted lines place (drop place sets) ≡ first_uncounted lines (place + 1) (drop (place + 1) sets)
-uncounted_behind lines sets place below there =
-    ap (first_uncounted lines place) (rest_from sets place below)
-    ∙ ap (λ b. cond b (first_uncounted lines (place + 1) (drop (place + 1) sets)) (Some place)) there
-
-pub uncounted_here : (lines : List CountedLine) (sets : List (List ℕ)) (place : ℕ) → place < length sets → has_set lines (get_or sets place []) ≡ false
-    → first_uncounted lines place (drop place sets) ≡ Some place
-uncounted_here lines sets place below missing =
-    ap (first_uncounted lines place) (rest_from sets place below)
-    ∙ ap (λ b. cond b (first_uncounted lines (place + 1) (drop (place + 1) sets)) (Some place)) missing
 
 abbrev pub was_read : {X : Type 0} → X → Result X ReadFault
 was_read x = Ok x

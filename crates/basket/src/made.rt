@@ -1,7 +1,7 @@
 //! A report that is made and not written yet.
 ghost use Rattle.std.specs.Prelude.{◌≡◌, ◌↔◌, List, true, false, IfOk, IsOk, OnErr, OnOk};
 ghost use Rattle.std.specs.Io.KnownBytes.{Appends};
-ghost use Rattle.basket_report.specs.Block.{TakesFront};
+ghost use Rattle.basket_report.specs.Bytes.{TakesFront};
 ghost use Rattle.basket_report.specs.Report.{report_of};
 ghost use Rattle.basket_report.specs.Style.{wording_of};
 ghost use Rattle.basket_rules.specs.Condensed.{closed_in, closed_of, maximal_in, maximal_of};

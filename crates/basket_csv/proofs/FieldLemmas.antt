@@ -3,7 +3,7 @@ use Rattle.std.proofs.Common.{◌≡◌, ℕ, ◌+◌, ◌-◌, ◌<◌, ◌≤�
 use Rattle.std.specs.Str.{IsUtf8, IsCharBoundary, is_utf8}
 use Rattle.std.specs.Option.{MatchOption}
 use Rattle.std.specs.Result.{MatchResult, result_ok}
-use Rattle.std.proofs.lemmas.Str.{IsCharBoundary-after_ascii, IsCharBoundary-before_ascii, is_utf8-from_IsUtf8, IsUtf8-from_is_utf8}
+use Rattle.std.proofs.lemmas.Str.{IsCharBoundary-after_ascii, is_utf8-from_IsUtf8, IsUtf8-from_is_utf8}
 use Rattle.std.proofs.lemmas.Bool.{false_from_ne_true}
 use Rattle.std.proofs.lemmas.Bool.Decides.{nat_tests}
 use Rattle.std.specs.List.{prefix_len, suffix_len, slice_range}
@@ -18,9 +18,6 @@ cut_after_spaces text n utf8 within space some =
     let same : n - 1 + 1 ≡ n = omega arith in
     let P : ℕ → Type 0 = λ k. IsCharBoundary text k in
     subst P same (IsCharBoundary-after_ascii text (n - 1) utf8 (omega arith) ascii)
-
-pub cut_before_spaces : (text : List ℕ) (n : ℕ) → (n < length text → is_space (get_or text n 0) ≡ true) → n < length text → IsCharBoundary text n
-cut_before_spaces text n space more = IsCharBoundary-before_ascii text n more (space_is_ascii (get_or text n 0) (space more))
 
 pub not_utf8 : (bytes : List ℕ) → ¬ (IsUtf8 bytes) → is_utf8 bytes ≡ false
 not_utf8 bytes none = false_from_ne_true (is_utf8 bytes) (λ e. none (IsUtf8-from_is_utf8 bytes e))

@@ -22,9 +22,6 @@ pub record SaysSame (a b : List CountedLine) (set : List ℕ) : Type 0 where
 pub says_itself : (a : List CountedLine) (set : List ℕ) → SaysSame a a set
 says_itself a set = record { has = refl; count = refl; line = refl }
 
-pub says_back : (a b : List CountedLine) (set : List ℕ) → SaysSame a b set → SaysSame b a set
-says_back a b set s = record { has = sym s.has; count = sym s.count; line = sym s.line }
-
 pub says_on : (a b c : List CountedLine) (set : List ℕ) → SaysSame a b set → SaysSame b c set → SaysSame a c set
 says_on a b c set s t = record { has = s.has ∙ t.has; count = s.count ∙ t.count; line = s.line ∙ t.line }
 

@@ -1,4 +1,4 @@
-mod BlockLemmas
+mod BytesLemmas
 mod Fronts
 mod RoomLemmas
 mod RuleLemmas

@@ -2,7 +2,7 @@ pub mod Style
 pub mod Texts
 pub mod Lines
 pub mod Room
-pub mod Block
+pub mod Bytes
 pub mod Table
 pub mod Report
 pub mod Strip

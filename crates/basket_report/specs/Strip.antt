@@ -4,11 +4,12 @@ use Rattle.basket_sets.specs.declared.counted.Counted.{Counted}
 use Rattle.basket_report.specs.Report.{report_of}
 use Rattle.basket_report.specs.Style.{Numbered}
 
--- a text, and the places of the sets whose lines it has
+-- a text, the places of the sets whose lines it has, and how many bytes there is room for
 pub record Stretch : Type 0 where
   pub from : ℕ
   pub to : ℕ
   pub text : List ℕ
+  pub room : ℕ
 
 -- the text has the lines of these of the sets
 pub record HasLines (sets : List Counted) (strip : Stretch) : Type 0 where

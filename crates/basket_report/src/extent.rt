@@ -1,6 +1,4 @@
 //! What is known of sets before their lines are written.
-ghost use Rattle.std.specs.Prelude.{◌≤◌};
-
 use crate::count_texts::CountTexts;
 use crate::texts::Texts;
 use basket_core::{Counted, CountedSets};
@@ -11,6 +9,11 @@ const MOST_TEXTS: usize = 65_536;
 
 /// Room for what a line has beside its items: two parentheses, a space, a line feed and most counts.
 const COUNT_ROOM: usize = 10;
+
+/// How many bytes a strip has room for: at least so many that the line of a set of `LONGEST` items finds
+/// room in it, and at most so many that threads live long beside what it takes to start them.
+const LEAST_STRIP: usize = 65_536;
+const MOST_STRIP: usize = 2_097_152;
 
 #[derive(Clone, Copy)]
 pub struct Extent {
@@ -64,10 +67,17 @@ impl Extent {
         self.items.saturating_mul(digits + 1).saturating_add(counts)
     }
 
-    /// How long its lines are on average, at least 1.
-    pub fn line_room(self) -> usize
-        ensures { 1 ≤ result }
-    {
-        (self.room() / self.lines.max(1)).max(1)
+    /// How many bytes each of so many strips has room for: twice its part of the report, within bounds.
+    pub fn strip_room(self, strips: u32) -> usize {
+        (self.room() / strips.max(1) as usize)
+            .saturating_mul(2)
+            .clamp(LEAST_STRIP, MOST_STRIP)
+    }
+
+    /// How many sets each of so many strips takes at once: those whose lines fill half of it, where they
+    /// are like most, so that few have more lines than it has room for.
+    pub fn share(self, strips: u32) -> usize {
+        let line = (self.room() / self.lines.max(1)).max(1);
+        (self.strip_room(strips) / 2 / line).max(1)
     }
 }

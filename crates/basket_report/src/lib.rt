@@ -1,7 +1,7 @@
 //! The bytes of a report: a line of numbers for each set or rule, or a CSV record of names.
 #![tactic(auto)]
 
-mod block;
+mod bytes;
 mod count_text;
 mod count_texts;
 mod extent;
@@ -19,7 +19,7 @@ mod style;
 mod table;
 mod texts;
 
-pub use block::write_bytes;
+pub use bytes::write_bytes;
 pub use items::items_report;
 pub use rules::rules_report;
 pub use set_lines::SetLines;

@@ -8,7 +8,7 @@ use crate::count_text::CountText;
 use crate::extent::Extent;
 use crate::ratios::Ratios;
 use crate::texts::{Texts, put_front};
-use basket_core::{Counted, CountedSets};
+use basket_core::Counted;
 use basket_rules::{Figures, Sides};
 use std::alloc::{AllocError, Global};
 use std::marker::Model;
@@ -41,19 +41,6 @@ impl Lines {
             count: CountText::new(0),
             ratios: Ratios::none(alloc),
             text: Vec::new(alloc),
-        })
-    }
-
-    /// No lines, with room for those of the sets.
-    pub fn for_sets(alloc: Global, sets: &CountedSets) -> Result<Self, AllocError>
-        ensures { IfOk result (λ lines. lines ≡ []) }
-    {
-        let extent = Extent::of(sets);
-        Ok(Lines {
-            texts: extent.texts(alloc)?,
-            count: CountText::new(0),
-            ratios: Ratios::none(alloc),
-            text: Vec::with_capacity(alloc, extent.room())?,
         })
     }
 

@@ -7,7 +7,7 @@ ghost use Rattle.basket_report.specs.Style.{Wording, wording_of};
 use crate::lines::Lines;
 use crate::style::Style;
 use crate::table::Table;
-use basket_core::{Counted, CountedSets, Unpacked};
+use basket_core::{Counted, Unpacked};
 use basket_rules::{Figures, Lookups, MetRule, Sides};
 use std::alloc::{AllocError, Global};
 
@@ -27,16 +27,6 @@ impl<'a> Report<'a> {
             Style::Numbers => Report::Lines(Lines::new(alloc)?),
             Style::Names { names, separator } => Report::Table(Table::new(alloc, names, separator)),
         })
-    }
-
-    /// An empty report, with room for the lines of the sets.
-    pub fn for_sets(alloc: Global, style: Style<'a>, sets: &CountedSets) -> Result<Self, AllocError>
-        ensures { IfOk result (λ report. HasSoFar report (wording_of style.entry) []) }
-    {
-        match style {
-            Style::Numbers => Ok(Report::Lines(Lines::for_sets(alloc, sets)?)),
-            Style::Names { .. } => Report::new(alloc, style),
-        }
     }
 
     /// An empty report, for rules between the sets.

@@ -1,20 +1,21 @@
 //! The lines of sets, which are written as they are made.
-ghost use Rattle.std.specs.Prelude.{◌≡◌, ◌↔◌, ◌≤◌, ◌<◌, ◌+◌, ◌++◌, [], ℕ, List, Option, All, true, false, length, take, IfOk, IsOk, OnErr, OnOk};
+ghost use Rattle.std.specs.Prelude.{◌≡◌, ◌↔◌, ◌≤◌, ◌<◌, ◌+◌, ◌++◌, ℕ, List, Option, All, true, false, length, take, IsOk, OnErr, OnOk};
 ghost use Rattle.std.specs.Io.KnownBytes.{Appends};
-ghost use Rattle.std.specs.Thread.{IsSync};
-ghost use Rattle.basket_report.specs.Block.{IsOnItsWay, TakesFront};
-ghost use Rattle.basket_report.specs.Report.{report_of};
+ghost use Rattle.basket_report.specs.Bytes.{IsWritten, TakesFront};
+ghost use Rattle.basket_report.specs.Lines.{set_line};
+ghost use Rattle.basket_report.specs.Report.{report_of, set_of};
 ghost use Rattle.basket_report.specs.Strip.{HasLines};
 ghost use Rattle.basket_report.specs.Style.{Numbered};
 
-use crate::block::{Block, send_bytes};
-use crate::count_texts::CountTexts;
+use crate::bytes::send_bytes;
+use crate::count_text::CountText;
 use crate::extent::Extent;
-use crate::strip::Strip;
+use crate::item_text::ITEM_TEXT_ROOM;
+use crate::room::put_items;
+use crate::strip::{LONGEST, Strip};
 use crate::texts::Texts;
 use basket_core::{CountedSets, Failed, MOST_ITEMS, Sink};
 use std::alloc::{AllocError, Global};
-use std::marker::Model;
 use std::thread::{self, Threads};
 
 /// What it takes to write the lines of sets, a strip a worker at a time. Once it is made no memory is
@@ -25,40 +26,25 @@ pub struct SetLines {
     strips: Vec<Strip>,
     /// How many sets a strip takes.
     share: usize,
-    /// Of sets that no strip takes.
-    counts: CountTexts,
-    block: Block,
-}
-
-impl Model for SetLines {
-    ghost use Rattle.std.specs.Prelude.{ℕ, List};
-
-    ghost Value = { List ℕ };
-
-    ghost view = { λ lines. lines.block };
 }
 
 impl SetLines {
     /// Nothing is written yet. So many workers will make the lines.
-    pub fn new(alloc: Global, sets: &CountedSets, workers: u32) -> Result<Self, AllocError>
-        ensures { IfOk result (λ lines. lines ≡ []) }
-    {
+    pub fn new(alloc: Global, sets: &CountedSets, workers: u32) -> Result<Self, AllocError> {
         let extent = Extent::of(sets);
         let mut strips = Vec::with_capacity(alloc, workers as usize)?;
         for _worker in 0..workers {
-            strips.push(Strip::new(alloc, extent)?)?;
+            strips.push(Strip::new(alloc, extent, workers)?)?;
         }
         Ok(SetLines {
             texts: extent.texts(alloc)?,
             strips,
-            share: Strip::share(extent),
-            counts: extent.counts(alloc)?,
-            block: Block::new(alloc)?,
+            share: extent.share(workers),
         })
     }
 
-    /// Writes what waits, then the lines of the sets, and flushes. Where the writer fails, it has taken
-    /// a front of them, and all where the flush alone failed. Nothing waits afterwards.
+    /// Writes the lines of the sets, and flushes. Where the writer fails, it has taken a front of them,
+    /// and all where the flush alone failed.
     pub fn write<R: Threads + Sync, W: Sink>(
         &mut self,
         rt: &R,
@@ -66,40 +52,25 @@ impl SetLines {
         writer: &mut W,
     ) -> Result<(), Failed>
         requires { W.has_failed writer.old ≡ false }
-        ensures ok { OnOk result (Appends (W.taken writer.old) (W.taken writer.new) (self.old ++ report_of Numbered sets.now)) }
-        ensures err { OnErr result (TakesFront (W.taken writer.old) (W.taken writer.new) (self.old ++ report_of Numbered sets.now)) }
-        ensures whole { W.ends_in_flush writer.new ≡ true → Appends (W.taken writer.old) (W.taken writer.new) (self.old ++ report_of Numbered sets.now) }
+        ensures ok { OnOk result (Appends (W.taken writer.old) (W.taken writer.new) (report_of Numbered sets.now)) }
+        ensures err { OnErr result (TakesFront (W.taken writer.old) (W.taken writer.new) (report_of Numbered sets.now)) }
+        ensures whole { W.ends_in_flush writer.new ≡ true → Appends (W.taken writer.old) (W.taken writer.new) (report_of Numbered sets.now) }
         ensures flushed { OnOk result (W.ends_in_flush writer.new ≡ true) }
         ensures failed { (W.has_failed writer.new ≡ false) ↔ IsOk result }
-        ensures none { self.new ≡ [] }
     {
-        self.block.send(writer);
         let mut place = 0;
         while place < sets.len() {
             fill_strips(rt, &mut self.strips, &self.texts, sets, place, self.share);
             let next = send_strips(writer, &self.strips, sets, place);
             if next == place {
-                self.put(sets, place, writer);
+                send_set(writer, &self.texts, sets, place);
             }
             place = next.max(place + 1);
         }
-        self.block.finish(writer)
-    }
-
-    /// Writes the line of a set that no strip takes.
-    fn put<W: Sink>(&mut self, sets: &CountedSets, place: usize, writer: &mut W)
-        requires { place < length sets.now }
-        ensures way { (start : Option (List ℕ)) (text : List ℕ)
-            → IsOnItsWay start (W.taken writer.old) (W.has_failed writer.old) (W.ends_in_flush writer.old) self.old (text ++ report_of Numbered (take place sets.now))
-            → IsOnItsWay start (W.taken writer.new) (W.has_failed writer.new) (W.ends_in_flush writer.new) self.new (text ++ report_of Numbered (take (place + 1) sets.now)) }
-        ensures none { self.new ≡ [] }
-    {
-        let mut room = [0u32; MOST_ITEMS];
-        let items = sets.items(place, &mut room);
-        let count = sets.count(place);
-        self.block
-            .put_set(writer, &self.texts, &mut self.counts, items, count);
-        self.block.send(writer);
+        if writer.failed() {
+            return Err(Failed);
+        }
+        writer.flush()
     }
 }
 
@@ -134,9 +105,9 @@ fn send_strips<W: Sink>(writer: &mut W, strips: &[Strip], sets: &CountedSets, pl
     requires place { place ≤ length sets.now }
     requires strips { All (HasLines sets.now) strips.now }
     ensures place { (place ≤ result) × (result ≤ length sets.now) }
-    ensures way { (start : Option (List ℕ)) (text : List ℕ)
-        → IsOnItsWay start (W.taken writer.old) (W.has_failed writer.old) (W.ends_in_flush writer.old) [] (text ++ report_of Numbered (take place sets.now))
-        → IsOnItsWay start (W.taken writer.new) (W.has_failed writer.new) (W.ends_in_flush writer.new) [] (text ++ report_of Numbered (take result sets.now)) }
+    ensures way { (start : Option (List ℕ))
+        → IsWritten start (W.taken writer.old) (W.has_failed writer.old) (W.ends_in_flush writer.old) (report_of Numbered (take place sets.now))
+        → IsWritten start (W.taken writer.new) (W.has_failed writer.new) (W.ends_in_flush writer.new) (report_of Numbered (take result sets.now)) }
 {
     let mut next = place;
     for strip in strips {
@@ -147,4 +118,34 @@ fn send_strips<W: Sink>(writer: &mut W, strips: &[Strip], sets: &CountedSets, pl
         next = strip.to();
     }
     next
+}
+
+/// Writes the line of a set that no strip takes.
+fn send_set<W: Sink>(writer: &mut W, texts: &Texts, sets: &CountedSets, place: usize)
+    requires { place < length sets.now }
+    ensures { (start : Option (List ℕ))
+        → IsWritten start (W.taken writer.old) (W.has_failed writer.old) (W.ends_in_flush writer.old) (report_of Numbered (take place sets.now))
+        → IsWritten start (W.taken writer.new) (W.has_failed writer.new) (W.ends_in_flush writer.new) (report_of Numbered (take (place + 1) sets.now)) }
+{
+    let mut room = [0u32; MOST_ITEMS];
+    let items = sets.items(place, &mut room);
+    send_line(writer, texts, items, sets.count(place));
+}
+
+/// Writes the line of a set, so many items at a time.
+fn send_line<W: Sink>(writer: &mut W, texts: &Texts, items: &[u32], count: u64)
+    ensures { (start : Option (List ℕ)) (text : List ℕ)
+        → IsWritten start (W.taken writer.old) (W.has_failed writer.old) (W.ends_in_flush writer.old) text
+        → IsWritten start (W.taken writer.new) (W.has_failed writer.new) (W.ends_in_flush writer.new) (text ++ set_line (set_of items.now count)) }
+{
+    let mut room = [0u8; ITEM_TEXT_ROOM * LONGEST];
+    let mut start = 0;
+    while start < items.len() {
+        let end = items.len().min(start + LONGEST);
+        let text = put_items(&mut room, 0, texts, &items[start..end]);
+        send_bytes(writer, &room[..text]);
+        start = end;
+    }
+    let text = CountText::new(count);
+    send_bytes(writer, &text.bytes[..text.length + 1]);
 }

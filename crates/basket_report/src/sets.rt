@@ -16,7 +16,7 @@ pub fn sets_report(
 ) -> Result<Vec<u8>, AllocError>
     ensures { IfOk result (λ report. report.items ≡ report_of (wording_of style.entry) sets.now) }
 {
-    let mut report = Report::for_sets(alloc, style, sets)?;
+    let mut report = Report::new(alloc, style)?;
     let mut room = [0u32; MOST_ITEMS];
     for place in 0..sets.len() {
         report.put_set(sets.items(place, &mut room), sets.count(place))?;

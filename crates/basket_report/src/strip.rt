@@ -13,11 +13,8 @@ use basket_core::{CountedSets, MOST_ITEMS};
 use std::alloc::{AllocError, Global};
 use std::marker::Model;
 
-/// So many bytes are made at once.
-const ROOM: usize = 524_288;
-
-/// The lines of longer sets are made by another way.
-const LONGEST: usize = 1_024;
+/// No strip takes the line of a set of more items.
+pub const LONGEST: usize = 1_024;
 
 /// The lines of the sets from one place up to another, at the front of a room.
 #[derive(Debug, Drop)]
@@ -31,34 +28,26 @@ pub struct Strip {
 }
 
 impl Model for Strip {
-    ghost use Rattle.std.specs.Prelude.{◌≡◌, ◌≤◌, length, take};
+    ghost use Rattle.std.specs.Prelude.{◌≤◌, length, take};
     ghost use Rattle.basket_report.specs.Strip.{Stretch};
-    ghost use Rattle.basket_report.specs.declared.strip.TheConstants.{ROOM};
 
     ghost Value = { Stretch };
 
-    ghost view = { λ strip. record { from = strip.from; to = strip.to; text = take strip.end strip.room.items } };
+    ghost view = { λ strip. record { from = strip.from; to = strip.to; text = take strip.end strip.room.items; room = length strip.room.items } };
 
-    ghost invariant = { λ strip. (length strip.room.items ≡ ROOM) × (strip.end ≤ ROOM) };
+    ghost invariant = { λ strip. strip.end ≤ length strip.room.items };
 }
 
 impl Strip {
-    /// No lines yet.
-    pub fn new(alloc: Global, extent: Extent) -> Result<Self, AllocError>
-        ensures { IfOk result (λ strip. strip ≡ record { from = 0; to = 0; text = [] }) }
-    {
+    /// No lines yet. There will be so many strips.
+    pub fn new(alloc: Global, extent: Extent, strips: u32) -> Result<Self, AllocError> {
         Ok(Strip {
             counts: extent.counts(alloc)?,
-            room: vec![in alloc; 0u8; ROOM]?,
+            room: vec![in alloc; 0u8; extent.strip_room(strips)]?,
             from: 0,
             to: 0,
             end: 0,
         })
-    }
-
-    /// How many of the sets a strip has room for, where they are like most of them.
-    pub fn share(extent: Extent) -> usize {
-        (ROOM / 2 / extent.line_room()).max(1)
     }
 
     /// Makes the lines of the sets from a place on, of so many at most, and of no more than there is room
@@ -84,16 +73,16 @@ impl Strip {
 
     /// Whether there is room for the line of a set of so many items.
     fn has_room(&self, items: usize) -> bool
-        ensures { IsTrue result → length self.now.text + ITEM_TEXT_ROOM * items + LINE_ROOM ≤ ROOM }
+        ensures { IsTrue result → length self.now.text + ITEM_TEXT_ROOM * items + LINE_ROOM ≤ self.now.room }
     {
-        items <= LONGEST && ITEM_TEXT_ROOM * items + LINE_ROOM <= ROOM - self.end
+        items <= LONGEST && ITEM_TEXT_ROOM * items + LINE_ROOM <= self.room.len() - self.end
     }
 
     /// Adds the line of the next set.
     fn put(&mut self, texts: &Texts, items: &[u32], count: u64)
-        requires room { length self.old.text + ITEM_TEXT_ROOM * length items.now + LINE_ROOM ≤ ROOM }
+        requires room { length self.old.text + ITEM_TEXT_ROOM * length items.now + LINE_ROOM ≤ self.old.room }
         requires next { self.old.to < 2 ^ 64 - 1 }
-        ensures { self.new ≡ record { from = self.old.from; to = self.old.to + 1; text = self.old.text ++ set_line (set_of items.now count) } }
+        ensures { self.new ≡ record { from = self.old.from; to = self.old.to + 1; text = self.old.text ++ set_line (set_of items.now count); room = self.old.room } }
     {
         self.end = put_line(
             &mut self.room,

@@ -1,7 +1,7 @@
 -- Marking sets, one subset after another.
-use Rattle.std.proofs.Common.{IsTrue, ◌≡◌, ◌≢◌, ℕ, zero, suc, ◌+◌, ◌<◌, ◌≤◌, ◌⊎◌, Bool, true, false, cond, eqb, eq-eqb, ltb, List, [], ◌∷◌, length, get_or, set, replicate, refl, sym, ap, ◌∙◌, subst, inl, inr, arith, get_or-set_other, get_or-set_same}
+use Rattle.std.proofs.Common.{IsTrue, ◌≡◌, ◌≢◌, ℕ, zero, suc, ◌+◌, ◌<◌, ◌≤◌, ◌⊎◌, Bool, true, false, cond, eqb, eq-eqb, ltb, List, [], ◌∷◌, length, get_or, set, refl, sym, ap, ◌∙◌, subst, inl, inr, arith, get_or-set_other, get_or-set_same}
 use Rattle.std.proofs.lemmas.Bool.{cases_lt, cases_eq, true≢false}
-use Rattle.std.proofs.lemmas.List.{length-set, length-replicate, get_or-replicate}
+use Rattle.std.proofs.lemmas.List.{length-set}
 use Rattle.basket_lists.specs.Without.{ArePlacesWithout, IsLongerBy}
 use Rattle.basket_lists.specs.declared.places.TheConstants.{NOWHERE}
 use Rattle.basket_sets.specs.declared.counted.Counted.{Counted}
@@ -68,14 +68,6 @@ sees_one_more number items above place (inr h) = elim (cases_lt place items) [
 
 module _ (list : List Counted) (supersets : Supersets) where
   -- nothing
-  pub nothing_seen : AreMarks list supersets (IsBefore 0) (replicate (length list) false)
-  nothing_seen = record {
-    long = length-replicate (length list) false;
-    each = λ number below. record {
-      some = λ told. absurd (true≢false (sym told ∙ get_or-replicate (length list) number false false below));
-      each = λ up above place seen is matters. absurd (let k = seen in omega arith);
-    };
-  }
 
   -- the same in other words
   seen_alike : (seen other : ℕ → ℕ → Type 0) (marks : List Bool)
@@ -103,9 +95,6 @@ module _ (list : List Counted) (supersets : Supersets) where
         | inr more ↦ (let here : above ≡ number = omega (arith, before, more) in
             let long = ap (λ n. length (set_at list n)) here in inr (here, omega (arith, within, long, whole)))
       ])
-
-  pub all_sets : (start : ℕ) (marks : List Bool) → length list ≤ start → AreMarks list supersets (IsBefore start) marks → AreMarks list supersets (IsBefore (length list)) marks
-  all_sets start marks whole = seen_alike (IsBefore start) (IsBefore (length list)) marks (λ above place listed within before. omega (arith, listed, whole))
 
 -- ---- one set without one of its items
 

@@ -37,9 +37,6 @@ module _ (listing : Listing) (confidence : ℕ × ℕ) (number : ℕ) where
       → (met ≡ filter (λ right. is_confident_among listing confidence (set_at listing.sets number) (side_of (set_at listing.sets number) right)) (take count tried))
       × (new ≡ old ++ map (λ right. rule_among listing (set_at listing.sets number) (side_of (set_at listing.sets number) right)) met)
 
-  pub kept_start : (tried : List Right) (rules : List Rule) → IsKeptUpTo 0 tried [] rules rules
-  kept_start tried rules consistent all = (refl, sym (append-nil rules))
-
   some_rule : (b : Bool) (rule expected : Rule) → Some rule ≡ cond b (Some expected) None → (b ≡ true) × (rule ≡ expected)
   some_rule true rule expected e = (refl, cc)
   some_rule false rule expected e = cc
@@ -79,11 +76,6 @@ module _ (listing : Listing) (confidence : ℕ × ℕ) (number : ℕ) where
         let test : Right → Bool = λ r. is_confident_among listing confidence union (side_of union r) in
         let fails = no_rule_at (test right) (rule_among listing union (side_of union right)) (for consistent (tried_one all)) in
         (h.0 ∙ sym (append-nil (filter test (take count tried))) ∙ sym (filtered test false fails), h.1)
-
-  pub kept_all : (count : ℕ) (tried met : List Right) (old new : List Rule) → length tried ≤ count → IsKeptUpTo count tried met old new → KeepsConfident listing confidence number tried met old new
-  kept_all count tried met old new whole so consistent all =
-      let h = so consistent all in
-      (h.0 ∙ ap (filter (λ right. is_confident_among listing confidence (set_at listing.sets number) (side_of (set_at listing.sets number) right))) (take_all count tried whole), h.1)
 
 -- ---- the rules of a union, up to a size of their right sides
 

@@ -82,13 +82,6 @@ support_absent baskets item h = elim (cases_lt 0 (support_of baskets (item ∷ [
   | inr none ↦ omega arith
 ]
 
-pub tally_at_most : (baskets : List Weighted) (item : ℕ) → unwrap_or (tally baskets item) 0 ≤ support_of baskets (item ∷ [])
-tally_at_most baskets item = at (has (all_items baskets) item)
-  where
-    at : (b : Bool) → unwrap_or (cond b (Some (support_of baskets (item ∷ []))) None) 0 ≤ support_of baskets (item ∷ [])
-    at true = omega arith
-    at false = omega arith
-
 weight_of_item : (place : Weighted) (item : ℕ) → weight_at (item ∷ []) place ≡ cond (has place.basket item) place.weight 0
 weight_of_item place item = at (has place.basket item)
   where

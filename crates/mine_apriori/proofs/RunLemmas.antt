@@ -17,10 +17,6 @@ rises_by_places items up i j le below = non_decreasing_from_sorted items up i j 
 pub below_all : (run : List ℕ) (item : ℕ) → IsRising run → item < get_or run 0 0 → IsMissingAt run item 0
 below_all run item up less = (omega arith, λ k h. absurd (omega arith), λ k a b. let r = rises_by_places run up 0 k a b in omega arith)
 
--- what rises also rises between two places
-pub rises_between : (run : List ℕ) → IsRising run → RisesWithin run 0 (length run)
-rises_between run up i j low less below = below_from_sorted run i j 0 up less below
-
 -- what stands before a place is below an item, and the rest above it, where its neighbours are
 pub missing_between : (run : List ℕ) (item place : ℕ) → IsRising run → place ≤ length run → (1 ≤ place → get_or run (place - 1) 0 < item) → (place < length run → item < get_or run place 0)
     → IsMissingAt run item place

@@ -22,7 +22,7 @@ use Rattle.mine_classes.specs.declared.span.Span.{Span}
 use Rattle.mine_classes.specs.Conditional.{ConditionalSupports, conditional, is_kept}
 use Rattle.mine_classes.specs.ListBaskets.{weight_where}
 use Rattle.mine_classes.specs.Pairs.{kept_ranks}
-use Rattle.mine_classes.specs.Runs.{AreRunsOf, below}
+use Rattle.mine_classes.specs.Runs.{below}
 use Rattle.mine_classes.specs.Span.{baskets_at}
 use Rattle.mine_classes.specs.Covers.{basket_at, cover_of, weights_of}
 use Rattle.mine_vertical.specs.Search.{is_met}
@@ -107,9 +107,6 @@ below_weighs rank (place ∷ places) = at (below_weighs rank places) (has place.
     at : weight_where (λ basket. true) (below rank places) ≡ support_of places (rank ∷ []) → (h : Bool) → weight_where (λ basket. true) (cond h (weighted lows place.weight ∷ []) [] ++ below rank places) ≡ cond (h && true) place.weight 0 + support_of places (rank ∷ [])
     at rest true = sum_by-cons (λ (p : Weighted). p.weight) (weighted lows place.weight) (below rank places) ∙ ap (λ n. place.weight + n) rest
     at rest false = rest ∙ sym (zero-add (support_of places (rank ∷ [])))
-
-pub rank_weighs : (ranks : List ℕ) (baskets : List Weighted) (rank : ℕ) (runs : List Span) → AreRunsOf ranks baskets rank runs → sum_by (λ (s : Span). s.weight) runs ≡ support_of baskets (rank ∷ [])
-rank_weighs ranks baskets rank runs are = sym (spans_weigh ranks runs) ∙ sym (are.weights (λ basket. true)) ∙ below_weighs rank baskets
 
 -- ---- the ranks that are kept
 

@@ -26,9 +26,6 @@ shard_start-zero pieces n = ap (λ x. x / pieces) (zero-mul n) ∙ zero-div piec
 pub shard_start-all : (pieces n : ℕ) → 1 ≤ pieces → shard_start pieces pieces n ≡ n
 shard_start-all pieces n some = mul-div_cancel_left n some
 
-pub shard_start-within : (i pieces n : ℕ) → 1 ≤ pieces → i ≤ pieces → shard_start i pieces n ≤ n
-shard_start-within i pieces n some le = let e = shard_start-all pieces n some in let m = shard_start-le i pieces pieces n some le in omega arith
-
 module _ {X : Type 0} where
   -- the list up to the end of a part
   pub shard_more : (i pieces : ℕ) (xs : List X) → 1 ≤ pieces

@@ -1,5 +1,5 @@
-use Rattle.std.proofs.Common.{◌≤◌, ◌++◌, [], ℕ, List, Option, length, take}
-use Rattle.basket_report.specs.Block.{IsOnItsWay}
+use Rattle.std.proofs.Common.{◌≤◌, List, Option, ℕ, length, take}
+use Rattle.basket_report.specs.Bytes.{IsWritten}
 use Rattle.basket_report.specs.Report.{report_of}
 use Rattle.basket_report.specs.Style.{Numbered}
 use Rattle.basket_report.proofs.set_lines.send_strips.Given as goal
@@ -8,7 +8,7 @@ abbrev pub invariant-loop-strip : goal.invariant-loop-strip
 invariant-loop-strip g l = record {
   behind : l.place ≤ l.next;
   within : l.next ≤ length l.sets;
-  way : (start : Option (List ℕ)) (text : List ℕ)
-      → IsOnItsWay start (g.W.Sink.taken l.fn.writer) (g.W.Sink.has_failed l.fn.writer) (g.W.Sink.ends_in_flush l.fn.writer) [] (text ++ report_of Numbered (take l.place l.sets))
-      → IsOnItsWay start (g.W.Sink.taken l.writer) (g.W.Sink.has_failed l.writer) (g.W.Sink.ends_in_flush l.writer) [] (text ++ report_of Numbered (take l.next l.sets));
+  way : (start : Option (List ℕ))
+      → IsWritten start (g.W.Sink.taken l.fn.writer) (g.W.Sink.has_failed l.fn.writer) (g.W.Sink.ends_in_flush l.fn.writer) (report_of Numbered (take l.place l.sets))
+      → IsWritten start (g.W.Sink.taken l.writer) (g.W.Sink.has_failed l.writer) (g.W.Sink.ends_in_flush l.writer) (report_of Numbered (take l.next l.sets));
 }

@@ -1,6 +1,6 @@
 use Rattle.std.proofs.Common.{sym, subst}
 use Rattle.std.specs.Prelude.{OnErr}
-use Rattle.basket_report.specs.Block.{TakesFront}
+use Rattle.basket_report.specs.Bytes.{TakesFront}
 use Rattle.basket.specs.declared.made.Made.{Made}
 use Rattle.basket.specs.Made.{made_text}
 use Rattle.basket.proofs.made.Made.write.Goals as goal

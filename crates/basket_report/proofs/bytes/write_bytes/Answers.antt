@@ -1,7 +1,7 @@
 use Rattle.std.proofs.Common.{◌∙◌}
 use Rattle.basket_stream.specs.declared.failed.Failed.{Failed}
 use Rattle.basket_report.proofs.Fronts.{some_taken, count_within, written_more}
-use Rattle.basket_report.proofs.block.write_bytes.Goals as goal
+use Rattle.basket_report.proofs.bytes.write_bytes.Goals as goal
 
 pub loop-written-preserved : goal.loop-written-preserved
 loop-written-preserved g c =

@@ -1,0 +1,36 @@
+//! Bytes that are written.
+ghost use Rattle.std.specs.Prelude.{◌≡◌, ◌↔◌, ◌++◌, ℕ, List, Option, false, IsOk, OnErr, OnOk};
+ghost use Rattle.std.specs.Io.KnownBytes.{Appends};
+ghost use Rattle.basket_report.specs.Bytes.{IsWritten, TakesFront};
+
+use basket_core::{Failed, Sink};
+
+/// Writes bytes, unless the writer has failed.
+pub fn send_bytes<W: Sink>(writer: &mut W, bytes: &[u8])
+    ensures { (start : Option (List ℕ)) (text : List ℕ)
+        → IsWritten start (W.taken writer.old) (W.has_failed writer.old) (W.ends_in_flush writer.old) text
+        → IsWritten start (W.taken writer.new) (W.has_failed writer.new) (W.ends_in_flush writer.new) (text ++ bytes.now) }
+{
+    if !writer.failed() {
+        let _ = write_bytes(writer, bytes);
+    }
+}
+
+/// Writes all bytes. Where the sink fails, it has taken a front of them.
+pub fn write_bytes<W: Sink>(writer: &mut W, bytes: &[u8]) -> Result<(), Failed>
+    requires { W.has_failed writer.old ≡ false }
+    ensures ok { OnOk result (Appends (W.taken writer.old) (W.taken writer.new) bytes.now) }
+    ensures err { OnErr result (TakesFront (W.taken writer.old) (W.taken writer.new) bytes.now) }
+    ensures last { OnErr result (W.ends_in_flush writer.new ≡ false) }
+    ensures failed { (W.has_failed writer.new ≡ false) ↔ IsOk result }
+{
+    let mut written = 0;
+    while written < bytes.len() {
+        let count = writer.write(&bytes[written..])?;
+        if count == 0 {
+            return Err(Failed);
+        }
+        written += count;
+    }
+    Ok(())
+}
