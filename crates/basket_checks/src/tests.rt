@@ -2,7 +2,6 @@ ghost use Rattle.std.specs.Prelude.{nat_lt};
 
 mod bits;
 mod codes;
-mod conditional;
 mod databases;
 mod eclat;
 mod fimi;

@@ -8,7 +8,6 @@ ghost use Rattle.mine_classes.specs.ListBaskets.{HaveSameWeights};
 ghost use Rattle.mine_classes.specs.Pairs.{kept_ranks, pairs_of};
 
 use crate::form::Form;
-use crate::list_baskets::ListBaskets;
 use crate::places::Places;
 use crate::runs::Runs;
 use std::alloc::{AllocError, Global};
@@ -103,14 +102,6 @@ impl Conditional {
     {
         let Conditional { baskets, .. } = self;
         baskets
-    }
-
-    /// The same as lists of ranks.
-    pub fn into_baskets(self, alloc: Global) -> Result<ListBaskets, AllocError>
-        ensures baskets { IfOk result (λ lists. lists.baskets ≡ self.baskets) }
-        ensures ranks { IfOk result (λ lists. lists.ranks ≡ length self.items) }
-    {
-        self.into_form().lists(alloc)
     }
 }
 

@@ -16,16 +16,6 @@ pub enum Form {
 }
 
 impl Form {
-    /// The baskets as lists of ranks.
-    pub fn lists(self, alloc: Global) -> Result<ListBaskets, AllocError>
-        ensures { IfOk result (λ lists. lists ≡ form_baskets self) }
-    {
-        match self {
-            Form::Lists(lists) => Ok(lists),
-            Form::Words(words) => words.lists(alloc),
-        }
-    }
-
     /// The same baskets in order, equal ones merged. Words are.
     pub fn sorted(self, alloc: Global) -> Result<Form, AllocError>
         requires { AreRankBaskets (form_baskets self) }
