@@ -14,7 +14,7 @@ use mine_apriori::laws::candidates_by_sets;
 use mine_classes::laws::coded_ranks_are_frequent;
 use mine_fp::Forest;
 use mine_fp::laws::class_trees_add_up;
-use mine_phases::{Cutting, Gate, apriori_shared, count_shared, mine_shared, runs_shared};
+use mine_phases::{Cutting, Gate, Phase, apriori_shared, count_shared, mine_shared, runs_shared};
 use mine_vertical::laws::class_joins_add_up;
 use mine_vertical::{BitRow, DiffList, Row, TidList, Vertical};
 use std::alloc::{AllocError, Global};
@@ -197,7 +197,8 @@ fn by_eclat<R: Threads + Sync, G: Gate + Sync, T: Row + Sync>(
         vertical: Vertical::of_runs(coded, runs),
         rows: PhantomData,
     };
-    let (frequent, joins) = mine_shared(rt, alloc, coded, miner, limit, cutting, gate)?;
+    let phase = Phase::of_classes(cutting, gate);
+    let (frequent, joins) = mine_shared(rt, alloc, coded, miner, limit, &phase)?;
     Ok((frequent, Work::of_joins(joins)))
 }
 
@@ -220,7 +221,8 @@ fn by_fp_growth<R: Threads + Sync, G: Gate + Sync>(
     let runs = runs_shared(rt, alloc, coded, cutting)?;
     let forest = Forest::of_runs(alloc, coded, runs)?;
     let miner = Growth(forest);
-    let (frequent, trees) = mine_shared(rt, alloc, coded, miner, limit, cutting, gate)?;
+    let phase = Phase::of_classes(cutting, gate);
+    let (frequent, trees) = mine_shared(rt, alloc, coded, miner, limit, &phase)?;
     Ok((frequent, Work::of_trees(trees)))
 }
 

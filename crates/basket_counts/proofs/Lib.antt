@@ -1,4 +1,3 @@
-mod CutLemmas
 mod NumberLemmas
 mod LineLemmas
 mod RunLemmas

@@ -14,7 +14,7 @@ use Rattle.basket_counts.specs.declared.place.Place.TheVariants.{Between, Number
 use Rattle.basket_read.specs.declared.fault.ReadFault.TheVariants.{Number as TooGreat}
 use Rattle.basket_counts.specs.Counts.{is_open, is_close, is_count, is_tail_of, is_tail, is_line_of, is_line, count_fault, digit_fault, bare_entry, entry, count_before, entry_of_parts, entry_of}
 use Rattle.basket_counts.specs.Line.{IsClass, LineState, at_place, word_place, count_place, state_of_parts, line_at, digit_added, digit_fault_at, numbers_at, blank_added, open_added, close_added, if_place, with_class, line_with, line_state, IsLineSoFar, entry_at, said_at}
-use Rattle.basket_counts.proofs.CutLemmas.{cut, cut_ended, cut_joined}
+use Rattle.basket_read.proofs.theory.Cuts.{cut, cut_ended, cut_joined}
 use Rattle.basket_counts.proofs.NumberLemmas.{all_push, and_true, within_push, within_ends, digit_place, placed, all_ended, numbers_digit, numbers_blank, numbers_open, numbers_close, numbers_other, ended_numbers, numbers_told}
 
 -- ---- a tail

@@ -13,7 +13,7 @@ use Rattle.basket_counts.specs.declared.place.Place.{Place}
 use Rattle.basket_counts.specs.declared.place.Place.TheVariants.{Between, Number, Opened}
 use Rattle.basket_counts.specs.Digits.{value_with}
 use Rattle.basket_counts.specs.Line.{LineState, at_place, word_place, number_state, digit_added, numbers_at, blank_added, open_added, close_added, if_place}
-use Rattle.basket_counts.proofs.CutLemmas.{cut}
+use Rattle.basket_read.proofs.theory.Cuts.{cut}
 
 -- ---- digits of a number or of a count
 

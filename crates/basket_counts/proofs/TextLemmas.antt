@@ -1,5 +1,5 @@
 -- How a text goes on with one more byte.
-use Rattle.std.proofs.Common.{◌≡◌, ◌≢◌, ℕ, ◌+◌, ◌-◌, ◌<◌, ◌≤◌, Bool, true, false, ◌&&◌, List, [], ◌∷◌, ◌++◌, length, fold, leb, take, take-add, drop, get_or, suc, cond, Option, Some, None, refl, sym, ap, ◌∙◌, subst, append_assoc, arith}
+use Rattle.std.proofs.Common.{◌≡◌, ◌≢◌, ℕ, ◌+◌, ◌-◌, ◌<◌, ◌≤◌, Bool, true, false, List, [], ◌∷◌, ◌++◌, length, fold, leb, take, take-add, drop, get_or, suc, cond, Option, Some, None, refl, sym, ap, ◌∙◌, subst, append_assoc, arith}
 use Rattle.std.specs.List.{list_all}
 use Rattle.std.proofs.lemmas.Bool.{and_parts, leb-true, ne_eqb}
 use Rattle.std.proofs.lemmas.List.{append-nil, length-append, take_more, take-append-drop}
@@ -7,98 +7,19 @@ use Rattle.basket_sets.specs.Number.{is_digit}
 use Rattle.basket_read.specs.declared.fault.ReadFault.{ReadFault}
 use Rattle.basket_read.specs.declared.fault.ReadFault.TheVariants.{Byte}
 use Rattle.basket_read.specs.Cut.{Cut, cut_more, cut_at}
-use Rattle.basket_read.specs.Fimi.{line_after, is_line_feed, or_else}
+use Rattle.basket_read.specs.Fimi.{line_after, is_line_feed}
 use Rattle.basket_read.specs.Text.{Tells}
 use Rattle.basket_counts.specs.declared.entry.Entry.{Entry}
 use Rattle.basket_counts.specs.declared.line.Line.{Line}
 use Rattle.basket_counts.specs.declared.place.Place.{Place}
 use Rattle.basket_counts.specs.declared.text.Text.{Text}
-use Rattle.basket_counts.specs.Counts.{is_line, is_good, fault_at, fault_after, first_fault, entry_of, entries_from}
+use Rattle.basket_counts.specs.Counts.{is_line, fault_at, first_fault, entry_of, entries_from}
 use Rattle.basket_counts.specs.Line.{line_state, line_at, line_with, at_place, digit_added, digit_after, digits_added, digit_fault_at, said_at, IsLineSoFar}
 use Rattle.basket_counts.specs.Text.{IsTextSoFar}
-use Rattle.basket_counts.proofs.CutLemmas.{cut, cut_ended, cut_joined}
-use Rattle.basket_counts.proofs.NumberLemmas.{all_push}
+use Rattle.basket_read.proofs.theory.Cuts.{cut, cut_ended, cut_joined}
 use Rattle.basket_counts.proofs.RunLemmas.{never_added}
 use Rattle.basket_counts.proofs.LineLemmas.{line_digit, line_says, digit_told}
-
--- ---- the first fault
-
-abbrev pub found : Bool → Option ReadFault → ReadFault → Option ReadFault
-found good later fault = cond good later (Some fault)
-
--- the fault of a text in two parts is that of the first, else that of the second behind the first
-fault_after-append : (before a b : List ℕ) → fault_after before (a ++ b) ≡ or_else (fault_after before a) (fault_after (before ++ a) b)
-fault_after-append before [] b = ap (λ l. fault_after l b) (sym (append-nil before))
-fault_after-append before (byte ∷ a) b =
-    at (is_good (before ++ byte ∷ [])) (fault_after-append (before ++ byte ∷ []) a b)
-  where
-    at : (good : Bool) → fault_after (before ++ byte ∷ []) (a ++ b) ≡ or_else (fault_after (before ++ byte ∷ []) a) (fault_after ((before ++ byte ∷ []) ++ a) b)
-        → found good (fault_after (before ++ byte ∷ []) (a ++ b)) (fault_at before byte)
-        ≡ or_else (found good (fault_after (before ++ byte ∷ []) a) (fault_at before byte)) (fault_after (before ++ byte ∷ a) b)
-    at true e = e ∙ ap (λ l. or_else (fault_after (before ++ byte ∷ []) a) (fault_after l b)) (append_assoc before (byte ∷ []) a)
-    at false e = refl
-
--- a text without a fault is good
-good_after : (before text : List ℕ) → is_good before ≡ true → fault_after before text ≡ None → is_good (before ++ text) ≡ true
-good_after before [] h e = ap is_good (append-nil before) ∙ h
-good_after before (byte ∷ text) h e = at (is_good (before ++ byte ∷ [])) refl e (good_after (before ++ byte ∷ []) text)
-  where
-    at : (good : Bool) → is_good (before ++ byte ∷ []) ≡ good → found good (fault_after (before ++ byte ∷ []) text) (fault_at before byte) ≡ None
-        → (is_good (before ++ byte ∷ []) ≡ true → fault_after (before ++ byte ∷ []) text ≡ None → is_good ((before ++ byte ∷ []) ++ text) ≡ true)
-        → is_good (before ++ byte ∷ text) ≡ true
-    at true g e rest = ap is_good (sym (append_assoc before (byte ∷ []) text)) ∙ rest g e
-    at false g e rest = absurd cc
-
-pub good-from_faultless : (text : List ℕ) → first_fault text ≡ None → is_good text ≡ true
-good-from_faultless text e = good_after [] text refl e
-
--- what follows a text without a fault
-pub first_fault_behind : (a b : List ℕ) → first_fault a ≡ None → first_fault (a ++ b) ≡ fault_after a b
-first_fault_behind a b e = fault_after-append [] a b ∙ ap (λ f. or_else f (fault_after a b)) e
-
--- what follows a fault changes nothing
-first_fault_stays : (a b : List ℕ) (fault : ReadFault) → first_fault a ≡ Some fault → first_fault (a ++ b) ≡ Some fault
-first_fault_stays a b fault e = fault_after-append [] a b ∙ ap (λ f. or_else f (fault_after a b)) e
-
-first_fault_push : (text : List ℕ) (byte : ℕ) (good : Bool) → first_fault text ≡ None → is_good (text ++ byte ∷ []) ≡ good
-    → first_fault (text ++ byte ∷ []) ≡ cond good None (Some (fault_at text byte))
-first_fault_push text byte good e g =
-    first_fault_behind text (byte ∷ []) e ∙ ap (λ b. found b None (fault_at text byte)) g
-
--- ---- one more byte
-
-module _ (text : List ℕ) (faultless : first_fault text ≡ None) where
-  abbrev so_far : Cut
-  so_far = cut_at is_line_feed text
-
-  lines_good : (list_all is_line so_far.ended ≡ true) × (is_line so_far.last ≡ true)
-  lines_good = and_parts (list_all is_line so_far.ended) (is_line so_far.last) (sym (all_push is_line so_far.ended so_far.last) ∙ good-from_faultless text faultless)
-
-  line_good : is_line so_far.last ≡ true
-  line_good = lines_good.1
-
-  -- a byte in a line is the first fault if the line is none with it
-  fault_here : (byte : ℕ) (good : Bool) → is_line_feed byte ≡ false → is_line (so_far.last ++ byte ∷ []) ≡ good → first_fault (text ++ byte ∷ []) ≡ cond good None (Some (fault_at text byte))
-  fault_here byte good e is =
-      first_fault_push text byte good faultless
-      (ap (λ (k : Cut). list_all is_line (k.ended ++ k.last ∷ [])) (cut_joined is_line_feed text byte e)
-      ∙ all_push is_line so_far.ended (so_far.last ++ byte ∷ []) ∙ ap (λ b. b && is_line (so_far.last ++ byte ∷ [])) lines_good.0 ∙ is)
-
-  -- a line feed is no fault
-  line_feed_here : (byte : ℕ) → is_line_feed byte ≡ true → first_fault (text ++ byte ∷ []) ≡ None
-  line_feed_here byte e =
-      first_fault_push text byte true faultless
-      (ap (λ (k : Cut). list_all is_line (k.ended ++ k.last ∷ [])) (cut_ended is_line_feed text byte e)
-      ∙ all_push is_line (so_far.ended ++ so_far.last ∷ []) [] ∙ ap (λ b. b && is_line []) (good-from_faultless text faultless))
-
--- what a choice gave
-chosen : {S : Type 0} (s x : S) (b : Bool) → ◌≡◌ {A = Option S} (Some s) (cond b (Some x) None) → (b ≡ true) × (s ≡ x)
-chosen s x true e = (refl, cc)
-chosen s x false e = absurd cc
-
-refused : {S : Type 0} (x : S) (b : Bool) → ◌≡◌ {A = Option S} None (cond b (Some x) None) → b ≡ false
-refused x true e = absurd cc
-refused x false e = refl
+use Rattle.basket_read.proofs.theory.Grammar as grammar
 
 -- what one line more says
 entries_push : (line : ℕ) (texts : List (List ℕ)) (text : List ℕ) → entries_from line (texts ++ text ∷ []) ≡ entries_from line texts ++ entry_of text (length texts + line)
@@ -118,15 +39,15 @@ module _ (text : Text) (bytes : List ℕ) (t : IsTextSoFar text bytes) where
   last = (cut_at is_line_feed bytes).last
 
   pub line_so_far : IsLineSoFar text.line last
-  line_so_far = record { good = line_good bytes t.faultless; state = t.line }
+  line_so_far = record { good = (grammar.lines_good is_line fault_at refl bytes t.faultless).1; state = t.line }
 
   -- a byte that the line took
   pub takes : (line : Line) (byte : ℕ) → is_line_feed byte ≡ false → Some (line_state line) ≡ line_with last byte → IsTextSoFar (record text { line = line }) (bytes ++ byte ∷ [])
   takes line byte e is =
-      let k = chosen (line_state line) (line_at (last ++ byte ∷ [])) (is_line (last ++ byte ∷ [])) is in
+      let k = grammar.chosen (line_state line) (line_at (last ++ byte ∷ [])) (is_line (last ++ byte ∷ [])) is in
       let joined = cut_joined is_line_feed bytes byte e in
       record {
-        faultless = fault_here bytes t.faultless byte true e k.0;
+        faultless = grammar.fault_here is_line fault_at refl bytes t.faultless byte true e k.0;
         ended = t.ended ∙ ap (λ (k : Cut). length k.ended) (sym joined);
         entries = t.entries ∙ ap (λ (k : Cut). entries_from 1 k.ended) (sym joined);
         line = k.1 ∙ ap (λ (k : Cut). line_at k.last) (sym joined);
@@ -136,7 +57,7 @@ module _ (text : Text) (bytes : List ℕ) (t : IsTextSoFar text bytes) where
   pub refuses : (byte : ℕ) → is_line_feed byte ≡ false → None ≡ line_with last byte
       → first_fault (bytes ++ byte ∷ []) ≡ Some (cond (is_digit byte) (digit_fault_at (line_state text.line).place (text.ended + 1) byte) (Byte (text.ended + 1) byte))
   refuses byte e is =
-      fault_here bytes t.faultless byte false e (refused (line_at (last ++ byte ∷ [])) (is_line (last ++ byte ∷ [])) is)
+      grammar.fault_here is_line fault_at refl bytes t.faultless byte false e (grammar.refused (line_at (last ++ byte ∷ [])) (is_line (last ++ byte ∷ [])) is)
       ∙ ap (λ fault. Some (cond (is_digit byte) fault (Byte (line_after bytes) byte))) (sym (digit_told last (line_after bytes) byte))
       ∙ (λ i. Some (cond (is_digit byte) (digit_fault_at (sym t.line i).place (sym t.ended i + 1) byte) (Byte (sym t.ended i + 1) byte)))
 
@@ -152,7 +73,7 @@ module _ (text : Text) (bytes : List ℕ) (t : IsTextSoFar text bytes) where
   takes_line_feed new byte e is lines more =
       let ended = cut_ended is_line_feed bytes byte e in
       record {
-        faultless = line_feed_here bytes t.faultless byte e;
+        faultless = grammar.line_feed_here is_line fault_at refl bytes t.faultless byte e;
         ended = lines ∙ ap (λ n. n + 1) t.ended ∙ sym (length-append (cut_at is_line_feed bytes).ended (last ∷ [])) ∙ ap (λ (k : Cut). length k.ended) (sym ended);
         entries = says_all new.entries.items more ∙ ap (λ (k : Cut). entries_from 1 k.ended) (sym ended);
         line = is ∙ ap (λ (k : Cut). line_at k.last) (sym ended);
@@ -234,4 +155,4 @@ up_to bytes i below = sym (take_more bytes i 0 below)
 pub fault_of_all : (bytes : List ℕ) (i : ℕ) (fault : ReadFault) → i < length bytes → Tells fault (first_fault (take i bytes ++ get_or bytes i 0 ∷ [])) → Tells fault (first_fault bytes)
 fault_of_all bytes i fault below told no_memory =
     ap first_fault (sym (take-append-drop (i + 1) bytes))
-    ∙ first_fault_stays (take (i + 1) bytes) (drop (i + 1) bytes) fault (ap first_fault (sym (up_to bytes i below)) ∙ told no_memory)
+    ∙ grammar.first_fault_stays is_line fault_at refl (take (i + 1) bytes) (drop (i + 1) bytes) fault (ap first_fault (sym (up_to bytes i below)) ∙ told no_memory)

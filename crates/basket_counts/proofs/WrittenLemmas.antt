@@ -15,7 +15,7 @@ use Rattle.basket_read.specs.Cut.{Cut, cut_at}
 use Rattle.basket_read.specs.Fimi.{is_blank, is_line_feed, is_nil, is_number, are_numbers, numbers_of, text_of, or_else, MOST_NUMBER, MOST_BYTES}
 use Rattle.basket_counts.specs.Counts.{is_open, is_close, is_count, is_tail_of, is_tail, is_line_of, is_line, is_good, first_fault, fault_in, entry, count_before, entry_of_parts, entry_of, entries_from, entries_of, counted_before, counts_among, counts_said}
 use Rattle.basket_counts.specs.Laws.{items_text, set_line, IsWritten, lines_from, ListsAreReadBack}
-use Rattle.basket_counts.proofs.CutLemmas.{cut, cut_ended, cut_joined}
+use Rattle.basket_read.proofs.theory.Cuts.{cut, cut_ended, cut_joined}
 use Rattle.basket_counts.proofs.NumberLemmas.{all_push, within}
 use Rattle.basket_counts.proofs.LineLemmas.{digit_is_no_other}
 use Rattle.basket_counts.proofs.GrammarLemmas.{good_is_faultless}

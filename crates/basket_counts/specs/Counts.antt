@@ -10,6 +10,7 @@ use Rattle.basket_read.specs.declared.counted_line.CountedLine.{CountedLine}
 use Rattle.basket_read.specs.Cut.{cut_at, parts_of}
 use Rattle.basket_read.specs.Fimi.{is_blank, is_line_feed, is_nil, are_numbers, numbers_of, line_after, text_of, or_else, MOST_BYTES}
 use Rattle.basket_counts.specs.declared.entry.Entry.{Entry}
+use Rattle.basket_read.specs.Grammar.{fault_behind}
 
 -- the parentheses around a count
 abbrev pub is_open : ℕ → Bool
@@ -65,8 +66,7 @@ fault_at before byte = fault_in_line (cut_at is_line_feed before).last (line_aft
 
 -- the first fault in a text that goes on after a good front: at the first byte with which the text so far is not good
 abbrev pub fault_after : List ℕ → List ℕ → Option ReadFault
-fault_after before [] = None
-fault_after before (byte ∷ text) = if is_good (before ++ byte ∷ []) then fault_after (before ++ byte ∷ []) text else Some (fault_at before byte)
+fault_after before text = fault_behind is_good fault_at before text
 
 -- the first fault of a text
 abbrev pub first_fault : List ℕ → Option ReadFault

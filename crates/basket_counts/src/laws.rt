@@ -1,24 +1,26 @@
 //! Laws on the grammar of counted sets and on their faults.
-ghost use Rattle.basket_counts.specs.Laws.{LineFrontsAreGood, FrontsAreGood, GoodIsFaultless, FirstFaultIsExact, ListsAreReadBack};
+ghost use Rattle.basket_counts.specs.Counts.{fault_at, is_good, is_line};
+ghost use Rattle.basket_counts.specs.Laws.{ListsAreReadBack};
+ghost use Rattle.basket_read.specs.Grammar.{FirstFaultIsExact, FrontsAreGood, GoodIsFaultless};
 
 /// Each front of a good line is one.
 pub fn line_fronts_are_good()
-    ensures { LineFrontsAreGood }
+    ensures { FrontsAreGood is_line }
 {}
 
 /// Each front of a good text is good.
 pub fn fronts_are_good()
-    ensures { FrontsAreGood }
+    ensures { FrontsAreGood is_good }
 {}
 
 /// A text is good, or it has a first fault, and not both.
 pub fn good_is_faultless()
-    ensures { GoodIsFaultless }
+    ensures { GoodIsFaultless is_good fault_at }
 {}
 
 /// The first fault is that of the one byte that ends a good text badly.
 pub fn first_fault_is_exact()
-    ensures { FirstFaultIsExact }
+    ensures { FirstFaultIsExact is_good fault_at }
 {}
 
 /// Counted sets that are written a line each are read back.

@@ -20,9 +20,9 @@ use Rattle.basket_read.specs.Fimi.{is_line_feed, is_line, is_good, basket_of, ba
 use Rattle.basket_read.specs.Line.{line_state, line_at}
 use Rattle.basket_read.specs.Text.{HasBaskets, HasJoined, IsTextSoFar, HasRoomFor}
 use Rattle.basket_read.specs.Laws.{counted_on, LinesSayTheirs}
-use Rattle.basket_read.proofs.CutLemmas.{cut}
+use Rattle.basket_read.proofs.theory.Cuts.{cut}
 use Rattle.basket_read.proofs.RoomLemmas.{merely_at_most, ended_after, baskets_after}
-use Rattle.basket_read.proofs.TextLemmas.{found, first_fault_behind, first_fault_stays, good-from_faultless}
+use Rattle.basket_read.proofs.theory.Grammar as grammar
 
 -- parts that have ended before
 abbrev behind : List (List ℕ) → Cut → Cut
@@ -97,11 +97,11 @@ module _ (front : List ℕ) (whole : (cut_at is_line_feed front).last ≡ []) wh
     fault_behind before [] = refl
     fault_behind before (byte ∷ rest) =
         let longer = append_assoc front before (byte ∷ []) in
-        (λ i. found ((ap is_good longer ∙ good_behind (before ++ byte ∷ [])) i) ((ap (λ l. fault_after l rest) longer ∙ fault_behind (before ++ byte ∷ []) rest) i) (fault_at_behind before byte i))
+        (λ i. grammar.found ((ap is_good longer ∙ good_behind (before ++ byte ∷ [])) i) ((ap (λ l. fault_after l rest) longer ∙ fault_behind (before ++ byte ∷ []) rest) i) (fault_at_behind before byte i))
         ∙ at (is_good (before ++ byte ∷ [])) (fault_after (before ++ byte ∷ []) rest) (fault_at before byte)
       where
         at : (b : Bool) (later : Option ReadFault) (fault : ReadFault)
-            → found b (option_map (counted_on (length lines)) later) (counted_on (length lines) fault) ≡ option_map (counted_on (length lines)) (found b later fault)
+            → grammar.found b (option_map (counted_on (length lines)) later) (counted_on (length lines) fault) ≡ option_map (counted_on (length lines)) (grammar.found b later fault)
         at true later fault = refl
         at false later fault = refl
 
@@ -109,13 +109,13 @@ pub lines_say_theirs : LinesSayTheirs
 lines_say_theirs front rest whole = record {
   baskets = baskets_behind front whole rest;
   fault = at (first_fault front) refl (option_map (counted_on (length (cut_at is_line_feed front).ended)) (first_fault rest))
-      (λ none. ap (λ l. fault_after l rest) (sym (append-nil front)) ∙ fault_behind front whole (good-from_faultless front none) [] rest);
+      (λ none. ap (λ l. fault_after l rest) (sym (append-nil front)) ∙ fault_behind front whole (grammar.good-from_faultless is_line fault_at refl front none) [] rest);
 }
   where
     at : (fault : Option ReadFault) → first_fault front ≡ fault → (later : Option ReadFault) → (first_fault front ≡ None → fault_after front rest ≡ later)
         → first_fault (front ++ rest) ≡ or_else (first_fault front) later
-    at (Some fault) e later goes_on = first_fault_stays front rest fault e ∙ ap (λ f. or_else f later) (sym e)
-    at None e later goes_on = first_fault_behind front rest e ∙ goes_on e ∙ ap (λ f. or_else f later) (sym e)
+    at (Some fault) e later goes_on = grammar.first_fault_stays is_line fault_at refl front rest fault e ∙ ap (λ f. or_else f later) (sym e)
+    at None e later goes_on = grammar.first_fault_behind is_line fault_at refl front rest e ∙ goes_on e ∙ ap (λ f. or_else f later) (sym e)
 
 -- ---- two texts that were read
 

@@ -1,18 +1,18 @@
 -- Fronts of good texts are good, and the first fault is that of the byte that ends one badly.
-use Rattle.std.proofs.Common.{◌≡◌, ℕ, Bool, true, false, ◌&&◌, leb, List, [], ◌∷◌, ◌++◌, cond, Some, None, refl, sym, ap, ◌∙◌, subst, inl, inr, append_assoc, arith, nat_eq}
+use Rattle.std.proofs.Common.{◌≡◌, ℕ, Bool, true, false, ◌&&◌, leb, List, [], ◌∷◌, ◌++◌, cond, None, refl, sym, ap, ◌∙◌, inl, inr, arith, nat_eq}
 use Rattle.std.specs.List.{list_all}
 use Rattle.std.specs.Cmp.Lexicographic.{pointwise, bytes_decides}
 use Rattle.std.proofs.lemmas.Bool.{cases_Bool, and_parts, and_from, leb-true, le-leb, or_cases}
 use Rattle.std.proofs.lemmas.List.{append-nil}
 use Rattle.basket_sets.specs.Number.{is_digit, value_of}
-use Rattle.basket_read.specs.declared.fault.ReadFault.{ReadFault}
 use Rattle.basket_read.specs.Cut.{Cut, cut_at}
-use Rattle.basket_read.specs.Fimi.{is_blank, is_times, is_line_feed, is_nil, is_number, is_weight, is_line, is_good, fault_at, fault_after, first_fault, fault_in, may_be_mark, MOST_NUMBER}
-use Rattle.basket_read.specs.Laws.{FrontsAreGood, GoodIsFaultless, HasFault, FirstFaultIsExact, SettledFaultsStay, UnsettledMayBeGood}
-use Rattle.basket_read.proofs.CutLemmas.{cut, cut_ended, cut_joined}
+use Rattle.basket_read.specs.Fimi.{is_blank, is_times, is_nil, is_number, is_weight, is_line, is_good, fault_at, fault_in, may_be_mark, MOST_NUMBER}
+use Rattle.basket_read.specs.Laws.{SettledFaultsStay, UnsettledMayBeGood}
+use Rattle.basket_read.proofs.theory.Cuts.{cut, cut_ended, cut_joined}
 use Rattle.basket_read.proofs.LineLemmas.{all_push, value_push, all_numbers, goes, is_line-goes, goes_on}
-use Rattle.basket_read.proofs.TextLemmas.{found, first_fault_behind, good-from_faultless}
 use Rattle.basket_read.proofs.InputLemmas.{settled_stays, fault-settled}
+use Rattle.basket_read.specs.Grammar.{FrontsAreGood, GoodIsFaultless, FirstFaultIsExact}
+use Rattle.basket_read.proofs.theory.Grammar as grammar
 
 -- ---- a line
 
@@ -72,50 +72,14 @@ line_front line byte h =
 
 -- ---- a text
 
-text_front : (text : List ℕ) (byte : ℕ) → is_good (text ++ byte ∷ []) ≡ true → is_good text ≡ true
-text_front text byte h =
-    let k = cut_at is_line_feed text in
-    elim (cases_Bool (is_line_feed byte)) [
-      | inl e ↦ (and_parts (is_good text) (is_line []) (sym (all_push is_line (k.ended ++ k.last ∷ []) [])
-          ∙ sym (ap (λ (j : Cut). list_all is_line (j.ended ++ j.last ∷ [])) (cut_ended is_line_feed text byte e)) ∙ h)).0
-      | inr e ↦ let p = and_parts (list_all is_line k.ended) (is_line (k.last ++ byte ∷ [])) (sym (all_push is_line k.ended (k.last ++ byte ∷ []))
-          ∙ sym (ap (λ (j : Cut). list_all is_line (j.ended ++ j.last ∷ [])) (cut_joined is_line_feed text byte e)) ∙ h) in
-          all_push is_line k.ended k.last ∙ and_from (list_all is_line k.ended) (is_line k.last) p.0 (line_front k.last byte p.1)
-    ]
+pub fronts_are_good : FrontsAreGood is_good
+fronts_are_good = grammar.fronts_are_good is_line fault_at refl line_front
 
-pub fronts_are_good : FrontsAreGood
-fronts_are_good front [] h = ap is_good (sym (append-nil front)) ∙ h
-fronts_are_good front (byte ∷ rest) h =
-    text_front front byte (fronts_are_good (front ++ byte ∷ []) rest (ap is_good (append_assoc front (byte ∷ []) rest) ∙ h))
+pub good_is_faultless : GoodIsFaultless is_good fault_at
+good_is_faultless = grammar.good_is_faultless is_line fault_at refl line_front
 
--- a good text has no fault behind any front
-faultless_behind : (before text : List ℕ) → is_good (before ++ text) ≡ true → fault_after before text ≡ None
-faultless_behind before [] h = refl
-faultless_behind before (byte ∷ text) h =
-    let whole = ap is_good (append_assoc before (byte ∷ []) text) ∙ h in
-    ap (λ b. found b (fault_after (before ++ byte ∷ []) text) (fault_at before byte)) (fronts_are_good (before ++ byte ∷ []) text whole)
-    ∙ faultless_behind (before ++ byte ∷ []) text whole
-
-pub good_is_faultless : GoodIsFaultless
-good_is_faultless text = (faultless_behind [] text, good-from_faultless text)
-
--- where the first fault stands
-fault_stands : (before text : List ℕ) (fault : ReadFault) → is_good before ≡ true → fault_after before text ≡ Some fault → HasFault (before ++ text) fault
-fault_stands before [] fault h e = absurd cc
-fault_stands before (byte ∷ text) fault h e = at (is_good (before ++ byte ∷ [])) refl e (fault_stands (before ++ byte ∷ []) text fault)
-  where
-    at : (good : Bool) → is_good (before ++ byte ∷ []) ≡ good → found good (fault_after (before ++ byte ∷ []) text) (fault_at before byte) ≡ Some fault
-        → (is_good (before ++ byte ∷ []) ≡ true → fault_after (before ++ byte ∷ []) text ≡ Some fault → HasFault ((before ++ byte ∷ []) ++ text) fault)
-        → HasFault (before ++ byte ∷ text) fault
-    at true g e later = subst (λ l. HasFault l fault) (append_assoc before (byte ∷ []) text) (later g e)
-    at false g e later = record { before = before; byte = byte; rest = text; whole = refl; good = h; bad = g; told = cc }
-
-pub first_fault_is_exact : FirstFaultIsExact
-first_fault_is_exact text fault = (
-  fault_stands [] text fault refl,
-  λ f. ap first_fault f.whole ∙ first_fault_behind f.before (f.byte ∷ f.rest) (faultless_behind [] f.before f.good)
-      ∙ ap (λ b. found b (fault_after (f.before ++ f.byte ∷ []) f.rest) (fault_at f.before f.byte)) f.bad ∙ ap Some (sym f.told),
-)
+pub first_fault_is_exact : FirstFaultIsExact is_good fault_at
+first_fault_is_exact = grammar.first_fault_is_exact is_line fault_at refl line_front
 
 -- ---- whatever follows
 

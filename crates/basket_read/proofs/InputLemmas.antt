@@ -12,10 +12,11 @@ use Rattle.basket_read.specs.declared.input.Front.{Front}
 use Rattle.basket_read.specs.declared.input.Front.TheVariants.{Empty, OneByte, TwoBytes, Decided}
 use Rattle.basket_read.specs.declared.input.Input.{Input}
 use Rattle.basket_read.specs.declared.text.Text.{Text}
-use Rattle.basket_read.specs.Fimi.{MARK, text_of, MOST_BYTES, first_fault, or_else, fault_in, may_be_mark, settled_fault}
+use Rattle.basket_read.specs.Fimi.{fault_at, is_line, MARK, text_of, MOST_BYTES, first_fault, or_else, fault_in, may_be_mark, settled_fault}
 use Rattle.basket_read.specs.Text.{IsTextSoFar, HasRoom, Tells}
 use Rattle.basket_read.specs.Input.{is_decided, IsFront, text_behind, IsInputSoFar, IsSomeInput}
-use Rattle.basket_read.proofs.TextLemmas.{first_fault_stays, take_rest, take_next}
+use Rattle.basket_read.proofs.TextLemmas.{take_rest, take_next}
+use Rattle.basket_read.proofs.theory.Grammar as grammar
 
 -- ---- what is decided at the front
 
@@ -144,7 +145,7 @@ settled_stays bytes more fault e =
         ap (λ l. or_else (first_fault (text_of l)) (cond (ltb MOST_BYTES (length (bytes ++ more))) (Some TooLong) None))
         (take_behind bytes more MOST_BYTES room (omega arith))
         ∙ ap (λ l. or_else (first_fault l) (cond (ltb MOST_BYTES (length (bytes ++ more))) (Some TooLong) None)) (decided-append bytes (take room more) h).0
-        ∙ ap (λ f. or_else f (cond (ltb MOST_BYTES (length (bytes ++ more))) (Some TooLong) None)) (first_fault_stays (text_of bytes) (take room more) fault found)
+        ∙ ap (λ f. or_else f (cond (ltb MOST_BYTES (length (bytes ++ more))) (Some TooLong) None)) (grammar.first_fault_stays is_line fault_at refl (text_of bytes) (take room more) fault found)
 
 -- ---- the input so far
 

@@ -1,4 +1,4 @@
-mod CutLemmas
+pub mod theory
 mod LineLemmas
 mod TextLemmas
 mod RoomLemmas

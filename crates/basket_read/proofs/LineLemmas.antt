@@ -5,26 +5,15 @@ use Rattle.std.specs.Option.{option_map}
 use Rattle.std.proofs.lemmas.Bool.{and_parts, and_from, leb-true, le-leb, eqb-true, ne_eqb, or_cases, and_right}
 use Rattle.std.proofs.lemmas.List.{append-nil, map-append}
 use Rattle.std.proofs.lemmas.List.Elements.{filter-append}
-use Rattle.std.proofs.lemmas.List.Folds.{list_all-append}
-use Rattle.std.proofs.lemmas.List.Sums.{fold_push}
 use Rattle.basket_sets.specs.Number.{is_digit, value_of}
 use Rattle.basket_read.specs.declared.line.Place.TheVariants.{Head, First, Between, Number}
 use Rattle.basket_read.specs.Cut.{Cut, cut_at}
 use Rattle.basket_read.specs.Fimi.{is_blank, is_times, is_nil, is_number, numbers_of, is_weight, is_line_of, is_line, weight_before, MOST_NUMBER}
 use Rattle.basket_read.specs.Line.{LineState, line_at, is_first, place_of, place_with, digit_added, blank_added, blank_after, times_added, times_after}
-use Rattle.basket_read.proofs.CutLemmas.{cut, cut_ended, cut_joined}
+use Rattle.basket_read.proofs.theory.Cuts.{cut, cut_ended, cut_joined}
+pub use Rattle.basket_sets.proofs.theory.Numerals.{all_push, value_push}
 
 -- ---- tests of lists
-
-pub all_push : {X : Type 0} (p : X → Bool) (xs : List X) (x : X) → list_all p (xs ++ x ∷ []) ≡ (list_all p xs && p x)
-all_push p xs x = list_all-append p xs (x ∷ []) ∙ ap (λ b. list_all p xs && b) (and_true (p x))
-  where
-    and_true : (b : Bool) → (b && true) ≡ b
-    and_true true = refl
-    and_true false = refl
-
-pub value_push : (word : List ℕ) (byte : ℕ) → value_of (word ++ byte ∷ []) ≡ value_of word * 10 + (byte - 48)
-value_push word byte = fold_push (λ value b. value * 10 + (b - 48)) 0 word byte
 
 -- a number with one digit more is a number if its value is not above the bound
 number_push : (word : List ℕ) (byte : ℕ) → is_number word ≡ true → is_digit byte ≡ true

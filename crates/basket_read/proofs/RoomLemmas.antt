@@ -14,7 +14,7 @@ use Rattle.basket_read.specs.declared.text.Text.{Text}
 use Rattle.basket_read.specs.Cut.{Cut, cut_more, cut_at}
 use Rattle.basket_read.specs.Fimi.{is_line_feed, is_times, basket_of, basket_of_numbers, numbers_of, weight_before}
 use Rattle.basket_read.specs.Text.{HasBaskets, IsTextSoFar, HasRoom}
-use Rattle.basket_read.proofs.CutLemmas.{cut}
+use Rattle.basket_read.proofs.theory.Cuts.{cut}
 
 -- a bound that follows from what is there
 merely_below : {A : Type 0} (a b : ℕ) → ∥ A ∥₁ → (A → a < b) → a < b

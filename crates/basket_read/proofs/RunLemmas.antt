@@ -13,14 +13,15 @@ use Rattle.basket_read.specs.declared.line.Place.{Place}
 use Rattle.basket_read.specs.declared.line.Place.TheVariants.{Head, First, Between, Number}
 use Rattle.basket_read.specs.declared.text.Text.{Text}
 use Rattle.basket_read.specs.Cut.{Cut, cut_at}
-use Rattle.basket_read.specs.Fimi.{is_blank, is_times, is_line_feed, is_number, is_line, is_line_of, basket_of, MOST_NUMBER}
+use Rattle.basket_read.specs.Fimi.{fault_at, is_blank, is_times, is_line_feed, is_number, is_line, is_line_of, basket_of, MOST_NUMBER}
 use Rattle.basket_read.specs.Line.{line_state, line_at, is_first, place_of, blank_added, blank_after, number_ended, is_in_number, value_at, place_after, IsLineSoFar}
 use Rattle.basket_read.specs.Number.{number_with}
 use Rattle.basket_read.specs.Text.{HasBaskets, IsTextSoFar}
-use Rattle.basket_read.proofs.CutLemmas.{cut, cut_joined}
+use Rattle.basket_read.proofs.theory.Cuts.{cut, cut_joined}
 use Rattle.basket_read.proofs.LineLemmas.{all_push, value_push, goes, state, is_line-goes, with_numbers, parts_good, numbers_so_far, so_far, digit_is_no_other, line_blank, line_other}
-use Rattle.basket_read.proofs.TextLemmas.{lines_good, chosen, take_next}
+use Rattle.basket_read.proofs.TextLemmas.{take_next}
 use Rattle.basket_read.proofs.GrammarLemmas.{line_front, good_is_faultless}
+use Rattle.basket_read.proofs.theory.Grammar as grammar
 
 -- ---- a cut list
 
@@ -57,7 +58,7 @@ digits_more bytes i below digit digits =
 -- a longer number is not above the bound
 pub number_bound : (value longer digit : ℕ) → Some longer ≡ number_with value digit → longer ≤ MOST_NUMBER
 number_bound value longer digit is =
-    let k = chosen longer (value * 10 + digit) _ is in
+    let k = grammar.chosen longer (value * 10 + digit) _ is in
     let below = leb-true (value * 10 + digit) MOST_NUMBER k.0 in
     subst (λ n. n ≤ MOST_NUMBER) (sym k.1) below
 
@@ -67,7 +68,7 @@ pub value_more : (bytes word : List ℕ) (i value longer digit : ℕ) → i < le
 value_more bytes word i value longer digit below byte longer_is value_is =
     let same : get_or bytes i 0 - 48 ≡ digit = omega arith in
     ap value_of (sym (take_next word bytes i below)) ∙ value_push (word ++ take i bytes) (get_or bytes i 0)
-    ∙ (λ j. value_is j * 10 + same j) ∙ sym (chosen longer (value * 10 + digit) _ longer_is).1
+    ∙ (λ j. value_is j * 10 + same j) ∙ sym (grammar.chosen longer (value * 10 + digit) _ longer_is).1
 
 -- a few digits write a small number
 digit_below : (byte digit : ℕ) → is_digit byte ≡ true → byte ≡ 48 + digit → digit < 10
@@ -261,7 +262,7 @@ pub text_goes_on : (text : Text) (past : List Weighted) (bytes run : List ℕ) (
     → IsTextSoFar (record text { line = line }) past (bytes ++ run)
 text_goes_on text past bytes run line t goes_on =
     let k = cut_at is_line_feed bytes in
-    let lines = lines_good bytes t.faultless in
+    let lines = grammar.lines_good is_line fault_at refl bytes t.faultless in
     let s = goes_on k.last (record { good = lines.1; state = t.line }) in
     let joined = same_line bytes run s.good in
     record {

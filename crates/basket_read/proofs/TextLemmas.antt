@@ -1,8 +1,8 @@
 -- How a text goes on with one more byte, and what its first fault is.
-use Rattle.std.proofs.Common.{◌≡◌, ℕ, ◌+◌, ◌<◌, Bool, true, false, ◌&&◌, List, [], ◌∷◌, ◌++◌, length, cond, Option, Some, None, Result, Ok, Err, refl, sym, ap, ◌∙◌, subst, append_assoc, take, drop, get_or}
-use Rattle.std.specs.List.{list_all, flat_map}
+use Rattle.std.proofs.Common.{◌≡◌, ℕ, ◌+◌, ◌<◌, Bool, true, false, List, [], ◌∷◌, ◌++◌, length, cond, Some, None, Result, Ok, Err, refl, sym, ap, ◌∙◌, subst, append_assoc, take, drop, get_or}
+use Rattle.std.specs.List.{flat_map}
 use Rattle.std.specs.Prelude.{IfOk, MatchResult}
-use Rattle.std.proofs.lemmas.Bool.{and_parts, le-leb}
+use Rattle.std.proofs.lemmas.Bool.{le-leb}
 use Rattle.std.proofs.lemmas.List.{append-nil, length-append, take_more, take-append-drop}
 use Rattle.std.proofs.lemmas.Grind.{flat_map-append}
 use Rattle.basket_sets.specs.declared.weighted.Weighted.{Weighted}
@@ -15,94 +15,12 @@ use Rattle.basket_read.specs.declared.fault.ReadFault.TheVariants.{Byte, Number,
 use Rattle.basket_read.specs.declared.line.Line.{Line}
 use Rattle.basket_read.specs.declared.text.Text.{Text}
 use Rattle.basket_read.specs.Cut.{Cut, cut_at}
-use Rattle.basket_read.specs.Fimi.{is_blank, is_times, is_line_feed, is_line, is_good, basket_of, basket_of_numbers, baskets_of, line_after, fault_at, fault_after, first_fault, or_else, if_light}
+use Rattle.basket_read.specs.Fimi.{is_blank, is_times, is_line_feed, is_line, basket_of, basket_of_numbers, baskets_of, line_after, fault_at, first_fault, if_light}
 use Rattle.basket_read.specs.Line.{line_state, line_at, digit_added, blank_added, times_added}
 use Rattle.basket_read.specs.Text.{GoesOn, HasBaskets, IsTextSoFar, Tells}
-use Rattle.basket_read.proofs.CutLemmas.{cut_ended, cut_joined}
-use Rattle.basket_read.proofs.LineLemmas.{all_push, digit_is_no_other, blank_is_no_other, times_is_no_other, line_digit, line_blank, line_times, line_other, line_numbers, line_weight}
-
--- ---- the first fault
-
-abbrev pub found : Bool → Option ReadFault → ReadFault → Option ReadFault
-found good later fault = cond good later (Some fault)
-
--- the fault of a text in two parts is that of the first, else that of the second behind the first
-pub fault_after-append : (before a b : List ℕ) → fault_after before (a ++ b) ≡ or_else (fault_after before a) (fault_after (before ++ a) b)
-fault_after-append before [] b = ap (λ l. fault_after l b) (sym (append-nil before))
-fault_after-append before (byte ∷ a) b =
-    at (is_good (before ++ byte ∷ [])) (fault_after-append (before ++ byte ∷ []) a b)
-  where
-    at : (good : Bool) → fault_after (before ++ byte ∷ []) (a ++ b) ≡ or_else (fault_after (before ++ byte ∷ []) a) (fault_after ((before ++ byte ∷ []) ++ a) b)
-        → found good (fault_after (before ++ byte ∷ []) (a ++ b)) (fault_at before byte)
-        ≡ or_else (found good (fault_after (before ++ byte ∷ []) a) (fault_at before byte)) (fault_after (before ++ byte ∷ a) b)
-    at true e = e ∙ ap (λ l. or_else (fault_after (before ++ byte ∷ []) a) (fault_after l b)) (append_assoc before (byte ∷ []) a)
-    at false e = refl
-
--- a text without a fault is good
-good_after : (before text : List ℕ) → is_good before ≡ true → fault_after before text ≡ None → is_good (before ++ text) ≡ true
-good_after before [] h e = ap is_good (append-nil before) ∙ h
-good_after before (byte ∷ text) h e = at (is_good (before ++ byte ∷ [])) refl e (good_after (before ++ byte ∷ []) text)
-  where
-    at : (good : Bool) → is_good (before ++ byte ∷ []) ≡ good → found good (fault_after (before ++ byte ∷ []) text) (fault_at before byte) ≡ None
-        → (is_good (before ++ byte ∷ []) ≡ true → fault_after (before ++ byte ∷ []) text ≡ None → is_good ((before ++ byte ∷ []) ++ text) ≡ true)
-        → is_good (before ++ byte ∷ text) ≡ true
-    at true g e rest = ap is_good (sym (append_assoc before (byte ∷ []) text)) ∙ rest g e
-    at false g e rest = absurd cc
-
-pub good-from_faultless : (text : List ℕ) → first_fault text ≡ None → is_good text ≡ true
-good-from_faultless text e = good_after [] text refl e
-
--- what follows a text without a fault
-pub first_fault_behind : (a b : List ℕ) → first_fault a ≡ None → first_fault (a ++ b) ≡ fault_after a b
-first_fault_behind a b e = fault_after-append [] a b ∙ ap (λ f. or_else f (fault_after a b)) e
-
--- what follows a fault changes nothing
-pub first_fault_stays : (a b : List ℕ) (fault : ReadFault) → first_fault a ≡ Some fault → first_fault (a ++ b) ≡ Some fault
-first_fault_stays a b fault e = fault_after-append [] a b ∙ ap (λ f. or_else f (fault_after a b)) e
-
-pub first_fault_push : (text : List ℕ) (byte : ℕ) (good : Bool) → first_fault text ≡ None → is_good (text ++ byte ∷ []) ≡ good
-    → first_fault (text ++ byte ∷ []) ≡ cond good None (Some (fault_at text byte))
-first_fault_push text byte good e g = first_fault_behind text (byte ∷ []) e ∙ ap (λ b. found b None (fault_at text byte)) g
-
--- ---- one more byte
-
-module _ (text : List ℕ) (faultless : first_fault text ≡ None) where
-  abbrev so_far : Cut
-  so_far = cut_at is_line_feed text
-
-  pub lines_good : (list_all is_line so_far.ended ≡ true) × (is_line so_far.last ≡ true)
-  lines_good = and_parts (list_all is_line so_far.ended) (is_line so_far.last) (sym (all_push is_line so_far.ended so_far.last) ∙ good-from_faultless text faultless)
-
-  pub line_good : is_line so_far.last ≡ true
-  line_good = lines_good.1
-
-  good_with : (byte : ℕ) → is_line_feed byte ≡ false → is_good (text ++ byte ∷ []) ≡ is_line (so_far.last ++ byte ∷ [])
-  good_with byte e =
-      ap (λ (k : Cut). list_all is_line (k.ended ++ k.last ∷ [])) (cut_joined is_line_feed text byte e)
-      ∙ all_push is_line so_far.ended (so_far.last ++ byte ∷ []) ∙ ap (λ b. b && is_line (so_far.last ++ byte ∷ [])) lines_good.0
-
-  -- a byte with which the line is none is the first fault
-  pub fault_here : (byte : ℕ) → is_line_feed byte ≡ false → is_line (so_far.last ++ byte ∷ []) ≡ false → first_fault (text ++ byte ∷ []) ≡ Some (fault_at text byte)
-  fault_here byte e bad = first_fault_push text byte false faultless (good_with byte e ∙ bad)
-
-  pub no_fault_here : (byte : ℕ) → is_line_feed byte ≡ false → is_line (so_far.last ++ byte ∷ []) ≡ true → first_fault (text ++ byte ∷ []) ≡ None
-  no_fault_here byte e good = first_fault_push text byte true faultless (good_with byte e ∙ good)
-
-  -- a line feed is no fault
-  pub line_feed_here : (byte : ℕ) → is_line_feed byte ≡ true → first_fault (text ++ byte ∷ []) ≡ None
-  line_feed_here byte e =
-      first_fault_push text byte true faultless
-      (ap (λ (k : Cut). list_all is_line (k.ended ++ k.last ∷ [])) (cut_ended is_line_feed text byte e)
-      ∙ all_push is_line (so_far.ended ++ so_far.last ∷ []) [] ∙ ap (λ b. b && is_line []) (good-from_faultless text faultless))
-
--- what a choice gave
-pub chosen : {S : Type 0} (s x : S) (b : Bool) → ◌≡◌ {A = Option S} (Some s) (cond b (Some x) None) → (b ≡ true) × (s ≡ x)
-chosen s x true e = (refl, cc)
-chosen s x false e = absurd cc
-
-refused : {S : Type 0} (x : S) (b : Bool) → ◌≡◌ {A = Option S} None (cond b (Some x) None) → b ≡ false
-refused x true e = absurd cc
-refused x false e = refl
+use Rattle.basket_read.proofs.theory.Cuts.{cut_ended, cut_joined}
+use Rattle.basket_read.proofs.LineLemmas.{digit_is_no_other, blank_is_no_other, times_is_no_other, line_digit, line_blank, line_times, line_other, line_numbers, line_weight}
+use Rattle.basket_read.proofs.theory.Grammar as grammar
 
 module _ (text : Text) (past : List Weighted) (bytes : List ℕ) (t : IsTextSoFar text past bytes) where
   -- the text with another last line
@@ -117,7 +35,7 @@ module _ (text : Text) (past : List Weighted) (bytes : List ℕ) (t : IsTextSoFa
   goes_on line byte e good is =
       let joined = cut_joined is_line_feed bytes byte e in
       record {
-        faultless = no_fault_here bytes t.faultless byte e good;
+        faultless = grammar.fault_here is_line fault_at refl bytes t.faultless byte true e good;
         lines = t.lines ∙ ap (λ (k : Cut). length k.ended) (sym joined);
         baskets = subst (λ (k : Cut). HasBaskets text.heavy (past ++ text.baskets) (flat_map basket_of k.ended)) (sym joined) t.baskets;
         counted = t.counted;
@@ -127,41 +45,41 @@ module _ (text : Text) (past : List Weighted) (bytes : List ℕ) (t : IsTextSoFa
   pub takes_digit : (line : Line) (byte digit : ℕ) → is_digit byte ≡ true → byte ≡ 48 + digit → Some (line_state line) ≡ digit_added (line_state text.line) digit
       → IsTextSoFar (with_line line) past (bytes ++ byte ∷ [])
   takes_digit line byte digit d e is =
-      let k = chosen (line_state line) (line_at (last ++ byte ∷ [])) (is_line (last ++ byte ∷ []))
-      (is ∙ ap (λ s. digit_added s digit) t.line ∙ line_digit last byte digit (line_good bytes t.faultless) d e) in
+      let k = grammar.chosen (line_state line) (line_at (last ++ byte ∷ [])) (is_line (last ++ byte ∷ []))
+      (is ∙ ap (λ s. digit_added s digit) t.line ∙ line_digit last byte digit (grammar.lines_good is_line fault_at refl bytes t.faultless).1 d e) in
       goes_on line byte (digit_is_no_other byte d).2 k.0 k.1
 
   pub refuses_digit : (byte digit : ℕ) → is_digit byte ≡ true → byte ≡ 48 + digit → None ≡ digit_added (line_state text.line) digit
       → first_fault (bytes ++ byte ∷ []) ≡ Some (Number (text.lines + 1))
   refuses_digit byte digit d e is =
-      fault_here bytes t.faultless byte (digit_is_no_other byte d).2
-      (refused (line_at (last ++ byte ∷ [])) (is_line (last ++ byte ∷ [])) (is ∙ ap (λ s. digit_added s digit) t.line ∙ line_digit last byte digit (line_good bytes t.faultless) d e))
+      grammar.fault_here is_line fault_at refl bytes t.faultless byte false (digit_is_no_other byte d).2
+      (grammar.refused (line_at (last ++ byte ∷ [])) (is_line (last ++ byte ∷ [])) (is ∙ ap (λ s. digit_added s digit) t.line ∙ line_digit last byte digit (grammar.lines_good is_line fault_at refl bytes t.faultless).1 d e))
       ∙ ap (λ b. Some (cond b (Number (line_after bytes)) (Byte (line_after bytes) byte))) d ∙ ap (λ n. Some (Number (n + 1))) (sym t.lines)
 
   pub takes_blank : (line : Line) (byte : ℕ) → is_blank byte ≡ true → line_state line ≡ blank_added (line_state text.line) → IsTextSoFar (with_line line) past (bytes ++ byte ∷ [])
   takes_blank line byte d is =
-      let k = line_blank last byte (line_good bytes t.faultless) d in
+      let k = line_blank last byte (grammar.lines_good is_line fault_at refl bytes t.faultless).1 d in
       goes_on line byte (blank_is_no_other byte d).2 k.0 (is ∙ ap blank_added t.line ∙ k.1)
 
   pub takes_times : (line : Line) (byte : ℕ) → is_times byte ≡ true → Some (line_state line) ≡ times_added (line_state text.line) → IsTextSoFar (with_line line) past (bytes ++ byte ∷ [])
   takes_times line byte d is =
-      let k = chosen (line_state line) (line_at (last ++ byte ∷ [])) (is_line (last ++ byte ∷ []))
-      (is ∙ ap times_added t.line ∙ line_times last byte (line_good bytes t.faultless) d) in
+      let k = grammar.chosen (line_state line) (line_at (last ++ byte ∷ [])) (is_line (last ++ byte ∷ []))
+      (is ∙ ap times_added t.line ∙ line_times last byte (grammar.lines_good is_line fault_at refl bytes t.faultless).1 d) in
       goes_on line byte (times_is_no_other byte d).1 k.0 k.1
 
   bad_byte : (byte : ℕ) → is_digit byte ≡ false → is_line_feed byte ≡ false → is_line (last ++ byte ∷ []) ≡ false → first_fault (bytes ++ byte ∷ []) ≡ Some (Byte (text.lines + 1) byte)
   bad_byte byte d e bad =
-      fault_here bytes t.faultless byte e bad
+      grammar.fault_here is_line fault_at refl bytes t.faultless byte false e bad
       ∙ ap (λ b. Some (cond b (Number (line_after bytes)) (Byte (line_after bytes) byte))) d ∙ ap (λ n. Some (Byte (n + 1) byte)) (sym t.lines)
 
   pub refuses_times : (byte : ℕ) → is_times byte ≡ true → None ≡ times_added (line_state text.line) → first_fault (bytes ++ byte ∷ []) ≡ Some (Byte (text.lines + 1) byte)
   refuses_times byte d is =
       bad_byte byte (times_is_no_other byte d).0 (times_is_no_other byte d).1
-      (refused (line_at (last ++ byte ∷ [])) (is_line (last ++ byte ∷ [])) (is ∙ ap times_added t.line ∙ line_times last byte (line_good bytes t.faultless) d))
+      (grammar.refused (line_at (last ++ byte ∷ [])) (is_line (last ++ byte ∷ [])) (is ∙ ap times_added t.line ∙ line_times last byte (grammar.lines_good is_line fault_at refl bytes t.faultless).1 d))
 
   pub refuses_other : (byte : ℕ) → is_digit byte ≡ false → is_blank byte ≡ false → is_times byte ≡ false → is_line_feed byte ≡ false
       → first_fault (bytes ++ byte ∷ []) ≡ Some (Byte (text.lines + 1) byte)
-  refuses_other byte d b x e = bad_byte byte d e (line_other last byte (line_good bytes t.faultless) d b x)
+  refuses_other byte d b x e = bad_byte byte d e (line_other last byte (grammar.lines_good is_line fault_at refl bytes t.faultless).1 d b x)
 
   -- what the last line adds
   pub its_basket : basket_of_numbers (blank_added (line_state text.line)).numbers (blank_added (line_state text.line)).weight ≡ basket_of last
@@ -181,7 +99,7 @@ module _ (text : Text) (past : List Weighted) (bytes : List ℕ) (t : IsTextSoFa
   takes_line_feed new byte e is lines more same =
       let ended = cut_ended is_line_feed bytes byte e in
       record {
-        faultless = line_feed_here bytes t.faultless byte e;
+        faultless = grammar.line_feed_here is_line fault_at refl bytes t.faultless byte e;
         lines = lines ∙ ap (λ n. n + 1) t.lines ∙ sym (length-append (cut_at is_line_feed bytes).ended (last ∷ [])) ∙ ap (λ (k : Cut). length k.ended) (sym ended);
         baskets = subst (HasBaskets new.heavy (past ++ new.baskets))
             (ap (λ l. flat_map basket_of (cut_at is_line_feed bytes).ended ++ l) its_basket ∙ all_baskets ∙ ap (λ (k : Cut). flat_map basket_of k.ended) (sym ended))
@@ -219,12 +137,12 @@ pub fault_in_piece : (bytes piece : List ℕ) (i : ℕ) (fault : ReadFault) → 
 fault_in_piece bytes piece i fault below told no_memory =
     ap first_fault
     (ap (λ l. bytes ++ l) (sym (take-append-drop (i + 1) piece)) ∙ sym (append_assoc bytes (take (i + 1) piece) (drop (i + 1) piece)))
-    ∙ first_fault_stays (bytes ++ take (i + 1) piece) (drop (i + 1) piece) fault (ap first_fault (sym (take_next bytes piece i below)) ∙ told no_memory)
+    ∙ grammar.first_fault_stays is_line fault_at refl (bytes ++ take (i + 1) piece) (drop (i + 1) piece) fault (ap first_fault (sym (take_next bytes piece i below)) ∙ told no_memory)
 
 -- and so is a fault in its front
 pub fault_in_front : (bytes front rest piece : List ℕ) (fault : ReadFault) → front ++ rest ≡ piece → Tells fault (first_fault (bytes ++ front)) → Tells fault (first_fault (bytes ++ piece))
 fault_in_front bytes front rest piece fault whole told no_memory =
-    ap first_fault (ap (λ l. bytes ++ l) (sym whole) ∙ sym (append_assoc bytes front rest)) ∙ first_fault_stays (bytes ++ front) rest fault (told no_memory)
+    ap first_fault (ap (λ l. bytes ++ l) (sym whole) ∙ sym (append_assoc bytes front rest)) ∙ grammar.first_fault_stays is_line fault_at refl (bytes ++ front) rest fault (told no_memory)
 
 pub if_ok : {A : Type 0} (result : Result A ReadFault) (P : A → Type 0) (Q : ReadFault → Type 0) → MatchResult result P Q → IfOk result P
 if_ok (Ok x) P Q h = h

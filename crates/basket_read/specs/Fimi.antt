@@ -1,5 +1,5 @@
 -- What a FIMI text says: its weighted baskets, or its first fault.
-use Rattle.std.specs.Prelude.{ℕ, ◌+◌, Bool, true, false, ◌&&◌, ◌||◌, not, nat_eq, nat_le, nat_lt, ◌==◌, if◌then◌else◌, List, [], ◌∷◌, ◌++◌, length, map, filter, take, drop, Option, Some, None, Result, Ok, Err}
+use Rattle.std.specs.Prelude.{ℕ, ◌+◌, Bool, true, false, ◌&&◌, ◌||◌, not, nat_eq, nat_le, nat_lt, ◌==◌, if◌then◌else◌, List, [], ◌∷◌, length, map, filter, take, drop, Option, Some, None, Result, Ok, Err}
 use Rattle.std.specs.List.{list_all, flat_map, starts_with}
 use Rattle.std.specs.Cmp.Lexicographic.{pointwise}
 use Rattle.basket_sets.specs.declared.weighted.Weighted.{Weighted}
@@ -10,6 +10,7 @@ use Rattle.basket_sets.specs.Database.{weighted, MOST_WEIGHT}
 use Rattle.basket_read.specs.declared.fault.ReadFault.{ReadFault}
 use Rattle.basket_read.specs.declared.fault.ReadFault.TheVariants.{TooLong, Byte, Number, Heavy}
 use Rattle.basket_read.specs.Cut.{cut_at, parts_of}
+use Rattle.basket_read.specs.Grammar.{fault_behind}
 
 -- a blank is a space, a tab or a carriage return
 abbrev pub is_blank : ℕ → Bool
@@ -90,8 +91,7 @@ fault_at before byte = if is_digit byte then Number (line_after before) else Byt
 
 -- the first fault in a text that goes on after a good front: at the first byte with which the text so far is not good
 abbrev pub fault_after : List ℕ → List ℕ → Option ReadFault
-fault_after before [] = None
-fault_after before (byte ∷ text) = if is_good (before ++ byte ∷ []) then fault_after (before ++ byte ∷ []) text else Some (fault_at before byte)
+fault_after before text = fault_behind is_good fault_at before text
 
 -- the first fault of a text
 abbrev pub first_fault : List ℕ → Option ReadFault

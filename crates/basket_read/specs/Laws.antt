@@ -1,32 +1,10 @@
 -- Laws on the grammar and on faults.
-use Rattle.std.specs.Prelude.{◌≡◌, ◌↔◌, ℕ, ◌+◌, true, false, List, [], ◌∷◌, ◌++◌, length, Some, None}
+use Rattle.std.specs.Prelude.{◌≡◌, ℕ, ◌+◌, List, [], ◌++◌, length, Some, None}
 use Rattle.std.specs.Option.{option_map}
 use Rattle.basket_read.specs.declared.fault.ReadFault.{ReadFault}
 use Rattle.basket_read.specs.declared.fault.ReadFault.TheVariants.{Byte, Number}
 use Rattle.basket_read.specs.Cut.{cut_at}
-use Rattle.basket_read.specs.Fimi.{is_line_feed, is_good, baskets_of, fault_at, first_fault, or_else, fault_in, settled_fault}
-
--- each front of a good text is good
-abbrev pub FrontsAreGood : Type 0
-FrontsAreGood = (front rest : List ℕ) → is_good (front ++ rest) ≡ true → is_good front ≡ true
-
--- a text is good, or it has a first fault, and not both
-abbrev pub GoodIsFaultless : Type 0
-GoodIsFaultless = (text : List ℕ) → (is_good text ≡ true) ↔ (first_fault text ≡ None)
-
--- the text has this fault at a byte: what stands before the byte is good, and with the byte it is not
-pub record HasFault (text : List ℕ) (fault : ReadFault) : Type 0 where
-  pub before : List ℕ
-  pub byte : ℕ
-  pub rest : List ℕ
-  pub whole : text ≡ before ++ byte ∷ rest
-  pub good : is_good before ≡ true
-  pub bad : is_good (before ++ byte ∷ []) ≡ false
-  pub told : fault ≡ fault_at before byte
-
--- the first fault is that of the one byte that ends a good text badly
-abbrev pub FirstFaultIsExact : Type 0
-FirstFaultIsExact = (text : List ℕ) (fault : ReadFault) → (first_fault text ≡ Some fault) ↔ HasFault text fault
+use Rattle.basket_read.specs.Fimi.{is_line_feed, baskets_of, first_fault, or_else, fault_in, settled_fault}
 
 -- bytes with a settled fault have it whatever follows
 abbrev pub SettledFaultsStay : Type 0

@@ -1,5 +1,6 @@
 pub mod Fault
 pub mod Cut
+pub mod Grammar
 pub mod Fimi
 pub mod Number
 pub mod Line

@@ -1,19 +1,21 @@
 //! Laws on the grammar of FIMI texts and on their faults.
-ghost use Rattle.basket_read.specs.Laws.{FrontsAreGood, GoodIsFaultless, FirstFaultIsExact, SettledFaultsStay, UnsettledMayBeGood, LinesSayTheirs};
+ghost use Rattle.basket_read.specs.Fimi.{fault_at, is_good};
+ghost use Rattle.basket_read.specs.Grammar.{FirstFaultIsExact, FrontsAreGood, GoodIsFaultless};
+ghost use Rattle.basket_read.specs.Laws.{LinesSayTheirs, SettledFaultsStay, UnsettledMayBeGood};
 
 /// Each front of a good text is good.
 pub fn fronts_are_good()
-    ensures { FrontsAreGood }
+    ensures { FrontsAreGood is_good }
 {}
 
 /// A text is good, or it has a first fault, and not both.
 pub fn good_is_faultless()
-    ensures { GoodIsFaultless }
+    ensures { GoodIsFaultless is_good fault_at }
 {}
 
 /// The first fault is that of the one byte that ends a good text badly.
 pub fn first_fault_is_exact()
-    ensures { FirstFaultIsExact }
+    ensures { FirstFaultIsExact is_good fault_at }
 {}
 
 /// Bytes with a settled fault have it whatever follows.

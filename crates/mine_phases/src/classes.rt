@@ -13,6 +13,7 @@ use crate::class_miner::ClassMiner;
 use crate::cutting::Cutting;
 use crate::gate::Gate;
 use crate::joined::{Class, joined};
+use crate::phase::Phase;
 use crate::placed::collected;
 use crate::round_tally::{RoundTally, Start};
 use crate::share::{Share, by_workers, claim_piece};
@@ -27,18 +28,27 @@ use std::thread::Threads;
 /// The number of the phase: the items were counted before.
 const PHASE: u32 = 2;
 
+impl<'a, G: Gate> Phase<'a, G> {
+    /// The phase that mines class by class.
+    pub fn of_classes(cutting: Cutting, gate: &'a G) -> Self
+        ensures { result.cutting ≡ cutting }
+    {
+        Phase::new(PHASE, cutting, gate)
+    }
+}
+
 /// The phase as its workers see it.
 #[derive(Drop)]
-struct Classes<'a, M, G> {
+struct Classes<'a, 'g, M, G> {
     round: &'a Round,
     pieces: u32,
     ranks: u32,
     miner: &'a M,
     limit: u32,
-    gate: &'a G,
+    gate: &'g G,
 }
 
-impl<M: ClassMiner, G: Gate> Classes<'_, M, G> {
+impl<M: ClassMiner, G: Gate> Classes<'_, '_, M, G> {
     /// What a worker does: it mines the classes of each piece that it claims, until none is left, or
     /// it sees more sets than the limit, or it finds no memory.
     fn share(&self, alloc: Global, worker: u32, seat: RoundSeat) -> Share<Vec<(u32, Vec<Class>)>>
@@ -166,14 +176,13 @@ impl<M: ClassMiner, G: Gate> Classes<'_, M, G> {
 /// The sets of each class, mined by so many workers over so many pieces of the ranks, where they are no
 /// more than the limit, and how much work that took. The workers share one count of the sets that they
 /// find, and each stops where it sees more than the limit.
-fn mined_classes<'a, R: Threads + Sync, G: Gate + Sync, M: ClassMiner + Sync>(
+fn mined_classes<'a, 'g, R: Threads + Sync, G: Gate + Sync, M: ClassMiner + Sync>(
     rt: &R,
     alloc: Global,
     coded: &Coded,
     miner: &'a M,
     limit: u32,
-    cutting: Cutting,
-    gate: &'a G,
+    phase: &Phase<'g, G>,
 ) -> Result<(Vec<CountedSets>, u64), MineFault>
     requires coding { M.coding_of miner.now ≡ coded.now }
     ensures once { IfOk result (λ mined. ListsOnce (baskets_of coded.now) coded.now.minimum (flat_map (λ class. class) mined.0.items)) }
@@ -184,6 +193,7 @@ fn mined_classes<'a, R: Threads + Sync, G: Gate + Sync, M: ClassMiner + Sync>(
     class_items_are_all();
     class_sizes_add_up();
     let _baskets = coded.baskets();
+    let cutting = phase.cutting;
     let (round, seats) = Round::new(alloc, cutting.pieces, 1, cutting.workers)?;
     let classes = Classes {
         round: &round,
@@ -191,7 +201,7 @@ fn mined_classes<'a, R: Threads + Sync, G: Gate + Sync, M: ClassMiner + Sync>(
         ranks: coded.ranks(),
         miner,
         limit,
-        gate,
+        gate: phase.gate,
     };
     let lent = &classes;
     let (seats, values) = by_workers(
@@ -224,8 +234,7 @@ pub fn mine_shared<R: Threads + Sync, G: Gate + Sync, M: ClassMiner + Sync + Dro
     coded: &Coded,
     miner: M,
     limit: u32,
-    cutting: Cutting,
-    gate: &G,
+    phase: &Phase<'_, G>,
 ) -> Result<(Frequent, u64), MineFault>
     requires coding { M.coding_of miner ≡ coded.now }
     ensures list { IfOk result (λ mined. mined.0 ≡ listing_of coded.now) }
@@ -233,8 +242,8 @@ pub fn mine_shared<R: Threads + Sync, G: Gate + Sync, M: ClassMiner + Sync + Dro
     ensures work { IfOk result (λ mined. IsWorkOfAll (M.is_work miner) (length coded.now.items) mined.1) }
     ensures too_many { (most : ℕ) → result ≡ Err (TooMany most) → (most ≡ limit) × (limit < length (frequent_of_coding coded.now)) }
 {
-    let (classes, work) = mined_classes(rt, alloc, coded, &miner, limit, cutting, gate)?;
+    let (classes, work) = mined_classes(rt, alloc, coded, &miner, limit, phase)?;
     drop(miner);
-    let list = Frequent::of_classes_shared(rt, alloc, coded, classes, cutting.workers)?;
+    let list = Frequent::of_classes_shared(rt, alloc, coded, classes, phase.cutting.workers)?;
     Ok((list, work))
 }

@@ -36,4 +36,5 @@ pub use cutting::Cutting;
 pub use gate::{Gate, Open};
 pub use level::count_level;
 pub use pairs::count_pairs;
+pub use phase::Phase;
 pub use runs::runs_shared;

@@ -29,38 +29,37 @@ impl KnownItems {
         ensures { ArePlacesWithout (map (unpacked self.now) sets.now) (unpacked self.now packed.now).set (length (unpacked self.now packed.now).set) found.new }
     {
         let bits = self.bits(packed);
-        let count = self.add_places(sets, places, bits, 64, found, 0);
-        let _count = self.add_places(sets, places, bits, 0, found, count);
+        let count = self.add_places::<64>(sets, places, bits, found, 0);
+        let _count = self.add_places::<0>(sets, places, bits, found, count);
     }
 
     /// Adds those without an item that has a one among 64 bits, of which the lowest is at a place. So
     /// many items have higher bits.
     #[inline(always)]
-    fn add_places(
+    fn add_places<const PLACE: u32>(
         &self,
         sets: &[Packed],
         places: &Places,
         bits: u128,
-        place: u32,
         found: &mut [u32; MOST_ITEMS],
         first: usize,
     ) -> usize
         requires some { 0 < length self.now }
         requires bits { bits < 2 ^ length self.now }
-        requires place { place ≤ 64 }
-        requires rest { IsRestOf self.now bits first (bits / 2 ^ place % 2 ^ 64 * 2 ^ place + bits % 2 ^ place) }
+        requires place { PLACE ≤ 64 }
+        requires rest { IsRestOf self.now bits first (bits / 2 ^ PLACE % 2 ^ 64 * 2 ^ PLACE + bits % 2 ^ PLACE) }
         requires found { ArePlacesWithout (map (unpacked self.now) sets.now) (items_in self.now bits) first found.old }
-        ensures rest { IsRestOf self.now bits result (bits % 2 ^ place) }
+        ensures rest { IsRestOf self.now bits result (bits % 2 ^ PLACE) }
         ensures found { ArePlacesWithout (map (unpacked self.now) sets.now) (items_in self.now bits) result found.new }
     {
         // Nothing is read here: it brings what holds of the items.
         let _ = &self.items;
         let count_bits = self.count_bits();
-        let mut rest = ((bits >> place) % WORD) as u64;
+        let mut rest = ((bits >> PLACE) % WORD) as u64;
         let mut count = first;
         while rest != 0 {
             let one = 1u64 << rest.ilog2();
-            let shorter = bits ^ (u128::from(one) << place);
+            let shorter = bits ^ (u128::from(one) << PLACE);
             found[count] = find_bits(sets, places, shorter, count_bits);
             count += 1;
             rest -= one;

@@ -30,7 +30,7 @@ by_workers-requires-clause-accepted g c κs within i seat below is =
     let fresh = c.in_ok-round.ensures.unused i seat below in (
       ap (λ (s : SeatView). s.round) is ∙ fresh.0,
       ap (λ (s : SeatView). s.held) is ∙ fresh.1,
-      c.args.cutting.some_pieces.0,
+      c.args.phase.now.cutting.some_pieces.0,
       c.in_ok-round.ensures.round.0,
       c.in_ok-round.ensures.round.1,
       c.ranks.ensures ∙ ap (λ (k : Coding). length k.items) (sym c.requires.coding),
@@ -49,7 +49,7 @@ pub returns-in_err-values-clause-too_many : goal.returns-in_err-values-clause-to
 returns-in_err-values-clause-too_many g c most e =
     let coding : Coding = g.M.ClassMiner.coding_of c.args.miner.now in
     let shares = c.in_ok-seats.ensures.shares in
-    let all : All (IsClassShare c.in_ok-round.round coding (g.M.ClassMiner.is_work c.args.miner.now) c.args.limit c.args.cutting.pieces) shares =
+    let all : All (IsClassShare c.in_ok-round.round coding (g.M.ClassMiner.is_work c.args.miner.now) c.args.limit c.args.phase.now.cutting.pieces) shares =
     λ k d below. (c.in_ok-seats.ensures.each k d below).call.met.1 in
     let p = err_from_is_err_and c.from_residual-in_err-values.result c.from_residual-in_err-values.ensures.1 in
     let both = sym p.1 ∙ e in
@@ -57,20 +57,20 @@ returns-in_err-values-clause-too_many g c most e =
     let told : fault_of (map (λ (s : Pieces). s.values) shares) ≡ Some (TooMany most) = rw (c.in_err-values.was ∙ ap Err (sym p.2 ∙ fault)) at c.in_ok-seats.ensures.fault in
     let first : 0 < length c.in-Ok.field-0.counters.items = omega (arith, c.in-Ok.ensures.counters, c.in-Ok.field-0.counters.ok, c.in_ok-round.ensures.round.1) in
     subst (λ k. (most ≡ c.args.limit) × (c.args.limit < length (frequent_of_coding k))) c.requires.coding
-    (too_many_are c.in_ok-round.round coding (g.M.ClassMiner.is_work c.args.miner.now) c.args.limit c.args.cutting.pieces shares c.in_ok-seats.seats.items most _ c.in-Ok.field-0.claimed
-    c.args.cutting.some_pieces.0 (subst IsCoding (sym c.requires.coding) c.baskets-baskets.ensures.coding) c.class_sizes_add_up.ensures c.in_ok-seats.ensures.seats all c.in-Ok.ensures.claimed
+    (too_many_are c.in_ok-round.round coding (g.M.ClassMiner.is_work c.args.miner.now) c.args.limit c.args.phase.now.cutting.pieces shares c.in_ok-seats.seats.items most _ c.in-Ok.field-0.claimed
+    c.args.phase.now.cutting.some_pieces.0 (subst IsCoding (sym c.requires.coding) c.baskets-baskets.ensures.coding) c.class_sizes_add_up.ensures c.in_ok-seats.ensures.seats all c.in-Ok.ensures.claimed
     (omega (arith, c.in-Ok.ensures.within, c.in_ok-round.ensures.round.0)) (c.in-Ok.ensures.sums 0 first) (c.in-Ok.ensures.greatest 0 first) told)
 
 pub collected-requires : goal.collected-requires
 collected-requires g c =
     let shares = c.in_ok-seats.ensures.shares in
     let lists = c.in_ok-values.values.items in
-    let pieces = c.args.cutting.pieces in
+    let pieces = c.args.phase.now.cutting.pieces in
     let P = MinesPieces (g.M.ClassMiner.coding_of c.args.miner.now) (g.M.ClassMiner.is_work c.args.miner.now) c.args.limit pieces in
     let says : All (Says P) shares = λ k d below. (c.in_ok-seats.ensures.each k d below).call.met.1.values in
     let all : map Ok lists ≡ map (λ (s : Pieces). s.values) shares = rw c.in_ok-values.was at c.in_ok-seats.ensures.lists in
     let seats = c.in_ok-seats.ensures.seats in
-    let some : 1 ≤ length shares = omega (arith, c.in_ok-seats.ensures.count, c.in_ok-round.ensures.seats, c.args.cutting.some_workers.0) in
+    let some : 1 ≤ length shares = omega (arith, c.in_ok-seats.ensures.count, c.in_ok-round.ensures.seats, c.args.phase.now.cutting.some_workers.0) in
     let ended = c.in-Ok.ensures.ended (subst (λ l. Any (λ (s : SeatView). 0 < s.held.past) l) (sym seats) (some_ended P (λ seat values says. says.ended) shares lists some all says)) in
     let claimed : List ℕ = claimed_by c.in_ok-seats.seats.items in
     let mined : map (piece_from_end pieces) claimed ≡ flat_map (λ list. numbers_of list.items) lists =
@@ -109,8 +109,8 @@ pub returns-clause-once : goal.returns-clause-once
 returns-clause-once g c =
     let coding : Coding = g.M.ClassMiner.coding_of c.args.miner.now in
     let is_work = g.M.ClassMiner.is_work c.args.miner.now in
-    let mined = mined_all coding is_work c.args.limit c.args.cutting.pieces c.in_ok-seats.ensures.shares c.in_ok-values.values.items c.in_ok-collected.field-0.items
-    c.args.cutting.some_pieces.0 (omega (arith, c.in_ok-collected.ensures.count, c.in_ok-collected.field-0.ok)) (rw c.in_ok-values.was at c.in_ok-seats.ensures.lists)
+    let mined = mined_all coding is_work c.args.limit c.args.phase.now.cutting.pieces c.in_ok-seats.ensures.shares c.in_ok-values.values.items c.in_ok-collected.field-0.items
+    c.args.phase.now.cutting.some_pieces.0 (omega (arith, c.in_ok-collected.ensures.count, c.in_ok-collected.field-0.ok)) (rw c.in_ok-values.was at c.in_ok-seats.ensures.lists)
     (λ k d below. (c.in_ok-seats.ensures.each k d below).call.met.1.values) c.in_ok-collected.ensures.values in
     let once = once_of_all coding is_work _ c.class_items_are_all.ensures (subst IsCoding (sym c.requires.coding) c.baskets-baskets.ensures.coding) mined in
     subst (λ (k : Coding). ListsOnce (baskets_of k) k.minimum (flat_map (λ (class : List Counted). class) c.in_ok-classes.classes.items)) c.requires.coding
@@ -120,10 +120,10 @@ pub returns-clause-within : goal.returns-clause-within
 returns-clause-within g c =
     let coding : Coding = g.M.ClassMiner.coding_of c.args.miner.now in
     let is_work = g.M.ClassMiner.is_work c.args.miner.now in
-    let pieces = c.args.cutting.pieces in
+    let pieces = c.args.phase.now.cutting.pieces in
     let first : 0 < length c.in-Ok.field-0.counters.items = omega (arith, c.in-Ok.ensures.counters, c.in-Ok.field-0.counters.ok, c.in_ok-round.ensures.round.1) in
     let few = few_sets coding is_work c.args.limit pieces c.in_ok-seats.ensures.shares c.in_ok-values.values.items c.in_ok-seats.seats.items _ _
-    c.args.cutting.some_pieces.0 (omega (arith, c.in_ok-seats.ensures.count, c.in_ok-round.ensures.seats, c.args.cutting.some_workers.0))
+    c.args.phase.now.cutting.some_pieces.0 (omega (arith, c.in_ok-seats.ensures.count, c.in_ok-round.ensures.seats, c.args.phase.now.cutting.some_workers.0))
     (subst IsCoding (sym c.requires.coding) c.baskets-baskets.ensures.coding) c.class_sizes_add_up.ensures (rw c.in_ok-values.was at c.in_ok-seats.ensures.lists)
     (λ k d below. (c.in_ok-seats.ensures.each k d below).call.met.1.values) c.in_ok-seats.ensures.seats (λ any. c.in-Ok.ensures.ended any ∙ c.in_ok-round.ensures.round.0) c.in-Ok.ensures.claimed
     (c.in-Ok.ensures.sums 0 first) (c.in-Ok.ensures.greatest 0 first) in
@@ -133,13 +133,13 @@ pub joined-requires : goal.joined-requires
 joined-requires g c =
     let coding : Coding = g.M.ClassMiner.coding_of c.args.miner.now in
     let is_work = g.M.ClassMiner.is_work c.args.miner.now in
-    let pieces = c.args.cutting.pieces in
+    let pieces = c.args.phase.now.cutting.pieces in
     let first : 0 < length c.in-Ok.field-0.counters.items = omega (arith, c.in-Ok.ensures.counters, c.in-Ok.field-0.counters.ok, c.in_ok-round.ensures.round.1) in
     let mined = mined_all coding is_work c.args.limit pieces c.in_ok-seats.ensures.shares c.in_ok-values.values.items c.in_ok-collected.field-0.items
-    c.args.cutting.some_pieces.0 (omega (arith, c.in_ok-collected.ensures.count, c.in_ok-collected.field-0.ok)) (rw c.in_ok-values.was at c.in_ok-seats.ensures.lists)
+    c.args.phase.now.cutting.some_pieces.0 (omega (arith, c.in_ok-collected.ensures.count, c.in_ok-collected.field-0.ok)) (rw c.in_ok-values.was at c.in_ok-seats.ensures.lists)
     (λ k d below. (c.in_ok-seats.ensures.each k d below).call.met.1.values) c.in_ok-collected.ensures.values in
     let few = few_sets coding is_work c.args.limit pieces c.in_ok-seats.ensures.shares c.in_ok-values.values.items c.in_ok-seats.seats.items _ _
-    c.args.cutting.some_pieces.0 (omega (arith, c.in_ok-seats.ensures.count, c.in_ok-round.ensures.seats, c.args.cutting.some_workers.0))
+    c.args.phase.now.cutting.some_pieces.0 (omega (arith, c.in_ok-seats.ensures.count, c.in_ok-round.ensures.seats, c.args.phase.now.cutting.some_workers.0))
     (subst IsCoding (sym c.requires.coding) c.baskets-baskets.ensures.coding) c.class_sizes_add_up.ensures (rw c.in_ok-values.was at c.in_ok-seats.ensures.lists)
     (λ k d below. (c.in_ok-seats.ensures.each k d below).call.met.1.values) c.in_ok-seats.ensures.seats (λ any. c.in-Ok.ensures.ended any ∙ c.in_ok-round.ensures.round.0) c.in-Ok.ensures.claimed
     (c.in-Ok.ensures.sums 0 first) (c.in-Ok.ensures.greatest 0 first) in
@@ -149,8 +149,8 @@ pub returns-clause-work : goal.returns-clause-work
 returns-clause-work g c =
     let coding : Coding = g.M.ClassMiner.coding_of c.args.miner.now in
     let is_work = g.M.ClassMiner.is_work c.args.miner.now in
-    let pieces = c.args.cutting.pieces in
+    let pieces = c.args.phase.now.cutting.pieces in
     let mined = mined_all coding is_work c.args.limit pieces c.in_ok-seats.ensures.shares c.in_ok-values.values.items c.in_ok-collected.field-0.items
-    c.args.cutting.some_pieces.0 (omega (arith, c.in_ok-collected.ensures.count, c.in_ok-collected.field-0.ok)) (rw c.in_ok-values.was at c.in_ok-seats.ensures.lists)
+    c.args.phase.now.cutting.some_pieces.0 (omega (arith, c.in_ok-collected.ensures.count, c.in_ok-collected.field-0.ok)) (rw c.in_ok-values.was at c.in_ok-seats.ensures.lists)
     (λ k d below. (c.in_ok-seats.ensures.each k d below).call.met.1.values) c.in_ok-collected.ensures.values in
     subst (λ (k : Coding). IsWorkOfAll is_work (length k.items) c.in_ok-classes.work) c.requires.coding (work_of_all coding is_work _ _ mined c.in_ok-classes.ensures.work)

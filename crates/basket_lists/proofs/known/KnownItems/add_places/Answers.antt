@@ -15,34 +15,34 @@ few : {items known : List ℕ} → items ≡ known → length items ≤ 120 → 
 few is h = omega (arith, ap length is, h)
 
 pub offset_bounds-found-count : goal.offset_bounds-found-count
-offset_bounds-found-count c =
+offset_bounds-found-count g c =
     omega (
       arith,
-      item_inside c.args.self.now c.args.bits c.loop-rest.count c.loop-rest.rest c.ilog2.result c.args.place (rises c.self.view_is c.self.invariant.0) (few c.self.view_is c.self.invariant.1)
+      item_inside c.args.self.now c.args.bits c.loop-rest.count c.loop-rest.rest c.ilog2.result g.row.PLACE (rises c.self.view_is c.self.invariant.0) (few c.self.view_is c.self.invariant.1)
           c.requires.bits c.loop-rest.invariant.rest c.ilog2.ensures.power_le c.ilog2.ensures.next_power_gt,
     )
 
 pub bounds-found-count : goal.bounds-found-count
-bounds-found-count c =
+bounds-found-count g c =
     omega (
       arith,
-      item_inside c.args.self.now c.args.bits c.loop-rest.count c.loop-rest.rest c.ilog2.result c.args.place (rises c.self.view_is c.self.invariant.0) (few c.self.view_is c.self.invariant.1)
+      item_inside c.args.self.now c.args.bits c.loop-rest.count c.loop-rest.rest c.ilog2.result g.row.PLACE (rises c.self.view_is c.self.invariant.0) (few c.self.view_is c.self.invariant.1)
           c.requires.bits c.loop-rest.invariant.rest c.ilog2.ensures.power_le c.ilog2.ensures.next_power_gt,
     )
 
 pub overflow_add-count : goal.overflow_add-count
-overflow_add-count c =
+overflow_add-count g c =
     omega (
       arith,
-      item_inside c.args.self.now c.args.bits c.loop-rest.count c.loop-rest.rest c.ilog2.result c.args.place (rises c.self.view_is c.self.invariant.0) (few c.self.view_is c.self.invariant.1)
+      item_inside c.args.self.now c.args.bits c.loop-rest.count c.loop-rest.rest c.ilog2.result g.row.PLACE (rises c.self.view_is c.self.invariant.0) (few c.self.view_is c.self.invariant.1)
           c.requires.bits c.loop-rest.invariant.rest c.ilog2.ensures.power_le c.ilog2.ensures.next_power_gt,
     )
 
 pub loop-rest-preserved : goal.loop-rest-preserved
-loop-rest-preserved c =
+loop-rest-preserved g c =
     let known = c.args.self.now in
     let bits = c.args.bits in
-    let place = c.args.place in
+    let place = g.row.PLACE in
     let bit = c.ilog2.result in
     let rest = c.loop-rest.rest in
     let count = c.loop-rest.count in

@@ -5,10 +5,10 @@ use Rattle.basket_lists.specs.Packed.{items_in, unpacked}
 use Rattle.basket_lists.proofs.known.KnownItems.add_places.Given as goal
 
 abbrev pub invariant-loop-rest : goal.invariant-loop-rest
-invariant-loop-rest l = record {
-  rest : IsRestOf l.self l.bits l.count (l.rest * 2 ^ l.place + l.bits % 2 ^ l.place);
+invariant-loop-rest g l = record {
+  rest : IsRestOf l.self l.bits l.count (l.rest * 2 ^ g.row.PLACE + l.bits % 2 ^ g.row.PLACE);
   found : ArePlacesWithout (map (unpacked l.self) l.sets) (items_in l.self l.bits) l.count l.found;
 }
 
 abbrev pub decreases-loop-rest : goal.decreases-loop-rest
-decreases-loop-rest l = l.rest
+decreases-loop-rest g l = l.rest

@@ -1,0 +1,3 @@
+-- The theory of texts of lines, which the proofs of every crate may cite.
+pub mod Cuts
+pub mod Grammar

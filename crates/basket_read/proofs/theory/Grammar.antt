@@ -1,0 +1,148 @@
+-- Texts of lines: their first fault, and what a byte more does.
+use Rattle.std.proofs.Common.{◌≡◌, ℕ, Bool, true, false, ◌&&◌, List, [], ◌∷◌, ◌++◌, cond, Option, Some, None, refl, sym, ap, ◌∙◌, subst, inl, inr, append_assoc}
+use Rattle.std.specs.List.{list_all}
+use Rattle.std.proofs.lemmas.Bool.{cases_Bool, and_parts, and_from}
+use Rattle.std.proofs.lemmas.List.{append-nil}
+use Rattle.basket_sets.proofs.theory.Numerals.{all_push}
+use Rattle.basket_read.specs.declared.fault.ReadFault.{ReadFault}
+use Rattle.basket_read.specs.Cut.{Cut, cut_at, parts_of}
+use Rattle.basket_read.specs.Fimi.{is_line_feed, or_else}
+use Rattle.basket_read.specs.Grammar.{fault_behind, FrontsAreGood, GoodIsFaultless, HasFault, FirstFaultIsExact}
+use Rattle.basket_read.proofs.theory.Cuts.{cut_ended, cut_joined}
+
+-- what a choice gave
+pub chosen : {S : Type 0} (s x : S) (b : Bool) → ◌≡◌ {A = Option S} (Some s) (cond b (Some x) None) → (b ≡ true) × (s ≡ x)
+chosen s x true e = (refl, cc)
+chosen s x false e = absurd cc
+
+pub refused : {S : Type 0} (x : S) (b : Bool) → ◌≡◌ {A = Option S} None (cond b (Some x) None) → b ≡ false
+refused x true e = absurd cc
+refused x false e = refl
+
+abbrev pub found : Bool → Option ReadFault → ReadFault → Option ReadFault
+found good later fault = cond good later (Some fault)
+
+module _ (is_line : List ℕ → Bool) (fault_at : List ℕ → ℕ → ReadFault) (empty : is_line [] ≡ true) where
+  -- each line of a text is one
+  abbrev good : List ℕ → Bool
+  good text = list_all is_line (parts_of is_line_feed text)
+
+  abbrev after : List ℕ → List ℕ → Option ReadFault
+  after before text = fault_behind good fault_at before text
+
+  -- the fault of a text in two parts is that of the first, else that of the second behind the first
+  pub fault_after-append : (before a b : List ℕ) → after before (a ++ b) ≡ or_else (after before a) (after (before ++ a) b)
+  fault_after-append before [] b = ap (λ l. after l b) (sym (append-nil before))
+  fault_after-append before (byte ∷ a) b =
+      at (good (before ++ byte ∷ [])) (fault_after-append (before ++ byte ∷ []) a b)
+    where
+      at : (well : Bool) → after (before ++ byte ∷ []) (a ++ b) ≡ or_else (after (before ++ byte ∷ []) a) (after ((before ++ byte ∷ []) ++ a) b)
+          → found well (after (before ++ byte ∷ []) (a ++ b)) (fault_at before byte)
+          ≡ or_else (found well (after (before ++ byte ∷ []) a) (fault_at before byte)) (after (before ++ byte ∷ a) b)
+      at true e = e ∙ ap (λ l. or_else (after (before ++ byte ∷ []) a) (after l b)) (append_assoc before (byte ∷ []) a)
+      at false e = refl
+
+  -- a text without a fault is good
+  good_after : (before text : List ℕ) → good before ≡ true → after before text ≡ None → good (before ++ text) ≡ true
+  good_after before [] h e = ap good (append-nil before) ∙ h
+  good_after before (byte ∷ text) h e = at (good (before ++ byte ∷ [])) refl e (good_after (before ++ byte ∷ []) text)
+    where
+      at : (well : Bool) → good (before ++ byte ∷ []) ≡ well → found well (after (before ++ byte ∷ []) text) (fault_at before byte) ≡ None
+          → (good (before ++ byte ∷ []) ≡ true → after (before ++ byte ∷ []) text ≡ None → good ((before ++ byte ∷ []) ++ text) ≡ true)
+          → good (before ++ byte ∷ text) ≡ true
+      at true g e rest = ap good (sym (append_assoc before (byte ∷ []) text)) ∙ rest g e
+      at false g e rest = absurd cc
+
+  none_good : good [] ≡ true
+  none_good = ap (λ b. b && true) empty
+
+  pub good-from_faultless : (text : List ℕ) → after [] text ≡ None → good text ≡ true
+  good-from_faultless text e = good_after [] text none_good e
+
+  -- what follows a text without a fault
+  pub first_fault_behind : (a b : List ℕ) → after [] a ≡ None → after [] (a ++ b) ≡ after a b
+  first_fault_behind a b e = fault_after-append [] a b ∙ ap (λ f. or_else f (after a b)) e
+
+  -- what follows a fault changes nothing
+  pub first_fault_stays : (a b : List ℕ) (fault : ReadFault) → after [] a ≡ Some fault → after [] (a ++ b) ≡ Some fault
+  first_fault_stays a b fault e = fault_after-append [] a b ∙ ap (λ f. or_else f (after a b)) e
+
+  first_fault_push : (text : List ℕ) (byte : ℕ) (well : Bool) → after [] text ≡ None → good (text ++ byte ∷ []) ≡ well
+      → after [] (text ++ byte ∷ []) ≡ cond well None (Some (fault_at text byte))
+  first_fault_push text byte well e g = first_fault_behind text (byte ∷ []) e ∙ ap (λ b. found b None (fault_at text byte)) g
+
+  -- ---- one more byte
+
+  module _ (text : List ℕ) (faultless : after [] text ≡ None) where
+    abbrev so_far : Cut
+    so_far = cut_at is_line_feed text
+
+    pub lines_good : (list_all is_line so_far.ended ≡ true) × (is_line so_far.last ≡ true)
+    lines_good = and_parts (list_all is_line so_far.ended) (is_line so_far.last) (sym (all_push is_line so_far.ended so_far.last) ∙ good-from_faultless text faultless)
+
+    -- a byte in a line is the first fault if the line is none with it
+    pub fault_here : (byte : ℕ) (well : Bool) → is_line_feed byte ≡ false → is_line (so_far.last ++ byte ∷ []) ≡ well → after [] (text ++ byte ∷ []) ≡ cond well None (Some (fault_at text byte))
+    fault_here byte well e is =
+        first_fault_push text byte well faultless
+        (ap (λ (k : Cut). list_all is_line (k.ended ++ k.last ∷ [])) (cut_joined is_line_feed text byte e)
+        ∙ all_push is_line so_far.ended (so_far.last ++ byte ∷ []) ∙ ap (λ b. b && is_line (so_far.last ++ byte ∷ [])) lines_good.0 ∙ is)
+
+    -- a line feed is no fault
+    pub line_feed_here : (byte : ℕ) → is_line_feed byte ≡ true → after [] (text ++ byte ∷ []) ≡ None
+    line_feed_here byte e =
+        first_fault_push text byte true faultless
+        (ap (λ (k : Cut). list_all is_line (k.ended ++ k.last ∷ [])) (cut_ended is_line_feed text byte e)
+        ∙ all_push is_line (so_far.ended ++ so_far.last ∷ []) [] ∙ ap (λ b. b && is_line []) (good-from_faultless text faultless) ∙ empty)
+
+  -- ---- fronts
+
+  module _ (line_front : (line : List ℕ) (byte : ℕ) → is_line (line ++ byte ∷ []) ≡ true → is_line line ≡ true) where
+    pub line_fronts_are_good : FrontsAreGood is_line
+    line_fronts_are_good front [] h = ap is_line (sym (append-nil front)) ∙ h
+    line_fronts_are_good front (byte ∷ rest) h =
+        line_front front byte (line_fronts_are_good (front ++ byte ∷ []) rest (ap is_line (append_assoc front (byte ∷ []) rest) ∙ h))
+
+    text_front : (text : List ℕ) (byte : ℕ) → good (text ++ byte ∷ []) ≡ true → good text ≡ true
+    text_front text byte h =
+        let k = cut_at is_line_feed text in
+        elim (cases_Bool (is_line_feed byte)) [
+          | inl e ↦ (and_parts (good text) (is_line []) (sym (all_push is_line (k.ended ++ k.last ∷ []) [])
+              ∙ sym (ap (λ (j : Cut). list_all is_line (j.ended ++ j.last ∷ [])) (cut_ended is_line_feed text byte e)) ∙ h)).0
+          | inr e ↦ let p = and_parts (list_all is_line k.ended) (is_line (k.last ++ byte ∷ [])) (sym (all_push is_line k.ended (k.last ++ byte ∷ []))
+              ∙ sym (ap (λ (j : Cut). list_all is_line (j.ended ++ j.last ∷ [])) (cut_joined is_line_feed text byte e)) ∙ h) in
+              all_push is_line k.ended k.last ∙ and_from (list_all is_line k.ended) (is_line k.last) p.0 (line_front k.last byte p.1)
+        ]
+
+    pub fronts_are_good : FrontsAreGood good
+    fronts_are_good front [] h = ap good (sym (append-nil front)) ∙ h
+    fronts_are_good front (byte ∷ rest) h =
+        text_front front byte (fronts_are_good (front ++ byte ∷ []) rest (ap good (append_assoc front (byte ∷ []) rest) ∙ h))
+
+    -- a good text has no fault behind any front
+    faultless_behind : (before text : List ℕ) → good (before ++ text) ≡ true → after before text ≡ None
+    faultless_behind before [] h = refl
+    faultless_behind before (byte ∷ text) h =
+        let whole = ap good (append_assoc before (byte ∷ []) text) ∙ h in
+        ap (λ b. found b (after (before ++ byte ∷ []) text) (fault_at before byte)) (fronts_are_good (before ++ byte ∷ []) text whole)
+        ∙ faultless_behind (before ++ byte ∷ []) text whole
+
+    pub good_is_faultless : GoodIsFaultless good fault_at
+    good_is_faultless text = (faultless_behind [] text, good-from_faultless text)
+
+    -- where the first fault stands
+    fault_stands : (before text : List ℕ) (fault : ReadFault) → good before ≡ true → after before text ≡ Some fault → HasFault good fault_at (before ++ text) fault
+    fault_stands before [] fault h e = absurd cc
+    fault_stands before (byte ∷ text) fault h e = at (good (before ++ byte ∷ [])) refl e (fault_stands (before ++ byte ∷ []) text fault)
+      where
+        at : (well : Bool) → good (before ++ byte ∷ []) ≡ well → found well (after (before ++ byte ∷ []) text) (fault_at before byte) ≡ Some fault
+            → (good (before ++ byte ∷ []) ≡ true → after (before ++ byte ∷ []) text ≡ Some fault → HasFault good fault_at ((before ++ byte ∷ []) ++ text) fault)
+            → HasFault good fault_at (before ++ byte ∷ text) fault
+        at true g e later = subst (λ l. HasFault good fault_at l fault) (append_assoc before (byte ∷ []) text) (later g e)
+        at false g e later = record { before = before; byte = byte; rest = text; whole = refl; good = h; bad = g; told = cc }
+
+    pub first_fault_is_exact : FirstFaultIsExact good fault_at
+    first_fault_is_exact text fault = (
+      fault_stands [] text fault none_good,
+      λ f. ap (λ t. after [] t) f.whole ∙ first_fault_behind f.before (f.byte ∷ f.rest) (faultless_behind [] f.before f.good)
+          ∙ ap (λ b. found b (after (f.before ++ f.byte ∷ []) f.rest) (fault_at f.before f.byte)) f.bad ∙ ap Some (sym f.told),
+    )
