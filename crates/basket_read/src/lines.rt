@@ -108,18 +108,10 @@ fn middle_of(piece: &[u8], workers: u32) -> Option<usize>
         return None;
     }
     let middle = piece.len() as u128 * u128::from(workers / 2) / u128::from(workers);
-    line_end(piece, middle as usize)
-}
-
-/// Behind the first line feed at this place or behind it.
-fn line_end(text: &[u8], from: usize) -> Option<usize>
-    requires { from ≤ length text.now }
-    ensures within { IfSome result (λ end. end ≤ length text.now) }
-    ensures ends { IfSome result (λ end. EndsLine (take end text.now)) }
-{
-    for (place, byte) in text[from..].iter().enumerate() {
+    let middle = middle as usize;
+    for (place, byte) in piece[middle..].iter().enumerate() {
         if *byte == b'\n' {
-            return Some(from + place + 1);
+            return Some(middle + place + 1);
         }
     }
     None
