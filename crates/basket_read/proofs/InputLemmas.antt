@@ -13,7 +13,7 @@ use Rattle.basket_read.specs.declared.input.Front.TheVariants.{Empty, OneByte, T
 use Rattle.basket_read.specs.declared.input.Input.{Input}
 use Rattle.basket_read.specs.declared.text.Text.{Text}
 use Rattle.basket_read.specs.Fimi.{fault_at, is_line, MARK, text_of, MOST_BYTES, first_fault, or_else, fault_in, may_be_mark, settled_fault}
-use Rattle.basket_read.specs.Text.{IsTextSoFar, HasRoom, Tells}
+use Rattle.basket_read.specs.Text.{GoesOn, IsTextSoFar, HasRoom, Tells}
 use Rattle.basket_read.specs.Input.{is_decided, IsFront, text_behind, IsInputSoFar, IsSomeInput}
 use Rattle.basket_read.proofs.TextLemmas.{take_rest, take_next}
 use Rattle.basket_read.proofs.theory.Grammar as grammar
@@ -244,6 +244,10 @@ no_mark byte other = other_first byte [] (ne_eqb byte 239 other)
 pub some_after : (input new : Input) (before : List ℕ) → IsSomeInput input
     → ((past : List Weighted) (bytes : List ℕ) → IsInputSoFar input past bytes → IsInputSoFar new past (bytes ++ before)) → IsSomeInput new
 some_after input new before some step = ∥∥₁_map some (λ w. (w.0, w.1 ++ before, step w.0 w.1 w.2))
+
+pub some_on : (input new : Input) (counting : Bool) (before : List ℕ) → IsSomeInput input
+    → ((past : List Weighted) (bytes : List ℕ) → IsInputSoFar input past bytes → GoesOn counting past (λ now. IsInputSoFar new now (bytes ++ before))) → IsSomeInput new
+some_on input new counting before some step = ∥∥₁_map some (λ w. let on = step w.0 w.1 w.2 in (on.0, w.1 ++ before, on.2))
 
 -- a settled fault at a byte of a piece is that of the piece
 pub settled_in_piece : (bytes piece : List ℕ) (i : ℕ) (fault : ReadFault) → i < length piece

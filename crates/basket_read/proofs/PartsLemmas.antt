@@ -1,6 +1,6 @@
 -- What parts that have refused, and parts that have not, stand for.
-use Rattle.std.proofs.Common.{◌≡◌, ℕ, List, [], Option, Some, None, Result, Ok, Err, refl, ◌++◌, ap, sym, subst}
-use Rattle.std.specs.Prelude.{MatchOption}
+use Rattle.std.proofs.Common.{◌≡◌, ◌∙◌, ℕ, List, [], Option, Some, None, Result, Ok, Err, refl, ◌++◌, ap, sym, subst}
+use Rattle.std.specs.Prelude.{IsOkAnd, MatchOption, MatchResult}
 use Rattle.basket_sets.specs.declared.weighted.Weighted.{Weighted}
 use Rattle.basket_read.specs.declared.fault.ReadFault.{ReadFault}
 use Rattle.basket_read.specs.declared.input.Input.{Input}
@@ -9,7 +9,7 @@ use Rattle.basket_read.specs.Fimi.{settled_fault, fimi_of, answer_of, baskets_of
 use Rattle.basket_read.specs.Input.{IsInputSoFar}
 use Rattle.basket_read.specs.Parts.{IsFed}
 use Rattle.basket_read.specs.ItemCounts.{Counts}
-use Rattle.basket_read.specs.Text.{CountsBehind}
+use Rattle.basket_read.specs.Text.{Answers, CountsBehind}
 use Rattle.basket_read.specs.declared.item_counts.ItemCounts.{ItemCounts}
 use Rattle.basket_read.proofs.InputLemmas.{fault-settled}
 
@@ -36,3 +36,12 @@ answer_told bytes fault e = ap (λ f. answer_of f (baskets_of (text_of bytes))) 
 pub counts_all : (past : List Weighted) (result : Result ItemCounts ReadFault) (answer : Result (List Weighted) ReadFault) → CountsBehind past result answer → Counts result answer
 counts_all past (Ok counts) answer h = (past ++ counts.rest, h.1, (past, h.0, refl))
 counts_all past (Err fault) answer h = h
+
+-- the baskets that are kept, where none are past
+abbrev pub AreKept : Result ItemCounts ReadFault → Result (List Weighted) ReadFault → Type 0
+AreKept read result = MatchResult read (λ counts. IsOkAnd result (λ baskets. baskets ≡ counts.rest)) (λ fault. result ≡ Err fault)
+
+pub kept_answers : (read : Result ItemCounts ReadFault) (result answer : Result (List Weighted) ReadFault) → AreKept read result → CountsBehind [] read answer → Answers result answer
+kept_answers (Ok counts) (Ok baskets) answer kept h = h.1 ∙ ap Ok (sym kept)
+kept_answers (Ok counts) (Err fault) answer kept h = absurd kept
+kept_answers (Err fault) result answer kept h = subst (λ r. Answers r answer) (sym kept) h

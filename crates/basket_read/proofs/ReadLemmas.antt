@@ -1,7 +1,7 @@
 -- What a read of blocks answers.
 use Rattle.std.proofs.Common.{◌≡◌, ◌≢◌, ◌≤◌, ℕ, Bool, true, false, List, [], ◌∷◌, ◌++◌, cond, Option, Some, None, Result, Ok, Err, append-nil, refl, sym, ap, ◌∙◌, subst, append_assoc, leb, ltb, take, length}
 use Rattle.std.proofs.lemmas.Bool.{leb-true}
-use Rattle.std.specs.Prelude.{IfErr, IfOk, IfSome, MatchResult, OnOk, unwrap_or}
+use Rattle.std.specs.Prelude.{IfErr, IfOk, IfSome, IsErr, unwrap_or}
 use Rattle.std.specs.Io.KnownBytes.{Consumes, IsAtEnd, Keeps}
 use Rattle.basket_sets.specs.declared.weighted.Weighted.{Weighted}
 use Rattle.basket_sets.specs.Number.{is_digit}
@@ -11,12 +11,11 @@ use Rattle.basket_read.specs.declared.fault.ReadFault.{ReadFault}
 use Rattle.basket_read.specs.declared.fault.ReadFault.TheVariants.{Memory, Read, TooLong, Byte, Number, Heavy}
 use Rattle.basket_read.specs.Fimi.{is_good, line_after, fault_after, first_fault, or_else, fault_in, text_of, settled_fault, baskets_of, answer_of, fimi_of, MOST_BYTES}
 use Rattle.basket_read.specs.ItemCounts.{AreLightCounts, Counts}
-use Rattle.basket_read.specs.Batches.{Stops}
-use Rattle.basket_read.specs.Read.{FailsAfter}
-use Rattle.basket_read.specs.Text.{Tells, Answers}
+use Rattle.basket_read.specs.Read.{FailsAfter, Reads, Stops}
+use Rattle.basket_read.specs.Text.{Answers, CountsBehind, GoesOn, Tells}
 use Rattle.basket_read.specs.declared.item_counts.ItemCounts.{ItemCounts}
 use Rattle.basket_read.proofs.InputLemmas.{settled_stays, fault-settled}
-use Rattle.basket_read.proofs.PartsLemmas.{answer_told}
+use Rattle.basket_read.proofs.PartsLemmas.{answer_told, AreKept}
 
 -- ---- no input has the fault of a reader
 
@@ -64,9 +63,6 @@ pub consumes_none : (old : Option (List ℕ)) → Consumes old old []
 consumes_none None = tt
 consumes_none (Some all) = refl
 
-pub consumes_same : (old new : Option (List ℕ)) (given same : List ℕ) → same ≡ given → Consumes old new given → Consumes old new same
-consumes_same old new given same e p = subst (Consumes old new) (sym e) p
-
 -- a fault in the bytes that a reader gave is that of all its bytes
 pub refused_answer : (old new : Option (List ℕ)) (given : List ℕ) (fault : ReadFault) (answer : Result (List Weighted) ReadFault)
     → answer ≡ Err fault → Consumes old new given → Tells fault (settled_fault given) → IfSome old (λ bytes. Answers answer (fimi_of bytes))
@@ -80,17 +76,6 @@ refused_answer (Some bytes) (Some left) given fault answer e p told =
 pub memory_answer : (old : Option (List ℕ)) (answer : Result (List Weighted) ReadFault) → answer ≡ Err Memory → IfSome old (λ bytes. Answers answer (fimi_of bytes))
 memory_answer None answer e = tt
 memory_answer (Some bytes) answer e = subst (λ a. Answers a (fimi_of bytes)) (sym e) (λ no_memory. absurd (no_memory refl))
-
--- ---- the same of counts
-
-pub refused_counts : (old new : Option (List ℕ)) (given : List ℕ) (fault : ReadFault) (answer : Result ItemCounts ReadFault)
-    → answer ≡ Err fault → Consumes old new given → Tells fault (settled_fault given) → IfSome old (λ bytes. Counts answer (fimi_of bytes))
-refused_counts old new given fault answer e p told =
-    subst (λ (a : Result ItemCounts ReadFault). IfSome old (λ bytes. Counts a (fimi_of bytes))) (sym e) (refused_answer old new given fault (Err fault) refl p told)
-
-pub memory_counts : (old : Option (List ℕ)) (answer : Result ItemCounts ReadFault) → answer ≡ Err Memory → IfSome old (λ bytes. Counts answer (fimi_of bytes))
-memory_counts old answer e =
-    subst (λ (a : Result ItemCounts ReadFault). IfSome old (λ bytes. Counts a (fimi_of bytes))) (sym e) (memory_answer old (Err Memory) refl)
 
 -- what holds of the bytes that a reader gave up to its end holds of all its bytes
 pub of_all_bytes : (old now new : Option (List ℕ)) (given taken : List ℕ) (P : List ℕ → Type 0) → Consumes old now given → Consumes now new taken → taken ≡ [] → IsAtEnd new → P given → IfSome old P
@@ -108,7 +93,7 @@ fails_after (Some all) None new given fault p kept is = absurd p
 fails_after (Some all) (Some rest) None given fault p kept is = absurd kept
 fails_after (Some all) (Some rest) (Some left) given fault p kept is = (given, p ∙ ap (λ l. given ++ l) (sym kept), is)
 
-keeps_all : (left : Option (List ℕ)) → Keeps left left
+pub keeps_all : (left : Option (List ℕ)) → Keeps left left
 keeps_all None = tt
 keeps_all (Some rest) = refl
 
@@ -120,10 +105,6 @@ light_answer None all baskets e = at (leb (total_of all) MOST_WEIGHT) refl e
     at : (b : Bool) → leb (total_of all) MOST_WEIGHT ≡ b → cond b (Ok all) (Err Heavy) ≡ Ok baskets → total_of baskets ≤ MOST_WEIGHT
     at true light e = let same : all ≡ baskets = cc in subst (λ l. total_of l ≤ MOST_WEIGHT) same (leb-true (total_of all) MOST_WEIGHT light)
     at false light e = absurd cc
-
-pub light_counts : (bytes : List ℕ) (answer : Result ItemCounts ReadFault) → Counts answer (fimi_of bytes) → IfOk answer AreLightCounts
-light_counts bytes (Ok counts) (baskets, is, counted) = (baskets, counted, light_answer (fault_in bytes) (baskets_of (text_of bytes)) baskets is)
-light_counts bytes (Err fault) h = tt
 
 -- ---- reading that stops
 
@@ -151,29 +132,79 @@ stops_fault old new failed given fault p told = record {
   read_is_failed = λ e. absurd (not_settled given (subst (λ f. Tells f (settled_fault given)) e told (λ m. absurd cc)));
 }
 
--- where the reader failed
-pub stops_failed : (old new : Option (List ℕ)) (failed : Bool) (given : List ℕ) (fault : ReadFault) → failed ≡ true → Consumes old new given
-    → (fault ≢ Memory → fault ≡ unwrap_or (fault_in given) Read) → Stops old new failed fault
-stops_failed old new failed given fault broken p is = record {
+-- where the reader failed behind the bytes that it gave
+pub stops_failed : (old now new : Option (List ℕ)) (failed : Bool) (given : List ℕ) (fault : ReadFault) → failed ≡ true → Consumes old now given → Keeps now new
+    → fault ≡ unwrap_or (fault_in given) Read → Stops old new failed fault
+stops_failed old now new failed given fault broken p kept is = record {
   exact = λ working. unlike failed working broken;
-  fails = λ _. fails_after old new new given fault p (keeps_all new) is;
+  fails = λ _. fails_after old now new given fault p kept (λ _. is);
   read_is_failed = λ _. broken;
 }
 
--- of a result that may be well
-pub if_err : {A : Type 0} (result : Result A ReadFault) (P : A → Type 0) (Q R : ReadFault → Type 0) → MatchResult result P Q → ((fault : ReadFault) → Q fault → R fault) → IfErr result R
-if_err (Ok x) P Q R h all = tt
-if_err (Err fault) P Q R h all = all fault h
-
-pub on_ok : {A : Type 0} (result : Result A ReadFault) (P R : Type 0) (Q : ReadFault → Type 0) → MatchResult result (λ _. P) Q → (P → R) → OnOk result R
-on_ok (Ok x) P R Q h all = all h
-on_ok (Err fault) P R Q h all = tt
-
-pub is_err : {A : Type 0} (result : Result A ReadFault) (fault : ReadFault) (R : ReadFault → Type 0) → result ≡ Err fault → R fault → IfErr result R
-is_err result fault R e h = subst (λ r. IfErr r R) (sym e) h
-
--- ---- an answer to all that was read
-
-pub if_some : {A : Type 0} (o : Option A) (P Q : A → Type 0) → IfSome o P → ((x : A) → P x → Q x) → IfSome o Q
+if_some : {A : Type 0} (o : Option A) (P Q : A → Type 0) → IfSome o P → ((x : A) → P x → Q x) → IfSome o Q
 if_some None P Q h all = tt
 if_some (Some x) P Q h all = all x h
+
+module _ (counting : Bool) (old new : Option (List ℕ)) (failed : Bool) where
+  pub stopped : (answer : Result ItemCounts ReadFault) (fault : ReadFault) → answer ≡ Err fault → Stops old new failed fault → Reads counting old new failed answer
+  stopped answer fault e stops = subst (Reads counting old new failed) (sym e) stops
+
+  -- at the end of the bytes
+  pub ended : (now : Option (List ℕ)) (given taken : List ℕ) (answer : Result ItemCounts ReadFault) → failed ≡ false → Consumes old now given → Consumes now new taken → taken ≡ [] → IsAtEnd new
+      → GoesOn counting [] (λ past. CountsBehind past answer (fimi_of given)) → Reads counting old new failed answer
+  ended now given taken (Ok counts) working p q none end (past, off, is) = record {
+    working = working;
+    bytes = given;
+    all = of_all_bytes old now new given taken (λ all. all ≡ given) p q none end refl;
+    past = past;
+    uncounted = off;
+    counted = is.0;
+    answer = is.1;
+  }
+  ended now given taken (Err fault) working p q none end (past, off, told) = record {
+    exact = λ _. of_all_bytes old now new given taken (λ all. Answers (Err fault) (fimi_of all)) p q none end told;
+    fails = unlike failed working;
+    read_is_failed = λ e. absurd (not_answered given (subst (λ f. Answers (Err f) (fimi_of given)) e told (λ m. absurd cc)));
+  }
+
+  -- ---- what reading says of its answer
+
+  pub exact : (answer : Result ItemCounts ReadFault) → Reads counting old new failed answer → failed ≡ false → IfSome old (λ bytes. Counts answer (fimi_of bytes))
+  exact (Ok counts) ends working = if_some old (λ all. all ≡ ends.bytes) _ ends.all (λ all same. (ends.past ++ counts.rest, ap fimi_of same ∙ ends.answer, (ends.past, ends.counted, refl)))
+  exact (Err fault) stops working = stops.exact working
+
+  pub light : (answer : Result ItemCounts ReadFault) → Reads counting old new failed answer → IfOk answer AreLightCounts
+  light (Ok counts) ends =
+      let all = ends.past ++ counts.rest in (all, (ends.past, ends.counted, refl), light_answer (fault_in ends.bytes) (baskets_of (text_of ends.bytes)) all ends.answer)
+  light (Err fault) stops = tt
+
+  pub failed_after : (answer : Result ItemCounts ReadFault) → Reads counting old new failed answer → failed ≡ true → IfErr answer (λ fault. IfSome old (λ bytes. FailsAfter bytes new (Err fault)))
+  failed_after (Ok counts) ends broken = tt
+  failed_after (Err fault) stops broken = stops.fails broken
+
+  pub failed_is_err : (answer : Result ItemCounts ReadFault) → Reads counting old new failed answer → failed ≡ true → IsErr answer
+  failed_is_err (Ok counts) ends broken = unlike failed ends.working broken
+  failed_is_err (Err fault) stops broken = refl
+
+  pub read_is_failed : (answer : Result ItemCounts ReadFault) → Reads counting old new failed answer → answer ≡ Err Read → failed ≡ true
+  read_is_failed (Ok counts) ends e = absurd cc
+  read_is_failed (Err fault) stops e = stops.read_is_failed cc
+
+-- the same where the baskets are kept and answered alone
+module _ (old new : Option (List ℕ)) (failed : Bool) where
+  pub exact_kept : (read : Result ItemCounts ReadFault) (answer : Result (List Weighted) ReadFault) → AreKept read answer → Reads false old new failed read
+      → failed ≡ false → IfSome old (λ bytes. Answers answer (fimi_of bytes))
+  exact_kept (Ok counts) (Ok baskets) kept ends working =
+      if_some old (λ all. all ≡ ends.bytes) _ ends.all (λ all same. ap fimi_of same ∙ ends.answer ∙ ap Ok (ap (λ l. l ++ counts.rest) (ends.uncounted refl) ∙ sym kept))
+  exact_kept (Ok counts) (Err fault) kept ends working = absurd kept
+  exact_kept (Err fault) answer kept stops working = subst (λ a. IfSome old (λ bytes. Answers a (fimi_of bytes))) (sym kept) (stops.exact working)
+
+  pub failed_kept : (read : Result ItemCounts ReadFault) (answer : Result (List Weighted) ReadFault) → AreKept read answer → Reads false old new failed read
+      → failed ≡ true → IsErr answer × IfSome old (λ bytes. FailsAfter bytes new answer)
+  failed_kept (Ok counts) answer kept ends broken = unlike failed ends.working broken
+  failed_kept (Err fault) answer kept stops broken = (subst IsErr (sym kept) refl, subst (λ a. IfSome old (λ bytes. FailsAfter bytes new a)) (sym kept) (stops.fails broken))
+
+  pub read_kept : (read : Result ItemCounts ReadFault) (answer : Result (List Weighted) ReadFault) → AreKept read answer → Reads false old new failed read → answer ≡ Err Read → failed ≡ true
+  read_kept (Ok counts) (Ok baskets) kept ends e = absurd cc
+  read_kept (Ok counts) (Err fault) kept ends e = absurd kept
+  read_kept (Err fault) answer kept stops e = stops.read_is_failed (let same : Err fault ≡ Err Read = sym kept ∙ e in cc)

@@ -150,12 +150,10 @@ if_ok (Err fault) P Q h = tt
 
 -- ---- what is past goes on
 
-pub stays_past : {A : Type 0} (counting : Bool) (past : List Weighted) (result : Result A ReadFault) (P : List Weighted → Type 0) (Q : ReadFault → Type 0)
-    → MatchResult result (λ _. P past) Q → MatchResult result (λ _. GoesOn counting past P) Q
-stays_past counting past (Ok x) P Q h = (past, λ _. refl, h)
-stays_past counting past (Err fault) P Q h = h
+pub uncounted : (past : List Weighted) (P : List Weighted → Type 0) → GoesOn false past P → P past
+uncounted past P h = subst P (h.1 refl) h.2
 
 pub not_counting : {A : Type 0} (past : List Weighted) (result : Result A ReadFault) (P : List Weighted → Type 0) (Q : ReadFault → Type 0)
     → MatchResult result (λ _. GoesOn false past P) Q → MatchResult result (λ _. P past) Q
-not_counting past (Ok x) P Q h = subst P (h.1 refl) h.2
+not_counting past (Ok x) P Q h = uncounted past P h
 not_counting past (Err fault) P Q h = h

@@ -1,5 +1,5 @@
 -- The counts of the items of some baskets.
-use Rattle.std.specs.Prelude.{◌≡◌, ◌≢◌, ◌≤◌, ℕ, List, ◌++◌, Result, Ok, Err}
+use Rattle.std.specs.Prelude.{◌≡◌, ◌≢◌, ◌≤◌, List, ◌++◌, Result, Ok, Err}
 use Rattle.basket_sets.specs.declared.weighted.Weighted.{Weighted}
 use Rattle.basket_sets.specs.Database.{MOST_WEIGHT}
 use Rattle.basket_sets.specs.ItemTable.{HasCounted}
@@ -7,8 +7,6 @@ use Rattle.basket_sets.specs.Support.{total_of}
 use Rattle.basket_read.specs.declared.fault.ReadFault.{ReadFault}
 use Rattle.basket_read.specs.declared.fault.ReadFault.TheVariants.{Memory}
 use Rattle.basket_read.specs.declared.item_counts.ItemCounts.{ItemCounts}
-use Rattle.basket_read.specs.declared.item_counts.ItemParts.{ItemParts}
-use Rattle.basket_read.specs.Input.{IsInputSoFar}
 
 -- the table has counted the first of the baskets, and the others are kept
 abbrev pub AreCountsOf : ItemCounts → List Weighted → Type 0
@@ -22,7 +20,3 @@ AreLightCounts counts = (baskets : List Weighted) × AreCountsOf counts baskets 
 abbrev pub Counts : Result ItemCounts ReadFault → Result (List Weighted) ReadFault → Type 0
 Counts (Ok counts) answer = (baskets : List Weighted) × (answer ≡ Ok baskets) × AreCountsOf counts baskets
 Counts (Err fault) answer = fault ≢ Memory → answer ≡ Err fault
-
--- the parts are of these bytes, which have no fault that is settled
-abbrev pub HasRead : ItemParts → List ℕ → Type 0
-HasRead parts bytes = (past : List Weighted) × IsInputSoFar parts.input past bytes

@@ -9,6 +9,5 @@ pub mod ItemCounts
 pub mod Input
 pub mod Parts
 pub mod Read
-pub mod Batches
 pub mod Laws
 pub mod Worked

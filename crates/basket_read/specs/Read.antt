@@ -1,10 +1,13 @@
--- What reading answers where the reader fails.
-use Rattle.std.specs.Prelude.{◌≡◌, ◌≢◌, List, ℕ, Option, Some, Result, Ok, Err, unwrap_or}
+-- What reading answers, by the bytes that the reader had and has left, and by whether it failed.
+use Rattle.std.specs.Prelude.{◌≡◌, ◌≢◌, ℕ, Bool, true, false, List, [], ◌++◌, Option, Some, Result, Ok, Err, IfSome, MatchResult, unwrap_or}
 use Rattle.std.specs.Io.KnownBytes.{Consumes}
 use Rattle.basket_sets.specs.declared.weighted.Weighted.{Weighted}
+use Rattle.basket_sets.specs.ItemTable.{HasCounted}
 use Rattle.basket_read.specs.declared.fault.ReadFault.{ReadFault}
 use Rattle.basket_read.specs.declared.fault.ReadFault.TheVariants.{Memory, Read}
-use Rattle.basket_read.specs.Fimi.{fault_in}
+use Rattle.basket_read.specs.declared.item_counts.ItemCounts.{ItemCounts}
+use Rattle.basket_read.specs.Fimi.{fault_in, fimi_of}
+use Rattle.basket_read.specs.Text.{Answers}
 
 -- an answer after a failure: but for want of memory, the fault that was found, else `Read`
 abbrev pub TellsFailure : Result (List Weighted) ReadFault → Option ReadFault → Type 0
@@ -14,3 +17,22 @@ TellsFailure (Err fault) found = fault ≢ Memory → fault ≡ unwrap_or found 
 -- a reader with these bytes gave some of them, has those left, and failed: the answer is the fault in what it gave, else `Read`
 abbrev pub FailsAfter : List ℕ → Option (List ℕ) → Result (List Weighted) ReadFault → Type 0
 FailsAfter bytes left answer = (given : List ℕ) × Consumes (Some bytes) left given × TellsFailure answer (fault_in given)
+
+-- all bytes were read: the answer to them is the baskets that were counted, none unless they are to be, and those that are kept
+pub record Ends (counting : Bool) (old : Option (List ℕ)) (failed : Bool) (counts : ItemCounts) : Type 0 where
+  pub working : failed ≡ false
+  pub bytes : List ℕ
+  pub all : IfSome old (λ all. all ≡ bytes)
+  pub past : List Weighted
+  pub uncounted : counting ≡ false → past ≡ []
+  pub counted : HasCounted counts.table past
+  pub answer : fimi_of bytes ≡ Ok (past ++ counts.rest)
+
+-- the fault is that of all bytes where the reader has not failed, and else the one that is told then
+pub record Stops (old new : Option (List ℕ)) (failed : Bool) (fault : ReadFault) : Type 0 where
+  pub exact : failed ≡ false → IfSome old (λ bytes. Answers (Err fault) (fimi_of bytes))
+  pub fails : failed ≡ true → IfSome old (λ bytes. FailsAfter bytes new (Err fault))
+  pub read_is_failed : fault ≡ Read → failed ≡ true
+
+abbrev pub Reads : Bool → Option (List ℕ) → Option (List ℕ) → Bool → Result ItemCounts ReadFault → Type 0
+Reads counting old new failed answer = MatchResult answer (Ends counting old failed) (Stops old new failed)

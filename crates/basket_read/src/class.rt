@@ -5,7 +5,7 @@ ghost use Rattle.basket_read.specs.Fimi.{is_blank};
 ghost use Rattle.basket_read.specs.Line.{IsClass};
 
 /// What a byte can be in a FIMI text.
-#[derive(Clone, Copy, Debug)]
+#[derive(Clone, Copy)]
 pub enum Class {
     /// A digit, by its value.
     Digit(u8),

@@ -1,17 +1,15 @@
 //! An input of which not all has been read.
-ghost use Rattle.std.specs.Prelude.{◌≡◌, ◌≢◌, ◌+◌, ◌≤◌, ℕ, List, [], ◌∷◌, ◌++◌, length, MatchResult, OnOk};
+ghost use Rattle.std.specs.Prelude.{◌≡◌, ◌≢◌, ◌+◌, ◌≤◌, ℕ, List, [], ◌∷◌, ◌++◌, length, MatchResult};
 ghost use Rattle.basket_read.specs.Fimi.{settled_fault, fault_in, fimi_of};
-ghost use Rattle.basket_read.specs.Text.{Answers, CountsBehind, GoesOn, Tells};
+ghost use Rattle.basket_read.specs.Text.{CountsBehind, GoesOn, Tells};
 ghost use Rattle.basket_sets.specs.declared.weighted.Weighted.{Weighted};
 ghost use Rattle.basket_read.specs.Input.{IsInputSoFar, IsSomeInput};
 
-use crate::batches::Batched;
 use crate::fault::ReadFault;
 use crate::item_counts::ItemCounts;
-use crate::lines::feed_shared;
+use crate::lines::{feed_part, feed_shared};
 use crate::text::Text;
-use basket_sets::Database;
-use std::alloc::{AllocError, Global};
+use std::alloc::Global;
 use std::mem;
 use std::thread::Threads;
 
@@ -60,15 +58,15 @@ impl Input {
         }
     }
 
-    /// Takes more of the input, up to its first fault.
-    pub fn take(&mut self, piece: &[u8]) -> Result<(), ReadFault>
+    /// Takes more of the input, up to its first fault, and may count its baskets.
+    pub fn take(&mut self, piece: &[u8], counting: bool) -> Result<(), ReadFault>
         requires { IsSomeInput self.old }
         ensures { (past : List Weighted) (bytes : List ℕ) → IsInputSoFar self.old past bytes →
-            MatchResult result (λ _. IsInputSoFar self.new past (bytes ++ piece.now)) (λ fault. Tells fault (settled_fault (bytes ++ piece.now))) }
+            MatchResult result (λ _. GoesOn counting past (λ now. IsInputSoFar self.new now (bytes ++ piece.now))) (λ fault. Tells fault (settled_fault (bytes ++ piece.now))) }
     {
         for (place, byte) in piece.iter().enumerate() {
             if let Front::Decided = self.front {
-                return self.take_text(&piece[place..]);
+                return self.take_text(&piece[place..], counting);
             }
             self.take_byte(*byte)?;
         }
@@ -105,33 +103,32 @@ impl Input {
                 self.front = Front::Decided;
                 self.taken = 3;
             }
-            Front::Decided => return self.take_text(&[byte]),
+            Front::Decided => return self.take_text(&[byte], false),
         }
         Ok(())
     }
 
     /// Takes bytes behind the front, as many as an input may have.
-    fn take_text(&mut self, piece: &[u8]) -> Result<(), ReadFault>
+    fn take_text(&mut self, piece: &[u8], counting: bool) -> Result<(), ReadFault>
         requires some { IsSomeInput self.old }
         requires decided { self.old.front ≡ Front.Decided }
         ensures { (past : List Weighted) (bytes : List ℕ) → IsInputSoFar self.old past bytes →
-            MatchResult result (λ _. IsInputSoFar self.new past (bytes ++ piece.now)) (λ fault. Tells fault (settled_fault (bytes ++ piece.now))) }
+            MatchResult result (λ _. GoesOn counting past (λ now. IsInputSoFar self.new now (bytes ++ piece.now))) (λ fault. Tells fault (settled_fault (bytes ++ piece.now))) }
     {
         let room = (MAX_BYTES - self.taken) as usize;
         if piece.len() > room {
             self.text.feed(&piece[..room])?;
             return Err(ReadFault::TooLong);
         }
-        self.text.feed(piece)?;
+        feed_part(&mut self.text, piece, counting)?;
         self.taken += piece.len() as u32;
         Ok(())
     }
 
-    /// Takes more of the input, up to its first fault, by so many workers, which may count its baskets.
+    /// Takes more of the input as `take` does, by so many workers.
     pub fn take_shared<R: Threads + Sync>(
         &mut self,
         rt: &R,
-        alloc: Global,
         piece: &[u8],
         workers: u32,
         counting: bool,
@@ -141,15 +138,14 @@ impl Input {
             MatchResult result (λ _. GoesOn counting past (λ now. IsInputSoFar self.new now (bytes ++ piece.now))) (λ fault. Tells fault (settled_fault (bytes ++ piece.now))) }
     {
         let (front, rest) = piece.split_at(piece.len().min(MARK.len()));
-        self.take(front)?;
-        self.take_rest(rt, alloc, rest, workers, counting)
+        self.take(front, false)?;
+        self.take_rest(rt, rest, workers, counting)
     }
 
     /// The same, where the front is mostly decided.
     fn take_rest<R: Threads + Sync>(
         &mut self,
         rt: &R,
-        alloc: Global,
         piece: &[u8],
         workers: u32,
         counting: bool,
@@ -159,12 +155,13 @@ impl Input {
             MatchResult result (λ _. GoesOn counting past (λ now. IsInputSoFar self.new now (bytes ++ piece.now))) (λ fault. Tells fault (settled_fault (bytes ++ piece.now))) }
     {
         let Front::Decided = self.front else {
-            return self.take(piece);
+            return self.take(piece, counting);
         };
         if piece.len() > (MAX_BYTES - self.taken) as usize {
-            return self.take(piece);
+            return self.take(piece, counting);
         }
-        let before = mem::replace(&mut self.text, Text::new(alloc));
+        let empty = Text::new(self.text.alloc());
+        let before = mem::replace(&mut self.text, empty);
         let text = feed_shared(rt, before, piece, workers, counting)?;
         self.text = text;
         self.taken += piece.len() as u32;
@@ -181,22 +178,6 @@ impl Input {
         }
     }
 
-    /// How many baskets are kept.
-    pub fn kept(&self) -> usize {
-        self.text.kept()
-    }
-
-    /// Counts the baskets of the lines that have ended, which are past then, unless they weigh too much
-    /// or the table would be too large for them. The answer is whether they were counted.
-    pub fn count(&mut self) -> Result<bool, AllocError>
-        requires { IsSomeInput self.old }
-        ensures taken { self.new.taken ≡ self.old.taken }
-        ensures counted { (past : List Weighted) (bytes : List ℕ) → IsInputSoFar self.old past bytes →
-            OnOk result ((now : List Weighted) × IsInputSoFar self.new now bytes) }
-    {
-        self.text.count()
-    }
-
     /// The counts of the whole input.
     pub fn finish(self) -> Result<ItemCounts, ReadFault>
         requires { IsSomeInput self }
@@ -207,39 +188,5 @@ impl Input {
         }
         let Input { text, .. } = self;
         text.finish()
-    }
-
-    /// The baskets of the whole input, where none are past.
-    pub fn into_baskets(self) -> Result<Database, ReadFault>
-        requires { IsSomeInput self }
-        ensures { (bytes : List ℕ) → IsInputSoFar self [] bytes → Answers result (fimi_of bytes) }
-    {
-        let ItemCounts { rest, .. } = self.finish()?;
-        Ok(rest)
-    }
-}
-
-impl Batched for Input {
-    ghost use Rattle.std.specs.Prelude.{[]};
-    ghost use Rattle.basket_read.specs.Input.{IsInputSoFar};
-
-    ghost has_read = { λ input bytes. IsInputSoFar input [] bytes };
-
-    ghost taken = { λ input. input.taken };
-
-    ghost few = { λ input bytes r. (r.taken, r.few) };
-
-    fn take_batch<R: Threads + Sync>(
-        &mut self,
-        rt: &R,
-        alloc: Global,
-        batch: &[u8],
-        workers: u32,
-    ) -> Result<(), ReadFault> {
-        self.take_shared(rt, alloc, batch, workers, false)
-    }
-
-    fn fault_so_far(&self) -> Option<ReadFault> {
-        Input::fault_so_far(self)
     }
 }

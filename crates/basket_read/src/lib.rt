@@ -1,7 +1,6 @@
 //! Readers of baskets that answer exactly the baskets of an input, or its first fault.
 #![tactic(auto)]
 
-mod batches;
 mod class;
 mod counted_line;
 mod fault;

@@ -31,16 +31,18 @@ pub fn feed_shared<R: Threads + Sync>(
         return Ok(text);
     };
     let (front, rest) = piece.split_at(end);
-    let (text, read) = feed_halves(rt, text, front, rest, workers, counting);
+    let apart = text.counts_behind(counting);
+    let (text, read) = feed_halves(rt, text, front, rest, workers, apart);
     let mut text = text?;
     if let Ok(read) = read {
-        if text.may_join(counting) {
+        if text.may_join(apart) {
             text.append(read)?;
+            text.count(counting)?;
             return Ok(text);
         }
     }
     // The text comes to a fault again, and knows the number of its line.
-    text.feed(rest)?;
+    feed_part(&mut text, rest, counting)?;
     Ok(text)
 }
 
@@ -81,19 +83,16 @@ fn feed_halves<R: Threads + Sync>(
 
 /// Takes more of a text, up to its first fault. Where its baskets are counted, so are those of each
 /// block before the next.
-fn feed_part(text: &mut Text, piece: &[u8], counting: bool) -> Result<(), ReadFault>
+pub fn feed_part(text: &mut Text, piece: &[u8], counting: bool) -> Result<(), ReadFault>
     requires { HasRoom text.old (length piece.now) }
     ensures { (past : List Weighted) (bytes : List ℕ) → IsTextSoFar text.old past bytes →
         MatchResult result (λ _. GoesOn counting past (λ now. IsTextSoFar text.new now (bytes ++ piece.now))) (λ fault. Tells fault (first_fault (bytes ++ piece.now))) }
 {
-    if !counting {
-        return text.feed(piece);
-    }
     let mut taken = 0;
     while taken < piece.len() {
         let end = piece.len().min(taken + LEAST);
         text.feed(&piece[taken..end])?;
-        text.count()?;
+        text.count(counting)?;
         taken = end;
     }
     Ok(())
@@ -109,18 +108,10 @@ fn middle_of(piece: &[u8], workers: u32) -> Option<usize>
         return None;
     }
     let middle = piece.len() as u128 * u128::from(workers / 2) / u128::from(workers);
-    line_end(piece, middle as usize)
-}
-
-/// Behind the first line feed at this place or behind it.
-fn line_end(text: &[u8], from: usize) -> Option<usize>
-    requires { from ≤ length text.now }
-    ensures within { IfSome result (λ end. end ≤ length text.now) }
-    ensures ends { IfSome result (λ end. EndsLine (take end text.now)) }
-{
-    for (place, byte) in text[from..].iter().enumerate() {
+    let middle = middle as usize;
+    for (place, byte) in piece[middle..].iter().enumerate() {
         if *byte == b'\n' {
-            return Some(from + place + 1);
+            return Some(middle + place + 1);
         }
     }
     None

@@ -11,7 +11,7 @@ use crate::class::{Class, class_of};
 const SHORT: usize = 8;
 
 /// Digits at the front of some bytes: how many, and the value of the number that ends with them.
-#[derive(Clone, Copy, Debug)]
+#[derive(Clone, Copy)]
 pub struct Digits {
     pub value: u32,
     pub count: usize,

@@ -2,12 +2,13 @@
 ghost use Rattle.std.specs.Prelude.{◌≡◌, ◌≢◌, ℕ, List, [], ◌++◌, None, Some, IfSome, Ok, Err, MatchResult, OnOk, IfErr};
 ghost use Rattle.std.specs.Option.{ForNone};
 ghost use Rattle.basket_read.specs.declared.fault.ReadFault.TheVariants.{Memory};
-ghost use Rattle.basket_read.specs.Fimi.{settled_fault, fault_in, fimi_of};
+ghost use Rattle.basket_read.specs.Fimi.{settled_fault, fimi_of};
 ghost use Rattle.basket_read.specs.Text.{Tells, Answers};
 ghost use Rattle.basket_read.specs.Input.{IsSomeInput};
 
 use crate::fault::ReadFault;
 use crate::input::Input;
+use crate::item_counts::ItemCounts;
 use basket_sets::Database;
 use std::alloc::Global;
 
@@ -48,7 +49,7 @@ impl FimiParts {
         if let Some(fault) = self.refusal {
             return Err(fault);
         }
-        match self.input.take(piece) {
+        match self.input.take(piece, false) {
             Ok(()) => Ok(()),
             Err(fault) => {
                 self.refusal = Some(fault);
@@ -66,16 +67,6 @@ impl FimiParts {
             return Err(fault);
         }
         let FimiParts { input, .. } = self;
-        input.into_baskets()
-    }
-
-    /// The fault of the bytes so far if none follow.
-    pub(crate) fn fault_so_far(&self) -> Option<ReadFault>
-        ensures { (bytes : List ℕ) → IsFed self.now bytes → result ≡ fault_in bytes }
-    {
-        match self.refusal {
-            Some(fault) => Some(fault),
-            None => self.input.fault_so_far(),
-        }
+        input.finish().map(ItemCounts::into_rest)
     }
 }

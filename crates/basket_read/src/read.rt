@@ -1,14 +1,14 @@
 //! Reading a FIMI input block by block.
-ghost use Rattle.std.specs.Prelude.{◌≡◌, ◌<◌, ◌≤◌, true, false, length, IfErr, IfOk, IfSome, IsErr, Err};
+ghost use Rattle.std.specs.Prelude.{◌≡◌, ◌≤◌, true, false, IfErr, IfOk, IfSome, IsErr, Err};
 ghost use Rattle.basket_read.specs.declared.fault.ReadFault.TheVariants.{Read};
 ghost use Rattle.basket_read.specs.Fimi.{fimi_of};
 ghost use Rattle.basket_read.specs.Text.{Answers};
 ghost use Rattle.basket_read.specs.ItemCounts.{AreLightCounts, Counts};
-ghost use Rattle.basket_read.specs.Read.{FailsAfter};
+ghost use Rattle.basket_read.specs.Read.{FailsAfter, Reads};
 
 use crate::fault::ReadFault;
-use crate::item_counts::{ItemCounts, ItemParts};
-use crate::parts::FimiParts;
+use crate::input::Input;
+use crate::item_counts::ItemCounts;
 use basket_sets::Database;
 use basket_stream::Source;
 use std::alloc::Global;
@@ -50,30 +50,7 @@ pub fn read_fimi_by<S: Source>(
     ensures failed_is_err { S.has_failed reader.new ≡ true → IsErr result }
     ensures read_is_failed { result ≡ Err Read → S.has_failed reader.new ≡ true }
 {
-    let mut buffer = vec![in alloc; 0u8; block]?;
-    read_blocks(alloc, reader, &mut buffer)
-}
-
-fn read_blocks<S: Source>(
-    alloc: Global,
-    reader: &mut S,
-    buffer: &mut [u8],
-) -> Result<Database, ReadFault>
-    requires fresh { S.has_failed reader.old ≡ false }
-    requires some { 0 < length buffer.old }
-    ensures exact { S.has_failed reader.new ≡ false → IfSome (S.left reader.old) (λ bytes. Answers result (fimi_of bytes)) }
-    ensures failed { S.has_failed reader.new ≡ true → IfSome (S.left reader.old) (λ bytes. FailsAfter bytes (S.left reader.new) result) }
-    ensures failed_is_err { S.has_failed reader.new ≡ true → IsErr result }
-    ensures read_is_failed { result ≡ Err Read → S.has_failed reader.new ≡ true }
-{
-    let mut parts = FimiParts::new(alloc);
-    'reading: loop {
-        match reader.read(buffer) {
-            Ok(0) => return parts.finish(),
-            Ok(count) => parts.feed(&buffer[..count])?,
-            Err(_) => return Err(parts.fault_so_far().unwrap_or(ReadFault::Read)),
-        }
-    }
+    read_blocks(alloc, reader, block, false).map(ItemCounts::into_rest)
 }
 
 /// Reads a FIMI input to its end, in blocks of 65,536 bytes, and counts its items. The baskets of a
@@ -91,29 +68,30 @@ pub fn count_fimi<S: Source>(alloc: Global, reader: &mut S) -> Result<ItemCounts
     ensures failed_is_err { S.has_failed reader.new ≡ true → IsErr result }
     ensures read_is_failed { result ≡ Err Read → S.has_failed reader.new ≡ true }
 {
-    let mut buffer = vec![in alloc; 0u8; BLOCK]?;
-    count_blocks(alloc, reader, &mut buffer)
+    read_blocks(alloc, reader, BLOCK, true)
 }
 
-fn count_blocks<S: Source>(
+/// Reads an input to its end, a block at a time, and may count the baskets of a block before the next is
+/// read.
+fn read_blocks<S: Source>(
     alloc: Global,
     reader: &mut S,
-    buffer: &mut [u8],
+    block: usize,
+    counting: bool,
 ) -> Result<ItemCounts, ReadFault>
     requires fresh { S.has_failed reader.old ≡ false }
-    requires some { 0 < length buffer.old }
-    ensures exact { S.has_failed reader.new ≡ false → IfSome (S.left reader.old) (λ bytes. Counts result (fimi_of bytes)) }
-    ensures light { IfOk result AreLightCounts }
-    ensures failed { S.has_failed reader.new ≡ true → IfErr result (λ fault. IfSome (S.left reader.old) (λ bytes. FailsAfter bytes (S.left reader.new) (Err fault))) }
-    ensures failed_is_err { S.has_failed reader.new ≡ true → IsErr result }
-    ensures read_is_failed { result ≡ Err Read → S.has_failed reader.new ≡ true }
+    requires some { 1 ≤ block }
+    requires few { block ≤ MAX_BLOCK }
+    ensures { Reads counting (S.left reader.old) (S.left reader.new) (S.has_failed reader.new) result }
 {
-    let mut parts = ItemParts::new(alloc);
+    let mut bytes = vec![in alloc; 0u8; block]?;
+    let buffer = bytes.as_mut_slice();
+    let mut input = Input::new(alloc);
     'reading: loop {
         match reader.read(buffer) {
-            Ok(0) => return parts.finish(),
-            Ok(count) => parts.feed(&buffer[..count])?,
-            Err(_) => return Err(parts.fault_so_far().unwrap_or(ReadFault::Read)),
+            Ok(0) => return input.finish(),
+            Ok(count) => input.take(&buffer[..count], counting)?,
+            Err(_) => return Err(input.fault_so_far().unwrap_or(ReadFault::Read)),
         }
     }
 }

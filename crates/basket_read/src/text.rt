@@ -7,7 +7,7 @@ ghost use Rattle.basket_sets.specs.Support.{total_of};
 ghost use Rattle.basket_read.specs.Cut.{cut_at};
 ghost use Rattle.basket_read.specs.Fimi.{is_line_feed, first_fault, basket_of_numbers, baskets_of, if_light};
 ghost use Rattle.basket_read.specs.Line.{line_state, line_at, blank_added};
-ghost use Rattle.basket_read.specs.Text.{CountsBehind, HasBaskets, HasJoined, HasRoom, HasRoomFor, IsTextSoFar, Tells};
+ghost use Rattle.basket_read.specs.Text.{CountsBehind, GoesOn, HasBaskets, HasJoined, HasRoom, HasRoomFor, IsTextSoFar, Tells};
 
 use crate::class::{Class, class_of};
 use crate::fault::ReadFault;
@@ -25,6 +25,9 @@ pub struct Text {
     baskets: Database,
     /// The counts of those that are past.
     table: ItemTable,
+    /// How many baskets were kept when the table was too small for them, or 0. It is tried again once
+    /// there are twice as many.
+    refused: usize,
     /// Whether the baskets weigh too much for a database, which then has not all of them.
     heavy: bool,
     line: Line,
@@ -39,6 +42,7 @@ impl Text {
             lines: 0,
             baskets: Database::new(alloc),
             table: ItemTable::new(alloc),
+            refused: 0,
             heavy: false,
             line: Line::new(alloc),
         }
@@ -150,7 +154,15 @@ impl Text {
         self.alloc
     }
 
-    /// Whether a text may follow that has counted baskets, if it counts.
+    /// Whether the baskets of a text that follows are counted, if baskets are: none can be past behind
+    /// some that are kept.
+    pub fn counts_behind(&self, counting: bool) -> bool
+        ensures { counting ≡ false → result ≡ false }
+    {
+        counting && self.baskets.is_empty()
+    }
+
+    /// Whether a text may follow whose baskets were counted, if it counted.
     pub fn may_join(&self, counting: bool) -> bool
         ensures { IsTrue result → (self.now.baskets ≡ []) ⊎ (counting ≡ false) }
     {
@@ -204,26 +216,21 @@ impl Text {
         self.baskets.append(baskets)
     }
 
-    /// How many baskets are kept.
-    pub fn kept(&self) -> usize {
-        self.baskets.len()
-    }
-
-    /// Counts the baskets of the lines that have ended, which are past then, unless they weigh too much
-    /// or the table would be too large for them. The answer is whether they were counted.
-    pub fn count(&mut self) -> Result<bool, AllocError>
+    /// Counts the baskets of the lines that have ended, which are past then, if they are to be counted,
+    /// don't weigh too much and the table would not be too large for them.
+    pub fn count(&mut self, counting: bool) -> Result<(), AllocError>
         requires { HasRoom self.old 0 }
         ensures { (past : List Weighted) (bytes : List ℕ) → IsTextSoFar self.old past bytes →
-            OnOk result ((now : List Weighted) × IsTextSoFar self.new now bytes) }
+            OnOk result (GoesOn counting past (λ now. IsTextSoFar self.new now bytes)) }
     {
-        if self.heavy {
-            return Ok(false);
+        if !counting || self.heavy || self.baskets.len() / 2 < self.refused {
+            return Ok(());
         }
-        let counted = self.table.add(self.baskets.baskets())?;
-        if counted {
+        if self.table.add(self.baskets.baskets())? {
             self.baskets.clear();
         }
-        Ok(counted)
+        self.refused = self.baskets.len();
+        Ok(())
     }
 
     /// The counts of the whole text, if its baskets don't weigh too much.

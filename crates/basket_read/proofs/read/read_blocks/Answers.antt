@@ -1,56 +1,57 @@
-use Rattle.std.proofs.Common.{◌≡◌, ◌++◌, take, unwrap_or, Err, ap, ◌∙◌, subst, arith}
+use Rattle.std.proofs.Common.{◌≡◌, ◌++◌, take, length, length-append, unwrap_or, Err, ap, ◌∙◌, arith}
+use Rattle.std.proofs.lemmas.List.{length-take}
 use Rattle.std.proofs.lemmas.Result.{err_from_is_err_and}
-use Rattle.basket_read.specs.Fimi.{fimi_of, settled_fault}
-use Rattle.basket_read.specs.Text.{Answers, Tells}
 use Rattle.basket_read.specs.declared.fault.ReadFault.TheVariants.{Read}
-use Rattle.basket_read.proofs.ReadLemmas.{not_settled, not_answered, consumes_more, refused_answer, of_all_bytes, fails_after}
+use Rattle.basket_read.proofs.ReadLemmas.{consumes_more, ended, stopped, stops_failed, stops_fault}
 use Rattle.basket_read.proofs.read.read_blocks.Goals as goal
-
-pub returns-in-Ok-eq0-clause-read_is_failed : goal.returns-in-Ok-eq0-clause-read_is_failed
-returns-in-Ok-eq0-clause-read_is_failed g c = λ e.
-    let fed = c.reading.invariant.fed in
-    let answers = subst (λ r. Answers r (fimi_of fed.0)) e (c.finish.ensures.exact fed.0 fed.2) in
-    absurd (not_answered fed.0 (answers (λ m. absurd cc)))
 
 pub reading-preserved : goal.reading-preserved
 reading-preserved g c =
-    let fed = c.reading.invariant.fed in
+    let read = c.reading.invariant.read in
+    let on = c.in_ok-take-in-Ok.ensures read.2.0 read.0 read.2.2 in
     record {
       unfailed = c.in-Ok.ensures.failed;
-      unrefused = c.in_ok-feed-in-Ok.ensures.ok;
-      fed = (
-        fed.0 ++ take c.in-Ok.count c.read.new.buf,
-        consumes_more _ _ _ fed.0 (take c.in-Ok.count c.read.new.buf) fed.1 c.in-Ok.ensures.bytes.0,
-        c.in_ok-feed-in-Ok.ensures.fed fed.0 fed.2 (λ e. absurd cc),
+      read = (
+        read.0 ++ take c.in-Ok.count c.read.new.buf,
+        consumes_more _ _ _ read.0 (take c.in-Ok.count c.read.new.buf) read.1 c.in-Ok.ensures.bytes.0,
+        (on.0, λ off. on.1 off ∙ read.2.1 off, on.2),
       );
     }
 
-pub returns-in_err-feed-in-Ok-clause-exact : goal.returns-in_err-feed-in-Ok-clause-exact
-returns-in_err-feed-in-Ok-clause-exact g c = λ _.
-    let fed = c.reading.invariant.fed in
-    let p = err_from_is_err_and c.from_residual.result c.from_residual.ensures.1 in
-    refused_answer _ _ (fed.0 ++ take c.in-Ok.count c.read.new.buf) c.in_err-feed-in-Ok.field-0.0 c.from_residual.result (p.1 ∙ ap Err p.2)
-    (consumes_more _ _ _ fed.0 (take c.in-Ok.count c.read.new.buf) fed.1 c.in-Ok.ensures.bytes.0)
-    (c.in_err-feed-in-Ok.ensures.exact fed.0 fed.2)
+pub reading-smaller : goal.reading-smaller
+reading-smaller g c =
+    let read = c.reading.invariant.read in
+    let on = c.in_ok-take-in-Ok.ensures read.2.0 read.0 read.2.2 in
+    let before = read.2.2.taken in
+    let after = on.2.taken in
+    let few = on.2.few in
+    let sum = length-append read.0 (take c.in-Ok.count c.read.new.buf) in
+    let some = length-take c.in-Ok.count c.read.new.buf in
+    let within = c.in-Ok.ensures.bound in
+    let test = c.in-Ok.count-test in
+    omega arith
 
-pub returns-in_err-feed-in-Ok-clause-read_is_failed : goal.returns-in_err-feed-in-Ok-clause-read_is_failed
-returns-in_err-feed-in-Ok-clause-read_is_failed g c = λ e.
-    let fed = c.reading.invariant.fed in
-    let p = err_from_is_err_and c.from_residual.result c.from_residual.ensures.1 in
-    let is_read : c.in_err-feed-in-Ok.field-0.0 ≡ Read = cc (p.1, p.2, e) in
-    let told = subst (λ f. Tells f (settled_fault (fed.0 ++ take c.in-Ok.count c.read.new.buf))) is_read (c.in_err-feed-in-Ok.ensures.exact fed.0 fed.2) in
-    absurd (not_settled (fed.0 ++ take c.in-Ok.count c.read.new.buf) (told (λ m. absurd cc)))
-
-pub returns-in-Ok-eq0-clause-exact : goal.returns-in-Ok-eq0-clause-exact
-returns-in-Ok-eq0-clause-exact g c = λ working.
-    let fed = c.reading.invariant.fed in
-    let ended = c.in-Ok-eq0.ensures.bytes in
+pub returns-in-Ok-eq0 : goal.returns-in-Ok-eq0
+returns-in-Ok-eq0 g c =
+    let read = c.reading.invariant.read in
+    let all = c.in-Ok-eq0.ensures.bytes in
     let none : c.in-Ok-eq0.field-0 ≡ 0 = c.in-Ok-eq0.field-0-test in
-    of_all_bytes _ _ _ fed.0 (take c.in-Ok-eq0.field-0 c.read.new.buf) (λ bytes. Answers c.finish.result (fimi_of bytes)) fed.1 ended.0 (ap (λ n. take n c.read.new.buf) none)
-    (ended.1 none (omega (arith, c.requires.some, c.reading.auto.buffer, c.read.auto.buf))) (c.finish.ensures.exact fed.0 fed.2)
+    let past = c.finish.ensures read.2.0 read.0 read.2.2 in
+    ended c.args.counting _ _ _ _ read.0 (take c.in-Ok-eq0.field-0 c.read.new.buf) c.finish.result c.in-Ok-eq0.ensures.failed read.1 all.0 (ap (λ n. take n c.read.new.buf) none)
+    (all.1 none (let same = ap length c.as_mut_slice-buffer.ensures.value in let long = c.in_ok-bytes.ensures.len in omega (arith, c.requires.some, c.reading.auto.buffer, c.read.auto.buf, same, long))) (read.2.0, read.2.1, past)
 
-pub returns-in-Err-clause-failed : goal.returns-in-Err-clause-failed
-returns-in-Err-clause-failed g c = λ failed.
-    let fed = c.reading.invariant.fed in
-    fails_after _ _ _ fed.0 c.unwrap_or.result fed.1 c.in-Err.ensures.bytes
-    (λ _. c.unwrap_or.ensures ∙ ap (λ found. unwrap_or found Read) (c.fault_so_far.ensures fed.0 fed.2))
+pub returns-in_err-take-in-Ok : goal.returns-in_err-take-in-Ok
+returns-in_err-take-in-Ok g c =
+    let read = c.reading.invariant.read in
+    let p = err_from_is_err_and c.from_residual-in_err-take-in-Ok.result c.from_residual-in_err-take-in-Ok.ensures.1 in
+    let fault = c.in_err-take-in-Ok.field-0.0 in
+    let given = read.0 ++ take c.in-Ok.count c.read.new.buf in
+    stopped c.args.counting _ _ _ c.from_residual-in_err-take-in-Ok.result fault (p.1 ∙ ap Err p.2)
+    (stops_fault _ _ _ given fault (consumes_more _ _ _ read.0 (take c.in-Ok.count c.read.new.buf) read.1 c.in-Ok.ensures.bytes.0)
+    (c.in_err-take-in-Ok.ensures read.2.0 read.0 read.2.2))
+
+pub returns-in-Err : goal.returns-in-Err
+returns-in-Err g c =
+    let read = c.reading.invariant.read in
+    stops_failed _ _ _ _ read.0 c.unwrap_or.result c.in-Err.ensures.failed read.1 c.in-Err.ensures.bytes
+    (c.unwrap_or.ensures ∙ ap (λ found. unwrap_or found Read) (c.fault_so_far.ensures read.2.0 read.0 read.2.2))

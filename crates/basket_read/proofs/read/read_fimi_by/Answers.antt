@@ -1,9 +1,14 @@
-use Rattle.std.proofs.Common.{Err, ap, ◌∙◌}
-use Rattle.std.proofs.lemmas.Result.{err_from_is_err_and}
-use Rattle.basket_read.proofs.ReadLemmas.{memory_answer}
+use Rattle.basket_read.proofs.ReadLemmas.{exact_kept, failed_kept, read_kept}
 use Rattle.basket_read.proofs.read.read_fimi_by.Goals as goal
 
-pub returns-in_err-buffer-clause-exact : goal.returns-in_err-buffer-clause-exact
-returns-in_err-buffer-clause-exact g c = λ _.
-    let p = err_from_is_err_and c.from_residual.result c.from_residual.ensures.1 in
-    memory_answer _ c.from_residual.result (p.1 ∙ ap Err p.2)
+pub returns-clause-exact : goal.returns-clause-exact
+returns-clause-exact g c = exact_kept _ _ _ c.read_blocks.result c.map.result c.map.ensures.cases c.read_blocks.ensures
+
+pub returns-clause-failed : goal.returns-clause-failed
+returns-clause-failed g c = λ broken. (failed_kept _ _ _ c.read_blocks.result c.map.result c.map.ensures.cases c.read_blocks.ensures broken).1
+
+pub returns-clause-failed_is_err : goal.returns-clause-failed_is_err
+returns-clause-failed_is_err g c = λ broken. (failed_kept _ _ _ c.read_blocks.result c.map.result c.map.ensures.cases c.read_blocks.ensures broken).0
+
+pub returns-clause-read_is_failed : goal.returns-clause-read_is_failed
+returns-clause-read_is_failed g c = read_kept _ _ _ c.read_blocks.result c.map.result c.map.ensures.cases c.read_blocks.ensures

@@ -2,6 +2,9 @@ use Rattle.std.proofs.Common.{length, [], ◌∷◌, ◌++◌, ap, ◌∙◌, ar
 use Rattle.std.proofs.lemmas.Result.{err_from_is_err_and}
 use Rattle.basket_read.specs.Fimi.{first_fault, settled_fault}
 use Rattle.basket_read.specs.declared.input.Front.TheVariants.{Empty, OneByte, TwoBytes}
+use Rattle.basket_read.specs.Text.{Tells}
+use Rattle.basket_read.specs.Input.{IsInputSoFar}
+use Rattle.basket_read.proofs.TextLemmas.{not_counting}
 use Rattle.basket_read.proofs.InputLemmas.{has_room, at_front, settled-decided, fault_few, no_mark, half_of_one, half_of_two}
 use Rattle.basket_read.proofs.input.Input.take_byte.Goals as goal
 
@@ -24,3 +27,8 @@ returns-then-byte-2 c = λ past bytes r _.
 pub returns-then-byte-3 : goal.returns-then-byte-3
 returns-then-byte-3 c = λ past bytes r _.
     ap (λ l. settled_fault (l ++ c.args.byte ∷ [])) (at_front c.args.self.now past bytes r TwoBytes c.in-TwoBytes.is).0 ∙ half_of_two c.args.byte c.if-byte-3.true
+
+pub returns-in-Decided : goal.returns-in-Decided
+returns-in-Decided c = λ past bytes r.
+    not_counting past c.take_text.result (λ now. IsInputSoFar c.take_text.new.self now (bytes ++ c.args.byte ∷ [])) (λ fault. Tells fault (settled_fault (bytes ++ c.args.byte ∷ [])))
+    (c.take_text.ensures past bytes r)

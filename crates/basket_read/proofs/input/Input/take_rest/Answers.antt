@@ -1,9 +1,7 @@
-use Rattle.std.proofs.Common.{◌++◌, length, sym, subst, arith}
+use Rattle.std.proofs.Common.{length, sym, subst, arith}
 use Rattle.std.proofs.lemmas.Result.{err_from_is_err_and}
-use Rattle.basket_read.specs.Fimi.{settled_fault, text_of}
-use Rattle.basket_read.specs.Text.{HasRoom, IsTextSoFar, Tells}
-use Rattle.basket_read.specs.Input.{IsInputSoFar}
-use Rattle.basket_read.proofs.TextLemmas.{stays_past}
+use Rattle.basket_read.specs.Fimi.{text_of}
+use Rattle.basket_read.specs.Text.{HasRoom, IsTextSoFar}
 use Rattle.basket_read.specs.declared.input.Front.TheVariants.{Decided}
 use Rattle.basket_read.proofs.InputLemmas.{has_room, at_front, with_text, text_fault}
 use Rattle.basket_read.proofs.input.Input.take_rest.Goals as goal
@@ -25,8 +23,3 @@ returns g c = λ past bytes r.
     let before = subst (λ text. IsTextSoFar text past (text_of bytes)) (sym c.replace-before.ensures.value) (at_front c.args.self.now past bytes r Decided c.in-Decided.is).1 in
     let t = c.in_ok-text.ensures past (text_of bytes) before in
     (t.0, t.1, with_text c.args.self.now past bytes r c.in_ok-text.text t.0 c.args.piece.now c.in-Decided.is (omega (arith, r.few, r.taken)) t.2)
-
-pub returns-then-piece-self : goal.returns-then-piece-self
-returns-then-piece-self g c = λ past bytes r.
-    stays_past c.args.counting past c.take-then-piece-self.result (λ now. IsInputSoFar c.take-then-piece-self.new.self now (bytes ++ c.args.piece.now)) (λ fault. Tells fault (settled_fault (bytes ++ c.args.piece.now)))
-    (c.take-then-piece-self.ensures past bytes r)

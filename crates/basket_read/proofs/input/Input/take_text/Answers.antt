@@ -26,17 +26,17 @@ returns-then-piece-room c = λ past bytes r _.
     long_fault c.args.self.now past bytes r c.args.piece.now room c.requires.decided (omega (arith, r.few, r.taken)) c.if-piece-room.true
     ∙ ap (λ f. or_else f (Some TooLong)) (c.in_ok-feed.ensures past (text_of bytes) (at_front c.args.self.now past bytes r Decided c.requires.decided).1).faultless
 
-pub feed-requires-2 : goal.feed-requires-2
-feed-requires-2 c = has_room c.args.self.now (length c.args.piece.now) (λ past bytes r. omega (arith, r.few, r.taken)) c.requires.some
+pub feed_part-requires : goal.feed_part-requires
+feed_part-requires c = has_room c.args.self.now (length c.args.piece.now) (λ past bytes r. omega (arith, r.few, r.taken)) c.requires.some
 
-pub returns-in_err-feed-2 : goal.returns-in_err-feed-2
-returns-in_err-feed-2 c = λ past bytes r.
-    let p = err_from_is_err_and c.from_residual-in_err-feed-2.result c.from_residual-in_err-feed-2.ensures.1 in
+pub returns-in_err-feed_part : goal.returns-in_err-feed_part
+returns-in_err-feed_part c = λ past bytes r.
+    let p = err_from_is_err_and c.from_residual-in_err-feed_part.result c.from_residual-in_err-feed_part.ensures.1 in
     rw (p.1, p.2) (λ no_memory.
-    text_fault c.args.self.now past bytes r c.args.piece.now c.in_err-feed-2.field-0.0 c.requires.decided (omega (arith, r.few, r.taken))
-    (c.in_err-feed-2.ensures past (text_of bytes) (at_front c.args.self.now past bytes r Decided c.requires.decided).1 no_memory))
+    text_fault c.args.self.now past bytes r c.args.piece.now c.in_err-feed_part.field-0.0 c.requires.decided (omega (arith, r.few, r.taken))
+    (c.in_err-feed_part.ensures past (text_of bytes) (at_front c.args.self.now past bytes r Decided c.requires.decided).1 no_memory))
 
 pub returns : goal.returns
 returns c = λ past bytes r.
-    with_text c.args.self.now past bytes r c.feed-2.new.self past c.args.piece.now c.requires.decided (omega (arith, r.few, r.taken))
-    (c.in_ok-feed-2.ensures past (text_of bytes) (at_front c.args.self.now past bytes r Decided c.requires.decided).1)
+    let t = c.in_ok-feed_part.ensures past (text_of bytes) (at_front c.args.self.now past bytes r Decided c.requires.decided).1 in
+    (t.0, t.1, with_text c.args.self.now past bytes r c.feed_part.new.text t.0 c.args.piece.now c.requires.decided (omega (arith, r.few, r.taken)) t.2)

@@ -1,5 +1,7 @@
-use Rattle.std.proofs.Common.{[], ◌++◌, Err, ap}
-use Rattle.basket_read.proofs.InputLemmas.{settled_stays, some_after, faultless_input}
+use Rattle.std.proofs.Common.{[], false, ◌++◌, Err, ap}
+use Rattle.basket_read.specs.Input.{IsInputSoFar}
+use Rattle.basket_read.proofs.TextLemmas.{uncounted}
+use Rattle.basket_read.proofs.InputLemmas.{settled_stays, some_on, faultless_input}
 use Rattle.basket_read.proofs.PartsLemmas.{fault_told, fed_told, fed_input, input_is}
 use Rattle.basket_read.proofs.parts.FimiParts.feed.Goals as goal
 
@@ -13,17 +15,17 @@ returns-in-Some-clause-fed c = λ bytes fed _.
 
 pub invariant_of-self : goal.invariant_of-self
 invariant_of-self c = record {
-  some = λ unrefused. some_after c.args.self.now.input c.take.new.self c.args.piece.now (c.args.self.now.some unrefused) c.in-Ok.ensures;
+  some = λ unrefused. some_on c.args.self.now.input c.take.new.self false c.args.piece.now (c.args.self.now.some unrefused) c.in-Ok.ensures;
 }
 
 pub returns-in-Ok-clause-exact : goal.returns-in-Ok-clause-exact
 returns-in-Ok-clause-exact c = λ bytes fed.
-    faultless_input c.take.new.self [] (bytes ++ c.args.piece.now) (c.in-Ok.ensures [] bytes (input_is c.args.self.now bytes fed c.in_default.is))
+    faultless_input c.take.new.self [] (bytes ++ c.args.piece.now) (uncounted [] (λ now. IsInputSoFar c.take.new.self now (bytes ++ c.args.piece.now)) (c.in-Ok.ensures [] bytes (input_is c.args.self.now bytes fed c.in_default.is)))
 
 pub returns-in-Ok-clause-fed : goal.returns-in-Ok-clause-fed
 returns-in-Ok-clause-fed c = λ bytes fed _.
     fed_input c.args.self.now.refusal c.take.new.self (bytes ++ c.args.piece.now) c.in_default.is
-    (c.in-Ok.ensures [] bytes (input_is c.args.self.now bytes fed c.in_default.is))
+    (uncounted [] (λ now. IsInputSoFar c.take.new.self now (bytes ++ c.args.piece.now)) (c.in-Ok.ensures [] bytes (input_is c.args.self.now bytes fed c.in_default.is)))
 
 pub returns-in-Err-clause-exact : goal.returns-in-Err-clause-exact
 returns-in-Err-clause-exact c = λ bytes fed. c.in-Err.ensures [] bytes (input_is c.args.self.now bytes fed c.in_default.is)
