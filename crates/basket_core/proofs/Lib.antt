@@ -1,1 +1,2 @@
+mod CompareLemmas
 mod FractionLemmas

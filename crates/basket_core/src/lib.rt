@@ -2,6 +2,7 @@
 //! with it: ranks and coded baskets, itemsets, databases and minimums, sources and sinks.
 #![tactic(auto)]
 
+mod compare;
 mod fault;
 mod fraction;
 mod frequent;
@@ -16,6 +17,7 @@ pub use basket_sets::{
     parse_share, report_order, support,
 };
 pub use basket_stream::{Failed, MemSink, MemSource, Sink, Source, StdSink, StdSource};
+pub use compare::compare_parts;
 pub use fault::MineFault;
 pub use fraction::Fraction;
 pub use frequent::Frequent;

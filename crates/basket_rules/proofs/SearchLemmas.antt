@@ -1,35 +1,21 @@
 -- What one comparison in a list in report order says of the sets beside it, and when a search is over.
-use Rattle.std.proofs.Common.{◌≡◌, ℕ, ◌<◌, ◌≤◌, ◌+◌, ◌-◌, List, [], ◌∷◌, ◌++◌, length, take, drop, get_or, get_or-drop, Err, refl, sym, ap, ◌∙◌, inl, inr, arith}
+use Rattle.std.proofs.Common.{◌≡◌, ℕ, ◌<◌, ◌≤◌, ◌+◌, ◌-◌, List, [], ◌∷◌, length, get_or, Result, Ok, Err, refl, sym, ap, ◌∙◌, inl, inr, arith}
 use Rattle.std.specs.declared.cmp.Ordering.{Ordering}
 use Rattle.std.specs.declared.cmp.Ordering.TheVariants.{Less, Equal, Greater}
-use Rattle.std.specs.Ordering.{nat_cmp, ordering_index, ordering_then, is_eq}
-use Rattle.std.specs.Cmp.Lexicographic.{slice_cmp, bytes_decides}
+use Rattle.std.specs.Ordering.{ordering_index, is_eq}
+use Rattle.std.specs.Cmp.Lexicographic.{bytes_decides}
 use Rattle.std.specs.List.{AllWithin, HoldsAt}
-use Rattle.std.specs.List.Sorted.{IsBinarySearchResult, IsNonDecreasingBy, IsPartitionPoint}
+use Rattle.std.specs.List.Sorted.{IsBinarySearchResult, IsNonDecreasingBy, IsSearchInRange}
 use Rattle.std.proofs.lemmas.Bool.{cases_lt}
 use Rattle.std.proofs.lemmas.Cmp.{tied_itself}
 use Rattle.std.proofs.lemmas.Map.Keys.{Less-from_sorted}
-use Rattle.std.proofs.lemmas.List.{get_or_default, get_or-take, get_or-map, length-drop, length-map, length-take-le}
+use Rattle.std.specs.Result.{IfErr, IfOk}
+use Rattle.std.proofs.lemmas.List.{get_or_default, get_or-map, length-map}
 use Rattle.basket_sets.specs.declared.counted.Counted.{Counted}
 use Rattle.basket_sets.specs.Order.{report_order, report_order_total, report_order_ties}
 use Rattle.basket_sets.proofs.theory.Members.{Member, Member-from_Contains}
 use Rattle.basket_rules.specs.Listed.{IsSorted, sets_in, set_at, count_at}
 use Rattle.basket_rules.specs.Search.{IsBetween, IsMissing}
-
--- ---- a set beside the two parts of another
-
-then_assoc : (o p q : Ordering) → ordering_then o (ordering_then p q) ≡ ordering_then (ordering_then o p) q
-then_assoc Less p q = refl
-then_assoc Equal p q = refl
-then_assoc Greater p q = refl
-
-pub by_parts : (set front rest : List ℕ) → slice_cmp nat_cmp set (front ++ rest)
-    ≡ ordering_then (slice_cmp nat_cmp (take (length front) set) front) (slice_cmp nat_cmp (drop (length front) set) rest)
-by_parts set [] rest = refl
-by_parts [] (y ∷ front) rest = refl
-by_parts (x ∷ set) (y ∷ front) rest =
-    ap (ordering_then (nat_cmp x y)) (by_parts set front rest)
-    ∙ then_assoc (nat_cmp x y) (slice_cmp nat_cmp (take (length front) set) front) (slice_cmp nat_cmp (drop (length front) set) rest)
 
 -- ---- the sets of a list
 
@@ -143,53 +129,13 @@ is_missing (c ∷ list) set i b k below e =
       | inr more ↦ (let other = b.greater k c more below in cc)
     ]
 
--- ---- a search between two places
+-- ---- a binary search
 
-at_between : (list : List Counted) (start end k : ℕ) (d : Counted) → k < end - start → get_or (take (end - start) (drop start list)) k d ≡ get_or list (start + k) d
-at_between list start end k d below = get_or-take (end - start) (drop start list) k d below ∙ get_or-drop start list k d
+module _ (list : List Counted) (set : List ℕ) where
+  pub found_by_search : (result : Result ℕ ℕ) → IsSearchInRange result (length list) → IsBinarySearchResult (λ c. report_order c.set set) list result → IfOk result (λ at. set_at list at ≡ set)
+  found_by_search (Ok place) below same = stands list set place below same
+  found_by_search (Err place) below point = tt
 
-pub length_between : (list : List Counted) (start end : ℕ) → start ≤ end → end ≤ length list → length (take (end - start) (drop start list)) ≡ end - start
-length_between list start end ordered within = length-take-le (end - start) (drop start list) (omega (arith, length-drop start list))
-
-pub found_between : (list : List Counted) (set : List ℕ) (start end place : ℕ) → start ≤ end → end ≤ length list
-    → place < length (take (end - start) (drop start list)) → HoldsAt (λ c. report_order c.set set ≡ Equal) (take (end - start) (drop start list)) place
-    → set_at list (start + place) ≡ set
-found_between list set start end place ordered within below same =
-    let long = length_between list start end ordered within in
-    stands list set (start + place) (omega (arith, long, below, within))
-    (λ d. ap (λ (c : Counted). report_order c.set set) (sym (at_between list start end place d (omega (arith, long, below)))) ∙ same d)
-
-pub missing_between : (list : List Counted) (set : List ℕ) (start end place : ℕ) → start ≤ end → end ≤ length list → (IsSorted list → IsBetween start end list set)
-    → place ≤ length (take (end - start) (drop start list)) → IsBinarySearchResult (λ c. report_order c.set set) (take (end - start) (drop start list)) (Err place)
-    → IsMissing list set
-missing_between list set start end place ordered within between below found up = is_missing list set (start + place) (record {
-  smaller = λ k d low high. elim (cases_lt k start) [
-    | inl less ↦ b.smaller k d low less
-    | inr more ↦ moved k d more (omega (arith, long, below, high, more)) ∙ point.0 (k - start) d (omega arith) (omega (arith, high, more))
-  ];
-  greater = λ k d low high. elim (cases_lt k end) [
-    | inl less ↦ (let from : start ≤ k = omega (arith, low) in moved k d from less ∙ point.1 (k - start) d (omega (arith, low)) (omega (arith, long, less, from)))
-    | inr more ↦ b.greater k d more high
-  ];
-})
-  where
-    b : IsBetween start end list set
-    b = between up
-
-    long : length (take (end - start) (drop start list)) ≡ end - start
-    long = length_between list start end ordered within
-
-    rises : IsNonDecreasingBy (λ c. ordering_index (report_order c.set set)) (take (end - start) (drop start list))
-    rises i j d le less =
-        let low = ap (λ (c : Counted). ordering_index (report_order c.set set)) (at_between list start end i d (omega (arith, long, le, less))) in
-        let high = ap (λ (c : Counted). ordering_index (report_order c.set set)) (at_between list start end j d (omega (arith, long, less))) in
-        let up' = answers_rise list set up (start + i) (start + j) d (omega (arith, le)) (omega (arith, long, less, within, ordered)) in
-        omega (arith, low, high, up')
-
-    point : IsPartitionPoint (λ c. report_order c.set set ≡ Less) (λ c. report_order c.set set ≡ Greater) (take (end - start) (drop start list)) place
-    point = found rises
-
-    moved : (k : ℕ) (d : Counted) → start ≤ k → k < end → report_order (get_or list k d).set set ≡ report_order (get_or (take (end - start) (drop start list)) (k - start) d).set set
-    moved k d from less =
-        let e : k ≡ start + (k - start) = omega (arith, from) in
-        ap (λ n. report_order (get_or list n d).set set) e ∙ ap (λ (c : Counted). report_order c.set set) (sym (at_between list start end (k - start) d (omega (arith, from, less))))
+  pub missing_by_search : (result : Result ℕ ℕ) → IsBinarySearchResult (λ c. report_order c.set set) list result → IfErr result (λ _. IsMissing list set)
+  missing_by_search (Ok place) same = tt
+  missing_by_search (Err place) point = λ up. (let at = point (answers_rise list set up) in is_missing list set place (record { smaller = at.0; greater = at.1 }))

@@ -4,17 +4,15 @@
 //! The set comes in two parts, the items of `front` and then those of `rest`, so that a set without
 //! one of its items need not be copied.
 ghost use Rattle.std.specs.Prelude.{◌≡◌, ◌≢◌, ◌≤◌, ◌<◌, ◌++◌, ℕ, IfOk, IfErr, IfSome, IfNone, length};
-ghost use Rattle.std.specs.Cmp.Lexicographic.{slice_cmp};
 ghost use Rattle.std.specs.List.{AllWithin};
 ghost use Rattle.std.specs.List.Sorted.{IsSearchInRange};
 ghost use Rattle.std.specs.declared.cmp.Ordering.TheVariants.{Greater};
-ghost use Rattle.std.specs.Ordering.{nat_cmp};
 ghost use Rattle.basket_sets.specs.Order.{report_order};
-ghost use Rattle.basket_rules.specs.Listed.{IsSorted, set_at};
-ghost use Rattle.basket_rules.specs.Search.{IsBetween, IsMissing};
+ghost use Rattle.basket_rules.specs.Listed.{set_at};
+ghost use Rattle.basket_rules.specs.Search.{IsMissing};
 
 use crate::listed::items_at;
-use basket_core::{Counted, CountedSets};
+use basket_core::{Counted, CountedSets, compare_parts};
 use basket_lists::MOST_ITEMS;
 use std::cmp::Ordering;
 
@@ -64,29 +62,7 @@ pub fn find(sets: &[Counted], items: &[u32]) -> Result<usize, usize>
     ensures found { IfOk result (λ at. set_at sets.now at ≡ items.now) }
     ensures missing { IfErr result (λ _. IsMissing sets.now items.now) }
 {
-    find_between(sets, items, &[], 0, sets.len())
-}
-
-/// Searches the sets from `start` up to `end`, where those before are smaller and those behind
-/// greater.
-fn find_between(
-    sets: &[Counted],
-    front: &[u32],
-    rest: &[u32],
-    start: usize,
-    end: usize,
-) -> Result<usize, usize>
-    requires ordered { start ≤ end }
-    requires within { end ≤ length sets.now }
-    requires between { IsSorted sets.now → IsBetween start end sets.now (front.now ++ rest.now) }
-    ensures bound { IsSearchInRange result (length sets.now) }
-    ensures found { IfOk result (λ at. set_at sets.now at ≡ front.now ++ rest.now) }
-    ensures missing { IfErr result (λ _. IsMissing sets.now (front.now ++ rest.now)) }
-{
-    match sets[start..end].binary_search_by(|set| compare(set.set.items(), front, rest)) {
-        Ok(place) => Ok(start + place),
-        Err(place) => Err(start + place),
-    }
+    sets.binary_search_by(|set| compare(set.set.items(), items, &[]))
 }
 
 /// Compares a set with the one that has the items of `front` and then those of `rest`.
@@ -95,13 +71,5 @@ fn compare(set: &[u32], front: &[u32], rest: &[u32]) -> Ordering
 {
     set.len()
         .cmp(&(front.len() + rest.len()))
-        .then_with(|| compare_items(set, front, rest))
-}
-
-/// Compares lists of items, of which one comes in two parts.
-fn compare_items(items: &[u32], front: &[u32], rest: &[u32]) -> Ordering
-    ensures { result ≡ slice_cmp nat_cmp items.now (front.now ++ rest.now) }
-{
-    let (start, end) = items.split_at(front.len().min(items.len()));
-    start.cmp(&front).then_with(|| end.cmp(&rest))
+        .then_with(|| compare_parts(set, front, rest))
 }

@@ -1,8 +1,8 @@
 -- A look-up of a set in a sorted list, by binary search.
-use Rattle.std.proofs.Common.{◌≡◌, ℕ, ◌<◌, ◌≤◌, List, [], ◌∷◌, ◌++◌, length, take, drop, get_or, Result, Ok, Err, is_ok, refl, sym, ap, ◌∙◌, inl, inr, arith}
+use Rattle.std.proofs.Common.{◌≡◌, ℕ, ◌<◌, ◌≤◌, List, length, get_or, Result, Ok, Err, is_ok, refl, sym, ap, ◌∙◌, inl, inr, arith}
 use Rattle.std.specs.declared.cmp.Ordering.{Ordering}
 use Rattle.std.specs.declared.cmp.Ordering.TheVariants.{Less, Equal, Greater}
-use Rattle.std.specs.Ordering.{nat_cmp, ordering_then, ordering_index, is_eq}
+use Rattle.std.specs.Ordering.{nat_cmp, ordering_index, is_eq}
 use Rattle.std.specs.Cmp.Lexicographic.{slice_cmp, bytes_decides, texts_ties, nat_list_cmp_total}
 use Rattle.std.specs.List.Sorted.{IsBinarySearchResult, IsSearchInRange, IsNonDecreasingBy, IsStrictlySortedBy}
 use Rattle.std.proofs.lemmas.Bool.{cases_Bool, cases_lt}
@@ -11,21 +11,6 @@ use Rattle.std.proofs.lemmas.Map.Keys.{Less-from_sorted}
 use Rattle.basket_sets.proofs.theory.Members.{Member-from_Contains, Contains-from_Member}
 use Rattle.mine_apriori.specs.Candidates.{is_one_of}
 use Rattle.mine_apriori.proofs.PruneLemmas.{Member-from_is_one_of, is_one_of-from_Member}
-
--- ---- a set beside the two parts of another
-
-then_assoc : (o p q : Ordering) → ordering_then o (ordering_then p q) ≡ ordering_then (ordering_then o p) q
-then_assoc Less p q = refl
-then_assoc Equal p q = refl
-then_assoc Greater p q = refl
-
-pub by_parts : (set front rest : List ℕ) → slice_cmp nat_cmp set (front ++ rest)
-    ≡ ordering_then (slice_cmp nat_cmp (take (length front) set) front) (slice_cmp nat_cmp (drop (length front) set) rest)
-by_parts set [] rest = refl
-by_parts [] (y ∷ front) rest = refl
-by_parts (x ∷ set) (y ∷ front) rest =
-    ap (ordering_then (nat_cmp x y)) (by_parts set front rest)
-    ∙ then_assoc (nat_cmp x y) (slice_cmp nat_cmp (take (length front) set) front) (slice_cmp nat_cmp (drop (length front) set) rest)
 
 -- ---- the search
 

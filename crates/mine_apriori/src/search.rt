@@ -10,7 +10,7 @@ ghost use Rattle.std.specs.Ordering.{nat_cmp};
 ghost use Rattle.mine_apriori.specs.Candidates.{is_one_of};
 ghost use Rattle.mine_apriori.specs.Search.{IsBetween};
 
-use basket_core::Itemset;
+use basket_core::{Itemset, compare_parts};
 use std::cmp::Ordering;
 
 /// Where the set stands, or else a place to begin the search for a greater one. From the place
@@ -69,6 +69,5 @@ fn find_between(
 fn compare(set: &Itemset, front: &[u32], rest: &[u32]) -> Ordering
     ensures { result ≡ slice_cmp nat_cmp set.now (front.now ++ rest.now) }
 {
-    let (start, end) = set.items().split_at(front.len().min(set.len()));
-    start.cmp(&front).then_with(|| end.cmp(&rest))
+    compare_parts(set.items(), front, rest)
 }

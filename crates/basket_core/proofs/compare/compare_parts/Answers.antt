@@ -2,8 +2,8 @@ use Rattle.std.proofs.Common.{◌≡◌, length, take, drop, min, sym, ◌∙◌
 use Rattle.std.specs.Cmp.Lexicographic.{slice_cmp}
 use Rattle.std.specs.Ordering.{nat_cmp, ordering_then}
 use Rattle.std.proofs.lemmas.List.{take_min, drop_min}
-use Rattle.basket_rules.proofs.SearchLemmas.{by_parts}
-use Rattle.basket_rules.proofs.search.compare_items.Goals as goal
+use Rattle.basket_core.proofs.CompareLemmas.{by_parts}
+use Rattle.basket_core.proofs.compare.compare_parts.Goals as goal
 
 pub returns : goal.returns
 returns c =
