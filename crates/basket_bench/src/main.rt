@@ -8,12 +8,12 @@ mod timed;
 use anyhow::Context;
 use basket::{Ask, Miner, Open, Plan, mine};
 use basket_core::{Coded, Database, parse_minimum};
-use mine_phases::Cutting;
+use mine_phases::{Cutting, count_shared, runs_shared};
 use stage::print_stage;
 use std::io::Read;
 use std::thread::Threads;
 use std::{env, fs};
-use timed::{read, timed_count, timed_miner, timed_read, timed_report, timed_runs};
+use timed::{read, report, times};
 
 const USAGE: &str = "usage: basket_bench MINIMUM RUNS < INPUT
 Times reading, counting the items, the runs of the coded baskets, each miner with its list, and the report
@@ -84,24 +84,30 @@ fn print_stages<R: Threads + Sync>(
 ) -> anyhow::Result<()> {
     let workers = plan.workers();
     let cutting = Cutting::new(workers, plan.pieces());
-    let times = timed_read(rt, threads, input, workers, runs)?;
-    print_stage(rt, "read", workers, times)?;
-    let times = timed_count(rt, threads, database, cutting, runs)?;
-    print_stage(rt, "count", workers, times)?;
+    let stage = times(rt, runs, || {
+        read(rt, threads, input, workers)?;
+        Ok(())
+    })?;
+    print_stage(rt, "read", workers, stage)?;
+    let stage = times(rt, runs, || {
+        count_shared(threads, rt.alloc(), database.baskets(), cutting, &Open)?;
+        Ok(())
+    })?;
+    print_stage(rt, "count", workers, stage)?;
     let coded = Coded::of(rt.alloc(), database, plan.minimum())?;
-    let times = timed_runs(rt, threads, &coded, cutting, runs)?;
-    print_stage(rt, "runs", workers, times)?;
+    let stage = times(rt, runs, || {
+        runs_shared(threads, rt.alloc(), &coded, cutting)?;
+        Ok(())
+    })?;
+    print_stage(rt, "runs", workers, stage)?;
     for (name, miner) in MINERS {
-        let times = timed_miner(rt, threads, database, &plan.with_miner(miner), runs)?;
-        print_stage(rt, name, workers, times)?;
+        let stage = times(rt, runs, || {
+            mine(threads, rt.alloc(), database, &plan.with_miner(miner), &Open)?;
+            Ok(())
+        })?;
+        print_stage(rt, name, workers, stage)?;
     }
-    let (frequent, _) = mine(threads, rt.alloc(), database, &plan, &Open).context(
-        "the sets were not found",
-    )?;
-    print_stage(
-        rt,
-        "report",
-        workers,
-        timed_report(rt, threads, &frequent, workers, runs)?,
-    )
+    let (frequent, _) = mine(threads, rt.alloc(), database, &plan, &Open)?;
+    let stage = times(rt, runs, || report(rt, threads, &frequent, workers))?;
+    print_stage(rt, "report", workers, stage)
 }
