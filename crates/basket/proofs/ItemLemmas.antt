@@ -1,8 +1,6 @@
 -- The items of an input that are counted while it is read.
-use Rattle.std.proofs.Common.{◌≡◌, ℕ, ◌+◌, ◌≤◌, ◌<◌, ◌^◌, List, [], ◌∷◌, ◌++◌, Bool, true, false, cond, Option, Some, None, Ok, Err, refl, sym, ap, ◌∙◌, subst, arith}
+use Rattle.std.proofs.Common.{◌≡◌, ℕ, ◌+◌, List, [], ◌++◌, Bool, true, false, cond, Option, Some, None, Ok, Err, sym, ap, ◌∙◌, subst, arith}
 use Rattle.std.specs.Prelude.{IfSome}
-use Rattle.basket_ranks.proofs.theory.Added.{number_is_support, item_supports_add_up, items_of_map}
-use Rattle.basket_ranks.specs.Added.{added_counts, items_of_counts, number_of}
 use Rattle.basket_core.specs.declared.fault.MineFault.TheVariants.{TooMany}
 use Rattle.basket_plan.specs.declared.plan.Ask.TheVariants.{Items}
 use Rattle.basket_plan.specs.declared.layout.Form.TheVariants.{Fimi}
@@ -15,14 +13,10 @@ use Rattle.basket_read.specs.ItemCounts.{AreCountsOf, Counts}
 use Rattle.basket_read.specs.Read.{FailsAfter}
 use Rattle.basket_report.specs.Report.{report_of}
 use Rattle.basket_report.specs.Style.{Numbered}
-use Rattle.basket_sets.proofs.theory.Rising.{rising-rises}
-use Rattle.basket_sets.proofs.theory.Support.{support-append, support_falls}
+use Rattle.basket_sets.proofs.theory.Support.{support-append}
 use Rattle.basket_sets.specs.declared.weighted.Weighted.{Weighted}
-use Rattle.basket_sets.specs.Counts.{item_supports}
-use Rattle.basket_sets.specs.Database.{MOST_WEIGHT}
 use Rattle.basket_sets.specs.Frequent.{frequent_items_of}
-use Rattle.basket_sets.specs.Itemset.{IsRising}
-use Rattle.basket_sets.specs.Support.{support_of, total_of, items_of, all_items}
+use Rattle.basket_sets.specs.Support.{total_of}
 use Rattle.basket.specs.declared.fault.RunFault.TheVariants.{Input}
 use Rattle.basket.specs.Engine.{MakesReport, RefusesInput}
 use Rattle.basket.specs.declared.contents.Contents.TheVariants as contents
@@ -31,22 +25,6 @@ use Rattle.basket.specs.Input.{said_for}
 use Rattle.basket.specs.Outcome.{are_too_many, of_mining, outcome, outcome_of, text_of}
 
 -- ---- counts of two lists of baskets
-
-pub supports_rise : (counts : List (ℕ × ℕ)) (baskets : List Weighted) → counts ≡ item_supports baskets → IsRising (items_of_counts counts)
-supports_rise counts baskets is =
-    subst IsRising (sym (ap items_of_counts is ∙ items_of_map (λ item. support_of baskets (item ∷ [])) (items_of baskets))) (rising-rises (all_items baskets))
-
-module _ (a b : List (ℕ × ℕ)) (front back baskets : List Weighted) (a_is : a ≡ item_supports front) (b_is : b ≡ item_supports back) (whole : baskets ≡ front ++ back) where
-  pub numbers_fit : total_of baskets ≤ MOST_WEIGHT → (item : ℕ) → number_of a item + number_of b item < 2 ^ 64
-  numbers_fit light item =
-      let p = ap (λ l. number_of l item) a_is ∙ number_is_support front item in
-      let q = ap (λ l. number_of l item) b_is ∙ number_is_support back item in
-      let s = support-append front back (item ∷ []) in
-      let e = ap (λ l. support_of l (item ∷ [])) whole in
-      let f = support_falls baskets (item ∷ []) [] refl in omega arith
-
-  pub added_is : added_counts a b ≡ item_supports baskets
-  added_is = ap (λ l. added_counts l b) a_is ∙ ap (added_counts (item_supports front)) b_is ∙ item_supports_add_up front back ∙ ap item_supports (sym whole)
 
 pub totals_add : (front back baskets : List Weighted) → baskets ≡ front ++ back → total_of front + total_of back ≡ total_of baskets
 totals_add front back baskets whole = let s = support-append front back [] in let e = ap total_of whole in omega arith

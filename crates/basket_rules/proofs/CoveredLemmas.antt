@@ -11,7 +11,8 @@ use Rattle.basket_rules.specs.declared.covered.Supersets.{Supersets}
 use Rattle.basket_rules.specs.Covered.{AreMarks, IsBefore, IsMark, Matters, WasSeen}
 use Rattle.basket_rules.specs.Listed.{set_at, count_at}
 use Rattle.basket_rules.specs.Search.{IsMissing}
-use Rattle.basket_rules.specs.Subset.{without, IsWithout}
+use Rattle.basket_rules.specs.Subset.{IsWithout}
+use Rattle.basket_sets.specs.Itemset.{without}
 use Rattle.basket_rules.proofs.SearchLemmas.{none, set_is, stands_once}
 
 -- ---- a set without the item by which it is longer

@@ -11,15 +11,17 @@ use Rattle.basket_sets.proofs.theory.Members.{Contains-from_Member}
 use Rattle.basket_sets.proofs.theory.Rising.{same_test}
 use Rattle.basket_rules.specs.Consistency.{IsConsistent}
 use Rattle.basket_rules.specs.Listed.{set_at, count_at}
-use Rattle.basket_rules.specs.Subset.{without, IsWithout}
+use Rattle.basket_rules.specs.Subset.{IsWithout}
+use Rattle.basket_sets.specs.Itemset.{without}
 use Rattle.basket_rules.specs.declared.covered.Supersets.{Supersets}
 use Rattle.basket_rules.specs.declared.covered.Supersets.TheVariants.{All, SameCount}
 use Rattle.basket_rules.specs.Covered.{AreMarks, HasSuperset, IsBefore, IsMark}
 use Rattle.basket_rules.specs.Condensed.{is_proper_superset, is_closed_in, is_maximal_in, closed_in, maximal_in, AreUnmarked, PassesUnmarked}
-use Rattle.basket_rules.proofs.SubsetLemmas.{not_true, true_not, each_passes, all_pass, contains_without, without_lacks, placed, item_more, contains_less, contains_with_item}
+use Rattle.basket_rules.proofs.SubsetLemmas.{not_true, true_not, contains_without, without_lacks, placed, item_more, contains_less, contains_with_item}
 use Rattle.basket_rules.proofs.SearchLemmas.{none, set_is, count_is, entry_listed, stands_once}
 use Rattle.basket_rules.proofs.theory.Condensed.{with_item_nonempty}
 use Rattle.basket_rules.proofs.theory.Consistency.{set_nonempty, subset_stands}
+use Rattle.basket_sets.proofs.theory.Without.{all_pass, each_passes}
 
 -- ---- the entries of a list
 

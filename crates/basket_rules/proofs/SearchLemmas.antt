@@ -16,6 +16,7 @@ use Rattle.basket_sets.specs.Order.{report_order, report_order_total, report_ord
 use Rattle.basket_sets.proofs.theory.Members.{Member, Member-from_Contains}
 use Rattle.basket_rules.specs.Listed.{IsSorted, sets_in, set_at, count_at}
 use Rattle.basket_rules.specs.Search.{IsBetween, IsMissing}
+use Rattle.basket_sets.proofs.theory.Sorting.{at_most_greater, only_greater, only_less}
 
 -- ---- the sets of a list
 
@@ -37,11 +38,6 @@ entry_listed list k below = let c = get_or list k none in Member-from_Contains c
 equal_sets : (a b : List ℕ) → report_order a b ≡ Equal → a ≡ b
 equal_sets a b e = (bytes_decides a b).0 (report_order_ties a b ∙ ap is_eq e)
 
-at_most_greater : (o : Ordering) → ordering_index o ≤ 2
-at_most_greater Less = omega arith
-at_most_greater Equal = omega arith
-at_most_greater Greater = omega arith
-
 -- of a smaller set no greater answer
 index_rises : (a b set : List ℕ) (o : Ordering) → report_order a b ≡ Less → report_order b set ≡ o → ordering_index (report_order a set) ≤ ordering_index o
 index_rises a b set Less less e = let below = ap ordering_index (report_order_total.trans a b set less e) in omega arith
@@ -58,16 +54,6 @@ answers_rise list set up i j d le below = elim (cases_lt i j) [
       index_rises (get_or list i d).set (get_or list j d).set set _ before refl)
   | inr more ↦ (let e : i ≡ j = omega arith in let same = ap (λ k. ordering_index (report_order (get_or list k d).set set)) e in omega arith)
 ]
-
-only_less : (o : Ordering) → ordering_index o ≤ 0 → o ≡ Less
-only_less Less h = refl
-only_less Equal h = absurd (omega (arith, h))
-only_less Greater h = absurd (omega (arith, h))
-
-only_greater : (o : Ordering) → 2 ≤ ordering_index o → o ≡ Greater
-only_greater Less h = absurd (omega (arith, h))
-only_greater Equal h = absurd (omega (arith, h))
-only_greater Greater h = refl
 
 -- the sets up to a smaller one are smaller
 pub smaller_up_to : (list : List Counted) (set : List ℕ) (i : ℕ) → IsSorted list → i < length list

@@ -1,12 +1,11 @@
 -- A set without one of its items, and a set with an item more.
-use Rattle.std.proofs.Common.{◌≡◌, ℕ, ◌+◌, ◌-◌, ◌<◌, Bool, true, false, not, cond, eqb, ltb, List, [], ◌∷◌, ◌++◌, length, take, drop, get_or, map, filter, refl, sym, ap, ◌∙◌, subst, inl, inr, arith, zero, suc, add-one}
-use Rattle.std.specs.List.{flat_map, list_all}
-use Rattle.std.proofs.lemmas.Bool.{cases_Bool, and_parts, and_from, eqb-true, true≢false, false_from_ne_true}
-use Rattle.std.proofs.lemmas.List.{take_rest}
+use Rattle.std.proofs.Common.{◌≡◌, ℕ, ◌+◌, ◌-◌, ◌<◌, Bool, true, false, not, cond, eqb, ltb, List, [], ◌∷◌, ◌++◌, length, get_or, map, filter, refl, sym, ap, ◌∙◌, subst, inl, inr, arith, zero, suc}
+use Rattle.std.specs.List.{flat_map}
+use Rattle.std.proofs.lemmas.Bool.{cases_Bool, and_from, eqb-true, true≢false, false_from_ne_true}
 use Rattle.basket_sets.specs.Itemset.{IsRising, has, contains, with_item}
 use Rattle.basket_sets.proofs.theory.Members.{Member}
 use Rattle.basket_sets.proofs.theory.Rising.{Member-from_has, has-from_Member, has_each, contains_each, cons_rises, first_below, rest_rises, Member-with_item, Member-into_with_item}
-use Rattle.basket_rules.specs.Subset.{without}
+use Rattle.basket_sets.specs.Itemset.{without}
 
 -- ---- tests
 
@@ -17,15 +16,6 @@ not_true false e = refl
 pub true_not : (b : Bool) → not b ≡ true → b ≡ false
 true_not true e = absurd (true≢false (sym e))
 true_not false e = refl
-
-pub each_passes : {X : Type 0} (p : X → Bool) (xs : List X) → list_all p xs ≡ true → (x : X) → Member x xs → p x ≡ true
-each_passes p [] h x m = absurd m
-each_passes p (y ∷ ys) h x (inl e) = subst (λ z. p z ≡ true) e (and_parts (p y) (list_all p ys) h).0
-each_passes p (y ∷ ys) h x (inr m) = each_passes p ys (and_parts (p y) (list_all p ys) h).1 x m
-
-pub all_pass : {X : Type 0} (p : X → Bool) (xs : List X) → ((x : X) → Member x xs → p x ≡ true) → list_all p xs ≡ true
-all_pass p [] h = refl
-all_pass p (y ∷ ys) h = and_from (p y) (list_all p ys) (h y (inl refl)) (all_pass p ys (λ x m. h x (inr m)))
 
 pub filter_same : {X : Type 0} (p q : X → Bool) (xs : List X) → ((x : X) → Member x xs → p x ≡ q x) → filter p xs ≡ filter q xs
 filter_same p q [] same = refl
@@ -41,16 +31,6 @@ flat_map_same f g [] same = refl
 flat_map_same f g (x ∷ xs) same = λ i. same x (inl refl) i ++ flat_map_same f g xs (λ y m. same y (inr m)) i
 
 -- ---- a place left out
-
-without_is : (place : ℕ) (items : List ℕ) → without place items ≡ take place items ++ drop (suc place) items
-without_is zero [] = refl
-without_is (suc place) [] = refl
-without_is zero (x ∷ items) = refl
-without_is (suc place) (x ∷ items) = ap (λ l. x ∷ l) (without_is place items)
-
--- the items around a place, as slices
-pub around_is : (place : ℕ) (items : List ℕ) → take place items ++ take (length items - (place + 1)) (drop (place + 1) items) ≡ without place items
-around_is place items = ap (λ l. take place items ++ l) (take_rest items (place + 1) ∙ ap (λ n. drop n items) (add-one place)) ∙ sym (without_is place items)
 
 -- what is left stands in the list
 pub Member-without : (place : ℕ) (items : List ℕ) (x : ℕ) → Member x (without place items) → Member x items

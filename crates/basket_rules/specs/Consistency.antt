@@ -6,7 +6,7 @@ use Rattle.basket_sets.specs.declared.counted.Counted.{Counted}
 use Rattle.basket_sets.specs.declared.minimum.Minimum.{Minimum}
 use Rattle.basket_sets.specs.Frequent.{frequent_of, IsNonemptySet}
 use Rattle.basket_rules.specs.Listed.{IsSorted}
-use Rattle.basket_rules.specs.Subset.{without}
+use Rattle.basket_sets.specs.Itemset.{without}
 
 -- the count of a set in a list, and 0 where the list doesn't have the set
 abbrev pub count_in : List Counted → List ℕ → ℕ

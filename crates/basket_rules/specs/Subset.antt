@@ -1,13 +1,8 @@
 -- Subsets of one item less, and supersets of one item more.
-use Rattle.std.specs.Prelude.{◌≡◌, ◌<◌, ℕ, zero, suc, List, [], ◌∷◌, length}
+use Rattle.std.specs.Prelude.{◌≡◌, ◌<◌, ℕ, List, length}
 use Rattle.basket_sets.specs.declared.counted.Counted.{Counted}
 use Rattle.basket_rules.specs.Listed.{set_at}
-
--- the items without the one at a place
-abbrev pub without : ℕ → List ℕ → List ℕ
-without place [] = []
-without zero (item ∷ items) = items
-without (suc place) (item ∷ items) = item ∷ without place items
+use Rattle.basket_sets.specs.Itemset.{without}
 
 -- the set numbered `below` is the one numbered `above` without its item at the place
 pub record IsWithout (list : List Counted) (above place below : ℕ) : Type 0 where

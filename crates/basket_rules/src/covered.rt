@@ -5,7 +5,7 @@ ghost use Rattle.basket_lists.specs.declared.known.TheConstants.{MOST_ITEMS};
 ghost use Rattle.basket_rules.specs.Covered.{AreMarks, IsBefore, Matters, WasSeen};
 ghost use Rattle.basket_rules.specs.Listed.{set_at};
 ghost use Rattle.basket_rules.specs.Search.{IsMissing};
-ghost use Rattle.basket_rules.specs.Subset.{without};
+ghost use Rattle.basket_sets.specs.Itemset.{without};
 
 use crate::listed::items_at;
 use crate::search::find_near;

@@ -9,3 +9,4 @@ pub mod Frequent
 pub mod Items
 pub mod Chunks
 pub mod Numerals
+pub mod Without

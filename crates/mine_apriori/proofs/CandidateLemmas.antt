@@ -13,9 +13,11 @@ use Rattle.basket_sets.proofs.theory.Members.{Member, Member-append, Member-appe
 use Rattle.basket_sets.proofs.theory.Rising.{rising-rises, Member-into_rising}
 use Rattle.basket_sets.proofs.theory.Subsets.{IsSubset, IsSubset-from_Member, Member-from_IsSubset, of_size_sorted}
 use Rattle.mine_apriori.specs.Candidates.{items_in, is_one_of, has_subsets, candidates_of}
-use Rattle.mine_apriori.specs.Join.{without, share_front, join, joined_with, joined_from}
+use Rattle.mine_apriori.specs.Join.{share_front, join, joined_with, joined_from}
+use Rattle.basket_sets.specs.Itemset.{without}
 use Rattle.mine_apriori.proofs.JoinLemmas.{ends_of, parted, length_front, without_second, without_first, shares, joins, shared, less_last, last_less, less_longer, between, rises_behind, rising_ends}
-use Rattle.mine_apriori.proofs.PruneLemmas.{each_passes, Member-from_is_one_of, Member-without}
+use Rattle.mine_apriori.proofs.PruneLemmas.{Member-from_is_one_of, Member-without}
+use Rattle.basket_sets.proofs.theory.Without.{each_passes}
 
 -- each member of the list has so many items
 abbrev pub Sized : ℕ → List (List ℕ) → Type 0

@@ -8,7 +8,7 @@ use Rattle.basket_sets.proofs.theory.Members.{Member}
 use Rattle.basket_sets.proofs.theory.Rising.{has-from_Member}
 use Rattle.mine_apriori.specs.Candidates.{is_one_of, has_subsets}
 use Rattle.mine_apriori.specs.Endings.{AreEndings, ending_of}
-use Rattle.mine_apriori.specs.Join.{without}
+use Rattle.basket_sets.specs.Itemset.{without}
 use Rattle.mine_apriori.specs.Used.{may_be_used}
 use Rattle.mine_apriori.proofs.JoinLemmas.{item_behind}
 use Rattle.mine_apriori.proofs.PruneLemmas.{Member-from_is_one_of, lacks_one}

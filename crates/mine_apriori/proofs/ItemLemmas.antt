@@ -28,10 +28,11 @@ use Rattle.basket_sets.proofs.theory.Members.{Member, All-from_Member, at_Member
 use Rattle.basket_sets.proofs.theory.Rising.{first_below, has-from_Member, Member-from_has, rest_rises, rising-rises, same_test}
 use Rattle.basket_sets.proofs.theory.Subsets.{IsSubset-from_Member, Member-from_IsSubset, Member-subsets, subset_from_Member, subsets_sorted}
 use Rattle.basket_sets.proofs.theory.Support.{frequent_items}
-use Rattle.mine_apriori.specs.Join.{without}
+use Rattle.basket_sets.specs.Itemset.{without}
 use Rattle.mine_apriori.specs.Work.{all_candidates, candidate_count, is_candidate, CandidatesBySets}
 use Rattle.mine_apriori.proofs.LawLemmas.{item_is_left}
-use Rattle.mine_apriori.proofs.PruneLemmas.{all_pass, each_passes, Member-without}
+use Rattle.mine_apriori.proofs.PruneLemmas.{Member-without}
+use Rattle.basket_sets.proofs.theory.Without.{all_pass, each_passes}
 
 -- ---- what a candidate is
 

@@ -11,16 +11,12 @@ use Rattle.std.proofs.lemmas.Map.Keys.{Less-from_sorted}
 use Rattle.basket_sets.proofs.theory.Members.{Member-from_Contains, Contains-from_Member}
 use Rattle.mine_apriori.specs.Candidates.{is_one_of}
 use Rattle.mine_apriori.proofs.PruneLemmas.{Member-from_is_one_of, is_one_of-from_Member}
+use Rattle.basket_sets.proofs.theory.Sorting.{at_most_greater}
 
 -- ---- the search
 
 equal_sets : (a b : List ℕ) → slice_cmp nat_cmp a b ≡ Equal → a ≡ b
 equal_sets a b e = (bytes_decides a b).0 (texts_ties a b ∙ ap is_eq e)
-
-at_most_greater : (o : Ordering) → ordering_index o ≤ 2
-at_most_greater Less = omega arith
-at_most_greater Equal = omega arith
-at_most_greater Greater = omega arith
 
 -- of a smaller set no greater answer
 index_rises : (a b set : List ℕ) (o : Ordering) → slice_cmp nat_cmp a b ≡ Less → slice_cmp nat_cmp b set ≡ o → ordering_index (slice_cmp nat_cmp a set) ≤ ordering_index o

@@ -1,25 +1,14 @@
 -- The subsets of a set with one item less are the set without one of its places.
-use Rattle.std.proofs.Common.{◌≡◌, ℕ, ◌<◌, ◌≤◌, Bool, true, false, ◌||◌, List, [], ◌∷◌, ◌++◌, length, take, drop, map, refl, sym, ap, ◌∙◌, subst, inl, inr, arith, zero, suc, ◌+◌, ◌-◌, add-one}
+use Rattle.std.proofs.Common.{◌≡◌, ℕ, ◌<◌, ◌≤◌, true, false, ◌||◌, List, [], ◌∷◌, length, map, refl, sym, ap, ◌∙◌, subst, inl, inr, arith, zero, suc, ◌-◌}
 use Rattle.std.specs.Cmp.Lexicographic.{pointwise, bytes_decides}
 use Rattle.std.specs.Prelude.{nat_eq}
-use Rattle.std.specs.List.{list_all}
-use Rattle.std.proofs.lemmas.Bool.{and_parts, and_from, or_cases, cases_Bool, cases_lt, true≢false}
-use Rattle.std.proofs.lemmas.List.{take_rest}
+use Rattle.std.proofs.lemmas.Bool.{or_cases, cases_Bool, cases_lt, true≢false}
 use Rattle.basket_sets.specs.Subsets.{subsets_of_size}
 use Rattle.basket_sets.proofs.theory.Members.{Member, Member-append, Member-append_left, Member-append_right, Member-map, Member-from_map}
 use Rattle.mine_apriori.specs.Candidates.{is_one_of, has_subsets}
-use Rattle.mine_apriori.specs.Join.{without, IsJoin}
-
--- ---- tests of lists
-
-pub each_passes : {X : Type 0} (p : X → Bool) (xs : List X) → list_all p xs ≡ true → (x : X) → Member x xs → p x ≡ true
-each_passes p [] h x m = absurd m
-each_passes p (y ∷ ys) h x (inl e) = subst (λ z. p z ≡ true) e (and_parts (p y) (list_all p ys) h).0
-each_passes p (y ∷ ys) h x (inr m) = each_passes p ys (and_parts (p y) (list_all p ys) h).1 x m
-
-pub all_pass : {X : Type 0} (p : X → Bool) (xs : List X) → ((x : X) → Member x xs → p x ≡ true) → list_all p xs ≡ true
-all_pass p [] h = refl
-all_pass p (y ∷ ys) h = and_from (p y) (list_all p ys) (h y (inl refl)) (all_pass p ys (λ x m. h x (inr m)))
+use Rattle.mine_apriori.specs.Join.{IsJoin}
+use Rattle.basket_sets.specs.Itemset.{without}
+use Rattle.basket_sets.proofs.theory.Without.{all_pass, each_passes}
 
 pub Member-from_is_one_of : (sets : List (List ℕ)) (set : List ℕ) → is_one_of sets set ≡ true → Member set sets
 Member-from_is_one_of [] set h = absurd (true≢false (sym h))
@@ -111,14 +100,3 @@ lacks_one size place sets set long below missing = elim (cases_Bool (has_subsets
   | inl e ↦ absurd (true≢false (sym (each_passes (is_one_of sets) (subsets_of_size size set) e (without place set) (Member-without size place set long below)) ∙ missing))
   | inr e ↦ e
 ]
-
--- the items before a place and those after it
-pub without_is : (place : ℕ) (items : List ℕ) → without place items ≡ take place items ++ drop (suc place) items
-without_is zero [] = refl
-without_is (suc place) [] = refl
-without_is zero (x ∷ items) = refl
-without_is (suc place) (x ∷ items) = ap (λ l. x ∷ l) (without_is place items)
-
--- the same of slices
-pub around_is : (place : ℕ) (items : List ℕ) → take place items ++ take (length items - (place + 1)) (drop (place + 1) items) ≡ without place items
-around_is place items = ap (λ l. take place items ++ l) (take_rest items (place + 1) ∙ ap (λ n. drop n items) (add-one place)) ∙ sym (without_is place items)

@@ -1,5 +1,5 @@
 -- What one comparison in a sorted list of sets says of the sets beside it, and when a search is over.
-use Rattle.std.proofs.Common.{◌≡◌, ℕ, ◌<◌, ◌≤◌, ◌+◌, ◌-◌, true, false, List, length, take, drop, get_or, get_or-drop, Ok, Err, refl, sym, ap, ◌∙◌, inl, inr, arith}
+use Rattle.std.proofs.Common.{◌≡◌, ℕ, ◌<◌, ◌≤◌, ◌+◌, ◌-◌, true, false, List, length, take, drop, get_or, get_or-drop, Ok, Err, sym, ap, ◌∙◌, inl, inr, arith}
 use Rattle.std.specs.declared.cmp.Ordering.{Ordering}
 use Rattle.std.specs.declared.cmp.Ordering.TheVariants.{Less, Equal, Greater}
 use Rattle.std.specs.Ordering.{nat_cmp, ordering_index}
@@ -11,16 +11,7 @@ use Rattle.std.proofs.lemmas.List.{get_or-take, get_or_default, length-drop, len
 use Rattle.mine_apriori.specs.Candidates.{is_one_of}
 use Rattle.mine_apriori.specs.Search.{IsBetween}
 use Rattle.mine_apriori.proofs.LookUpLemmas.{searched, answers_rise}
-
-only_less : (o : Ordering) → ordering_index o ≤ 0 → o ≡ Less
-only_less Less h = refl
-only_less Equal h = absurd (omega (arith, h))
-only_less Greater h = absurd (omega (arith, h))
-
-only_greater : (o : Ordering) → 2 ≤ ordering_index o → o ≡ Greater
-only_greater Less h = absurd (omega (arith, h))
-only_greater Equal h = absurd (omega (arith, h))
-only_greater Greater h = refl
+use Rattle.basket_sets.proofs.theory.Sorting.{only_greater, only_less}
 
 -- the sets up to a smaller one are smaller
 pub smaller_up_to : (sets : List (List ℕ)) (set : List ℕ) (i : ℕ) → IsStrictlySortedBy (slice_cmp nat_cmp) sets → i < length sets

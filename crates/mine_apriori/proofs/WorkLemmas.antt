@@ -25,7 +25,7 @@ use Rattle.mine_apriori.specs.Work.{all_candidates, candidates_of_size, candidat
 use Rattle.mine_apriori.proofs.CandidateLemmas.{joins_are_candidates}
 use Rattle.mine_apriori.proofs.LawLemmas.{candidates_are_exact, candidates_are_in_report_order, size_at}
 use Rattle.mine_apriori.proofs.LevelsLemmas.{candidate_items, empty_later, from_level, into_level, items_rise, level_sized, next_level, none_larger, up_to_next}
-use Rattle.mine_apriori.proofs.PruneLemmas.{all_pass, each_passes}
+use Rattle.basket_sets.proofs.theory.Without.{all_pass, each_passes}
 
 -- ---- beyond the last size
 

@@ -1,21 +1,16 @@
 -- Candidates as they are made: each set is joined to the later ones that have the same items before their last.
-use Rattle.std.specs.Prelude.{◌≡◌, ℕ, zero, suc, Bool, IsTrue, if◌then◌else◌, List, [], ◌∷◌, ◌++◌, length, take, slice_index_or, nat_eq}
+use Rattle.std.specs.Prelude.{◌≡◌, ℕ, suc, Bool, IsTrue, if◌then◌else◌, List, [], ◌∷◌, ◌++◌, length, take, slice_index_or, nat_eq}
 use Rattle.std.specs.Cmp.Lexicographic.{pointwise, slice_cmp}
 use Rattle.std.specs.List.Sorted.{IsStrictlySortedBy}
 use Rattle.std.specs.Ordering.{nat_cmp}
 use Rattle.mine_apriori.specs.Candidates.{is_one_of, has_subsets}
 use Rattle.mine_apriori.specs.Sizes.{AreOfSize}
+use Rattle.basket_sets.specs.Itemset.{without}
 
 -- sets that can be joined: of one size, whose last item stands at the place `last`, in lexicographic order
 pub record AreJoinable (last : ℕ) (sets : List (List ℕ)) : Type 0 where
   pub sized : AreOfSize (suc last) sets
   pub sorted : IsStrictlySortedBy (slice_cmp nat_cmp) sets
-
--- the items without the one at a place
-abbrev pub without : ℕ → List ℕ → List ℕ
-without place [] = []
-without zero (item ∷ items) = items
-without (suc place) (item ∷ items) = item ∷ without place items
 
 -- a set of two items more than `last`, of whose subsets the two without one of its last two items are in the list
 pub record IsJoin (last : ℕ) (sets : List (List ℕ)) (set : List ℕ) : Type 0 where

@@ -2,7 +2,7 @@
 //! them.
 ghost use Rattle.std.specs.Prelude.{◌≡◌, ◌≤◌, ◌+◌, ◌*◌, ◌%◌, ◌++◌, ◌∷◌, [], IfOk, length};
 ghost use Rattle.mine_apriori.specs.Endings.{AreEndings, ending_of};
-ghost use Rattle.mine_apriori.specs.Join.{without};
+ghost use Rattle.basket_sets.specs.Itemset.{without};
 ghost use Rattle.mine_apriori.specs.Sizes.{AreOfOneSize};
 
 use crate::used::{KNOWN_ITEMS, mark, no_items};

@@ -4,7 +4,8 @@ ghost use Rattle.basket_sets.specs.Itemset.{IsRising};
 ghost use Rattle.basket_sets.specs.Order.{IsInReportOrder};
 ghost use Rattle.mine_apriori.specs.Candidates.{is_one_of, has_subsets, candidates_of};
 ghost use Rattle.mine_apriori.specs.Endings.{AreEndings};
-ghost use Rattle.mine_apriori.specs.Join.{AreJoinable, IsJoin, without, joined_with};
+ghost use Rattle.mine_apriori.specs.Join.{AreJoinable, IsJoin, joined_with};
+ghost use Rattle.basket_sets.specs.Itemset.{without};
 ghost use Rattle.mine_apriori.specs.Sizes.{AreOfOneSize};
 
 use crate::endings::{ending_with, endings};

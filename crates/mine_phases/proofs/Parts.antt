@@ -1,5 +1,5 @@
 -- Parts of a list of baskets, their weight and their counts.
-use Rattle.std.proofs.Common.{◌≡◌, ℕ, ◌+◌, ◌≤◌, ◌<◌, ◌^◌, ◌-◌, List, [], ◌∷◌, ◌++◌, map, take, drop, length, get_or, refl, sym, ap, ◌∙◌, subst, arith}
+use Rattle.std.proofs.Common.{◌≡◌, ℕ, ◌+◌, ◌≤◌, ◌<◌, ◌-◌, List, [], ◌∷◌, ◌++◌, map, take, drop, length, get_or, refl, sym, ap, ◌∙◌, arith}
 use Rattle.std.specs.Prelude.{slice_range}
 use Rattle.std.specs.List.{flat_map, range_with_len}
 use Rattle.std.proofs.lemmas.List.{append-nil, drop-map, get_or-map, length-map, take-append-drop, take-map}
@@ -8,17 +8,12 @@ use Rattle.std.proofs.lemmas.List.FromFn.{fill_by_all}
 use Rattle.std.proofs.lemmas.Simd.{map-map}
 use Rattle.std.proofs.lemmas.List.Concat.{flat_map-append}
 use Rattle.std.proofs.lemmas.List.Sums.{sum_by-take-le, sum_by-take-drop}
-use Rattle.basket_ranks.proofs.theory.Added.{number_is_support, item_supports_add_up, items_of_map}
 use Rattle.basket_ranks.proofs.theory.Shards.{shards_are_all}
-use Rattle.basket_ranks.specs.Added.{added_counts, items_of_counts, number_of}
 use Rattle.basket_ranks.specs.Shards.{shard_start, shard_of}
-use Rattle.basket_sets.proofs.theory.Rising.{rising-rises}
-use Rattle.basket_sets.proofs.theory.Support.{support-append, support_falls}
+use Rattle.basket_sets.proofs.theory.Support.{support-append}
 use Rattle.basket_sets.specs.declared.weighted.Weighted.{Weighted}
 use Rattle.basket_sets.specs.Counts.{item_supports}
-use Rattle.basket_sets.specs.Database.{MOST_WEIGHT}
-use Rattle.basket_sets.specs.Itemset.{IsRising}
-use Rattle.basket_sets.specs.Support.{support_of, total_of, items_of, all_items, weight_at}
+use Rattle.basket_sets.specs.Support.{total_of, weight_at}
 use Rattle.mine_phases.specs.Counting.{CountParts}
 use Rattle.mine_phases.specs.Pieces.{HasEach}
 
@@ -74,24 +69,6 @@ pub one_part : {V : Type 0} (entries : V → List (ℕ × ℕ)) (lists : List V)
 one_part entries [] first baskets some few is counted = absurd (omega arith)
 one_part entries (v ∷ []) first baskets some few is counted = ap entries is ∙ one_of (entries v) counted.parts baskets counted.counts counted.whole
 one_part entries (v ∷ w ∷ lists) first baskets some few is counted = absurd (omega arith)
-
--- ---- counts of two lists of baskets
-
-pub supports_rise : (counts : List (ℕ × ℕ)) (baskets : List Weighted) → counts ≡ item_supports baskets → IsRising (items_of_counts counts)
-supports_rise counts baskets is =
-    subst IsRising (sym (ap items_of_counts is ∙ items_of_map (λ item. support_of baskets (item ∷ [])) (items_of baskets))) (rising-rises (all_items baskets))
-
-module _ (a b : List (ℕ × ℕ)) (front back baskets : List Weighted) (a_is : a ≡ item_supports front) (b_is : b ≡ item_supports back) (whole : front ++ back ≡ baskets) where
-  pub numbers_fit : total_of baskets ≤ MOST_WEIGHT → (item : ℕ) → number_of a item + number_of b item < 2 ^ 64
-  numbers_fit light item =
-      let p = ap (λ l. number_of l item) a_is ∙ number_is_support front item in
-      let q = ap (λ l. number_of l item) b_is ∙ number_is_support back item in
-      let s = support-append front back (item ∷ []) in
-      let e = ap (λ l. support_of l (item ∷ [])) whole in
-      let f = support_falls baskets (item ∷ []) [] refl in omega arith
-
-  pub added_is : added_counts a b ≡ item_supports baskets
-  added_is = ap (λ l. added_counts l b) a_is ∙ ap (added_counts (item_supports front)) b_is ∙ item_supports_add_up front back ∙ ap item_supports whole
 
 -- ---- the counts of all parts
 

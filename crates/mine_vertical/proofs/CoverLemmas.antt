@@ -11,28 +11,13 @@ use Rattle.basket_sets.specs.declared.weighted.Weighted.{Weighted}
 use Rattle.basket_sets.specs.Itemset.{AllBelow, IsRising, contains, has}
 use Rattle.basket_sets.specs.Support.{support_of}
 use Rattle.basket_sets.proofs.theory.Members.{Member, Member-filter, Member-from_filter}
-use Rattle.basket_sets.proofs.theory.Rising.{Member-from_has, has-from_Member, cons_rises, nil_rises, first_below, rest_rises, same_rising, contains_each, has_each, has_place, same_test}
+use Rattle.basket_sets.proofs.theory.Rising.{Member-from_has, has-from_Member, first_below, rest_rises, same_rising, contains_each, has_each, has_place, same_test}
 use Rattle.basket_sets.proofs.theory.Support.{support-cons}
 use Rattle.mine_classes.specs.Covers.{basket_at, cover_of, weights_of}
 use Rattle.mine_vertical.specs.Cover.{IsCover, all_places, common, cover_weight, lacking}
+use Rattle.mine_classes.proofs.theory.Kept.{Member-into_range, Member-range, range_rises}
 
 -- ---- numbers in a row
-
-pub Member-range : (a n x : ℕ) → Member x (range_with_len a n) → (a ≤ x) × (x < a + n)
-Member-range a zero x m = absurd m
-Member-range a (suc n) x (inl e) = (omega arith, omega arith)
-Member-range a (suc n) x (inr m) = let r = Member-range (a + 1) n x m in let low = r.0 in let high = r.1 in (omega arith, omega arith)
-
-pub Member-into_range : (a n x : ℕ) → a ≤ x → x < a + n → Member x (range_with_len a n)
-Member-into_range a zero x low high = absurd (omega arith)
-Member-into_range a (suc n) x low high = elim (cases_eq a x) [
-  | inl e ↦ inl e
-  | inr differ ↦ inr (Member-into_range (a + 1) n x (omega arith) (omega arith))
-]
-
-pub range_rises : (a n : ℕ) → IsRising (range_with_len a n)
-range_rises a zero = nil_rises
-range_rises a (suc n) = cons_rises a (range_with_len (a + 1) n) (λ y m. let r = Member-range (a + 1) n y m in let low = r.0 in omega arith) (range_rises (a + 1) n)
 
 pub range_more : (a n : ℕ) → range_with_len a (suc n) ≡ range_with_len a n ++ (a + n) ∷ []
 range_more a zero = ap (λ m. m ∷ []) (omega arith)

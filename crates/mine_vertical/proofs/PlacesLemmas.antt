@@ -28,9 +28,10 @@ use Rattle.mine_classes.specs.Covers.{basket_at, cover_of, weights_of}
 use Rattle.mine_vertical.specs.Cover.{IsAdded}
 use Rattle.mine_vertical.specs.Planes.{has_bit}
 use Rattle.mine_vertical.specs.Remade.{AreBitsOf, HaveSameNonempty, bit_places}
-use Rattle.mine_vertical.proofs.CoverLemmas.{Member-into_range, Member-range, from_cover, into_cover}
+use Rattle.mine_vertical.proofs.CoverLemmas.{from_cover, into_cover}
 use Rattle.mine_vertical.proofs.MarkLemmas.{set_at}
 use Rattle.mine_vertical.proofs.PlaneLemmas.{either_bit}
+use Rattle.mine_classes.proofs.theory.Kept.{Member-into_range, Member-range}
 
 -- ---- a bit for the places of a cover
 

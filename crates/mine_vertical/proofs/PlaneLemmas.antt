@@ -20,8 +20,9 @@ use Rattle.mine_vertical.specs.declared.planes.Plane.{Plane}
 use Rattle.mine_vertical.specs.Bits.{shared_bits, word_count, words_from, words_of}
 use Rattle.mine_vertical.specs.Cover.{IsCover, common, cover_weight}
 use Rattle.mine_vertical.specs.Planes.{IsPlane, are_ones, bits_of, has_bit, plane_weight}
-use Rattle.mine_vertical.proofs.CoverLemmas.{cover_light, Member-into_range, Member-range, filter_rises, range_more, range_rises}
+use Rattle.mine_vertical.proofs.CoverLemmas.{cover_light, filter_rises, range_more}
 use Rattle.mine_vertical.proofs.WordLemmas.{length-words, words_and, words_same, words_share}
+use Rattle.mine_classes.proofs.theory.Kept.{Member-into_range, Member-range, range_rises}
 
 -- ---- the bits of a number
 

@@ -19,8 +19,9 @@ use Rattle.mine_vertical.specs.Remade.{GiveSupports}
 use Rattle.mine_vertical.specs.Search.{IsNode, IsSibling, Node, Task, found_at, is_met, joins_at, sets_at}
 use Rattle.mine_vertical.specs.Siblings.{AreOver}
 use Rattle.mine_vertical.specs.Walk.{joins_below, kept_below, sets_below}
-use Rattle.mine_vertical.proofs.CoverLemmas.{filter_rises, range_more, range_rises}
+use Rattle.mine_vertical.proofs.CoverLemmas.{filter_rises, range_more}
 use Rattle.mine_vertical.proofs.FoundLemmas.{from_sets}
+use Rattle.mine_classes.proofs.theory.Kept.{range_rises}
 
 abbrev AreBelow : ℕ → List ℕ → Type 0
 AreBelow limit more = (rank : ℕ) → Member rank more → rank < limit

@@ -27,8 +27,9 @@ use Rattle.mine_classes.specs.Span.{baskets_at}
 use Rattle.mine_classes.specs.Covers.{basket_at, cover_of, weights_of}
 use Rattle.mine_vertical.specs.Search.{is_met}
 use Rattle.mine_vertical.specs.Walk.{kept_below}
-use Rattle.mine_vertical.proofs.CoverLemmas.{Member-range, range_more}
+use Rattle.mine_vertical.proofs.CoverLemmas.{range_more}
 use Rattle.mine_vertical.proofs.RowLemmas.{filter_members}
+use Rattle.mine_classes.proofs.theory.Kept.{Member-range}
 
 -- ---- baskets of places in a list of ranks, and of these ranks
 

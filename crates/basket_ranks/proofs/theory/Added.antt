@@ -9,11 +9,12 @@ use Rattle.std.proofs.lemmas.List.Sums.{sum_by-cons}
 use Rattle.std.proofs.lemmas.Bool.{cases_eq, cases_lt, eq-eqb, ne_eqb, cond-true, cond-false}
 use Rattle.basket_sets.specs.declared.weighted.Weighted.{Weighted}
 use Rattle.basket_sets.specs.Counts.{item_supports}
+use Rattle.basket_sets.specs.Database.{MOST_WEIGHT}
 use Rattle.basket_sets.specs.Itemset.{IsRising, rising}
-use Rattle.basket_sets.specs.Support.{support_of, items_of, all_items}
+use Rattle.basket_sets.specs.Support.{support_of, total_of, items_of, all_items}
 use Rattle.basket_sets.proofs.theory.Members.{Member, Member-append, Member-append_left, Member-append_right}
 use Rattle.basket_sets.proofs.theory.Rising.{lt-from_Less, cons_rises, first_below, rest_rises, rising_is, rising-rises, rising-rising, Member-rising, Member-into_rising}
-use Rattle.basket_sets.proofs.theory.Support.{support-append, in_items}
+use Rattle.basket_sets.proofs.theory.Support.{support-append, support_falls, in_items}
 use Rattle.basket_ranks.specs.Added.{items_of_counts, number_of, added_counts, ItemSupportsAddUp}
 
 -- ---- the order of numbers
@@ -316,3 +317,21 @@ item_supports_add_up a b =
           | inl k ↦ Member-append_left z (items_of_counts (item_supports a)) (items_of_counts (item_supports b)) (subst (Member z) (sym (items_are a)) (Member-into_rising (all_items a) z k))
           | inr k ↦ Member-append_right z (items_of_counts (item_supports a)) (items_of_counts (item_supports b)) (subst (Member z) (sym (items_are b)) (Member-into_rising (all_items b) z k))
         ])
+
+-- ---- counts of two lists of baskets
+
+pub supports_rise : (counts : List (ℕ × ℕ)) (baskets : List Weighted) → counts ≡ item_supports baskets → IsRising (items_of_counts counts)
+supports_rise counts baskets is =
+    subst IsRising (sym (ap items_of_counts is ∙ items_of_map (λ item. support_of baskets (item ∷ [])) (items_of baskets))) (rising-rises (all_items baskets))
+
+module _ (a b : List (ℕ × ℕ)) (front back baskets : List Weighted) (a_is : a ≡ item_supports front) (b_is : b ≡ item_supports back) (whole : front ++ back ≡ baskets) where
+  pub sums_fit : total_of baskets ≤ MOST_WEIGHT → (item : ℕ) → number_of a item + number_of b item < 2 ^ 64
+  sums_fit light item =
+      let p = ap (λ l. number_of l item) a_is ∙ number_is_support front item in
+      let q = ap (λ l. number_of l item) b_is ∙ number_is_support back item in
+      let s = support-append front back (item ∷ []) in
+      let e = ap (λ l. support_of l (item ∷ [])) whole in
+      let f = support_falls baskets (item ∷ []) [] refl in omega arith
+
+  pub added_is : added_counts a b ≡ item_supports baskets
+  added_is = ap (λ l. added_counts l b) a_is ∙ ap (added_counts (item_supports front)) b_is ∙ item_supports_add_up front back ∙ ap item_supports whole

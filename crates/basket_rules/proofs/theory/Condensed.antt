@@ -17,8 +17,9 @@ use Rattle.basket_sets.proofs.theory.Subsets.{subset_from_Member, Member-subsets
 use Rattle.basket_sets.proofs.theory.Support.{support_falls, subsets_are_frequent, frequent_items}
 use Rattle.basket_rules.specs.Consistency.{IsConsistent}
 use Rattle.basket_rules.specs.Condensed.{is_proper_superset, supersets_of, none_supported_alike, none_frequent, is_closed, is_maximal, is_closed_in, is_maximal_in, closed_in, maximal_in, extensions_of, OneItemMoreDecides, ListDecidesClosed, ListDecidesMaximal, AreClosed, AreMaximal}
-use Rattle.basket_rules.proofs.SubsetLemmas.{not_true, true_not, each_passes, all_pass, filter_same, item_more, contains_less, contains_with_item, with_item_lacks}
+use Rattle.basket_rules.proofs.SubsetLemmas.{not_true, true_not, filter_same, item_more, contains_less, contains_with_item, with_item_lacks}
 use Rattle.basket_rules.proofs.theory.Consistency.{frequent_is_consistent, sound_of, frequent_is_listed}
+use Rattle.basket_sets.proofs.theory.Without.{all_pass, each_passes}
 
 -- a set with an item more is a nonempty set
 pub with_item_nonempty : (item : ℕ) (set : List ℕ) → IsRising set → IsNonemptySet (with_item item set)

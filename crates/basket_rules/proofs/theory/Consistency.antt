@@ -18,7 +18,7 @@ use Rattle.basket_sets.proofs.theory.Support.{support_falls, subsets_are_frequen
 use Rattle.basket_rules.specs.Consistency.{count_in, HasSubsets, IsConsistent, FrequentIsConsistent}
 use Rattle.basket_rules.specs.Listed.{IsSorted, sets_in, set_at, count_at}
 use Rattle.basket_rules.specs.Search.{IsMissing}
-use Rattle.basket_rules.specs.Subset.{without}
+use Rattle.basket_sets.specs.Itemset.{without}
 use Rattle.basket_rules.proofs.SubsetLemmas.{contains_without, item_more, without-rises, length-without, Member-into_without}
 use Rattle.basket_rules.proofs.SearchLemmas.{none, set_is, count_is, stands_once}
 

@@ -6,8 +6,9 @@ use Rattle.basket_report.specs.Style.{Numbered}
 use Rattle.basket_sets.specs.Counts.{item_supports}
 use Rattle.basket_sets.specs.Support.{total_of}
 use Rattle.basket_sets.proofs.theory.Items.{frequent_items_are_counted}
-use Rattle.basket.proofs.ItemLemmas.{added_is, numbers_fit, supports_rise, totals_add}
+use Rattle.basket.proofs.ItemLemmas.{totals_add}
 use Rattle.basket.proofs.items.report_counts.Goals as goal
+use Rattle.basket_ranks.proofs.theory.Added.{added_is, sums_fit, supports_rise}
 
 pub add_counts-requires-clause-rising : goal.add_counts-requires-clause-rising
 add_counts-requires-clause-rising g c =
@@ -21,7 +22,7 @@ add_counts-requires-clause-fits g c =
     let counted = c.requires.1 in
     let front = c.deref.ensures.value ∙ c.in_ok-first.ensures.counts counted.0 counted.1 in
     let back = c.deref-2.ensures.value ∙ c.in_ok-rest.ensures.counts ∙ ap item_supports c.baskets.ensures.baskets in
-    numbers_fit c.deref.result.now c.deref-2.result.now counted.0 c.args.counts.now.rest c.requires.0 front back counted.2 c.requires.2
+    sums_fit c.deref.result.now c.deref-2.result.now counted.0 c.args.counts.now.rest c.requires.0 front back (sym counted.2) c.requires.2
 
 pub overflow_add-total : goal.overflow_add-total
 overflow_add-total g c =
@@ -33,7 +34,7 @@ returns g c = λ baskets counted.
     let minimum = c.args.plan.now.question.minimum in
     let front = c.deref.ensures.value ∙ c.in_ok-first.ensures.counts counted.0 counted.1 in
     let back = c.deref-2.ensures.value ∙ c.in_ok-rest.ensures.counts ∙ ap item_supports c.baskets.ensures.baskets in
-    let counts = c.deref-3.ensures.value ∙ c.in_ok-all.ensures.counts ∙ added_is c.deref.result.now c.deref-2.result.now counted.0 c.args.counts.now.rest baskets front back counted.2 in
+    let counts = c.deref-3.ensures.value ∙ c.in_ok-all.ensures.counts ∙ added_is c.deref.result.now c.deref-2.result.now counted.0 c.args.counts.now.rest baskets front back (sym counted.2) in
     let total : c.total.result + c.total-2.result ≡ total_of baskets = omega (arith, c.total.ensures, c.total-2.ensures, counted.1.total, totals_add counted.0 c.args.counts.now.rest baskets counted.2) in
     IfOk-weaker c.items_report.result _ _
     (λ report same. same ∙ (λ i. report_of Numbered (items_met (counts i) (c.minimum.ensures i) (total i))) ∙ ap (report_of Numbered) (sym (frequent_items_are_counted baskets minimum)))

@@ -1,9 +1,9 @@
 use Rattle.std.proofs.Common.{◌≡◌, ◌∙◌, IfSome, IfNone, ap, subst}
 use Rattle.basket_rules.specs.Listed.{set_at}
 use Rattle.basket_rules.specs.Search.{IsMissing}
-use Rattle.basket_rules.specs.Subset.{without}
-use Rattle.basket_rules.proofs.SubsetLemmas.{around_is}
+use Rattle.basket_sets.specs.Itemset.{without}
 use Rattle.basket_rules.proofs.covered.search_below.Goals as goal
+use Rattle.basket_sets.proofs.theory.Without.{around_is}
 
 pub returns-clause-found : goal.returns-clause-found
 returns-clause-found c =

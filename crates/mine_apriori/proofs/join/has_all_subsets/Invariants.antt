@@ -1,6 +1,6 @@
 use Rattle.std.proofs.Common.{◌≡◌, ◌<◌, ℕ, true}
 use Rattle.mine_apriori.specs.Candidates.{is_one_of}
-use Rattle.mine_apriori.specs.Join.{without}
+use Rattle.basket_sets.specs.Itemset.{without}
 use Rattle.mine_apriori.proofs.join.has_all_subsets.Given as goal
 
 abbrev pub invariant-loop-place : goal.invariant-loop-place

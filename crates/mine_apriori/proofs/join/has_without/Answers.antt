@@ -1,8 +1,8 @@
 use Rattle.std.proofs.Common.{◌≡◌, is_ok, sym, ap, ◌∙◌}
 use Rattle.mine_apriori.specs.Candidates.{is_one_of}
-use Rattle.mine_apriori.proofs.PruneLemmas.{around_is}
 use Rattle.mine_apriori.proofs.join.has_without.Goals as goal
 use Rattle.mine_apriori.proofs.join.has_without.Goals.{in-Ok, in-Err}
+use Rattle.basket_sets.proofs.theory.Without.{around_is}
 
 pub returns : goal.returns
 returns c =

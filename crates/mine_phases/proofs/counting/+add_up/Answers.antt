@@ -3,8 +3,9 @@ use Rattle.std.specs.List.{flat_map}
 use Rattle.std.proofs.lemmas.Result.{IfOk-weaker}
 use Rattle.basket_ranks.specs.Added.{added_counts}
 use Rattle.basket_sets.specs.Counts.{item_supports}
-use Rattle.mine_phases.proofs.Parts.{front_parts, back_parts, front_is_light, back_is_light, joined_parts, supports_rise, numbers_fit, added_is, one_part}
+use Rattle.mine_phases.proofs.Parts.{front_parts, back_parts, front_is_light, back_is_light, joined_parts, one_part}
 use Rattle.mine_phases.proofs.counting.+add_up.Goals as goal
+use Rattle.basket_ranks.proofs.theory.Added.{added_is, sums_fit, supports_rise}
 
 pub add_up-requires : goal.add_up-requires
 add_up-requires t c =
@@ -40,7 +41,7 @@ add_counts-requires-clause-fits t c =
     let counted = c.requires.1 in
     let front = c.deref-in_default.ensures.value ∙ c.in_ok-add_up-in_default.ensures _ (front_parts (λ list. list.items) (length lists / 2) lists baskets counted c.split_at.result.0.now c.split_at.ensures.front) in
     let back = c.deref-in_default-2.ensures.value ∙ c.in_ok-add_up-in_default-2.ensures _ (back_parts (λ list. list.items) (length lists / 2) lists baskets counted c.split_at.result.1.now c.split_at.ensures.back) in
-    numbers_fit c.deref-in_default.result.now c.deref-in_default-2.result.now (flat_map (λ part. part) (take (length lists / 2) counted.parts)) (flat_map (λ part. part) (drop (length lists / 2) counted.parts)) baskets front back (joined_parts (λ list. list.items) (length lists / 2) lists baskets counted) c.requires.2
+    sums_fit c.deref-in_default.result.now c.deref-in_default-2.result.now (flat_map (λ part. part) (take (length lists / 2) counted.parts)) (flat_map (λ part. part) (drop (length lists / 2) counted.parts)) baskets front back (joined_parts (λ list. list.items) (length lists / 2) lists baskets counted) c.requires.2
 
 pub returns-in_ok-add_up-in_default-2 : goal.returns-in_ok-add_up-in_default-2
 returns-in_ok-add_up-in_default-2 t c baskets counted =
