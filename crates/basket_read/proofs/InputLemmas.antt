@@ -171,14 +171,6 @@ module _ (input : Input) (past : List Weighted) (bytes : List ℕ) (r : IsInputS
   pub at_front : (front : Front) → input.front ≡ front → IsFront front bytes × IsTextSoFar input.text past (text_behind front bytes)
   at_front front e = (subst (λ f. IsFront f bytes) e r.front, subst (λ f. IsTextSoFar input.text past (text_behind f bytes)) e r.text)
 
-  -- the input with one more byte, at a front that is known
-  pub with_front : (front : Front) (text : Text) (byte : ℕ) (before after : List ℕ) → bytes ≡ before → before ++ byte ∷ [] ≡ after → length after ≤ 3
-      → IsFront front after → IsTextSoFar text past (text_behind front after) → IsInputSoFar (record { front = front; taken = length after; text = text }) past (bytes ++ byte ∷ [])
-  with_front front text byte before after e f small at t =
-      let same : after ≡ bytes ++ byte ∷ [] = sym f ∙ ap (λ l. l ++ byte ∷ []) (sym e) in
-      subst (IsInputSoFar (record { front = front; taken = length after; text = text }) past) same
-      (record { front = at; taken = refl; few = omega arith; text = t })
-
   -- behind the front the text goes on
   pub with_text : (text : Text) (now : List Weighted) (piece : List ℕ) → input.front ≡ Decided → length bytes + length piece ≤ MOST_BYTES → IsTextSoFar text now (text_of bytes ++ piece)
       → IsInputSoFar (record { front = input.front; taken = input.taken + length piece; text = text }) now (bytes ++ piece)

@@ -1,5 +1,5 @@
 -- What parts that have refused, and parts that have not, stand for.
-use Rattle.std.proofs.Common.{◌≡◌, ◌∙◌, ℕ, List, [], Option, Some, None, Result, Ok, Err, refl, ◌++◌, ap, sym, subst}
+use Rattle.std.proofs.Common.{◌≡◌, ◌∙◌, ℕ, List, [], Option, Some, None, Result, Ok, Err, ap, sym, subst}
 use Rattle.std.specs.Prelude.{IsOkAnd, MatchOption, MatchResult}
 use Rattle.basket_sets.specs.declared.weighted.Weighted.{Weighted}
 use Rattle.basket_read.specs.declared.fault.ReadFault.{ReadFault}
@@ -8,7 +8,6 @@ use Rattle.basket_read.specs.declared.parts.FimiParts.{FimiParts}
 use Rattle.basket_read.specs.Fimi.{settled_fault, fimi_of, answer_of, baskets_of, text_of}
 use Rattle.basket_read.specs.Input.{IsInputSoFar}
 use Rattle.basket_read.specs.Parts.{IsFed}
-use Rattle.basket_read.specs.ItemCounts.{Counts}
 use Rattle.basket_read.specs.Text.{Answers, CountsBehind}
 use Rattle.basket_read.specs.declared.item_counts.ItemCounts.{ItemCounts}
 use Rattle.basket_read.proofs.InputLemmas.{fault-settled}
@@ -31,11 +30,6 @@ fed_input refusal input bytes e so_far = subst (λ o. MatchOption o (IsInputSoFa
 -- the answer where a fault is settled
 pub answer_told : (bytes : List ℕ) (fault : ReadFault) → settled_fault bytes ≡ Some fault → fimi_of bytes ≡ Err fault
 answer_told bytes fault e = ap (λ f. answer_of f (baskets_of (text_of bytes))) (fault-settled bytes fault e)
-
--- counts behind baskets that are past
-pub counts_all : (past : List Weighted) (result : Result ItemCounts ReadFault) (answer : Result (List Weighted) ReadFault) → CountsBehind past result answer → Counts result answer
-counts_all past (Ok counts) answer h = (past ++ counts.rest, h.1, (past, h.0, refl))
-counts_all past (Err fault) answer h = h
 
 -- the baskets that are kept, where none are past
 abbrev pub AreKept : Result ItemCounts ReadFault → Result (List Weighted) ReadFault → Type 0

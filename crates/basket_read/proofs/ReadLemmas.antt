@@ -64,18 +64,11 @@ consumes_none None = tt
 consumes_none (Some all) = refl
 
 -- a fault in the bytes that a reader gave is that of all its bytes
-pub refused_answer : (old new : Option (List ℕ)) (given : List ℕ) (fault : ReadFault) (answer : Result (List Weighted) ReadFault)
-    → answer ≡ Err fault → Consumes old new given → Tells fault (settled_fault given) → IfSome old (λ bytes. Answers answer (fimi_of bytes))
-refused_answer None new given fault answer e p told = tt
-refused_answer (Some bytes) None given fault answer e p told = absurd p
-refused_answer (Some bytes) (Some left) given fault answer e p told =
-    subst (λ a. Answers a (fimi_of bytes)) (sym e)
-    (λ no_memory. answer_told bytes fault (ap settled_fault p ∙ settled_stays given left fault (told no_memory)))
-
--- want of memory is no claim
-pub memory_answer : (old : Option (List ℕ)) (answer : Result (List Weighted) ReadFault) → answer ≡ Err Memory → IfSome old (λ bytes. Answers answer (fimi_of bytes))
-memory_answer None answer e = tt
-memory_answer (Some bytes) answer e = subst (λ a. Answers a (fimi_of bytes)) (sym e) (λ no_memory. absurd (no_memory refl))
+refused_answer : (old new : Option (List ℕ)) (given : List ℕ) (fault : ReadFault) → Consumes old new given → Tells fault (settled_fault given)
+    → IfSome old (λ bytes. Answers (Err fault) (fimi_of bytes))
+refused_answer None new given fault p told = tt
+refused_answer (Some bytes) None given fault p told = absurd p
+refused_answer (Some bytes) (Some left) given fault p told = λ no_memory. answer_told bytes fault (ap settled_fault p ∙ settled_stays given left fault (told no_memory))
 
 -- what holds of the bytes that a reader gave up to its end holds of all its bytes
 pub of_all_bytes : (old now new : Option (List ℕ)) (given taken : List ℕ) (P : List ℕ → Type 0) → Consumes old now given → Consumes now new taken → taken ≡ [] → IsAtEnd new → P given → IfSome old P
@@ -112,13 +105,6 @@ unlike : {A : Type 0} (b : Bool) → b ≡ false → b ≡ true → A
 unlike true e t = absurd cc
 unlike false e t = absurd cc
 
-pub stops_memory : (old new : Option (List ℕ)) (failed : Bool) → failed ≡ false → Stops old new failed Memory
-stops_memory old new failed working = record {
-  exact = λ _. memory_answer old (Err Memory) refl;
-  fails = unlike failed working;
-  read_is_failed = λ e. absurd cc;
-}
-
 -- what was found before it failed
 pub told_fault : (given : List ℕ) (fault : ReadFault) → Tells fault (settled_fault given) → fault ≢ Memory → fault ≡ unwrap_or (fault_in given) Read
 told_fault given fault told no_memory = ap (λ f. unwrap_or f Read) (sym (fault-settled given fault (told no_memory)))
@@ -127,7 +113,7 @@ told_fault given fault told no_memory = ap (λ f. unwrap_or f Read) (sym (fault-
 pub stops_fault : (old new : Option (List ℕ)) (failed : Bool) (given : List ℕ) (fault : ReadFault) → Consumes old new given → Tells fault (settled_fault given)
     → Stops old new failed fault
 stops_fault old new failed given fault p told = record {
-  exact = λ _. refused_answer old new given fault (Err fault) refl p told;
+  exact = λ _. refused_answer old new given fault p told;
   fails = λ _. fails_after old new new given fault p (keeps_all new) (told_fault given fault told);
   read_is_failed = λ e. absurd (not_settled given (subst (λ f. Tells f (settled_fault given)) e told (λ m. absurd cc)));
 }

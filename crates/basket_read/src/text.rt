@@ -25,8 +25,7 @@ pub struct Text {
     baskets: Database,
     /// The counts of those that are past.
     table: ItemTable,
-    /// How many baskets were kept when the table was too small for them, or 0. It is tried again once
-    /// there are twice as many.
+    /// So many were kept when the table was too small for them. It is tried again at twice as many.
     refused: usize,
     /// Whether the baskets weigh too much for a database, which then has not all of them.
     heavy: bool,
@@ -154,8 +153,7 @@ impl Text {
         self.alloc
     }
 
-    /// Whether the baskets of a text that follows are counted, if baskets are: none can be past behind
-    /// some that are kept.
+    /// Whether a text that follows may count its baskets: none can be past behind one that is kept.
     pub fn counts_behind(&self, counting: bool) -> bool
         ensures { counting ≡ false → result ≡ false }
     {
