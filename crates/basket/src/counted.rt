@@ -79,15 +79,15 @@ pub fn report_listing(
     if frequent.sets().len() > limit as usize {
         return Err(MineFault::TooMany { limit });
     }
-    Ok(match plan.ask() {
-        Ask::Items | Ask::Sets => Made::of_sets(alloc, frequent.into_sets(), style, workers)?,
-        Ask::Closed => Made::of_closed(alloc, frequent, style, workers)?,
-        Ask::Maximal => Made::of_maximal(alloc, frequent, style, workers)?,
+    match plan.ask() {
+        Ask::Items | Ask::Sets => Ok(Made::of_sets(alloc, frequent.into_sets(), style, workers)?),
+        Ask::Closed => Ok(Made::of_closed(alloc, frequent, style, workers)?),
+        Ask::Maximal => Ok(Made::of_maximal(alloc, frequent, style, workers)?),
         Ask::Rules(confidence) => {
             let frequent = frequent.unpacked(alloc)?;
-            Made::Text(rules_report(alloc, &frequent, confidence, style)?)
+            Ok(Made::Text(rules_report(alloc, &frequent, confidence, style)?))
         }
-    })
+    }
 }
 
 /// Those of the sets that have one item.
