@@ -17,11 +17,10 @@ use Rattle.basket_plan.specs.Plan.{Question}
 use Rattle.basket_read.specs.declared.counted_line.CountedLine.{CountedLine}
 use Rattle.basket.specs.Counted.{IsWhole, gap_in}
 use Rattle.basket_rules.specs.Consistency.{HasSubsets, IsConsistent, count_in as listed_count}
-use Rattle.basket_sets.specs.Itemset.{without}
+use Rattle.basket_sets.specs.Itemset.{without, IsRising}
 use Rattle.basket_sets.specs.declared.counted.Counted.{Counted}
 use Rattle.basket_sets.specs.declared.minimum.Minimum.{Minimum}
 use Rattle.basket_sets.specs.Frequent.{IsNonemptySet}
-use Rattle.basket_sets.specs.Itemset.{IsRising}
 use Rattle.basket_sets.specs.Minimum.{meets}
 use Rattle.basket_sets.specs.Order.{report_order}
 use Rattle.basket_sets.specs.Subsets.{subsets_of_size}

@@ -5,14 +5,13 @@ use Rattle.std.proofs.lemmas.List.{length-set}
 use Rattle.basket_lists.specs.Without.{ArePlacesWithout, IsLongerBy}
 use Rattle.basket_lists.specs.declared.places.TheConstants.{NOWHERE}
 use Rattle.basket_sets.specs.declared.counted.Counted.{Counted}
-use Rattle.basket_sets.specs.Itemset.{IsRising, with_item}
+use Rattle.basket_sets.specs.Itemset.{IsRising, with_item, without}
 use Rattle.basket_sets.proofs.theory.Rising.{Member-from_has, first_below, has_place, rest_rises}
 use Rattle.basket_rules.specs.declared.covered.Supersets.{Supersets}
 use Rattle.basket_rules.specs.Covered.{AreMarks, IsBefore, IsMark, Matters, WasSeen}
 use Rattle.basket_rules.specs.Listed.{set_at, count_at}
 use Rattle.basket_rules.specs.Search.{IsMissing}
 use Rattle.basket_rules.specs.Subset.{IsWithout}
-use Rattle.basket_sets.specs.Itemset.{without}
 use Rattle.basket_rules.proofs.SearchLemmas.{none, set_is, stands_once}
 
 -- ---- a set without the item by which it is longer

@@ -6,13 +6,12 @@ use Rattle.std.proofs.lemmas.List.{take_more, append-nil}
 use Rattle.std.proofs.lemmas.List.Elements.{filter-append}
 use Rattle.basket_core.specs.Listing.{Listing}
 use Rattle.basket_sets.specs.declared.counted.Counted.{Counted}
-use Rattle.basket_sets.specs.Itemset.{contains, with_item}
+use Rattle.basket_sets.specs.Itemset.{contains, with_item, without}
 use Rattle.basket_sets.proofs.theory.Members.{Contains-from_Member}
 use Rattle.basket_sets.proofs.theory.Rising.{same_test}
 use Rattle.basket_rules.specs.Consistency.{IsConsistent}
 use Rattle.basket_rules.specs.Listed.{set_at, count_at}
 use Rattle.basket_rules.specs.Subset.{IsWithout}
-use Rattle.basket_sets.specs.Itemset.{without}
 use Rattle.basket_rules.specs.declared.covered.Supersets.{Supersets}
 use Rattle.basket_rules.specs.declared.covered.Supersets.TheVariants.{All, SameCount}
 use Rattle.basket_rules.specs.Covered.{AreMarks, HasSuperset, IsBefore, IsMark}

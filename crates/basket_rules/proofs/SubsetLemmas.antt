@@ -2,10 +2,9 @@
 use Rattle.std.proofs.Common.{◌≡◌, ℕ, ◌+◌, ◌-◌, ◌<◌, Bool, true, false, not, cond, eqb, ltb, List, [], ◌∷◌, ◌++◌, length, get_or, map, filter, refl, sym, ap, ◌∙◌, subst, inl, inr, arith, zero, suc}
 use Rattle.std.specs.List.{flat_map}
 use Rattle.std.proofs.lemmas.Bool.{cases_Bool, and_from, eqb-true, true≢false, false_from_ne_true}
-use Rattle.basket_sets.specs.Itemset.{IsRising, has, contains, with_item}
+use Rattle.basket_sets.specs.Itemset.{IsRising, has, contains, with_item, without}
 use Rattle.basket_sets.proofs.theory.Members.{Member}
 use Rattle.basket_sets.proofs.theory.Rising.{Member-from_has, has-from_Member, has_each, contains_each, cons_rises, first_below, rest_rises, Member-with_item, Member-into_with_item}
-use Rattle.basket_sets.specs.Itemset.{without}
 
 -- ---- tests
 

@@ -7,14 +7,13 @@ use Rattle.std.specs.List.{AllByRecursion}
 use Rattle.std.specs.List.Sorted.{IsStrictlySortedBy}
 use Rattle.std.proofs.lemmas.Bool.{true≢false}
 use Rattle.std.proofs.lemmas.List.Kept.{IsStrictlySortedBy-filter}
-use Rattle.basket_sets.specs.Itemset.{IsRising}
+use Rattle.basket_sets.specs.Itemset.{IsRising, without}
 use Rattle.basket_sets.specs.Subsets.{subsets_of_size}
 use Rattle.basket_sets.proofs.theory.Members.{Member, Member-append, Member-append_left, Member-append_right, Member-filter, Member-from_filter, All-from_Member, first_is_less, rest_is_sorted, not_both_less, same_members, sorted_append}
 use Rattle.basket_sets.proofs.theory.Rising.{rising-rises, Member-into_rising}
 use Rattle.basket_sets.proofs.theory.Subsets.{IsSubset, IsSubset-from_Member, Member-from_IsSubset, of_size_sorted}
 use Rattle.mine_apriori.specs.Candidates.{items_in, is_one_of, has_subsets, candidates_of}
 use Rattle.mine_apriori.specs.Join.{share_front, join, joined_with, joined_from}
-use Rattle.basket_sets.specs.Itemset.{without}
 use Rattle.mine_apriori.proofs.JoinLemmas.{ends_of, parted, length_front, without_second, without_first, shares, joins, shared, less_last, last_less, less_longer, between, rises_behind, rising_ends}
 use Rattle.mine_apriori.proofs.PruneLemmas.{Member-from_is_one_of, Member-without}
 use Rattle.basket_sets.proofs.theory.Without.{each_passes}

@@ -3,12 +3,11 @@ use Rattle.std.proofs.Common.{◌≡◌, ℕ, ◌+◌, ◌-◌, ◌*◌, ◌%◌
 use Rattle.std.proofs.Math.Bool.{or-true}
 use Rattle.std.proofs.lemmas.Bool.{cases_Bool, cases_eq, true≢false}
 use Rattle.std.proofs.lemmas.List.{get_or-take, get_or_append_left, length-append, length-take}
-use Rattle.basket_sets.specs.Itemset.{has}
+use Rattle.basket_sets.specs.Itemset.{has, without}
 use Rattle.basket_sets.proofs.theory.Members.{Member}
 use Rattle.basket_sets.proofs.theory.Rising.{has-from_Member}
 use Rattle.mine_apriori.specs.Candidates.{is_one_of, has_subsets}
 use Rattle.mine_apriori.specs.Endings.{AreEndings, ending_of}
-use Rattle.basket_sets.specs.Itemset.{without}
 use Rattle.mine_apriori.specs.Used.{may_be_used}
 use Rattle.mine_apriori.proofs.JoinLemmas.{item_behind}
 use Rattle.mine_apriori.proofs.PruneLemmas.{Member-from_is_one_of, lacks_one}

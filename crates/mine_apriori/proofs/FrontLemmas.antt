@@ -6,12 +6,11 @@ use Rattle.std.specs.Cmp.Lexicographic.{slice_cmp}
 use Rattle.std.proofs.lemmas.List.{get_or_default, drop_more, drop_all}
 use Rattle.std.proofs.lemmas.Bool.{cases_lt}
 use Rattle.std.proofs.lemmas.Map.Keys.{Less-from_sorted}
-use Rattle.basket_sets.specs.Itemset.{IsRising}
+use Rattle.basket_sets.specs.Itemset.{IsRising, without}
 use Rattle.basket_sets.specs.Order.{report_order, IsInReportOrder}
 use Rattle.basket_sets.proofs.theory.Members.{Member-from_Contains, Contains-from_Member, sorted_along}
 use Rattle.mine_apriori.specs.Candidates.{is_one_of, has_subsets, candidates_of}
 use Rattle.mine_apriori.specs.Join.{AreJoinable, IsJoin, share_front, join, joined_with, joined_from}
-use Rattle.basket_sets.specs.Itemset.{without}
 use Rattle.mine_apriori.specs.Sizes.{AreOfSize}
 use Rattle.mine_apriori.proofs.JoinLemmas.{parted, length_front, same_order, shared, without_second, without_first}
 use Rattle.mine_apriori.proofs.PruneLemmas.{is_one_of-from_Member}

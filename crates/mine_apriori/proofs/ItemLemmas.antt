@@ -19,7 +19,7 @@ use Rattle.basket_sets.specs.declared.weighted.Weighted.{Weighted}
 use Rattle.basket_sets.specs.declared.minimum.Minimum.{Minimum}
 use Rattle.basket_sets.specs.Counts.{AllBelow}
 use Rattle.basket_sets.specs.Frequent.{counted, frequent_of, is_frequent}
-use Rattle.basket_sets.specs.Itemset.{IsRising, with_item}
+use Rattle.basket_sets.specs.Itemset.{IsRising, with_item, without}
 use Rattle.basket_sets.specs.Order.{report_order, report_order_ties, report_order_total}
 use Rattle.basket_sets.specs.Subsets.{subsets_of, subsets_of_size}
 use Rattle.basket_sets.specs.Support.{all_items, items_of}
@@ -28,7 +28,6 @@ use Rattle.basket_sets.proofs.theory.Members.{Member, All-from_Member, at_Member
 use Rattle.basket_sets.proofs.theory.Rising.{first_below, has-from_Member, Member-from_has, rest_rises, rising-rises, same_test}
 use Rattle.basket_sets.proofs.theory.Subsets.{IsSubset-from_Member, Member-from_IsSubset, Member-subsets, subset_from_Member, subsets_sorted}
 use Rattle.basket_sets.proofs.theory.Support.{frequent_items}
-use Rattle.basket_sets.specs.Itemset.{without}
 use Rattle.mine_apriori.specs.Work.{all_candidates, candidate_count, is_candidate, CandidatesBySets}
 use Rattle.mine_apriori.proofs.LawLemmas.{item_is_left}
 use Rattle.mine_apriori.proofs.PruneLemmas.{Member-without}

@@ -7,12 +7,11 @@ use Rattle.std.specs.Cmp.{nat_cmp_total}
 use Rattle.std.specs.Cmp.Lexicographic.{slice_cmp, bytes_decides}
 use Rattle.std.proofs.lemmas.Bool.Decides.{nat_tests}
 use Rattle.std.proofs.lemmas.Cmp.{tied_itself}
-use Rattle.basket_sets.specs.Itemset.{IsRising}
+use Rattle.basket_sets.specs.Itemset.{IsRising, without}
 use Rattle.basket_sets.specs.Order.{report_order}
 use Rattle.basket_sets.proofs.theory.Members.{Member, Member-append}
 use Rattle.basket_sets.proofs.theory.Rising.{Less-from_lt, lt-from_Less, nil_rises, cons_rises, first_below, rest_rises}
 use Rattle.mine_apriori.specs.Join.{share_front, join}
-use Rattle.basket_sets.specs.Itemset.{without}
 
 -- ---- parts of a set
 

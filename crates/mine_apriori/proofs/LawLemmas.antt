@@ -5,14 +5,13 @@ use Rattle.std.specs.Ordering.{nat_cmp}
 use Rattle.std.specs.Cmp.Lexicographic.{slice_cmp}
 use Rattle.std.proofs.lemmas.List.{get_or_default}
 use Rattle.std.proofs.lemmas.List.Kept.{IsStrictlySortedBy-filter}
-use Rattle.basket_sets.specs.Itemset.{IsRising}
+use Rattle.basket_sets.specs.Itemset.{IsRising, without}
 use Rattle.basket_sets.specs.Order.{report_order}
 use Rattle.basket_sets.specs.Subsets.{subsets_of_size}
 use Rattle.basket_sets.proofs.theory.Members.{Member, Member-append, Member-append_right, Member-filter, Member-from_filter, sorted_along, Member-from_Contains, Contains-from_Member}
 use Rattle.basket_sets.proofs.theory.Rising.{rising-rises, has_each, contains_each}
 use Rattle.basket_sets.proofs.theory.Subsets.{IsSubset, IsSubset-from_Member, Member-from_IsSubset, of_size_sorted, same_length}
 use Rattle.mine_apriori.specs.Candidates.{items_in, is_one_of, has_subsets, candidates_of, IsCandidate, CandidatesAreExact, CandidatesAreInReportOrder, CandidatesAreOneLarger}
-use Rattle.basket_sets.specs.Itemset.{without}
 use Rattle.mine_apriori.specs.Sizes.{AreOfSize}
 use Rattle.mine_apriori.proofs.JoinLemmas.{ends_of, without_second, without_first}
 use Rattle.mine_apriori.proofs.PruneLemmas.{Member-from_is_one_of, is_one_of-from_Member, Member-without}

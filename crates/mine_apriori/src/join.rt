@@ -1,11 +1,10 @@
 //! Apriori's candidates, made by join and prune.
 ghost use Rattle.std.specs.Prelude.{◌≡◌, ◌<◌, ◌≤◌, ◌+◌, ◌-◌, ◌++◌, ◌∷◌, [], IfOk, OnOk, drop, length, slice_index_or};
-ghost use Rattle.basket_sets.specs.Itemset.{IsRising};
+ghost use Rattle.basket_sets.specs.Itemset.{IsRising, without};
 ghost use Rattle.basket_sets.specs.Order.{IsInReportOrder};
 ghost use Rattle.mine_apriori.specs.Candidates.{is_one_of, has_subsets, candidates_of};
 ghost use Rattle.mine_apriori.specs.Endings.{AreEndings};
 ghost use Rattle.mine_apriori.specs.Join.{AreJoinable, IsJoin, joined_with};
-ghost use Rattle.basket_sets.specs.Itemset.{without};
 ghost use Rattle.mine_apriori.specs.Sizes.{AreOfOneSize};
 
 use crate::endings::{ending_with, endings};

@@ -9,7 +9,7 @@ use Rattle.std.proofs.lemmas.Bool.{cases_eq, cases_lt, eqb-true, le-ltb, lt-ltb}
 use Rattle.std.proofs.lemmas.Nat.{div_below, mod-pow-add, or_mod, or_shr, shr_le}
 use Rattle.std.proofs.lemmas.Grind.{div_ceil_times}
 use Rattle.mine_vertical.specs.Weights.{KeepsWeights}
-use Rattle.mine_vertical.specs.Bits.{MOST_WORDS}
+use Rattle.mine_vertical.specs.Bits.{MOST_WORDS, shared_bits, word_count, words_from, words_of}
 use Rattle.std.proofs.lemmas.List.Elements.{All-from_recursion, All-head, All-tail, All-weaker}
 use Rattle.std.proofs.lemmas.List.Sums.{get_or-le-sum_by, sum_by-append, sum_by-cons}
 use Rattle.basket_sets.specs.Itemset.{IsRising, has}
@@ -17,7 +17,6 @@ use Rattle.basket_sets.specs.Database.{MOST_WEIGHT}
 use Rattle.basket_sets.proofs.theory.Members.{Member, Member-filter, Member-from_filter}
 use Rattle.basket_sets.proofs.theory.Rising.{Member-from_has, has-from_Member, same_rising, same_test}
 use Rattle.mine_vertical.specs.declared.planes.Plane.{Plane}
-use Rattle.mine_vertical.specs.Bits.{shared_bits, word_count, words_from, words_of}
 use Rattle.mine_vertical.specs.Cover.{IsCover, common, cover_weight}
 use Rattle.mine_vertical.specs.Planes.{IsPlane, are_ones, bits_of, has_bit, plane_weight}
 use Rattle.mine_vertical.proofs.CoverLemmas.{cover_light, filter_rises, range_more}

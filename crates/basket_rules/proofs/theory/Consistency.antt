@@ -8,7 +8,7 @@ use Rattle.basket_sets.specs.declared.weighted.Weighted.{Weighted}
 use Rattle.basket_sets.specs.declared.counted.Counted.{Counted}
 use Rattle.basket_sets.specs.declared.minimum.Minimum.{Minimum}
 use Rattle.basket_sets.specs.Frequent.{is_frequent, counted, frequent_of, IsNonemptySet}
-use Rattle.basket_sets.specs.Itemset.{has, contains}
+use Rattle.basket_sets.specs.Itemset.{has, contains, without}
 use Rattle.basket_sets.specs.Order.{report_order_total}
 use Rattle.basket_sets.specs.Support.{support_of, total_of}
 use Rattle.basket_sets.proofs.theory.Frequent.{IsSound, lists_frequent}
@@ -18,7 +18,6 @@ use Rattle.basket_sets.proofs.theory.Support.{support_falls, subsets_are_frequen
 use Rattle.basket_rules.specs.Consistency.{count_in, HasSubsets, IsConsistent, FrequentIsConsistent}
 use Rattle.basket_rules.specs.Listed.{IsSorted, sets_in, set_at, count_at}
 use Rattle.basket_rules.specs.Search.{IsMissing}
-use Rattle.basket_sets.specs.Itemset.{without}
 use Rattle.basket_rules.proofs.SubsetLemmas.{contains_without, item_more, without-rises, length-without, Member-into_without}
 use Rattle.basket_rules.proofs.SearchLemmas.{none, set_is, count_is, stands_once}
 
