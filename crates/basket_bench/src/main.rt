@@ -102,7 +102,13 @@ fn print_stages<R: Threads + Sync>(
     print_stage(rt, "runs", workers, stage)?;
     for (name, miner) in MINERS {
         let stage = times(rt, runs, || {
-            mine(threads, rt.alloc(), database, &plan.with_miner(miner), &Open)?;
+            mine(
+                threads,
+                rt.alloc(),
+                database,
+                &plan.with_miner(miner),
+                &Open,
+            )?;
             Ok(())
         })?;
         print_stage(rt, name, workers, stage)?;

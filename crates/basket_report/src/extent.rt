@@ -13,6 +13,7 @@ const COUNT_ROOM: usize = 10;
 /// How many bytes a strip has room for: at least so many that the line of a set of `LONGEST` items finds
 /// room in it, and at most so many that threads live long beside what it takes to start them.
 const LEAST_STRIP: usize = 65_536;
+
 const MOST_STRIP: usize = 2_097_152;
 
 #[derive(Clone, Copy)]

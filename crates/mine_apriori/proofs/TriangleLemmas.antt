@@ -92,7 +92,6 @@ WithFirst ranks weight old place now = (greater lesser : ℕ) → lesser < great
     → get_or now (place_of greater lesser) 0 ≡ get_or old (place_of greater lesser) 0 + cond (has (take place ranks) greater && has ranks lesser) weight 0
 
 module _ (ranks : List ℕ) (weight : ℕ) (old : List ℕ) (up : IsRising ranks) where
-
   module _ (place : ℕ) (now : List ℕ) (same : length now ≡ length old) (first : WithFirst ranks weight old place now) (here : place < length ranks)
       (within : place_of (get_or ranks place 0) (get_or ranks place 0) ≤ length old) where
     abbrev rank : ℕ
