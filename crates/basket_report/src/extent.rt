@@ -10,10 +10,10 @@ const MOST_TEXTS: usize = 65_536;
 /// Room for what a line has beside its items: two parentheses, a space, a line feed and most counts.
 const COUNT_ROOM: usize = 10;
 
-/// How many bytes a strip has room for: at least so many that the line of a set of `LONGEST` items finds
-/// room in it, and at most so many that threads live long beside what it takes to start them.
+/// A strip has room for so many bytes at least, which take the line of a set of `LONGEST` items.
 const LEAST_STRIP: usize = 65_536;
 
+/// And for so many at most, so that threads live long beside what it takes to start them.
 const MOST_STRIP: usize = 2_097_152;
 
 #[derive(Clone, Copy)]
