@@ -8,58 +8,18 @@ use Rattle.std.proofs.lemmas.List.Elements.{recursion_from_All}
 use Rattle.std.proofs.lemmas.Nat.Bits.{bit_at-pow_other, bit_at-pow_same, bit_at-zero}
 use Rattle.basket_ranks.specs.Codes.{coded_place, rank_of}
 use Rattle.basket_sets.specs.declared.weighted.Weighted.{Weighted}
-use Rattle.basket_sets.specs.Counts.{AllBelow}
 use Rattle.basket_sets.specs.Database.{weighted}
 use Rattle.basket_sets.specs.Itemset.{IsRising, has}
 use Rattle.basket_sets.proofs.theory.Members.{Member, Member-filter, Member-from_filter}
-use Rattle.basket_sets.proofs.theory.Rising.{Member-from_has, has-from_Member, same_rising}
-use Rattle.mine_classes.specs.declared.words.TheConstants.{WORD_RANKS}
-use Rattle.mine_classes.specs.ListBaskets.{IsRankBasket}
-use Rattle.mine_classes.specs.Words.{AreBits, has_rank, option_bit, place_bit, rank_bits, ranks_in, table_bits, table_word, word_places}
-use Rattle.mine_classes.proofs.PairLemmas.{apart_eqb, has_more, or_false, or_true}
+use Rattle.basket_sets.proofs.theory.Rising.{has-from_Member, same_rising}
+use Rattle.mine_baskets.specs.declared.words.TheConstants.{WORD_RANKS}
+use Rattle.mine_baskets.specs.ListBaskets.{IsRankBasket}
+use Rattle.mine_baskets.specs.Words.{has_rank, ranks_in, word_places}
+use Rattle.mine_classes.specs.BitTable.{AreBits, option_bit, place_bit, table_bits, table_word}
+use Rattle.mine_classes.proofs.PairLemmas.{has_more}
 use Rattle.mine_classes.proofs.PlaceLemmas.{all_coded, from_places, into_places, placed, places_in, places_rise, rank_at, rank_from_none, stands}
-use Rattle.mine_classes.proofs.theory.Bits.{has_either, one_rank}
-use Rattle.mine_classes.proofs.theory.Kept.{Member-into_range, Member-range, filtered_range_rises}
-
--- ---- the bits of ranks
-
-or_assoc : (a b c : Bool) → ((a || b) || c) ≡ (a || (b || c))
-or_assoc true b c = refl
-or_assoc false b c = refl
-
-bits_have : (basket : List ℕ) (bits rank : ℕ) → AllBelow WORD_RANKS basket → rank < WORD_RANKS → has_rank (fold (λ bits rank. bit_or bits (2 ^ (63 - rank))) bits basket) rank ≡ (has_rank bits rank || has basket rank)
-bits_have [] bits rank below within = sym (or_false (has_rank bits rank))
-bits_have (first ∷ basket) bits rank below within =
-    let low = below first (has-from_Member (first ∷ basket) first (inl refl)) in
-    let rest : AllBelow WORD_RANKS basket = λ other h. below other (has-from_Member (first ∷ basket) other (inr (Member-from_has basket other h))) in
-    bits_have basket (bit_or bits (2 ^ (63 - first))) rank rest within
-    ∙ ap (λ b. b || has basket rank) (has_either bits (2 ^ (63 - first)) rank ∙ ap (λ b. has_rank bits rank || b) (one_rank first rank low within))
-    ∙ or_assoc (has_rank bits rank) (eqb first rank) (has basket rank)
-
--- they are the bits of these ranks
-pub rank_bits_are : (count : ℕ) (basket : List ℕ) → count ≤ WORD_RANKS → IsRising basket → AllBelow count basket → ranks_in count (rank_bits basket) ≡ basket
-rank_bits_are count basket few rises below = same_rising (ranks_in count bits) basket (filtered_range_rises (has_rank bits) 0 count) rises into back
-  where
-    bits : ℕ
-    bits = rank_bits basket
-
-    have : (rank : ℕ) → rank < count → has_rank bits rank ≡ has basket rank
-    have rank here =
-        bits_have basket 0 rank (λ other h. let b = below other h in omega arith) (omega arith)
-        ∙ ap (λ b. b || has basket rank) (ap (λ n. eqb n 1) (bit_at-zero (63 - rank)))
-
-    into : (rank : ℕ) → Member rank (ranks_in count bits) → Member rank basket
-    into rank m =
-        let p = Member-filter (has_rank bits) rank (range_with_len 0 count) m in
-        let r = Member-range 0 count rank p.0 in
-        let high = r.1 in
-        Member-from_has basket rank (sym (have rank (omega arith)) ∙ p.1)
-
-    back : (rank : ℕ) → Member rank basket → Member rank (ranks_in count bits)
-    back rank m =
-        let h = has-from_Member basket rank m in
-        let here = below rank h in
-        Member-from_filter (has_rank bits) rank (range_with_len 0 count) (Member-into_range 0 count rank (omega arith) (omega arith)) (have rank here ∙ h)
+use Rattle.mine_baskets.proofs.theory.Bits.{apart_eqb, has_either, or_false, or_true}
+use Rattle.mine_baskets.proofs.theory.Ranges.{Member-into_range, Member-range, filtered_range_rises}
 
 -- ---- the bit of a place
 

@@ -11,6 +11,7 @@ use Rattle.basket_sets.proofs.theory.Members.{Member, Member-filter, Member-from
 use Rattle.basket_sets.proofs.theory.Rising.{has_each, contains_each}
 use Rattle.basket_sets.proofs.theory.Support.{support-append, support-cons}
 use Rattle.mine_classes.specs.Conditional.{is_kept, kept_place, ConditionalSupports}
+use Rattle.mine_baskets.proofs.theory.Weights.{cond_sum}
 
 -- ---- tests
 
@@ -35,10 +36,6 @@ both false b weight = refl
 same_cond : (a : Bool) (n : ℕ) → cond a n n ≡ n
 same_cond true n = refl
 same_cond false n = refl
-
-pub cond_sum : (a : Bool) (m n : ℕ) → cond a m 0 + cond a n 0 ≡ cond a (m + n) 0
-cond_sum true m n = refl
-cond_sum false m n = refl
 
 and_last : (a b : Bool) → (a && (b && true)) ≡ (a && b)
 and_last true true = refl

@@ -3,7 +3,7 @@ use Rattle.std.proofs.Common.{◌≡◌, ℕ, ◌+◌, ◌<◌, Bool, true, fals
 use Rattle.std.specs.Prelude.{replicate}
 use Rattle.std.specs.List.{filter}
 use mir.Val.{bool_byte}
-use Rattle.std.proofs.lemmas.Bool.{cases_Bool, cases_eq, cases_lt, eqb-true, eq-eqb, ltb-true, true≢false}
+use Rattle.std.proofs.lemmas.Bool.{cases_Bool, cases_eq, cases_lt, eq-eqb, ltb-true, true≢false}
 use Rattle.std.proofs.lemmas.List.{ext_get_or, get_or-replicate, get_or-set_same, get_or-set_other, length-replicate, length-set, take-set, take_more_set}
 use Rattle.std.proofs.lemmas.List.Folds.{list_any_more}
 use Rattle.basket_sets.specs.Counts.{AllBelow}
@@ -12,6 +12,7 @@ use Rattle.basket_sets.proofs.theory.Members.{Member, Member-append, Member-appe
 use Rattle.basket_sets.proofs.theory.Rising.{Member-from_has, has-from_Member, Member-rising}
 use Rattle.mine_classes.specs.Pairs.{AreSums, WithBasket}
 use Rattle.mine_classes.proofs.RunStepLemmas.{front_is}
+use Rattle.mine_baskets.proofs.theory.Bits.{apart_eqb, or_false, or_true}
 
 -- ---- a basket's ranks, one after another
 
@@ -26,17 +27,6 @@ not_before basket i up here = elim (cases_Bool (has (take i basket) (get_or bask
 
 pub has_more : (basket : List ℕ) (i rank : ℕ) → i < length basket → has (take (i + 1) basket) rank ≡ (has (take i basket) rank || eqb (get_or basket i 0) rank)
 has_more basket i rank here = list_any_more (λ other. eqb other rank) basket i 0 here
-
-pub or_true : (b : Bool) → (b || true) ≡ true
-or_true true = refl
-or_true false = refl
-
-pub or_false : (b : Bool) → (b || false) ≡ b
-or_false true = refl
-or_false false = refl
-
-pub apart_eqb : (x y : ℕ) → (x ≡ y → ⊥) → eqb x y ≡ false
-apart_eqb x y differ = elim (cases_Bool (eqb x y)) [ inl e ↦ absurd (differ (eqb-true x y e)) | inr e ↦ e ]
 
 pub with_more : (basket : List ℕ) (i weight : ℕ) (old now : List ℕ) → IsRising basket → i < length basket → get_or basket i 0 < length now → length now ≡ length old → WithBasket (take i basket) weight old now
     → WithBasket (take (i + 1) basket) weight old (set now (get_or basket i 0) (get_or now (get_or basket i 0) 0 + weight))

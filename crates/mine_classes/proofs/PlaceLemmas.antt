@@ -14,13 +14,13 @@ use Rattle.basket_sets.specs.Database.{MOST_WEIGHT, weighted}
 use Rattle.basket_sets.specs.Itemset.{IsRising, has}
 use Rattle.basket_sets.proofs.theory.Members.{Member, Contains-from_Member}
 use Rattle.basket_sets.proofs.theory.Rising.{Member-from_has, has-from_Member, cons_rises, first_below, nil_rises, rest_rises, same_rising}
-use Rattle.mine_classes.specs.declared.span.Span.{Span}
-use Rattle.mine_classes.specs.ListBaskets.{AreRankBaskets, IsRankBasket}
+use Rattle.mine_baskets.specs.declared.span.Span.{Span}
+use Rattle.mine_baskets.specs.ListBaskets.{AreRankBaskets, IsRankBasket}
 use Rattle.mine_classes.specs.Places.{ArePlaces, by_table, table_places}
-use Rattle.mine_classes.specs.Span.{IsWithin, basket_at, baskets_at}
-use Rattle.mine_classes.proofs.MergedLemmas.{pushed_basket}
+use Rattle.mine_baskets.specs.Span.{IsWithin, basket_at, baskets_at}
 use Rattle.mine_classes.proofs.PairLemmas.{has_more}
-use Rattle.mine_classes.proofs.RunLemmas.{Member-at, rising_at}
+use Rattle.mine_classes.proofs.RunLemmas.{rising_at}
+use Rattle.mine_baskets.proofs.theory.Neighbours.{pushed_basket, Member-at}
 
 pub place_le : (xs : List ℕ) (k : ℕ) → IsRising xs → k < length xs → k ≤ get_or xs k 0
 place_le xs zero up here = omega arith
@@ -226,13 +226,6 @@ coded_rank_baskets kept count baskets are = record {
     each (place ∷ places) all = let is = coded_place_is kept place in (record { rises = is.0; below = is.1; weighs = all.0.weighs }, each places all.1)
 
 -- ---- the loops over baskets
-
-pub within_push : (n m : ℕ) (spans : List Span) (span : Span) → n ≤ m → All (IsWithin n) spans → IsWithin m span → All (IsWithin m) (spans ++ span ∷ [])
-within_push n m spans span le all one = All-from_recursion (IsWithin m) (spans ++ span ∷ []) (go spans (recursion_from_All (IsWithin n) spans all))
-  where
-    go : (xs : List Span) → AllByRecursion (IsWithin n) xs → AllByRecursion (IsWithin m) (xs ++ span ∷ [])
-    go [] each = (one, tt)
-    go (x ∷ xs) each = (record { ordered = each.0.ordered; within = (let inside = each.0.within in omega arith) }, go xs each.1)
 
 pub placed_more : (ranks locals : List ℕ) (of : List (Option ℕ)) (baskets spans : List Span) (i : ℕ) (d span : Span) → i < length baskets → All (IsWithin (length locals)) spans
     → (more : List ℕ) → more ≡ table_places of (basket_at ranks (get_or baskets i d)).basket → span.start ≡ length locals → span.end ≡ length locals + length more → span.weight ≡ (get_or baskets i d).weight

@@ -1,17 +1,17 @@
 -- Runs of ranks.
-use Rattle.std.proofs.Common.{◌≡◌, ℕ, ◌+◌, ◌-◌, ◌<◌, Bool, true, false, List, [], ◌∷◌, ◌++◌, length, drop, get_or, set, take, cond, ltb, refl, sym, ap, ◌∙◌, subst, inl, inr, arith, zero, suc}
+use Rattle.std.proofs.Common.{◌≡◌, ℕ, ◌+◌, ◌-◌, ◌<◌, Bool, true, false, List, [], ◌∷◌, ◌++◌, length, drop, get_or, set, take, cond, ltb, sym, ap, ◌∙◌, subst, inl, inr, arith, zero, suc}
 use Rattle.std.proofs.lemmas.Bool.{cases_lt}
 use Rattle.std.specs.declared.alloc.Global.{Global}
 use Rattle.std.specs.declared.vec.Vec.{Vec}
 use Rattle.std.specs.List.{slice_range}
-use Rattle.mine_classes.specs.Span.{IsWithin}
+use Rattle.mine_baskets.specs.Span.{IsWithin}
 use Rattle.std.proofs.lemmas.List.{append-nil, drop_all, length-drop, length-take, get_or-map, get_or-set_same, get_or-set_other, length-map, length-set, map-set, take_all}
-use Rattle.basket_sets.specs.Counts.{AllBelow}
 use Rattle.basket_sets.specs.Itemset.{IsRising}
-use Rattle.basket_sets.proofs.theory.Members.{Member}
-use Rattle.basket_sets.proofs.theory.Rising.{first_below, has-from_Member, rest_rises}
-use Rattle.mine_classes.specs.declared.span.Span.{Span}
-use Rattle.mine_classes.specs.Runs.{HaveRuns, lists_in, run_at, with_last_heavier, with_run}
+use Rattle.basket_sets.proofs.theory.Rising.{first_below, rest_rises}
+use Rattle.mine_baskets.specs.declared.span.Span.{Span}
+use Rattle.mine_classes.specs.Runs.{HaveRuns, lists_in, with_last_heavier, with_run}
+use Rattle.mine_baskets.specs.Span.{span_front}
+use Rattle.mine_baskets.proofs.theory.Neighbours.{Member-at}
 
 pub heavier_is : (runs : List Span) (i : ℕ) (last : Span) (weight : ℕ) → i + 1 ≡ length runs → last ≡ get_or runs i last
     → set runs i (record { start = last.start; end = last.end; weight = last.weight + weight }) ≡ with_last_heavier weight runs
@@ -34,19 +34,11 @@ written len was now long as_long =
 
 -- ---- members of a rising list
 
-pub Member-at : (xs : List ℕ) (k : ℕ) → k < length xs → Member (get_or xs k 0) xs
-Member-at [] k below = absurd (omega arith)
-Member-at (x ∷ xs) zero below = inl refl
-Member-at (x ∷ xs) (suc k) below = inr (Member-at xs k (omega arith))
-
 pub rising_at : (xs : List ℕ) (j k : ℕ) → IsRising xs → j < k → k < length xs → get_or xs j 0 < get_or xs k 0
 rising_at [] j k up less below = absurd (omega arith)
 rising_at (x ∷ xs) j zero up less below = absurd (omega arith)
 rising_at (x ∷ xs) zero (suc k) up less below = first_below x xs up (get_or xs k 0) (Member-at xs k (omega arith))
 rising_at (x ∷ xs) (suc j) (suc k) up less below = rising_at xs j k (rest_rises x xs up) (omega arith) (omega arith)
-
-pub all_below_at : (n : ℕ) (xs : List ℕ) (k : ℕ) → AllBelow n xs → k < length xs → get_or xs k 0 < n
-all_below_at n xs k below here = below (get_or xs k 0) (has-from_Member xs (get_or xs k 0) (Member-at xs k here))
 
 -- ---- lists of runs
 
@@ -67,19 +59,19 @@ module _ (path : List ℕ) (basket : Span) (shared : ℕ) (old : List (List Span
   untouched depth now have below = have.off (get_or path depth 0) (λ k less same. let rises = rising_at path k depth up less below in omega arith)
 
   pub have_more : (depth : ℕ) (now : List (List Span)) → HaveRuns path basket shared depth old now → depth < length path → get_or path depth 0 < length now
-      → HaveRuns path basket shared (depth + 1) old (set now (get_or path depth 0) (with_run (ltb depth shared) (run_at basket depth) (get_or now (get_or path depth 0) [])))
+      → HaveRuns path basket shared (depth + 1) old (set now (get_or path depth 0) (with_run (ltb depth shared) (span_front basket depth) (get_or now (get_or path depth 0) [])))
   have_more depth now have below here = record {
-    long = length-set now (get_or path depth 0) (with_run (ltb depth shared) (run_at basket depth) (get_or now (get_or path depth 0) [])) ∙ have.long;
+    long = length-set now (get_or path depth 0) (with_run (ltb depth shared) (span_front basket depth) (get_or now (get_or path depth 0) [])) ∙ have.long;
     on = λ k less. elim (cases_lt k depth) [
       | inl before ↦ (let rises = rising_at path k depth up before below in
-          get_or-set_other now (get_or path depth 0) (get_or path k 0) (with_run (ltb depth shared) (run_at basket depth) (get_or now (get_or path depth 0) [])) [] (λ same. absurd (omega arith)) ∙ have.on k before)
+          get_or-set_other now (get_or path depth 0) (get_or path k 0) (with_run (ltb depth shared) (span_front basket depth) (get_or now (get_or path depth 0) [])) [] (λ same. absurd (omega arith)) ∙ have.on k before)
       | inr at ↦ (let is : depth ≡ k = omega arith in
-          subst (λ j. get_or (set now (get_or path depth 0) (with_run (ltb depth shared) (run_at basket depth) (get_or now (get_or path depth 0) []))) (get_or path j 0) []
-          ≡ with_run (ltb j shared) (run_at basket j) (get_or old (get_or path j 0) [])) is
-          (get_or-set_same now (get_or path depth 0) (with_run (ltb depth shared) (run_at basket depth) (get_or now (get_or path depth 0) [])) [] here
-          ∙ ap (with_run (ltb depth shared) (run_at basket depth)) (untouched depth now have below)))
+          subst (λ j. get_or (set now (get_or path depth 0) (with_run (ltb depth shared) (span_front basket depth) (get_or now (get_or path depth 0) []))) (get_or path j 0) []
+          ≡ with_run (ltb j shared) (span_front basket j) (get_or old (get_or path j 0) [])) is
+          (get_or-set_same now (get_or path depth 0) (with_run (ltb depth shared) (span_front basket depth) (get_or now (get_or path depth 0) [])) [] here
+          ∙ ap (with_run (ltb depth shared) (span_front basket depth)) (untouched depth now have below)))
     ];
-    off = λ rank other. get_or-set_other now (get_or path depth 0) rank (with_run (ltb depth shared) (run_at basket depth) (get_or now (get_or path depth 0) [])) []
+    off = λ rank other. get_or-set_other now (get_or path depth 0) rank (with_run (ltb depth shared) (span_front basket depth) (get_or now (get_or path depth 0) [])) []
         (λ same. other depth (omega arith) (sym same)) ∙ have.off rank (λ k less. other k (omega arith));
   }
 

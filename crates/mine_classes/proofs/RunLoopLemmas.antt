@@ -14,13 +14,15 @@ use Rattle.basket_sets.specs.Support.{total_of, weight_at}
 use Rattle.basket_sets.proofs.theory.Members.{Member-filter, Contains-from_Member}
 use Rattle.basket_sets.proofs.theory.Rising.{Member-from_has, has-from_Member}
 use Rattle.basket_sets.proofs.theory.Support.{support_falls}
-use Rattle.mine_classes.specs.declared.span.Span.{Span}
-use Rattle.mine_classes.specs.ListBaskets.{IsRankBasket, repeats_last}
-use Rattle.mine_classes.specs.Runs.{AreRunsOf, HaveRuns, run_at, with_run}
-use Rattle.mine_classes.specs.Span.{IsWithin, basket_at, baskets_at}
+use Rattle.mine_baskets.specs.declared.span.Span.{Span}
+use Rattle.mine_baskets.specs.ListBaskets.{IsRankBasket, repeats_last}
+use Rattle.mine_classes.specs.Runs.{AreRunsOf, HaveRuns, with_run}
+use Rattle.mine_baskets.specs.Span.{span_front}
+use Rattle.mine_baskets.specs.Span.{IsWithin, basket_at, baskets_at}
 use Rattle.mine_classes.proofs.ConditionalLemmas.{kept_support}
-use Rattle.mine_classes.proofs.RunLemmas.{Member-at, length-range}
+use Rattle.mine_classes.proofs.RunLemmas.{length-range}
 use Rattle.mine_classes.proofs.RunStepLemmas.{below_without, front_is, front_range, heavier_are, heavier_baskets, pushed_are, pushed_repeats, raised_repeats}
+use Rattle.mine_baskets.proofs.theory.Neighbours.{Member-at}
 
 -- ---- one basket more
 
@@ -31,10 +33,10 @@ module _ (ranks : List ℕ) (count : ℕ) (basket : Span) (inside : IsWithin (le
   ends : (k : ℕ) → k < length path → basket.start + k ≤ basket.end
   ends k here = omega (arith, here, length-range ranks basket inside)
 
-  run_is : (k : ℕ) → k < length path → basket_at ranks (run_at basket k) ≡ weighted (filter (λ other. ltb other (get_or path k 0)) path) basket.weight
+  run_is : (k : ℕ) → k < length path → basket_at ranks (span_front basket k) ≡ weighted (filter (λ other. ltb other (get_or path k 0)) path) basket.weight
   run_is k here = ap (λ l. weighted l basket.weight) (front_range ranks basket.start basket.end k (ends k here) ∙ sym (front_is path k is.rises here))
 
-  run_rank : (k : ℕ) → k < length path → IsRankBasket (get_or path k 0) (basket_at ranks (run_at basket k))
+  run_rank : (k : ℕ) → k < length path → IsRankBasket (get_or path k 0) (basket_at ranks (span_front basket k))
   run_rank k here = subst (IsRankBasket (get_or path k 0)) (sym (run_is k here)) (record {
     rises = IsStrictlySortedBy-filter nat_cmp (λ other. ltb other (get_or path k 0)) path is.rises;
     below = λ item h. ltb-true item (get_or path k 0)
@@ -42,7 +44,7 @@ module _ (ranks : List ℕ) (count : ℕ) (basket : Span) (inside : IsWithin (le
     weighs = is.weighs;
   })
 
-  run_inside : (k : ℕ) → k < length path → IsWithin (length ranks) (run_at basket k)
+  run_inside : (k : ℕ) → k < length path → IsWithin (length ranks) (span_front basket k)
   run_inside k here = record {
     ordered = omega arith;
     within = (let end = ends k here in let last = inside.within in omega arith);
@@ -51,16 +53,16 @@ module _ (ranks : List ℕ) (count : ℕ) (basket : Span) (inside : IsWithin (le
   module _ (done : List Weighted) (shared : ℕ) (old new : List (List Span)) (have : HaveRuns path basket shared (length path) old new)
       (are : (rank : ℕ) → rank < count → AreRunsOf ranks done rank (get_or old rank []))
       (again : (k : ℕ) → k < shared → k < length path → repeats_last (baskets_at ranks (get_or old (get_or path k 0) [])) (take k path) ≡ true) where
-    front_at : (k : ℕ) → k < length path → take k path ≡ (basket_at ranks (run_at basket k)).basket
+    front_at : (k : ℕ) → k < length path → take k path ≡ (basket_at ranks (span_front basket k)).basket
     front_at k here = sym (front_range ranks basket.start basket.end k (ends k here))
 
     with_are : (k : ℕ) → k < length path → get_or path k 0 < count → AreRunsOf ranks (done ++ basket_at ranks basket ∷ []) (get_or path k 0) (get_or new (get_or path k 0) [])
     with_are k here below_count = subst (AreRunsOf ranks (done ++ basket_at ranks basket ∷ []) (get_or path k 0)) (sym (have.on k here)) (elim (cases_Bool (ltb k shared)) [
-      | inl e ↦ subst (AreRunsOf ranks (done ++ basket_at ranks basket ∷ []) (get_or path k 0)) (ap (λ b. with_run b (run_at basket k) runs) (sym e))
-          (heavier_are ranks (get_or path k 0) done (basket_at ranks basket) (run_at basket k) runs there (run_rank k here) (run_is k here) (run_inside k here) (are (get_or path k 0) below_count)
+      | inl e ↦ subst (AreRunsOf ranks (done ++ basket_at ranks basket ∷ []) (get_or path k 0)) (ap (λ b. with_run b (span_front basket k) runs) (sym e))
+          (heavier_are ranks (get_or path k 0) done (basket_at ranks basket) (span_front basket k) runs there (run_rank k here) (run_is k here) (run_inside k here) (are (get_or path k 0) below_count)
           (subst (λ l. repeats_last (baskets_at ranks runs) l ≡ true) (front_at k here) (again k (ltb-true k shared e) here)))
-      | inr e ↦ subst (AreRunsOf ranks (done ++ basket_at ranks basket ∷ []) (get_or path k 0)) (ap (λ b. with_run b (run_at basket k) runs) (sym e))
-          (pushed_are ranks (get_or path k 0) done (basket_at ranks basket) (run_at basket k) runs there (run_rank k here) (run_is k here) (run_inside k here) (are (get_or path k 0) below_count))
+      | inr e ↦ subst (AreRunsOf ranks (done ++ basket_at ranks basket ∷ []) (get_or path k 0)) (ap (λ b. with_run b (span_front basket k) runs) (sym e))
+          (pushed_are ranks (get_or path k 0) done (basket_at ranks basket) (span_front basket k) runs there (run_rank k here) (run_is k here) (run_inside k here) (are (get_or path k 0) below_count))
     ])
       where
         runs : List Span
@@ -89,13 +91,13 @@ module _ (ranks : List ℕ) (count : ℕ) (basket : Span) (inside : IsWithin (le
 
     pub next_again : (k : ℕ) → k < length path → repeats_last (baskets_at ranks (get_or new (get_or path k 0) [])) (take k path) ≡ true
     next_again k here = ap (λ l. repeats_last (baskets_at ranks l) (take k path)) (have.on k here) ∙ (elim (cases_Bool (ltb k shared)) [
-      | inl e ↦ ap (λ b. repeats_last (baskets_at ranks (with_run b (run_at basket k) runs)) (take k path)) e
+      | inl e ↦ ap (λ b. repeats_last (baskets_at ranks (with_run b (span_front basket k) runs)) (take k path)) e
           ∙ ap (λ l. repeats_last l (take k path)) (heavier_baskets ranks basket.weight runs)
           ∙ raised_repeats basket.weight (baskets_at ranks runs) (take k path) ∙ again k (ltb-true k shared e) here
-      | inr e ↦ ap (λ b. repeats_last (baskets_at ranks (with_run b (run_at basket k) runs)) (take k path)) e
-          ∙ ap (λ l. repeats_last l (take k path)) (map-append (basket_at ranks) runs (run_at basket k ∷ []))
-          ∙ ap (repeats_last (baskets_at ranks runs ++ basket_at ranks (run_at basket k) ∷ [])) (front_at k here)
-          ∙ pushed_repeats (baskets_at ranks runs) (basket_at ranks (run_at basket k))
+      | inr e ↦ ap (λ b. repeats_last (baskets_at ranks (with_run b (span_front basket k) runs)) (take k path)) e
+          ∙ ap (λ l. repeats_last l (take k path)) (map-append (basket_at ranks) runs (span_front basket k ∷ []))
+          ∙ ap (repeats_last (baskets_at ranks runs ++ basket_at ranks (span_front basket k) ∷ [])) (front_at k here)
+          ∙ pushed_repeats (baskets_at ranks runs) (basket_at ranks (span_front basket k))
     ])
       where
         runs : List Span

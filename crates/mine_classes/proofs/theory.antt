@@ -1,4 +1,2 @@
 -- The theory of conditional databases, which the proofs of every crate may cite.
 pub mod Kept
-pub mod Weights
-pub mod Bits

@@ -11,7 +11,7 @@ use Rattle.basket_sets.specs.Frequent.{IsNonemptySet, ListsOnce, counted, freque
 use Rattle.basket_sets.specs.Minimum.{IsLeastSupport}
 use Rattle.basket_sets.specs.Support.{support_of, total_of}
 use Rattle.mine_classes.specs.Conditional.{conditional, HaveSameSupports}
-use Rattle.mine_classes.specs.ListBaskets.{HaveSameWeights}
+use Rattle.mine_baskets.specs.ListBaskets.{HaveSameWeights}
 
 -- whether the last rank of a set, which is its greatest, is this one
 abbrev pub ends_in : ℕ → List ℕ → Bool

@@ -1,5 +1,5 @@
 -- The baskets of a conditional database, in whichever form they are kept.
-use Rattle.mine_classes.specs.ListBaskets.{RankBaskets}
+use Rattle.mine_baskets.specs.ListBaskets.{RankBaskets}
 use Rattle.mine_classes.specs.declared.form.Form.{Form}
 use Rattle.mine_classes.specs.declared.form.Form.TheVariants.{Lists, Words}
 

@@ -1,13 +1,9 @@
 pub mod Conditional
 pub mod Classes
-pub mod Span
-pub mod ListBaskets
-pub mod Entries
 pub mod Runs
 pub mod Pairs
 pub mod Places
-pub mod Words
+pub mod BitTable
 pub mod Form
-pub mod Covers
 pub mod Worked
 pub mod Mined

@@ -6,7 +6,7 @@ use Rattle.basket_sets.specs.Counts.{AllBelow}
 use Rattle.basket_sets.specs.Itemset.{has}
 use Rattle.basket_sets.specs.Support.{support_of}
 use Rattle.mine_classes.specs.Conditional.{is_kept}
-use Rattle.mine_classes.specs.ListBaskets.{weight_where}
+use Rattle.mine_baskets.specs.ListBaskets.{weight_where}
 
 -- the ranks below a rank that are frequent together with it, by a least support
 abbrev pub kept_ranks : List Weighted → ℕ → ℕ → List ℕ

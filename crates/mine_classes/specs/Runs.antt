@@ -4,11 +4,11 @@ use Rattle.std.specs.List.{flat_map}
 use Rattle.std.specs.declared.vec.Vec.{Vec}
 use Rattle.std.specs.declared.alloc.Global.{Global}
 use Rattle.basket_sets.specs.declared.weighted.Weighted.{Weighted}
-use Rattle.mine_classes.specs.declared.span.Span.{Span}
+use Rattle.mine_baskets.specs.declared.span.Span.{Span}
 use Rattle.mine_classes.specs.Conditional.{kept_place}
-use Rattle.mine_classes.specs.ListBaskets.{HaveSameWeights, IsRankBasket}
+use Rattle.mine_baskets.specs.ListBaskets.{HaveSameWeights, IsRankBasket}
 use Rattle.mine_classes.specs.Pairs.{pairs_of}
-use Rattle.mine_classes.specs.Span.{IsWithin, baskets_at}
+use Rattle.mine_baskets.specs.Span.{IsWithin, baskets_at, span_front}
 
 -- the baskets that have a rank, kept to the ranks below it
 abbrev pub below : ℕ → List Weighted → List Weighted
@@ -24,15 +24,11 @@ with_last_heavier weight (run ∷ next ∷ runs) = run ∷ with_last_heavier wei
 abbrev pub with_run : Bool → Span → List Span → List Span
 with_run same run runs = if same then with_last_heavier run.weight runs else runs ++ run ∷ []
 
--- the run of the rank at a depth of a basket: the ranks before it
-abbrev pub run_at : Span → ℕ → Span
-run_at basket depth = record { start = basket.start; end = basket.start + depth; weight = basket.weight }
-
 -- the ranks of a basket up to a depth have its runs: below a depth that it shares with the basket before, the weight of a run that is there
 pub record HaveRuns (ranks : List ℕ) (basket : Span) (shared depth : ℕ) (old new : List (List Span)) : Type 0 where
   pub long : length new ≡ length old
   pub on : (k : ℕ) → k < depth
-      → slice_index_or new (slice_index ranks k) [] ≡ with_run (nat_lt k shared) (run_at basket k) (slice_index_or old (slice_index ranks k) [])
+      → slice_index_or new (slice_index ranks k) [] ≡ with_run (nat_lt k shared) (span_front basket k) (slice_index_or old (slice_index ranks k) [])
   pub off : (rank : ℕ) → ((k : ℕ) → k < depth → slice_index ranks k ≡ rank → ⊥) → slice_index_or new rank [] ≡ slice_index_or old rank []
 
 -- the lists of runs that vectors have

@@ -4,7 +4,7 @@ ghost use Rattle.basket_ranks.specs.Codes.{IsCoding, baskets_of};
 ghost use Rattle.basket_sets.specs.declared.minimum.Minimum.TheVariants.{Count};
 ghost use Rattle.mine_classes.specs.Conditional.{conditional};
 ghost use Rattle.mine_classes.specs.Form.{form_baskets};
-ghost use Rattle.mine_classes.specs.ListBaskets.{HaveSameWeights};
+ghost use Rattle.mine_baskets.specs.ListBaskets.{HaveSameWeights};
 ghost use Rattle.mine_classes.specs.Pairs.{kept_ranks, pairs_of};
 
 use crate::form::Form;

@@ -1,11 +1,11 @@
 //! The form in which the baskets of a conditional database are kept.
 ghost use Rattle.std.specs.Prelude.{◌≡◌, IfOk};
-ghost use Rattle.mine_classes.specs.Covers.{AreCovers, weights_of};
+ghost use Rattle.mine_baskets.specs.Covers.{AreCovers, weights_of};
 ghost use Rattle.mine_classes.specs.Form.{form_baskets};
-ghost use Rattle.mine_classes.specs.ListBaskets.{AreRankBaskets, HaveSameWeights};
+ghost use Rattle.mine_baskets.specs.ListBaskets.{AreRankBaskets, HaveSameWeights};
 
-use crate::list_baskets::ListBaskets;
-use crate::word_baskets::WordBaskets;
+use mine_baskets::ListBaskets;
+use mine_baskets::WordBaskets;
 use std::alloc::{AllocError, Global};
 
 /// Baskets of ranks: words where there are at most 64 ranks, else lists of ranks.

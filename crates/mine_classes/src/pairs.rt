@@ -3,12 +3,12 @@ ghost use Rattle.std.specs.Prelude.{◌≡◌, ◌≤◌, ◌<◌, ℕ, [], All,
 ghost use Rattle.std.specs.List.{range_with_len};
 ghost use Rattle.basket_sets.specs.Counts.{AllBelow};
 ghost use Rattle.basket_sets.specs.Itemset.{rising};
-ghost use Rattle.mine_classes.specs.ListBaskets.{AreRankBaskets};
+ghost use Rattle.mine_baskets.specs.ListBaskets.{AreRankBaskets};
 ghost use Rattle.mine_classes.specs.Pairs.{AreSums, is_met, ranks_met, weight_with};
-ghost use Rattle.mine_classes.specs.Span.{IsWithin, baskets_at};
+ghost use Rattle.mine_baskets.specs.Span.{IsWithin, baskets_at};
 
 use crate::found::Found;
-use crate::span::{BASKETS_AHEAD, Span, read_ahead};
+use mine_baskets::span::{BASKETS_AHEAD, Span, read_ahead};
 use basket_sets::Itemset;
 use std::alloc::{AllocError, Global};
 use std::marker::Model;

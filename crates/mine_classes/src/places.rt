@@ -4,16 +4,17 @@ ghost use Rattle.basket_ranks.specs.Codes.{coded_place};
 ghost use Rattle.basket_sets.specs.Counts.{AllBelow};
 ghost use Rattle.basket_sets.specs.Itemset.{IsRising};
 ghost use Rattle.mine_classes.specs.Form.{form_baskets};
-ghost use Rattle.mine_classes.specs.ListBaskets.{AreRankBaskets, HaveSameWeights};
+ghost use Rattle.mine_baskets.specs.ListBaskets.{AreRankBaskets, HaveSameWeights};
 ghost use Rattle.mine_classes.specs.Places.{ArePlaces, by_table, table_places};
-ghost use Rattle.mine_classes.specs.Span.{IsWithin, baskets_at};
+ghost use Rattle.mine_baskets.specs.Span.{IsWithin, baskets_at};
 
 use crate::form::Form;
-use crate::list_baskets::ListBaskets;
+use mine_baskets::ListBaskets;
 use crate::room::make_room;
-use crate::span::{BASKETS_AHEAD, Span, place, read_ahead};
-use crate::word_baskets::WordBaskets;
-use crate::words::{WORD_RANKS, clear_bits, set_bits, words_of};
+use mine_baskets::span::{BASKETS_AHEAD, Span, place, read_ahead};
+use mine_baskets::WordBaskets;
+use crate::bit_table::{clear_bits, set_bits, words_of};
+use mine_baskets::words::WORD_RANKS;
 use std::alloc::{AllocError, Global};
 use std::marker::Model;
 

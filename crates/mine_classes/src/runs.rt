@@ -5,15 +5,15 @@ ghost use Rattle.basket_sets.specs.Counts.{AllBelow};
 ghost use Rattle.basket_sets.specs.Database.{MOST_WEIGHT};
 ghost use Rattle.basket_sets.specs.Itemset.{IsRising};
 ghost use Rattle.basket_sets.specs.Support.{support_of};
-ghost use Rattle.mine_classes.specs.declared.span.Span.{Span as Run};
-ghost use Rattle.mine_classes.specs.ListBaskets.{AreRankBaskets};
+ghost use Rattle.mine_baskets.specs.declared.span.Span.{Span as Run};
+ghost use Rattle.mine_baskets.specs.ListBaskets.{AreRankBaskets};
 ghost use Rattle.mine_classes.specs.Pairs.{pairs_of};
 ghost use Rattle.mine_classes.specs.Runs.{ArePairsOf, AreRunsOf, HaveAllRuns, HaveRuns, lists_in, with_run};
-ghost use Rattle.mine_classes.specs.Span.{IsWithin, baskets_at};
+ghost use Rattle.mine_baskets.specs.Span.{IsWithin, baskets_at};
 
-use crate::list_baskets::ListBaskets;
+use mine_baskets::ListBaskets;
 use crate::pairs::Sums;
-use crate::span::Span;
+use mine_baskets::span::Span;
 use std::alloc::{AllocError, Global};
 use std::marker::Model;
 
@@ -34,9 +34,9 @@ pub struct Runs {
 }
 
 impl Model for Runs {
-    ghost use Rattle.mine_classes.specs.ListBaskets.{RankBaskets, AreRankBaskets};
+    ghost use Rattle.mine_baskets.specs.ListBaskets.{RankBaskets, AreRankBaskets};
     ghost use Rattle.mine_classes.specs.Runs.{ArePairsOf, AreRunsOf, HaveAllRuns, lists_in};
-    ghost use Rattle.mine_classes.specs.Span.{baskets_at};
+    ghost use Rattle.mine_baskets.specs.Span.{baskets_at};
 
     ghost Value = { RankBaskets };
 

@@ -19,7 +19,7 @@ use Rattle.basket_sets.proofs.theory.Support.{meets_more, support_falls}
 use Rattle.mine_classes.specs.Classes.{ClassesAreAll, ClassesAreConditional, ListClasses, ListsClass, RanksAreBelow, class_of, ends_in, extended, with_rank}
 use Rattle.mine_classes.specs.Conditional.{ConditionalSupports, conditional, is_kept}
 use Rattle.mine_classes.specs.Mined.{ListsHaveClassSize}
-use Rattle.mine_classes.proofs.theory.Kept.{Member-into_range}
+use Rattle.mine_baskets.proofs.theory.Ranges.{Member-into_range}
 use Rattle.mine_fp.specs.Level.{as_items}
 use Rattle.mine_fp.specs.Trees.{is_branch}
 use Rattle.mine_fp.proofs.ClassLemmas.{listed_long}

@@ -24,7 +24,7 @@ use Rattle.basket_sets.proofs.theory.Rising.{cons_rises, has-from_Member, nil_ri
 use Rattle.mine_classes.specs.Classes.{ClassesAreAll, ClassesAreListed, ClassesByCodings, ListClasses, ListsClass, RanksAreBelow, class_of, ends_in, extended, with_rank}
 use Rattle.mine_classes.specs.declared.tables.Tables.{Tables}
 use Rattle.mine_classes.specs.Mined.{ListsHaveClassSize}
-use Rattle.mine_classes.specs.ListBaskets.{AreRankBaskets, IsRankBasket, RankBaskets}
+use Rattle.mine_baskets.specs.ListBaskets.{AreRankBaskets, IsRankBasket, RankBaskets}
 use Rattle.mine_classes.specs.Pairs.{kept_ranks}
 use Rattle.mine_classes.proofs.theory.Kept.{kept_rises, kept_short}
 use Rattle.mine_fp.specs.declared.level.Level.{Level}

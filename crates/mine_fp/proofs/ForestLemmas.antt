@@ -16,7 +16,7 @@ use Rattle.basket_sets.proofs.theory.Members.{Member-from_Contains, at_Member}
 use Rattle.basket_sets.proofs.theory.Support.{support_falls}
 use Rattle.mine_classes.specs.Classes.{ClassesAreListed, ListsClass, class_of, ends_in}
 use Rattle.mine_classes.specs.Mined.{ListsHaveClassSize, class_size}
-use Rattle.mine_classes.specs.ListBaskets.{RankBaskets}
+use Rattle.mine_baskets.specs.ListBaskets.{RankBaskets}
 use Rattle.mine_fp.specs.Forest.{AreInForest}
 use Rattle.mine_fp.specs.Level.{as_items}
 use Rattle.mine_fp.specs.Trees.{class_trees, has_tree, rank_trees}

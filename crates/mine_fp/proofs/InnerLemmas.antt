@@ -17,9 +17,10 @@ use Rattle.basket_sets.proofs.theory.Members.{Contains-from_Member, Member, Memb
 use Rattle.basket_sets.proofs.theory.Rising.{contains_each, has-from_Member, has_each, same_test}
 use Rattle.basket_sets.proofs.theory.Support.{subsets_are_frequent, support-cons}
 use Rattle.mine_classes.specs.Conditional.{ConditionalSupports, conditional, is_kept}
-use Rattle.mine_classes.specs.ListBaskets.{HaveSameWeights}
+use Rattle.mine_baskets.specs.ListBaskets.{HaveSameWeights}
 use Rattle.mine_classes.specs.Pairs.{kept_ranks}
-use Rattle.mine_classes.proofs.theory.Kept.{Member-into_range, Member-range, kept_below, kept_rises}
+use Rattle.mine_baskets.proofs.theory.Ranges.{Member-into_range, Member-range}
+use Rattle.mine_classes.proofs.theory.Kept.{kept_below, kept_rises}
 use Rattle.mine_fp.specs.Trees.{has_tree, is_branch, is_straight}
 use Rattle.mine_fp.proofs.LevelLemmas.{at_place, less_at}
 use Rattle.mine_fp.proofs.StraightLemmas.{ArePlain, IsFlat, all_of, each_of, flat_from_straight, has_more_too, same_support, straight_from_flat}

@@ -7,7 +7,7 @@ use Rattle.basket_sets.specs.Counts.{AllBelow}
 use Rattle.basket_sets.specs.Support.{support_of}
 use Rattle.basket_sets.proofs.theory.Members.{Member, at_Member}
 use Rattle.mine_classes.specs.Conditional.{ConditionalSupports}
-use Rattle.mine_classes.specs.ListBaskets.{AreRankBaskets, IsRankBasket}
+use Rattle.mine_baskets.specs.ListBaskets.{AreRankBaskets, IsRankBasket}
 use Rattle.mine_classes.specs.Pairs.{kept_ranks, named_pair, pairs_of}
 use Rattle.mine_classes.proofs.theory.Kept.{pair_ranks}
 use Rattle.mine_fp.specs.declared.level.Level.{Level}

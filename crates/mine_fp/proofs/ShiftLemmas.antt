@@ -11,9 +11,9 @@ use Rattle.std.proofs.lemmas.Nat.{pow_pos}
 use Rattle.std.proofs.lemmas.Nat.Bits.{bit_at-lt, bit_at-zero, bit_at_and, bit_at_cat_high, bit_at_cat_low}
 use Rattle.basket_sets.specs.Itemset.{IsRising}
 use Rattle.basket_sets.proofs.theory.Rising.{same_test}
-use Rattle.mine_classes.specs.declared.words.TheConstants.{WORD_RANKS}
-use Rattle.mine_classes.specs.Words.{has_rank}
-use Rattle.mine_classes.proofs.theory.Bits.{has_either, one_rank}
+use Rattle.mine_baskets.specs.declared.words.TheConstants.{WORD_RANKS}
+use Rattle.mine_baskets.specs.Words.{has_rank}
+use Rattle.mine_baskets.proofs.theory.Bits.{has_either, one_rank}
 use Rattle.mine_fp.specs.declared.shift.Shift.{Shift}
 use Rattle.mine_fp.specs.Shift.{AreShifts, shifted}
 use Rattle.mine_fp.proofs.LevelLemmas.{less_at}

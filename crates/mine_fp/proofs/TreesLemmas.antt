@@ -24,7 +24,7 @@ use Rattle.basket_sets.proofs.theory.Rising.{has-from_Member, rising-rising, sam
 use Rattle.basket_sets.proofs.theory.Support.{at_least_one, in_items}
 use Rattle.mine_classes.specs.Classes.{ClassesAreAll, ClassesAreListed, ClassesByCodings, ListsClass, class_of, ends_in, with_rank}
 use Rattle.mine_classes.specs.Conditional.{ConditionalSupports}
-use Rattle.mine_classes.specs.ListBaskets.{AreRankBaskets, IsRankBasket, RankBaskets}
+use Rattle.mine_baskets.specs.ListBaskets.{AreRankBaskets, IsRankBasket, RankBaskets}
 use Rattle.mine_classes.specs.Pairs.{kept_ranks}
 use Rattle.mine_classes.proofs.theory.Kept.{kept_rises}
 use Rattle.mine_fp.specs.declared.level.Level.{Level}

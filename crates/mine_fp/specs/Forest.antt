@@ -3,7 +3,7 @@ use Rattle.std.specs.Prelude.{◌≡◌, ℕ, List, length}
 use Rattle.basket_ranks.specs.Codes.{Coding}
 use Rattle.basket_sets.specs.Minimum.{IsLeastSupport}
 use Rattle.basket_sets.specs.Support.{support_of, total_of}
-use Rattle.mine_classes.specs.ListBaskets.{AreRankBaskets, HaveSameWeights, RankBaskets}
+use Rattle.mine_baskets.specs.ListBaskets.{AreRankBaskets, HaveSameWeights, RankBaskets}
 
 -- the baskets of a coding in order, with the least support that its minimum asks for
 pub record AreInForest (coding : Coding) (least : ℕ) (runs : RankBaskets) : Type 0 where

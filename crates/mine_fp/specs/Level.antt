@@ -8,11 +8,11 @@ use Rattle.basket_sets.specs.declared.minimum.Minimum.TheVariants.{Count}
 use Rattle.basket_sets.specs.Frequent.{ListsOnce, frequent_of}
 use Rattle.basket_sets.specs.Itemset.{IsRising, rising, with_item}
 use Rattle.basket_sets.specs.Support.{support_of}
-use Rattle.mine_classes.specs.declared.span.Span.{Span}
+use Rattle.mine_baskets.specs.declared.span.Span.{Span}
 use Rattle.mine_classes.specs.declared.tables.Tables.{Tables}
 use Rattle.mine_classes.specs.Classes.{ListClasses, ListsClass, class_of}
 use Rattle.mine_classes.specs.Conditional.{conditional}
-use Rattle.mine_classes.specs.ListBaskets.{AreRankBaskets, HaveSameWeights}
+use Rattle.mine_baskets.specs.ListBaskets.{AreRankBaskets, HaveSameWeights}
 use Rattle.mine_classes.specs.Pairs.{kept_ranks, named_pair, pairs_of}
 use Rattle.mine_fp.specs.declared.level.Level.{Level}
 use Rattle.mine_fp.specs.declared.level.TheConstants.{DEPTH}

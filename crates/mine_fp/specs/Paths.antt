@@ -1,5 +1,5 @@
 -- The baskets of a conditional database, in whichever form it is kept.
-use Rattle.mine_classes.specs.ListBaskets.{RankBaskets}
+use Rattle.mine_baskets.specs.ListBaskets.{RankBaskets}
 use Rattle.mine_fp.specs.declared.paths.Form.{Form}
 use Rattle.mine_fp.specs.declared.paths.Form.TheVariants.{Runs, Words}
 

@@ -1,8 +1,8 @@
 -- Shifts of bits to places.
 use Rattle.std.specs.Prelude.{◌≡◌, ◌<◌, ◌*◌, ◌%◌, ◌^◌, ◌&&◌, ℕ, All, List, bit_and, nat_lt, slice_index}
 use Rattle.std.specs.List.{list_any}
-use Rattle.mine_classes.specs.declared.words.TheConstants.{WORD_RANKS}
-use Rattle.mine_classes.specs.Words.{has_rank}
+use Rattle.mine_baskets.specs.declared.words.TheConstants.{WORD_RANKS}
+use Rattle.mine_baskets.specs.Words.{has_rank}
 use Rattle.mine_fp.specs.declared.shift.Shift.{Shift}
 
 -- what one shift brings to its places

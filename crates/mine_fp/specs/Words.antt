@@ -1,7 +1,7 @@
 -- Weights of words that have some ranks.
 use Rattle.std.specs.Prelude.{ℕ, if◌then◌else◌}
-use Rattle.mine_classes.specs.declared.words.Word.{Word}
-use Rattle.mine_classes.specs.Words.{has_rank}
+use Rattle.mine_baskets.specs.declared.words.Word.{Word}
+use Rattle.mine_baskets.specs.Words.{has_rank}
 
 -- the weight of a word where it has a rank
 abbrev pub rank_weight : ℕ → Word → ℕ

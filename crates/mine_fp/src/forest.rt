@@ -3,7 +3,7 @@ ghost use Rattle.std.specs.Prelude.{◌≡◌, ◌≤◌, ◌<◌, ◌+◌, ◌�
 ghost use Rattle.std.specs.List.{range_with_len};
 ghost use Rattle.basket_core.specs.declared.fault.MineFault.TheVariants.{TooMany};
 ghost use Rattle.basket_sets.specs.Support.{support_of};
-ghost use Rattle.mine_classes.specs.ListBaskets.{AreRankBaskets, HaveSameWeights};
+ghost use Rattle.mine_baskets.specs.ListBaskets.{AreRankBaskets, HaveSameWeights};
 ghost use Rattle.mine_classes.specs.Mined.{ListsClassItems, class_size};
 ghost use Rattle.mine_fp.specs.Trees.{class_trees};
 
@@ -13,7 +13,8 @@ use crate::paths::Paths;
 use crate::trees::Trees;
 use basket_core::{Coded, CountedSets, MineFault, Tally};
 use mine_classes::laws::{classes_are_listed, deep_classes_are_large, lists_have_class_size};
-use mine_classes::{ListBaskets, Runs, Tables};
+use mine_baskets::ListBaskets;
+use mine_classes::{Runs, Tables};
 use std::alloc::{AllocError, Global};
 use std::marker::Model;
 

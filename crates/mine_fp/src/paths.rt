@@ -3,16 +3,17 @@ ghost use Rattle.std.specs.Prelude.{◌≡◌, ◌≤◌, ◌<◌, ◌-◌, ◌=
 ghost use Rattle.std.specs.List.{list_all};
 ghost use Rattle.basket_ranks.specs.Codes.{IsCoding, decoded_place};
 ghost use Rattle.basket_sets.specs.declared.minimum.Minimum.TheVariants.{Count};
-ghost use Rattle.mine_classes.specs.declared.span.Span.{Span as Run};
+ghost use Rattle.mine_baskets.specs.declared.span.Span.{Span as Run};
 ghost use Rattle.mine_classes.specs.Conditional.{conditional};
 ghost use Rattle.mine_classes.specs.Form.{form_baskets as kept_baskets};
-ghost use Rattle.mine_classes.specs.ListBaskets.{AreRankBaskets, HaveSameWeights};
+ghost use Rattle.mine_baskets.specs.ListBaskets.{AreRankBaskets, HaveSameWeights};
 ghost use Rattle.mine_classes.specs.Pairs.{kept_ranks, pairs_of};
 ghost use Rattle.mine_fp.specs.Level.{IsOrdered};
 ghost use Rattle.mine_fp.specs.Trees.{is_branch};
 
 use crate::words;
-use mine_classes::{Conditional, Form as KeptForm, Places, Runs, Span, Sums, WordBaskets};
+use mine_baskets::{Span, WordBaskets};
+use mine_classes::{Conditional, Form as KeptForm, Places, Runs, Sums};
 use std::alloc::{AllocError, Global};
 use std::marker::Model;
 
@@ -30,7 +31,7 @@ pub enum Form {
 }
 
 impl Model for Paths {
-    ghost use Rattle.mine_classes.specs.ListBaskets.{RankBaskets};
+    ghost use Rattle.mine_baskets.specs.ListBaskets.{RankBaskets};
     ghost use Rattle.mine_fp.specs.Paths.{form_baskets};
 
     ghost Value = { RankBaskets };

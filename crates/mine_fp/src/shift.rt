@@ -3,12 +3,12 @@ ghost use Rattle.std.specs.Prelude.{◌≡◌, ◌<◌, ℕ, All, IfOk, length, 
 ghost use Rattle.std.specs.List.{list_any};
 ghost use Rattle.basket_sets.specs.Counts.{AllBelow};
 ghost use Rattle.basket_sets.specs.Itemset.{IsRising};
-ghost use Rattle.mine_classes.specs.declared.words.TheConstants.{WORD_RANKS};
-ghost use Rattle.mine_classes.specs.Words.{has_rank};
+ghost use Rattle.mine_baskets.specs.declared.words.TheConstants.{WORD_RANKS};
+ghost use Rattle.mine_baskets.specs.Words.{has_rank};
 ghost use Rattle.mine_fp.specs.declared.shift.Shift.{Shift as By};
 ghost use Rattle.mine_fp.specs.Shift.{AreShifts, shifted};
 
-use mine_classes::words::bit_of;
+use mine_baskets::words::bit_of;
 use smallvec::SmallVec;
 use std::alloc::{AllocError, Global};
 

@@ -5,18 +5,19 @@ ghost use Rattle.basket_ranks.specs.Codes.{decoded_place};
 ghost use Rattle.basket_sets.specs.Counts.{AllBelow};
 ghost use Rattle.basket_sets.specs.Database.{MOST_WEIGHT};
 ghost use Rattle.basket_sets.specs.Itemset.{IsRising, contains, has};
-ghost use Rattle.mine_classes.specs.declared.words.TheConstants.{WORD_RANKS};
-ghost use Rattle.mine_classes.specs.declared.words.Word.{Word as Bits};
+ghost use Rattle.mine_baskets.specs.declared.words.TheConstants.{WORD_RANKS};
+ghost use Rattle.mine_baskets.specs.declared.words.Word.{Word as Bits};
 ghost use Rattle.mine_classes.specs.Conditional.{kept_place};
-ghost use Rattle.mine_classes.specs.ListBaskets.{AreRankBaskets, HaveSameWeights};
+ghost use Rattle.mine_baskets.specs.ListBaskets.{AreRankBaskets, HaveSameWeights};
 ghost use Rattle.mine_classes.specs.Pairs.{pairs_of};
-ghost use Rattle.mine_classes.specs.Words.{AreInOrder, ranks_in, word_places};
+ghost use Rattle.mine_baskets.specs.Words.{AreInOrder, ranks_in, word_places};
 ghost use Rattle.mine_fp.specs.Trees.{is_branch};
 ghost use Rattle.mine_fp.specs.Words.{pair_weight, rank_weight};
 
 use crate::shift::{shift_all, shifts_of};
-use mine_classes::words::{self, WORD_RANKS, Word};
-use mine_classes::{WordBaskets, met_in_order};
+use mine_baskets::words::{self, WORD_RANKS, Word};
+use mine_baskets::WordBaskets;
+use mine_classes::met_in_order;
 use std::alloc::{AllocError, Global};
 
 /// Whether the prefix tree of the baskets is a single branch.

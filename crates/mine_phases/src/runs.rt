@@ -1,14 +1,15 @@
 //! The runs of coded baskets, before their classes are mined.
 ghost use Rattle.std.specs.Prelude.{◌≡◌, ℕ, List, IfOk, length};
 ghost use Rattle.basket_sets.specs.Support.{support_of};
-ghost use Rattle.mine_classes.specs.ListBaskets.{AreRankBaskets, HaveSameWeights};
+ghost use Rattle.mine_baskets.specs.ListBaskets.{AreRankBaskets, HaveSameWeights};
 
 use crate::cutting::Cutting;
 use crate::gate::Open;
 use crate::triangle::triangle_pairs;
 use basket_core::Coded;
 use mine_apriori::{pays_for_classes, runs_keeping};
-use mine_classes::{ListBaskets, Runs};
+use mine_baskets::ListBaskets;
+use mine_classes::Runs;
 use std::alloc::{AllocError, Global};
 use std::thread::Threads;
 

@@ -17,7 +17,7 @@ use Rattle.basket_sets.proofs.theory.Support.{support_falls}
 use Rattle.mine_classes.specs.Classes.{ClassesAreConditional, ListsClass, RareRanksHaveNoClass, SupportsSettleFrequent, ends_in, extended, with_rank}
 use Rattle.mine_classes.specs.Conditional.{ConditionalSupports, conditional}
 use Rattle.mine_classes.specs.Mined.{ListsClassItems, RanksAreFrequent, ListsHaveClassSize, class_size}
-use Rattle.mine_classes.specs.ListBaskets.{HaveSameWeights}
+use Rattle.mine_baskets.specs.ListBaskets.{HaveSameWeights}
 use Rattle.mine_vertical.specs.declared.joins.Sibling.{Sibling}
 use Rattle.mine_vertical.specs.Search.{IsNode, Node, found_at, is_met}
 use Rattle.mine_vertical.specs.Siblings.{AreClassSiblings}

@@ -13,9 +13,9 @@ use Rattle.basket_sets.specs.Support.{support_of}
 use Rattle.basket_sets.proofs.theory.Members.{Member, Member-filter, Member-from_filter}
 use Rattle.basket_sets.proofs.theory.Rising.{Member-from_has, has-from_Member, first_below, rest_rises, same_rising, contains_each, has_each, has_place, same_test}
 use Rattle.basket_sets.proofs.theory.Support.{support-cons}
-use Rattle.mine_classes.specs.Covers.{basket_at, cover_of, weights_of}
+use Rattle.mine_baskets.specs.Covers.{basket_at, cover_of, weights_of}
 use Rattle.mine_vertical.specs.Cover.{IsCover, all_places, common, cover_weight, lacking}
-use Rattle.mine_classes.proofs.theory.Kept.{Member-into_range, Member-range, range_rises}
+use Rattle.mine_baskets.proofs.theory.Ranges.{Member-into_range, Member-range, range_rises}
 
 -- ---- numbers in a row
 

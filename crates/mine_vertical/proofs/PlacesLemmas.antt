@@ -20,18 +20,18 @@ use Rattle.basket_sets.proofs.theory.Members.{Member, All-from_Member, Member-ap
 use Rattle.basket_sets.proofs.theory.Rising.{Member-from_has, has-from_Member, has_more, has_each, has_place, contains_each, first_below, not_before, rest_rises, same_test}
 use Rattle.basket_ranks.specs.Codes.{IsCoding, decoded, decoded_place}
 use Rattle.basket_ranks.proofs.theory.Coding.{from_decoded, into_decoded}
-use Rattle.mine_classes.specs.declared.words.Word.{Word}
-use Rattle.mine_classes.specs.ListBaskets.{AreRankBaskets, RankBaskets, weight_where}
-use Rattle.mine_classes.specs.Words.{has_rank, ranks_in, word_place, word_places}
+use Rattle.mine_baskets.specs.declared.words.Word.{Word}
+use Rattle.mine_baskets.specs.ListBaskets.{AreRankBaskets, RankBaskets, weight_where}
+use Rattle.mine_baskets.specs.Words.{has_rank, ranks_in, word_place, word_places}
 use Rattle.mine_vertical.specs.Bits.{word_at, words_from}
-use Rattle.mine_classes.specs.Covers.{basket_at, cover_of, weights_of}
+use Rattle.mine_baskets.specs.Covers.{basket_at, cover_of, weights_of}
 use Rattle.mine_vertical.specs.Cover.{IsAdded}
 use Rattle.mine_vertical.specs.Planes.{has_bit}
 use Rattle.mine_vertical.specs.Remade.{AreBitsOf, HaveSameNonempty, bit_places}
 use Rattle.mine_vertical.proofs.CoverLemmas.{from_cover, into_cover}
 use Rattle.mine_vertical.proofs.MarkLemmas.{set_at}
 use Rattle.mine_vertical.proofs.PlaneLemmas.{either_bit}
-use Rattle.mine_classes.proofs.theory.Kept.{Member-into_range, Member-range}
+use Rattle.mine_baskets.proofs.theory.Ranges.{Member-into_range, Member-range}
 
 -- ---- a bit for the places of a cover
 

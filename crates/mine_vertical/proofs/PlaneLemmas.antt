@@ -21,7 +21,7 @@ use Rattle.mine_vertical.specs.Cover.{IsCover, common, cover_weight}
 use Rattle.mine_vertical.specs.Planes.{IsPlane, are_ones, bits_of, has_bit, plane_weight}
 use Rattle.mine_vertical.proofs.CoverLemmas.{cover_light, filter_rises, range_more}
 use Rattle.mine_vertical.proofs.WordLemmas.{length-words, words_and, words_same, words_share}
-use Rattle.mine_classes.proofs.theory.Kept.{Member-into_range, Member-range, range_rises}
+use Rattle.mine_baskets.proofs.theory.Ranges.{Member-into_range, Member-range, range_rises}
 
 -- ---- the bits of a number
 

@@ -18,18 +18,18 @@ use Rattle.basket_sets.specs.Support.{support_of, total_of}
 use Rattle.basket_sets.proofs.theory.Members.{Member}
 use Rattle.basket_sets.proofs.theory.Rising.{Member-from_has, has-from_Member, same_test}
 use Rattle.basket_sets.proofs.theory.Support.{at_least_one, support-cons}
-use Rattle.mine_classes.specs.declared.span.Span.{Span}
+use Rattle.mine_baskets.specs.declared.span.Span.{Span}
 use Rattle.mine_classes.specs.Conditional.{ConditionalSupports, conditional, is_kept}
-use Rattle.mine_classes.specs.ListBaskets.{weight_where}
+use Rattle.mine_baskets.specs.ListBaskets.{weight_where}
 use Rattle.mine_classes.specs.Pairs.{kept_ranks}
 use Rattle.mine_classes.specs.Runs.{below}
-use Rattle.mine_classes.specs.Span.{baskets_at}
-use Rattle.mine_classes.specs.Covers.{basket_at, cover_of, weights_of}
+use Rattle.mine_baskets.specs.Span.{baskets_at}
+use Rattle.mine_baskets.specs.Covers.{basket_at, cover_of, weights_of}
 use Rattle.mine_vertical.specs.Search.{is_met}
 use Rattle.mine_vertical.specs.Walk.{kept_below}
 use Rattle.mine_vertical.proofs.CoverLemmas.{range_more}
 use Rattle.mine_vertical.proofs.RowLemmas.{filter_members}
-use Rattle.mine_classes.proofs.theory.Kept.{Member-range}
+use Rattle.mine_baskets.proofs.theory.Ranges.{Member-range}
 
 -- ---- baskets of places in a list of ranks, and of these ranks
 

@@ -5,9 +5,9 @@ use Rattle.basket_sets.specs.declared.weighted.Weighted.{Weighted}
 use Rattle.basket_sets.specs.Database.{weighted}
 use Rattle.basket_sets.specs.Itemset.{has}
 use Rattle.basket_sets.specs.Support.{support_of}
-use Rattle.mine_classes.specs.ListBaskets.{weight_where}
-use Rattle.mine_classes.specs.Words.{has_rank, ranks_in}
-use Rattle.mine_classes.specs.Covers.{cover_of, weights_of}
+use Rattle.mine_baskets.specs.ListBaskets.{weight_where}
+use Rattle.mine_baskets.specs.Words.{has_rank, ranks_in}
+use Rattle.mine_baskets.specs.Covers.{cover_of, weights_of}
 
 -- the words of the places of baskets have a bit for each of some ranks, which is one where the basket has the rank and a set
 pub record AreBitsOf (baskets : List Weighted) (set ranks bits : List ℕ) : Type 0 where

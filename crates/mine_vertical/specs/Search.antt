@@ -14,7 +14,7 @@ use Rattle.mine_classes.specs.Mined.{MOST_SET_WORK}
 use Rattle.mine_vertical.specs.declared.joins.Sibling.{Sibling}
 use Rattle.mine_vertical.specs.declared.mined.Mined.{Mined}
 use Rattle.mine_vertical.specs.declared.search.Search.{Search}
-use Rattle.mine_classes.specs.Covers.{cover_of, weights_of}
+use Rattle.mine_baskets.specs.Covers.{cover_of, weights_of}
 use Rattle.mine_vertical.specs.Walk.{joins_below, kept_below, sets_below}
 
 -- whether a set has a least support in some baskets

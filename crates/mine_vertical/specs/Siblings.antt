@@ -4,7 +4,7 @@ use Rattle.basket_sets.specs.declared.weighted.Weighted.{Weighted}
 use Rattle.basket_sets.specs.Support.{support_of}
 use Rattle.mine_classes.specs.Conditional.{conditional}
 use Rattle.mine_vertical.specs.declared.joins.Sibling.{Sibling}
-use Rattle.mine_classes.specs.Covers.{weights_of}
+use Rattle.mine_baskets.specs.Covers.{weights_of}
 use Rattle.mine_vertical.specs.Search.{IsSibling, is_met}
 use Rattle.mine_vertical.specs.Walk.{kept_below}
 

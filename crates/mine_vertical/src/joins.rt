@@ -4,7 +4,7 @@ ghost use Rattle.basket_sets.specs.declared.weighted.Weighted.{Weighted as Baske
 ghost use Rattle.basket_sets.specs.Itemset.{AllBelow, IsRising};
 ghost use Rattle.basket_sets.specs.Support.{support_of};
 ghost use Rattle.mine_classes.specs.Pairs.{pairs_of};
-ghost use Rattle.mine_classes.specs.Covers.{cover_of, weights_of};
+ghost use Rattle.mine_baskets.specs.Covers.{cover_of, weights_of};
 ghost use Rattle.mine_vertical.specs.Cover.{IsAdded, all_places};
 ghost use Rattle.mine_vertical.specs.Search.{ArePair, IsSibling};
 

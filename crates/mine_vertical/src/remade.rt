@@ -6,10 +6,10 @@ ghost use Rattle.basket_ranks.specs.Codes.{decoded};
 ghost use Rattle.basket_sets.specs.declared.weighted.Weighted.{Weighted as Basket};
 ghost use Rattle.basket_sets.specs.Database.{MOST_WEIGHT};
 ghost use Rattle.basket_sets.specs.Itemset.{IsRising};
-ghost use Rattle.mine_classes.specs.declared.words.Word.{Word as Bits};
-ghost use Rattle.mine_classes.specs.ListBaskets.{weight_where};
-ghost use Rattle.mine_classes.specs.Words.{word_places};
-ghost use Rattle.mine_classes.specs.Covers.{weights_of};
+ghost use Rattle.mine_baskets.specs.declared.words.Word.{Word as Bits};
+ghost use Rattle.mine_baskets.specs.ListBaskets.{weight_where};
+ghost use Rattle.mine_baskets.specs.Words.{word_places};
+ghost use Rattle.mine_baskets.specs.Covers.{weights_of};
 ghost use Rattle.mine_vertical.specs.Remade.{AreBitsOf, GiveSupports, HaveSameNonempty, bit_places};
 ghost use Rattle.mine_vertical.specs.Search.{IsSibling};
 ghost use Rattle.mine_vertical.specs.Siblings.{AreOver};
@@ -18,8 +18,9 @@ use crate::joins::Sibling;
 use crate::row::Row;
 use crate::siblings::siblings_of;
 use crate::weights::Weights;
-use mine_classes::words::{WORD_RANKS, Word, bit_of};
-use mine_classes::{Form, WordBaskets};
+use mine_baskets::words::{WORD_RANKS, Word, bit_of};
+use mine_baskets::WordBaskets;
+use mine_classes::Form;
 use std::alloc::{AllocError, Global};
 
 /// The bits of each place: that of a sibling where the sibling's cover has the place. Nothing where rows

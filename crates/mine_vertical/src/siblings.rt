@@ -6,9 +6,9 @@ ghost use Rattle.basket_sets.specs.declared.weighted.Weighted.{Weighted as Baske
 ghost use Rattle.basket_sets.specs.Database.{HasWeight, MOST_WEIGHT};
 ghost use Rattle.basket_sets.specs.Support.{total_of};
 ghost use Rattle.mine_classes.specs.Conditional.{conditional};
-ghost use Rattle.mine_classes.specs.Covers.{weights_of};
+ghost use Rattle.mine_baskets.specs.Covers.{weights_of};
 ghost use Rattle.mine_classes.specs.Form.{form_baskets};
-ghost use Rattle.mine_classes.specs.ListBaskets.{HaveSameWeights};
+ghost use Rattle.mine_baskets.specs.ListBaskets.{HaveSameWeights};
 ghost use Rattle.mine_classes.specs.Pairs.{kept_ranks};
 ghost use Rattle.mine_vertical.specs.Siblings.{AreClassSiblings, AreOver};
 

@@ -3,10 +3,11 @@ ghost use Rattle.std.specs.Prelude.{◌≡◌, IfOk, length};
 ghost use Rattle.basket_ranks.specs.Codes.{IsCoding};
 ghost use Rattle.basket_sets.specs.Minimum.{IsLeastSupport};
 ghost use Rattle.basket_sets.specs.Support.{total_of};
-ghost use Rattle.mine_classes.specs.ListBaskets.{HaveSameWeights};
+ghost use Rattle.mine_baskets.specs.ListBaskets.{HaveSameWeights};
 
 use basket_core::Coded;
-use mine_classes::{ListBaskets, Runs};
+use mine_baskets::ListBaskets;
+use mine_classes::Runs;
 use std::alloc::{AllocError, Global};
 use std::marker::Model;
 

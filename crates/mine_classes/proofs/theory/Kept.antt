@@ -1,12 +1,10 @@
--- Ranges, and the ranks that a conditional database keeps.
-use Rattle.std.proofs.Common.{◌≡◌, ℕ, ◌+◌, ◌<◌, ◌≤◌, Bool, true, false, List, [], ◌∷◌, length, map, ltb, refl, ap, subst, inl, inr, arith, zero, suc}
+-- The ranks that a conditional database keeps.
+use Rattle.std.proofs.Common.{◌≡◌, ℕ, ◌<◌, ◌≤◌, Bool, true, false, List, [], ◌∷◌, length, map, ltb, refl, ap, subst, inl, inr, arith}
 use Rattle.std.specs.Prelude.{nat_eq}
-use Rattle.std.specs.List.{IsDistinct, filter, range_with_len}
-use Rattle.std.specs.Ordering.{nat_cmp}
-use Rattle.std.proofs.lemmas.Bool.{and_parts, cases_Bool, cases_eq, eqb-true, ltb-true}
+use Rattle.std.specs.List.{IsDistinct, range_with_len}
+use Rattle.std.proofs.lemmas.Bool.{and_parts, cases_Bool, eqb-true, ltb-true}
 use Rattle.std.proofs.lemmas.List.Elements.{All-weaker}
 use Rattle.std.proofs.lemmas.List.FromFn.{length-range_with_len}
-use Rattle.std.proofs.lemmas.List.Kept.{IsStrictlySortedBy-filter}
 use Rattle.basket_ranks.specs.Codes.{IsCodedPlace, IsCoding, MOST_RANKS}
 use Rattle.basket_sets.specs.declared.weighted.Weighted.{Weighted}
 use Rattle.basket_sets.specs.declared.minimum.Minimum.TheVariants.{Count}
@@ -16,33 +14,11 @@ use Rattle.basket_sets.specs.Frequent.{is_frequent}
 use Rattle.basket_sets.specs.Itemset.{IsRising, has}
 use Rattle.basket_sets.specs.Support.{support_of}
 use Rattle.basket_sets.proofs.theory.Members.{All-from_Member, Member, Member-filter, Member-from_filter}
-use Rattle.basket_sets.proofs.theory.Rising.{Member-from_has, cons_rises, first_below, has-from_Member, length-le-contains, nil_rises, rest_rises, same_test}
+use Rattle.basket_sets.proofs.theory.Rising.{Member-from_has, first_below, has-from_Member, length-le-contains, rest_rises, same_test}
+use Rattle.mine_baskets.proofs.theory.Ranges.{Member-into_range, filtered_range_rises, range_rises}
 use Rattle.mine_classes.specs.Conditional.{is_kept}
-use Rattle.mine_classes.specs.ListBaskets.{AreRankBaskets, IsRankBasket, RankBaskets}
+use Rattle.mine_baskets.specs.ListBaskets.{AreRankBaskets, IsRankBasket, RankBaskets}
 use Rattle.mine_classes.specs.Pairs.{kept_ranks, pairs_of}
-
--- ---- ranges, and filters of them
-
-pub Member-range : (a n x : ℕ) → Member x (range_with_len a n) → (a ≤ x) × (x < a + n)
-Member-range a zero x m = absurd m
-Member-range a (suc n) x (inl e) = (omega arith, omega arith)
-Member-range a (suc n) x (inr m) = let r = Member-range (a + 1) n x m in let low = r.0 in let high = r.1 in (omega arith, omega arith)
-
-pub Member-into_range : (a n x : ℕ) → a ≤ x → x < a + n → Member x (range_with_len a n)
-Member-into_range a zero x low high = absurd (omega arith)
-Member-into_range a (suc n) x low high = elim (cases_eq a x) [
-  | inl e ↦ inl e
-  | inr differ ↦ inr (Member-into_range (a + 1) n x (omega arith) (omega arith))
-]
-
-pub range_rises : (a n : ℕ) → IsRising (range_with_len a n)
-range_rises a zero = nil_rises
-range_rises a (suc n) = cons_rises a (range_with_len (a + 1) n) (λ y m. let r = Member-range (a + 1) n y m in let low = r.0 in omega arith) (range_rises (a + 1) n)
-
-pub filtered_range_rises : (p : ℕ → Bool) (a n : ℕ) → IsRising (filter p (range_with_len a n))
-filtered_range_rises p a n = IsStrictlySortedBy-filter nat_cmp p (range_with_len a n) (range_rises a n)
-
--- ---- the ranks that are kept
 
 rising_distinct : (xs : List ℕ) → IsRising xs → IsDistinct nat_eq xs
 unfolding IsDistinct

@@ -1,7 +1,7 @@
 use Rattle.std.proofs.Common.{◌≡◌, ℕ, List, subst, ap, ◌∙◌}
 use Rattle.basket_sets.specs.Minimum.{IsLeastSupport}
 use Rattle.basket_sets.specs.Support.{support_of, total_of}
-use Rattle.mine_classes.specs.ListBaskets.{RankBaskets}
+use Rattle.mine_baskets.specs.ListBaskets.{RankBaskets}
 use Rattle.mine_apriori.specs.Pairs.{pairs_by_greater}
 use Rattle.mine_apriori.proofs.PairLemmas.{same_pairs}
 use Rattle.mine_apriori.proofs.pairs.runs_with_least.Goals as goal

@@ -3,9 +3,9 @@ use Rattle.std.proofs.lemmas.List.{get_or-map, length-map}
 use Rattle.basket_sets.specs.declared.weighted.Weighted.{Weighted}
 use Rattle.basket_sets.specs.Counts.{AllBelow}
 use Rattle.basket_sets.specs.Itemset.{IsRising, has}
-use Rattle.mine_classes.specs.declared.span.Span.{Span}
+use Rattle.mine_baskets.specs.declared.span.Span.{Span}
 use Rattle.mine_classes.specs.Pairs.{AreSums, weight_with}
-use Rattle.mine_classes.specs.Span.{basket_at, baskets_at}
+use Rattle.mine_baskets.specs.Span.{basket_at, baskets_at}
 use Rattle.mine_classes.proofs.RunLoopLemmas.{rank_basket_at}
 use Rattle.mine_classes.proofs.SumLemmas.{sum_light, sum_more}
 use Rattle.mine_classes.proofs.pairs.add_up.Goals as goal

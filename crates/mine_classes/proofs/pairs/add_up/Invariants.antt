@@ -1,6 +1,6 @@
 use Rattle.std.proofs.Common.{◌≡◌, ◌<◌, ℕ, length, get_or, take}
 use Rattle.mine_classes.specs.Pairs.{AreSums, weight_with}
-use Rattle.mine_classes.specs.Span.{baskets_at}
+use Rattle.mine_baskets.specs.Span.{baskets_at}
 use Rattle.mine_classes.proofs.pairs.add_up.Given as goal
 
 abbrev pub invariant-loop-number : goal.invariant-loop-number

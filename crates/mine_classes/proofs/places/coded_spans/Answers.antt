@@ -2,13 +2,14 @@ use Rattle.std.proofs.Common.{◌≡◌, ◌≤◌, ◌+◌, ◌++◌, [], ◌�
 use Rattle.std.specs.Prelude.{All}
 use Rattle.std.proofs.lemmas.List.{length-append, length-take-le}
 use Rattle.basket_sets.specs.Counts.{AllBelow}
-use Rattle.mine_classes.specs.declared.span.Span.{Span}
+use Rattle.mine_baskets.specs.declared.span.Span.{Span}
 use Rattle.mine_classes.specs.Places.{table_places}
-use Rattle.mine_classes.specs.Span.{IsWithin, baskets_at}
-use Rattle.mine_classes.proofs.PlaceLemmas.{placed_more, within_push}
+use Rattle.mine_baskets.specs.Span.{IsWithin, baskets_at}
+use Rattle.mine_classes.proofs.PlaceLemmas.{placed_more}
 use Rattle.mine_classes.proofs.RunLemmas.{written}
 use Rattle.mine_classes.proofs.RunLoopLemmas.{rank_basket_at}
 use Rattle.mine_classes.proofs.places.coded_spans.Goals as goal
+use Rattle.mine_baskets.proofs.theory.Neighbours.{within_push}
 
 abbrev none : Span
 none = record { start = 0; end = 0; weight = 0 }

@@ -1,7 +1,7 @@
 use Rattle.std.proofs.Common.{◌≡◌, ◌≤◌, length, map, take}
 use Rattle.std.specs.Prelude.{All}
 use Rattle.mine_classes.specs.Places.{by_table}
-use Rattle.mine_classes.specs.Span.{IsWithin, baskets_at}
+use Rattle.mine_baskets.specs.Span.{IsWithin, baskets_at}
 use Rattle.mine_classes.proofs.places.coded_spans.Given as goal
 
 abbrev pub invariant-loop-number : goal.invariant-loop-number

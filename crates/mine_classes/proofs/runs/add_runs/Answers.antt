@@ -4,10 +4,12 @@ use Rattle.std.proofs.lemmas.Bool.{ltb-true}
 use Rattle.basket_sets.specs.Counts.{AllBelow}
 use Rattle.basket_sets.specs.Database.{MOST_WEIGHT}
 use Rattle.basket_sets.specs.Itemset.{IsRising}
-use Rattle.mine_classes.specs.declared.span.Span.{Span}
-use Rattle.mine_classes.specs.Runs.{HaveRuns, lists_in, run_at, with_run}
-use Rattle.mine_classes.proofs.RunLemmas.{all_below_at, have_more, length-lists_in, length-range, list_at, lists_in-set, untouched}
+use Rattle.mine_baskets.specs.declared.span.Span.{Span}
+use Rattle.mine_classes.specs.Runs.{HaveRuns, lists_in, with_run}
+use Rattle.mine_baskets.specs.Span.{span_front}
+use Rattle.mine_classes.proofs.RunLemmas.{have_more, length-lists_in, length-range, list_at, lists_in-set, untouched}
 use Rattle.mine_classes.proofs.runs.add_runs.Goals as goal
+use Rattle.mine_baskets.proofs.theory.Neighbours.{all_below_at}
 
 pub bounds-of-rank : goal.bounds-of-rank
 bounds-of-rank c =
@@ -59,7 +61,7 @@ loop-depth-preserved c =
     let same = ltb depth c.args.shared in
     let lists = lists_in c.loop-depth.of in
     let added = lists_in-set c.loop-depth.of rank c.add_run.new.runs
-    ∙ ap (set lists rank) (c.in_ok-add_run.ensures ∙ ap (λ run. with_run same run (get_or c.loop-depth.of rank c.index-of-rank.result).items) c.first-run.ensures ∙ ap (with_run same (run_at c.args.basket depth)) (sym now)) in
+    ∙ ap (set lists rank) (c.in_ok-add_run.ensures ∙ ap (λ run. with_run same run (get_or c.loop-depth.of rank c.index-of-rank.result).items) c.first-run.ensures ∙ ap (with_run same (span_front c.args.basket depth)) (sym now)) in
     subst (HaveRuns path c.args.basket c.args.shared (depth + 1) old) (sym added)
     (have_more path c.args.basket c.args.shared old up depth lists c.loop-depth.invariant c.loop-depth-test.true (omega (arith, here, c.loop-depth.auto.of, length-lists_in c.loop-depth.of)))
 

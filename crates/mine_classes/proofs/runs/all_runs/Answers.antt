@@ -4,14 +4,14 @@ use Rattle.std.specs.List.{slice_range}
 use Rattle.std.proofs.lemmas.List.{length-map, length-replicate, get_or-map, get_or-replicate}
 use Rattle.basket_sets.specs.declared.weighted.Weighted.{Weighted}
 use Rattle.basket_sets.specs.Database.{MOST_WEIGHT}
-use Rattle.mine_classes.specs.declared.span.Span.{Span}
-use Rattle.mine_classes.specs.ListBaskets.{repeats_last}
+use Rattle.mine_baskets.specs.declared.span.Span.{Span}
+use Rattle.mine_baskets.specs.ListBaskets.{repeats_last}
 use Rattle.mine_classes.specs.Runs.{AreRunsOf, HaveAllRuns, HaveRuns, lists_in}
-use Rattle.mine_classes.specs.Span.{basket_at, baskets_at}
-use Rattle.mine_classes.proofs.MergedLemmas.{some_repeats}
+use Rattle.mine_baskets.specs.Span.{basket_at, baskets_at}
 use Rattle.mine_classes.proofs.RunLemmas.{length-lists_in, length-range, written}
 use Rattle.mine_classes.proofs.RunLoopLemmas.{basket_more, next_again, next_are, rank_basket_at, runs_light, shared_again}
 use Rattle.mine_classes.proofs.runs.all_runs.Goals as goal
+use Rattle.mine_baskets.proofs.theory.Neighbours.{some_repeats}
 
 abbrev none : Span
 none = record { start = 0; end = 0; weight = 0 }

@@ -1,7 +1,7 @@
 use Rattle.std.proofs.Common.{◌≡◌, ◌<◌, ℕ, [], true, length, take, get_or}
-use Rattle.mine_classes.specs.ListBaskets.{repeats_last}
+use Rattle.mine_baskets.specs.ListBaskets.{repeats_last}
 use Rattle.mine_classes.specs.Runs.{HaveAllRuns, lists_in}
-use Rattle.mine_classes.specs.Span.{baskets_at}
+use Rattle.mine_baskets.specs.Span.{baskets_at}
 use Rattle.mine_classes.proofs.runs.all_runs.Given as goal
 
 -- each rank of the last basket has a last run there

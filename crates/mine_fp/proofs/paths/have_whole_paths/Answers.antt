@@ -2,7 +2,7 @@ use Rattle.std.proofs.Common.{◌≡◌, sym, ◌∙◌, subst, inl, inr, arith}
 use Rattle.std.proofs.lemmas.Bool.{cases_Bool, cases_lt, true≢false}
 use Rattle.std.proofs.lemmas.List.Elements.{recursion_from_All}
 use Rattle.basket_sets.proofs.theory.Members.{at_Member}
-use Rattle.mine_classes.specs.ListBaskets.{IsRankBasket}
+use Rattle.mine_baskets.specs.ListBaskets.{IsRankBasket}
 use Rattle.mine_fp.specs.Trees.{is_branch}
 use Rattle.mine_fp.proofs.PathLemmas.{IsFullAt, branch_from_full, full_by_runs, full_from_branch, runs_by_full}
 use Rattle.mine_fp.proofs.paths.have_whole_paths.Goals as goal

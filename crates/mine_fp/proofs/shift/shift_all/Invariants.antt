@@ -1,6 +1,6 @@
 use Rattle.std.proofs.Common.{◌≡◌, ℕ, take}
 use Rattle.std.specs.List.{list_any}
-use Rattle.mine_classes.specs.Words.{has_rank}
+use Rattle.mine_baskets.specs.Words.{has_rank}
 use Rattle.mine_fp.specs.Shift.{shifted}
 use Rattle.mine_fp.proofs.shift.shift_all.Given as goal
 

@@ -4,7 +4,7 @@ use Rattle.std.proofs.lemmas.List.{get_or-map, length-map}
 use Rattle.basket_sets.specs.Counts.{AllBelow}
 use Rattle.basket_sets.specs.Itemset.{IsRising}
 use Rattle.basket_sets.proofs.theory.Rising.{has_place}
-use Rattle.mine_classes.specs.declared.words.TheConstants.{WORD_RANKS}
+use Rattle.mine_baskets.specs.declared.words.TheConstants.{WORD_RANKS}
 use Rattle.mine_fp.specs.declared.shift.Shift.{Shift}
 use Rattle.mine_fp.specs.Shift.{AreShifts}
 use Rattle.mine_fp.proofs.ShiftLemmas.{fresh_shift, more_places, place_below}

@@ -2,7 +2,7 @@ use Rattle.std.proofs.Common.{rules, ◌≡◌, Bool, ltb, subst, sym}
 use Rattle.std.specs.List.{IsAllAdjacentAnswer}
 use Rattle.std.proofs.lemmas.Bool.{ltb-true}
 use Rattle.std.proofs.lemmas.List.Sorted.{answers_always}
-use Rattle.mine_classes.specs.declared.words.Word.{Word}
+use Rattle.mine_baskets.specs.declared.words.Word.{Word}
 use Rattle.mine_fp.proofs.words.are_in_order.Goals as goal
 
 abbrev is_less : Word → Word → Bool

@@ -5,11 +5,11 @@ use Rattle.std.specs.List.{flat_map}
 use Rattle.basket_ranks.specs.Codes.{decoded_place}
 use Rattle.basket_sets.specs.declared.weighted.Weighted.{Weighted}
 use Rattle.basket_sets.specs.Itemset.{has}
-use Rattle.mine_classes.specs.declared.words.Word.{Word}
+use Rattle.mine_baskets.specs.declared.words.Word.{Word}
 use Rattle.mine_classes.specs.Conditional.{kept_place}
-use Rattle.mine_classes.specs.ListBaskets.{HaveSameWeights}
-use Rattle.mine_classes.specs.Words.{word_places}
-use Rattle.mine_classes.proofs.theory.Weights.{decoded_weights}
+use Rattle.mine_baskets.specs.ListBaskets.{HaveSameWeights}
+use Rattle.mine_baskets.specs.Words.{word_places}
+use Rattle.mine_baskets.proofs.theory.Weights.{decoded_weights}
 use Rattle.mine_fp.proofs.words.below.Goals as goal
 
 -- the baskets of the words that were kept

@@ -1,7 +1,7 @@
 use Rattle.std.proofs.Common.{arith}
 use Rattle.std.proofs.lemmas.List.{get_or-replicate}
 use Rattle.std.proofs.lemmas.List.Sums.{sum_by_more_le_part}
-use Rattle.mine_classes.specs.declared.words.Word.{Word}
+use Rattle.mine_baskets.specs.declared.words.Word.{Word}
 use Rattle.mine_fp.specs.Words.{pair_weight}
 use Rattle.mine_fp.proofs.WordLemmas.{none, pair_weight_le}
 use Rattle.mine_fp.proofs.words.pair_sums.Goals as goal

@@ -5,10 +5,10 @@ use Rattle.std.proofs.lemmas.List.{length-map, take_all}
 use Rattle.std.proofs.lemmas.List.Sums.{sum_by_more}
 use Rattle.basket_ranks.specs.Codes.{decoded_place}
 use Rattle.basket_sets.specs.Itemset.{has}
-use Rattle.mine_classes.specs.declared.words.Word.{Word}
+use Rattle.mine_baskets.specs.declared.words.Word.{Word}
 use Rattle.mine_classes.specs.Conditional.{kept_place}
-use Rattle.mine_classes.specs.ListBaskets.{HaveSameWeights}
-use Rattle.mine_classes.specs.Words.{word_places}
+use Rattle.mine_baskets.specs.ListBaskets.{HaveSameWeights}
+use Rattle.mine_baskets.specs.Words.{word_places}
 use Rattle.mine_fp.proofs.ShiftLemmas.{bits_brought}
 use Rattle.mine_fp.proofs.WordLemmas.{below_with, below_without, none}
 use Rattle.mine_fp.proofs.words.words_below.Goals as goal

@@ -3,10 +3,10 @@ use Rattle.std.specs.Prelude.{All}
 use Rattle.std.specs.List.{flat_map, sum_by}
 use Rattle.basket_ranks.specs.Codes.{decoded_place}
 use Rattle.basket_sets.specs.Itemset.{has}
-use Rattle.mine_classes.specs.declared.words.Word.{Word}
+use Rattle.mine_baskets.specs.declared.words.Word.{Word}
 use Rattle.mine_classes.specs.Conditional.{kept_place}
-use Rattle.mine_classes.specs.ListBaskets.{HaveSameWeights}
-use Rattle.mine_classes.specs.Words.{word_places}
+use Rattle.mine_baskets.specs.ListBaskets.{HaveSameWeights}
+use Rattle.mine_baskets.specs.Words.{word_places}
 use Rattle.mine_fp.proofs.words.words_below.Given as goal
 
 abbrev pub invariant-loop-word : goal.invariant-loop-word

@@ -2,8 +2,8 @@ use Rattle.std.proofs.Common.{◌≡◌, ℕ, ◌<◌, ◌≤◌, ◌∷◌, Lis
 use Rattle.std.specs.Prelude.{All}
 use Rattle.basket_sets.specs.declared.weighted.Weighted.{Weighted}
 use Rattle.basket_sets.specs.Itemset.{has}
-use Rattle.mine_classes.specs.Words.{has_rank}
-use Rattle.mine_classes.specs.Covers.{cover_of, weights_of}
+use Rattle.mine_baskets.specs.Words.{has_rank}
+use Rattle.mine_baskets.specs.Covers.{cover_of, weights_of}
 use Rattle.mine_vertical.specs.Search.{IsSibling}
 use Rattle.mine_vertical.proofs.remade.bits_of_places.Given as goal
 

@@ -5,8 +5,8 @@ use Rattle.basket_ranks.specs.Codes.{decoded, decoded_place}
 use Rattle.basket_sets.specs.declared.weighted.Weighted.{Weighted}
 use Rattle.basket_sets.specs.Itemset.{IsRising, contains, has}
 use Rattle.basket_sets.specs.Support.{support_of}
-use Rattle.mine_classes.specs.ListBaskets.{weight_where}
-use Rattle.mine_classes.specs.Words.{word_places}
+use Rattle.mine_baskets.specs.ListBaskets.{weight_where}
+use Rattle.mine_baskets.specs.Words.{word_places}
 use Rattle.mine_vertical.specs.Remade.{AreBitsOf, bit_places}
 use Rattle.mine_vertical.specs.Siblings.{AreOver}
 use Rattle.mine_vertical.proofs.PlacesLemmas.{coded, decoded_weighs, nothing_in, supports_are}

@@ -4,8 +4,8 @@ use Rattle.std.specs.List.{sum_by}
 use Rattle.std.proofs.lemmas.List.Elements.{All-push}
 use Rattle.std.proofs.lemmas.List.{take_all}
 use Rattle.std.proofs.lemmas.List.Sums.{sum_by-append, sum_by-cons, sum_by-take-le, sum_by_more}
-use Rattle.mine_classes.specs.declared.words.Word.{Word}
-use Rattle.mine_classes.specs.Words.{word_places}
+use Rattle.mine_baskets.specs.declared.words.Word.{Word}
+use Rattle.mine_baskets.specs.Words.{word_places}
 use Rattle.mine_vertical.specs.Remade.{HaveSameNonempty, bit_places}
 use Rattle.mine_vertical.proofs.PlacesLemmas.{word_dropped, word_kept}
 use Rattle.mine_vertical.proofs.remade.words_of_places.Goals as goal

@@ -1,8 +1,8 @@
 use Rattle.std.proofs.Common.{ℕ, ◌≤◌, sum, take}
 use Rattle.std.specs.Prelude.{All}
 use Rattle.std.specs.List.{sum_by}
-use Rattle.mine_classes.specs.declared.words.Word.{Word}
-use Rattle.mine_classes.specs.Words.{word_places}
+use Rattle.mine_baskets.specs.declared.words.Word.{Word}
+use Rattle.mine_baskets.specs.Words.{word_places}
 use Rattle.mine_vertical.specs.Remade.{HaveSameNonempty, bit_places}
 use Rattle.mine_vertical.proofs.remade.words_of_places.Given as goal
 

@@ -5,7 +5,7 @@ use Rattle.std.specs.declared.alloc.Global.{Global}
 use Rattle.std.proofs.lemmas.List.{map-append, take_all, take_more}
 use Rattle.std.proofs.lemmas.List.Elements.{All-push, recursion_from_All}
 use Rattle.basket_ranks.specs.Codes.{IsCodedPlace, decoded_place}
-use Rattle.mine_classes.specs.Covers.{cover_of, weights_of}
+use Rattle.mine_baskets.specs.Covers.{cover_of, weights_of}
 use Rattle.mine_classes.specs.Form.{form_baskets}
 use Rattle.mine_vertical.specs.Cover.{IsCover, all_places}
 use Rattle.mine_vertical.specs.Search.{IsSibling}

@@ -7,9 +7,9 @@ use Rattle.basket_sets.specs.Itemset.{IsRising}
 use Rattle.basket_ranks.specs.Codes.{coded_place}
 use Rattle.mine_classes.specs.Conditional.{conditional}
 use Rattle.mine_classes.specs.Form.{form_baskets}
-use Rattle.mine_classes.specs.ListBaskets.{HaveSameWeights}
+use Rattle.mine_baskets.specs.ListBaskets.{HaveSameWeights}
 use Rattle.mine_classes.specs.Pairs.{kept_ranks, pairs_of}
-use Rattle.mine_classes.specs.Span.{baskets_at}
+use Rattle.mine_baskets.specs.Span.{baskets_at}
 use Rattle.mine_classes.proofs.CodedLemmas.{conditional_weights}
 use Rattle.mine_classes.proofs.SumLemmas.{runs_ranked}
 use Rattle.mine_classes.proofs.theory.Kept.{conditional_coding, kept_below, kept_rises, pair_ranks}

@@ -1,8 +1,8 @@
 use Rattle.std.proofs.Common.{map, subst}
 use Rattle.basket_ranks.specs.Codes.{Coding, baskets_of, decoded_place}
 use Rattle.mine_classes.specs.Form.{form_baskets}
-use Rattle.mine_classes.specs.ListBaskets.{HaveSameWeights}
-use Rattle.mine_classes.proofs.theory.Weights.{decoded_weights}
+use Rattle.mine_baskets.specs.ListBaskets.{HaveSameWeights}
+use Rattle.mine_baskets.proofs.theory.Weights.{decoded_weights}
 use Rattle.mine_classes.proofs.conditional.Conditional.sorted.Goals as goal
 
 pub returns-clause-baskets : goal.returns-clause-baskets

@@ -3,7 +3,7 @@ use Rattle.std.specs.Prelude.{IfOk}
 use Rattle.std.proofs.lemmas.Result.{IfOk-weaker}
 use Rattle.basket_sets.specs.Itemset.{rising}
 use Rattle.mine_classes.specs.Pairs.{is_met, ranks_met}
-use Rattle.mine_classes.specs.Span.{baskets_at}
+use Rattle.mine_baskets.specs.Span.{baskets_at}
 use Rattle.mine_classes.proofs.RunLemmas.{written}
 use Rattle.mine_classes.proofs.SumLemmas.{met_is}
 use Rattle.mine_classes.proofs.pairs.Sums.of_spans.Goals as goal

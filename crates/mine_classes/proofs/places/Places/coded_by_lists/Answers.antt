@@ -1,7 +1,7 @@
 use Rattle.std.proofs.Common.{subst, sym, ap, ◌∙◌, arith}
-use Rattle.mine_classes.specs.ListBaskets.{RankBaskets, weight_where}
+use Rattle.mine_baskets.specs.ListBaskets.{RankBaskets, weight_where}
 use Rattle.mine_classes.specs.Places.{ArePlaces}
-use Rattle.mine_classes.specs.Span.{baskets_at}
+use Rattle.mine_baskets.specs.Span.{baskets_at}
 use Rattle.mine_classes.proofs.PlaceLemmas.{coded_rank_baskets, table_coded}
 use Rattle.mine_classes.proofs.RunLemmas.{written}
 use Rattle.mine_classes.proofs.places.Places.coded_by_lists.Goals as goal

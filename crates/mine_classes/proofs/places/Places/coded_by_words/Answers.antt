@@ -2,9 +2,10 @@ use Rattle.std.proofs.Common.{◌≡◌, length, map, subst, sym, ap, ◌∙◌,
 use Rattle.std.specs.Prelude.{All}
 use Rattle.std.proofs.lemmas.Result.{IfOk-weaker}
 use Rattle.basket_ranks.specs.Codes.{coded_place}
-use Rattle.mine_classes.specs.ListBaskets.{HaveSameWeights, IsRankBasket, weight_where}
-use Rattle.mine_classes.specs.Span.{baskets_at}
-use Rattle.mine_classes.specs.Words.{AreBits, word_places}
+use Rattle.mine_baskets.specs.ListBaskets.{HaveSameWeights, IsRankBasket, weight_where}
+use Rattle.mine_baskets.specs.Span.{baskets_at}
+use Rattle.mine_baskets.specs.Words.{word_places}
+use Rattle.mine_classes.specs.BitTable.{AreBits}
 use Rattle.mine_classes.proofs.BitLemmas.{table_words_coded}
 use Rattle.mine_classes.proofs.RunLemmas.{written}
 use Rattle.mine_classes.proofs.places.Places.coded_by_words.Goals as goal

@@ -1,8 +1,8 @@
 use Rattle.std.proofs.Common.{◌≡◌, ◌<◌, [], get_or, length, subst, sym, ap, ◌∙◌, arith}
 use Rattle.std.specs.declared.alloc.Global.{Global}
 use Rattle.std.specs.declared.vec.Vec.{Vec}
-use Rattle.mine_classes.specs.declared.span.Span.{Span}
-use Rattle.mine_classes.specs.ListBaskets.{RankBaskets}
+use Rattle.mine_baskets.specs.declared.span.Span.{Span}
+use Rattle.mine_baskets.specs.ListBaskets.{RankBaskets}
 use Rattle.mine_classes.specs.Runs.{AreRunsOf, lists_in}
 use Rattle.mine_classes.proofs.RunLemmas.{length-lists_in, list_at}
 use Rattle.mine_classes.proofs.runs.Runs.of_rank.Goals as goal

@@ -3,7 +3,7 @@ use Rattle.std.specs.List.{sum_by}
 use Rattle.std.proofs.lemmas.List.{take_all}
 use Rattle.std.proofs.lemmas.List.Sums.{sum_by_more_le}
 use Rattle.basket_sets.proofs.theory.Support.{support_falls}
-use Rattle.mine_classes.specs.declared.span.Span.{Span}
+use Rattle.mine_baskets.specs.declared.span.Span.{Span}
 use Rattle.mine_classes.proofs.SumLemmas.{runs_weigh}
 use Rattle.mine_classes.proofs.runs.Runs.support.Goals as goal
 

@@ -3,7 +3,7 @@ use Rattle.std.specs.Result.{IfOk}
 use Rattle.basket_ranks.specs.Codes.{decoded_place}
 use Rattle.basket_sets.specs.declared.weighted.Weighted.{Weighted}
 use Rattle.mine_classes.specs.Conditional.{conditional}
-use Rattle.mine_classes.specs.ListBaskets.{HaveSameWeights}
+use Rattle.mine_baskets.specs.ListBaskets.{HaveSameWeights}
 use Rattle.mine_classes.specs.Pairs.{kept_ranks}
 use Rattle.mine_fp.specs.Paths.{form_baskets}
 use Rattle.mine_fp.proofs.paths.Paths.below.Goals as goal

@@ -1,5 +1,5 @@
 use Rattle.std.proofs.Common.{◌∷◌, ◌∙◌}
-use Rattle.mine_classes.specs.Covers.{cover_of, weights_of}
+use Rattle.mine_baskets.specs.Covers.{cover_of, weights_of}
 use Rattle.mine_vertical.proofs.CoverLemmas.{cover_weighs}
 use Rattle.mine_vertical.proofs.joins.Sibling.count.Goals as goal
 

@@ -1,0 +1,6 @@
+pub mod theory
+mod EntryLemmas
+mod MergedLemmas
+mod BitRankLemmas
+mod WordLemmas
+mod CoversLemmas

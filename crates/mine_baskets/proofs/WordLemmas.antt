@@ -1,0 +1,167 @@
+-- Words with weights.
+use Rattle.std.proofs.Common.{◌||◌, ◌^◌, eqb, true, false, ◌≡◌, ℕ, ◌+◌, ◌-◌, ◌<◌, ◌≤◌, Bool, List, [], ◌∷◌, ◌++◌, length, take, get_or, set, cond, refl, sym, ap, ◌∙◌, subst, inl, inr, arith}
+use Rattle.std.specs.Prelude.{All, bit_or}
+use Rattle.std.specs.List.{fold, range_with_len, sum_by}
+use Rattle.std.specs.List.Sorted.{IsPermutation}
+use Rattle.std.proofs.Math.Seq.{get_or-append_seam, map-set_same}
+use Rattle.std.proofs.lemmas.Bool.{cases_lt}
+use Rattle.std.proofs.lemmas.Nat.Bits.{bit_at-zero}
+use Rattle.std.proofs.lemmas.List.{get_or-map, get_or_append_left, get_or_default, length-append, length-map, length-set, map-append, take_more}
+use Rattle.std.proofs.lemmas.List.Sorted.{IsPermutation-map, sum_by-IsPermutation}
+use Rattle.std.proofs.lemmas.List.Sums.{sum_by-append, sum_by-cons, sum_by-set}
+use Rattle.basket_sets.specs.declared.weighted.Weighted.{Weighted}
+use Rattle.basket_sets.specs.Counts.{AllBelow}
+use Rattle.basket_sets.specs.Database.{MOST_WEIGHT}
+use Rattle.basket_sets.specs.Itemset.{IsRising, contains, has}
+use Rattle.basket_sets.proofs.theory.Members.{Member, Member-filter, Member-from_filter}
+use Rattle.basket_sets.proofs.theory.Rising.{Member-from_has, has-from_Member, same_rising}
+use Rattle.mine_baskets.specs.declared.words.Word.{Word}
+use Rattle.mine_baskets.specs.ListBaskets.{AreRankBaskets, HaveSameWeights, IsRankBasket, weight_where}
+use Rattle.mine_baskets.specs.Words.{AreInOrder, EndsBy, has_rank, rank_bits, ranks_in, word_place, word_places}
+use Rattle.mine_baskets.proofs.theory.Weights.{cond_sum}
+use Rattle.mine_baskets.proofs.theory.Bits.{has_either, one_rank, or_false}
+use Rattle.mine_baskets.specs.declared.words.TheConstants.{WORD_RANKS}
+use Rattle.mine_baskets.proofs.theory.Ranges.{Member-into_range, Member-range, filtered_range_rises}
+
+module _ (test : List ℕ → Bool) where
+  abbrev weigh : Weighted → ℕ
+  weigh place = cond (test place.basket) place.weight 0
+
+  -- the weight of words' baskets, word by word
+  word_weights : (count : ℕ) (words : List Word) → weight_where test (word_places count words) ≡ sum_by (λ word. weigh (word_place count word)) words
+  word_weights count [] = refl
+  word_weights count (word ∷ words) =
+      sum_by-cons weigh (word_place count word) (word_places count words) ∙ ap (λ n. weigh (word_place count word) + n) (word_weights count words)
+      ∙ sym (sum_by-cons (λ (w : Word). weigh (word_place count w)) word words)
+
+  -- more weight at a word is as good as an equal word
+  pub heavier_word : (count : ℕ) (words : List Word) (i : ℕ) (d word : Word) → i < length words → (get_or words i d).bits ≡ word.bits
+      → weight_where test (word_places count (words ++ word ∷ []))
+      ≡ weight_where test (word_places count (set words i (record { bits = (get_or words i d).bits; weight = (get_or words i d).weight + word.weight })))
+  heavier_word count words i d word here same =
+      let last = get_or words i d in
+      let new : Word = record { bits = last.bits; weight = last.weight + word.weight } in
+      let f : Word → ℕ = λ w. weigh (word_place count w) in
+      let all = sum_by-append f words (word ∷ []) in
+      let one = sum_by-cons f word [] in
+      let replaced = sum_by-set f words i new d here in
+      let both = cond_sum (test (ranks_in count last.bits)) last.weight word.weight in
+      let alike = ap (λ b. cond (test (ranks_in count b)) word.weight 0) same in
+      let raised : sum_by f (words ++ word ∷ []) ≡ sum_by f (set words i new) = omega arith in
+      word_weights count (words ++ word ∷ []) ∙ raised ∙ sym (word_weights count (set words i new))
+
+-- words in another order have the same weights
+pub moved_words : (count : ℕ) (words moved : List Word) → IsPermutation words moved → HaveSameWeights (word_places count words) (word_places count moved)
+moved_words count words moved permutation test =
+    sym (sum_by-IsPermutation (weigh test) (word_places count words) (word_places count moved) (IsPermutation-map (word_place count) words moved permutation))
+
+-- the baskets of words are baskets of ranks
+pub words_ranked : (count : ℕ) (words : List Word) → All (λ word. 1 ≤ word.weight) words → sum_by (λ word. word.weight) words ≤ MOST_WEIGHT
+    → AreRankBaskets (record { ranks = count; baskets = word_places count words })
+words_ranked count words some light = record {
+  places = λ k d here.
+      let inside : k < length words = omega (arith, here, length-map words (word_place count)) in
+      let bits = (get_or words k none).bits in
+      subst (IsRankBasket count) (sym (get_or-map (word_place count) words k none d inside)) (record {
+        rises = filtered_range_rises (has_rank bits) 0 count;
+        below = λ rank h.
+            let m = Member-filter (has_rank bits) rank (range_with_len 0 count) (Member-from_has (ranks_in count bits) rank h) in
+            let r = Member-range 0 count rank m.0 in
+            let high = r.1 in
+            omega arith;
+        weighs = some k none inside;
+      });
+  light = subst (λ n. n ≤ MOST_WEIGHT) (sym (word_weights (λ basket. contains basket []) count words)) light;
+}
+  where
+    none : Word
+    none = record { bits = 0; weight = 0 }
+
+-- one word more of a list
+pub next_word : (count : ℕ) (words : List Word) (i : ℕ) (d : Word) → i < length words
+    → word_places count (take i words) ++ word_place count (get_or words i d) ∷ [] ≡ word_places count (take (i + 1) words)
+next_word count words i d here =
+    sym (ap (word_places count) (take_more words i d here) ∙ map-append (word_place count) (take i words) (get_or words i d ∷ []))
+
+-- ---- words in order
+
+-- a word whose bits stay
+bits_stay : (words : List Word) (i : ℕ) (d new : Word) → i < length words → new.bits ≡ (get_or words i d).bits → (k : ℕ) (e : Word) → k < length words → (get_or (set words i new) k e).bits ≡ (get_or words k e).bits
+bits_stay words i d new here same k e low =
+    sym (get_or-map (λ (w : Word). w.bits) (set words i new) k e e.bits (subst (λ n. k < n) (sym (length-set words i new)) low))
+    ∙ ap (λ l. get_or l k e.bits) (map-set_same (λ (w : Word). w.bits) words i new d same) ∙ get_or-map (λ (w : Word). w.bits) words k e e.bits low
+
+pub heavier_order : (words : List Word) (i : ℕ) (d new : Word) → i < length words → new.bits ≡ (get_or words i d).bits → AreInOrder words → AreInOrder (set words i new)
+heavier_order words i d new here same order k e low =
+    let long = length-set words i new in
+    let first = bits_stay words i d new here same k e (omega (arith, low, long)) in
+    let second = bits_stay words i d new here same (k + 1) e (omega (arith, low, long)) in
+    let less = order k e (omega (arith, low, long)) in
+    omega (arith, first, second, less)
+
+pub heavier_end : (words : List Word) (i : ℕ) (d new : Word) → i < length words → i ≡ length words - 1 → new.bits ≡ (get_or words i d).bits → EndsBy new.bits (set words i new)
+heavier_end words i d new here last same e some =
+    let at : length (set words i new) - 1 ≡ i = omega (arith, last, length-set words i new) in
+    let stays = ap (λ n. (get_or (set words i new) n e).bits) at ∙ bits_stay words i d new here same i e here ∙ ap (λ (w : Word). w.bits) (get_or_default words i e d here) ∙ sym same in
+    omega (arith, stays)
+
+pub pushed_order : (words : List Word) (word : Word) → AreInOrder words → ((last : Word) → 0 < length words → (get_or words (length words - 1) last).bits < word.bits) → AreInOrder (words ++ word ∷ [])
+pushed_order words word order above k e low = elim (cases_lt (k + 1) (length words)) [
+  | inl less ↦
+      (let first = ap (λ (w : Word). w.bits) (get_or_append_left words (word ∷ []) e k (omega (arith, less))) in
+      let second = ap (λ (w : Word). w.bits) (get_or_append_left words (word ∷ []) e (k + 1) less) in
+      let before = order k e less in omega (arith, first, second, before))
+  | inr more ↦
+      (let long = length-append words (word ∷ []) in
+      let at : k ≡ length words - 1 = omega (arith, low, long, more) in
+      let end : k + 1 ≡ length words = omega (arith, low, long, more) in
+      let first = ap (λ (w : Word). w.bits) (get_or_append_left words (word ∷ []) e k (omega (arith, end)) ∙ ap (λ n. get_or words n e) at) in
+      let second = ap (λ n. (get_or (words ++ word ∷ []) n e).bits) end ∙ ap (λ (w : Word). w.bits) (get_or-append_seam words word [] e) in
+      let less = above e (omega (arith, end)) in omega (arith, first, second, less))
+]
+
+pub pushed_end : (words : List Word) (word : Word) → EndsBy word.bits (words ++ word ∷ [])
+pushed_end words word e some =
+    let at : length (words ++ word ∷ []) - 1 ≡ length words = omega (arith, length-append words (word ∷ [])) in
+    let is = ap (λ n. (get_or (words ++ word ∷ []) n e).bits) at ∙ ap (λ (w : Word). w.bits) (get_or-append_seam words word [] e) in
+    omega (arith, is)
+
+-- ---- the bits of ranks
+
+or_assoc : (a b c : Bool) → ((a || b) || c) ≡ (a || (b || c))
+or_assoc true b c = refl
+or_assoc false b c = refl
+
+bits_have : (basket : List ℕ) (bits rank : ℕ) → AllBelow WORD_RANKS basket → rank < WORD_RANKS → has_rank (fold (λ bits rank. bit_or bits (2 ^ (63 - rank))) bits basket) rank ≡ (has_rank bits rank || has basket rank)
+bits_have [] bits rank below within = sym (or_false (has_rank bits rank))
+bits_have (first ∷ basket) bits rank below within =
+    let low = below first (has-from_Member (first ∷ basket) first (inl refl)) in
+    let rest : AllBelow WORD_RANKS basket = λ other h. below other (has-from_Member (first ∷ basket) other (inr (Member-from_has basket other h))) in
+    bits_have basket (bit_or bits (2 ^ (63 - first))) rank rest within
+    ∙ ap (λ b. b || has basket rank) (has_either bits (2 ^ (63 - first)) rank ∙ ap (λ b. has_rank bits rank || b) (one_rank first rank low within))
+    ∙ or_assoc (has_rank bits rank) (eqb first rank) (has basket rank)
+
+-- they are the bits of these ranks
+pub rank_bits_are : (count : ℕ) (basket : List ℕ) → count ≤ WORD_RANKS → IsRising basket → AllBelow count basket → ranks_in count (rank_bits basket) ≡ basket
+rank_bits_are count basket few rises below = same_rising (ranks_in count bits) basket (filtered_range_rises (has_rank bits) 0 count) rises into back
+  where
+    bits : ℕ
+    bits = rank_bits basket
+
+    have : (rank : ℕ) → rank < count → has_rank bits rank ≡ has basket rank
+    have rank here =
+        bits_have basket 0 rank (λ other h. let b = below other h in omega arith) (omega arith)
+        ∙ ap (λ b. b || has basket rank) (ap (λ n. eqb n 1) (bit_at-zero (63 - rank)))
+
+    into : (rank : ℕ) → Member rank (ranks_in count bits) → Member rank basket
+    into rank m =
+        let p = Member-filter (has_rank bits) rank (range_with_len 0 count) m in
+        let r = Member-range 0 count rank p.0 in
+        let high = r.1 in
+        Member-from_has basket rank (sym (have rank (omega arith)) ∙ p.1)
+
+    back : (rank : ℕ) → Member rank basket → Member rank (ranks_in count bits)
+    back rank m =
+        let h = has-from_Member basket rank m in
+        let here = below rank h in
+        Member-from_filter (has_rank bits) rank (range_with_len 0 count) (Member-into_range 0 count rank (omega arith) (omega arith)) (have rank here ∙ h)

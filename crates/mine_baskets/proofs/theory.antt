@@ -1,0 +1,5 @@
+-- The theory of baskets of ranks, which the proofs of every crate may cite.
+pub mod Ranges
+pub mod Bits
+pub mod Weights
+pub mod Neighbours

@@ -1,0 +1,5 @@
+pub mod Span
+pub mod ListBaskets
+pub mod Entries
+pub mod Words
+pub mod Covers

@@ -1,0 +1,18 @@
+//! Baskets of ranks, as lists and as words.
+//!
+//! `list_baskets` puts coded baskets in an order in which those that begin alike are neighbours, and merges
+//! equal ones; `entries` has the keys by which they are sorted, and `span` is a part of the list in which
+//! all their ranks stand. Where there are at most 64 ranks, `words` has the baskets as bits, which are sorted
+//! and merged faster than lists, and `word_baskets` keeps them. `covers` finds the cover of each rank in both.
+#![tactic(auto)]
+
+mod covers;
+mod entries;
+mod list_baskets;
+pub mod span;
+mod word_baskets;
+pub mod words;
+
+pub use list_baskets::ListBaskets;
+pub use span::Span;
+pub use word_baskets::WordBaskets;

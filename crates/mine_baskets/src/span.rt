@@ -1,0 +1,81 @@
+//! Parts of a list of ranks.
+ghost use Rattle.std.specs.Prelude.{◌≡◌, ◌≤◌, ◌+◌, IfOk, length};
+ghost use Rattle.std.specs.List.{slice_range};
+ghost use Rattle.basket_sets.specs.Database.{MOST_WEIGHT};
+ghost use Rattle.mine_baskets.specs.Span.{IsWithin, span_front};
+
+use std::alloc::AllocError;
+
+/// Of how many baskets the ends are read ahead.
+pub const BASKETS_AHEAD: usize = 16;
+
+/// A part of a list of ranks, from `start` up to `end`, and the weight of a basket that it is.
+#[derive(Clone, Copy, Debug, PartialEq, Eq)]
+pub struct Span {
+    pub start: u32,
+    pub end: u32,
+    pub weight: u64,
+}
+
+impl Span {
+    /// The ranks that stand there.
+    pub fn of<'a>(&self, ranks: &'a [u32]) -> &'a [u32]
+        requires { IsWithin (length ranks.now) self.now }
+        ensures { result.now ≡ slice_range ranks.now self.now.start self.now.end }
+    {
+        &ranks[self.start as usize..self.end as usize]
+    }
+
+    /// So many of its first ranks.
+    pub fn first(&self, depth: u32) -> Span
+        requires { self.now.start + depth ≤ self.now.end }
+        ensures { result ≡ span_front self.now depth }
+    {
+        let end = self.start + depth;
+        Span { end, ..*self }
+    }
+
+    /// A part of another list with the same weight.
+    pub fn moved(&self, start: u32, end: u32) -> Span
+        ensures { result ≡ record { start = start; end = end; weight = self.now.weight } }
+    {
+        Span {
+            start,
+            end,
+            ..*self
+        }
+    }
+
+    /// Adds the weight of an equal neighbour.
+    pub fn add_weight(&mut self, weight: u64)
+        requires { self.old.weight + weight ≤ MOST_WEIGHT }
+        ensures { self.new ≡ record { start = self.old.start; end = self.old.end; weight = self.old.weight + weight } }
+    {
+        self.weight += weight;
+    }
+}
+
+/// A place in a list of ranks. More than 4,294,967,295 ranks count as a refused growth.
+pub fn place(len: usize) -> Result<u32, AllocError>
+    ensures { IfOk result (λ place. place ≡ len) }
+{
+    if len > u32::MAX as usize {
+        return Err(AllocError);
+    }
+    Ok(len as u32)
+}
+
+/// The greater of the ranks at the ends of each of the next baskets. These lie far apart, and such reads
+/// don't wait for one another.
+pub fn read_ahead(ranks: &[u32], baskets: &[Span]) -> [u32; BASKETS_AHEAD] {
+    let mut end_ranks = [0u32; BASKETS_AHEAD];
+    for (rank, basket) in end_ranks.iter_mut().zip(baskets) {
+        *rank = rank_at(ranks, basket.start).max(rank_at(ranks, basket.end));
+    }
+    end_ranks
+}
+
+/// The rank at a place, or 0 where there is none.
+fn rank_at(ranks: &[u32], place: u32) -> u32 {
+    ranks.get(place as usize).copied().unwrap_or(0)
+}
