@@ -17,7 +17,8 @@ use Rattle.basket_sets.proofs.theory.Rising.{nil_rises, cons_rises, first_below,
 use Rattle.basket_sets.proofs.theory.Support.{subsets_are_frequent, at_least_one}
 use Rattle.mine_classes.specs.Conditional.{is_kept, conditional}
 use Rattle.mine_classes.specs.Classes.{ends_in, with_rank, extended, ClassesAreConditional, RareRanksHaveNoClass}
-use Rattle.mine_classes.proofs.ConditionalLemmas.{all_each, each_all, conditional_supports}
+use Rattle.mine_classes.proofs.ConditionalLemmas.{conditional_supports}
+use Rattle.mine_classes.proofs.theory.Branches.{all_of, each_of}
 
 -- ---- the greatest rank of a set
 
@@ -81,7 +82,7 @@ module _ (baskets : List Weighted) (least rank : ℕ) where
 
   -- a frequent set with the rank has only ranks that the conditional database keeps
   kept_each : (set : List ℕ) → IsRising (set ++ rank ∷ []) → frequent (set ++ rank ∷ []) ≡ true → list_all (is_kept baskets least rank) set ≡ true
-  kept_each set up h = each_all (is_kept baskets least rank) set (λ item m.
+  kept_each set up h = all_of (is_kept baskets least rank) set (λ item m.
       and_from (ltb item rank) (frequent (item ∷ rank ∷ [])) (lt-ltb item rank (front_below rank set up item m))
       (subsets_are_frequent baskets (Count least) (set ++ rank ∷ []) (item ∷ rank ∷ []) (contains_each (set ++ rank ∷ []) (item ∷ rank ∷ []) (pair item m)) h))
     where
@@ -115,7 +116,7 @@ module _ (baskets : List Weighted) (least rank : ℕ) where
   with_rank_sound : (c : Counted) → IsWithin c → IsOfClass (with_rank rank c)
   with_rank_sound c s =
       let kept = kept_within c.set s.1 in (
-        (push_rises rank c.set s.0.0 (λ item m. ltb-true item rank (and_parts (ltb item rank) (frequent (item ∷ rank ∷ [])) (all_each (is_kept baskets least rank) c.set kept item m)).0), push_some rank c.set),
+        (push_rises rank c.set s.0.0 (λ item m. ltb-true item rank (and_parts (ltb item rank) (frequent (item ∷ rank ∷ [])) (each_of (is_kept baskets least rank) c.set kept item m)).0), push_some rank c.set),
         ends_in-push rank c.set,
         sym (kept_test_is c.set kept) ∙ s.1,
         s.2 ∙ kept_support_is c.set kept,

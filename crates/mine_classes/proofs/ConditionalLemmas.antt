@@ -1,5 +1,5 @@
 -- Supports in a conditional database.
-use Rattle.std.proofs.Common.{◌≡◌, ℕ, ◌+◌, Bool, true, false, ◌&&◌, List, [], ◌∷◌, ◌++◌, cond, refl, sym, ap, ◌∙◌, inl, inr, add-zero}
+use Rattle.std.proofs.Common.{◌≡◌, ℕ, ◌+◌, Bool, true, false, ◌&&◌, List, [], ◌∷◌, ◌++◌, cond, refl, sym, ap, ◌∙◌, add-zero}
 use Rattle.std.specs.List.{filter, flat_map, list_all}
 use Rattle.std.proofs.lemmas.Bool.{and_parts, and_from}
 use Rattle.std.proofs.lemmas.List.Folds.{list_all-append}
@@ -7,11 +7,12 @@ use Rattle.basket_sets.specs.declared.weighted.Weighted.{Weighted}
 use Rattle.basket_sets.specs.Database.{weighted}
 use Rattle.basket_sets.specs.Itemset.{has, contains}
 use Rattle.basket_sets.specs.Support.{weight_at, support_of}
-use Rattle.basket_sets.proofs.theory.Members.{Member, Member-filter, Member-from_filter}
+use Rattle.basket_sets.proofs.theory.Members.{Member-filter, Member-from_filter}
 use Rattle.basket_sets.proofs.theory.Rising.{has_each, contains_each}
 use Rattle.basket_sets.proofs.theory.Support.{support-append, support-cons}
 use Rattle.mine_classes.specs.Conditional.{is_kept, kept_place, ConditionalSupports}
 use Rattle.mine_baskets.proofs.theory.Weights.{cond_sum}
+use Rattle.mine_classes.proofs.theory.Branches.{all_of, each_of}
 
 -- ---- tests
 
@@ -19,15 +20,6 @@ pub same_tests : (a b : Bool) → (a ≡ true → b ≡ true) → (b ≡ true �
 same_tests true b f g = sym (f refl)
 same_tests false true f g = g refl
 same_tests false false f g = refl
-
-pub all_each : {K : Type 0} (p : K → Bool) (xs : List K) → list_all p xs ≡ true → (x : K) → Member x xs → p x ≡ true
-all_each p [] h x m = absurd m
-all_each p (y ∷ ys) h x (inl e) = ap p (sym e) ∙ (and_parts (p y) (list_all p ys) h).0
-all_each p (y ∷ ys) h x (inr m) = all_each p ys (and_parts (p y) (list_all p ys) h).1 x m
-
-pub each_all : {K : Type 0} (p : K → Bool) (xs : List K) → ((x : K) → Member x xs → p x ≡ true) → list_all p xs ≡ true
-each_all p [] h = refl
-each_all p (y ∷ ys) h = and_from (p y) (list_all p ys) (h y (inl refl)) (each_all p ys (λ x m. h x (inr m)))
 
 both : (a b : Bool) (weight : ℕ) → cond (a && b) weight 0 ≡ cond a (cond b weight 0) 0
 both true b weight = refl
@@ -56,10 +48,10 @@ and_every false = refl
 contains-filter : (keeps : ℕ → Bool) (basket set : List ℕ) → contains (filter keeps basket) set ≡ (list_all keeps set && contains basket set)
 contains-filter keeps basket set = same_tests _ _
     (λ h. and_from (list_all keeps set) (contains basket set)
-    (each_all keeps set (λ item m. (Member-filter keeps item basket (has_each (filter keeps basket) set h item m)).1))
+    (all_of keeps set (λ item m. (Member-filter keeps item basket (has_each (filter keeps basket) set h item m)).1))
     (contains_each basket set (λ item m. (Member-filter keeps item basket (has_each (filter keeps basket) set h item m)).0)))
     (λ h. let p = and_parts (list_all keeps set) (contains basket set) h in
-    contains_each (filter keeps basket) set (λ item m. Member-from_filter keeps item basket (has_each basket set p.1 item m) (all_each keeps set p.0 item m)))
+    contains_each (filter keeps basket) set (λ item m. Member-from_filter keeps item basket (has_each basket set p.1 item m) (each_of keeps set p.0 item m)))
 
 contains-push : (basket set : List ℕ) (rank : ℕ) → contains basket (set ++ rank ∷ []) ≡ (contains basket set && has basket rank)
 contains-push basket set rank = list_all-append (has basket) set (rank ∷ []) ∙ and_last (contains basket set) (has basket rank)

@@ -11,3 +11,6 @@ mod PlaceLemmas
 mod BitLemmas
 mod CodedLemmas
 mod MinedLemmas
+mod BranchLemmas
+mod ShiftLemmas
+mod WordLemmas

@@ -19,8 +19,7 @@ use Rattle.mine_baskets.specs.ListBaskets.{AreRankBaskets, IsRankBasket}
 use Rattle.mine_classes.specs.Places.{ArePlaces, by_table, table_places}
 use Rattle.mine_baskets.specs.Span.{IsWithin, basket_at, baskets_at}
 use Rattle.mine_classes.proofs.PairLemmas.{has_more}
-use Rattle.mine_classes.proofs.RunLemmas.{rising_at}
-use Rattle.mine_baskets.proofs.theory.Neighbours.{pushed_basket, Member-at}
+use Rattle.mine_baskets.proofs.theory.Neighbours.{Member-at, pushed_basket, rising_at}
 
 pub place_le : (xs : List ℕ) (k : ℕ) → IsRising xs → k < length xs → k ≤ get_or xs k 0
 place_le xs zero up here = omega arith

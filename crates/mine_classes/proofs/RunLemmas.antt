@@ -7,11 +7,10 @@ use Rattle.std.specs.List.{slice_range}
 use Rattle.mine_baskets.specs.Span.{IsWithin}
 use Rattle.std.proofs.lemmas.List.{append-nil, drop_all, length-drop, length-take, get_or-map, get_or-set_same, get_or-set_other, length-map, length-set, map-set, take_all}
 use Rattle.basket_sets.specs.Itemset.{IsRising}
-use Rattle.basket_sets.proofs.theory.Rising.{first_below, rest_rises}
 use Rattle.mine_baskets.specs.declared.span.Span.{Span}
 use Rattle.mine_classes.specs.Runs.{HaveRuns, lists_in, with_last_heavier, with_run}
 use Rattle.mine_baskets.specs.Span.{span_front}
-use Rattle.mine_baskets.proofs.theory.Neighbours.{Member-at}
+use Rattle.mine_baskets.proofs.theory.Neighbours.{rising_at}
 
 pub heavier_is : (runs : List Span) (i : ℕ) (last : Span) (weight : ℕ) → i + 1 ≡ length runs → last ≡ get_or runs i last
     → set runs i (record { start = last.start; end = last.end; weight = last.weight + weight }) ≡ with_last_heavier weight runs
@@ -33,12 +32,6 @@ written len was now long as_long =
     ap (take len) (ap (λ l. now ++ l) (drop_all (length now) was (omega arith)) ∙ append-nil now) ∙ take_all len now (omega arith)
 
 -- ---- members of a rising list
-
-pub rising_at : (xs : List ℕ) (j k : ℕ) → IsRising xs → j < k → k < length xs → get_or xs j 0 < get_or xs k 0
-rising_at [] j k up less below = absurd (omega arith)
-rising_at (x ∷ xs) j zero up less below = absurd (omega arith)
-rising_at (x ∷ xs) zero (suc k) up less below = first_below x xs up (get_or xs k 0) (Member-at xs k (omega arith))
-rising_at (x ∷ xs) (suc j) (suc k) up less below = rising_at xs j k (rest_rises x xs up) (omega arith) (omega arith)
 
 -- ---- lists of runs
 

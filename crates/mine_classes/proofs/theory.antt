@@ -1,2 +1,3 @@
 -- The theory of conditional databases, which the proofs of every crate may cite.
 pub mod Kept
+pub mod Branches

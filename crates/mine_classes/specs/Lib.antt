@@ -4,6 +4,8 @@ pub mod Runs
 pub mod Pairs
 pub mod Places
 pub mod BitTable
-pub mod Form
+pub mod Words
+pub mod Shift
+pub mod Paths
 pub mod Worked
 pub mod Mined

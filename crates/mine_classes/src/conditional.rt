@@ -1,112 +1,88 @@
 //! The conditional database of a rank.
 ghost use Rattle.std.specs.Prelude.{◌≡◌, ◌≤◌, ◌<◌, IfOk, length, map};
-ghost use Rattle.basket_ranks.specs.Codes.{IsCoding, baskets_of};
+ghost use Rattle.basket_ranks.specs.Codes.{IsCoding, decoded_place};
 ghost use Rattle.basket_sets.specs.declared.minimum.Minimum.TheVariants.{Count};
-ghost use Rattle.mine_classes.specs.Conditional.{conditional};
-ghost use Rattle.mine_classes.specs.Form.{form_baskets};
-ghost use Rattle.mine_baskets.specs.ListBaskets.{HaveSameWeights};
+ghost use Rattle.mine_baskets.specs.Covers.{AreCovers, weights_of};
+ghost use Rattle.mine_baskets.specs.ListBaskets.{AreRankBaskets, HaveSameWeights};
+ghost use Rattle.mine_classes.specs.Conditional.{conditional, conditional_baskets};
 ghost use Rattle.mine_classes.specs.Pairs.{kept_ranks, pairs_of};
 
-use crate::form::Form;
 use crate::places::Places;
 use crate::runs::Runs;
+use mine_baskets::{ListBaskets, WordBaskets};
 use std::alloc::{AllocError, Global};
-use std::marker::Model;
 
 /// The baskets that have a rank, kept to the ranks below it that are frequent together with it, by
-/// a least support (Han, Pei and Yin 2000). The ranks that are kept are numbered anew, from 0 on, so
-/// that the baskets are baskets of ranks again.
+/// a least support (Han, Pei and Yin 2000): words where at most 64 are kept, else lists. The ranks that
+/// are kept are numbered anew, from 0 on, so that the baskets are baskets of ranks again.
 #[derive(Debug, Drop)]
-pub struct Conditional {
-    ranks: Vec<u32>,
-    least: u64,
-    baskets: Form,
-}
-
-impl Model for Conditional {
-    ghost use Rattle.std.specs.Prelude.{◌≡◌, length};
-    ghost use Rattle.basket_ranks.specs.Codes.{Coding};
-    ghost use Rattle.basket_sets.specs.declared.minimum.Minimum.TheVariants.{Count};
-    ghost use Rattle.mine_classes.specs.Form.{form_baskets};
-
-    ghost Value = { Coding };
-
-    ghost view = { λ c. record { items = c.ranks.items; minimum = Count c.least; baskets = (form_baskets c.baskets).baskets } };
-
-    ghost invariant = { λ c. (form_baskets c.baskets).ranks ≡ length c.ranks.items };
+pub enum Conditional {
+    Lists(ListBaskets),
+    Words(WordBaskets),
 }
 
 impl Conditional {
-    /// The conditional database of a rank. The pairs are those of the rank by the same least
-    /// support.
-    pub fn of(
+    /// The same baskets in order, equal ones merged. Words are.
+    pub fn sorted(self, alloc: Global) -> Result<Conditional, AllocError>
+        requires { AreRankBaskets (conditional_baskets self) }
+        ensures ranks { IfOk result (λ sorted. (conditional_baskets sorted).ranks ≡ (conditional_baskets self).ranks) }
+        ensures ranked { IfOk result (λ sorted. AreRankBaskets (conditional_baskets sorted)) }
+        ensures weights { IfOk result (λ sorted. HaveSameWeights (conditional_baskets self).baskets (conditional_baskets sorted).baskets) }
+    {
+        match self {
+            Conditional::Lists(lists) => Ok(Conditional::Lists(lists.sorted(alloc)?)),
+            Conditional::Words(words) => Ok(Conditional::Words(words)),
+        }
+    }
+
+    /// The weight of each basket, by the basket's place.
+    pub fn weights(&self, alloc: Global) -> Result<Vec<u64>, AllocError>
+        ensures { IfOk result (λ weights. weights.items ≡ weights_of (conditional_baskets self.now).baskets) }
+    {
+        match self {
+            Conditional::Lists(lists) => lists.weights(alloc),
+            Conditional::Words(words) => words.weights(alloc),
+        }
+    }
+
+    /// The cover of each rank: the places, rising, of the baskets that have it.
+    pub fn covers(&self, alloc: Global) -> Result<Vec<Vec<u32>>, AllocError>
+        ensures { IfOk result (λ covers. AreCovers (conditional_baskets self.now) covers.items) }
+    {
+        match self {
+            Conditional::Lists(lists) => lists.covers(alloc),
+            Conditional::Words(words) => words.covers(alloc),
+        }
+    }
+}
+
+impl Runs {
+    /// The conditional database of a rank. The pairs are those of the rank by the same least support.
+    pub fn below(
+        &self,
         alloc: Global,
-        runs: &Runs,
         places: &mut Places,
         rank: u32,
         least: u64,
         pairs: &[(u32, u64)],
-    ) -> Result<Self, AllocError>
-        requires rank { rank < runs.now.ranks }
-        requires places { runs.now.ranks ≤ places.old }
-        requires pairs { pairs.now ≡ pairs_of runs.now.baskets least rank }
-        ensures ranks { IfOk result (λ c. c.items ≡ kept_ranks runs.now.baskets least rank) }
-        ensures minimum { IfOk result (λ c. c.minimum ≡ Count least) }
-        ensures coding { IfOk result IsCoding }
-        ensures baskets { IfOk result (λ c. HaveSameWeights (conditional least runs.now.baskets rank) (baskets_of c)) }
+    ) -> Result<Conditional, AllocError>
+        requires rank { rank < self.now.ranks }
+        requires places { self.now.ranks ≤ places.old }
+        requires pairs { pairs.now ≡ pairs_of self.now.baskets least rank }
+        ensures ranks { IfOk result (λ below. (conditional_baskets below).ranks ≡ length (kept_ranks self.now.baskets least rank)) }
+        ensures coding { IfOk result (λ below. IsCoding (record { items = kept_ranks self.now.baskets least rank; minimum = Count least; baskets = (conditional_baskets below).baskets })) }
+        ensures weights { IfOk result (λ below. HaveSameWeights (conditional least self.now.baskets rank) (map (decoded_place (kept_ranks self.now.baskets least rank)) (conditional_baskets below).baskets)) }
         ensures places { places.new ≡ places.old }
     {
-        let ranks = ranks_of(alloc, pairs)?;
-        let (all, paths) = runs.of_rank(rank);
-        let baskets = places.coded(alloc, &ranks, all, paths)?;
-        Ok(Conditional {
-            ranks,
-            least,
-            baskets,
-        })
-    }
-
-    /// The same with its baskets in order, equal ones merged: fewer baskets, for who keeps a list of them
-    /// for each rank.
-    pub fn sorted(self, alloc: Global) -> Result<Self, AllocError>
-        requires { IsCoding self }
-        ensures ranks { IfOk result (λ c. c.items ≡ self.items) }
-        ensures minimum { IfOk result (λ c. c.minimum ≡ self.minimum) }
-        ensures coding { IfOk result IsCoding }
-        ensures baskets { IfOk result (λ c. HaveSameWeights (baskets_of self) (baskets_of c)) }
-    {
-        let Conditional {
-            ranks,
-            least,
-            baskets,
-        } = self;
-        let baskets = baskets.sorted(alloc)?;
-        Ok(Conditional {
-            ranks,
-            least,
-            baskets,
-        })
-    }
-
-    /// The ranks that are kept, rising.
-    pub fn ranks(&self) -> &[u32]
-        ensures { result.now ≡ self.now.items }
-    {
-        &self.ranks
-    }
-
-    /// The baskets, by the new numbers of the ranks.
-    pub fn into_form(self) -> Form
-        ensures baskets { (form_baskets result).baskets ≡ self.baskets }
-        ensures ranks { (form_baskets result).ranks ≡ length self.items }
-    {
-        let Conditional { baskets, .. } = self;
-        baskets
+        let kept = ranks_of(alloc, pairs)?;
+        let (ranks, paths) = self.of_rank(rank);
+        let below = places.coded(alloc, &kept, ranks, paths)?;
+        Ok(below)
     }
 }
 
 /// The ranks of some pairs.
-fn ranks_of(alloc: Global, pairs: &[(u32, u64)]) -> Result<Vec<u32>, AllocError>
+pub fn ranks_of(alloc: Global, pairs: &[(u32, u64)]) -> Result<Vec<u32>, AllocError>
     ensures { IfOk result (λ ranks. ranks.items ≡ map (λ pair. pair.0) pairs.now) }
 {
     pairs.iter().map(|pair| pair.0).collect(alloc)

@@ -3,12 +3,12 @@ ghost use Rattle.std.specs.Prelude.{◌≡◌, ◌≤◌, ◌+◌, ◌++◌, [],
 ghost use Rattle.basket_ranks.specs.Codes.{coded_place};
 ghost use Rattle.basket_sets.specs.Counts.{AllBelow};
 ghost use Rattle.basket_sets.specs.Itemset.{IsRising};
-ghost use Rattle.mine_classes.specs.Form.{form_baskets};
+ghost use Rattle.mine_classes.specs.Conditional.{conditional_baskets};
 ghost use Rattle.mine_baskets.specs.ListBaskets.{AreRankBaskets, HaveSameWeights};
 ghost use Rattle.mine_classes.specs.Places.{ArePlaces, by_table, table_places};
 ghost use Rattle.mine_baskets.specs.Span.{IsWithin, baskets_at};
 
-use crate::form::Form;
+use crate::conditional::Conditional;
 use mine_baskets::ListBaskets;
 use crate::room::make_room;
 use mine_baskets::span::{BASKETS_AHEAD, Span, place, read_ahead};
@@ -58,22 +58,22 @@ impl Places {
         kept: &[u32],
         ranks: &[u32],
         baskets: &[Span],
-    ) -> Result<Form, AllocError>
+    ) -> Result<Conditional, AllocError>
         requires rises { IsRising kept.now }
         requires below { AllBelow self.old kept.now }
         requires within { All (IsWithin (length ranks.now)) baskets.now }
         requires ranked { AreRankBaskets (record { ranks = self.old; baskets = baskets_at ranks.now baskets.now }) }
-        ensures ranks { IfOk result (λ form. (form_baskets form).ranks ≡ length kept.now) }
-        ensures ranked { IfOk result (λ form. AreRankBaskets (form_baskets form)) }
-        ensures weights { IfOk result (λ form. HaveSameWeights (map (coded_place kept.now) (baskets_at ranks.now baskets.now)) (form_baskets form).baskets) }
+        ensures ranks { IfOk result (λ below. (conditional_baskets below).ranks ≡ length kept.now) }
+        ensures ranked { IfOk result (λ below. AreRankBaskets (conditional_baskets below)) }
+        ensures weights { IfOk result (λ below. HaveSameWeights (map (coded_place kept.now) (baskets_at ranks.now baskets.now)) (conditional_baskets below).baskets) }
         ensures places { self.new ≡ self.old }
     {
         if kept.len() <= WORD_RANKS {
             let words = self.coded_by_words(alloc, kept, ranks, baskets)?;
-            return Ok(Form::Words(words));
+            return Ok(Conditional::Words(words));
         }
         let lists = self.coded_by_lists(alloc, kept, ranks, baskets)?;
-        Ok(Form::Lists(lists))
+        Ok(Conditional::Lists(lists))
     }
 
     /// The same of many ranks, where each basket is a list. They stay in the order in which they come:

@@ -21,11 +21,11 @@ use Rattle.mine_classes.specs.Conditional.{ConditionalSupports, conditional, is_
 use Rattle.mine_classes.specs.Mined.{ListsHaveClassSize}
 use Rattle.mine_baskets.proofs.theory.Ranges.{Member-into_range}
 use Rattle.mine_fp.specs.Level.{as_items}
-use Rattle.mine_fp.specs.Trees.{is_branch}
 use Rattle.mine_fp.proofs.ClassLemmas.{listed_long}
 use Rattle.mine_fp.proofs.LevelLemmas.{rising_same}
-use Rattle.mine_fp.proofs.PathLemmas.{full_from_branch}
-use Rattle.mine_fp.proofs.StraightLemmas.{all_of, from_picked, same_support}
+use Rattle.mine_fp.proofs.StraightLemmas.{same_support}
+use Rattle.mine_classes.proofs.theory.Branches.{full_from_branch, all_of, from_picked}
+use Rattle.mine_classes.specs.Paths.{is_branch}
 
 -- a set with another count
 abbrev pub recounted : ℕ → Counted → Counted

@@ -21,9 +21,11 @@ use Rattle.mine_baskets.specs.ListBaskets.{HaveSameWeights}
 use Rattle.mine_classes.specs.Pairs.{kept_ranks}
 use Rattle.mine_baskets.proofs.theory.Ranges.{Member-into_range, Member-range}
 use Rattle.mine_classes.proofs.theory.Kept.{kept_below, kept_rises}
-use Rattle.mine_fp.specs.Trees.{has_tree, is_branch, is_straight}
-use Rattle.mine_fp.proofs.LevelLemmas.{at_place, less_at}
-use Rattle.mine_fp.proofs.StraightLemmas.{ArePlain, IsFlat, all_of, each_of, flat_from_straight, has_more_too, same_support, straight_from_flat}
+use Rattle.mine_fp.specs.Trees.{has_tree, is_straight}
+use Rattle.mine_fp.proofs.StraightLemmas.{ArePlain, IsFlat, flat_from_straight, has_more_too, same_support, straight_from_flat}
+use Rattle.mine_baskets.proofs.theory.Neighbours.{Member-at, rising_at}
+use Rattle.mine_classes.proofs.theory.Branches.{all_of, each_of}
+use Rattle.mine_classes.specs.Paths.{is_branch}
 
 abbrev pub IsWithinRanks : ℕ → List Weighted → Type 0
 IsWithinRanks count baskets = (place : Weighted) → Member place baskets → AllBelow count place.basket
@@ -50,7 +52,7 @@ module _ (baskets inner : List Weighted) (least rank : ℕ) (law : ConditionalSu
   -- ---- supports
 
   name_kept : (k : ℕ) → k < count → is_kept baskets least rank (name k) ≡ true
-  name_kept k here = (Member-filter (is_kept baskets least rank) (name k) (range_with_len 0 rank) (at_place kept k here)).1
+  name_kept k here = (Member-filter (is_kept baskets least rank) (name k) (range_with_len 0 rank) (Member-at kept k here)).1
 
   contains_named : (basket set : List ℕ) → AllBelow count basket → AreRanks set → contains (decoded kept basket) (map name set) ≡ contains basket set
   contains_named basket set below ranks = same_test _ _
@@ -89,7 +91,7 @@ module _ (baskets inner : List Weighted) (least rank : ℕ) (law : ConditionalSu
   -- ---- the ranks that join a set
 
   less_names : (i j : ℕ) → i < j → j < count → name i < name j
-  less_names i j less here = less_at kept (kept_rises baskets least rank) i j less here
+  less_names i j less here = rising_at kept i j (kept_rises baskets least rank) less here
 
   names_less : (i j : ℕ) → i < count → j < count → name i < name j → i < j
   names_less i j here there less = elim (cases_lt i j) [
@@ -170,7 +172,7 @@ module _ (baskets inner : List Weighted) (least rank : ℕ) (law : ConditionalSu
   -- ---- single branches
 
   name_below : (k : ℕ) → k < count → name k < rank
-  name_below k here = kept_below baskets least rank (name k) (has-from_Member kept (name k) (at_place kept k here))
+  name_below k here = kept_below baskets least rank (name k) (has-from_Member kept (name k) (Member-at kept k here))
 
   inner_straight : (first : ℕ) (others : List ℕ) → AreRanks (first ∷ others)
       → is_straight baskets (Count least) (outer (first ∷ others)) ≡ is_straight inner (Count least) (first ∷ others)

@@ -1,6 +1,6 @@
 -- The sets of a conditional database as items.
 use Rattle.std.proofs.Common.{◌≡◌, ℕ, ◌<◌, List, [], ◌∷◌, ◌++◌, length, get_or, map, refl, sym, ap, ◌∙◌, subst, inl, inr, arith, zero, suc}
-use Rattle.std.proofs.lemmas.List.{get_or-map, get_or_default, length-map}
+use Rattle.std.proofs.lemmas.List.{get_or-map, length-map}
 use Rattle.basket_ranks.specs.Codes.{decoded, decoded_set}
 use Rattle.basket_ranks.proofs.theory.Coding.{from_decoded, into_decoded}
 use Rattle.basket_sets.specs.declared.weighted.Weighted.{Weighted}
@@ -8,8 +8,9 @@ use Rattle.basket_sets.specs.declared.counted.Counted.{Counted}
 use Rattle.basket_sets.specs.Counts.{AllBelow}
 use Rattle.basket_sets.specs.Itemset.{IsRising, rising, with_item}
 use Rattle.basket_sets.specs.Support.{support_of}
-use Rattle.basket_sets.proofs.theory.Members.{Member, Member-append, Member-append_left, Member-append_right, Member-map, Member-from_map, Member-from_Contains}
+use Rattle.basket_sets.proofs.theory.Members.{Member, Member-append, Member-append_left, Member-append_right, Member-map, Member-from_map}
 use Rattle.basket_sets.proofs.theory.Rising.{Member-rising, Member-into_rising, Member-into_with_item, Member-with_item, cons_rises, first_below, has-from_Member, Member-from_has, nil_rises, rest_rises, rising-rises, rising-rising, rising_is}
+use Rattle.mine_baskets.proofs.theory.Neighbours.{rising_at}
 use Rattle.mine_classes.specs.Classes.{with_rank}
 use Rattle.mine_classes.specs.Pairs.{kept_ranks, named_pair, pairs_of}
 use Rattle.mine_fp.specs.Level.{as_items}
@@ -86,22 +87,13 @@ alone_as_items names suffix rank support up =
 
 -- ---- sets of a rising list's numbers
 
-pub at_place : (items : List ℕ) (k : ℕ) → k < length items → Member (get_or items k 0) items
-at_place items k here = Member-from_Contains (get_or items k 0) items (k, here, get_or_default items k (get_or items k 0) 0 here)
-
-pub less_at : (items : List ℕ) → IsRising items → (i j : ℕ) → i < j → j < length items → get_or items i 0 < get_or items j 0
-less_at [] up i j less here = absurd (omega arith)
-less_at (x ∷ items) up i zero less here = absurd (omega arith)
-less_at (x ∷ items) up zero (suc j) less here = first_below x items up (get_or items j 0) (at_place items j (omega arith))
-less_at (x ∷ items) up (suc i) (suc j) less here = less_at items (rest_rises x items up) i j (omega arith) (omega arith)
-
 -- the numbers at rising places of a rising list rise
 pub placed_rise : (items set : List ℕ) → IsRising items → IsRising set → AllBelow (length items) set → IsRising (map (λ k. get_or items k 0) set)
 placed_rise items [] up over within = nil_rises
 placed_rise items (k ∷ set) up over within =
     cons_rises (get_or items k 0) (map (λ j. get_or items j 0) set)
     (λ y m. let p = Member-from_map (λ j. get_or items j 0) y set m in
-    subst (λ z. get_or items k 0 < z) p.2 (less_at items up k p.0 (first_below k set over p.0 p.1) (within p.0 (has-from_Member (k ∷ set) p.0 (inr p.1)))))
+    subst (λ z. get_or items k 0 < z) p.2 (rising_at items k p.0 up (first_below k set over p.0 p.1) (within p.0 (has-from_Member (k ∷ set) p.0 (inr p.1)))))
     (placed_rise items set up (rest_rises k set over) (λ j h. within j (has-from_Member (k ∷ set) j (inr (Member-from_has set j h)))))
 
 pub length-decoded : (items set : List ℕ) → IsRising items → IsRising set → AllBelow (length items) set → length (decoded items set) ≡ length set

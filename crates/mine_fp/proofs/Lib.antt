@@ -10,11 +10,8 @@ mod StraightLemmas
 mod InnerLemmas
 mod TreesLemmas
 mod NameLemmas
-mod PathLemmas
 mod ChoiceLemmas
-mod WordLemmas
 mod LeafLemmas
-mod ShiftLemmas
 mod SuffixLemmas
 mod FoundLemmas
 mod ToldLemmas

@@ -1,7 +1,7 @@
 -- A conditional tree is a single branch where each basket that has a rank has the lower ones.
-use Rattle.std.proofs.Common.{◌≡◌, ℕ, ◌+◌, ◌<◌, ◌≤◌, Bool, true, false, ◌&&◌, List, [], ◌∷◌, filter, cond, eqb, ltb, refl, sym, ap, ◌∙◌, subst, inl, inr, arith}
+use Rattle.std.proofs.Common.{◌≡◌, ℕ, ◌+◌, ◌<◌, ◌≤◌, Bool, true, ◌&&◌, List, [], ◌∷◌, filter, cond, eqb, ltb, refl, sym, ap, ◌∙◌, inl, inr, arith}
 use Rattle.std.specs.Prelude.{◌||◌, not}
-use Rattle.std.specs.List.{flat_map, list_all}
+use Rattle.std.specs.List.{list_all}
 use Rattle.std.specs.Ordering.{nat_cmp}
 use Rattle.std.proofs.lemmas.Bool.{and_from, and_parts, cases_Bool, cases_order, cond-false, eq-eqb, eqb-true, or_cases, true≢false}
 use Rattle.std.proofs.lemmas.List.Kept.{IsStrictlySortedBy-filter}
@@ -10,9 +10,10 @@ use Rattle.basket_sets.specs.declared.minimum.Minimum.{Minimum}
 use Rattle.basket_sets.specs.Frequent.{is_frequent}
 use Rattle.basket_sets.specs.Itemset.{IsRising, contains, has}
 use Rattle.basket_sets.specs.Support.{support_of, total_of, weight_at}
-use Rattle.basket_sets.proofs.theory.Members.{Member, Member-append, Member-append_left, Member-append_right, Member-filter, Member-from_filter}
+use Rattle.basket_sets.proofs.theory.Members.{Member, Member-filter, Member-from_filter}
 use Rattle.basket_sets.proofs.theory.Rising.{Member-from_has, contains_each, first_below, has-from_Member, has_each, rest_rises, same_test}
 use Rattle.basket_sets.proofs.theory.Support.{at_least_one, support-cons, support_falls}
+use Rattle.mine_classes.proofs.theory.Branches.{AreHeavy, all_of, each_of, from_picked, into_picked}
 use Rattle.mine_fp.specs.Tree.{begins}
 use Rattle.mine_fp.specs.Trees.{has_tree, is_straight, paths_below}
 
@@ -57,42 +58,6 @@ one_begins (x ∷ xs) (y ∷ ys) up over low high = elim (cases_order x y) [
   | inr (inr more) ↦ absurd (not_lower y x xs more up (low y x more (inl refl) (inl refl)))
 ]
 
--- ---- tests of all
-
-pub each_of : {K : Type 0} (p : K → Bool) (xs : List K) → list_all p xs ≡ true → (x : K) → Member x xs → p x ≡ true
-each_of p [] h x m = absurd m
-each_of p (y ∷ ys) h x (inl e) = ap p (sym e) ∙ (and_parts (p y) (list_all p ys) h).0
-each_of p (y ∷ ys) h x (inr m) = each_of p ys (and_parts (p y) (list_all p ys) h).1 x m
-
-pub all_of : {K : Type 0} (p : K → Bool) (xs : List K) → ((x : K) → Member x xs → p x ≡ true) → list_all p xs ≡ true
-all_of p [] h = refl
-all_of p (y ∷ ys) h = and_from (p y) (list_all p ys) (h y (inl refl)) (all_of p ys (λ x m. h x (inr m)))
-
--- ---- places that pass a test
-
-module _ {X : Type 0} (test : Weighted → Bool) (f : Weighted → X) where
-  abbrev pub picked_place : Weighted → List X
-  picked_place place = cond (test place) (f place ∷ []) []
-
-  pub into_picked : (places : List Weighted) (place : Weighted) → Member place places → test place ≡ true → Member (f place) (flat_map picked_place places)
-  into_picked [] place m h = absurd m
-  into_picked (p ∷ places) place (inl e) h =
-      Member-append_left (f place) (picked_place p) (flat_map picked_place places)
-      (subst (λ b. Member (f place) (cond b (f p ∷ []) [])) (sym (ap test e ∙ h)) (inl (ap f e)))
-  into_picked (p ∷ places) place (inr m) h = Member-append_right (f place) (picked_place p) (flat_map picked_place places) (into_picked places place m h)
-
-  pub from_picked : (places : List Weighted) (x : X) → Member x (flat_map picked_place places) → (place : Weighted) × Member place places × (test place ≡ true) × (f place ≡ x)
-  from_picked [] x m = absurd m
-  from_picked (p ∷ places) x m = elim (Member-append x (picked_place p) (flat_map picked_place places) m) [
-    | inl n ↦ here (test p) refl n
-    | inr n ↦ (let r = from_picked places x n in (r.0, inr r.1, r.2, r.3))
-  ]
-    where
-      here : (b : Bool) → test p ≡ b → Member x (cond b (f p ∷ []) []) → (place : Weighted) × Member place (p ∷ places) × (test place ≡ true) × (f place ≡ x)
-      here true e (inl same) = (p, inl refl, e, same)
-      here true e (inr none) = absurd none
-      here false e none = absurd none
-
 -- ---- supports
 
 -- a set of some support stands in some basket
@@ -106,9 +71,6 @@ some_basket (p ∷ baskets) set some = elim (cases_Bool (contains p.basket set))
       let r = some_basket baskets set (omega arith) in
       (r.0, inr r.1, r.2))
 ]
-
-abbrev pub AreHeavy : List Weighted → Type 0
-AreHeavy baskets = (place : Weighted) → Member place baskets → 1 ≤ place.weight
 
 -- where more items have the same support, each basket that has the less has the more
 pub has_more_too : (baskets : List Weighted) (more less : List ℕ) → contains more less ≡ true → AreHeavy baskets → support_of baskets more ≡ support_of baskets less

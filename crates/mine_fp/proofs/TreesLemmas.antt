@@ -29,12 +29,13 @@ use Rattle.mine_classes.specs.Pairs.{kept_ranks}
 use Rattle.mine_classes.proofs.theory.Kept.{kept_rises}
 use Rattle.mine_fp.specs.declared.level.Level.{Level}
 use Rattle.mine_fp.specs.Level.{IsBelow, IsLevel}
-use Rattle.mine_fp.specs.Trees.{has_tree, inner_trees, is_branch, rank_trees}
+use Rattle.mine_fp.specs.Trees.{has_tree, inner_trees, rank_trees}
 use Rattle.mine_fp.proofs.ClassLemmas.{class_with, lists_class, ranks_are_below}
 use Rattle.mine_fp.proofs.InnerLemmas.{IsWithinRanks, outer_tree}
 use Rattle.mine_fp.proofs.LevelLemmas.{placed_rise}
 use Rattle.mine_fp.proofs.StraightLemmas.{ArePlain}
 use Rattle.mine_fp.proofs.TreeCountLemmas.{classes_add_up}
+use Rattle.mine_classes.specs.Paths.{is_branch}
 
 -- ---- sets that pass a test
 

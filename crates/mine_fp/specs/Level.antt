@@ -8,7 +8,6 @@ use Rattle.basket_sets.specs.declared.minimum.Minimum.TheVariants.{Count}
 use Rattle.basket_sets.specs.Frequent.{ListsOnce, frequent_of}
 use Rattle.basket_sets.specs.Itemset.{IsRising, rising, with_item}
 use Rattle.basket_sets.specs.Support.{support_of}
-use Rattle.mine_baskets.specs.declared.span.Span.{Span}
 use Rattle.mine_classes.specs.declared.tables.Tables.{Tables}
 use Rattle.mine_classes.specs.Classes.{ListClasses, ListsClass, class_of}
 use Rattle.mine_classes.specs.Conditional.{conditional}
@@ -102,10 +101,6 @@ pub record IsChosen (at item count : ℕ) (old new : List Counted) : Type 0 wher
   pub chosen : Counted
   pub stands : slice_index_or old at chosen ≡ chosen
   pub added : new ≡ old ++ record { set = with_item item chosen.set; count = count } ∷ []
-
--- a run ends where it starts or later
-abbrev pub IsOrdered : Span → Type 0
-IsOrdered run = run.start ≤ run.end
 
 -- a level is of the conditional database of a rank of another
 pub record IsBelow (level : Level) (rank : ℕ) (inner : Level) : Type 0 where

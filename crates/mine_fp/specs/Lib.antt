@@ -3,6 +3,3 @@ pub mod Forest
 pub mod Found
 pub mod Tree
 pub mod Trees
-pub mod Words
-pub mod Paths
-pub mod Shift

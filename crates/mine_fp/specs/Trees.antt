@@ -8,6 +8,7 @@ use Rattle.basket_sets.specs.declared.minimum.Minimum.TheVariants.{Count}
 use Rattle.basket_sets.specs.Frequent.{frequent_of, is_frequent}
 use Rattle.basket_sets.specs.Itemset.{contains}
 use Rattle.mine_classes.specs.Classes.{class_of}
+use Rattle.mine_classes.specs.Paths.{is_branch}
 use Rattle.mine_fp.specs.Tree.{begins}
 
 -- whether a rank is below the least of a set, and frequent together with it
@@ -41,10 +42,6 @@ has_tree baskets minimum set = list_all (λ part. not (is_straight baskets minim
 -- how many trees are made for the class of a rank, by a least support
 abbrev pub rank_trees : List Weighted → ℕ → ℕ → ℕ
 rank_trees baskets least rank = length (filter (λ c. has_tree baskets (Count least) c.set) (class_of baskets (Count least) rank))
-
--- whether each basket that has a rank has the lower ones too: the prefix tree of such baskets is a single branch
-abbrev pub is_branch : List Weighted → Bool
-is_branch baskets = list_all (λ place. list_all (λ rank. contains place.basket (range_with_len 0 rank)) place.basket) baskets
 
 -- how many trees are made below that of the baskets: none where it is a single branch
 abbrev pub inner_trees : List Weighted → ℕ → ℕ

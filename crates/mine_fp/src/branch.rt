@@ -2,7 +2,7 @@
 ghost use Rattle.std.specs.Prelude.{◌≡◌, ◌<◌, ◌-◌, IsTrue, OnOk, false, length};
 ghost use Rattle.mine_fp.specs.Found.{TellsSets};
 ghost use Rattle.mine_fp.specs.Level.{HasLower, HasSuffix, IsLevel, ListsClassAsItems, ListsAllAsItems, class_in, sets_in};
-ghost use Rattle.mine_fp.specs.Trees.{is_branch};
+ghost use Rattle.mine_classes.specs.Paths.{is_branch};
 
 use crate::found::{Found, choose};
 use crate::level::Level;

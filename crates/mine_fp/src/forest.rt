@@ -9,12 +9,11 @@ ghost use Rattle.mine_fp.specs.Trees.{class_trees};
 
 use crate::found::Found;
 use crate::level::Level;
-use crate::paths::Paths;
 use crate::trees::Trees;
 use basket_core::{Coded, CountedSets, MineFault, Tally};
 use mine_classes::laws::{classes_are_listed, deep_classes_are_large, lists_have_class_size};
 use mine_baskets::ListBaskets;
-use mine_classes::{Runs, Tables};
+use mine_classes::{Paths, Runs, Tables};
 use std::alloc::{AllocError, Global};
 use std::marker::Model;
 

@@ -7,11 +7,8 @@ mod forest;
 mod found;
 pub mod laws;
 mod level;
-mod paths;
-mod shift;
 mod tree;
 mod trees;
-mod words;
 pub mod worked;
 
 pub use forest::{Forest, fp_class, fp_class_with};

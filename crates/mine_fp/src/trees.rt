@@ -5,7 +5,7 @@ ghost use Rattle.mine_classes.specs.Pairs.{named_pair, pairs_of};
 ghost use Rattle.mine_fp.specs.Level.{HaveSlots, IsBelow, IsLevel, KeepSlots};
 
 use crate::level::Level;
-use mine_classes::{Places, Tables};
+use mine_classes::{Paths, Places, Tables};
 use std::alloc::{AllocError, Global};
 use std::marker::Model;
 
@@ -87,7 +87,8 @@ fn level_below(
     ensures place { IfOk result (λ inner. inner.place ≡ Some place) }
     ensures places { places.new ≡ places.old }
 {
-    let paths = level.paths.below(alloc, places, rank, level.least, &pairs)?;
+    let below = level.paths.below(alloc, places, rank, level.least, &pairs)?;
+    let paths = Paths::of(alloc, below)?;
     rename(&mut pairs, &level.names);
     Ok(Level {
         paths,
