@@ -15,12 +15,12 @@ use Rattle.basket_sets.specs.Support.{support_of}
 use Rattle.basket_sets.proofs.theory.Members.{Member, All-from_Member, Contains-from_Member, Member-append_left, Member-append_right}
 use Rattle.basket_sets.proofs.theory.Rising.{Member-from_has, has-from_Member, nil_rises, contains_each}
 use Rattle.basket_sets.proofs.theory.Support.{subsets_are_frequent}
+use Rattle.basket_ranks.proofs.theory.Shards.{range_more}
 use Rattle.mine_classes.specs.Conditional.{ConditionalSupports, conditional, is_kept}
 use Rattle.mine_classes.specs.Mined.{RanksAreFrequent}
 use Rattle.mine_vertical.specs.Joins.{ClassJoinsAddUp, SetsOfRanksAreAll, class_joins, is_join, sets_of_ranks}
 use Rattle.mine_vertical.specs.Search.{is_met}
 use Rattle.mine_vertical.specs.Walk.{joins_below, kept_below, sets_below}
-use Rattle.mine_vertical.proofs.CoverLemmas.{range_more}
 use Rattle.mine_vertical.proofs.FoundLemmas.{from_sets, into_sets, only_below, sets_distinct}
 
 -- how many sets of a list pass a test

@@ -1,16 +1,10 @@
 mod CoverLemmas
 mod WalkLemmas
-mod RowLemmas
 mod SearchLemmas
 mod NodeLemmas
 mod FoundLemmas
 mod SiblingLemmas
 mod ClassLemmas
 mod JoinLemmas
-mod BitLemmas
-mod WordLemmas
-mod PlaneLemmas
-mod MarkLemmas
-mod WorkedLemmas
 mod RemadeLemmas
 mod PlacesLemmas

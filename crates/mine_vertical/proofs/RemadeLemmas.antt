@@ -13,13 +13,14 @@ use Rattle.basket_sets.specs.Support.{support_of}
 use Rattle.basket_sets.proofs.theory.Members.{Member, Member-append_left, Member-append_right}
 use Rattle.basket_sets.proofs.theory.Rising.{has-from_Member, nil_rises, contains_each}
 use Rattle.basket_sets.proofs.theory.Support.{subsets_are_frequent}
+use Rattle.basket_ranks.proofs.theory.Shards.{range_more}
 use Rattle.mine_vertical.specs.declared.joins.Sibling.{Sibling}
 use Rattle.mine_baskets.specs.Covers.{weights_of}
 use Rattle.mine_vertical.specs.Remade.{GiveSupports}
 use Rattle.mine_vertical.specs.Search.{IsNode, IsSibling, Node, Task, found_at, is_met, joins_at, sets_at}
 use Rattle.mine_vertical.specs.Siblings.{AreOver}
 use Rattle.mine_vertical.specs.Walk.{joins_below, kept_below, sets_below}
-use Rattle.mine_vertical.proofs.CoverLemmas.{filter_rises, range_more}
+use Rattle.mine_rows.proofs.theory.Filters.{filter_rises}
 use Rattle.mine_vertical.proofs.FoundLemmas.{from_sets}
 use Rattle.mine_baskets.proofs.theory.Ranges.{range_rises}
 

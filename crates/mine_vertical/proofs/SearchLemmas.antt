@@ -8,7 +8,7 @@ use Rattle.basket_sets.specs.declared.weighted.Weighted.{Weighted}
 use Rattle.basket_sets.specs.Support.{support_of}
 use Rattle.mine_vertical.specs.declared.joins.Sibling.{Sibling}
 use Rattle.mine_baskets.specs.Covers.{cover_of, weights_of}
-use Rattle.mine_vertical.specs.Cover.{common}
+use Rattle.mine_rows.specs.Cover.{common}
 use Rattle.mine_vertical.specs.Search.{AreKept, IsSibling, is_met}
 use Rattle.mine_vertical.proofs.CoverLemmas.{common_cover}
 

@@ -1,13 +1,14 @@
 -- The siblings that a class begins with.
-use Rattle.std.proofs.Common.{◌≡◌, ℕ, zero, suc, ◌+◌, ◌<◌, ◌≤◌, Bool, true, false, ◌&&◌, List, [], ◌∷◌, ◌++◌, length, get_or, map, cond, leb, ltb, refl, sym, ap, ◌∙◌, subst, inl, inr, arith, zero-add, add-one}
+use Rattle.std.proofs.Common.{◌≡◌, ℕ, zero, suc, ◌+◌, ◌<◌, ◌≤◌, Bool, true, false, ◌&&◌, List, [], ◌∷◌, ◌++◌, length, get_or, map, cond, leb, ltb, refl, sym, ap, ◌∙◌, subst, inl, inr, arith, zero-add}
 use Rattle.std.specs.Prelude.{All, nat_eq, sum}
 use Rattle.std.specs.List.{AllByRecursion, IsDistinct, filter, list_all, range_with_len, slice_range, sum_by}
 use Rattle.std.proofs.lemmas.Bool.{and_parts, cases_Bool, ltb-true}
-use Rattle.std.proofs.lemmas.List.{append-nil, get_or-map, length-map}
+use Rattle.std.proofs.lemmas.List.{get_or-map, length-map}
 use Rattle.std.proofs.lemmas.List.Elements.{filter-append}
 use Rattle.std.proofs.lemmas.List.Sums.{sum-map, sum_by-cons}
 use Rattle.basket_ranks.specs.Codes.{IsCodedPlace, decoded, decoded_place}
 use Rattle.basket_ranks.proofs.theory.Coding.{into_decoded}
+use Rattle.basket_ranks.proofs.theory.Shards.{range_more}
 use Rattle.basket_ranks.proofs.theory.Decoding.{rank_from_decoded}
 use Rattle.basket_sets.specs.declared.weighted.Weighted.{Weighted}
 use Rattle.basket_sets.specs.declared.minimum.Minimum.TheVariants.{Count}
@@ -27,8 +28,7 @@ use Rattle.mine_baskets.specs.Span.{baskets_at}
 use Rattle.mine_baskets.specs.Covers.{basket_at, cover_of, weights_of}
 use Rattle.mine_vertical.specs.Search.{is_met}
 use Rattle.mine_vertical.specs.Walk.{kept_below}
-use Rattle.mine_vertical.proofs.CoverLemmas.{range_more}
-use Rattle.mine_vertical.proofs.RowLemmas.{filter_members}
+use Rattle.mine_rows.proofs.theory.Filters.{filter_members}
 use Rattle.mine_baskets.proofs.theory.Ranges.{Member-range}
 
 -- ---- baskets of places in a list of ranks, and of these ranks
@@ -84,17 +84,6 @@ spans_weigh ranks [] = refl
 spans_weigh ranks (s ∷ spans) =
     sum_by-cons (λ (p : Weighted). p.weight) (weighted (slice_range ranks s.start s.end) s.weight) (baskets_at ranks spans)
     ∙ ap (λ n. s.weight + n) (spans_weigh ranks spans) ∙ sym (sum_by-cons (λ (x : Span). x.weight) s spans)
-
--- one more place of a cover
-pub cover_keeps : (p : ℕ → Bool) (n : ℕ) → p n ≡ true → filter p (range_with_len 0 (n + 1)) ≡ filter p (range_with_len 0 n) ++ n ∷ []
-cover_keeps p n h =
-    ap (λ k. filter p (range_with_len 0 k)) (add-one n) ∙ ap (filter p) (range_more 0 n ∙ ap (λ k. range_with_len 0 n ++ k ∷ []) (zero-add n))
-    ∙ filter-append p (range_with_len 0 n) (n ∷ []) ∙ ap (λ b. filter p (range_with_len 0 n) ++ cond b (n ∷ []) []) h
-
-pub cover_drops : (p : ℕ → Bool) (n : ℕ) → p n ≡ false → filter p (range_with_len 0 (n + 1)) ≡ filter p (range_with_len 0 n)
-cover_drops p n h =
-    ap (λ k. filter p (range_with_len 0 k)) (add-one n) ∙ ap (filter p) (range_more 0 n ∙ ap (λ k. range_with_len 0 n ++ k ∷ []) (zero-add n))
-    ∙ filter-append p (range_with_len 0 n) (n ∷ []) ∙ ap (λ b. filter p (range_with_len 0 n) ++ cond b (n ∷ []) []) h ∙ append-nil (filter p (range_with_len 0 n))
 
 -- ---- the support of a rank
 

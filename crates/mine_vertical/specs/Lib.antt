@@ -1,13 +1,6 @@
-pub mod Cover
-pub mod Weights
 pub mod Walk
-pub mod Rows
 pub mod Search
 pub mod Vertical
 pub mod Siblings
 pub mod Joins
-pub mod Bits
-pub mod Planes
-pub mod Marks
-pub mod BitRows
 pub mod Remade

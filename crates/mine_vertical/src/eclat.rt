@@ -6,7 +6,6 @@ ghost use Rattle.mine_classes.specs.Mined.{ListsClassItems, MOST_SET_WORK, Ranks
 
 use crate::mined::Mined;
 use crate::room::Room;
-use crate::row::Row;
 use crate::search::{Progress, Search};
 use crate::siblings::class_siblings;
 use crate::vertical::Vertical;
@@ -16,6 +15,7 @@ use mine_classes::laws::{
     classes_are_conditional, conditional_supports, lists_have_class_size, rare_ranks_have_no_class,
     supports_settle_frequent,
 };
+use mine_rows::Row;
 use std::alloc::Global;
 
 /// The frequent sets of a class, those whose greatest rank is the rank, as items, and how many joins

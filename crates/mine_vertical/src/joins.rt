@@ -5,13 +5,11 @@ ghost use Rattle.basket_sets.specs.Itemset.{AllBelow, IsRising};
 ghost use Rattle.basket_sets.specs.Support.{support_of};
 ghost use Rattle.mine_classes.specs.Pairs.{pairs_of};
 ghost use Rattle.mine_baskets.specs.Covers.{cover_of, weights_of};
-ghost use Rattle.mine_vertical.specs.Cover.{IsAdded, all_places};
+ghost use Rattle.mine_rows.specs.Cover.{IsAdded, all_places};
 ghost use Rattle.mine_vertical.specs.Search.{ArePair, IsSibling};
 
-use crate::marks::Marks;
-use crate::row::Row;
-use crate::weights::Weights;
 use mine_classes::{Runs, Sums};
+use mine_rows::{Marks, Row, Weights};
 use std::alloc::{AllocError, Global};
 
 /// An extension of a set: its rank, and the row of the set with the rank.

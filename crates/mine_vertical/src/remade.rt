@@ -15,12 +15,11 @@ ghost use Rattle.mine_vertical.specs.Search.{IsSibling};
 ghost use Rattle.mine_vertical.specs.Siblings.{AreOver};
 
 use crate::joins::Sibling;
-use crate::row::Row;
 use crate::siblings::siblings_of;
-use crate::weights::Weights;
 use mine_baskets::words::{WORD_RANKS, Word, bit_of};
 use mine_baskets::WordBaskets;
 use mine_classes::Form;
+use mine_rows::{Row, Weights};
 use std::alloc::{AllocError, Global};
 
 /// The bits of each place: that of a sibling where the sibling's cover has the place. Nothing where rows

@@ -2,9 +2,7 @@
 ghost use Rattle.std.specs.Prelude.{◌≡◌, IfOk};
 
 use crate::joins::Sibling;
-use crate::marks::Marks;
-use crate::row::Row;
-use crate::weights::Weights;
+use mine_rows::{Marks, Row, Weights};
 use std::alloc::{AllocError, Global};
 
 /// A table to mark places in, and lists of siblings that are not needed any more.

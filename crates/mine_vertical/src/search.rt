@@ -4,13 +4,11 @@ ghost use Rattle.basket_sets.specs.declared.weighted.Weighted.{Weighted as Baske
 ghost use Rattle.mine_vertical.specs.Search.{AreKept, AreSiblings, IsDone, IsGiven, reached, task_of};
 
 use crate::joins::{Joins, Sibling};
-use crate::marks::Marks;
 use crate::mined::Mined;
 use crate::remade::remade;
 use crate::room::Room;
-use crate::row::Row;
-use crate::weights::Weights;
 use basket_core::{Coded, MineFault, Tally};
+use mine_rows::{Marks, Row, Weights};
 use std::alloc::{AllocError, Global};
 use std::mem;
 

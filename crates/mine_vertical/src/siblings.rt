@@ -13,10 +13,9 @@ ghost use Rattle.mine_classes.specs.Pairs.{kept_ranks};
 ghost use Rattle.mine_vertical.specs.Siblings.{AreClassSiblings, AreOver};
 
 use crate::joins::{Joins, Sibling};
-use crate::row::Row;
-use crate::weights::Weights;
 use mine_classes::laws::conditional_supports;
 use mine_classes::{Conditional, Form, Runs, Tables};
+use mine_rows::{Row, Weights};
 use std::alloc::{AllocError, Global};
 
 /// The conditional database of a rank, its baskets merged: each gets a place in the covers.

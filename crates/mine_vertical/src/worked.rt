@@ -1,39 +1,9 @@
-//! Worked examples of the definitions, proved by computing them, and of rows.
-ghost use Rattle.std.specs.Prelude.{◌≡◌, ◌*◌, [], ◌∷◌, ℕ, IfOk, replicate};
-ghost use Rattle.mine_vertical.specs.Bits.{shared_bits, words_of};
+//! A worked example of the definitions, proved by computing it.
+ghost use Rattle.std.specs.Prelude.{◌≡◌, [], ◌∷◌};
 ghost use Rattle.basket_sets.specs.Database.{weighted};
-ghost use Rattle.mine_vertical.specs.Planes.{bits_of};
 ghost use Rattle.mine_vertical.specs.Remade.{bit_places};
-
-use crate::row::Row;
-use crate::weights::Weights;
-use std::alloc::{AllocError, Global};
-
-/// Words that share bits: 5 and 3 with 6 and 1, and words of ones with themselves.
-pub fn words_share_bits()
-    ensures two { shared_bits (5 ∷ 3 ∷ []) (6 ∷ 1 ∷ []) ≡ 2 }
-    ensures ones { (count : ℕ) → shared_bits (replicate count 18446744073709551615) (replicate count 18446744073709551615) ≡ count * 64 }
-{}
-
-/// A row of bits: among 70 places the cover of the places 0, 2, 63 and 64. The weights 1, 2 and 3
-/// have two planes.
-pub fn rows_have_bits()
-    ensures row { words_of 70 (0 ∷ 2 ∷ 63 ∷ 64 ∷ []) ≡ 9223372036854775813 ∷ 1 ∷ [] }
-    ensures planes { bits_of (1 ∷ 2 ∷ 3 ∷ []) ≡ 0 ∷ 1 ∷ [] }
-{}
 
 /// Two words of ranks, which have the highest bits: the first has rank 0, and the second 0 and 1.
 pub fn words_are_baskets()
     ensures { bit_places 2 (9223372036854775808 ∷ 13835058055282163712 ∷ []) (3 ∷ 4 ∷ []) ≡ weighted (0 ∷ []) 3 ∷ weighted (0 ∷ 1 ∷ []) 4 ∷ [] }
 {}
-
-/// Over the weights 1, 2 and 3 the cover of all places counts 6, and that of the first and the last
-/// place 4, by each kind of row.
-pub fn covers_of_three_weights<R: Row>(alloc: Global) -> Result<(u64, u64), AllocError>
-    ensures { IfOk result (λ counts. (counts.0 ≡ 6) × (counts.1 ≡ 4)) }
-{
-    let weights = Weights::of(alloc, &[1, 2, 3])?;
-    let all = R::first(alloc, &[0, 1, 2], &weights)?;
-    let ends = R::first(alloc, &[0, 2], &weights)?;
-    Ok((all.count(), ends.count()))
-}

@@ -1,4 +1,4 @@
-use mine_vertical::and_count;
+use mine_rows::and_count;
 
 /// Two chunks of four words, and a word behind them.
 #[test]

@@ -4,7 +4,7 @@ use Rattle.std.proofs.lemmas.List.{get_or-map, length-replicate, take_at}
 use Rattle.basket_sets.specs.declared.weighted.Weighted.{Weighted}
 use Rattle.mine_baskets.specs.Words.{has_rank}
 use Rattle.mine_baskets.specs.Covers.{cover_of, weights_of}
-use Rattle.mine_vertical.specs.Cover.{IsAdded}
+use Rattle.mine_rows.specs.Cover.{IsAdded}
 use Rattle.mine_vertical.specs.Search.{IsSibling}
 use Rattle.mine_vertical.proofs.NodeLemmas.{as_many}
 use Rattle.mine_vertical.proofs.PlacesLemmas.{bits_clear, bits_more, none_yet}

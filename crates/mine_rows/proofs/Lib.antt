@@ -1,0 +1,10 @@
+pub mod theory
+mod RangeLemmas
+mod CoverLemmas
+mod RowLemmas
+mod MarkLemmas
+mod BitLemmas
+mod WordLemmas
+mod PlaneLemmas
+mod AddedLemmas
+mod WorkedLemmas

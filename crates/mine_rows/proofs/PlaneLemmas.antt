@@ -1,0 +1,339 @@
+-- What rows of bits weigh.
+use Rattle.std.proofs.Common.{◌≡◌, ◌≢◌, ℕ, zero, suc, ◌+◌, ◌*◌, ◌<◌, ◌≤◌, ◌^◌, ◌/◌, ◌%◌, Bool, true, false, ◌&&◌, ◌||◌, List, [], ◌∷◌, length, get_or, map, cond, eqb, ltb, sum, refl, sym, ap, ◌∙◌, subst, inl, inr, arith}
+use Rattle.std.specs.Prelude.{All, bit_and, bit_or}
+use Rattle.std.specs.Simd.Lanes.{zip2}
+use Rattle.mine_rows.specs.declared.bit_rows.BitRow.{BitRow}
+use Rattle.mine_rows.specs.Rows.{IsBitRow}
+use Rattle.std.specs.List.{AllByRecursion, filter, list_any, range_with_len, sum_by}
+use Rattle.std.proofs.lemmas.Bool.{cases_eq, cases_lt, eqb-true, le-ltb, lt-ltb}
+use Rattle.std.proofs.lemmas.Nat.{div_below, mod-pow-add, or_mod, or_shr, shr_le}
+use Rattle.std.proofs.lemmas.Grind.{div_ceil_times}
+use Rattle.mine_rows.specs.Weights.{KeepsWeights}
+use Rattle.mine_rows.specs.Bits.{MOST_WORDS, shared_bits, word_count, words_from, words_of}
+use Rattle.std.proofs.lemmas.List.Elements.{All-from_recursion, All-head, All-tail, All-weaker}
+use Rattle.std.proofs.lemmas.List.Sums.{get_or-le-sum_by, sum_by-append, sum_by-cons}
+use Rattle.basket_sets.specs.Itemset.{IsRising, has}
+use Rattle.basket_sets.specs.Database.{MOST_WEIGHT}
+use Rattle.basket_sets.proofs.theory.Members.{Member, Member-filter, Member-from_filter}
+use Rattle.basket_sets.proofs.theory.Rising.{Member-from_has, has-from_Member, same_rising, same_test}
+use Rattle.mine_rows.specs.declared.planes.Plane.{Plane}
+use Rattle.mine_rows.specs.Cover.{IsCover, common, cover_weight}
+use Rattle.mine_rows.specs.Planes.{IsPlane, are_ones, bits_of, has_bit, plane_weight}
+use Rattle.mine_rows.proofs.theory.Filters.{filter_rises}
+use Rattle.mine_rows.proofs.CoverLemmas.{cover_light}
+use Rattle.mine_rows.proofs.WordLemmas.{length-words, words_and, words_same, words_share}
+use Rattle.mine_rows.proofs.RangeLemmas.{Member-into_range, Member-range, range_more, range_rises}
+
+-- ---- the bits of a number
+
+bit_value : (r : ℕ) → r < 2 → cond (eqb r 1) 1 0 ≡ r
+bit_value zero below = refl
+bit_value (suc zero) below = refl
+bit_value (suc (suc r)) below = absurd (omega arith)
+
+-- what a bit of a number stands for
+abbrev part : ℕ → ℕ → ℕ
+part number bit = cond (has_bit bit number) 1 0 * 2 ^ bit
+
+parts-add : (number m : ℕ) → sum_by (part number) (range_with_len 0 m) ≡ number % 2 ^ m
+parts-add number zero = omega arith
+parts-add number (suc m) =
+    let more = ap (sum_by (part number)) (range_more 0 m) ∙ sum_by-append (part number) (range_with_len 0 m) ((0 + m) ∷ []) in
+    let rest = parts-add number m in
+    let one = mod-pow-add number 1 m in
+    let e : 1 + m ≡ suc m = omega arith in
+    let f : 0 + m ≡ m = omega arith in
+    let value : cond (has_bit m number) 1 0 ≡ number / 2 ^ m % 2 = bit_value (number / 2 ^ m % 2) (omega arith) in
+    let last : sum_by (part number) ((0 + m) ∷ []) ≡ (number / 2 ^ m % 2 ^ 1) * 2 ^ m =
+    sum_by-cons (part number) (0 + m) [] ∙ ap (λ k. part number k + 0) f ∙ ap (λ v. v * 2 ^ m + 0) value ∙ omega arith in
+    more ∙ ap (λ n. n + sum_by (part number) ((0 + m) ∷ [])) rest ∙ ap (λ n. number % 2 ^ m + n) last ∙ swap (number % 2 ^ m) ((number / 2 ^ m % 2 ^ 1) * 2 ^ m)
+    ∙ sym one ∙ ap (λ k. number % 2 ^ k) e
+  where
+    swap : (a b : ℕ) → a + b ≡ b + a
+    swap a b = omega arith
+
+-- a sum over what a test keeps, where what it drops adds nothing
+sum-kept : (f : ℕ → ℕ) (keeps : ℕ → Bool) (xs : List ℕ) → ((x : ℕ) → keeps x ≡ false → f x ≡ 0) → sum_by f (filter keeps xs) ≡ sum_by f xs
+sum-kept f keeps [] none = refl
+sum-kept f keeps (x ∷ xs) none = at (keeps x) refl (sum-kept f keeps xs none)
+  where
+    at : (b : Bool) → keeps x ≡ b → sum_by f (filter keeps xs) ≡ sum_by f xs → sum_by f (cond b (x ∷ filter keeps xs) (filter keeps xs)) ≡ sum_by f (x ∷ xs)
+    at true e rest = sum_by-cons f x (filter keeps xs) ∙ ap (λ n. f x + n) rest ∙ sym (sum_by-cons f x xs)
+    at false e rest = let all = sum_by-cons f x xs in let zero_is = none x e in omega arith
+
+-- a weight is the sum of its bits
+pub bits-add : (weights : List ℕ) (place : ℕ) → place < length weights → sum weights ≤ MOST_WEIGHT → sum_by (part (get_or weights place 0)) (bits_of weights) ≡ get_or weights place 0
+unfolding bits_of
+bits-add weights place here light =
+    let number : ℕ = get_or weights place 0 in
+    let small : number < 2 ^ 40 = (let le = get_or-le-sum_by (λ x. x) weights place 0 here in omega arith) in
+    let all = sum-kept (part number) (λ bit. list_any (has_bit bit) weights) (range_with_len 0 40) (λ bit lost. lacks bit weights place here lost) in
+    all ∙ parts-add number 40 ∙ whole number small
+  where
+    whole : (n : ℕ) → n < 2 ^ 40 → n % 2 ^ 40 ≡ n
+    whole n below = omega arith
+
+    none_at : (bit : ℕ) (ws : List ℕ) (i : ℕ) → i < length ws → list_any (has_bit bit) ws ≡ false → has_bit bit (get_or ws i 0) ≡ false
+    none_at bit [] i inside lost = absurd (omega arith)
+    none_at bit (w ∷ ws) zero inside lost = left (has_bit bit w) (list_any (has_bit bit) ws) lost
+      where
+        left : (a b : Bool) → (a || b) ≡ false → a ≡ false
+        left true b e = e
+        left false b e = refl
+    none_at bit (w ∷ ws) (suc i) inside lost = none_at bit ws i (omega arith) (right (has_bit bit w) (list_any (has_bit bit) ws) lost)
+      where
+        right : (a b : Bool) → (a || b) ≡ false → b ≡ false
+        right true b e = absurd (both e)
+          where
+            both : true ≡ false → ⊥
+            both h = cc
+        right false b e = e
+
+    lacks : (bit : ℕ) (ws : List ℕ) (i : ℕ) → i < length ws → list_any (has_bit bit) ws ≡ false → part (get_or ws i 0) bit ≡ 0
+    lacks bit ws i inside lost = ap (λ b. cond b 1 0 * 2 ^ bit) (none_at bit ws i inside lost) ∙ omega arith
+
+-- the bits of two numbers together
+pub either_bit : (bit a b : ℕ) → has_bit bit (bit_or a b) ≡ (has_bit bit a || has_bit bit b)
+either_bit bit a b =
+    let shifted = or_shr a b bit in
+    let halves = or_mod (a / 2 ^ bit) (b / 2 ^ bit) 1 in
+    ap (λ n. eqb (n % 2 ^ 1) 1) shifted ∙ ap (λ n. eqb n 1) halves ∙ low (a / 2 ^ bit % 2) (b / 2 ^ bit % 2) (omega arith) (omega arith)
+  where
+    low : (x y : ℕ) → x < 2 → y < 2 → eqb (bit_or x y) 1 ≡ (eqb x 1 || eqb y 1)
+    low zero zero p q = refl
+    low zero (suc zero) p q = refl
+    low (suc zero) zero p q = refl
+    low (suc zero) (suc zero) p q = refl
+    low zero (suc (suc y)) p q = absurd (omega arith)
+    low (suc zero) (suc (suc y)) p q = absurd (omega arith)
+    low (suc (suc x)) y p q = absurd (omega arith)
+
+-- ---- planes place by place
+
+pub place_in : (test : ℕ → Bool) (i : ℕ) → test i ≡ true → (ltb i (i + 1) && test i) ≡ true
+place_in test i h = ap (λ b. b && test i) (lt-ltb i (i + 1) (omega arith)) ∙ h
+
+pub place_apart : (test : ℕ → Bool) (i t : ℕ) → t ≢ i → (ltb t (i + 1) && test t) ≡ (ltb t i && test t)
+place_apart test i t differ = elim (cases_lt t i) [
+  | inl below ↦ (ap (λ b. b && test t) (lt-ltb t (i + 1) (omega arith)) ∙ sym (ap (λ b. b && test t) (lt-ltb t i below)))
+  | inr above ↦ (ap (λ b. b && test t) (le-ltb t (i + 1) (beyond above)) ∙ sym (ap (λ b. b && test t) (le-ltb t i above)))
+]
+  where
+    beyond : i ≤ t → i + 1 ≤ t
+    beyond above = elim (cases_eq t i) [ inl e ↦ absurd (differ e) | inr d ↦ omega arith ]
+
+pub place_out : (test : ℕ → Bool) (i : ℕ) → test i ≡ false → (t : ℕ) → (ltb t (i + 1) && test t) ≡ (ltb t i && test t)
+place_out test i h t = elim (cases_eq t i) [
+  | inl e ↦ (out t (ap test e ∙ h) (ltb t (i + 1)) ∙ sym (out t (ap test e ∙ h) (ltb t i)))
+  | inr differ ↦ place_apart test i t differ
+]
+  where
+    out : (t : ℕ) → test t ≡ false → (b : Bool) → (b && test t) ≡ false
+    out t lost true = lost
+    out t lost false = refl
+
+get_or-beyond : (xs : List ℕ) (i : ℕ) → length xs ≤ i → get_or xs i 0 ≡ 0
+get_or-beyond [] zero le = refl
+get_or-beyond [] (suc i) le = refl
+get_or-beyond (x ∷ xs) zero le = absurd (omega arith)
+get_or-beyond (x ∷ xs) (suc i) le = get_or-beyond xs i (omega arith)
+
+zero_has : (bit : ℕ) → has_bit bit 0 ≡ false
+zero_has bit = let le = shr_le 0 bit in let e : 0 / 2 ^ bit ≡ 0 = omega arith in ap (λ n. eqb (n % 2) 1) e
+
+pub plane_end : (weights : List ℕ) (bit n t : ℕ) → length weights ≤ n → (ltb t n && has_bit bit (get_or weights t 0)) ≡ has_bit bit (get_or weights t 0)
+plane_end weights bit n t most = elim (cases_lt t n) [
+  | inl below ↦ ap (λ b. b && has_bit bit (get_or weights t 0)) (lt-ltb t n below)
+  | inr above ↦
+      (ap (λ b. b && has_bit bit (get_or weights t 0)) (le-ltb t n above)
+      ∙ sym (ap (has_bit bit) (get_or-beyond weights t (omega arith)) ∙ zero_has bit))
+]
+
+-- ---- rows of bits
+
+pub filter_both : (p q : ℕ → Bool) (xs : List ℕ) → filter (λ t. p t && q t) xs ≡ filter q (filter p xs)
+filter_both p q [] = refl
+filter_both p q (x ∷ xs) = at (p x) (filter_both p q xs)
+  where
+    at : (b : Bool) → filter (λ t. p t && q t) xs ≡ filter q (filter p xs) → cond (b && q x) (x ∷ filter (λ t. p t && q t) xs) (filter (λ t. p t && q t) xs) ≡ filter q (cond b (x ∷ filter p xs) (filter p xs))
+    at true rest = ap (λ l. cond (q x) (x ∷ l) l) rest
+    at false rest = rest
+
+-- the places of a cover among all places
+pub cover_in_range : (cover : List ℕ) (n : ℕ) → IsRising cover → ((place : ℕ) → Member place cover → place < n) → filter (has cover) (range_with_len 0 n) ≡ cover
+cover_in_range cover n up below = same_rising (filter (has cover) (range_with_len 0 n)) cover
+    (filter_rises (has cover) (range_with_len 0 n) (range_rises 0 n)) up
+    (λ place m. Member-from_has cover place (Member-filter (has cover) place (range_with_len 0 n) m).1)
+    (λ place m. let low = below place m in
+    Member-from_filter (has cover) place (range_with_len 0 n) (Member-into_range 0 n place (omega arith) (omega arith)) (has-from_Member cover place m))
+
+pub room : (n : ℕ) → n ≤ word_count n * 64
+room n = let most = (div_ceil_times n 64 (omega arith)).0 in omega arith
+
+-- the word of a place is there
+pub word_is_there : (place n : ℕ) → place < n → place / 64 < word_count n
+word_is_there place n below = let most = room n in div_below place 64 (word_count n) (omega arith) (omega arith)
+
+module _ (weights cover : List ℕ) (is : IsCover weights cover) where
+  in_words : filter (has cover) (range_with_len 0 (word_count (length weights) * 64)) ≡ cover
+  in_words = cover_in_range cover (word_count (length weights) * 64) is.rises
+      (λ place m. let low = is.below place (has-from_Member cover place m) in let wide = room (length weights) in omega arith)
+
+  -- how many places of a cover pass a test
+  pub row_shares : (q : ℕ → Bool) → shared_bits (words_of (length weights) cover) (words_from q 0 (word_count (length weights))) ≡ length (filter q cover)
+  row_shares q = words_share (has cover) q 0 (word_count (length weights))
+      ∙ ap length (filter_both (has cover) q (range_with_len 0 (word_count (length weights) * 64)) ∙ ap (filter q) in_words)
+
+-- the words that two covers share are those of what they share
+pub share_is_common : (n : ℕ) (first second : List ℕ) → words_from (λ t. has first t && has second t) 0 (word_count n) ≡ words_of n (common first second)
+share_is_common n first second = words_same (λ t. has first t && has second t) (has (common first second)) 0 (word_count n) (λ t low.
+    same_test (has first t && has second t) (has (common first second) t)
+    (λ h. let p = both (has first t) (has second t) h in has-from_Member (common first second) t (Member-from_filter (has second) t first (Member-from_has first t p.0) p.1))
+    (λ h. let m = Member-filter (has second) t first (Member-from_has (common first second) t h) in and (has first t) (has second t) (has-from_Member first t m.0) m.1))
+  where
+    both : (a b : Bool) → (a && b) ≡ true → (a ≡ true) × (b ≡ true)
+    both true b e = (refl, e)
+    both false b e = absurd (never e)
+      where
+        never : false ≡ true → ⊥
+        never h = cc
+
+    and : (a b : Bool) → a ≡ true → b ≡ true → (a && b) ≡ true
+    and a b e f = ap (λ x. x && b) e ∙ f
+
+-- ---- what the places of a row weigh
+
+ones-weigh : (weights cover : List ℕ) → are_ones weights ≡ true → ((place : ℕ) → Member place cover → place < length weights) → cover_weight weights cover ≡ length cover
+ones-weigh weights [] ones below = refl
+ones-weigh weights (x ∷ cover) ones below =
+    let rest = ones-weigh weights cover ones (λ place m. below place (inr m)) in
+    let one : get_or weights x 0 ≡ 1 = at weights x (below x (inl refl)) ones in
+    let all = sum_by-cons (λ place. get_or weights place 0) x cover in omega arith
+  where
+    at : (ws : List ℕ) (i : ℕ) → i < length ws → are_ones ws ≡ true → get_or ws i 0 ≡ 1
+    at [] i here all = absurd (omega arith)
+    at (w ∷ ws) zero here all = eqb-true w 1 (first (eqb w 1) (are_ones ws) all)
+      where
+        first : (a b : Bool) → (a && b) ≡ true → a ≡ true
+        first true b e = refl
+        first false b e = e
+    at (w ∷ ws) (suc i) here all = at ws i (omega arith) (second (eqb w 1) (are_ones ws) all)
+      where
+        second : (a b : Bool) → (a && b) ≡ true → b ≡ true
+        second true b e = e
+        second false b e = absurd (never e)
+          where
+            never : false ≡ true → ⊥
+            never h = cc
+
+pub ones_weigh : (weights cover : List ℕ) → are_ones weights ≡ true → IsCover weights cover → length cover ≡ cover_weight weights cover
+ones_weigh weights cover ones is = sym (ones-weigh weights cover ones (λ place m. is.below place (has-from_Member cover place m)))
+
+sum-of_none : (xs : List ℕ) → sum_by (λ x. 0 * 2 ^ x) xs ≡ 0
+sum-of_none [] = refl
+sum-of_none (x ∷ xs) = let rest = sum-of_none xs in let all = sum_by-cons (λ y. 0 * 2 ^ y) x xs in omega arith
+
+sum-added : (f g h : ℕ → ℕ) (xs : List ℕ) → ((x : ℕ) → h x ≡ f x + g x) → sum_by h xs ≡ sum_by f xs + sum_by g xs
+sum-added f g h [] e = refl
+sum-added f g h (x ∷ xs) e =
+    let rest = sum-added f g h xs e in
+    let a = sum_by-cons f x xs in
+    let b = sum_by-cons g x xs in
+    let c = sum_by-cons h x xs in
+    let here = e x in omega arith
+
+-- the weights of a cover, bit by bit
+by_bits : (weights cover : List ℕ) → sum weights ≤ MOST_WEIGHT → ((place : ℕ) → Member place cover → place < length weights)
+    → sum_by (λ bit. length (filter (λ place. has_bit bit (get_or weights place 0)) cover) * 2 ^ bit) (bits_of weights) ≡ cover_weight weights cover
+by_bits weights [] light below = sum-of_none (bits_of weights)
+by_bits weights (x ∷ cover) light below =
+    let number : ℕ = get_or weights x 0 in
+    let many : ℕ → ℕ = λ bit. length (filter (λ place. has_bit bit (get_or weights place 0)) cover) * 2 ^ bit in
+    let rest = by_bits weights cover light (λ place m. below place (inr m)) in
+    let one = bits-add weights x (below x (inl refl)) light in
+    let all = sum_by-cons (λ place. get_or weights place 0) x cover in
+    sum-added (part number) many (λ bit. length (filter (λ place. has_bit bit (get_or weights place 0)) (x ∷ cover)) * 2 ^ bit) (bits_of weights)
+    (λ bit. at (has_bit bit number) (filter (λ place. has_bit bit (get_or weights place 0)) cover) (2 ^ bit))
+    ∙ ap (λ n. n + sum_by many (bits_of weights)) one ∙ ap (λ n. number + n) rest ∙ sym all
+  where
+    at : (b : Bool) (l : List ℕ) (power : ℕ) → length (cond b (x ∷ l) l) * power ≡ cond b 1 0 * power + length l * power
+    at true l power = spread (length l) power
+      where
+        spread : (a p : ℕ) → suc a * p ≡ 1 * p + a * p
+        spread a p = omega arith
+    at false l power = omega arith
+
+-- the planes of weights count them
+sum-planes : (f : ℕ → ℕ) (g : Plane → ℕ) (planes : List Plane) → All (λ plane. g plane ≡ f plane.bit) planes → sum_by g planes ≡ sum_by f (map (λ plane. plane.bit) planes)
+sum-planes f g [] all = refl
+sum-planes f g (p ∷ planes) all =
+    let rest = sum-planes f g planes (All-tail (λ (plane : Plane). g plane ≡ f plane.bit) p planes all) in
+    let one = All-head (λ (plane : Plane). g plane ≡ f plane.bit) p planes all in
+    let a = sum_by-cons g p planes in
+    let b = sum_by-cons f p.bit (map (λ (plane : Plane). plane.bit) planes) in omega arith
+
+pub planes_weigh : (weights cover : List ℕ) (planes : List Plane) → IsCover weights cover → sum weights ≤ MOST_WEIGHT
+    → map (λ plane. plane.bit) planes ≡ bits_of weights → All (IsPlane weights) planes
+    → sum_by (plane_weight (words_of (length weights) cover)) planes ≡ cover_weight weights cover
+planes_weigh weights cover planes is light bits are =
+    let many : ℕ → ℕ = λ bit. length (filter (λ place. has_bit bit (get_or weights place 0)) cover) * 2 ^ bit in
+    sum-planes many (plane_weight (words_of (length weights) cover)) planes
+    (λ i d here. let plane = get_or planes i d in
+    ap (λ l. shared_bits (words_of (length weights) cover) l * 2 ^ plane.bit) (are i d here)
+    ∙ ap (λ n. n * 2 ^ plane.bit) (row_shares weights cover is (λ place. has_bit plane.bit (get_or weights place 0))))
+    ∙ ap (sum_by many) bits
+    ∙ by_bits weights cover light (λ place m. is.below place (has-from_Member cover place m))
+
+narrow_from : (planes : List Plane) → ((bit : ℕ) → Member bit (map (λ plane. plane.bit) planes) → bit < 40) → AllByRecursion (λ plane. plane.bit < 40) planes
+narrow_from [] low = tt
+narrow_from (p ∷ planes) low = (low p.bit (inl refl), narrow_from planes (λ bit m. low bit (inr m)))
+
+low_bits : (weights : List ℕ) (bit : ℕ) → Member bit (bits_of weights) → bit < 40
+unfolding bits_of
+low_bits weights bit m =
+    let r = Member-range 0 40 bit (Member-filter (λ b. list_any (has_bit b) weights) bit (range_with_len 0 40) m).0 in
+    let high = r.1 in omega arith
+
+pub planes_narrow : (weights : List ℕ) (planes : List Plane) → map (λ plane. plane.bit) planes ≡ bits_of weights → All (λ plane. plane.bit < 40) planes
+planes_narrow weights planes bits = All-from_recursion (λ (plane : Plane). plane.bit < 40) planes
+    (narrow_from planes (λ bit m. low_bits weights bit (subst (Member bit) bits m)))
+
+pub planes_wide : (weights : List ℕ) (planes : List Plane) → All (IsPlane weights) planes → All (λ plane. length plane.words.items ≡ word_count (length weights)) planes
+planes_wide weights planes are = All-weaker (IsPlane weights) (λ (plane : Plane). length plane.words.items ≡ word_count (length weights))
+    (λ plane e. ap length e ∙ length-words (λ place. has_bit plane.bit (get_or weights place 0)) 0 (word_count (length weights))) planes are
+
+-- ---- two rows of bits
+
+module _ (weights parent first second : List ℕ) (x y : BitRow) (p : IsBitRow weights parent first x) (q : IsBitRow weights parent second y) where
+  pub row_words : zip2 bit_and x.words.items y.words.items ≡ words_of (length weights) (common first second)
+  row_words = ap (λ l. zip2 bit_and l y.words.items) p.words ∙ ap (zip2 bit_and (words_of (length weights) first)) q.words
+      ∙ words_and (has first) (has second) 0 (word_count (length weights)) ∙ share_is_common (length weights) first second
+
+  pub row_ones : shared_bits x.words.items y.words.items ≡ length (common first second)
+  row_ones = ap (λ l. shared_bits l y.words.items) p.words ∙ ap (shared_bits (words_of (length weights) first)) q.words ∙ row_shares weights first p.covers (has second)
+
+-- ---- weights that are kept with their planes
+
+module _ (weights : List ℕ) (ones : Bool) (planes : List Plane) (keeps : KeepsWeights weights ones planes) (cover words : List ℕ) (is : IsCover weights cover) (are : words ≡ words_of (length weights) cover) where
+  long : length words ≡ word_count (length weights)
+  long = ap length are ∙ length-words (has cover) 0 (word_count (length weights))
+
+  pub kept_few : length words ≤ MOST_WORDS
+  kept_few = let most = keeps.few in let l = long in omega arith
+
+  module _ (weighs : ones ≡ false) where
+    bits : map (λ plane. plane.bit) planes ≡ bits_of weights
+    bits = keeps.planes_are.bits ∙ ap (λ b. cond b [] (bits_of weights)) weighs
+
+    pub kept_narrow : All (λ plane. plane.bit < 40) planes
+    kept_narrow = planes_narrow weights planes bits
+
+    pub kept_wide : All (λ plane. length plane.words.items ≡ length words) planes
+    kept_wide = All-weaker (λ (plane : Plane). length plane.words.items ≡ word_count (length weights)) (λ (plane : Plane). length plane.words.items ≡ length words)
+        (λ plane e. e ∙ sym long) planes (planes_wide weights planes keeps.planes_are.words)
+
+    pub kept_weigh : sum_by (plane_weight words) planes ≡ cover_weight weights cover
+    kept_weigh = ap (λ l. sum_by (plane_weight l) planes) are ∙ planes_weigh weights cover planes is keeps.light bits keeps.planes_are.words
+
+    pub kept_light : sum_by (plane_weight words) planes ≤ MOST_WEIGHT
+    kept_light = let most = cover_light weights cover is.rises is.below in let all = kept_weigh in let top = keeps.light in omega arith

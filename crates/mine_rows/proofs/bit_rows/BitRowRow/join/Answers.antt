@@ -1,0 +1,43 @@
+use Rattle.std.proofs.Common.{length, sym, ap, ◌∙◌, arith}
+use Rattle.basket_sets.specs.Itemset.{has}
+use Rattle.mine_rows.specs.Bits.{word_count}
+use Rattle.mine_rows.specs.Cover.{common}
+use Rattle.mine_rows.proofs.RowLemmas.{common_covers}
+use Rattle.mine_rows.proofs.PlaneLemmas.{row_ones, row_words}
+use Rattle.mine_rows.proofs.WordLemmas.{length-words}
+use Rattle.mine_rows.proofs.bit_rows.BitRowRow.join.Goals as goal
+
+pub share-requires-clause-same : goal.share-requires-clause-same
+share-requires-clause-same c =
+    let (parent, first, second, p, q) = c.requires.rows in
+    let n = word_count (length c.args.weights.now) in
+    ap length p.words ∙ length-words (has first) 0 n ∙ sym (length-words (has second) 0 n) ∙ sym (ap length q.words)
+
+pub share-requires-clause-few : goal.share-requires-clause-few
+share-requires-clause-few c =
+    let (parent, first, second, p, q) = c.requires.rows in
+    let n = word_count (length c.args.weights.now) in
+    let long = ap length p.words ∙ length-words (has first) 0 n in
+    omega (arith, long, c.bounds.ensures.few)
+
+pub weight_of_bits-self-requires : goal.weight_of_bits-self-requires
+weight_of_bits-self-requires c =
+    let (parent, first, second, p, q) = c.requires.rows in
+    let weights = c.args.weights.now in (
+      common first second,
+      common_covers weights parent first second p.covers,
+      c.in_ok-ones.ensures.words ∙ row_words weights parent first second c.args.x.now c.args.y.now p q,
+      c.in_ok-ones.ensures.ones ∙ row_ones weights parent first second c.args.x.now c.args.y.now p q,
+    )
+
+pub returns : goal.returns
+returns c = λ parent first second p q.
+    let weights = c.args.weights.now in
+    let covers = common_covers weights parent first second p.covers in
+    let made = c.in_ok-ones.ensures.words ∙ row_words weights parent first second c.args.x.now c.args.y.now p q in
+    let ones = c.in_ok-ones.ensures.ones ∙ row_ones weights parent first second c.args.x.now c.args.y.now p q in
+    record {
+      covers = covers;
+      words = made;
+      count = c.weight_of_bits-self.ensures (common first second) covers made ones;
+    }

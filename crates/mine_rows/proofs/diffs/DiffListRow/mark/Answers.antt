@@ -1,0 +1,18 @@
+use Rattle.std.proofs.Common.{◌&&◌, true, length, not, subst, sym, ap, ◌∙◌}
+use Rattle.std.proofs.Math.Bool.{and-true}
+use Rattle.basket_sets.specs.Itemset.{AllBelow, has}
+use Rattle.mine_rows.proofs.MarkLemmas.{same_marks}
+use Rattle.mine_rows.proofs.RowLemmas.{missing_covers}
+use Rattle.mine_rows.proofs.diffs.DiffListRow.mark.Goals as goal
+
+pub clear-requires : goal.clear-requires
+clear-requires c =
+    let (parent, cover, is) = c.requires.row in
+    let below = (missing_covers c.args._weights.now parent cover c.args.self.now is).below in
+    subst (λ n. AllBelow n c.deref.result.now) (sym c.requires.marks.long) (subst (AllBelow (length c.args._weights.now)) (sym c.deref.ensures.value) below)
+
+pub returns : goal.returns
+returns c =
+    let missing = c.args.self.now.missing.items in
+    same_marks c.args._weights.now (λ place. not (has c.deref.result.now place) && true) (λ place. not (has missing place)) c.clear.new.self
+    (λ place. and-true (not (has c.deref.result.now place)) ∙ ap (λ l. not (has l place)) c.deref.ensures.value) (c.clear.ensures c.args._weights.now (λ place. true) c.requires.marks)

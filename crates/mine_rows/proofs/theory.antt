@@ -1,0 +1,2 @@
+-- What is kept of lists, which the proofs of every crate may cite.
+pub mod Filters

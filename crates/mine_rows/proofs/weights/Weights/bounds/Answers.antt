@@ -1,0 +1,17 @@
+use Rattle.std.proofs.Common.{◌≤◌, length, subst, sum, arith}
+use Rattle.std.specs.Prelude.{All}
+use Rattle.basket_sets.specs.Database.{MOST_WEIGHT}
+use Rattle.mine_rows.specs.Weights.{MOST_PLACES}
+use Rattle.mine_rows.proofs.CoverLemmas.{cover_light}
+use Rattle.mine_rows.proofs.weights.Weights.bounds.Goals as goal
+
+pub returns-clause-few : goal.returns-clause-few
+returns-clause-few c = subst (λ l. length l ≤ MOST_PLACES) c.self.view_is c.self.invariant.few
+
+pub returns-clause-some : goal.returns-clause-some
+returns-clause-some c = subst (All (λ weight. 1 ≤ weight)) c.self.view_is c.self.invariant.some
+
+pub returns-clause-light : goal.returns-clause-light
+returns-clause-light c = λ cover is.
+    let light = cover_light c.args.self.now cover is.rises is.below in
+    let most = subst (λ l. sum l ≤ MOST_WEIGHT) c.self.view_is c.self.invariant.light in omega arith

@@ -1,0 +1,50 @@
+use Rattle.std.proofs.Common.{◌≡◌, ◌<◌, ◌≤◌, length, sym, ap, subst, ◌∙◌}
+use Rattle.std.specs.Prelude.{All}
+use Rattle.std.specs.List.{sum_by}
+use Rattle.basket_sets.specs.Database.{MOST_WEIGHT}
+use Rattle.mine_rows.specs.Planes.{are_ones, plane_weight}
+use Rattle.mine_rows.specs.Weights.{KeepsWeights}
+use Rattle.mine_rows.proofs.PlaneLemmas.{kept_few, kept_light, kept_narrow, kept_weigh, kept_wide, ones_weigh}
+use Rattle.mine_rows.proofs.weights.Weights.weight_of_bits.Goals as goal
+
+pub returns-then-self : goal.returns-then-self
+returns-then-self c = λ cover is words ones.
+    ones ∙ ones_weigh c.args.self.now cover (ap are_ones (sym c.self.view_is) ∙ sym c.self.invariant.ones_are ∙ c.if-self.true) is
+
+pub weight_by_planes-requires-clause-few : goal.weight_by_planes-requires-clause-few
+weight_by_planes-requires-clause-few c =
+    let (cover, is, words, ones) = c.requires in
+    let planes = c.self.inside.planes.items in
+    let keeps = subst (λ l. KeepsWeights l c.self.inside.are_ones planes) c.self.view_is c.self.invariant in
+    kept_few c.args.self.now c.self.inside.are_ones planes keeps cover c.args.words.now.items is words
+
+pub weight_by_planes-requires-clause-wide : goal.weight_by_planes-requires-clause-wide
+weight_by_planes-requires-clause-wide c =
+    let (cover, is, words, ones) = c.requires in
+    let planes = c.self.inside.planes.items in
+    let keeps = subst (λ l. KeepsWeights l c.self.inside.are_ones planes) c.self.view_is c.self.invariant in
+    subst (All (λ plane. length plane.words.items ≡ length c.args.words.now.items)) (sym c.deref.ensures.value)
+    (kept_wide c.args.self.now c.self.inside.are_ones planes keeps cover c.args.words.now.items is words c.if-self.false)
+
+pub weight_by_planes-requires-clause-narrow : goal.weight_by_planes-requires-clause-narrow
+weight_by_planes-requires-clause-narrow c =
+    let (cover, is, words, ones) = c.requires in
+    let planes = c.self.inside.planes.items in
+    let keeps = subst (λ l. KeepsWeights l c.self.inside.are_ones planes) c.self.view_is c.self.invariant in
+    subst (All (λ plane. plane.bit < 40)) (sym c.deref.ensures.value)
+    (kept_narrow c.args.self.now c.self.inside.are_ones planes keeps cover c.args.words.now.items is words c.if-self.false)
+
+pub weight_by_planes-requires-clause-light : goal.weight_by_planes-requires-clause-light
+weight_by_planes-requires-clause-light c =
+    let (cover, is, words, ones) = c.requires in
+    let planes = c.self.inside.planes.items in
+    let keeps = subst (λ l. KeepsWeights l c.self.inside.are_ones planes) c.self.view_is c.self.invariant in
+    subst (λ l. sum_by (plane_weight c.args.words.now.items) l ≤ MOST_WEIGHT) (sym c.deref.ensures.value)
+    (kept_light c.args.self.now c.self.inside.are_ones planes keeps cover c.args.words.now.items is words c.if-self.false)
+
+pub returns : goal.returns
+returns c = λ cover is words ones.
+    let planes = c.self.inside.planes.items in
+    let keeps = subst (λ l. KeepsWeights l c.self.inside.are_ones planes) c.self.view_is c.self.invariant in
+    c.weight_by_planes.ensures ∙ ap (sum_by (plane_weight c.args.words.now.items)) c.deref.ensures.value
+    ∙ kept_weigh c.args.self.now c.self.inside.are_ones planes keeps cover c.args.words.now.items is words c.if-self.false

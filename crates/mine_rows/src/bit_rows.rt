@@ -1,0 +1,110 @@
+ghost use Rattle.std.specs.Prelude.{◌≡◌, ◌<◌, ◌^◌, ⊤, IfOk};
+ghost use Rattle.basket_sets.specs.Itemset.{AllBelow};
+ghost use Rattle.mine_rows.specs.Bits.{words_of};
+ghost use Rattle.mine_rows.specs.BitRows.{IsAddedAt};
+ghost use Rattle.mine_rows.specs.Rows.{IsBitRow};
+
+use crate::marks::Marks;
+use crate::row::Row;
+use crate::row_words::{RowWords, set, share, word, zeros};
+use crate::weights::Weights;
+use smallvec::SmallVec;
+use std::alloc::{AllocError, Global};
+
+/// For how many rows a database of more than one word is made anew, at the least.
+const LEAST_KEPT: usize = 6;
+
+/// A row with a bit for each place, which is one where the place is in its cover.
+#[derive(Debug, Drop)]
+pub struct BitRow {
+    words: RowWords,
+    count: u64,
+}
+
+/// A bit for each place below a number, which is one where the place is in a cover.
+fn bits_of_cover(alloc: Global, cover: &[u32], places: u32) -> Result<RowWords, AllocError>
+    requires { AllBelow places cover.now }
+    ensures { IfOk result (λ words. words.items ≡ words_of places cover.now) }
+{
+    let mut words = zeros(alloc, places as usize)?;
+    for place in cover {
+        set(&mut words, *place as usize);
+    }
+    Ok(words)
+}
+
+/// Adds a bit to the words of those of 64 places from one on that have a one.
+fn add_ones(words: &mut [u64], start: usize, ones: u64, bit: u64)
+    requires { start < 2 ^ 63 }
+    ensures { IsAddedAt start ones bit words.old words.new }
+{
+    let mut place = start;
+    let mut rest = ones;
+    while rest != 0 {
+        let zeros = rest.trailing_zeros();
+        place += zeros as usize;
+        if place < words.len() {
+            words[place] |= bit;
+        }
+        rest = rest >> zeros >> 1;
+        place += 1;
+    }
+}
+
+impl Row for BitRow {
+    ghost stands = { IsBitRow };
+
+    ghost at_rest = { λ weights marks. ⊤ };
+
+    ghost marked = { λ row weights marks. ⊤ };
+
+    fn first(alloc: Global, cover: &[u32], weights: &Weights) -> Result<Self, AllocError> {
+        Ok(BitRow {
+            words: bits_of_cover(alloc, cover, weights.places())?,
+            count: weights.weight(cover),
+        })
+    }
+
+    fn empty(alloc: Global) -> Self {
+        BitRow {
+            words: SmallVec::new(alloc),
+            count: 0,
+        }
+    }
+
+    fn new_marks(alloc: Global, _weights: &Weights) -> Result<Marks, AllocError> {
+        Marks::new(alloc, 0)
+    }
+
+    fn mark(&self, _marks: &mut Marks, _weights: &Weights) {}
+
+    fn unmark(&self, _marks: &mut Marks, _weights: &Weights) {}
+
+    fn join(
+        &mut self,
+        x: &Self,
+        y: &Self,
+        _marks: &Marks,
+        weights: &Weights,
+    ) -> Result<(), AllocError> {
+        weights.bounds();
+        let ones = share(&mut self.words, &x.words, &y.words)?;
+        self.count = weights.weight_of_bits(&self.words, ones);
+        Ok(())
+    }
+
+    fn count(&self) -> u64 {
+        self.count
+    }
+
+    fn is_large(&self, kept: usize, joined: usize, weights: &Weights) -> bool {
+        kept >= LEAST_KEPT && kept >= joined / 2 && weights.places() > 64 && weights.is_halved()
+    }
+
+    fn add_bit(&self, words: &mut [u64], bit: u64) -> bool {
+        for at in 0..words.len().div_ceil(64) {
+            add_ones(words, at * 64, word(&self.words, at), bit);
+        }
+        true
+    }
+}

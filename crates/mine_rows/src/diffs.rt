@@ -1,0 +1,78 @@
+ghost use Rattle.std.specs.Prelude.{true, not};
+ghost use Rattle.basket_sets.specs.Itemset.{has};
+ghost use Rattle.mine_rows.specs.Marks.{IsMarked};
+ghost use Rattle.mine_rows.specs.Rows.{IsDiffList};
+
+use crate::cover::missing_places;
+use crate::marks::Marks;
+use crate::row::Row;
+use crate::weights::Weights;
+use std::alloc::{AllocError, Global};
+
+/// A row that lists the places that its cover lacks of its parent's (Zaki and Gouda 2003).
+#[derive(Debug, Drop)]
+pub struct DiffList {
+    missing: Vec<u32>,
+    count: u64,
+}
+
+impl Row for DiffList {
+    ghost stands = { IsDiffList };
+
+    ghost at_rest = { λ weights marks. IsMarked weights (λ place. true) marks };
+
+    ghost marked = { λ row weights marks. IsMarked weights (λ place. not (has row.missing.items place)) marks };
+
+    fn first(alloc: Global, cover: &[u32], weights: &Weights) -> Result<Self, AllocError> {
+        Ok(DiffList {
+            missing: missing_places(alloc, cover, weights.places())?,
+            count: weights.weight(cover),
+        })
+    }
+
+    fn empty(alloc: Global) -> Self {
+        DiffList {
+            missing: Vec::new(alloc),
+            count: 0,
+        }
+    }
+
+    fn new_marks(alloc: Global, weights: &Weights) -> Result<Marks, AllocError> {
+        Marks::full(alloc, weights)
+    }
+
+    fn mark(&self, marks: &mut Marks, _weights: &Weights) {
+        marks.clear(&self.missing);
+    }
+
+    fn unmark(&self, marks: &mut Marks, weights: &Weights) {
+        marks.mark(&self.missing, weights);
+    }
+
+    fn join(
+        &mut self,
+        x: &Self,
+        y: &Self,
+        marks: &Marks,
+        weights: &Weights,
+    ) -> Result<(), AllocError> {
+        weights.bounds();
+        // What the second lacks and the first doesn't is lost.
+        let lost = marks.keep(&y.missing, &mut self.missing)?;
+        self.count = x.count - lost;
+        Ok(())
+    }
+
+    fn count(&self) -> u64 {
+        self.count
+    }
+
+    fn is_large(&self, _kept: usize, _joined: usize, _weights: &Weights) -> bool {
+        false
+    }
+
+    // Its places are those of its parent's cover, which it doesn't have.
+    fn add_bit(&self, _words: &mut [u64], _bit: u64) -> bool {
+        false
+    }
+}

@@ -1,0 +1,24 @@
+//! Rows that stand for covers, the places whose baskets contain a set: `tids` lists them, `diffs`
+//! lists what is lacking of them, and `bit_rows` has a bit for each place. Two rows are joined to the
+//! row of what their covers share.
+#![tactic(auto)]
+
+mod bit_rows;
+mod bits;
+mod cover;
+mod diffs;
+mod marks;
+mod planes;
+mod row;
+mod row_words;
+mod tids;
+mod weights;
+pub mod worked;
+
+pub use bit_rows::BitRow;
+pub use bits::and_count;
+pub use diffs::DiffList;
+pub use marks::Marks;
+pub use row::Row;
+pub use tids::TidList;
+pub use weights::Weights;

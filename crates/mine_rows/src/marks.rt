@@ -1,0 +1,86 @@
+//! Places that are marked while a row is joined with others.
+ghost use Rattle.std.specs.Prelude.{◌≡◌, ◌≤◌, ◌<◌, ◌||◌, ◌&&◌, ℕ, Bool, false, true, List, IfOk, OnOk, filter, length, nat_lt, not, slice_index};
+ghost use Rattle.std.specs.List.{sum_by};
+ghost use Rattle.basket_sets.specs.Database.{MOST_WEIGHT};
+ghost use Rattle.basket_sets.specs.Itemset.{AllBelow, has};
+ghost use Rattle.mine_rows.specs.Marks.{IsMarked};
+
+use crate::weights::Weights;
+use std::alloc::{AllocError, Global};
+
+/// The weight of each place that is marked, by the place's number, and 0 for the others.
+#[derive(Debug, Drop)]
+pub struct Marks {
+    pub weights: Vec<u64>,
+}
+
+impl Marks {
+    /// No place is marked.
+    pub fn new(alloc: Global, places: u32) -> Result<Self, AllocError>
+        ensures { IfOk result (λ marks. (weights : List ℕ) → length weights ≡ places
+            → IsMarked weights (λ place. false) marks) }
+    {
+        Ok(Marks {
+            weights: vec![in alloc; 0u64; places as usize]?,
+        })
+    }
+
+    /// All places are marked.
+    pub fn full(alloc: Global, weights: &Weights) -> Result<Self, AllocError>
+        ensures { IfOk result (IsMarked weights.now (λ place. true)) }
+    {
+        Ok(Marks {
+            weights: weights.to_vec(alloc)?,
+        })
+    }
+
+    /// Marks places, beside those that are marked.
+    pub fn mark(&mut self, places: &[u32], weights: &Weights)
+        requires long { length self.old.weights.items ≡ length weights.now }
+        requires below { AllBelow (length weights.now) places.now }
+        ensures { (test : ℕ → Bool) → IsMarked weights.now test self.old
+            → IsMarked weights.now (λ place. has places.now place || test place) self.new }
+    {
+        for place in places {
+            self.weights[*place as usize] = weights.of_place(*place);
+        }
+    }
+
+    /// Takes the marks of places away.
+    pub fn clear(&mut self, places: &[u32])
+        requires { AllBelow (length self.old.weights.items) places.now }
+        ensures { (weights : List ℕ) (test : ℕ → Bool) → IsMarked weights test self.old
+            → IsMarked weights (λ place. not (has places.now place) && test place) self.new }
+    {
+        for place in places {
+            self.weights[*place as usize] = 0;
+        }
+    }
+
+    /// Keeps those of some places that are marked, in the place of other places. The answer is what
+    /// they weigh.
+    pub fn keep(&self, places: &[u32], kept: &mut Vec<u32>) -> Result<u64, AllocError>
+        requires below { AllBelow (length self.now.weights.items) places.now }
+        requires light { sum_by (λ place. slice_index self.now.weights.items place) places.now
+            ≤ MOST_WEIGHT }
+        ensures places { OnOk result (kept.new.items
+            ≡ filter (λ place. nat_lt 0 (slice_index self.now.weights.items place)) places.now) }
+        ensures sum { IfOk result (λ sum.
+            sum ≡ sum_by (λ place. slice_index self.now.weights.items place) places.now) }
+    {
+        kept.clear();
+        kept.extend_from_slice(places)?;
+        let mut count = 0;
+        let mut sum = 0;
+        for place in places {
+            let weight = self.weights[*place as usize];
+            // Whether a place is marked can't be predicted, so each is put down, and the next one in
+            // its place where it isn't kept.
+            kept[count] = *place;
+            count += usize::from(weight > 0);
+            sum += weight;
+        }
+        kept.truncate(count);
+        Ok(sum)
+    }
+}

@@ -1,0 +1,96 @@
+ghost use Rattle.std.specs.Prelude.{◌≡◌, ℕ, List, IfOk, IsTrue, OnOk, length};
+ghost use Rattle.basket_sets.specs.Itemset.{AllBelow, IsRising};
+ghost use Rattle.mine_rows.specs.Cover.{IsAdded, all_places, common, cover_weight};
+
+use crate::marks::Marks;
+use crate::weights::Weights;
+use std::alloc::{AllocError, Global};
+
+/// A row stands for a cover beside its parent's: the places whose baskets contain a set, beside
+/// those that contain the set that it extends (Zaki 2000).
+pub trait Row: Drop {
+    ghost use Rattle.mine_rows.specs.declared.marks.Marks.{Marks};
+
+    /// Whether a row over weights stands, beside a parent's cover, for a cover.
+    ghost stands: { List ℕ → List ℕ → List ℕ → Self → Type 0 };
+
+    /// What is marked while no row is joined with others, of the places of weights.
+    ghost at_rest: { List ℕ → Marks → Type 0 };
+
+    /// What is marked while a row is: of the places of the other rows those that are to be kept.
+    ghost marked: { Self → List ℕ → Marks → Type 0 };
+
+    /// The row of a cover beside all places.
+    fn first(alloc: Global, cover: &[u32], weights: &Weights) -> Result<Self, AllocError>
+        requires rises { IsRising cover.now }
+        requires below { AllBelow (length weights.now) cover.now }
+        ensures { IfOk result (λ row. stands weights.now (all_places weights.now) cover.now row) };
+
+    /// A row that stands for nothing yet, for `join` to make another of.
+    fn empty(alloc: Global) -> Self;
+
+    /// Marks for rows over weights, none of which is joined yet.
+    fn new_marks(alloc: Global, weights: &Weights) -> Result<Marks, AllocError>
+        ensures { IfOk result (at_rest weights.now) };
+
+    /// Marks what is to be kept of the rows that this one is joined with.
+    fn mark(&self, marks: &mut Marks, weights: &Weights)
+        requires row { (parent : List ℕ) × (cover : List ℕ)
+            × stands weights.now parent cover self.now }
+        requires marks { at_rest weights.now marks.old }
+        ensures { marked self.now weights.now marks.new };
+
+    /// Undoes that.
+    fn unmark(&self, marks: &mut Marks, weights: &Weights)
+        requires row { (parent : List ℕ) × (cover : List ℕ)
+            × stands weights.now parent cover self.now }
+        requires marks { marked self.now weights.now marks.old }
+        ensures { at_rest weights.now marks.new };
+
+    /// Becomes the row of what two covers share, beside the first of them, for which places are marked.
+    /// Both stand beside one parent.
+    fn join(
+        &mut self,
+        x: &Self,
+        y: &Self,
+        marks: &Marks,
+        weights: &Weights,
+    ) -> Result<(), AllocError>
+        requires rows { (parent : List ℕ) × (first : List ℕ) × (second : List ℕ)
+            × stands weights.now parent first x.now × stands weights.now parent second y.now }
+        requires marks { marked x.now weights.now marks.now }
+        ensures { OnOk result ((parent first second : List ℕ)
+            → stands weights.now parent first x.now → stands weights.now parent second y.now
+            → stands weights.now first (common first second) self.new) };
+
+    /// The row of what two covers share, beside the first of them. Both stand beside one parent.
+    fn joined(alloc: Global, x: &Self, y: &Self, weights: &Weights) -> Result<Self, AllocError>
+        requires { (parent : List ℕ) × (first : List ℕ) × (second : List ℕ)
+            × stands weights.now parent first x.now × stands weights.now parent second y.now }
+        ensures { IfOk result (λ row. (parent first second : List ℕ)
+            → stands weights.now parent first x.now → stands weights.now parent second y.now
+            → stands weights.now first (common first second) row) }
+    {
+        let mut marks = Self::new_marks(alloc, weights)?;
+        x.mark(&mut marks, weights);
+        let mut row = Self::empty(alloc);
+        row.join(x, y, &marks, weights)?;
+        Ok(row)
+    }
+
+    /// What the cover weighs.
+    fn count(&self) -> u64
+        ensures { (weights parent cover : List ℕ) → stands weights parent cover self.now
+            → result ≡ cover_weight weights cover };
+
+    /// Whether it pays to make a database of its cover, where so many of the rows that were joined with
+    /// it are kept.
+    fn is_large(&self, kept: usize, joined: usize, weights: &Weights) -> bool;
+
+    /// Adds a bit to the words of the places of its cover, or says that it doesn't list them.
+    fn add_bit(&self, words: &mut [u64], bit: u64) -> bool
+        requires { (weights : List ℕ) × (parent : List ℕ) × (cover : List ℕ)
+            × (length weights ≡ length words.old) × stands weights parent cover self.now }
+        ensures { IsTrue result → (weights parent cover : List ℕ) → length weights ≡ length words.old
+            → stands weights parent cover self.now → IsAdded cover bit words.old words.new };
+}

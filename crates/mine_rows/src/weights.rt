@@ -1,0 +1,133 @@
+//! Weights of places.
+ghost use Rattle.std.specs.Prelude.{◌≡◌, ◌≤◌, ◌<◌, ℕ, List, All, IfOk, length, slice_index, sum};
+ghost use Rattle.basket_sets.specs.Database.{MOST_WEIGHT};
+ghost use Rattle.basket_sets.specs.Itemset.{AllBelow, IsRising};
+ghost use Rattle.mine_rows.specs.Cover.{IsCover, cover_weight};
+ghost use Rattle.mine_rows.specs.Bits.{words_of};
+ghost use Rattle.mine_rows.specs.Planes.{are_ones};
+ghost use Rattle.mine_rows.specs.Weights.{MOST_PLACES};
+
+use crate::planes::{Plane, planes_of, weight_by_planes};
+use crate::row_words::RowWords;
+use std::alloc::{AllocError, Global};
+use std::marker::Model;
+
+/// Whether all weights are 1.
+fn all_are_ones(weights: &[u64]) -> bool
+    ensures { result ≡ are_ones weights.now }
+{
+    weights.iter().all(|weight| *weight == 1)
+}
+
+/// The weight of each place, by the place's number, and the same bit by bit.
+#[derive(Debug, Drop)]
+pub struct Weights {
+    weights: Vec<u64>,
+    are_ones: bool,
+    planes: Vec<Plane>,
+    /// Whether the places were at least twice as many before equal ones were merged.
+    is_halved: bool,
+}
+
+impl Model for Weights {
+    ghost use Rattle.std.specs.Prelude.{ℕ, List};
+    ghost use Rattle.mine_rows.specs.Weights.{KeepsWeights};
+
+    ghost Value = { List ℕ };
+
+    ghost view = { λ w. w.weights.items };
+
+    ghost invariant = { λ w. KeepsWeights w.weights.items w.are_ones w.planes.items };
+}
+
+impl Weights {
+    /// The weights of so many places as there are.
+    pub fn of(alloc: Global, weights: &[u64]) -> Result<Self, AllocError>
+        requires few { length weights.now ≤ MOST_PLACES }
+        requires some { All (λ weight. 1 ≤ weight) weights.now }
+        requires light { sum weights.now ≤ MOST_WEIGHT }
+        ensures { IfOk result (λ copy. copy ≡ weights.now) }
+    {
+        Weights::of_vec(alloc, weights.to_vec(alloc)?, false)
+    }
+
+    /// The same weights, in their own vector, of places that were at least twice as many before equal
+    /// ones were merged, or not.
+    pub fn of_vec(alloc: Global, weights: Vec<u64>, is_halved: bool) -> Result<Self, AllocError>
+        requires few { length weights.items ≤ MOST_PLACES }
+        requires some { All (λ weight. 1 ≤ weight) weights.items }
+        requires light { sum weights.items ≤ MOST_WEIGHT }
+        ensures { IfOk result (λ kept. kept ≡ weights.items) }
+    {
+        let are_ones = all_are_ones(&weights);
+        let planes = planes_of(alloc, &weights, are_ones)?;
+        Ok(Weights {
+            weights,
+            are_ones,
+            planes,
+            is_halved,
+        })
+    }
+
+    /// How many places there are.
+    pub fn places(&self) -> u32
+        ensures { result ≡ length self.now }
+    {
+        self.weights.len() as u32
+    }
+
+    /// Whether merging equal places left at most half of them, so that it may do so again below.
+    pub(crate) fn is_halved(&self) -> bool {
+        self.is_halved
+    }
+
+    /// The weights by the places' numbers.
+    pub(crate) fn to_vec(&self, alloc: Global) -> Result<Vec<u64>, AllocError>
+        ensures { IfOk result (λ copy. copy.items ≡ self.now) }
+    {
+        self.weights.to_vec(alloc)
+    }
+
+    /// What a place weighs.
+    pub fn of_place(&self, place: u32) -> u64
+        requires { place < length self.now }
+        ensures { result ≡ slice_index self.now place }
+    {
+        self.weights[place as usize]
+    }
+
+    /// What holds of all weights: they are few, none is 0, and no cover is heavy.
+    pub fn bounds(&self)
+        ensures few { length self.now ≤ MOST_PLACES }
+        ensures some { All (λ weight. 1 ≤ weight) self.now }
+        ensures total { sum self.now ≤ MOST_WEIGHT }
+        ensures light { (cover : List ℕ) → IsCover self.now cover → cover_weight self.now cover ≤ MOST_WEIGHT }
+    {
+        let _ = self.weights.len();
+    }
+
+    /// What some places weigh together.
+    pub fn weight(&self, places: &[u32]) -> u64
+        requires rises { IsRising places.now }
+        requires below { AllBelow (length self.now) places.now }
+        ensures sum { result ≡ cover_weight self.now places.now }
+        ensures within { result ≤ MOST_WEIGHT }
+    {
+        let mut weight = 0;
+        for place in places {
+            weight += self.weights[*place as usize];
+        }
+        weight
+    }
+
+    /// What the places of a row of bits weigh together, where the row has so many ones.
+    pub(crate) fn weight_of_bits(&self, words: &RowWords, ones: u64) -> u64
+        requires { (cover : List ℕ) × IsCover self.now cover × (words.now.items ≡ words_of (length self.now) cover) × (ones ≡ length cover) }
+        ensures { (cover : List ℕ) → IsCover self.now cover → words.now.items ≡ words_of (length self.now) cover → ones ≡ length cover → result ≡ cover_weight self.now cover }
+    {
+        if self.are_ones {
+            return ones;
+        }
+        weight_by_planes(words, &self.planes)
+    }
+}

@@ -1,6 +1,0 @@
-use Rattle.std.proofs.Common.{◌≡◌, take}
-use Rattle.mine_vertical.specs.Bits.{words_of}
-use Rattle.mine_vertical.proofs.bit_rows.bits_of_cover.Given as goal
-
-abbrev pub invariant-loop-place : goal.invariant-loop-place
-invariant-loop-place l = l.words.items ≡ words_of l.places (take l.place-index l.cover)

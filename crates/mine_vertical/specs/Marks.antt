@@ -1,8 +1,0 @@
--- Places that are marked.
-use Rattle.std.specs.Prelude.{◌≡◌, ℕ, Bool, List, length, slice_index, if◌then◌else◌}
-use Rattle.mine_vertical.specs.declared.marks.Marks.{Marks}
-
--- the places that pass a test have their weights as marks, and the others have none
-pub record IsMarked (weights : List ℕ) (test : ℕ → Bool) (marks : Marks) : Type 0 where
-  pub long : length marks.weights.items ≡ length weights
-  pub at : (place : ℕ) → slice_index marks.weights.items place ≡ (if test place then slice_index weights place else 0)
