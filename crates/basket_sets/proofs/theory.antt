@@ -1,6 +1,8 @@
 -- The theory of itemsets, which the proofs of every crate may cite.
 pub mod Members
 pub mod Rising
+pub mod Tests
+pub mod Ranges
 pub mod Sorting
 pub mod Subsets
 pub mod Support

@@ -8,17 +8,17 @@ use Rattle.std.proofs.lemmas.Bool.{cases_Bool, cases_eq, eq-eqb}
 use Rattle.std.proofs.lemmas.List.{append-nil, get_or-map, get_or-set_other, get_or-set_same, length-map, length-set, map-set}
 use Rattle.std.proofs.lemmas.List.Elements.{filter-append}
 use Rattle.std.proofs.lemmas.Simd.{map-map}
-use Rattle.basket_ranks.proofs.theory.Shards.{range_more}
 use Rattle.basket_sets.specs.declared.weighted.Weighted.{Weighted}
 use Rattle.basket_sets.specs.Itemset.{IsRising, contains, has}
 use Rattle.basket_sets.proofs.theory.Rising.{Member-from_has, first_below, nil_rises, rest_rises}
+use Rattle.basket_sets.proofs.theory.Tests.{apart_eqb}
+use Rattle.basket_sets.proofs.theory.Ranges.{range_more}
 use Rattle.mine_baskets.specs.declared.span.Span.{Span}
 use Rattle.mine_baskets.specs.declared.words.Word.{Word}
 use Rattle.mine_baskets.specs.Covers.{AreCovers, HasPlace, basket_at, covers_in, weights_of}
 use Rattle.mine_baskets.specs.Span.{baskets_at}
 use Rattle.mine_baskets.specs.Span.{basket_at as span_at}
 use Rattle.mine_baskets.specs.Words.{word_place, word_places}
-use Rattle.mine_baskets.proofs.theory.Bits.{apart_eqb}
 
 covers_at : (covers : List (Vec ℕ Global)) (rank : ℕ) (d : Vec ℕ Global) → rank < length covers → get_or (covers_in covers) rank [] ≡ (get_or covers rank d).items
 covers_at covers rank d below = get_or-map (λ (v : Vec ℕ Global). v.items) covers rank d [] below

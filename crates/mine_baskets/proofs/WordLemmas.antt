@@ -15,13 +15,14 @@ use Rattle.basket_sets.specs.Database.{MOST_WEIGHT}
 use Rattle.basket_sets.specs.Itemset.{IsRising, contains, has}
 use Rattle.basket_sets.proofs.theory.Members.{Member, Member-filter, Member-from_filter}
 use Rattle.basket_sets.proofs.theory.Rising.{Member-from_has, has-from_Member, same_rising}
+use Rattle.basket_sets.proofs.theory.Ranges.{Member-into_range, Member-range, filtered_range_rises}
+use Rattle.basket_sets.proofs.theory.Tests.{or_false}
 use Rattle.mine_baskets.specs.declared.words.Word.{Word}
 use Rattle.mine_baskets.specs.ListBaskets.{AreRankBaskets, HaveSameWeights, IsRankBasket, weight_where}
 use Rattle.mine_baskets.specs.Words.{AreInOrder, EndsBy, has_rank, rank_bits, ranks_in, word_place, word_places}
 use Rattle.mine_baskets.proofs.theory.Weights.{cond_sum}
-use Rattle.mine_baskets.proofs.theory.Bits.{has_either, one_rank, or_false}
+use Rattle.mine_baskets.proofs.theory.Bits.{has_either, one_rank}
 use Rattle.mine_baskets.specs.declared.words.TheConstants.{WORD_RANKS}
-use Rattle.mine_baskets.proofs.theory.Ranges.{Member-into_range, Member-range, filtered_range_rises}
 
 module _ (test : List ℕ → Bool) where
   abbrev weigh : Weighted → ℕ

@@ -1,5 +1,4 @@
 -- The theory of baskets of ranks, which the proofs of every crate may cite.
-pub mod Ranges
 pub mod Bits
 pub mod Weights
 pub mod Neighbours

@@ -12,14 +12,15 @@ use Rattle.basket_sets.specs.Database.{weighted}
 use Rattle.basket_sets.specs.Itemset.{IsRising, has}
 use Rattle.basket_sets.proofs.theory.Members.{Member, Member-filter, Member-from_filter}
 use Rattle.basket_sets.proofs.theory.Rising.{has-from_Member, same_rising}
+use Rattle.basket_sets.proofs.theory.Ranges.{Member-into_range, Member-range, filtered_range_rises}
+use Rattle.basket_sets.proofs.theory.Tests.{apart_eqb, or_false, or_true}
 use Rattle.mine_baskets.specs.declared.words.TheConstants.{WORD_RANKS}
 use Rattle.mine_baskets.specs.ListBaskets.{IsRankBasket}
 use Rattle.mine_baskets.specs.Words.{has_rank, ranks_in, word_places}
 use Rattle.mine_classes.specs.BitTable.{AreBits, option_bit, place_bit, table_bits, table_word}
 use Rattle.mine_classes.proofs.PairLemmas.{has_more}
 use Rattle.mine_classes.proofs.PlaceLemmas.{all_coded, from_places, into_places, placed, places_in, places_rise, rank_at, rank_from_none, stands}
-use Rattle.mine_baskets.proofs.theory.Bits.{apart_eqb, has_either, or_false, or_true}
-use Rattle.mine_baskets.proofs.theory.Ranges.{Member-into_range, Member-range, filtered_range_rises}
+use Rattle.mine_baskets.proofs.theory.Bits.{has_either}
 
 -- ---- the bit of a place
 

@@ -13,12 +13,13 @@ use Rattle.basket_sets.specs.Database.{weighted}
 use Rattle.basket_sets.specs.Itemset.{IsRising, contains, has}
 use Rattle.basket_sets.proofs.theory.Members.{Member, Member-filter, Member-from_filter, Member-from_map, Member-map, at_Member}
 use Rattle.basket_sets.proofs.theory.Rising.{contains_each, first_below, has-from_Member, has_each, length-le-contains, rest_rises}
+use Rattle.basket_sets.proofs.theory.Tests.{all_of, each_of}
+use Rattle.basket_sets.proofs.theory.Ranges.{Member-range, range_rises}
 use Rattle.mine_baskets.specs.declared.span.Span.{Span}
 use Rattle.mine_baskets.specs.ListBaskets.{AreRankBaskets, IsRankBasket, RankBaskets, weight_where}
 use Rattle.mine_classes.specs.Runs.{AreRunsOf, below}
 use Rattle.mine_baskets.specs.Span.{IsWithin, basket_at, baskets_at}
-use Rattle.mine_baskets.proofs.theory.Ranges.{Member-range, range_rises}
-use Rattle.mine_classes.proofs.theory.Branches.{AreHeavy, IsFullAt, all_of, each_of, from_picked, into_picked}
+use Rattle.mine_classes.proofs.theory.Branches.{AreHeavy, IsFullAt, from_picked, into_picked}
 use Rattle.mine_classes.specs.Paths.{is_branch}
 
 -- ---- rising lists that fill a range

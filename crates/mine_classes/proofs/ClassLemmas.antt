@@ -15,10 +15,10 @@ use Rattle.basket_sets.specs.Support.{support_of, total_of}
 use Rattle.basket_sets.proofs.theory.Members.{Member, All-from_Member, at_Member, Member-append, Member-append_left, Member-append_right, Member-map, Member-from_map, Member-from_Contains, Contains-from_Member}
 use Rattle.basket_sets.proofs.theory.Rising.{nil_rises, cons_rises, first_below, rest_rises, contains_each}
 use Rattle.basket_sets.proofs.theory.Support.{subsets_are_frequent, at_least_one}
+use Rattle.basket_sets.proofs.theory.Tests.{all_of, each_of}
 use Rattle.mine_classes.specs.Conditional.{is_kept, conditional}
 use Rattle.mine_classes.specs.Classes.{ends_in, with_rank, extended, ClassesAreConditional, RareRanksHaveNoClass}
 use Rattle.mine_classes.proofs.ConditionalLemmas.{conditional_supports}
-use Rattle.mine_classes.proofs.theory.Branches.{all_of, each_of}
 
 -- ---- the greatest rank of a set
 

@@ -14,6 +14,7 @@ use Rattle.basket_sets.specs.Database.{weighted}
 use Rattle.basket_sets.specs.Itemset.{IsRising, has}
 use Rattle.basket_sets.proofs.theory.Members.{Member, Member-filter, Member-from_filter, Contains-from_Member}
 use Rattle.basket_sets.proofs.theory.Rising.{Member-from_has, has-from_Member, rising-rises, same_rising}
+use Rattle.basket_sets.proofs.theory.Tests.{Member-at}
 use Rattle.mine_baskets.specs.declared.span.Span.{Span}
 use Rattle.mine_classes.specs.Conditional.{conditional, is_kept, kept_place}
 use Rattle.mine_baskets.specs.ListBaskets.{HaveSameWeights, IsRankBasket, weight_where}
@@ -22,7 +23,6 @@ use Rattle.mine_classes.specs.Runs.{AreRunsOf, below}
 use Rattle.mine_baskets.specs.Span.{baskets_at}
 use Rattle.mine_classes.proofs.theory.Kept.{Member-kept, kept_lower}
 use Rattle.mine_baskets.proofs.theory.Weights.{changed_weight}
-use Rattle.mine_baskets.proofs.theory.Neighbours.{Member-at}
 
 -- ---- weights of baskets that a function changes
 

@@ -10,9 +10,9 @@ use Rattle.basket_sets.specs.Support.{weight_at, support_of}
 use Rattle.basket_sets.proofs.theory.Members.{Member-filter, Member-from_filter}
 use Rattle.basket_sets.proofs.theory.Rising.{has_each, contains_each}
 use Rattle.basket_sets.proofs.theory.Support.{support-append, support-cons}
+use Rattle.basket_sets.proofs.theory.Tests.{all_of, each_of}
 use Rattle.mine_classes.specs.Conditional.{is_kept, kept_place, ConditionalSupports}
 use Rattle.mine_baskets.proofs.theory.Weights.{cond_sum}
-use Rattle.mine_classes.proofs.theory.Branches.{all_of, each_of}
 
 -- ---- tests
 

@@ -10,9 +10,9 @@ use Rattle.basket_sets.specs.Counts.{AllBelow}
 use Rattle.basket_sets.specs.Itemset.{IsRising, has, rising}
 use Rattle.basket_sets.proofs.theory.Members.{Member, Member-append, Member-append_left, Member-append_right, Member-filter}
 use Rattle.basket_sets.proofs.theory.Rising.{Member-from_has, has-from_Member, Member-rising}
+use Rattle.basket_sets.proofs.theory.Tests.{apart_eqb, or_false, or_true}
 use Rattle.mine_classes.specs.Pairs.{AreSums, WithBasket}
 use Rattle.mine_classes.proofs.RunStepLemmas.{front_is}
-use Rattle.mine_baskets.proofs.theory.Bits.{apart_eqb, or_false, or_true}
 
 -- ---- a basket's ranks, one after another
 

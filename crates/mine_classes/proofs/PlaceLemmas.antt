@@ -14,12 +14,13 @@ use Rattle.basket_sets.specs.Database.{MOST_WEIGHT, weighted}
 use Rattle.basket_sets.specs.Itemset.{IsRising, has}
 use Rattle.basket_sets.proofs.theory.Members.{Member, Contains-from_Member}
 use Rattle.basket_sets.proofs.theory.Rising.{Member-from_has, has-from_Member, cons_rises, first_below, nil_rises, rest_rises, same_rising}
+use Rattle.basket_sets.proofs.theory.Tests.{Member-at, rising_at}
 use Rattle.mine_baskets.specs.declared.span.Span.{Span}
 use Rattle.mine_baskets.specs.ListBaskets.{AreRankBaskets, IsRankBasket}
 use Rattle.mine_classes.specs.Places.{ArePlaces, by_table, table_places}
 use Rattle.mine_baskets.specs.Span.{IsWithin, basket_at, baskets_at}
 use Rattle.mine_classes.proofs.PairLemmas.{has_more}
-use Rattle.mine_baskets.proofs.theory.Neighbours.{Member-at, pushed_basket, rising_at}
+use Rattle.mine_baskets.proofs.theory.Neighbours.{pushed_basket}
 
 pub place_le : (xs : List ℕ) (k : ℕ) → IsRising xs → k < length xs → k ≤ get_or xs k 0
 place_le xs zero up here = omega arith

@@ -10,7 +10,7 @@ use Rattle.basket_sets.specs.Itemset.{IsRising}
 use Rattle.mine_baskets.specs.declared.span.Span.{Span}
 use Rattle.mine_classes.specs.Runs.{HaveRuns, lists_in, with_last_heavier, with_run}
 use Rattle.mine_baskets.specs.Span.{span_front}
-use Rattle.mine_baskets.proofs.theory.Neighbours.{rising_at}
+use Rattle.basket_sets.proofs.theory.Tests.{rising_at}
 
 pub heavier_is : (runs : List Span) (i : ℕ) (last : Span) (weight : ℕ) → i + 1 ≡ length runs → last ≡ get_or runs i last
     → set runs i (record { start = last.start; end = last.end; weight = last.weight + weight }) ≡ with_last_heavier weight runs

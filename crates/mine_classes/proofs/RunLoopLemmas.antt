@@ -14,6 +14,7 @@ use Rattle.basket_sets.specs.Support.{total_of, weight_at}
 use Rattle.basket_sets.proofs.theory.Members.{Member-filter, Contains-from_Member}
 use Rattle.basket_sets.proofs.theory.Rising.{Member-from_has, has-from_Member}
 use Rattle.basket_sets.proofs.theory.Support.{support_falls}
+use Rattle.basket_sets.proofs.theory.Tests.{Member-at}
 use Rattle.mine_baskets.specs.declared.span.Span.{Span}
 use Rattle.mine_baskets.specs.ListBaskets.{IsRankBasket, repeats_last}
 use Rattle.mine_classes.specs.Runs.{AreRunsOf, HaveRuns, with_run}
@@ -22,7 +23,6 @@ use Rattle.mine_baskets.specs.Span.{IsWithin, basket_at, baskets_at}
 use Rattle.mine_classes.proofs.ConditionalLemmas.{kept_support}
 use Rattle.mine_classes.proofs.RunLemmas.{length-range}
 use Rattle.mine_classes.proofs.RunStepLemmas.{below_without, front_is, front_range, heavier_are, heavier_baskets, pushed_are, pushed_repeats, raised_repeats}
-use Rattle.mine_baskets.proofs.theory.Neighbours.{Member-at}
 
 -- ---- one basket more
 

@@ -13,12 +13,13 @@ use Rattle.basket_sets.specs.Database.{weighted}
 use Rattle.basket_sets.specs.Itemset.{IsRising, has}
 use Rattle.basket_sets.proofs.theory.Members.{Member}
 use Rattle.basket_sets.proofs.theory.Rising.{first_below, rest_rises}
+use Rattle.basket_sets.proofs.theory.Tests.{Member-at}
 use Rattle.mine_baskets.specs.declared.span.Span.{Span}
 use Rattle.mine_classes.specs.Conditional.{kept_place}
 use Rattle.mine_baskets.specs.ListBaskets.{IsRankBasket, repeats_last, weight_where, with_last_raised}
 use Rattle.mine_classes.specs.Runs.{AreRunsOf, below, with_last_heavier}
 use Rattle.mine_baskets.specs.Span.{IsWithin, basket_at, baskets_at}
-use Rattle.mine_baskets.proofs.theory.Neighbours.{raised_all, raised_weight, pushed_all, Member-at}
+use Rattle.mine_baskets.proofs.theory.Neighbours.{raised_all, raised_weight, pushed_all}
 
 -- ---- the ranks before a rank
 

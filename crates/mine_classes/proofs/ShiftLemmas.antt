@@ -11,12 +11,12 @@ use Rattle.std.proofs.lemmas.Nat.{pow_pos}
 use Rattle.std.proofs.lemmas.Nat.Bits.{bit_at-lt, bit_at-zero, bit_at_and, bit_at_cat_high, bit_at_cat_low}
 use Rattle.basket_sets.specs.Itemset.{IsRising}
 use Rattle.basket_sets.proofs.theory.Rising.{same_test}
+use Rattle.basket_sets.proofs.theory.Tests.{or_false, rising_at}
 use Rattle.mine_baskets.specs.declared.words.TheConstants.{WORD_RANKS}
 use Rattle.mine_baskets.specs.Words.{has_rank}
 use Rattle.mine_baskets.proofs.theory.Bits.{has_either, one_rank}
 use Rattle.mine_classes.specs.declared.shift.Shift.{Shift}
 use Rattle.mine_classes.specs.Shift.{AreShifts, shifted}
-use Rattle.mine_baskets.proofs.theory.Neighbours.{rising_at}
 
 one_of_both : (x y : ℕ) → x < 2 → y < 2 → eqb (min x y) 1 ≡ (eqb x 1 && eqb y 1)
 one_of_both zero zero low high = refl
@@ -53,10 +53,6 @@ and_or false a b = refl
 or_assoc : (a b c : Bool) → (a || (b || c)) ≡ ((a || b) || c)
 or_assoc true b c = refl
 or_assoc false b c = refl
-
-or_false : (b : Bool) → (b || false) ≡ b
-or_false true = refl
-or_false false = refl
 
 and_false : (b : Bool) → (b && false) ≡ false
 and_false true = refl

@@ -14,6 +14,7 @@ use Rattle.basket_sets.specs.Support.{support_of, total_of, weight_at}
 use Rattle.basket_sets.proofs.theory.Members.{Member, Member-filter, Member-from_filter}
 use Rattle.basket_sets.proofs.theory.Rising.{Member-from_has, has-from_Member, Member-rising, Member-into_rising, rising-rises, same_rising}
 use Rattle.basket_sets.proofs.theory.Support.{support-cons, support_falls}
+use Rattle.basket_sets.proofs.theory.Ranges.{Member-into_range, Member-range, filtered_range_rises}
 use Rattle.mine_baskets.specs.declared.span.Span.{Span}
 use Rattle.mine_classes.specs.Conditional.{is_kept}
 use Rattle.mine_baskets.specs.ListBaskets.{AreRankBaskets, IsRankBasket}
@@ -21,7 +22,6 @@ use Rattle.mine_classes.specs.Pairs.{AreSums, is_met, kept_ranks, pairs_of, rank
 use Rattle.mine_classes.specs.Runs.{AreRunsOf, below}
 use Rattle.mine_baskets.specs.Span.{basket_at, baskets_at}
 use Rattle.mine_classes.proofs.ConditionalLemmas.{kept_support}
-use Rattle.mine_baskets.proofs.theory.Ranges.{Member-into_range, Member-range, filtered_range_rises}
 
 -- ---- sums
 

@@ -18,16 +18,15 @@ use Rattle.basket_sets.specs.Support.{support_of, weight_at}
 use Rattle.basket_sets.proofs.theory.Members.{Member, Member-filter, Member-from_filter, Contains-from_Member}
 use Rattle.basket_sets.proofs.theory.Merging.{sum_by-same}
 use Rattle.basket_sets.proofs.theory.Rising.{Member-from_has, contains_each, has-from_Member, has_each, rising-rises, same_rising, same_test}
+use Rattle.basket_sets.proofs.theory.Tests.{Member-at, all_of, each_of}
+use Rattle.basket_sets.proofs.theory.Ranges.{Member-into_range, Member-range, range_rises}
 use Rattle.mine_baskets.specs.declared.words.Word.{Word}
 use Rattle.mine_classes.specs.Conditional.{is_kept, kept_place}
 use Rattle.mine_baskets.specs.ListBaskets.{HaveSameWeights, weight_where}
 use Rattle.mine_classes.specs.Pairs.{is_met, kept_ranks, pairs_of}
 use Rattle.mine_baskets.specs.Words.{has_rank, ranks_in, word_place, word_places}
 use Rattle.mine_baskets.proofs.theory.Weights.{changed_weight}
-use Rattle.mine_baskets.proofs.theory.Ranges.{Member-into_range, Member-range, range_rises}
 use Rattle.mine_classes.specs.Words.{pair_weight, rank_weight}
-use Rattle.mine_baskets.proofs.theory.Neighbours.{Member-at}
-use Rattle.mine_classes.proofs.theory.Branches.{all_of, each_of}
 use Rattle.mine_classes.specs.Paths.{is_branch}
 
 -- ---- the ranks of a word

@@ -16,15 +16,16 @@ use Rattle.basket_sets.specs.Support.{support_of, total_of}
 use Rattle.basket_sets.proofs.theory.Members.{All-from_Member, Contains-from_Member, Member, Member-append, Member-append_left, Member-append_right, Member-filter, Member-from_Contains, Member-from_map, Member-map, at_Member}
 use Rattle.basket_sets.proofs.theory.Rising.{contains_each, first_below, has-from_Member, has_each, rest_rises, same_test}
 use Rattle.basket_sets.proofs.theory.Support.{meets_more, support_falls}
+use Rattle.basket_sets.proofs.theory.Tests.{all_of}
+use Rattle.basket_sets.proofs.theory.Ranges.{Member-into_range}
 use Rattle.mine_classes.specs.Classes.{ClassesAreAll, ClassesAreConditional, ListClasses, ListsClass, RanksAreBelow, class_of, ends_in, extended, with_rank}
 use Rattle.mine_classes.specs.Conditional.{ConditionalSupports, conditional, is_kept}
 use Rattle.mine_classes.specs.Mined.{ListsHaveClassSize}
-use Rattle.mine_baskets.proofs.theory.Ranges.{Member-into_range}
 use Rattle.mine_fp.specs.Level.{as_items}
 use Rattle.mine_fp.proofs.ClassLemmas.{listed_long}
 use Rattle.mine_fp.proofs.LevelLemmas.{rising_same}
 use Rattle.mine_fp.proofs.StraightLemmas.{same_support}
-use Rattle.mine_classes.proofs.theory.Branches.{full_from_branch, all_of, from_picked}
+use Rattle.mine_classes.proofs.theory.Branches.{full_from_branch, from_picked}
 use Rattle.mine_classes.specs.Paths.{is_branch}
 
 -- a set with another count

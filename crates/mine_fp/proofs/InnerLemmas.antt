@@ -16,15 +16,14 @@ use Rattle.basket_sets.specs.Support.{support_of}
 use Rattle.basket_sets.proofs.theory.Members.{Contains-from_Member, Member, Member-append_right, Member-filter, Member-from_filter, Member-from_map, Member-map}
 use Rattle.basket_sets.proofs.theory.Rising.{contains_each, has-from_Member, has_each, same_test}
 use Rattle.basket_sets.proofs.theory.Support.{subsets_are_frequent, support-cons}
+use Rattle.basket_sets.proofs.theory.Tests.{Member-at, all_of, each_of, rising_at}
+use Rattle.basket_sets.proofs.theory.Ranges.{Member-into_range, Member-range}
 use Rattle.mine_classes.specs.Conditional.{ConditionalSupports, conditional, is_kept}
 use Rattle.mine_baskets.specs.ListBaskets.{HaveSameWeights}
 use Rattle.mine_classes.specs.Pairs.{kept_ranks}
-use Rattle.mine_baskets.proofs.theory.Ranges.{Member-into_range, Member-range}
 use Rattle.mine_classes.proofs.theory.Kept.{kept_below, kept_rises}
 use Rattle.mine_fp.specs.Trees.{has_tree, is_straight}
 use Rattle.mine_fp.proofs.StraightLemmas.{ArePlain, IsFlat, flat_from_straight, has_more_too, same_support, straight_from_flat}
-use Rattle.mine_baskets.proofs.theory.Neighbours.{Member-at, rising_at}
-use Rattle.mine_classes.proofs.theory.Branches.{all_of, each_of}
 use Rattle.mine_classes.specs.Paths.{is_branch}
 
 abbrev pub IsWithinRanks : ℕ → List Weighted → Type 0

@@ -10,7 +10,7 @@ use Rattle.basket_sets.specs.Itemset.{IsRising, rising, with_item}
 use Rattle.basket_sets.specs.Support.{support_of}
 use Rattle.basket_sets.proofs.theory.Members.{Member, Member-append, Member-append_left, Member-append_right, Member-map, Member-from_map}
 use Rattle.basket_sets.proofs.theory.Rising.{Member-rising, Member-into_rising, Member-into_with_item, Member-with_item, cons_rises, first_below, has-from_Member, Member-from_has, nil_rises, rest_rises, rising-rises, rising-rising, rising_is}
-use Rattle.mine_baskets.proofs.theory.Neighbours.{rising_at}
+use Rattle.basket_sets.proofs.theory.Tests.{rising_at}
 use Rattle.mine_classes.specs.Classes.{with_rank}
 use Rattle.mine_classes.specs.Pairs.{kept_ranks, named_pair, pairs_of}
 use Rattle.mine_fp.specs.Level.{as_items}

@@ -13,7 +13,8 @@ use Rattle.basket_sets.specs.Support.{support_of, total_of, weight_at}
 use Rattle.basket_sets.proofs.theory.Members.{Member, Member-filter, Member-from_filter}
 use Rattle.basket_sets.proofs.theory.Rising.{Member-from_has, contains_each, first_below, has-from_Member, has_each, rest_rises, same_test}
 use Rattle.basket_sets.proofs.theory.Support.{at_least_one, support-cons, support_falls}
-use Rattle.mine_classes.proofs.theory.Branches.{AreHeavy, all_of, each_of, from_picked, into_picked}
+use Rattle.basket_sets.proofs.theory.Tests.{all_of, each_of}
+use Rattle.mine_classes.proofs.theory.Branches.{AreHeavy, from_picked, into_picked}
 use Rattle.mine_fp.specs.Tree.{begins}
 use Rattle.mine_fp.specs.Trees.{has_tree, is_straight, paths_below}
 

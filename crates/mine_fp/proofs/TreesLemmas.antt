@@ -10,7 +10,6 @@ use Rattle.std.proofs.lemmas.Map.Made.{length-from_same_keys}
 use Rattle.std.proofs.lemmas.Map.Views.{Contains-from_any, list_any-from_Contains}
 use Rattle.basket_ranks.specs.Codes.{Coding, IsCodedPlace, decoded_set}
 use Rattle.basket_ranks.proofs.theory.Decoding.{ranks_below}
-use Rattle.basket_ranks.proofs.theory.Shards.{range_more}
 use Rattle.basket_sets.specs.declared.weighted.Weighted.{Weighted}
 use Rattle.basket_sets.specs.declared.counted.Counted.{Counted}
 use Rattle.basket_sets.specs.declared.minimum.Minimum.{Minimum}
@@ -22,6 +21,7 @@ use Rattle.basket_sets.proofs.theory.Frequent.{frequent_once}
 use Rattle.basket_sets.proofs.theory.Members.{All-from_Member, Contains-from_Member, Member, Member-filter, Member-from_Contains, Member-from_filter, Member-from_map, Member-map, at_Member}
 use Rattle.basket_sets.proofs.theory.Rising.{has-from_Member, rising-rising, same_test}
 use Rattle.basket_sets.proofs.theory.Support.{at_least_one, in_items}
+use Rattle.basket_sets.proofs.theory.Ranges.{range_more}
 use Rattle.mine_classes.specs.Classes.{ClassesAreAll, ClassesAreListed, ClassesByCodings, ListsClass, class_of, ends_in, with_rank}
 use Rattle.mine_classes.specs.Conditional.{ConditionalSupports}
 use Rattle.mine_baskets.specs.ListBaskets.{AreRankBaskets, IsRankBasket, RankBaskets}

@@ -8,7 +8,7 @@ use Rattle.std.proofs.lemmas.List.Elements.{All-head, All-tail}
 use Rattle.std.proofs.lemmas.List.Folds.{flat_map-map}
 use Rattle.std.proofs.lemmas.List.Sorted.{IsPermutation-map, IsPermutation-refl, IsPermutation-reverse, IsPermutation-sym, IsPermutation-trans, sum_by-IsPermutation}
 use Rattle.std.proofs.lemmas.List.Sums.{sum_by-append, sum_by-cons}
-use Rattle.basket_ranks.proofs.theory.Shards.{range_more, shards_are_all}
+use Rattle.basket_ranks.proofs.theory.Shards.{shards_are_all}
 use Rattle.basket_ranks.specs.Codes.{Coding, IsCoding, baskets_of, frequent_of_coding}
 use Rattle.basket_core.specs.declared.fault.MineFault.{MineFault}
 use Rattle.basket_core.specs.declared.fault.MineFault.TheVariants.{Memory, TooMany}
@@ -23,6 +23,7 @@ use Rattle.mine_phases.specs.Classes.{AreMined, HasLargeClass, IsClassShare, IsW
 use Rattle.mine_phases.specs.Share.{fault_after, fault_of}
 use Rattle.mine_phases.proofs.Mining.{mined_append, sum_fits, sum_more}
 use Rattle.mine_phases.proofs.Placing.{sum_by-flat_map, sum_by-map}
+use Rattle.basket_sets.proofs.theory.Ranges.{range_more}
 
 -- ---- the fault to tell
 

@@ -8,9 +8,9 @@ use Rattle.std.proofs.lemmas.List.Sums.{sum_by-cons}
 use Rattle.basket_sets.specs.Itemset.{AllBelow, IsRising, contains, has}
 use Rattle.basket_sets.proofs.theory.Members.{Member, Member-filter, Member-from_filter}
 use Rattle.basket_sets.proofs.theory.Rising.{Member-from_has, has-from_Member, first_below, rest_rises, same_rising, contains_each, has_each, has_place, same_test}
+use Rattle.basket_sets.proofs.theory.Tests.{rising_at}
+use Rattle.basket_sets.proofs.theory.Ranges.{Member-into_range, Member-range, filter_rises, range_next, range_rises}
 use Rattle.mine_rows.specs.Cover.{IsCover, all_places, common, cover_weight, lacking}
-use Rattle.mine_rows.proofs.theory.Filters.{filter_rises}
-use Rattle.mine_rows.proofs.RangeLemmas.{Member-into_range, Member-range, range_next, range_rises}
 
 -- a filter that goes on
 pub filter_keeps : (p : ℕ → Bool) (xs : List ℕ) (i : ℕ) → i < length xs → p (get_or xs i 0) ≡ true → filter p (take (i + 1) xs) ≡ filter p (take i xs) ++ get_or xs i 0 ∷ []
@@ -126,12 +126,6 @@ pub cover_at : (weights cover : List ℕ) (i : ℕ) → AllBelow (length weights
 cover_at weights cover i below here = below (get_or cover i 0) (has_place cover i here)
 
 -- ---- a rising cover beside the places below a number
-
-rising_at : (xs : List ℕ) (i k : ℕ) → IsRising xs → i < k → k < length xs → get_or xs i 0 < get_or xs k 0
-rising_at [] i k up less here = absurd (omega arith)
-rising_at (x ∷ xs) i zero up less here = absurd (omega arith)
-rising_at (x ∷ xs) zero (suc k) up less here = first_below x xs up (get_or xs k 0) (Member-from_has xs (get_or xs k 0) (has_place xs k (omega arith)))
-rising_at (x ∷ xs) (suc i) (suc k) up less here = rising_at xs i k (rest_rises x xs up) (omega arith) (omega arith)
 
 nowhere : (xs : List ℕ) (x : ℕ) → ((i : ℕ) → i < length xs → get_or xs i 0 ≡ x → ⊥) → has xs x ≡ false
 nowhere [] x never = refl

@@ -1,4 +1,3 @@
-pub mod theory
 mod RangeLemmas
 mod CoverLemmas
 mod RowLemmas

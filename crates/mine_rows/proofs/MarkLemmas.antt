@@ -10,10 +10,10 @@ use Rattle.std.proofs.lemmas.List.Sums.{sum_by-cons}
 use Rattle.basket_sets.specs.Itemset.{AllBelow, IsRising, has}
 use Rattle.basket_sets.proofs.theory.Members.{Member-filter, Member-from_filter}
 use Rattle.basket_sets.proofs.theory.Rising.{Member-from_has, has-from_Member, has_more, same_rising}
+use Rattle.basket_sets.proofs.theory.Ranges.{filter_members, filter_rises}
 use Rattle.mine_rows.specs.declared.marks.Marks.{Marks}
 use Rattle.mine_rows.specs.Cover.{common, cover_weight}
 use Rattle.mine_rows.specs.Marks.{IsMarked}
-use Rattle.mine_rows.proofs.theory.Filters.{filter_members, filter_rises}
 use Rattle.mine_rows.proofs.CoverLemmas.{filter_drops, filter_keeps}
 
 set_same : {X : Type 0} (d : X) (xs : List X) (i : ℕ) (v : X) → i < length xs → get_or (set xs i v) i d ≡ v

@@ -3,10 +3,10 @@ use Rattle.std.proofs.Common.{◌≡◌, ℕ, ◌+◌, true, not, List, get_or, 
 use Rattle.basket_sets.specs.Itemset.{contains, has}
 use Rattle.basket_sets.proofs.theory.Members.{Member-filter, Member-from_filter}
 use Rattle.basket_sets.proofs.theory.Rising.{Member-from_has, contains_each, has-from_Member, same_test}
+use Rattle.basket_sets.proofs.theory.Ranges.{filter_members}
 use Rattle.mine_rows.specs.declared.diffs.DiffList.{DiffList}
 use Rattle.mine_rows.specs.Cover.{IsCover, common, cover_weight, lacking}
 use Rattle.mine_rows.specs.Rows.{IsDiffList}
-use Rattle.mine_rows.proofs.theory.Filters.{filter_members}
 use Rattle.mine_rows.proofs.CoverLemmas.{lacking_joined, part_covers, parts_weigh}
 
 -- what a cover lacks of what it shares with another is what the other lacks

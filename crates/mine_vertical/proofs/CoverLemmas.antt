@@ -9,10 +9,9 @@ use Rattle.basket_sets.specs.Support.{support_of}
 use Rattle.basket_sets.proofs.theory.Members.{Member, Member-filter, Member-from_filter}
 use Rattle.basket_sets.proofs.theory.Rising.{Member-from_has, has-from_Member, same_rising}
 use Rattle.basket_sets.proofs.theory.Support.{support-cons}
+use Rattle.basket_sets.proofs.theory.Ranges.{Member-into_range, Member-range, filter_rises, range_rises}
 use Rattle.mine_baskets.specs.Covers.{basket_at, cover_of, weights_of}
 use Rattle.mine_rows.specs.Cover.{IsCover, all_places, common, cover_weight}
-use Rattle.mine_rows.proofs.theory.Filters.{filter_rises}
-use Rattle.mine_baskets.proofs.theory.Ranges.{Member-into_range, Member-range, range_rises}
 
 filter_all : {K : Type 0} (xs : List K) → filter (λ x. true) xs ≡ xs
 filter_all [] = refl

@@ -15,7 +15,7 @@ use Rattle.basket_sets.specs.Support.{support_of}
 use Rattle.basket_sets.proofs.theory.Members.{Member, All-from_Member, Contains-from_Member, Member-append_left, Member-append_right}
 use Rattle.basket_sets.proofs.theory.Rising.{Member-from_has, has-from_Member, nil_rises, contains_each}
 use Rattle.basket_sets.proofs.theory.Support.{subsets_are_frequent}
-use Rattle.basket_ranks.proofs.theory.Shards.{range_more}
+use Rattle.basket_sets.proofs.theory.Ranges.{range_more}
 use Rattle.mine_classes.specs.Conditional.{ConditionalSupports, conditional, is_kept}
 use Rattle.mine_classes.specs.Mined.{RanksAreFrequent}
 use Rattle.mine_vertical.specs.Joins.{ClassJoinsAddUp, SetsOfRanksAreAll, class_joins, is_join, sets_of_ranks}

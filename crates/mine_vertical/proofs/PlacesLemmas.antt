@@ -13,6 +13,7 @@ use Rattle.basket_sets.specs.Itemset.{AllBelow, IsRising, contains, has}
 use Rattle.basket_sets.specs.Support.{support_of}
 use Rattle.basket_sets.proofs.theory.Members.{Member, All-from_Member, Member-append, Member-append_left, Member-append_right, Member-filter, Member-from_filter}
 use Rattle.basket_sets.proofs.theory.Rising.{Member-from_has, has-from_Member, has_each, has_place, contains_each, first_below, rest_rises, same_test}
+use Rattle.basket_sets.proofs.theory.Ranges.{Member-into_range, Member-range}
 use Rattle.basket_ranks.specs.Codes.{IsCoding, decoded, decoded_place}
 use Rattle.basket_ranks.proofs.theory.Coding.{from_decoded, into_decoded}
 use Rattle.mine_baskets.specs.declared.words.Word.{Word}
@@ -23,7 +24,6 @@ use Rattle.mine_rows.specs.Cover.{IsAdded}
 use Rattle.mine_vertical.specs.Remade.{AreBitsOf, HaveSameNonempty, bit_places}
 use Rattle.mine_vertical.proofs.CoverLemmas.{from_cover, into_cover}
 use Rattle.mine_baskets.proofs.theory.Bits.{has_either, one_rank}
-use Rattle.mine_baskets.proofs.theory.Ranges.{Member-into_range, Member-range}
 
 -- ---- bits of ranks
 

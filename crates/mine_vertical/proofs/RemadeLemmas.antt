@@ -13,16 +13,15 @@ use Rattle.basket_sets.specs.Support.{support_of}
 use Rattle.basket_sets.proofs.theory.Members.{Member, Member-append_left, Member-append_right}
 use Rattle.basket_sets.proofs.theory.Rising.{has-from_Member, nil_rises, contains_each}
 use Rattle.basket_sets.proofs.theory.Support.{subsets_are_frequent}
-use Rattle.basket_ranks.proofs.theory.Shards.{range_more}
+use Rattle.basket_sets.proofs.theory.Tests.{all_of}
+use Rattle.basket_sets.proofs.theory.Ranges.{filter_rises, range_more, range_rises}
 use Rattle.mine_vertical.specs.declared.joins.Sibling.{Sibling}
 use Rattle.mine_baskets.specs.Covers.{weights_of}
 use Rattle.mine_vertical.specs.Remade.{GiveSupports}
 use Rattle.mine_vertical.specs.Search.{IsNode, IsSibling, Node, Task, found_at, is_met, joins_at, sets_at}
 use Rattle.mine_vertical.specs.Siblings.{AreOver}
 use Rattle.mine_vertical.specs.Walk.{joins_below, kept_below, sets_below}
-use Rattle.mine_rows.proofs.theory.Filters.{filter_rises}
 use Rattle.mine_vertical.proofs.FoundLemmas.{from_sets}
-use Rattle.mine_baskets.proofs.theory.Ranges.{range_rises}
 
 abbrev AreBelow : ℕ → List ℕ → Type 0
 AreBelow limit more = (rank : ℕ) → Member rank more → rank < limit
@@ -88,10 +87,6 @@ kept_rises test below set = subst IsRising (sym (kept_are below)) (filter_rises 
         ∙ sym (ap (filter (λ rank. test (rank ∷ set))) (range_more 0 n ∙ ap (λ k. range_with_len 0 n ++ k ∷ []) (zero-add n))
         ∙ filter-append (λ rank. test (rank ∷ set)) (range_with_len 0 n) (n ∷ []))
 
-each_all : (p : ℕ → Bool) (xs : List ℕ) → ((x : ℕ) → Member x xs → p x ≡ true) → list_all p xs ≡ true
-each_all p [] h = refl
-each_all p (y ∷ ys) h = and_from (p y) (list_all p ys) (h y (inl refl)) (each_all p ys (λ x m. h x (inr m)))
-
 -- ---- the node over other baskets
 
 -- what a node is over other baskets, which all have the ranks of its set
@@ -123,7 +118,7 @@ module _ {R : Type 0} {stands : List ℕ → List ℕ → List ℕ → R → Typ
       whole = rank ∷ more
 
       kept : test (rank ∷ more ++ node.set) ≡ true → list_all (has ranks) (rank ∷ more) ≡ true
-      kept h = each_all (has ranks) (rank ∷ more) (λ x m. has-from_Member ranks x
+      kept h = all_of (has ranks) (rank ∷ more) (λ x m. has-from_Member ranks x
           (subst (Member x) (sym is.ranks) (into_kept test node.below node.set x (lower x m)
           (subsets_are_frequent node.baskets (Count task.least) (rank ∷ more ++ node.set) (x ∷ node.set) (contains_each (rank ∷ more ++ node.set) (x ∷ node.set) (λ z n. part x m z n)) h))))
         where

@@ -8,7 +8,6 @@ use Rattle.std.proofs.lemmas.List.Elements.{filter-append}
 use Rattle.std.proofs.lemmas.List.Sums.{sum-map, sum_by-cons}
 use Rattle.basket_ranks.specs.Codes.{IsCodedPlace, decoded, decoded_place}
 use Rattle.basket_ranks.proofs.theory.Coding.{into_decoded}
-use Rattle.basket_ranks.proofs.theory.Shards.{range_more}
 use Rattle.basket_ranks.proofs.theory.Decoding.{rank_from_decoded}
 use Rattle.basket_sets.specs.declared.weighted.Weighted.{Weighted}
 use Rattle.basket_sets.specs.declared.minimum.Minimum.TheVariants.{Count}
@@ -19,6 +18,8 @@ use Rattle.basket_sets.specs.Support.{support_of, total_of}
 use Rattle.basket_sets.proofs.theory.Members.{Member}
 use Rattle.basket_sets.proofs.theory.Rising.{Member-from_has, has-from_Member, same_test}
 use Rattle.basket_sets.proofs.theory.Support.{at_least_one, support-cons}
+use Rattle.basket_sets.proofs.theory.Tests.{each_of}
+use Rattle.basket_sets.proofs.theory.Ranges.{Member-range, filter_members, range_more}
 use Rattle.mine_baskets.specs.declared.span.Span.{Span}
 use Rattle.mine_classes.specs.Conditional.{ConditionalSupports, conditional, is_kept}
 use Rattle.mine_baskets.specs.ListBaskets.{weight_where}
@@ -28,8 +29,6 @@ use Rattle.mine_baskets.specs.Span.{baskets_at}
 use Rattle.mine_baskets.specs.Covers.{basket_at, cover_of, weights_of}
 use Rattle.mine_vertical.specs.Search.{is_met}
 use Rattle.mine_vertical.specs.Walk.{kept_below}
-use Rattle.mine_rows.proofs.theory.Filters.{filter_members}
-use Rattle.mine_baskets.proofs.theory.Ranges.{Member-range}
 
 -- ---- baskets of places in a list of ranks, and of these ranks
 
@@ -106,11 +105,6 @@ kept_is_filter test (suc n) =
     ap (λ l. l ++ cond (test (n ∷ [])) (n ∷ []) []) (kept_is_filter test n)
     ∙ sym (ap (filter (λ x. test (x ∷ []))) (range_more 0 n ∙ ap (λ k. range_with_len 0 n ++ k ∷ []) (zero-add n)) ∙ filter-append (λ x. test (x ∷ [])) (range_with_len 0 n) (n ∷ []))
 
-all_each : (p : ℕ → Bool) (xs : List ℕ) → list_all p xs ≡ true → (x : ℕ) → Member x xs → p x ≡ true
-all_each p [] h x m = absurd m
-all_each p (y ∷ ys) h x (inl e) = ap p (sym e) ∙ (and_parts (p y) (list_all p ys) h).0
-all_each p (y ∷ ys) h x (inr m) = all_each p ys (and_parts (p y) (list_all p ys) h).1 x m
-
 module _ (law : ConditionalSupports) (all : List Weighted) (least rank : ℕ) (baskets : List Weighted) (same : (set : List ℕ) → support_of baskets set ≡ support_of (conditional least all rank) set) where
   kept_support : (set : List ℕ) → support_of baskets set ≡ cond (list_all (is_kept all least rank) set) (support_of all (set ++ rank ∷ [])) 0
   kept_support set = same set ∙ law all least rank set
@@ -129,7 +123,7 @@ module _ (law : ConditionalSupports) (all : List Weighted) (least rank : ℕ) (b
   -- the frequent sets have only ranks below
   pub lower : (set : List ℕ) (item : ℕ) → is_met baskets least set ≡ true → Member item set → item < rank
   lower set item h m = elim (cases_Bool (list_all (is_kept all least rank) set)) [
-    | inl e ↦ ltb-true item rank (and_parts (ltb item rank) (is_frequent all (Count least) (item ∷ rank ∷ [])) (all_each (is_kept all least rank) set e item m)).0
+    | inl e ↦ ltb-true item rank (and_parts (ltb item rank) (is_frequent all (Count least) (item ∷ rank ∷ [])) (each_of (is_kept all least rank) set e item m)).0
     | inr e ↦
         (let none = kept_support set ∙ ap (λ b. cond b (support_of all (set ++ rank ∷ [])) 0) e in
         let some = at_least_one (Count least) (support_of baskets set) (total_of baskets) h in absurd (omega arith))

@@ -7,12 +7,7 @@ use Rattle.std.proofs.lemmas.Nat.{le-div}
 use Rattle.std.proofs.Math.Nat.{mul-div_cancel_left, div-mul-le_self, zero-mul, zero-div}
 use Rattle.std.proofs.Math.Seq.{take-add}
 use Rattle.basket_ranks.specs.Shards.{shard_start, shard_of}
-
--- one number more
-pub range_more : (a n : ℕ) → range_with_len a (suc n) ≡ range_with_len a n ++ (a + n) ∷ []
-range_more a zero = ap (λ x. x ∷ []) (sym (add-zero a))
-range_more a (suc n) =
-    ap (λ l. a ∷ l) (range_more (a + 1) n ∙ ap (λ x. range_with_len (a + 1) n ++ x ∷ []) (let e : (a + 1) + n ≡ a + suc n = omega arith in e))
+use Rattle.basket_sets.proofs.theory.Ranges.{range_more}
 
 -- a later part starts no earlier
 pub shard_start-le : (i j pieces n : ℕ) → 1 ≤ pieces → i ≤ j → shard_start i pieces n ≤ shard_start j pieces n

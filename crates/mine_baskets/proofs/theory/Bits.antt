@@ -1,4 +1,4 @@
--- Tests of ranks, and the ranks that bits have.
+-- The ranks that bits have.
 use Rattle.std.proofs.Common.{Bool, true, false, ◌≡◌, ℕ, ◌-◌, ◌^◌, ◌<◌, ◌||◌, refl, sym, ap, ◌∙◌, eqb, inl, inr, arith, zero, suc}
 use Rattle.std.specs.Prelude.{bit_or, max}
 use Rattle.std.specs.Int.{bit_at}
@@ -6,17 +6,7 @@ use Rattle.std.proofs.lemmas.Bool.{cases_Bool, eqb-true, cases_eq, eq-eqb}
 use Rattle.std.proofs.lemmas.Nat.Bits.{bit_at-lt, bit_at-pow_other, bit_at-pow_same, bit_at_or}
 use Rattle.mine_baskets.specs.declared.words.TheConstants.{WORD_RANKS}
 use Rattle.mine_baskets.specs.Words.{has_rank}
-
-pub or_true : (b : Bool) → (b || true) ≡ true
-or_true true = refl
-or_true false = refl
-
-pub or_false : (b : Bool) → (b || false) ≡ b
-or_false true = refl
-or_false false = refl
-
-pub apart_eqb : (x y : ℕ) → (x ≡ y → ⊥) → eqb x y ≡ false
-apart_eqb x y differ = elim (cases_Bool (eqb x y)) [ inl e ↦ absurd (differ (eqb-true x y e)) | inr e ↦ e ]
+use Rattle.basket_sets.proofs.theory.Tests.{apart_eqb}
 
 one_of_two : (x y : ℕ) → x < 2 → y < 2 → eqb (max x y) 1 ≡ (eqb x 1 || eqb y 1)
 one_of_two zero zero low high = refl

@@ -6,20 +6,8 @@ use Rattle.basket_sets.specs.declared.weighted.Weighted.{Weighted}
 use Rattle.basket_sets.specs.Itemset.{contains, has}
 use Rattle.basket_sets.proofs.theory.Members.{Member, Member-append, Member-append_left, Member-append_right}
 use Rattle.basket_sets.proofs.theory.Rising.{Member-from_has}
+use Rattle.basket_sets.proofs.theory.Tests.{each_of}
 use Rattle.mine_classes.specs.Paths.{is_branch}
-
--- ---- tests of all
-
-pub each_of : {K : Type 0} (p : K → Bool) (xs : List K) → list_all p xs ≡ true → (x : K) → Member x xs → p x ≡ true
-each_of p [] h x m = absurd m
-each_of p (y ∷ ys) h x (inl e) = ap p (sym e) ∙ (and_parts (p y) (list_all p ys) h).0
-each_of p (y ∷ ys) h x (inr m) = each_of p ys (and_parts (p y) (list_all p ys) h).1 x m
-
-pub all_of : {K : Type 0} (p : K → Bool) (xs : List K) → ((x : K) → Member x xs → p x ≡ true) → list_all p xs ≡ true
-all_of p [] h = refl
-all_of p (y ∷ ys) h = and_from (p y) (list_all p ys) (h y (inl refl)) (all_of p ys (λ x m. h x (inr m)))
-
--- ---- places that pass a test
 
 module _ {X : Type 0} (test : Weighted → Bool) (f : Weighted → X) where
   abbrev pub picked_place : Weighted → List X

@@ -15,7 +15,7 @@ use Rattle.basket_sets.specs.Itemset.{IsRising, has}
 use Rattle.basket_sets.specs.Support.{support_of}
 use Rattle.basket_sets.proofs.theory.Members.{All-from_Member, Member, Member-filter, Member-from_filter}
 use Rattle.basket_sets.proofs.theory.Rising.{Member-from_has, first_below, has-from_Member, length-le-contains, rest_rises, same_test}
-use Rattle.mine_baskets.proofs.theory.Ranges.{Member-into_range, filtered_range_rises, range_rises}
+use Rattle.basket_sets.proofs.theory.Ranges.{Member-into_range, filtered_range_rises, range_rises}
 use Rattle.mine_classes.specs.Conditional.{is_kept}
 use Rattle.mine_baskets.specs.ListBaskets.{AreRankBaskets, IsRankBasket, RankBaskets}
 use Rattle.mine_classes.specs.Pairs.{kept_ranks, pairs_of}

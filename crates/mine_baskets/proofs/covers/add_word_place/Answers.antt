@@ -6,8 +6,8 @@ use Rattle.mine_baskets.specs.Covers.{HasPlace, covers_in}
 use Rattle.mine_baskets.specs.Words.{has_rank, ranks_in}
 use Rattle.mine_baskets.proofs.BitRankLemmas.{first_rank, no_first_rank, no_ranks}
 use Rattle.mine_baskets.proofs.CoversLemmas.{no_place, pushed_place}
-use Rattle.mine_baskets.proofs.theory.Ranges.{filtered_range_rises}
 use Rattle.mine_baskets.proofs.covers.add_word_place.Goals as goal
+use Rattle.basket_sets.proofs.theory.Ranges.{filtered_range_rises}
 
 pub loop-rest-preserved : goal.loop-rest-preserved
 loop-rest-preserved c =

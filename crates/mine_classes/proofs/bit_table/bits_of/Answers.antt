@@ -2,7 +2,7 @@ use Rattle.std.proofs.Common.{length, get_or, sym, ap, ◌∙◌}
 use Rattle.std.specs.Prelude.{bit_or}
 use Rattle.std.proofs.lemmas.List.Sums.{fold_more}
 use Rattle.mine_classes.proofs.bit_table.bits_of.Goals as goal
-use Rattle.mine_baskets.proofs.theory.Neighbours.{all_below_at}
+use Rattle.basket_sets.proofs.theory.Tests.{all_below_at}
 
 pub bounds-of-rank : goal.bounds-of-rank
 bounds-of-rank c = all_below_at (length c.args.of.now) c.args.basket.now c.loop-rank.rank-index c.requires c.loop-rank-test.true

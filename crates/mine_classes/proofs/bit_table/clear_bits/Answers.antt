@@ -4,7 +4,7 @@ use Rattle.basket_sets.specs.Itemset.{has}
 use Rattle.mine_classes.proofs.BitLemmas.{nothing_left}
 use Rattle.mine_classes.proofs.PairLemmas.{all_zero}
 use Rattle.mine_classes.proofs.bit_table.clear_bits.Goals as goal
-use Rattle.mine_baskets.proofs.theory.Neighbours.{all_below_at}
+use Rattle.basket_sets.proofs.theory.Tests.{all_below_at}
 
 pub bounds-of-rank : goal.bounds-of-rank
 bounds-of-rank c = let here = all_below_at (length c.args.of.now) c.args.kept.now c.loop-rank.rank-index c.requires.below c.loop-rank-test.true in omega (arith, here, c.loop-rank.auto.of)

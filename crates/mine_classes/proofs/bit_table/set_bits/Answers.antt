@@ -2,7 +2,7 @@ use Rattle.std.proofs.Common.{◌+◌, length, get_or, set, sym, subst, ap, ◌�
 use Rattle.std.proofs.lemmas.List.{get_or-replicate}
 use Rattle.mine_classes.proofs.BitLemmas.{HasBits, bit_more, bits_whole}
 use Rattle.mine_classes.proofs.bit_table.set_bits.Goals as goal
-use Rattle.mine_baskets.proofs.theory.Neighbours.{all_below_at}
+use Rattle.basket_sets.proofs.theory.Tests.{all_below_at}
 
 pub bounds-of-rank : goal.bounds-of-rank
 bounds-of-rank c = let here = all_below_at (length c.args.of.now) c.args.kept.now c.loop-at.at c.requires.below c.loop-at-test.true in omega (arith, here, c.loop-at.auto.of)

@@ -5,7 +5,7 @@ use Rattle.basket_sets.specs.Counts.{AllBelow}
 use Rattle.basket_sets.specs.Itemset.{has}
 use Rattle.mine_classes.proofs.PairLemmas.{all_zero, not_listed}
 use Rattle.mine_classes.proofs.pairs.clear.Goals as goal
-use Rattle.mine_baskets.proofs.theory.Neighbours.{all_below_at}
+use Rattle.basket_sets.proofs.theory.Tests.{all_below_at}
 
 pub bounds-sums-rank : goal.bounds-sums-rank
 bounds-sums-rank c =

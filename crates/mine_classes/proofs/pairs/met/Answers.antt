@@ -5,7 +5,7 @@ use Rattle.basket_sets.specs.Itemset.{rising}
 use Rattle.mine_classes.specs.Pairs.{is_met}
 use Rattle.mine_classes.proofs.PairLemmas.{below_rising}
 use Rattle.mine_classes.proofs.pairs.met.Goals as goal
-use Rattle.mine_baskets.proofs.theory.Neighbours.{all_below_at}
+use Rattle.basket_sets.proofs.theory.Tests.{all_below_at}
 
 pub bounds-sums-rank : goal.bounds-sums-rank
 bounds-sums-rank c = all_below_at (length c.args.sums.now) c.args.found.now c.loop-rank.rank-index c.requires.below c.loop-rank-test.true

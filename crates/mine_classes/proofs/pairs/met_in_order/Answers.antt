@@ -3,10 +3,10 @@ use Rattle.std.specs.List.{filter, range_with_len}
 use Rattle.std.proofs.lemmas.Bool.{and_from, and_parts, cases_Bool, le-leb, leb-true}
 use Rattle.std.proofs.lemmas.List.{map-append}
 use Rattle.std.proofs.lemmas.List.Elements.{filter-append}
-use Rattle.basket_ranks.proofs.theory.Shards.{range_more}
 use Rattle.mine_classes.specs.Pairs.{is_met}
 use Rattle.mine_classes.proofs.pairs.met_in_order.Goals as goal
 use Rattle.mine_classes.proofs.pairs.met_in_order.Goals.{then-sum-ge1+then-sum-least+in_ok-push, else-sum-ge1, else-sum-ge1-via-then-sum-ge1+else-sum-least, else-sum-ge1-via-else-sum-ge1}
+use Rattle.basket_sets.proofs.theory.Ranges.{range_more}
 
 met_sum : (least sum : ℕ) → 1 ≤ sum → least ≤ sum → is_met least sum ≡ true
 met_sum least sum one enough = and_from (leb 1 sum) (leb least sum) (le-leb 1 sum one) (le-leb least sum enough)

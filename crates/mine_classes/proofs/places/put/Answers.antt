@@ -1,7 +1,7 @@
 use Rattle.std.proofs.Common.{length, arith}
 use Rattle.mine_classes.proofs.PlaceLemmas.{place_le, place_more}
 use Rattle.mine_classes.proofs.places.put.Goals as goal
-use Rattle.mine_baskets.proofs.theory.Neighbours.{all_below_at}
+use Rattle.basket_sets.proofs.theory.Tests.{all_below_at}
 
 pub overflow_cast-of : goal.overflow_cast-of
 overflow_cast-of c = let low = place_le c.args.kept.now c.loop-at.at c.requires.rises c.loop-at-test.true in let fits = c.type_inv.kept c.loop-at.at in omega arith

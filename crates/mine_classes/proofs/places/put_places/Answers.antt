@@ -4,7 +4,7 @@ use mir.Val.{bool_byte}
 use Rattle.mine_classes.specs.Places.{table_places}
 use Rattle.mine_classes.proofs.PlaceLemmas.{one_at_most, places_more, slot_put}
 use Rattle.mine_classes.proofs.places.put_places.Goals as goal
-use Rattle.mine_baskets.proofs.theory.Neighbours.{all_below_at}
+use Rattle.basket_sets.proofs.theory.Tests.{all_below_at}
 
 pub bounds-of-rank : goal.bounds-of-rank
 bounds-of-rank c = all_below_at (length c.args.of.now) c.args.basket.now c.loop-rank.rank-index c.requires.below c.loop-rank-test.true

@@ -9,7 +9,7 @@ use Rattle.mine_classes.specs.Runs.{HaveRuns, lists_in, with_run}
 use Rattle.mine_baskets.specs.Span.{span_front}
 use Rattle.mine_classes.proofs.RunLemmas.{have_more, length-lists_in, length-range, list_at, lists_in-set, untouched}
 use Rattle.mine_classes.proofs.runs.add_runs.Goals as goal
-use Rattle.mine_baskets.proofs.theory.Neighbours.{all_below_at}
+use Rattle.basket_sets.proofs.theory.Tests.{all_below_at}
 
 pub bounds-of-rank : goal.bounds-of-rank
 bounds-of-rank c =
