@@ -70,6 +70,7 @@ impl Runs {
         requires places { self.now.ranks ≤ places.old }
         requires pairs { pairs.now ≡ pairs_of self.now.baskets least rank }
         ensures ranks { IfOk result (λ below. (conditional_baskets below).ranks ≡ length (kept_ranks self.now.baskets least rank)) }
+        ensures ranked { IfOk result (λ below. AreRankBaskets (conditional_baskets below)) }
         ensures coding { IfOk result (λ below. IsCoding (record { items = kept_ranks self.now.baskets least rank; minimum = Count least; baskets = (conditional_baskets below).baskets })) }
         ensures weights { IfOk result (λ below. HaveSameWeights (conditional least self.now.baskets rank) (map (decoded_place (kept_ranks self.now.baskets least rank)) (conditional_baskets below).baskets)) }
         ensures places { places.new ≡ places.old }

@@ -22,7 +22,7 @@ mod tables;
 mod words;
 pub mod worked;
 
-pub use conditional::Conditional;
+pub use conditional::{Conditional, ranks_of};
 pub use pairs::{Sums, met_in_order};
 pub use paths::Paths;
 pub use places::Places;

@@ -16,9 +16,9 @@ ghost use Rattle.mine_vertical.specs.Siblings.{AreOver};
 
 use crate::joins::Sibling;
 use crate::siblings::siblings_of;
-use mine_baskets::words::{WORD_RANKS, Word, bit_of};
 use mine_baskets::WordBaskets;
-use mine_classes::Form;
+use mine_baskets::words::{WORD_RANKS, Word, bit_of};
+use mine_classes::Conditional;
 use mine_rows::{Row, Weights};
 use std::alloc::{AllocError, Global};
 
@@ -94,5 +94,5 @@ pub fn remade<R: Row>(
     let unmerged = words.len();
     let kept = ranks_of(alloc, siblings)?;
     let merged = WordBaskets::of(alloc, kept.len() as u32, words)?;
-    Ok(Some(siblings_of(alloc, &kept, &Form::Words(merged), unmerged)?))
+    Ok(Some(siblings_of(alloc, &kept, &Conditional::Words(merged), unmerged)?))
 }

@@ -1,55 +1,50 @@
 //! The siblings that a class begins with: the ranks that are frequent together with its rank.
 ghost use Rattle.std.specs.Prelude.{◌≡◌, ◌≤◌, ◌<◌, ◌+◌, List, All, IfOk, OnOk, length, map};
-ghost use Rattle.basket_ranks.specs.Codes.{IsCoding, baskets_of, decoded_place};
+ghost use Rattle.basket_ranks.specs.Codes.{IsCoding, decoded_place};
 ghost use Rattle.basket_sets.specs.declared.minimum.Minimum.TheVariants.{Count};
 ghost use Rattle.basket_sets.specs.declared.weighted.Weighted.{Weighted as Basket};
 ghost use Rattle.basket_sets.specs.Database.{HasWeight, MOST_WEIGHT};
 ghost use Rattle.basket_sets.specs.Support.{total_of};
-ghost use Rattle.mine_classes.specs.Conditional.{conditional};
+ghost use Rattle.mine_classes.specs.Conditional.{conditional, conditional_baskets};
 ghost use Rattle.mine_baskets.specs.Covers.{weights_of};
-ghost use Rattle.mine_classes.specs.Form.{form_baskets};
 ghost use Rattle.mine_baskets.specs.ListBaskets.{HaveSameWeights};
-ghost use Rattle.mine_classes.specs.Pairs.{kept_ranks};
+ghost use Rattle.mine_classes.specs.Pairs.{kept_ranks, pairs_of};
 ghost use Rattle.mine_vertical.specs.Siblings.{AreClassSiblings, AreOver};
 
 use crate::joins::{Joins, Sibling};
 use mine_classes::laws::conditional_supports;
-use mine_classes::{Conditional, Form, Runs, Tables};
+use mine_classes::{Conditional, Places, Runs, Tables, ranks_of};
 use mine_rows::{Row, Weights};
 use std::alloc::{AllocError, Global};
 
-/// The conditional database of a rank, its baskets merged: each gets a place in the covers.
+/// The conditional database of a rank with these pairs, its baskets merged: each gets a place in the covers.
 fn conditional_of(
     alloc: Global,
     runs: &Runs,
-    tables: &mut Tables,
-    joins: &mut Joins,
+    places: &mut Places,
     rank: u32,
     least: u64,
+    pairs: &[(u32, u64)],
 ) -> Result<Conditional, AllocError>
     requires rank { rank < runs.now.ranks }
-    requires sums { tables.old.sums ≡ runs.now.ranks }
-    requires places { tables.old.places ≡ runs.now.ranks }
-    requires few { joins.old.number + rank ≤ 18446744073709551615 }
-    ensures ranks { IfOk result (λ c. c.items ≡ kept_ranks runs.now.baskets least rank) }
-    ensures coding { IfOk result IsCoding }
-    ensures baskets { IfOk result (λ c. HaveSameWeights (conditional least runs.now.baskets rank) (baskets_of c)) }
-    ensures joins { OnOk result (joins.new.number ≡ joins.old.number + rank) }
-    ensures sums { tables.new.sums ≡ tables.old.sums }
-    ensures places { tables.new.places ≡ tables.old.places }
+    requires places { runs.now.ranks ≤ places.old }
+    requires pairs { pairs.now ≡ pairs_of runs.now.baskets least rank }
+    ensures ranks { IfOk result (λ merged. (conditional_baskets merged).ranks ≡ length (kept_ranks runs.now.baskets least rank)) }
+    ensures coding { IfOk result (λ merged. IsCoding (record { items = kept_ranks runs.now.baskets least rank; minimum = Count least; baskets = (conditional_baskets merged).baskets })) }
+    ensures weights { IfOk result (λ merged. HaveSameWeights (conditional least runs.now.baskets rank) (map (decoded_place (kept_ranks runs.now.baskets least rank)) (conditional_baskets merged).baskets)) }
+    ensures places { places.new ≡ places.old }
 {
-    let pairs = joins.pairs(alloc, runs, &mut tables.sums, rank, least)?;
-    let places = &mut tables.places;
-    let conditional = Conditional::of(alloc, runs, places, rank, least, &pairs)?;
-    Ok(conditional.sorted(alloc)?)
+    let below = runs.below(alloc, places, rank, least, pairs)?;
+    let merged = below.sorted(alloc)?;
+    Ok(merged)
 }
 
 /// The weights of merged baskets, which were so many before. More than 4,294,967,295 baskets count as a
 /// refused growth.
-fn merged_weights(alloc: Global, baskets: &Form, unmerged: usize) -> Result<Weights, AllocError>
-    requires some { All HasWeight (form_baskets baskets.now).baskets }
-    requires light { total_of (form_baskets baskets.now).baskets ≤ MOST_WEIGHT }
-    ensures { IfOk result (λ weights. weights ≡ weights_of (form_baskets baskets.now).baskets) }
+fn merged_weights(alloc: Global, baskets: &Conditional, unmerged: usize) -> Result<Weights, AllocError>
+    requires some { All HasWeight (conditional_baskets baskets.now).baskets }
+    requires light { total_of (conditional_baskets baskets.now).baskets ≤ MOST_WEIGHT }
+    ensures { IfOk result (λ weights. weights ≡ weights_of (conditional_baskets baskets.now).baskets) }
 {
     let weights = baskets.weights(alloc)?;
     if weights.len() > u32::MAX as usize {
@@ -64,12 +59,12 @@ fn merged_weights(alloc: Global, baskets: &Form, unmerged: usize) -> Result<Weig
 pub fn siblings_of<R: Row>(
     alloc: Global,
     kept: &[u32],
-    baskets: &Form,
+    baskets: &Conditional,
     unmerged: usize,
 ) -> Result<(Weights, Vec<Sibling<R>>), AllocError>
-    requires ranks { (form_baskets baskets.now).ranks ≡ length kept.now }
-    requires coding { IsCoding (record { items = kept.now; minimum = Count 1; baskets = (form_baskets baskets.now).baskets }) }
-    ensures { IfOk result (λ made. AreOver R.stands kept.now made.0 made.1.items (map (decoded_place kept.now) (form_baskets baskets.now).baskets)) }
+    requires ranks { (conditional_baskets baskets.now).ranks ≡ length kept.now }
+    requires coding { IsCoding (record { items = kept.now; minimum = Count 1; baskets = (conditional_baskets baskets.now).baskets }) }
+    ensures { IfOk result (λ made. AreOver R.stands kept.now made.0 made.1.items (map (decoded_place kept.now) (conditional_baskets baskets.now).baskets)) }
 {
     let weights = merged_weights(alloc, baskets, unmerged)?;
     let covers = baskets.covers(alloc)?;
@@ -100,8 +95,10 @@ pub fn class_siblings<R: Row>(
     ensures places { tables.new.places ≡ tables.old.places }
 {
     conditional_supports();
-    let conditional = conditional_of(alloc, runs, tables, joins, rank, least)?;
-    let kept = conditional.ranks().to_vec(alloc)?;
+    let pairs = joins.pairs(alloc, runs, &mut tables.sums, rank, least)?;
+    let kept = ranks_of(alloc, &pairs)?;
+    let places = &mut tables.places;
+    let conditional = conditional_of(alloc, runs, places, rank, least, &pairs)?;
     let (_, unmerged) = runs.of_rank(rank);
-    siblings_of(alloc, &kept, &conditional.into_form(), unmerged.len())
+    siblings_of(alloc, &kept, &conditional, unmerged.len())
 }

@@ -1,8 +1,8 @@
 -- The ranks that bits have.
-use Rattle.std.proofs.Common.{Bool, true, false, ◌≡◌, ℕ, ◌-◌, ◌^◌, ◌<◌, ◌||◌, refl, sym, ap, ◌∙◌, eqb, inl, inr, arith, zero, suc}
+use Rattle.std.proofs.Common.{◌≡◌, ℕ, ◌-◌, ◌^◌, ◌<◌, ◌||◌, refl, sym, ap, ◌∙◌, eqb, inl, inr, arith, zero, suc}
 use Rattle.std.specs.Prelude.{bit_or, max}
 use Rattle.std.specs.Int.{bit_at}
-use Rattle.std.proofs.lemmas.Bool.{cases_Bool, eqb-true, cases_eq, eq-eqb}
+use Rattle.std.proofs.lemmas.Bool.{cases_eq, eq-eqb}
 use Rattle.std.proofs.lemmas.Nat.Bits.{bit_at-lt, bit_at-pow_other, bit_at-pow_same, bit_at_or}
 use Rattle.mine_baskets.specs.declared.words.TheConstants.{WORD_RANKS}
 use Rattle.mine_baskets.specs.Words.{has_rank}

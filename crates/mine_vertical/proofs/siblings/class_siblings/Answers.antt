@@ -4,10 +4,15 @@ use Rattle.basket_ranks.specs.Codes.{baskets_of, decoded_place}
 use Rattle.basket_sets.specs.declared.weighted.Weighted.{Weighted}
 use Rattle.basket_sets.specs.Itemset.{contains}
 use Rattle.basket_sets.specs.Support.{support_of}
-use Rattle.mine_classes.specs.Conditional.{conditional}
-use Rattle.mine_classes.specs.Form.{form_baskets}
+use Rattle.mine_classes.specs.Conditional.{conditional, conditional_baskets}
+use Rattle.mine_classes.specs.Pairs.{kept_ranks, pairs_of}
+use Rattle.mine_classes.proofs.theory.Kept.{pair_ranks}
 use Rattle.mine_vertical.proofs.SiblingLemmas.{kept_is}
 use Rattle.mine_vertical.proofs.siblings.class_siblings.Goals as goal
+
+-- the ranks that are kept
+kept_are : (baskets : List Weighted) (least rank : ℕ) (pairs : List (ℕ × ℕ)) (kept : List ℕ) → kept ≡ map (λ pair. pair.0) pairs → pairs ≡ pairs_of baskets least rank → kept ≡ kept_ranks baskets least rank
+kept_are baskets least rank pairs kept firsts are = firsts ∙ ap (map (λ (pair : ℕ × ℕ). pair.0)) are ∙ pair_ranks baskets least rank
 
 pub siblings_of-requires-clause-ranks : goal.siblings_of-requires-clause-ranks
 siblings_of-requires-clause-ranks g c =
