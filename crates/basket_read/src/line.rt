@@ -80,9 +80,15 @@ impl Line {
         requires { digit < 10 }
         ensures { (if result then Some (line_state self.new) else None) ≡ digit_added (line_state self.old) digit }
     {
-        match with_digit(self.place.value(), digit) {
-            Some(value) => {
-                self.place = self.place.with_value(value);
+        let place = match self.place {
+            Place::Head => Some(Place::First(u32::from(digit))),
+            Place::First(value) => with_digit(value, digit).map(Place::First),
+            Place::Between => Some(Place::Number(u32::from(digit))),
+            Place::Number(value) => with_digit(value, digit).map(Place::Number),
+        };
+        match place {
+            Some(place) => {
+                self.place = place;
                 true
             }
             None => false,

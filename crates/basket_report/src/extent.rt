@@ -14,7 +14,7 @@ const COUNT_ROOM: usize = 10;
 const LEAST_STRIP: usize = 65_536;
 
 /// And for so many at most, so that threads live long beside what it takes to start them.
-const MOST_STRIP: usize = 2_097_152;
+const MOST_STRIP: usize = 524_288;
 
 #[derive(Clone, Copy)]
 pub struct Extent {

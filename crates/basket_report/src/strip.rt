@@ -40,7 +40,9 @@ impl Model for Strip {
 
 impl Strip {
     /// No lines yet. There will be so many strips.
-    pub fn new(alloc: Global, extent: Extent, strips: u32) -> Result<Self, AllocError> {
+    pub fn new(alloc: Global, extent: Extent, strips: u32) -> Result<Self, AllocError>
+        ensures { IfOk result (λ strip. (strip.from ≡ 0) × (strip.to ≡ 0) × (strip.text ≡ [])) }
+    {
         Ok(Strip {
             counts: extent.counts(alloc)?,
             room: vec![in alloc; 0u8; extent.strip_room(strips)]?,
