@@ -1,5 +1,5 @@
 -- Texts at the front of a room, and items with a space behind each.
-use Rattle.std.proofs.Common.{◌≡◌, ◌∙◌, ◌+◌, ◌-◌, ◌≤◌, ◌++◌, ◌∷◌, [], ℕ, List, codes, decimal, drop, length, take, take-add, ap, sym, arith, suc}
+use Rattle.std.proofs.Common.{◌≡◌, ◌∙◌, ◌+◌, ◌≤◌, ◌++◌, ◌∷◌, [], ℕ, List, codes, decimal, drop, length, take, take-add, ap, sym, arith, suc}
 use Rattle.std.proofs.Math.Seq.{take-append_seam}
 use Rattle.std.proofs.lemmas.List.{append_assoc, take-take}
 use Rattle.std.proofs.lemmas.List.Concat.{flat_map-append}

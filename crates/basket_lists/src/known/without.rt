@@ -33,10 +33,10 @@ impl KnownItems {
         let _count = self.add_places::<0>(sets, places, bits, found, count);
     }
 
-    /// Adds those without an item that has a one among 64 bits, of which the lowest is at a place. So
-    /// many items have higher bits.
+    /// Adds those without an item that has a one among the 64 bits from the lowest of them on. So many
+    /// items have higher bits.
     #[inline(always)]
-    fn add_places<const PLACE: u32>(
+    fn add_places<const LOWEST: u32>(
         &self,
         sets: &[Packed],
         places: &Places,
@@ -46,20 +46,20 @@ impl KnownItems {
     ) -> usize
         requires some { 0 < length self.now }
         requires bits { bits < 2 ^ length self.now }
-        requires place { PLACE ≤ 64 }
-        requires rest { IsRestOf self.now bits first (bits / 2 ^ PLACE % 2 ^ 64 * 2 ^ PLACE + bits % 2 ^ PLACE) }
+        requires lowest { LOWEST ≤ 64 }
+        requires rest { IsRestOf self.now bits first (bits / 2 ^ LOWEST % 2 ^ 64 * 2 ^ LOWEST + bits % 2 ^ LOWEST) }
         requires found { ArePlacesWithout (map (unpacked self.now) sets.now) (items_in self.now bits) first found.old }
-        ensures rest { IsRestOf self.now bits result (bits % 2 ^ PLACE) }
+        ensures rest { IsRestOf self.now bits result (bits % 2 ^ LOWEST) }
         ensures found { ArePlacesWithout (map (unpacked self.now) sets.now) (items_in self.now bits) result found.new }
     {
         // Nothing is read here: it brings what holds of the items.
         let _ = &self.items;
         let count_bits = self.count_bits();
-        let mut rest = ((bits >> PLACE) % WORD) as u64;
+        let mut rest = ((bits >> LOWEST) % WORD) as u64;
         let mut count = first;
         while rest != 0 {
             let one = 1u64 << rest.ilog2();
-            let shorter = bits ^ (u128::from(one) << PLACE);
+            let shorter = bits ^ (u128::from(one) << LOWEST);
             found[count] = find_bits(sets, places, shorter, count_bits);
             count += 1;
             rest -= one;

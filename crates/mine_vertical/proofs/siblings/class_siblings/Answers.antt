@@ -1,7 +1,8 @@
-use Rattle.std.proofs.Common.{◌≡◌, List, ℕ, length, map, sym, ap, ◌∙◌}
+use Rattle.std.proofs.Common.{◌≡◌, List, ℕ, length, map, subst, sym, ap, ◌∙◌}
 use Rattle.std.proofs.lemmas.Result.{IfOk-weaker}
-use Rattle.basket_ranks.specs.Codes.{baskets_of, decoded_place}
+use Rattle.basket_ranks.specs.Codes.{IsCoding, decoded_place}
 use Rattle.basket_sets.specs.declared.weighted.Weighted.{Weighted}
+use Rattle.basket_sets.specs.declared.minimum.Minimum.TheVariants.{Count}
 use Rattle.basket_sets.specs.Itemset.{contains}
 use Rattle.basket_sets.specs.Support.{support_of}
 use Rattle.mine_classes.specs.Conditional.{conditional, conditional_baskets}
@@ -16,20 +17,26 @@ kept_are baskets least rank pairs kept firsts are = firsts ∙ ap (map (λ (pair
 
 pub siblings_of-requires-clause-ranks : goal.siblings_of-requires-clause-ranks
 siblings_of-requires-clause-ranks g c =
-    c.into_form.ensures.ranks ∙ sym (ap length (c.deref.ensures.value ∙ c.in_ok-kept.ensures.items_if_clones_equal (λ x y e. e) ∙ c.ranks.ensures))
+    let kept = kept_are c.args.runs.now.baskets c.args.least c.args.rank c.deref.result.now c.in_ok-kept.kept.items c.in_ok-kept.ensures (c.deref.ensures.value ∙ c.in_ok-pairs.ensures.pairs) in
+    c.in_ok-conditional.ensures.ranks ∙ sym (ap length (c.deref-3.ensures.value ∙ kept))
+
+pub siblings_of-requires-clause-coding : goal.siblings_of-requires-clause-coding
+siblings_of-requires-clause-coding g c =
+    let kept = kept_are c.args.runs.now.baskets c.args.least c.args.rank c.deref.result.now c.in_ok-kept.kept.items c.in_ok-kept.ensures (c.deref.ensures.value ∙ c.in_ok-pairs.ensures.pairs) in
+    let is = c.in_ok-conditional.ensures.coding in
+    subst (λ (l : List ℕ). IsCoding (record { items = l; minimum = Count 1; baskets = (conditional_baskets c.in_ok-conditional.conditional).baskets })) (sym (c.deref-3.ensures.value ∙ kept))
+    (record { distinct = is.distinct; few = is.few; places = is.places; weights = is.weights; light = is.light })
 
 pub returns-clause-siblings : goal.returns-clause-siblings
 returns-clause-siblings g c =
     let all = c.args.runs.now.baskets in
-    let coding = c.in_ok-conditional.conditional in
-    let kept = c.deref.result.now in
-    let baskets = (form_baskets c.into_form.result).baskets in
-    let kept_are : kept ≡ coding.items = c.deref.ensures.value ∙ c.in_ok-kept.ensures.items_if_clones_equal (λ x y e. e) ∙ c.ranks.ensures in
+    let kept = c.deref-3.result.now in
+    let is = c.deref-3.ensures.value ∙ kept_are all c.args.least c.args.rank c.deref.result.now c.in_ok-kept.kept.items c.in_ok-kept.ensures (c.deref.ensures.value ∙ c.in_ok-pairs.ensures.pairs) in
+    let baskets = (conditional_baskets c.in_ok-conditional.conditional).baskets in
     let decoded : List Weighted = map (decoded_place kept) baskets in
-    let decoded_are : decoded ≡ baskets_of coding = ap (λ k. map (decoded_place k) baskets) kept_are ∙ ap (map (decoded_place coding.items)) c.into_form.ensures.baskets in
     let same : (set : List ℕ) → support_of decoded set ≡ support_of (conditional c.args.least all c.args.rank) set =
-    λ set. ap (λ d. support_of d set) decoded_are ∙ sym (c.in_ok-conditional.ensures.baskets (λ basket. contains basket set)) in
-    let ranks = kept_are ∙ c.in_ok-conditional.ensures.ranks ∙ kept_is c.conditional_supports.ensures all c.args.least c.args.rank decoded same in
+    λ set. ap (λ k. support_of (map (decoded_place k) baskets) set) is ∙ sym (c.in_ok-conditional.ensures.weights (λ basket. contains basket set)) in
+    let ranks = is ∙ kept_is c.conditional_supports.ensures all c.args.least c.args.rank decoded same in
     IfOk-weaker c.siblings_of.result _ _ (λ made are. (
       decoded,
       record { same = same; weighs = are.weighs; ranks = are.ranks_are ∙ ranks; rows = are.rows },

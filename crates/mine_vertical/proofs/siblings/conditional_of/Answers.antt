@@ -1,4 +1,4 @@
-use Rattle.std.proofs.Common.{◌≡◌, map, ap, sym, ◌∙◌, arith}
+use Rattle.std.proofs.Common.{◌∙◌, arith}
 use Rattle.mine_baskets.proofs.theory.Weights.{decoded_weights}
 use Rattle.mine_classes.specs.Conditional.{conditional_baskets}
 use Rattle.mine_classes.specs.Pairs.{kept_ranks}

@@ -18,7 +18,7 @@ pub offset_bounds-found-count : goal.offset_bounds-found-count
 offset_bounds-found-count g c =
     omega (
       arith,
-      item_inside c.args.self.now c.args.bits c.loop-rest.count c.loop-rest.rest c.ilog2.result g.row.PLACE (rises c.self.view_is c.self.invariant.0) (few c.self.view_is c.self.invariant.1)
+      item_inside c.args.self.now c.args.bits c.loop-rest.count c.loop-rest.rest c.ilog2.result g.row.LOWEST (rises c.self.view_is c.self.invariant.0) (few c.self.view_is c.self.invariant.1)
           c.requires.bits c.loop-rest.invariant.rest c.ilog2.ensures.power_le c.ilog2.ensures.next_power_gt,
     )
 
@@ -26,7 +26,7 @@ pub bounds-found-count : goal.bounds-found-count
 bounds-found-count g c =
     omega (
       arith,
-      item_inside c.args.self.now c.args.bits c.loop-rest.count c.loop-rest.rest c.ilog2.result g.row.PLACE (rises c.self.view_is c.self.invariant.0) (few c.self.view_is c.self.invariant.1)
+      item_inside c.args.self.now c.args.bits c.loop-rest.count c.loop-rest.rest c.ilog2.result g.row.LOWEST (rises c.self.view_is c.self.invariant.0) (few c.self.view_is c.self.invariant.1)
           c.requires.bits c.loop-rest.invariant.rest c.ilog2.ensures.power_le c.ilog2.ensures.next_power_gt,
     )
 
@@ -34,7 +34,7 @@ pub overflow_add-count : goal.overflow_add-count
 overflow_add-count g c =
     omega (
       arith,
-      item_inside c.args.self.now c.args.bits c.loop-rest.count c.loop-rest.rest c.ilog2.result g.row.PLACE (rises c.self.view_is c.self.invariant.0) (few c.self.view_is c.self.invariant.1)
+      item_inside c.args.self.now c.args.bits c.loop-rest.count c.loop-rest.rest c.ilog2.result g.row.LOWEST (rises c.self.view_is c.self.invariant.0) (few c.self.view_is c.self.invariant.1)
           c.requires.bits c.loop-rest.invariant.rest c.ilog2.ensures.power_le c.ilog2.ensures.next_power_gt,
     )
 
@@ -42,7 +42,7 @@ pub loop-rest-preserved : goal.loop-rest-preserved
 loop-rest-preserved g c =
     let known = c.args.self.now in
     let bits = c.args.bits in
-    let place = g.row.PLACE in
+    let place = g.row.LOWEST in
     let bit = c.ilog2.result in
     let rest = c.loop-rest.rest in
     let count = c.loop-rest.count in
@@ -52,7 +52,7 @@ loop-rest-preserved g c =
     let high = c.ilog2.ensures.next_power_gt in
     let was = c.loop-rest.invariant in
     let shifted : 1 * 2 ^ bit % 2 ^ 64 ≡ 2 ^ bit = one_shl bit 64 c.ilog2.ensures.bound in
-    let moved : c.from.result * 2 ^ place % 2 ^ 128 ≡ 2 ^ (bit + place) = ap (λ b. b * 2 ^ place % 2 ^ 128) c.from.ensures ∙ moved_one bit place c.ilog2.ensures.bound c.requires.place in
+    let moved : c.from.result * 2 ^ place % 2 ^ 128 ≡ 2 ^ (bit + place) = ap (λ b. b * 2 ^ place % 2 ^ 128) c.from.ensures ∙ moved_one bit place c.ilog2.ensures.bound c.requires.lowest in
     let full : length c.loop-rest.found ≡ 120 = search rules in
     let all = subst (λ n. c.find_bits.result ≢ NOWHERE → HasBits n c.args.sets.now c.find_bits.result (bit_xor bits (c.from.result * 2 ^ place % 2 ^ 128))) c.count_bits-count_bits.ensures c.find_bits.ensures in
     let found = subst (λ b. c.find_bits.result ≢ NOWHERE → HasBits (count_bits known) c.args.sets.now c.find_bits.result (bit_xor bits b)) moved all in

@@ -6,7 +6,7 @@ use Rattle.basket_lists.proofs.known.KnownItems.add_places.Given as goal
 
 abbrev pub invariant-loop-rest : goal.invariant-loop-rest
 invariant-loop-rest g l = record {
-  rest : IsRestOf l.self l.bits l.count (l.rest * 2 ^ g.row.PLACE + l.bits % 2 ^ g.row.PLACE);
+  rest : IsRestOf l.self l.bits l.count (l.rest * 2 ^ g.row.LOWEST + l.bits % 2 ^ g.row.LOWEST);
   found : ArePlacesWithout (map (unpacked l.self) l.sets) (items_in l.self l.bits) l.count l.found;
 }
 
