@@ -1,5 +1,5 @@
 //! A line of which not all has been read.
-ghost use Rattle.std.specs.Prelude.{◌≡◌, ◌≤◌, ◌<◌, ◌≢◌, ℕ, List, [], ◌++◌, length, take, false, if◌then◌else◌, Some, None, OnOk};
+ghost use Rattle.std.specs.Prelude.{◌≡◌, ◌≤◌, ◌<◌, ℕ, List, [], ◌++◌, length, take, false, if◌then◌else◌, Some, None, OnOk};
 
 use crate::class::blanks_behind;
 use crate::number::{Digits, number_at, with_digit, with_digits};

@@ -1,7 +1,6 @@
 //! The frequent pairs of ranks, without a list of all pairs.
 ghost use Rattle.std.specs.Prelude.{◌≡◌, ◌<◌, ◌≤◌, ◌↔◌, ◌*◌, ◌/◌, ◌++◌, ◌^◌, ℕ, List, [], All, IfOk, IsTrue, OnOk, length, replicate, slice_index_or};
 ghost use Rattle.basket_sets.specs.Support.{support_of};
-ghost use Rattle.mine_baskets.specs.ListBaskets.{AreRankBaskets, HaveSameWeights};
 ghost use Rattle.mine_apriori.specs.Pairs.{AreBelow, ArePairs, all_lesser, lists_of, pairs_at, pairs_by_greater};
 
 use crate::triangle::{add_pairs, pair_count, pairs_of_supports};

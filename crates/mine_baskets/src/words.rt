@@ -1,9 +1,7 @@
 //! Baskets of up to 64 ranks, each as the bits of a word.
-ghost use Rattle.std.specs.Prelude.{◌≡◌, ◌≢◌, ◌≤◌, ◌<◌, ◌+◌, ◌-◌, ◌^◌, ◌++◌, [], ◌∷◌, ℕ, All, IfOk, IsTrue, OnOk, false, length, map, replicate, slice_index_or, sum_by};
+ghost use Rattle.std.specs.Prelude.{◌≡◌, ◌≢◌, ◌≤◌, ◌<◌, ◌+◌, ◌-◌, ◌^◌, ◌++◌, [], ◌∷◌, ℕ, All, IfOk, IsTrue, OnOk, false, length, slice_index_or, sum_by};
 ghost use Rattle.std.specs.List.Sorted.{IsNonDecreasingBy};
-ghost use Rattle.basket_sets.specs.Counts.{AllBelow};
 ghost use Rattle.basket_sets.specs.Database.{MOST_WEIGHT};
-ghost use Rattle.basket_sets.specs.Itemset.{IsRising};
 ghost use Rattle.mine_baskets.specs.declared.words.Word.{Word as Bits};
 ghost use Rattle.mine_baskets.specs.ListBaskets.{HaveSameWeights};
 ghost use Rattle.mine_baskets.specs.Words.{AreInOrder, EndsBy, has_rank, ranks_in, word_places};

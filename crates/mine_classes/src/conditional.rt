@@ -1,11 +1,10 @@
 //! The conditional database of a rank.
-ghost use Rattle.std.specs.Prelude.{◌≡◌, ◌≤◌, ◌<◌, IfOk, length, map};
-ghost use Rattle.basket_ranks.specs.Codes.{IsCoding, decoded_place};
-ghost use Rattle.basket_sets.specs.declared.minimum.Minimum.TheVariants.{Count};
+ghost use Rattle.std.specs.Prelude.{◌≡◌, ◌≤◌, ◌<◌, IfOk, map};
 ghost use Rattle.mine_baskets.specs.Covers.{AreCovers, weights_of};
 ghost use Rattle.mine_baskets.specs.ListBaskets.{AreRankBaskets, HaveSameWeights};
-ghost use Rattle.mine_classes.specs.Conditional.{conditional, conditional_baskets};
-ghost use Rattle.mine_classes.specs.Pairs.{kept_ranks, pairs_of};
+ghost use Rattle.mine_classes.specs.Conditional.{conditional_baskets};
+ghost use Rattle.mine_classes.specs.Pairs.{pairs_of};
+ghost use Rattle.mine_classes.specs.Paths.{IsConditional};
 
 use crate::places::Places;
 use crate::runs::Runs;
@@ -69,10 +68,7 @@ impl Runs {
         requires rank { rank < self.now.ranks }
         requires places { self.now.ranks ≤ places.old }
         requires pairs { pairs.now ≡ pairs_of self.now.baskets least rank }
-        ensures ranks { IfOk result (λ below. (conditional_baskets below).ranks ≡ length (kept_ranks self.now.baskets least rank)) }
-        ensures ranked { IfOk result (λ below. AreRankBaskets (conditional_baskets below)) }
-        ensures coding { IfOk result (λ below. IsCoding (record { items = kept_ranks self.now.baskets least rank; minimum = Count least; baskets = (conditional_baskets below).baskets })) }
-        ensures weights { IfOk result (λ below. HaveSameWeights (conditional least self.now.baskets rank) (map (decoded_place (kept_ranks self.now.baskets least rank)) (conditional_baskets below).baskets)) }
+        ensures below { IfOk result (λ below. IsConditional self.now.baskets least rank (conditional_baskets below)) }
         ensures places { places.new ≡ places.old }
     {
         let kept = ranks_of(alloc, pairs)?;

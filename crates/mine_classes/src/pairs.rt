@@ -8,8 +8,8 @@ ghost use Rattle.mine_classes.specs.Pairs.{AreSums, is_met, ranks_met, weight_wi
 ghost use Rattle.mine_baskets.specs.Span.{IsWithin, baskets_at};
 
 use crate::found::Found;
-use mine_baskets::span::{BASKETS_AHEAD, Span, read_ahead};
 use basket_sets::Itemset;
+use mine_baskets::span::{BASKETS_AHEAD, Span, read_ahead};
 use std::alloc::{AllocError, Global};
 use std::marker::Model;
 

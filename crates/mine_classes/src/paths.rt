@@ -7,7 +7,7 @@ ghost use Rattle.mine_baskets.specs.declared.span.Span.{Span as Run};
 ghost use Rattle.mine_classes.specs.Conditional.{conditional, conditional_baskets};
 ghost use Rattle.mine_baskets.specs.ListBaskets.{AreRankBaskets, HaveSameWeights};
 ghost use Rattle.mine_classes.specs.Pairs.{kept_ranks, pairs_of};
-ghost use Rattle.mine_classes.specs.Paths.{IsOrdered, is_branch};
+ghost use Rattle.mine_classes.specs.Paths.{IsConditional, IsOrdered, is_branch};
 
 use crate::conditional::Conditional;
 use crate::pairs::Sums;
@@ -116,9 +116,7 @@ impl Paths {
         requires rank { rank < self.now.ranks }
         requires places { self.now.ranks ≤ places.old }
         requires pairs { pairs.now ≡ pairs_of self.now.baskets least rank }
-        ensures ranks { IfOk result (λ below. (conditional_baskets below).ranks ≡ length (kept_ranks self.now.baskets least rank)) }
-        ensures coding { IfOk result (λ below. IsCoding (record { items = kept_ranks self.now.baskets least rank; minimum = Count least; baskets = (conditional_baskets below).baskets })) }
-        ensures weights { IfOk result (λ below. HaveSameWeights (conditional least self.now.baskets rank) (map (decoded_place (kept_ranks self.now.baskets least rank)) (conditional_baskets below).baskets)) }
+        ensures below { IfOk result (λ below. IsConditional self.now.baskets least rank (conditional_baskets below)) }
         ensures places { places.new ≡ places.old }
     {
         match &self.form {
@@ -141,9 +139,7 @@ fn below_words(
 ) -> Result<WordBaskets, AllocError>
     requires rank { rank < baskets.now.ranks }
     requires pairs { pairs.now ≡ pairs_of baskets.now.baskets least rank }
-    ensures ranks { IfOk result (λ below. below.ranks ≡ length (kept_ranks baskets.now.baskets least rank)) }
-    ensures coding { IfOk result (λ below. IsCoding (record { items = kept_ranks baskets.now.baskets least rank; minimum = Count least; baskets = below.baskets })) }
-    ensures weights { IfOk result (λ below. HaveSameWeights (conditional least baskets.now.baskets rank) (map (decoded_place (kept_ranks baskets.now.baskets least rank)) below.baskets)) }
+    ensures { IfOk result (IsConditional baskets.now.baskets least rank) }
 {
     let below = words::below(alloc, baskets, rank, pairs)?;
     Ok(below)

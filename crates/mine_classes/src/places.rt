@@ -8,13 +8,12 @@ ghost use Rattle.mine_baskets.specs.ListBaskets.{AreRankBaskets, HaveSameWeights
 ghost use Rattle.mine_classes.specs.Places.{ArePlaces, by_table, table_places};
 ghost use Rattle.mine_baskets.specs.Span.{IsWithin, baskets_at};
 
+use crate::bit_table::{clear_bits, set_bits, words_of};
 use crate::conditional::Conditional;
-use mine_baskets::ListBaskets;
 use crate::room::make_room;
 use mine_baskets::span::{BASKETS_AHEAD, Span, place, read_ahead};
-use mine_baskets::WordBaskets;
-use crate::bit_table::{clear_bits, set_bits, words_of};
 use mine_baskets::words::WORD_RANKS;
+use mine_baskets::{ListBaskets, WordBaskets};
 use std::alloc::{AllocError, Global};
 use std::marker::Model;
 

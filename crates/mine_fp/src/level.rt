@@ -10,11 +10,11 @@ ghost use Rattle.mine_fp.specs.Trees.{inner_trees, rank_trees};
 
 use crate::found::{Found, choose, tell};
 use basket_core::{Itemset, MineFault, Tally};
-use mine_classes::{Paths, Tables};
 use mine_classes::laws::{
     classes_are_all, classes_are_conditional, classes_are_listed, classes_by_codings,
     conditional_supports, lists_have_class_size, rare_ranks_have_no_class,
 };
+use mine_classes::{Paths, Tables};
 use std::alloc::Global;
 
 /// How many items a set has at most. A class with a set of one more has more sets than any limit, so

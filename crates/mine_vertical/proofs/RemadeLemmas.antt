@@ -2,7 +2,7 @@
 use Rattle.std.proofs.Common.{◌≡◌, ◌≢◌, ℕ, zero, suc, ◌+◌, ◌<◌, ◌≤◌, Bool, true, false, ◌&&◌, List, [], ◌∷◌, ◌++◌, length, map, cond, leb, refl, sym, ap, ◌∙◌, subst, inl, inr, arith, append_assoc, zero-add}
 use Rattle.std.specs.Prelude.{All}
 use Rattle.std.specs.List.{filter, list_all, range_with_len}
-use Rattle.std.proofs.lemmas.Bool.{and_from, cases_Bool, cases_eq, true≢false}
+use Rattle.std.proofs.lemmas.Bool.{cases_Bool, cases_eq, true≢false}
 use Rattle.std.proofs.lemmas.List.{map-append}
 use Rattle.std.proofs.lemmas.List.Elements.{filter-append}
 use Rattle.basket_sets.specs.declared.weighted.Weighted.{Weighted}

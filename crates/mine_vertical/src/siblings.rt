@@ -5,10 +5,10 @@ ghost use Rattle.basket_sets.specs.declared.minimum.Minimum.TheVariants.{Count};
 ghost use Rattle.basket_sets.specs.declared.weighted.Weighted.{Weighted as Basket};
 ghost use Rattle.basket_sets.specs.Database.{HasWeight, MOST_WEIGHT};
 ghost use Rattle.basket_sets.specs.Support.{total_of};
-ghost use Rattle.mine_classes.specs.Conditional.{conditional, conditional_baskets};
+ghost use Rattle.mine_classes.specs.Conditional.{conditional_baskets};
 ghost use Rattle.mine_baskets.specs.Covers.{weights_of};
-ghost use Rattle.mine_baskets.specs.ListBaskets.{HaveSameWeights};
-ghost use Rattle.mine_classes.specs.Pairs.{kept_ranks, pairs_of};
+ghost use Rattle.mine_classes.specs.Pairs.{pairs_of};
+ghost use Rattle.mine_classes.specs.Paths.{IsConditional};
 ghost use Rattle.mine_vertical.specs.Siblings.{AreClassSiblings, AreOver};
 
 use crate::joins::{Joins, Sibling};
@@ -29,9 +29,7 @@ fn conditional_of(
     requires rank { rank < runs.now.ranks }
     requires places { runs.now.ranks ≤ places.old }
     requires pairs { pairs.now ≡ pairs_of runs.now.baskets least rank }
-    ensures ranks { IfOk result (λ merged. (conditional_baskets merged).ranks ≡ length (kept_ranks runs.now.baskets least rank)) }
-    ensures coding { IfOk result (λ merged. IsCoding (record { items = kept_ranks runs.now.baskets least rank; minimum = Count least; baskets = (conditional_baskets merged).baskets })) }
-    ensures weights { IfOk result (λ merged. HaveSameWeights (conditional least runs.now.baskets rank) (map (decoded_place (kept_ranks runs.now.baskets least rank)) (conditional_baskets merged).baskets)) }
+    ensures merged { IfOk result (λ merged. IsConditional runs.now.baskets least rank (conditional_baskets merged)) }
     ensures places { places.new ≡ places.old }
 {
     let below = runs.below(alloc, places, rank, least, pairs)?;
@@ -41,7 +39,11 @@ fn conditional_of(
 
 /// The weights of merged baskets, which were so many before. More than 4,294,967,295 baskets count as a
 /// refused growth.
-fn merged_weights(alloc: Global, baskets: &Conditional, unmerged: usize) -> Result<Weights, AllocError>
+fn merged_weights(
+    alloc: Global,
+    baskets: &Conditional,
+    unmerged: usize,
+) -> Result<Weights, AllocError>
     requires some { All HasWeight (conditional_baskets baskets.now).baskets }
     requires light { total_of (conditional_baskets baskets.now).baskets ≤ MOST_WEIGHT }
     ensures { IfOk result (λ weights. weights ≡ weights_of (conditional_baskets baskets.now).baskets) }

@@ -1,5 +1,5 @@
 //! Where packed sets stand without one of their items.
-ghost use Rattle.std.specs.Prelude.{◌≡◌, ◌<◌, ◌≤◌, ◌+◌, ◌*◌, ◌^◌, ◌/◌, ◌%◌, length, map};
+ghost use Rattle.std.specs.Prelude.{◌<◌, ◌≤◌, ◌+◌, ◌*◌, ◌^◌, ◌/◌, ◌%◌, length, map};
 ghost use Rattle.basket_lists.specs.Known.{IsRestOf};
 ghost use Rattle.basket_lists.specs.Without.{ArePlacesWithout};
 ghost use Rattle.basket_lists.specs.Packed.{IsPacked, items_in, unpacked};

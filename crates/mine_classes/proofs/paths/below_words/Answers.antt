@@ -8,7 +8,7 @@ use Rattle.basket_sets.specs.Itemset.{IsRising, has}
 use Rattle.mine_classes.specs.Conditional.{kept_place}
 use Rattle.mine_baskets.specs.ListBaskets.{HaveSameWeights}
 use Rattle.mine_classes.specs.Pairs.{kept_ranks, pairs_of}
-use Rattle.mine_classes.proofs.theory.Kept.{conditional_coding, has_kept, kept_below, kept_rises, kept_short, pair_ranks}
+use Rattle.mine_classes.proofs.theory.Kept.{has_kept, kept_below, kept_rises, kept_short, pair_ranks}
 use Rattle.mine_classes.proofs.paths.below_words.Goals as goal
 
 abbrev ranks_of : List (ℕ × ℕ) → List ℕ
@@ -32,21 +32,16 @@ below-requires-clause-few c =
     let kept = are_kept c.args.baskets.now.baskets c.args.least c.args.rank c.args.pairs.now c.requires.pairs in
     omega (arith, ap length kept, length-map c.args.pairs.now (λ (pair : ℕ × ℕ). pair.0), kept_short c.args.baskets.now.baskets c.args.least c.args.rank)
 
-pub returns-clause-ranks : goal.returns-clause-ranks
-returns-clause-ranks c =
-    let kept = are_kept c.args.baskets.now.baskets c.args.least c.args.rank c.args.pairs.now c.requires.pairs in
-    c.in_ok-below.ensures.ranks ∙ sym (length-map c.args.pairs.now (λ (pair : ℕ × ℕ). pair.0)) ∙ ap length kept
-
-pub returns-clause-coding : goal.returns-clause-coding
-returns-clause-coding c =
-    conditional_coding c.args.baskets.now.baskets c.args.least c.args.rank c.in_ok-below.below c.in_ok-below.ensures.ranked (returns-clause-ranks c) (omega (arith, c.ranges.rank.fits))
-
-pub returns-clause-weights : goal.returns-clause-weights
-returns-clause-weights c =
+pub returns : goal.returns
+returns c =
     let baskets = c.args.baskets.now.baskets in
     let rank = c.args.rank in
     let kept = are_kept baskets c.args.least rank c.args.pairs.now c.requires.pairs in
     let below = c.in_ok-below.below.baskets in
     let by_list = subst (λ (l : List ℕ). HaveSameWeights (flat_map (kept_place (has l) rank) baskets) (map (decoded_place l) below)) kept c.in_ok-below.ensures.weights in
-    subst (λ (keeps : ℕ → Bool). HaveSameWeights (flat_map (kept_place keeps rank) baskets) (map (decoded_place (kept_ranks baskets c.args.least rank)) below))
-    (λ i other. has_kept baskets c.args.least rank other i) by_list
+    record {
+      ranks = c.in_ok-below.ensures.ranks ∙ sym (length-map c.args.pairs.now (λ (pair : ℕ × ℕ). pair.0)) ∙ ap length kept;
+      ranked = c.in_ok-below.ensures.ranked;
+      weights = subst (λ (keeps : ℕ → Bool). HaveSameWeights (flat_map (kept_place keeps rank) baskets) (map (decoded_place (kept_ranks baskets c.args.least rank)) below))
+          (λ i other. has_kept baskets c.args.least rank other i) by_list;
+    }

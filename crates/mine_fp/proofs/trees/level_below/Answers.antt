@@ -5,9 +5,9 @@ use Rattle.basket_sets.specs.declared.weighted.Weighted.{Weighted}
 use Rattle.basket_sets.specs.declared.minimum.Minimum.TheVariants.{Count}
 use Rattle.basket_sets.specs.Itemset.{has}
 use Rattle.mine_baskets.specs.ListBaskets.{HaveSameWeights, RankBaskets}
-use Rattle.mine_classes.specs.Conditional.{conditional}
+use Rattle.mine_classes.specs.Conditional.{conditional, conditional_baskets}
 use Rattle.mine_classes.specs.Pairs.{kept_ranks, named_pair, pairs_of}
-use Rattle.mine_classes.proofs.theory.Kept.{kept_below, pair_ranks}
+use Rattle.mine_classes.proofs.theory.Kept.{conditional_coding, kept_below, pair_ranks}
 use Rattle.mine_fp.specs.Level.{items_of}
 use Rattle.mine_fp.proofs.trees.level_below.Goals as goal
 
@@ -22,7 +22,7 @@ pub returns-clause-below : goal.returns-clause-below
 returns-clause-below c =
     let level = c.args.level.now in
     let kept = kept_ranks level.paths.baskets level.least c.args.rank in
-    let made = c.in_ok-below.ensures in
+    let made = c.in_ok-below.ensures.below in
     let same = ap (λ (value : RankBaskets). value.baskets) c.in_ok-paths.ensures in
     let names = c.rename.new.pairs in
     let is : names ≡ map (named_pair (items_of level)) (pairs_of level.paths.baskets level.least c.args.rank) =
@@ -40,6 +40,7 @@ returns-clause-below c =
       names = take-append-le c.args.pairs.len names (drop (length names) c.args.pairs.items) (omega arith) ∙ take_all c.args.pairs.len names (omega arith) ∙ is;
       depth = λ i. level.depth + 1;
       least = λ i. level.least;
-      coding = subst (λ (b : List Weighted). IsCoding (record { items = kept; minimum = Count level.least; baskets = b })) (sym same) made.coding;
+      coding = subst (λ (b : List Weighted). IsCoding (record { items = kept; minimum = Count level.least; baskets = b })) (sym same)
+          (conditional_coding level.paths.baskets level.least c.args.rank (conditional_baskets c.in_ok-below.below) made.ranked made.ranks (omega (arith, c.ranges.rank.fits)));
       weights = subst (λ (b : List Weighted). HaveSameWeights (conditional level.least level.paths.baskets c.args.rank) (map (decoded_place kept) b)) (sym same) made.weights;
     }

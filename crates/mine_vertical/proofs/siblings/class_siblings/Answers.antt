@@ -1,4 +1,4 @@
-use Rattle.std.proofs.Common.{◌≡◌, List, ℕ, length, map, subst, sym, ap, ◌∙◌}
+use Rattle.std.proofs.Common.{◌≡◌, List, ℕ, length, map, subst, sym, ap, ◌∙◌, arith}
 use Rattle.std.proofs.lemmas.Result.{IfOk-weaker}
 use Rattle.basket_ranks.specs.Codes.{IsCoding, decoded_place}
 use Rattle.basket_sets.specs.declared.weighted.Weighted.{Weighted}
@@ -7,7 +7,7 @@ use Rattle.basket_sets.specs.Itemset.{contains}
 use Rattle.basket_sets.specs.Support.{support_of}
 use Rattle.mine_classes.specs.Conditional.{conditional, conditional_baskets}
 use Rattle.mine_classes.specs.Pairs.{kept_ranks, pairs_of}
-use Rattle.mine_classes.proofs.theory.Kept.{pair_ranks}
+use Rattle.mine_classes.proofs.theory.Kept.{conditional_coding, pair_ranks}
 use Rattle.mine_vertical.proofs.SiblingLemmas.{kept_is}
 use Rattle.mine_vertical.proofs.siblings.class_siblings.Goals as goal
 
@@ -18,12 +18,13 @@ kept_are baskets least rank pairs kept firsts are = firsts ∙ ap (map (λ (pair
 pub siblings_of-requires-clause-ranks : goal.siblings_of-requires-clause-ranks
 siblings_of-requires-clause-ranks g c =
     let kept = kept_are c.args.runs.now.baskets c.args.least c.args.rank c.deref.result.now c.in_ok-kept.kept.items c.in_ok-kept.ensures (c.deref.ensures.value ∙ c.in_ok-pairs.ensures.pairs) in
-    c.in_ok-conditional.ensures.ranks ∙ sym (ap length (c.deref-3.ensures.value ∙ kept))
+    c.in_ok-conditional.ensures.merged.ranks ∙ sym (ap length (c.deref-3.ensures.value ∙ kept))
 
 pub siblings_of-requires-clause-coding : goal.siblings_of-requires-clause-coding
 siblings_of-requires-clause-coding g c =
     let kept = kept_are c.args.runs.now.baskets c.args.least c.args.rank c.deref.result.now c.in_ok-kept.kept.items c.in_ok-kept.ensures (c.deref.ensures.value ∙ c.in_ok-pairs.ensures.pairs) in
-    let is = c.in_ok-conditional.ensures.coding in
+    let merged = c.in_ok-conditional.ensures.merged in
+    let is = conditional_coding c.args.runs.now.baskets c.args.least c.args.rank (conditional_baskets c.in_ok-conditional.conditional) merged.ranked merged.ranks (omega (arith, c.ranges.rank.fits)) in
     subst (λ (l : List ℕ). IsCoding (record { items = l; minimum = Count 1; baskets = (conditional_baskets c.in_ok-conditional.conditional).baskets })) (sym (c.deref-3.ensures.value ∙ kept))
     (record { distinct = is.distinct; few = is.few; places = is.places; weights = is.weights; light = is.light })
 
@@ -35,7 +36,7 @@ returns-clause-siblings g c =
     let baskets = (conditional_baskets c.in_ok-conditional.conditional).baskets in
     let decoded : List Weighted = map (decoded_place kept) baskets in
     let same : (set : List ℕ) → support_of decoded set ≡ support_of (conditional c.args.least all c.args.rank) set =
-    λ set. ap (λ k. support_of (map (decoded_place k) baskets) set) is ∙ sym (c.in_ok-conditional.ensures.weights (λ basket. contains basket set)) in
+    λ set. ap (λ k. support_of (map (decoded_place k) baskets) set) is ∙ sym (c.in_ok-conditional.ensures.merged.weights (λ basket. contains basket set)) in
     let ranks = is ∙ kept_is c.conditional_supports.ensures all c.args.least c.args.rank decoded same in
     IfOk-weaker c.siblings_of.result _ _ (λ made are. (
       decoded,

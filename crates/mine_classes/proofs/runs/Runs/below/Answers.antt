@@ -9,7 +9,7 @@ use Rattle.mine_classes.specs.Pairs.{kept_ranks, pairs_of}
 use Rattle.mine_baskets.specs.Span.{baskets_at}
 use Rattle.mine_classes.proofs.CodedLemmas.{conditional_weights}
 use Rattle.mine_classes.proofs.SumLemmas.{runs_ranked}
-use Rattle.mine_classes.proofs.theory.Kept.{conditional_coding, kept_below, kept_rises, pair_ranks}
+use Rattle.mine_classes.proofs.theory.Kept.{kept_below, kept_rises, pair_ranks}
 use Rattle.mine_classes.proofs.runs.Runs.below.Goals as goal
 
 -- the first ranks of the pairs are the ranks that are kept
@@ -31,21 +31,16 @@ pub coded-requires-clause-ranked : goal.coded-requires-clause-ranked
 coded-requires-clause-ranked c =
     runs_ranked c.of_rank.result.0.now c.args.self.now.baskets c.args.rank c.of_rank.result.1.now c.of_rank.ensures.runs c.args.places.now (omega (arith, c.requires.rank, c.requires.places)) c.of_rank.ensures.ranked.light
 
-pub returns-clause-ranks : goal.returns-clause-ranks
-returns-clause-ranks c =
-    let kept = firsts c.args.self.now.baskets c.args.least c.args.rank c.args.pairs.now c.in_ok-kept.kept.items c.requires.pairs c.in_ok-kept.ensures in
-    c.in_ok-below.ensures.ranks ∙ ap length (c.deref.ensures.value ∙ kept)
-
-pub returns-clause-coding : goal.returns-clause-coding
-returns-clause-coding c =
-    conditional_coding c.args.self.now.baskets c.args.least c.args.rank (conditional_baskets c.in_ok-below.below) c.in_ok-below.ensures.ranked (returns-clause-ranks c) (omega (arith, c.ranges.rank.fits))
-
-pub returns-clause-weights : goal.returns-clause-weights
-returns-clause-weights c =
+pub returns-clause-below : goal.returns-clause-below
+returns-clause-below c =
     let baskets = c.args.self.now.baskets in
     let ranks = c.of_rank.result.0.now in
     let runs = c.of_rank.result.1.now in
-    let kept = firsts baskets c.args.least c.args.rank c.args.pairs.now c.in_ok-kept.kept.items c.requires.pairs c.in_ok-kept.ensures in
+    let kept = c.deref.ensures.value ∙ firsts baskets c.args.least c.args.rank c.args.pairs.now c.in_ok-kept.kept.items c.requires.pairs c.in_ok-kept.ensures in
     let others = (conditional_baskets c.in_ok-below.below).baskets in
-    let same = subst (λ l. HaveSameWeights (map (coded_place l) (baskets_at ranks runs)) others) (c.deref.ensures.value ∙ kept) c.in_ok-below.ensures.weights in
-    conditional_weights baskets c.args.least c.args.rank ranks runs c.of_rank.ensures.runs others same
+    let same = subst (λ l. HaveSameWeights (map (coded_place l) (baskets_at ranks runs)) others) kept c.in_ok-below.ensures.weights in
+    record {
+      ranks = c.in_ok-below.ensures.ranks ∙ ap length kept;
+      ranked = c.in_ok-below.ensures.ranked;
+      weights = conditional_weights baskets c.args.least c.args.rank ranks runs c.of_rank.ensures.runs others same;
+    }
