@@ -6,6 +6,7 @@ use Rattle.std.proofs.lemmas.Result.{err_from_is_err_and}
 use Rattle.basket_ranks.specs.Codes.{Coding, IsCoding, frequent_of_coding}
 use Rattle.basket_core.specs.declared.fault.MineFault.TheVariants.{TooMany}
 use Rattle.basket_sets.specs.declared.counted.Counted.{Counted}
+use Rattle.mine_round.specs.Lawful.{once_below}
 use Rattle.mine_round.specs.SeatView.{SeatView}
 use Rattle.mine_round.specs.Totals.{claimed_by}
 use Rattle.mine_phases.specs.declared.share.Share.{Share}
@@ -57,10 +58,49 @@ returns-in_err-values-clause-too_many g c most e =
     (omega (arith, c.in-Ok.ensures.within, c.in_ok-round.ensures.round.0)) (c.in-Ok.ensures.sums 0 first) (c.in-Ok.ensures.greatest 0 first) told)
 
 pub collected-requires : goal.collected-requires
-collected-requires g c = ?
+collected-requires g c =
+    let coding : Coding = g.M.ClassMiner.coding_of c.args.miner.now in
+    let is_mined = IsMined coding (g.M.ClassMiner.is_work c.args.miner.now) in
+    let cutting = c.args.phase.now.cutting in
+    let shares = c.in_ok-seats.ensures.shares in
+    let lists = c.in_ok-values.field-0.items in
+    let seats = c.in_ok-seats.seats.items in
+    let all : map Ok lists ≡ map (λ (s : Mined). s.values) shares = rw c.in_ok-values.was at c.in_ok-seats.ensures.lists in
+    let says : All (IsPieceShare is_mined (ranks_of coding cutting.pieces) c.in_ok-round.round) shares = λ k d below. (c.in_ok-seats.ensures.each k d below).call.met.1.of_ranks in
+    let some : 1 ≤ length shares = omega (arith, c.in_ok-seats.ensures.count, c.in_ok-round.ensures.seats, cutting.some_workers.0) in
+    let claimed = all_claimed is_mined (ranks_of coding cutting.pieces) c.in_ok-round.round shares lists all says seats c.in_ok-seats.ensures.seats _ cutting.pieces
+    some (λ any. c.in-Ok.ensures.ended any ∙ c.in_ok-round.ensures.round.0) c.in-Ok.ensures.claimed in
+    let holds = hold_numbers is_mined (ranks_of coding cutting.pieces) c.in_ok-round.round shares lists all says seats c.in_ok-seats.ensures.seats (length coding.items)
+    (ranks_once coding cutting.pieces cutting.some_pieces.0 (claimed_by seats) claimed) in
+    λ x. holds x ∙ ap (λ n. once_below n x) (ap (λ (k : Coding). length k.items) c.requires.coding ∙ sym c.ranks-2.ensures)
 
 pub returns-clause-each : goal.returns-clause-each
-returns-clause-each g c = ?
+returns-clause-each g c =
+    let coding : Coding = g.M.ClassMiner.coding_of c.args.miner.now in
+    let is_work = g.M.ClassMiner.is_work c.args.miner.now in
+    let lists = c.in_ok-values.field-0.items in
+    let classes = c.in_ok-classes.classes in
+    let long : c.ranks-2.result ≡ length coding.items = c.ranks-2.ensures ∙ ap (λ (k : Coding). length k.items) (sym c.requires.coding) in
+    subst (λ (k : Coding). HasEach (IsMined k is_work) (length k.items) classes.items) c.requires.coding
+    (have_each (IsMined coding is_work) (ranks_of coding c.args.phase.now.cutting.pieces) c.in_ok-round.round c.in_ok-seats.ensures.shares lists (rw c.in_ok-values.was at c.in_ok-seats.ensures.lists)
+    (λ k d below. (c.in_ok-seats.ensures.each k d below).call.met.1.of_ranks) (length coding.items) classes.items (omega (arith, c.in_ok-classes.ensures.count, classes.ok, long))
+    (rw long at c.in_ok-classes.ensures.values))
 
 pub returns-clause-within : goal.returns-clause-within
-returns-clause-within g c = ?
+returns-clause-within g c =
+    let coding : Coding = g.M.ClassMiner.coding_of c.args.miner.now in
+    let is_mined = IsMined coding (g.M.ClassMiner.is_work c.args.miner.now) in
+    let cutting = c.args.phase.now.cutting in
+    let shares = c.in_ok-seats.ensures.shares in
+    let lists = c.in_ok-values.field-0.items in
+    let seats = c.in_ok-seats.seats.items in
+    let all : map Ok lists ≡ map (λ (s : Mined). s.values) shares = rw c.in_ok-values.was at c.in_ok-seats.ensures.lists in
+    let some : 1 ≤ length shares = omega (arith, c.in_ok-seats.ensures.count, c.in_ok-round.ensures.seats, cutting.some_workers.0) in
+    let claimed = all_claimed is_mined (ranks_of coding cutting.pieces) c.in_ok-round.round shares lists all (λ k d below. (c.in_ok-seats.ensures.each k d below).call.met.1.of_ranks)
+    seats c.in_ok-seats.ensures.seats _ cutting.pieces some (λ any. c.in-Ok.ensures.ended any ∙ c.in_ok-round.ensures.round.0) c.in-Ok.ensures.claimed in
+    let Told : SeatView → Type 0 = ToldAll (claimed_size coding cutting.pieces) c.args.limit in
+    let told = All-same Told _ _ c.in_ok-seats.ensures.seats (each_seat Told shares lists all (λ k d below. (c.in_ok-seats.ensures.each k d below).call.met.1.told)) in
+    let first : 0 < length c.in-Ok.field-0.counters.items = omega (arith, c.in-Ok.ensures.counters, c.in-Ok.field-0.counters.ok, c.in_ok-round.ensures.round.1) in
+    let few = no_more_than_limit coding cutting.pieces cutting.some_pieces.0 (subst IsCoding (sym c.requires.coding) c.baskets-baskets.ensures.coding) c.class_sizes_add_up.ensures
+    c.args.limit seats _ told claimed (c.in-Ok.ensures.sums 0 first) (c.in-Ok.ensures.greatest 0 first) in
+    omega (arith, few, ap (λ (k : Coding). length (frequent_of_coding k)) c.requires.coding)
