@@ -23,7 +23,7 @@ use Rattle.mine_phases.specs.Classes.{HasLargeClass, IsClassShare, IsMined, IsWo
 use Rattle.mine_phases.specs.Pieces.{HasEach, parts_of}
 use Rattle.mine_phases.specs.Share.{fault_after, fault_of}
 use Rattle.mine_phases.proofs.Numbers.{sum_fits, sum_more}
-use Rattle.mine_phases.proofs.Placing.{parts_once, sum_by-flat_map, sum_by-map, sum_of_parts}
+use Rattle.mine_phases.proofs.Placing.{parts_once, sum_by-flat_map, sum_of_parts}
 
 -- ---- the fault to tell
 

@@ -64,32 +64,24 @@ impl<M: ClassMiner, G: Gate> Classes<'_, '_, M, G> {
         let mut seat = seat;
         let mut values = Vec::new(alloc);
         let Ok(mut tables) = Tables::new(alloc, self.ranks) else {
-            return Share {
-                seat,
-                values: Err(MineFault::Memory),
-            };
+            let values = Err(MineFault::Memory);
+            return Share { seat, values };
         };
         while !self.is_over(&mut seat) {
             let Some(claimed) = claim_piece(self.round, &mut seat, self.gate, PHASE, worker) else {
-                return Share {
-                    seat,
-                    values: Ok(values),
-                };
+                let values = Ok(values);
+                return Share { seat, values };
             };
-            let (back, added) = self.add_piece::<Brand>(alloc, &mut tables, claimed, &mut values, seat);
+            let (back, mined) = self.mine::<Brand>(alloc, &mut tables, claimed, &mut values, seat);
             seat = back;
-            match added {
-                Ok(()) => {}
-                Err(fault) => return Share {
-                    seat,
-                    values: Err(fault),
-                },
+            if let Err(fault) = mined {
+                let values = Err(fault);
+                return Share { seat, values };
             }
         }
-        Share {
-            seat,
-            values: Err(MineFault::TooMany { limit: self.limit }),
-        }
+        let limit = self.limit;
+        let values = Err(MineFault::TooMany { limit });
+        Share { seat, values }
     }
 
     /// Whether the workers have found more sets than the limit.
@@ -104,7 +96,7 @@ impl<M: ClassMiner, G: Gate> Classes<'_, '_, M, G> {
     }
 
     /// Adds the classes of a piece, told by a seat.
-    fn add_piece<S: Start>(
+    fn mine<S: Start>(
         &self,
         alloc: Global,
         tables: &mut Tables,
@@ -132,8 +124,8 @@ impl<M: ClassMiner, G: Gate> Classes<'_, '_, M, G> {
             → (most ≡ self.now.limit) × ((self.now.limit < slice_index result.0.held.seen 0) ⊎ HasLargeClass (M.coding_of self.now.miner.now) self.now.limit) }
     {
         let mut tally = RoundTally::<S>::new(self.round, seat, self.limit);
-        let added = self.add_classes(alloc, tables, claimed, values, &mut tally);
-        (tally.into_seat(), added)
+        let mined = self.add_classes(alloc, tables, claimed, values, &mut tally);
+        (tally.into_seat(), mined)
     }
 
     /// Adds the classes of a piece, told to a tally. The tables are used again from piece to piece.

@@ -1,4 +1,4 @@
-use Rattle.std.proofs.Common.{◌≡◌, List, sym, subst, arith}
+use Rattle.std.proofs.Common.{List, sym, subst, arith}
 use Rattle.std.specs.List.{flat_map}
 use Rattle.basket_ranks.specs.Codes.{Coding, baskets_of}
 use Rattle.basket_sets.specs.declared.counted.Counted.{Counted}

@@ -1,4 +1,4 @@
-use Rattle.std.proofs.Common.{◌≡◌, ◌<◌, ◌+◌, ◌++◌, ◌∷◌, [], Err, ℕ, List, ap, sym, ◌∙◌, subst, arith, slice_index}
+use Rattle.std.proofs.Common.{◌≡◌, ◌<◌, ◌++◌, ◌∷◌, [], Err, ℕ, List, ap, sym, ◌∙◌, subst, arith, slice_index}
 use Rattle.std.specs.Prelude.{All}
 use Rattle.std.specs.List.{flat_map, sum_by}
 use Rattle.std.proofs.lemmas.List.{append-nil}
@@ -24,7 +24,7 @@ loop-alloc-smaller g c =
     let before : List ℕ = c.loop-alloc.seat.held.claimed in
     let number = c.in-Some.claimed in
     let rises : All (λ p. p < number) before = subst (λ (s : SeatView). All (λ p. p < number) s.held.claimed) c.is_over.ensures.same c.in-Some.ensures.rises in
-    let claimed = claimed_next c.loop-alloc.seat c.is_over.new.seat c.claim_piece.new.seat c.add_piece-back.result.0 number c.is_over.ensures.same c.in-Some.ensures.piece.1 c.add_piece-back.ensures.same in
+    let claimed = claimed_next c.loop-alloc.seat c.is_over.new.seat c.claim_piece.new.seat c.mine-back.result.0 number c.is_over.ensures.same c.in-Some.ensures.piece.1 c.mine-back.ensures.same in
     let low = behind-le before number rises in
     let high = ap behind claimed ∙ behind_push before number rises in
     omega (arith, low, high, c.in-Some.ensures.piece.0, c.requires.pieces.1)
@@ -38,33 +38,33 @@ loop-alloc-preserved g c =
     let was = c.loop-alloc.invariant in
     let number = c.in-Some.claimed in
     let rises : All (λ p. p < number) before = subst (λ (s : SeatView). All (λ p. p < number) s.held.claimed) c.is_over.ensures.same c.in-Some.ensures.rises in
-    let claimed = claimed_next c.loop-alloc.seat c.is_over.new.seat c.claim_piece.new.seat c.add_piece-back.result.0 number c.is_over.ensures.same c.in-Some.ensures.piece.1 c.add_piece-back.ensures.same in
+    let claimed = claimed_next c.loop-alloc.seat c.is_over.new.seat c.claim_piece.new.seat c.mine-back.result.0 number c.is_over.ensures.same c.in-Some.ensures.piece.1 c.mine-back.ensures.same in
     let high = ap behind claimed ∙ behind_push before number rises in
     let seat = ap (λ h. slice_index h.added 0) c.in-Some.ensures.piece.1 in
     let looked = ap (λ l. slice_index l 0) c.is_over.ensures.added in
-    let told = rw c.in-Ok-added.is at c.add_piece-back.ensures.told in
+    let told = rw c.in_default-mined.is at c.mine-back.ensures.told in
     let sum = ap (sum_by size) claimed ∙ sum_by_push size before number in
     record {
-      counts = c.add_piece-back.ensures.counts;
-      sums = (rw c.in-Ok-added.is at c.add_piece-back.ensures.sums) ∙ was.sums;
-      places = (rw c.in-Ok-added.is at c.add_piece-back.ensures.places) ∙ was.places;
+      counts = c.mine-back.ensures.counts;
+      sums = (rw c.in_default-mined.is at c.mine-back.ensures.sums) ∙ was.sums;
+      places = (rw c.in_default-mined.is at c.mine-back.ensures.places) ∙ was.places;
       within = omega (arith, high, c.in-Some.ensures.piece.0, c.requires.pieces.1);
-      numbers = (rw c.in-Ok-added.is at c.add_piece-back.ensures.numbers) ∙ ap (λ l. l ++ ranks number) was.numbers ∙ ap (λ l. flat_map ranks before ++ l) (sym (append-nil (ranks number)))
+      numbers = (rw c.in_default-mined.is at c.mine-back.ensures.numbers) ∙ ap (λ l. l ++ ranks number) was.numbers ∙ ap (λ l. flat_map ranks before ++ l) (sym (append-nil (ranks number)))
           ∙ sym (ap (flat_map ranks) claimed ∙ flat_map-append ranks before (number ∷ []));
-      each = rw c.in-Ok-added.is at c.add_piece-back.ensures.each;
+      each = rw c.in_default-mined.is at c.mine-back.ensures.each;
       told = omega (arith, seat, looked, told, sum, was.told);
     }
 
 pub returns-in-Err : goal.returns-in-Err
 returns-in-Err g c =
     let size = claimed_size (g.M.ClassMiner.coding_of c.args.self.now.miner.now) c.args.self.now.pieces in
-    let claimed = claimed_next c.loop-alloc.seat c.is_over.new.seat c.claim_piece.new.seat c.add_piece-back.result.0 c.in-Some.claimed c.is_over.ensures.same c.in-Some.ensures.piece.1 c.add_piece-back.ensures.same in
+    let claimed = claimed_next c.loop-alloc.seat c.is_over.new.seat c.claim_piece.new.seat c.mine-back.result.0 c.in-Some.claimed c.is_over.ensures.same c.in-Some.ensures.piece.1 c.mine-back.ensures.same in
     let seat = ap (λ h. slice_index h.added 0) c.in-Some.ensures.piece.1 in
     let looked = ap (λ l. slice_index l 0) c.is_over.ensures.added in
     let sum = ap (sum_by size) claimed ∙ sum_by_push size c.loop-alloc.seat.held.claimed c.in-Some.claimed in
     record {
-      of_ranks = record { own = c.add_piece-back.ensures.counts.own; values = tt };
-      at_most = omega (arith, seat, looked, sum, c.loop-alloc.invariant.told, c.add_piece-back.ensures.at_most);
+      of_ranks = record { own = c.mine-back.ensures.counts.own; values = tt };
+      at_most = omega (arith, seat, looked, sum, c.loop-alloc.invariant.told, c.mine-back.ensures.at_most);
       told = tt;
-      too_many = λ most e. let fault : c.in-Err.fault ≡ TooMany most = cc in c.add_piece-back.ensures.too_many most (c.in-Err.is ∙ ap Err fault);
+      too_many = λ most e. let fault : c.in-Err.fault ≡ TooMany most = cc in c.mine-back.ensures.too_many most (c.in-Err.is ∙ ap Err fault);
     }

@@ -21,5 +21,5 @@ invariant-loop-alloc g l = record {
 abbrev pub decreases-loop-alloc : goal.decreases-loop-alloc
 decreases-loop-alloc g l = l.self.pieces - behind l.seat.held.claimed
 
-abbrev pub ghosts-add_piece : goal.ghosts-add_piece
-ghosts-add_piece g a = record { start = a.seat }
+abbrev pub ghosts-mine : goal.ghosts-mine
+ghosts-mine g a = record { start = a.seat }
