@@ -76,8 +76,8 @@ sum_of_parts f parts pieces claimed some same =
     ∙ ap (sum_by f) (shards_are_all pieces (range_with_len 0 parts) some)
 
 -- so their parts are all parts, each once
-pub parts_once : (parts pieces : ℕ) (claimed : List ℕ) → 1 ≤ pieces → IsPermutation claimed (range_with_len 0 pieces) → HoldsNumbersBelow parts (flat_map (parts_of parts pieces) claimed)
-parts_once parts pieces claimed some same x =
+pub parts_once : (parts pieces : ℕ) → 1 ≤ pieces → (claimed : List ℕ) → IsPermutation claimed (range_with_len 0 pieces) → HoldsNumbersBelow parts (flat_map (parts_of parts pieces) claimed)
+parts_once parts pieces some claimed same x =
     sum_of_parts (λ z. cond (z == x) 1 0) parts pieces claimed some same ∙ times-range 0 parts x (omega arith) ∙ ap (λ k. once_below k x) (zero-add parts)
 
 module _ {X : Type 0} where

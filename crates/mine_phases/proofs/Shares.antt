@@ -3,8 +3,9 @@ use Rattle.std.proofs.Common.{◌≡◌, ℕ, ◌<◌, ◌≤◌, List, [], ◌�
 use Rattle.std.specs.Prelude.{All, Any, IfOk, IsPermutation, Vec}
 use Rattle.std.specs.Global.{Global}
 use Rattle.std.specs.List.{flat_map, range_with_len}
+use Rattle.std.proofs.lemmas.List.{length-map, length-replicate}
 use Rattle.std.proofs.lemmas.List.Concat.{flat_map-append}
-use Rattle.std.proofs.lemmas.List.Elements.{All-append, All-cons, All-head, All-nil, All-tail}
+use Rattle.std.proofs.lemmas.List.Elements.{All-append, All-cons, All-head, All-map, All-nil, All-same, All-tail}
 use Rattle.basket_core.specs.declared.fault.MineFault.{MineFault}
 use Rattle.mine_round.specs.RoundView.{RoundView}
 use Rattle.mine_round.specs.SeatView.{SeatView}
@@ -13,7 +14,7 @@ use Rattle.mine_phases.specs.declared.share.Share.{Share}
 use Rattle.mine_phases.specs.Pieces.{AreOfPieces, HasEach, IsPieceShare}
 use Rattle.mine_phases.specs.Placed.{placed}
 use Rattle.mine_phases.specs.Share.{numbers_of}
-use Rattle.mine_phases.proofs.Placing.{each_value}
+use Rattle.mine_phases.proofs.Placing.{each_value, length-placed}
 
 module _ {X : Type 0} (is_value : ℕ → X → Type 0) (parts : ℕ → List ℕ) (round : RoundView) where
   values_at : (share : Share (Vec (ℕ × X) Global)) (list : Vec (ℕ × X) Global) → Ok list ≡ share.values → IsPieceShare is_value parts round share → AreOfPieces is_value parts share.seat list.items
@@ -48,26 +49,36 @@ module _ {X : Type 0} (is_value : ℕ → X → Type 0) (parts : ℕ → List �
       (0, share.seat, omega arith, refl, (values_at share list head (All-head (IsPieceShare is_value parts round) share shares says)).ended)
 
   module _ (shares : List (Share (Vec (ℕ × X) Global))) (lists : List (Vec (ℕ × X) Global)) (all : map Ok lists ≡ map (λ share. share.values) shares) (says : All (IsPieceShare is_value parts round) shares) where
-    module _ (seats : List SeatView) (are : seats ≡ map (λ share. share.seat) shares) where
+    module _ (seats : List SeatView) (count pieces : ℕ) (are : seats ≡ map (λ share. share.seat) shares) (some : 1 ≤ length shares)
+        (ended : Any (λ seat. 0 < seat.held.past) seats → count ≡ pieces) (claimed : IsPermutation (claimed_by seats) (range_with_len 0 count)) where
       -- where there is a worker, each piece was claimed
-      pub all_claimed : (count pieces : ℕ) → 1 ≤ length shares → (Any (λ seat. 0 < seat.held.past) seats → count ≡ pieces) → IsPermutation (claimed_by seats) (range_with_len 0 count)
-          → IsPermutation (claimed_by seats) (range_with_len 0 pieces)
-      all_claimed count pieces some ended claimed =
+      pub all_claimed : IsPermutation (claimed_by seats) (range_with_len 0 pieces)
+      all_claimed =
           subst (λ n. IsPermutation (claimed_by seats) (range_with_len 0 n))
           (ended (subst (λ l. Any (λ (s : SeatView). 0 < s.held.past) l) (sym are) (some_ended shares lists some all says))) claimed
 
-      pub hold_numbers : (bound : ℕ) → HoldsNumbersBelow bound (flat_map parts (claimed_by seats)) → HoldsNumbersBelow bound (flat_map (λ list. numbers_of list.items) lists)
-      hold_numbers bound holds = subst (HoldsNumbersBelow bound) (ap (λ l. flat_map parts (claimed_by l)) are ∙ sym (together shares lists all says).claimed) holds
+      -- so the values have the numbers below a bound where the parts of all pieces are these
+      pub hold_numbers : (bound : ℕ) → ((numbers : List ℕ) → IsPermutation numbers (range_with_len 0 pieces) → HoldsNumbersBelow bound (flat_map parts numbers))
+          → HoldsNumbersBelow bound (flat_map (λ list. numbers_of list.items) lists)
+      hold_numbers bound once =
+          subst (HoldsNumbersBelow bound) (ap (λ l. flat_map parts (claimed_by l)) are ∙ sym (together shares lists all says).claimed) (once (claimed_by seats) all_claimed)
 
     -- what stands at the place of each part is its value
-    pub have_each : (count : ℕ) (values : List X) → length values ≡ count → map Some values ≡ placed (replicate count None) (flat_map (λ list. list.items) lists) → HasEach is_value count values
-    have_each count values long is = record {
-      count = long;
-      each = λ part value below. each_value (λ value. is_value value.0 value.1) (replicate count None) count (flat_map (λ list. list.items) lists) values refl is (together shares lists all says).each part value
-          (omega (arith, long, below));
-    }
+    pub have_each : (count : ℕ) (values : List X) → map Some values ≡ placed (replicate count None) (flat_map (λ list. list.items) lists) → HasEach is_value count values
+    have_each count values is =
+        let placed_all = flat_map (λ list. list.items) lists in
+        let long = sym (length-map values Some) ∙ ap length is ∙ length-placed (replicate count None) placed_all ∙ length-replicate count None in
+        record {
+          count = long;
+          each = λ part value below. each_value (λ value. is_value value.0 value.1) (replicate count None) count placed_all values refl is (together shares lists all says).each part value (omega (arith, long, below));
+        }
 
 -- ---- shares of seats alone
+
+-- the seats are of the round that the seats of the shares are of
+pub all_own : {V : Type 0} (round : RoundView) (shares : List (Share V)) (seats : List SeatView) → seats ≡ map (λ share. share.seat) shares → All (λ share. share.seat.round ≡ round.id) shares
+    → All (λ seat. seat.round ≡ round.id) seats
+all_own round shares seats are own = All-same (λ (s : SeatView). s.round ≡ round.id) _ _ are (All-map (λ (s : SeatView). s.round ≡ round.id) (λ share. share.seat) shares own)
 
 module _ {V : Type 0} (P : SeatView → Type 0) where
   abbrev pub Ends : Share V → Type 0

@@ -82,7 +82,7 @@ from_end_reversed pieces first (suc count) all =
     ∙ sym (reverse-append (first ∷ []) (range_with_len (first + 1) count))
 
 -- where all numbers are claimed, each piece is mined once
-pub all_from_end : (pieces : ℕ) (claimed : List ℕ) → IsPermutation claimed (range_with_len 0 pieces) → IsPermutation (map (piece_from_end pieces) claimed) (range_with_len 0 pieces)
+all_from_end : (pieces : ℕ) (claimed : List ℕ) → IsPermutation claimed (range_with_len 0 pieces) → IsPermutation (map (piece_from_end pieces) claimed) (range_with_len 0 pieces)
 all_from_end pieces claimed same =
     let range = range_with_len 0 pieces in
     IsPermutation-trans (map (piece_from_end pieces) claimed) (map (piece_from_end pieces) range) range
@@ -96,7 +96,7 @@ module _ (coding : Coding) (pieces : ℕ) (some : 1 ≤ pieces) where
   pub ranks_once : (claimed : List ℕ) → IsPermutation claimed (range_with_len 0 pieces) → HoldsNumbersBelow (length coding.items) (flat_map (ranks_of coding pieces) claimed)
   ranks_once claimed same =
       subst (HoldsNumbersBelow (length coding.items)) (flat_map-map (parts_of (length coding.items) pieces) (piece_from_end pieces) claimed)
-      (parts_once (length coding.items) pieces (map (piece_from_end pieces) claimed) some (all_from_end pieces claimed same))
+      (parts_once (length coding.items) pieces some (map (piece_from_end pieces) claimed) (all_from_end pieces claimed same))
 
   module _ (is : IsCoding coding) (sizes : ClassSizesAddUp) where
     all_claimed_have : (claimed : List ℕ) → IsPermutation claimed (range_with_len 0 pieces) → sum_by (claimed_size coding pieces) claimed ≡ length (frequent_of_coding coding)

@@ -1,19 +1,18 @@
 use Rattle.std.proofs.Common.{◌≡◌, ℕ, ◌≤◌, ◌<◌, ap, sym, ◌∙◌, subst, arith, map, length, List, Ok, Err, Some}
 use Rattle.std.specs.Prelude.{All, Vec}
 use Rattle.std.specs.Global.{Global}
-use Rattle.std.proofs.lemmas.List.Elements.{All-map, All-same}
+use Rattle.std.proofs.lemmas.List.Elements.{All-same}
 use Rattle.std.proofs.lemmas.Result.{err_from_is_err_and}
 use Rattle.basket_ranks.specs.Codes.{Coding, IsCoding, frequent_of_coding}
 use Rattle.basket_core.specs.declared.fault.MineFault.TheVariants.{TooMany}
 use Rattle.basket_sets.specs.declared.counted.Counted.{Counted}
 use Rattle.mine_round.specs.Lawful.{once_below}
 use Rattle.mine_round.specs.SeatView.{SeatView}
-use Rattle.mine_round.specs.Totals.{claimed_by}
 use Rattle.mine_phases.specs.declared.share.Share.{Share}
 use Rattle.mine_phases.specs.Classes.{IsClassShare, IsMined, ToldAll, claimed_size, ranks_of}
-use Rattle.mine_phases.specs.Pieces.{HasEach, IsPieceShare}
+use Rattle.mine_phases.specs.Pieces.{HasEach}
 use Rattle.mine_phases.specs.Share.{fault_of}
-use Rattle.mine_phases.proofs.Shares.{all_claimed, each_seat, have_each, hold_numbers}
+use Rattle.mine_phases.proofs.Shares.{all_claimed, all_own, each_seat, have_each, hold_numbers}
 use Rattle.mine_phases.proofs.Sharing.{no_more_than_limit, ranks_once, too_many_are}
 use Rattle.mine_phases.proofs.classes.mined_classes.Goals as goal
 
@@ -33,13 +32,7 @@ by_workers-requires-clause-accepted g c κs within i seat below is =
     )
 
 pub close-requires : goal.close-requires
-close-requires g c = record {
-  own =
-      let Own : SeatView → Type 0 = λ s. s.round ≡ c.in_ok-round.round.id in
-      All-same Own _ _ c.in_ok-seats.ensures.seats
-      (All-map Own (λ (s : Mined). s.seat) c.in_ok-seats.ensures.shares
-      (λ k d below. (c.in_ok-seats.ensures.each k d below).call.met.1.of_ranks.own));
-}
+close-requires g c = record { own = all_own c.in_ok-round.round c.in_ok-seats.ensures.shares c.in_ok-seats.seats.items c.in_ok-seats.ensures.seats (λ k d below. (c.in_ok-seats.ensures.each k d below).call.met.1.of_ranks.own) }
 
 pub returns-in_err-values-clause-too_many : goal.returns-in_err-values-clause-too_many
 returns-in_err-values-clause-too_many g c most e =
@@ -58,46 +51,39 @@ returns-in_err-values-clause-too_many g c most e =
     (omega (arith, c.in-Ok.ensures.within, c.in_ok-round.ensures.round.0)) (c.in-Ok.ensures.sums 0 first) (c.in-Ok.ensures.greatest 0 first) told)
 
 pub collected-requires : goal.collected-requires
-collected-requires g c =
+collected-requires g c x =
     let coding : Coding = g.M.ClassMiner.coding_of c.args.miner.now in
-    let is_mined = IsMined coding (g.M.ClassMiner.is_work c.args.miner.now) in
     let cutting = c.args.phase.now.cutting in
     let shares = c.in_ok-seats.ensures.shares in
     let lists = c.in_ok-values.field-0.items in
-    let seats = c.in_ok-seats.seats.items in
     let all : map Ok lists ≡ map (λ (s : Mined). s.values) shares = rw c.in_ok-values.was at c.in_ok-seats.ensures.lists in
-    let says : All (IsPieceShare is_mined (ranks_of coding cutting.pieces) c.in_ok-round.round) shares = λ k d below. (c.in_ok-seats.ensures.each k d below).call.met.1.of_ranks in
     let some : 1 ≤ length shares = omega (arith, c.in_ok-seats.ensures.count, c.in_ok-round.ensures.seats, cutting.some_workers.0) in
-    let claimed = all_claimed is_mined (ranks_of coding cutting.pieces) c.in_ok-round.round shares lists all says seats c.in_ok-seats.ensures.seats _ cutting.pieces
-    some (λ any. c.in-Ok.ensures.ended any ∙ c.in_ok-round.ensures.round.0) c.in-Ok.ensures.claimed in
-    let holds = hold_numbers is_mined (ranks_of coding cutting.pieces) c.in_ok-round.round shares lists all says seats c.in_ok-seats.ensures.seats (length coding.items)
-    (ranks_once coding cutting.pieces cutting.some_pieces.0 (claimed_by seats) claimed) in
-    λ x. holds x ∙ ap (λ n. once_below n x) (ap (λ (k : Coding). length k.items) c.requires.coding ∙ sym c.ranks-2.ensures)
+    hold_numbers (IsMined coding (g.M.ClassMiner.is_work c.args.miner.now)) (ranks_of coding cutting.pieces) c.in_ok-round.round shares lists all (λ k d below. (c.in_ok-seats.ensures.each k d below).call.met.1.of_ranks)
+    c.in_ok-seats.seats.items _ cutting.pieces c.in_ok-seats.ensures.seats some (λ any. c.in-Ok.ensures.ended any ∙ c.in_ok-round.ensures.round.0) c.in-Ok.ensures.claimed
+    (length coding.items) (ranks_once coding cutting.pieces cutting.some_pieces.0) x
+    ∙ ap (λ n. once_below n x) (ap (λ (k : Coding). length k.items) c.requires.coding ∙ sym c.ranks-2.ensures)
 
 pub returns-clause-each : goal.returns-clause-each
 returns-clause-each g c =
     let coding : Coding = g.M.ClassMiner.coding_of c.args.miner.now in
     let is_work = g.M.ClassMiner.is_work c.args.miner.now in
-    let lists = c.in_ok-values.field-0.items in
-    let classes = c.in_ok-classes.classes in
+    let classes = c.in_ok-classes.classes.items in
     let long : c.ranks-2.result ≡ length coding.items = c.ranks-2.ensures ∙ ap (λ (k : Coding). length k.items) (sym c.requires.coding) in
-    subst (λ (k : Coding). HasEach (IsMined k is_work) (length k.items) classes.items) c.requires.coding
-    (have_each (IsMined coding is_work) (ranks_of coding c.args.phase.now.cutting.pieces) c.in_ok-round.round c.in_ok-seats.ensures.shares lists (rw c.in_ok-values.was at c.in_ok-seats.ensures.lists)
-    (λ k d below. (c.in_ok-seats.ensures.each k d below).call.met.1.of_ranks) (length coding.items) classes.items (omega (arith, c.in_ok-classes.ensures.count, classes.ok, long))
-    (rw long at c.in_ok-classes.ensures.values))
+    subst (λ (k : Coding). HasEach (IsMined k is_work) (length k.items) classes) c.requires.coding
+    (have_each (IsMined coding is_work) (ranks_of coding c.args.phase.now.cutting.pieces) c.in_ok-round.round c.in_ok-seats.ensures.shares c.in_ok-values.field-0.items (rw c.in_ok-values.was at c.in_ok-seats.ensures.lists)
+    (λ k d below. (c.in_ok-seats.ensures.each k d below).call.met.1.of_ranks) (length coding.items) classes (rw long at c.in_ok-classes.ensures))
 
 pub returns-clause-within : goal.returns-clause-within
 returns-clause-within g c =
     let coding : Coding = g.M.ClassMiner.coding_of c.args.miner.now in
-    let is_mined = IsMined coding (g.M.ClassMiner.is_work c.args.miner.now) in
     let cutting = c.args.phase.now.cutting in
     let shares = c.in_ok-seats.ensures.shares in
     let lists = c.in_ok-values.field-0.items in
     let seats = c.in_ok-seats.seats.items in
     let all : map Ok lists ≡ map (λ (s : Mined). s.values) shares = rw c.in_ok-values.was at c.in_ok-seats.ensures.lists in
     let some : 1 ≤ length shares = omega (arith, c.in_ok-seats.ensures.count, c.in_ok-round.ensures.seats, cutting.some_workers.0) in
-    let claimed = all_claimed is_mined (ranks_of coding cutting.pieces) c.in_ok-round.round shares lists all (λ k d below. (c.in_ok-seats.ensures.each k d below).call.met.1.of_ranks)
-    seats c.in_ok-seats.ensures.seats _ cutting.pieces some (λ any. c.in-Ok.ensures.ended any ∙ c.in_ok-round.ensures.round.0) c.in-Ok.ensures.claimed in
+    let claimed = all_claimed (IsMined coding (g.M.ClassMiner.is_work c.args.miner.now)) (ranks_of coding cutting.pieces) c.in_ok-round.round shares lists all (λ k d below. (c.in_ok-seats.ensures.each k d below).call.met.1.of_ranks)
+    seats _ cutting.pieces c.in_ok-seats.ensures.seats some (λ any. c.in-Ok.ensures.ended any ∙ c.in_ok-round.ensures.round.0) c.in-Ok.ensures.claimed in
     let Told : SeatView → Type 0 = ToldAll (claimed_size coding cutting.pieces) c.args.limit in
     let told = All-same Told _ _ c.in_ok-seats.ensures.seats (each_seat Told shares lists all (λ k d below. (c.in_ok-seats.ensures.each k d below).call.met.1.told)) in
     let first : 0 < length c.in-Ok.field-0.counters.items = omega (arith, c.in-Ok.ensures.counters, c.in-Ok.field-0.counters.ok, c.in_ok-round.ensures.round.1) in
