@@ -2,10 +2,11 @@
 use Rattle.std.proofs.Common.{◌≡◌, ℕ, ◌<◌, ◌≤◌, List, [], ◌∷◌, ◌++◌, map, length, replicate, Ok, Err, Some, None, Result, refl, ap, sym, ◌∙◌, subst, arith}
 use Rattle.std.specs.Prelude.{All, Any, IfOk, IsPermutation, Vec}
 use Rattle.std.specs.Global.{Global}
-use Rattle.std.specs.List.{flat_map, range_with_len}
+use Rattle.std.specs.List.{flat_map, range_with_len, sum_by}
 use Rattle.std.proofs.lemmas.List.{length-map, length-replicate}
 use Rattle.std.proofs.lemmas.List.Concat.{flat_map-append}
 use Rattle.std.proofs.lemmas.List.Elements.{All-append, All-cons, All-head, All-map, All-nil, All-same, All-tail}
+use Rattle.std.proofs.lemmas.List.Sums.{sum_by-cons}
 use Rattle.basket_core.specs.declared.fault.MineFault.{MineFault}
 use Rattle.mine_round.specs.RoundView.{RoundView}
 use Rattle.mine_round.specs.SeatView.{SeatView}
@@ -101,3 +102,11 @@ module _ {V : Type 0} (P : SeatView → Type 0) where
 pub some_seat : (P Q : SeatView → Type 0) → ((seat : SeatView) → P seat → Q seat) → (seats : List SeatView) → 1 ≤ length seats → All P seats → Any Q seats
 some_seat P Q weaker [] some all = absurd (omega arith)
 some_seat P Q weaker (seat ∷ seats) some all = (0, seat, omega arith, refl, weaker seat (All-head P seat seats all))
+
+-- where no seat has more of one number than of another, all seats have no more of it
+pub sums_at_most : (f g : SeatView → ℕ) (seats : List SeatView) → All (λ seat. f seat ≤ g seat) seats → sum_by f seats ≤ sum_by g seats
+sums_at_most f g [] each = omega arith
+sums_at_most f g (seat ∷ seats) each =
+    let first = All-head (λ (s : SeatView). f s ≤ g s) seat seats each in
+    let rest = sums_at_most f g seats (All-tail (λ (s : SeatView). f s ≤ g s) seat seats each) in
+    omega (arith, first, rest, sum_by-cons f seat seats, sum_by-cons g seat seats)

@@ -7,7 +7,7 @@ use Rattle.std.proofs.lemmas.List.{get_or-map, length-map, map-append, reverse-a
 use Rattle.std.proofs.lemmas.List.Elements.{All-head, All-map, All-same, All-tail}
 use Rattle.std.proofs.lemmas.List.Folds.{flat_map-map}
 use Rattle.std.proofs.lemmas.List.Sorted.{IsPermutation-map, IsPermutation-refl, IsPermutation-reverse, IsPermutation-sym, IsPermutation-trans, sum_by-IsPermutation}
-use Rattle.std.proofs.lemmas.List.Sums.{sum_by-append, sum_by-cons}
+use Rattle.std.proofs.lemmas.List.Sums.{sum_by-cons}
 use Rattle.basket_ranks.proofs.theory.Shards.{range_more}
 use Rattle.basket_ranks.specs.Codes.{Coding, IsCoding, baskets_of, frequent_of_coding}
 use Rattle.basket_core.specs.declared.fault.MineFault.{MineFault}
@@ -24,6 +24,7 @@ use Rattle.mine_phases.specs.Pieces.{HasEach, parts_of}
 use Rattle.mine_phases.specs.Share.{fault_after, fault_of}
 use Rattle.mine_phases.proofs.Numbers.{sum_fits, sum_more}
 use Rattle.mine_phases.proofs.Placing.{parts_once, sum_by-flat_map, sum_of_parts}
+use Rattle.mine_phases.proofs.Shares.{sums_at_most}
 
 -- ---- the fault to tell
 
@@ -43,25 +44,13 @@ module _ {X : Type 0} where
     | inl now ↦ elim (told_here most fault share.values now) [ inl before ↦ inl before | inr here ↦ inr (says share (All-head P share shares all) here) ]
   ]
 
--- ---- what the seats told and saw
+-- ---- what the seats saw
 
-module _ (size : ℕ → ℕ) where
-  told_at_most : (seats : List SeatView) → All (λ seat. slice_index seat.held.added 0 ≤ sum_by size seat.held.claimed) seats → added_by seats 0 ≤ sum_by size (claimed_by seats)
-  told_at_most [] each = omega arith
-  told_at_most (seat ∷ seats) each =
-      let first = All-head (λ (s : SeatView). slice_index s.held.added 0 ≤ sum_by size s.held.claimed) seat seats each in
-      let rest = told_at_most seats (All-tail (λ (s : SeatView). slice_index s.held.added 0 ≤ sum_by size s.held.claimed) seat seats each) in
-      let c = sum_by-cons (λ (s : SeatView). slice_index s.held.added 0) seat seats in
-      let s = sum_by-append size seat.held.claimed (claimed_by seats) in omega (arith, first, rest, c, s)
-
-  -- where all workers ended well
-  told_by_all : (limit : ℕ) (seats : List SeatView) → All (ToldAll size limit) seats → (added_by seats 0 ≡ sum_by size (claimed_by seats)) × (seen_by seats 0 ≤ limit)
-  told_by_all limit [] all = (refl, omega arith)
-  told_by_all limit (seat ∷ seats) all =
-      let first = All-head (ToldAll size limit) seat seats all in
-      let rest = told_by_all limit seats (All-tail (ToldAll size limit) seat seats all) in
-      let c = sum_by-cons (λ (s : SeatView). slice_index s.held.added 0) seat seats in
-      let s = sum_by-append size seat.held.claimed (claimed_by seats) in (omega (arith, first.told, rest.0, c, s), omega (arith, first.within, rest.1))
+seen_within : (size : ℕ → ℕ) (limit : ℕ) (seats : List SeatView) → All (ToldAll size limit) seats → seen_by seats 0 ≤ limit
+seen_within size limit [] all = omega arith
+seen_within size limit (seat ∷ seats) all =
+    let first = (All-head (ToldAll size limit) seat seats all).within in
+    let rest = seen_within size limit seats (All-tail (ToldAll size limit) seat seats all) in omega (arith, first, rest)
 
 seen_at_most : {X : Type 0} (shares : List (Share X)) (k : ℕ) (d : Share X) → k < length shares → slice_index (get_or shares k d).seat.held.seen 0 ≤ seen_by (map (λ share. share.seat) shares) 0
 seen_at_most [] k d below = absurd (omega arith)
@@ -125,8 +114,10 @@ module _ (coding : Coding) (pieces : ℕ) (some : 1 ≤ pieces) where
     pub no_more_than_limit : (limit : ℕ) (seats : List SeatView) (total : ℕ) → All (ToldAll (claimed_size coding pieces) limit) seats → IsPermutation (claimed_by seats) (range_with_len 0 pieces)
         → total ≡ added_by seats 0 → total ≡ seen_by seats 0 → length (frequent_of_coding coding) ≤ limit
     no_more_than_limit limit seats total all same sum greatest =
-        let told = told_by_all (claimed_size coding pieces) limit seats all in
-        let have = all_claimed_have (claimed_by seats) same in omega (arith, told.0, told.1, have, sum, greatest)
+        let size = claimed_size coding pieces in
+        let told = sums_at_most (λ s. sum_by size s.held.claimed) (λ s. slice_index s.held.added 0) seats (λ k d below. let one = (all k d below).told in omega (arith, one)) in
+        let seen = seen_within size limit seats all in
+        omega (arith, told, seen, sum_by-flat_map size (λ (s : SeatView). s.held.claimed) seats, all_claimed_have (claimed_by seats) same, sum, greatest)
 
     -- the fault to tell is that there are too many only where there are
     pub too_many_are : (round : RoundView) (is_work : ℕ → ℕ → Type 0) (limit : ℕ) (shares : List (Share (Vec (ℕ × (List Counted × ℕ)) Global))) (seats : List SeatView) (most total count : ℕ)
@@ -134,8 +125,10 @@ module _ (coding : Coding) (pieces : ℕ) (some : 1 ≤ pieces) where
         → IsPermutation (claimed_by seats) (range_with_len 0 count) → count ≤ pieces → total ≡ added_by seats 0 → total ≡ seen_by seats 0
         → fault_of (map (λ share. share.values) shares) ≡ Some (TooMany most) → (most ≡ limit) × (limit < length (frequent_of_coding coding))
     too_many_are round is_work limit shares seats most total count are all same within sum greatest fault =
-        let AtMost : SeatView → Type 0 = λ seat. slice_index seat.held.added 0 ≤ sum_by (claimed_size coding pieces) seat.held.claimed in
-        let told = told_at_most (claimed_size coding pieces) seats (All-same AtMost _ _ are (All-map AtMost (λ share. share.seat) shares (λ k d below. (all k d below).at_most))) in
+        let size = claimed_size coding pieces in
+        let AtMost : SeatView → Type 0 = λ seat. slice_index seat.held.added 0 ≤ sum_by size seat.held.claimed in
+        let told = sums_at_most (λ s. slice_index s.held.added 0) (λ s. sum_by size s.held.claimed) seats (All-same AtMost _ _ are (All-map AtMost (λ share. share.seat) shares (λ k d below. (all k d below).at_most))) in
+        let moved = sum_by-flat_map size (λ (s : SeatView). s.held.claimed) seats in
         let claimed = claimed_have_at_most (claimed_by seats) count same within in
         let seen = greatest ∙ ap (λ l. seen_by l 0) are in
         let Told : Share (Vec (ℕ × (List Counted × ℕ)) Global) → Type 0 = λ share. IsClassShare round coding is_work limit pieces share × (slice_index share.seat.held.seen 0 ≤ total) in
@@ -145,7 +138,7 @@ module _ (coding : Coding) (pieces : ℕ) (some : 1 ≤ pieces) where
         let t = says.0.too_many most here in (
           t.0,
           elim t.1 [
-            | inl over ↦ omega (arith, over, says.1, sum, told, claimed)
+            | inl over ↦ omega (arith, over, says.1, sum, told, moved, claimed)
             | inr large ↦ large_class_is_too_many limit large
           ],
         ))

@@ -1,5 +1,5 @@
 //! Phases that find a value for each part of their work. A piece has some of the parts.
-ghost use Rattle.std.specs.Prelude.{◌≡◌, ◌≤◌, ◌<◌, ◌++◌, [], ℕ, All, IfOk, OnOk};
+ghost use Rattle.std.specs.Prelude.{◌≡◌, ◌<◌, ◌++◌, [], ℕ, All, IfOk, OnOk};
 ghost use Rattle.mine_phases.specs.Pieces.{AreOfPieces, HasEach, IsPieceShare, parts_of};
 ghost use Rattle.mine_phases.specs.Share.{numbers_of};
 

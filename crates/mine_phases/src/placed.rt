@@ -1,5 +1,5 @@
 //! Values by their numbers.
-ghost use Rattle.std.specs.Prelude.{◌≡◌, ℕ, None, Some, Contains, IfOk, map, replicate};
+ghost use Rattle.std.specs.Prelude.{◌≡◌, None, Some, IfOk, map, replicate};
 ghost use Rattle.std.specs.List.{flat_map};
 ghost use Rattle.mine_round.specs.Totals.{HoldsNumbersBelow};
 ghost use Rattle.mine_phases.specs.Placed.{HaveRoom, placed};
