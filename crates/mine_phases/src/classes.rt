@@ -95,7 +95,7 @@ impl<M: ClassMiner, G: Gate> Classes<'_, '_, M, G> {
         self.round.read(seat, 0) > u64::from(self.limit)
     }
 
-    /// Adds the classes of a piece, told by a seat.
+    /// Adds the class of each rank of a claimed piece to the values, told by a seat.
     fn mine<S: Start>(
         &self,
         alloc: Global,
@@ -128,7 +128,7 @@ impl<M: ClassMiner, G: Gate> Classes<'_, '_, M, G> {
         (tally.into_seat(), mined)
     }
 
-    /// Adds the classes of a piece, told to a tally. The tables are used again from piece to piece.
+    /// The same, told to a tally. The tables are used again from piece to piece.
     fn add_classes<T: Tally>(
         &self,
         alloc: Global,

@@ -1,4 +1,4 @@
-use Rattle.std.proofs.Common.{◌≡◌, ap, sym, ◌∙◌, subst, length, None, Some, replicate, arith}
+use Rattle.std.proofs.Common.{◌≡◌, ap, sym, ◌∙◌, subst, length, None, replicate, arith}
 use Rattle.std.specs.List.{flat_map}
 use Rattle.std.specs.Vec.Iter.{into_iter_items}
 use Rattle.std.proofs.lemmas.List.{length-replicate, nil_from_length}
