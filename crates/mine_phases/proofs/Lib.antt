@@ -3,5 +3,5 @@ mod Claims
 mod Parts
 mod Shares
 mod SupportLemmas
-mod Mining
+mod Numbers
 mod Sharing

@@ -5,18 +5,15 @@ use Rattle.std.specs.List.{flat_map, range_with_len, sum_by}
 use Rattle.std.proofs.lemmas.Bool.{cases_eq, cases_lt}
 use Rattle.std.proofs.lemmas.Bool.Decides.{nat_tests}
 use Rattle.std.proofs.lemmas.List.Sums.{sum_by-cons, sum_by-append}
-use Rattle.std.proofs.lemmas.List.Concat.{flat_map-append}
-use Rattle.std.proofs.lemmas.List.Sorted.{IsPermutation-refl, sum_by-IsPermutation}
+use Rattle.std.proofs.lemmas.List.Sorted.{sum_by-IsPermutation}
 use Rattle.std.proofs.lemmas.List.Elements.{recursion_from_All}
 use Rattle.std.proofs.lemmas.List.Quantifiers.{position-Some}
 use Rattle.std.proofs.Math.ListN.{length-set}
 use Rattle.basket_ranks.proofs.theory.Shards.{shards_are_all}
-use Rattle.basket_ranks.specs.Shards.{shard_of}
 use Rattle.basket_sets.proofs.theory.Members.{Member, at_Member}
 use Rattle.mine_round.specs.Collector.{LacksValue}
 use Rattle.mine_round.specs.Lawful.{times, once_below}
-use Rattle.mine_round.specs.SeatView.{SeatView}
-use Rattle.mine_round.specs.Totals.{HoldsNumbersBelow, claimed_by}
+use Rattle.mine_round.specs.Totals.{HoldsNumbersBelow}
 use Rattle.mine_phases.specs.Pieces.{parts_of}
 use Rattle.mine_phases.specs.Placed.{HaveRoom, filled, placed}
 use Rattle.mine_phases.specs.Share.{numbers_of}
@@ -59,11 +56,6 @@ times-range low (suc n) x h = elim (cases_eq low x) [
   | inr apart ↦ times_other x low (range_with_len (low + 1) n) apart ∙ times-range (low + 1) n x (omega arith) ∙ ap (λ k. once_below k x) (let e : (low + 1) + n ≡ low + suc n = omega arith in e)
 ]
 
--- so also in a list of these numbers in another order
-pub times-permutation : (n : ℕ) (pieces : List ℕ) → IsPermutation pieces (range_with_len 0 n) → (x : ℕ) → times x pieces ≡ once_below n x
-times-permutation n pieces same x =
-    sym (sum_by-IsPermutation (λ z. cond (z == x) 1 0) pieces (range_with_len 0 n) same) ∙ times-range 0 n x (omega arith) ∙ ap (λ k. once_below k x) (zero-add n)
-
 -- ---- the parts of all pieces
 
 pub sum_by-map : {X Y : Type 0} (f : Y → ℕ) (g : X → Y) (xs : List X) → sum_by f (map g xs) ≡ sum_by (λ x. f (g x)) xs
@@ -74,22 +66,19 @@ pub sum_by-flat_map : {X Y : Type 0} (f : Y → ℕ) (g : X → List Y) (xs : Li
 sum_by-flat_map f g [] = refl
 sum_by-flat_map f g (x ∷ xs) = sum_by-append f (g x) (flat_map g xs) ∙ ap (λ n. sum_by f (g x) + n) (sum_by-flat_map f g xs) ∙ sym (sum_by-cons (λ y. sum_by f (g y)) x xs)
 
-flat_map-flat_map : {X Y Z : Type 0} (f : Y → List Z) (g : X → List Y) (xs : List X) → flat_map (λ x. flat_map f (g x)) xs ≡ flat_map f (flat_map g xs)
-flat_map-flat_map f g [] = refl
-flat_map-flat_map f g (x ∷ xs) = ap (λ l. flat_map f (g x) ++ l) (flat_map-flat_map f g xs) ∙ sym (flat_map-append f (g x) (flat_map g xs))
+-- where each piece is claimed once, a sum over their parts is the sum over all parts
+pub sum_of_parts : (f : ℕ → ℕ) (parts pieces : ℕ) (claimed : List ℕ) → 1 ≤ pieces → IsPermutation claimed (range_with_len 0 pieces)
+    → sum_by f (flat_map (parts_of parts pieces) claimed) ≡ sum_by f (range_with_len 0 parts)
+sum_of_parts f parts pieces claimed some same =
+    sum_by-flat_map f (parts_of parts pieces) claimed
+    ∙ sym (sum_by-IsPermutation (λ piece. sum_by f (parts_of parts pieces piece)) claimed (range_with_len 0 pieces) same)
+    ∙ sym (sum_by-flat_map f (parts_of parts pieces) (range_with_len 0 pieces))
+    ∙ ap (sum_by f) (shards_are_all pieces (range_with_len 0 parts) some)
 
--- where seats claimed each piece once, their pieces have each part once
-pub parts_once : (parts pieces : ℕ) (seats : List SeatView) → 1 ≤ pieces → IsPermutation (claimed_by seats) (range_with_len 0 pieces)
-    → HoldsNumbersBelow parts (flat_map (λ seat. parts_of parts pieces seat.held.claimed) seats)
-parts_once parts pieces seats some same x =
-    let part : ℕ → List ℕ = λ piece. shard_of piece pieces (range_with_len 0 parts) in
-    let one_of : ℕ → ℕ = λ z. cond (z == x) 1 0 in
-    ap (times x) (flat_map-flat_map part (λ (seat : SeatView). seat.held.claimed) seats)
-    ∙ sum_by-flat_map one_of part (claimed_by seats)
-    ∙ sym (sum_by-IsPermutation (λ piece. sum_by one_of (part piece)) (claimed_by seats) (range_with_len 0 pieces) same)
-    ∙ sym (sum_by-flat_map one_of part (range_with_len 0 pieces))
-    ∙ ap (times x) (shards_are_all pieces (range_with_len 0 parts) some)
-    ∙ times-permutation parts (range_with_len 0 parts) (IsPermutation-refl (range_with_len 0 parts)) x
+-- so their parts are all parts, each once
+pub parts_once : (parts pieces : ℕ) → 1 ≤ pieces → (claimed : List ℕ) → IsPermutation claimed (range_with_len 0 pieces) → HoldsNumbersBelow parts (flat_map (parts_of parts pieces) claimed)
+parts_once parts pieces some claimed same x =
+    sum_of_parts (λ z. cond (z == x) 1 0) parts pieces claimed some same ∙ times-range 0 parts x (omega arith) ∙ ap (λ k. once_below k x) (zero-add parts)
 
 module _ {X : Type 0} where
   -- ---- places

@@ -1,63 +1,85 @@
 -- What the shares of all workers are together, where each has its values.
-use Rattle.std.proofs.Common.{◌≡◌, ℕ, ◌<◌, ◌≤◌, List, [], ◌∷◌, ◌++◌, map, length, Ok, Err, Result, refl, ap, sym, ◌∙◌, subst, arith}
-use Rattle.std.specs.Prelude.{All, Any, IfOk, Vec}
+use Rattle.std.proofs.Common.{◌≡◌, ℕ, ◌<◌, ◌≤◌, List, [], ◌∷◌, ◌++◌, map, length, replicate, Ok, Err, Some, None, Result, refl, ap, sym, ◌∙◌, subst, arith}
+use Rattle.std.specs.Prelude.{All, Any, IfOk, IsPermutation, Vec}
 use Rattle.std.specs.Global.{Global}
-use Rattle.std.specs.List.{flat_map}
-use Rattle.std.proofs.lemmas.List.Elements.{All-append, All-cons, All-head, All-nil, All-tail}
+use Rattle.std.specs.List.{flat_map, range_with_len, sum_by}
+use Rattle.std.proofs.lemmas.List.{length-map, length-replicate}
+use Rattle.std.proofs.lemmas.List.Concat.{flat_map-append}
+use Rattle.std.proofs.lemmas.List.Elements.{All-append, All-cons, All-head, All-map, All-nil, All-same, All-tail}
+use Rattle.std.proofs.lemmas.List.Sums.{sum_by-cons}
 use Rattle.basket_core.specs.declared.fault.MineFault.{MineFault}
+use Rattle.mine_round.specs.RoundView.{RoundView}
 use Rattle.mine_round.specs.SeatView.{SeatView}
+use Rattle.mine_round.specs.Totals.{HoldsNumbersBelow, claimed_by}
 use Rattle.mine_phases.specs.declared.share.Share.{Share}
+use Rattle.mine_phases.specs.Pieces.{AreOfPieces, HasEach, IsPieceShare}
+use Rattle.mine_phases.specs.Placed.{placed}
 use Rattle.mine_phases.specs.Share.{numbers_of}
+use Rattle.mine_phases.proofs.Placing.{each_value, length-placed}
 
-module _ {X : Type 0} where
-  -- what a share says of its values, where it has them
-  abbrev pub Says : (SeatView → List (ℕ × X) → Type 0) → Share (Vec (ℕ × X) Global) → Type 0
-  Says P share = IfOk share.values (λ values. P share.seat values.items)
+module _ {X : Type 0} (is_value : ℕ → X → Type 0) (parts : ℕ → List ℕ) (round : RoundView) where
+  values_at : (share : Share (Vec (ℕ × X) Global)) (list : Vec (ℕ × X) Global) → Ok list ≡ share.values → IsPieceShare is_value parts round share → AreOfPieces is_value parts share.seat list.items
+  values_at share list e says = subst (λ values. IfOk values (λ list. AreOfPieces is_value parts share.seat list.items)) (sym e) says.values
 
-  says_at : (P : SeatView → List (ℕ × X) → Type 0) (seat : SeatView) (list : Vec (ℕ × X) Global) (values : Result (Vec (ℕ × X) Global) MineFault) → Ok list ≡ values
-      → IfOk values (λ v. P seat v.items) → P seat list.items
-  says_at P seat list (Ok other) e h = let same : list ≡ other = cc in subst (λ (v : Vec (ℕ × X) Global). P seat v.items) (sym same) h
-  says_at P seat list (Err fault) e h = absurd cc
+  -- the values of all shares are those of the parts of the pieces that all seats claimed
+  record AreTogether (shares : List (Share (Vec (ℕ × X) Global))) (lists : List (Vec (ℕ × X) Global)) : Type 0 where
+    pub claimed : flat_map (λ list. numbers_of list.items) lists ≡ flat_map parts (claimed_by (map (λ share. share.seat) shares))
+    pub each : All (λ value. is_value value.0 value.1) (flat_map (λ list. list.items) lists)
 
-  -- the pieces of all values are those of all seats, as each share says them
-  pub pieces_are_claimed : (P : SeatView → List (ℕ × X) → Type 0) (pieces : SeatView → List ℕ) → ((seat : SeatView) (values : List (ℕ × X)) → P seat values → numbers_of values ≡ pieces seat)
-      → (shares : List (Share (Vec (ℕ × X) Global))) (lists : List (Vec (ℕ × X) Global)) → map Ok lists ≡ map (λ share. share.values) shares → All (Says P) shares
-      → flat_map (λ list. numbers_of list.items) lists ≡ flat_map pieces (map (λ share. share.seat) shares)
-  pieces_are_claimed P pieces claimed [] [] e says = refl
-  pieces_are_claimed P pieces claimed [] (list ∷ lists) e says = absurd cc
-  pieces_are_claimed P pieces claimed (share ∷ shares) [] e says = absurd cc
-  pieces_are_claimed P pieces claimed (share ∷ shares) (list ∷ lists) e says =
+  together : (shares : List (Share (Vec (ℕ × X) Global))) (lists : List (Vec (ℕ × X) Global)) → map Ok lists ≡ map (λ share. share.values) shares → All (IsPieceShare is_value parts round) shares → AreTogether shares lists
+  together [] [] e says = record { claimed = refl; each = All-nil (λ value. is_value value.0 value.1) }
+  together [] (list ∷ lists) e says = absurd cc
+  together (share ∷ shares) [] e says = absurd cc
+  together (share ∷ shares) (list ∷ lists) e says =
       let head : Ok list ≡ share.values = cc in
       let tail : map Ok lists ≡ map (λ share. share.values) shares = cc in
-      let first = claimed share.seat list.items (says_at P share.seat list share.values head (All-head (Says P) share shares says)) in
-      ap (λ l. l ++ flat_map (λ list. numbers_of list.items) lists) first
-      ∙ ap (λ l. pieces share.seat ++ l) (pieces_are_claimed P pieces claimed shares lists tail (All-tail (Says P) share shares says))
+      let first = values_at share list head (All-head (IsPieceShare is_value parts round) share shares says) in
+      let rest = together shares lists tail (All-tail (IsPieceShare is_value parts round) share shares says) in
+      record {
+        claimed = ap (λ l. l ++ flat_map (λ list. numbers_of list.items) lists) first.claimed ∙ ap (λ l. flat_map parts share.seat.held.claimed ++ l) rest.claimed
+            ∙ sym (flat_map-append parts share.seat.held.claimed (claimed_by (map (λ share. share.seat) shares)));
+        each = All-append (λ value. is_value value.0 value.1) list.items (flat_map (λ list. list.items) lists) first.each rest.each;
+      }
 
-  -- what holds of each value of a share holds of all values
-  pub all_values : (P : SeatView → List (ℕ × X) → Type 0) (Q : ℕ × X → Type 0) → ((seat : SeatView) (values : List (ℕ × X)) → P seat values → All Q values)
-      → (shares : List (Share (Vec (ℕ × X) Global))) (lists : List (Vec (ℕ × X) Global)) → map Ok lists ≡ map (λ share. share.values) shares → All (Says P) shares
-      → All Q (flat_map (λ list. list.items) lists)
-  all_values P Q each [] [] e says = All-nil Q
-  all_values P Q each [] (list ∷ lists) e says = absurd cc
-  all_values P Q each (share ∷ shares) [] e says = absurd cc
-  all_values P Q each (share ∷ shares) (list ∷ lists) e says =
-      let head : Ok list ≡ share.values = cc in
-      let tail : map Ok lists ≡ map (λ share. share.values) shares = cc in
-      All-append Q list.items (flat_map (λ list. list.items) lists)
-      (each share.seat list.items (says_at P share.seat list share.values head (All-head (Says P) share shares says)))
-      (all_values P Q each shares lists tail (All-tail (Says P) share shares says))
-
-  -- where there is a worker and all have their values, one was answered that no piece is left
-  pub some_ended : (P : SeatView → List (ℕ × X) → Type 0) → ((seat : SeatView) (values : List (ℕ × X)) → P seat values → 0 < seat.held.past)
-      → (shares : List (Share (Vec (ℕ × X) Global))) (lists : List (Vec (ℕ × X) Global)) → 1 ≤ length shares → map Ok lists ≡ map (λ share. share.values) shares → All (Says P) shares
+  some_ended : (shares : List (Share (Vec (ℕ × X) Global))) (lists : List (Vec (ℕ × X) Global)) → 1 ≤ length shares → map Ok lists ≡ map (λ share. share.values) shares → All (IsPieceShare is_value parts round) shares
       → Any (λ seat. 0 < seat.held.past) (map (λ share. share.seat) shares)
-  some_ended P ended [] lists some e says = absurd (omega arith)
-  some_ended P ended (share ∷ shares) [] some e says = absurd cc
-  some_ended P ended (share ∷ shares) (list ∷ lists) some e says =
+  some_ended [] lists some e says = absurd (omega arith)
+  some_ended (share ∷ shares) [] some e says = absurd cc
+  some_ended (share ∷ shares) (list ∷ lists) some e says =
       let head : Ok list ≡ share.values = cc in
-      (0, share.seat, omega arith, refl, ended share.seat list.items (says_at P share.seat list share.values head (All-head (Says P) share shares says)))
+      (0, share.seat, omega arith, refl, (values_at share list head (All-head (IsPieceShare is_value parts round) share shares says)).ended)
+
+  module _ (shares : List (Share (Vec (ℕ × X) Global))) (lists : List (Vec (ℕ × X) Global)) (all : map Ok lists ≡ map (λ share. share.values) shares) (says : All (IsPieceShare is_value parts round) shares) where
+    module _ (seats : List SeatView) (count pieces : ℕ) (are : seats ≡ map (λ share. share.seat) shares) (some : 1 ≤ length shares)
+        (ended : Any (λ seat. 0 < seat.held.past) seats → count ≡ pieces) (claimed : IsPermutation (claimed_by seats) (range_with_len 0 count)) where
+      -- where there is a worker, each piece was claimed
+      pub all_claimed : IsPermutation (claimed_by seats) (range_with_len 0 pieces)
+      all_claimed =
+          subst (λ n. IsPermutation (claimed_by seats) (range_with_len 0 n))
+          (ended (subst (λ l. Any (λ (s : SeatView). 0 < s.held.past) l) (sym are) (some_ended shares lists some all says))) claimed
+
+      -- so the values have the numbers below a bound where the parts of all pieces are these
+      pub hold_numbers : (bound : ℕ) → ((numbers : List ℕ) → IsPermutation numbers (range_with_len 0 pieces) → HoldsNumbersBelow bound (flat_map parts numbers))
+          → HoldsNumbersBelow bound (flat_map (λ list. numbers_of list.items) lists)
+      hold_numbers bound once =
+          subst (HoldsNumbersBelow bound) (ap (λ l. flat_map parts (claimed_by l)) are ∙ sym (together shares lists all says).claimed) (once (claimed_by seats) all_claimed)
+
+    -- what stands at the place of each part is its value
+    pub have_each : (count : ℕ) (values : List X) → map Some values ≡ placed (replicate count None) (flat_map (λ list. list.items) lists) → HasEach is_value count values
+    have_each count values is =
+        let placed_all = flat_map (λ list. list.items) lists in
+        let long = sym (length-map values Some) ∙ ap length is ∙ length-placed (replicate count None) placed_all ∙ length-replicate count None in
+        record {
+          count = long;
+          each = λ part value below. each_value (λ value. is_value value.0 value.1) (replicate count None) count placed_all values refl is (together shares lists all says).each part value (omega (arith, long, below));
+        }
 
 -- ---- shares of seats alone
+
+-- the seats are of the round that the seats of the shares are of
+pub all_own : {V : Type 0} (round : RoundView) (shares : List (Share V)) (seats : List SeatView) → seats ≡ map (λ share. share.seat) shares → All (λ share. share.seat.round ≡ round.id) shares
+    → All (λ seat. seat.round ≡ round.id) seats
+all_own round shares seats are own = All-same (λ (s : SeatView). s.round ≡ round.id) _ _ are (All-map (λ (s : SeatView). s.round ≡ round.id) (λ share. share.seat) shares own)
 
 module _ {V : Type 0} (P : SeatView → Type 0) where
   abbrev pub Ends : Share V → Type 0
@@ -80,3 +102,11 @@ module _ {V : Type 0} (P : SeatView → Type 0) where
 pub some_seat : (P Q : SeatView → Type 0) → ((seat : SeatView) → P seat → Q seat) → (seats : List SeatView) → 1 ≤ length seats → All P seats → Any Q seats
 some_seat P Q weaker [] some all = absurd (omega arith)
 some_seat P Q weaker (seat ∷ seats) some all = (0, seat, omega arith, refl, weaker seat (All-head P seat seats all))
+
+-- where no seat has more of one number than of another, all seats have no more of it
+pub sums_at_most : (f g : SeatView → ℕ) (seats : List SeatView) → All (λ seat. f seat ≤ g seat) seats → sum_by f seats ≤ sum_by g seats
+sums_at_most f g [] each = omega arith
+sums_at_most f g (seat ∷ seats) each =
+    let first = All-head (λ (s : SeatView). f s ≤ g s) seat seats each in
+    let rest = sums_at_most f g seats (All-tail (λ (s : SeatView). f s ≤ g s) seat seats each) in
+    omega (arith, first, rest, sum_by-cons f seat seats, sum_by-cons g seat seats)

@@ -3,10 +3,9 @@ use Rattle.std.proofs.Common.{◌≡◌, ℕ, zero, suc, ◌+◌, ◌-◌, ◌^�
 use Rattle.std.specs.Prelude.{All, Any, IsPermutation, slice_index}
 use Rattle.std.specs.List.{range_with_len, sum_by}
 use Rattle.std.proofs.lemmas.List.{get_or-map, length-map, length-replicate}
-use Rattle.std.proofs.lemmas.List.Elements.{All-head, All-tail}
 use Rattle.std.proofs.lemmas.List.Folds.{flat_map-map}
 use Rattle.std.proofs.lemmas.List.Sorted.{sum_by-IsPermutation}
-use Rattle.std.proofs.lemmas.List.Sums.{sum_by-append, sum_by-cons, sum_by-take-le, sum_by_push}
+use Rattle.std.proofs.lemmas.List.Sums.{sum_by-take-le, sum_by_push}
 use Rattle.basket_ranks.proofs.theory.Shards.{shard_more, shards_are_all}
 use Rattle.basket_ranks.specs.Shards.{shard_of, shard_start}
 use Rattle.basket_sets.proofs.theory.Support.{support-append, support_falls, supports_add_up}
@@ -18,8 +17,8 @@ use Rattle.mine_round.specs.Totals.{added_by, claimed_by}
 use Rattle.mine_phases.specs.Supports.{AddsSupports, part_support}
 use Rattle.mine_phases.specs.declared.share.Share.{Share}
 use Rattle.mine_phases.proofs.Claims.{behind, behind-le, behind_push}
-use Rattle.mine_phases.proofs.Placing.{sum_by-map}
-use Rattle.mine_phases.proofs.Shares.{Ends, each_seat, some_seat}
+use Rattle.mine_phases.proofs.Placing.{sum_by-flat_map, sum_by-map}
+use Rattle.mine_phases.proofs.Shares.{Ends, each_seat, some_seat, sums_at_most}
 
 module _ (baskets : List Weighted) (pieces : ℕ) (set : List ℕ) where
   -- the support in the baskets before a part
@@ -118,12 +117,11 @@ module _ (baskets : List Weighted) (pieces : ℕ) (sets : List (List ℕ)) (clai
 
 seats_added : (baskets : List Weighted) (pieces : ℕ) (sets : List (List ℕ)) (k : ℕ) → k < length sets → (seats : List SeatView) → All (AddsSupports baskets pieces sets) seats
     → added_by seats k ≡ sum_by (part_support baskets pieces (get_or sets k [])) (claimed_by seats)
-seats_added baskets pieces sets k within [] all = refl
-seats_added baskets pieces sets k within (seat ∷ seats) all =
-    let first = (All-head (AddsSupports baskets pieces sets) seat seats all).added k within in
-    let rest = seats_added baskets pieces sets k within seats (All-tail (AddsSupports baskets pieces sets) seat seats all) in
-    let c = sum_by-cons (λ (s : SeatView). slice_index s.held.added k) seat seats in
-    let s = sum_by-append (part_support baskets pieces (get_or sets k [])) seat.held.claimed (claimed_by seats) in omega arith
+seats_added baskets pieces sets k within seats all =
+    let size = part_support baskets pieces (get_or sets k []) in
+    let low = sums_at_most (λ s. slice_index s.held.added k) (λ s. sum_by size s.held.claimed) seats (λ i d below. let one = (all i d below).added k within in omega (arith, one)) in
+    let high = sums_at_most (λ s. sum_by size s.held.claimed) (λ s. slice_index s.held.added k) seats (λ i d below. let one = (all i d below).added k within in omega (arith, one)) in
+    omega (arith, low, high, sum_by-flat_map size (λ (s : SeatView). s.held.claimed) seats)
 
 same_at : (xs ys : List ℕ) → length xs ≡ length ys → ((k : ℕ) → k < length xs → slice_index xs k ≡ slice_index ys k) → xs ≡ ys
 same_at [] [] long each = refl

@@ -1,13 +1,13 @@
 //! The phase that mines class by class, with one limit over all workers.
-ghost use Rattle.std.specs.Prelude.{◌≡◌, ◌≤◌, ◌<◌, ◌+◌, ◌⊎◌, ℕ, Err, IfOk, IsTrue, false, length, nat_lt, slice_index};
-ghost use Rattle.std.specs.List.{flat_map};
+ghost use Rattle.std.specs.Prelude.{◌≡◌, ◌≤◌, ◌<◌, ◌+◌, ◌++◌, ◌⊎◌, ℕ, All, Err, IfOk, IsTrue, OnOk, false, length, nat_lt, slice_index};
 ghost use Rattle.basket_core.specs.declared.fault.MineFault.TheVariants.{TooMany};
-ghost use Rattle.basket_ranks.specs.Codes.{baskets_of, frequent_of_coding};
+ghost use Rattle.basket_ranks.specs.Codes.{frequent_of_coding};
 ghost use Rattle.basket_core.specs.Listing.{listing_of};
-ghost use Rattle.basket_sets.specs.Frequent.{ListsOnce};
 ghost use Rattle.mine_round.specs.Record.{unused};
-ghost use Rattle.mine_phases.specs.Classes.{AreMined, HasLargeClass, IsClassShare, IsWorkOfAll, piece_size, ranks_of};
+ghost use Rattle.mine_phases.specs.Classes.{HasLargeClass, IsClassShare, IsMined, IsWorkOfAll, claimed_size, ranks_of};
+ghost use Rattle.mine_phases.specs.Pieces.{HasEach};
 ghost use Rattle.mine_phases.specs.RoundTally.{CountsSets, still};
+ghost use Rattle.mine_phases.specs.Share.{numbers_of};
 
 use crate::class_miner::ClassMiner;
 use crate::cutting::Cutting;
@@ -17,7 +17,7 @@ use crate::phase::Phase;
 use crate::placed::collected;
 use crate::round_tally::{RoundTally, Start};
 use crate::share::{Share, by_workers, claim_piece};
-use basket_core::{Coded, CountedSets, Frequent, MineFault, Tally, shard};
+use basket_core::{Coded, Frequent, MineFault, Tally, shard};
 use mine_classes::Tables;
 use mine_classes::laws::{class_items_are_all, class_sizes_add_up, lists_have_class_size};
 use mine_round::{Round, RoundSeat};
@@ -31,7 +31,9 @@ const PHASE: u32 = 2;
 impl<'a, G: Gate> Phase<'a, G> {
     /// The phase that mines class by class.
     pub fn of_classes(cutting: Cutting, gate: &'a G) -> Self
-        ensures { result.cutting ≡ cutting }
+        ensures number { result.number ≡ PHASE }
+        ensures cutting { result.cutting ≡ cutting }
+        ensures gate { result.gate.now ≡ gate.now }
     {
         Phase::new(PHASE, cutting, gate)
     }
@@ -51,7 +53,7 @@ struct Classes<'a, 'g, M, G> {
 impl<M: ClassMiner, G: Gate> Classes<'_, '_, M, G> {
     /// What a worker does: it mines the classes of each piece that it claims, until none is left, or
     /// it sees more sets than the limit, or it finds no memory.
-    fn share(&self, alloc: Global, worker: u32, seat: RoundSeat) -> Share<Vec<(u32, Vec<Class>)>>
+    fn share(&self, alloc: Global, worker: u32, seat: RoundSeat) -> Share<Vec<(u32, Class)>>
         requires own { seat.round ≡ self.now.round.now.id }
         requires unused { seat.held ≡ unused 1 1 }
         requires pieces { (1 ≤ self.now.pieces) × (self.now.round.now.pieces ≡ self.now.pieces) }
@@ -62,40 +64,24 @@ impl<M: ClassMiner, G: Gate> Classes<'_, '_, M, G> {
         let mut seat = seat;
         let mut values = Vec::new(alloc);
         let Ok(mut tables) = Tables::new(alloc, self.ranks) else {
-            return Share {
-                seat,
-                values: Err(MineFault::Memory),
-            };
+            let values = Err(MineFault::Memory);
+            return Share { seat, values };
         };
         while !self.is_over(&mut seat) {
             let Some(claimed) = claim_piece(self.round, &mut seat, self.gate, PHASE, worker) else {
-                return Share {
-                    seat,
-                    values: Ok(values),
-                };
+                let values = Ok(values);
+                return Share { seat, values };
             };
-            // The classes of the greatest ranks are the largest, so they are mined first.
-            let piece = self.pieces - 1 - claimed;
-            let (back, mined) = self.piece::<Brand>(alloc, &mut tables, piece, seat);
+            let (back, mined) = self.mine::<Brand>(alloc, &mut tables, claimed, &mut values, seat);
             seat = back;
-            let classes = match mined {
-                Ok(classes) => classes,
-                Err(fault) => return Share {
-                    seat,
-                    values: Err(fault),
-                },
-            };
-            let Ok(()) = values.push((piece, classes)) else {
-                return Share {
-                    seat,
-                    values: Err(MineFault::Memory),
-                };
-            };
+            if let Err(fault) = mined {
+                let values = Err(fault);
+                return Share { seat, values };
+            }
         }
-        Share {
-            seat,
-            values: Err(MineFault::TooMany { limit: self.limit }),
-        }
+        let limit = self.limit;
+        let values = Err(MineFault::TooMany { limit });
+        Share { seat, values }
     }
 
     /// Whether the workers have found more sets than the limit.
@@ -109,73 +95,80 @@ impl<M: ClassMiner, G: Gate> Classes<'_, '_, M, G> {
         self.round.read(seat, 0) > u64::from(self.limit)
     }
 
-    /// The classes of a piece, told by a seat.
-    fn piece<S: Start>(
+    /// Adds the class of each rank of a claimed piece to the values, told by a seat.
+    fn mine<S: Start>(
         &self,
         alloc: Global,
         tables: &mut Tables,
-        piece: u32,
+        claimed: u32,
+        values: &mut Vec<(u32, Class)>,
         seat: RoundSeat,
-    ) -> (RoundSeat, Result<Vec<Class>, MineFault>)
+    ) -> (RoundSeat, Result<(), MineFault>)
         requires start { seat ≡ S.start }
         requires counts { CountsSets self.now.round.now seat }
         requires few { slice_index seat.held.seen 0 ≤ self.now.limit }
         requires sums { tables.old.sums ≡ self.now.ranks }
         requires places { tables.old.places ≡ self.now.ranks }
-        requires piece { piece < self.now.pieces }
+        requires claimed { claimed < self.now.pieces }
         requires ranks { self.now.ranks ≡ length (M.coding_of self.now.miner.now).items }
+        requires each { All (λ value. IsMined (M.coding_of self.now.miner.now) (M.is_work self.now.miner.now) value.0 value.1) values.old.items }
         ensures counts { CountsSets self.now.round.now result.0 }
         ensures same { still result.0 ≡ still seat }
-        ensures sums { IfOk result.1 (λ _. tables.new.sums ≡ tables.old.sums) }
-        ensures places { IfOk result.1 (λ _. tables.new.places ≡ tables.old.places) }
-        ensures mined { IfOk result.1 (λ classes. AreMined (M.coding_of self.now.miner.now) (M.is_work self.now.miner.now) (ranks_of (M.coding_of self.now.miner.now) self.now.pieces piece) classes.items) }
-        ensures told { IfOk result.1 (λ _. slice_index result.0.held.added 0 ≡ slice_index seat.held.added 0 + piece_size (M.coding_of self.now.miner.now) self.now.pieces piece) }
-        ensures at_most { slice_index result.0.held.added 0 ≤ slice_index seat.held.added 0 + piece_size (M.coding_of self.now.miner.now) self.now.pieces piece }
+        ensures sums { OnOk result.1 (tables.new.sums ≡ tables.old.sums) }
+        ensures places { OnOk result.1 (tables.new.places ≡ tables.old.places) }
+        ensures numbers { OnOk result.1 (numbers_of values.new.items ≡ numbers_of values.old.items ++ ranks_of (M.coding_of self.now.miner.now) self.now.pieces claimed) }
+        ensures each { OnOk result.1 (All (λ value. IsMined (M.coding_of self.now.miner.now) (M.is_work self.now.miner.now) value.0 value.1) values.new.items) }
+        ensures told { OnOk result.1 (slice_index result.0.held.added 0 ≡ slice_index seat.held.added 0 + claimed_size (M.coding_of self.now.miner.now) self.now.pieces claimed) }
+        ensures at_most { slice_index result.0.held.added 0 ≤ slice_index seat.held.added 0 + claimed_size (M.coding_of self.now.miner.now) self.now.pieces claimed }
         ensures too_many { (most : ℕ) → result.1 ≡ Err (TooMany most)
             → (most ≡ self.now.limit) × ((self.now.limit < slice_index result.0.held.seen 0) ⊎ HasLargeClass (M.coding_of self.now.miner.now) self.now.limit) }
     {
         let mut tally = RoundTally::<S>::new(self.round, seat, self.limit);
-        let classes = self.classes(alloc, tables, piece, &mut tally);
-        (tally.into_seat(), classes)
+        let mined = self.add_classes(alloc, tables, claimed, values, &mut tally);
+        (tally.into_seat(), mined)
     }
 
-    /// The classes of a piece, told to a tally. The tables are used again from piece to piece.
-    fn classes<T: Tally>(
+    /// The same, told to a tally. The tables are used again from piece to piece.
+    fn add_classes<T: Tally>(
         &self,
         alloc: Global,
         tables: &mut Tables,
-        piece: u32,
+        claimed: u32,
+        values: &mut Vec<(u32, Class)>,
         tally: &mut T,
-    ) -> Result<Vec<Class>, MineFault>
+    ) -> Result<(), MineFault>
         requires going { T.is_over tally.old ≡ false }
         requires sums { tables.old.sums ≡ self.now.ranks }
         requires places { tables.old.places ≡ self.now.ranks }
-        requires piece { piece < self.now.pieces }
+        requires claimed { claimed < self.now.pieces }
         requires ranks { self.now.ranks ≡ length (M.coding_of self.now.miner.now).items }
-        ensures mined { IfOk result (λ classes. AreMined (M.coding_of self.now.miner.now) (M.is_work self.now.miner.now) (ranks_of (M.coding_of self.now.miner.now) self.now.pieces piece) classes.items) }
-        ensures told { IfOk result (λ _. T.told_of tally.new ≡ T.told_of tally.old + piece_size (M.coding_of self.now.miner.now) self.now.pieces piece) }
-        ensures going_on { IfOk result (λ _. T.is_over tally.new ≡ false) }
+        requires each { All (λ value. IsMined (M.coding_of self.now.miner.now) (M.is_work self.now.miner.now) value.0 value.1) values.old.items }
+        ensures numbers { OnOk result (numbers_of values.new.items ≡ numbers_of values.old.items ++ ranks_of (M.coding_of self.now.miner.now) self.now.pieces claimed) }
+        ensures each { OnOk result (All (λ value. IsMined (M.coding_of self.now.miner.now) (M.is_work self.now.miner.now) value.0 value.1) values.new.items) }
+        ensures told { OnOk result (T.told_of tally.new ≡ T.told_of tally.old + claimed_size (M.coding_of self.now.miner.now) self.now.pieces claimed) }
+        ensures going_on { OnOk result (T.is_over tally.new ≡ false) }
         ensures too_many { (most : ℕ) → result ≡ Err (TooMany most)
             → (most ≡ T.limit_of tally.old) × (IsTrue (T.is_over tally.new) ⊎ HasLargeClass (M.coding_of self.now.miner.now) most) }
-        ensures at_most { T.told_of tally.new ≤ T.told_of tally.old + piece_size (M.coding_of self.now.miner.now) self.now.pieces piece }
+        ensures at_most { T.told_of tally.new ≤ T.told_of tally.old + claimed_size (M.coding_of self.now.miner.now) self.now.pieces claimed }
         ensures limit { T.limit_of tally.new ≡ T.limit_of tally.old }
-        ensures sums { IfOk result (λ _. tables.new.sums ≡ tables.old.sums) }
-        ensures places { IfOk result (λ _. tables.new.places ≡ tables.old.places) }
+        ensures sums { OnOk result (tables.new.sums ≡ tables.old.sums) }
+        ensures places { OnOk result (tables.new.places ≡ tables.old.places) }
     {
         lists_have_class_size();
+        // The classes of the greatest ranks are the largest, so they are mined first.
+        let piece = self.pieces - 1 - claimed;
         let (start, end) = shard(piece, self.pieces, self.ranks as usize);
-        let mut classes = Vec::with_capacity(alloc, end - start)?;
         for rank in start..end {
             let class = self.miner.class(alloc, tables, rank as u32, tally)?;
-            classes.push_reserved(class);
+            values.push((rank as u32, class))?;
         }
-        Ok(classes)
+        Ok(())
     }
 }
 
-/// The sets of each class, mined by so many workers over so many pieces of the ranks, where they are no
-/// more than the limit, and how much work that took. The workers share one count of the sets that they
-/// find, and each stops where it sees more than the limit.
+/// The class of each rank, mined by so many workers over so many pieces of the ranks, where they have no
+/// more sets than the limit. The workers share one count of the sets that they find, and each stops where
+/// it sees more than the limit.
 fn mined_classes<'a, 'g, R: Threads + Sync, G: Gate + Sync, M: ClassMiner + Sync>(
     rt: &R,
     alloc: Global,
@@ -183,14 +176,12 @@ fn mined_classes<'a, 'g, R: Threads + Sync, G: Gate + Sync, M: ClassMiner + Sync
     miner: &'a M,
     limit: u32,
     phase: &Phase<'g, G>,
-) -> Result<(Vec<CountedSets>, u64), MineFault>
+) -> Result<Vec<Class>, MineFault>
     requires coding { M.coding_of miner.now ≡ coded.now }
-    ensures once { IfOk result (λ mined. ListsOnce (baskets_of coded.now) coded.now.minimum (flat_map (λ class. class) mined.0.items)) }
+    ensures each { IfOk result (λ mined. HasEach (IsMined coded.now (M.is_work miner.now)) (length coded.now.items) mined.items) }
     ensures within { IfOk result (λ _. length (frequent_of_coding coded.now) ≤ limit) }
-    ensures work { IfOk result (λ mined. IsWorkOfAll (M.is_work miner.now) (length coded.now.items) mined.1) }
     ensures too_many { (most : ℕ) → result ≡ Err (TooMany most) → (most ≡ limit) × (limit < length (frequent_of_coding coded.now)) }
 {
-    class_items_are_all();
     class_sizes_add_up();
     let _baskets = coded.baskets();
     let cutting = phase.cutting;
@@ -208,7 +199,7 @@ fn mined_classes<'a, 'g, R: Threads + Sync, G: Gate + Sync, M: ClassMiner + Sync
         rt,
         alloc,
         seats,
-        &|job: (u32, RoundSeat)| -> Share<Vec<(u32, Vec<Class>)>>
+        &|job: (u32, RoundSeat)| -> Share<Vec<(u32, Class)>>
             requires { (job.1.round ≡ lent.now.round.now.id) × (job.1.held ≡ unused 1 1) × (1 ≤ lent.now.pieces) × (lent.now.round.now.pieces ≡ lent.now.pieces) × (lent.now.round.now.counters ≡ 1) × (lent.now.ranks ≡ length (M.coding_of lent.now.miner.now).items) }
             ensures { IsClassShare lent.entry.now.round.now (M.coding_of lent.entry.now.miner.now) (M.is_work lent.entry.now.miner.now) lent.entry.now.limit lent.entry.now.pieces result }
         { lent.share(alloc, job.0, job.1) },
@@ -216,13 +207,8 @@ fn mined_classes<'a, 'g, R: Threads + Sync, G: Gate + Sync, M: ClassMiner + Sync
     let Ok(_) = round.close(seats) else {
         unreachable!()
     };
-    let values = values?;
-    let (classes, work) = joined(
-        alloc,
-        collected(alloc, cutting.pieces, values)?,
-        coded.ranks(),
-    )?;
-    Ok((classes, work))
+    let classes = collected(alloc, coded.ranks(), values?)?;
+    Ok(classes)
 }
 
 /// The list of the frequent sets, mined class by class by so many workers over so many pieces of the
@@ -242,8 +228,12 @@ pub fn mine_shared<R: Threads + Sync, G: Gate + Sync, M: ClassMiner + Sync + Dro
     ensures work { IfOk result (λ mined. IsWorkOfAll (M.is_work miner) (length coded.now.items) mined.1) }
     ensures too_many { (most : ℕ) → result ≡ Err (TooMany most) → (most ≡ limit) × (limit < length (frequent_of_coding coded.now)) }
 {
-    let (classes, work) = mined_classes(rt, alloc, coded, &miner, limit, phase)?;
+    class_items_are_all();
+    class_sizes_add_up();
+    let _baskets = coded.baskets();
+    let classes = mined_classes(rt, alloc, coded, &miner, limit, phase)?;
     drop(miner);
+    let (classes, work) = joined(alloc, classes)?;
     let list = Frequent::of_classes_shared(rt, alloc, coded, classes, phase.cutting.workers)?;
     Ok((list, work))
 }

@@ -15,7 +15,9 @@ pub struct Phase<'a, G> {
 impl<'a, G: Gate> Phase<'a, G> {
     /// The phase of a number.
     pub fn new(number: u32, cutting: Cutting, gate: &'a G) -> Self
-        ensures { result.cutting ≡ cutting }
+        ensures number { result.number ≡ number }
+        ensures cutting { result.cutting ≡ cutting }
+        ensures gate { result.gate.now ≡ gate.now }
     {
         Phase {
             number,

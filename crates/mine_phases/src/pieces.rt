@@ -1,8 +1,6 @@
 //! Phases that find a value for each part of their work. A piece has some of the parts.
-ghost use Rattle.std.specs.Prelude.{◌≡◌, ◌≤◌, ◌<◌, ◌++◌, [], ℕ, All, IfOk, OnOk};
-ghost use Rattle.std.specs.List.{range_with_len};
-ghost use Rattle.basket_ranks.specs.Shards.{shard_of};
-ghost use Rattle.mine_phases.specs.Pieces.{AreOfPieces, HasEach, IsPieceShare};
+ghost use Rattle.std.specs.Prelude.{◌≡◌, ◌<◌, ◌++◌, [], ℕ, All, IfOk, OnOk};
+ghost use Rattle.mine_phases.specs.Pieces.{AreOfPieces, HasEach, IsPieceShare, parts_of};
 ghost use Rattle.mine_phases.specs.Share.{numbers_of};
 
 use crate::gate::Gate;
@@ -61,7 +59,7 @@ impl<P, G: Gate> Pieces<'_, '_, '_, P, G> {
         requires own { seat.round ≡ self.now.round.now.id }
         requires unused { seat.held.claimed ≡ [] }
         requires pieces { self.now.round.now.pieces ≡ self.now.phase.now.cutting.pieces }
-        ensures { IsPieceShare (P.is_value self.now.work.now) (P.part_count self.now.work.now) self.now.phase.now.cutting.pieces self.now.round.now result }
+        ensures { IsPieceShare (P.is_value self.now.work.now) (parts_of (P.part_count self.now.work.now) self.now.phase.now.cutting.pieces) self.now.round.now result }
     {
         let values = match self.values(alloc, worker, &mut seat) {
             Ok(values) => Ok(values),
@@ -82,7 +80,7 @@ impl<P, G: Gate> Pieces<'_, '_, '_, P, G> {
         requires unused { seat.old.held.claimed ≡ [] }
         requires pieces { self.now.round.now.pieces ≡ self.now.phase.now.cutting.pieces }
         ensures own { seat.new.round ≡ seat.old.round }
-        ensures values { IfOk result (λ values. AreOfPieces (P.is_value self.now.work.now) (P.part_count self.now.work.now) self.now.phase.now.cutting.pieces seat.new values.items) }
+        ensures values { IfOk result (λ values. AreOfPieces (P.is_value self.now.work.now) (parts_of (P.part_count self.now.work.now) self.now.phase.now.cutting.pieces) seat.new values.items) }
     {
         let phase = self.phase;
         let mut tools = self.work.tools(alloc)?;
@@ -107,7 +105,7 @@ impl<P, G: Gate> Pieces<'_, '_, '_, P, G> {
         requires tools { P.are_tools self.now.work.now tools.old }
         requires each { All (λ value. P.is_value self.now.work.now value.0 value.1) values.old.items }
         ensures tools { OnOk result (P.are_tools self.now.work.now tools.new) }
-        ensures parts { OnOk result (numbers_of values.new.items ≡ numbers_of values.old.items ++ shard_of piece self.now.phase.now.cutting.pieces (range_with_len 0 (P.part_count self.now.work.now))) }
+        ensures parts { OnOk result (numbers_of values.new.items ≡ numbers_of values.old.items ++ parts_of (P.part_count self.now.work.now) self.now.phase.now.cutting.pieces piece) }
         ensures each { OnOk result (All (λ value. P.is_value self.now.work.now value.0 value.1) values.new.items) }
     {
         let parts = self.work.parts() as usize;
@@ -143,7 +141,7 @@ pub fn by_pieces<'a, 'p, R: Threads + Sync, G: Gate + Sync, V: Send + Drop, P: P
         seats,
         &|job: (u32, RoundSeat)| -> Share<Vec<(u32, V)>>
             requires { (job.1.round ≡ lent.now.round.now.id) × (job.1.held.claimed ≡ []) × (lent.now.round.now.pieces ≡ lent.now.phase.now.cutting.pieces) }
-            ensures { IsPieceShare (P.is_value lent.entry.now.work.now) (P.part_count lent.entry.now.work.now) lent.entry.now.phase.now.cutting.pieces lent.entry.now.round.now result }
+            ensures { IsPieceShare (P.is_value lent.entry.now.work.now) (parts_of (P.part_count lent.entry.now.work.now) lent.entry.now.phase.now.cutting.pieces) lent.entry.now.round.now result }
         { lent.share(alloc, job.0, job.1) },
     )?;
     let Ok(_) = round.close(seats) else {

@@ -1,5 +1,5 @@
 //! Values by their numbers.
-ghost use Rattle.std.specs.Prelude.{◌≡◌, ℕ, None, Some, Contains, IfOk, map, replicate, slice_get, vec_len};
+ghost use Rattle.std.specs.Prelude.{◌≡◌, None, Some, IfOk, map, replicate};
 ghost use Rattle.std.specs.List.{flat_map};
 ghost use Rattle.mine_round.specs.Totals.{HoldsNumbersBelow};
 ghost use Rattle.mine_phases.specs.Placed.{HaveRoom, placed};
@@ -15,8 +15,7 @@ pub fn collected<X: Drop>(
     lists: Vec<Vec<(u32, X)>>,
 ) -> Result<Vec<X>, AllocError>
     requires { HoldsNumbersBelow count (flat_map (λ list. numbers_of list.items) lists.items) }
-    ensures count { IfOk result (λ values. vec_len values ≡ count) }
-    ensures values { IfOk result (λ values. map Some values.items ≡ placed (replicate count None) (flat_map (λ list. list.items) lists.items)) }
+    ensures { IfOk result (λ values. map Some values.items ≡ placed (replicate count None) (flat_map (λ list. list.items) lists.items)) }
 {
     let mut collector = Collector::new(alloc, count)?;
     for list in lists {

@@ -1,12 +1,13 @@
-use Rattle.std.proofs.Common.{◌≡◌, ◌+◌, ◌++◌, map}
-use Rattle.std.specs.List.{flat_map, sum}
+use Rattle.std.proofs.Common.{◌≡◌, ◌≤◌, ◌+◌, ◌++◌, length, map, vec_capacity}
+use Rattle.std.specs.List.{sum}
 use Rattle.std.specs.Vec.Iter.{into_iter_items}
 use Rattle.mine_phases.proofs.joined.joined.Given as goal
 
-abbrev pub invariant-loop-piece : goal.invariant-loop-piece
-invariant-loop-piece l = record {
-  can : (goal.iterator-loop-piece).can_next l.piece-iterator;
-  ends : (goal.iterator-loop-piece).is_finite l.piece-iterator;
-  classes : l.classes.items ++ map (λ class. class.0) (flat_map (λ piece. piece.items) (into_iter_items l.piece-iterator)) ≡ map (λ class. class.0) (flat_map (λ piece. piece.items) l.fn.pieces.items);
-  work : l.work + sum (map (λ class. class.1) (flat_map (λ piece. piece.items) (into_iter_items l.piece-iterator))) ≡ sum (map (λ class. class.1) (flat_map (λ piece. piece.items) l.fn.pieces.items));
+abbrev pub invariant-loop-class : goal.invariant-loop-class
+invariant-loop-class l = record {
+  can : (goal.iterator-loop-class).can_next l.class-iterator;
+  ends : (goal.iterator-loop-class).is_finite l.class-iterator;
+  classes : l.classes.items ++ map (λ class. class.0) (into_iter_items l.class-iterator) ≡ map (λ class. class.0) l.fn.mined.items;
+  room : length l.classes.items + length (into_iter_items l.class-iterator) ≤ vec_capacity l.classes;
+  work : l.work + sum (map (λ class. class.1) (into_iter_items l.class-iterator)) ≡ sum (map (λ class. class.1) l.fn.mined.items);
 }

@@ -1,11 +1,11 @@
-use Rattle.std.proofs.Common.{◌≡◌, ap, sym, ◌∙◌, subst, length, None, Some, replicate, arith}
+use Rattle.std.proofs.Common.{◌≡◌, ap, sym, ◌∙◌, subst, length, None, replicate, arith}
 use Rattle.std.specs.List.{flat_map}
 use Rattle.std.specs.Vec.Iter.{into_iter_items}
-use Rattle.std.proofs.lemmas.List.{length-map, length-replicate, nil_from_length}
+use Rattle.std.proofs.lemmas.List.{length-replicate, nil_from_length}
 use Rattle.mine_round.specs.Totals.{HoldsNumbersBelow}
 use Rattle.mine_phases.specs.Placed.{placed}
 use Rattle.mine_phases.specs.Share.{numbers_of}
-use Rattle.mine_phases.proofs.Placing.{AreAll, all_at_first, room_for_front, all_behind, placed-append, length-placed, none_vacant}
+use Rattle.mine_phases.proofs.Placing.{AreAll, all_at_first, room_for_front, all_behind, placed-append, none_vacant}
 use Rattle.mine_phases.proofs.placed.collected.Goals as goal
 
 pub loop-list-init : goal.loop-list-init
@@ -49,12 +49,3 @@ pub unreachable-requires : goal.unreachable-requires
 unreachable-requires g c =
     let none = nil_from_length (into_iter_items c.loop-list.list-iterator) (omega (arith, c.in-None.ensures.steps.0, c.loop-list.list-iterator.rest.ok)) in
     none_vacant c.loop-list.collector c.in_default.field-0.piece (subst (λ l. AreAll c.loop-list.collector (flat_map (λ list. numbers_of list.items) l)) none c.loop-list.invariant.all) c.in_default.ensures.missing
-
-pub returns-clause-count : goal.returns-clause-count
-returns-clause-count g c =
-    let left = flat_map (λ list. list.items) (into_iter_items c.loop-list.list-iterator) in
-    let all = flat_map (λ list. list.items) c.args.lists.items in
-    let same : length c.in-Ok.values.items ≡ c.args.count =
-    sym (length-map c.in-Ok.values.items Some) ∙ ap length c.in-Ok.ensures.values ∙ sym (length-placed c.loop-list.collector left) ∙ ap length c.loop-list.invariant.rest
-    ∙ length-placed (replicate c.args.count None) all ∙ length-replicate c.args.count None in
-    omega (arith, same, c.in-Ok.values.ok)

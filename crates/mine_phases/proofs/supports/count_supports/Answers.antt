@@ -1,9 +1,9 @@
 use Rattle.std.proofs.Common.{◌≡◌, ◌≤◌, ap, sym, ◌∙◌, subst, arith, map, length, Ok}
 use Rattle.std.specs.Prelude.{IfOk}
-use Rattle.std.proofs.lemmas.List.Elements.{All-map, All-same}
 use Rattle.basket_sets.specs.Support.{support_of}
 use Rattle.mine_round.specs.Record.{unused}
 use Rattle.mine_round.specs.SeatView.{SeatView}
+use Rattle.mine_phases.proofs.Shares.{all_own}
 use Rattle.mine_phases.proofs.SupportLemmas.{shares_are_supports}
 use Rattle.mine_phases.proofs.supports.count_supports.Goals as goal
 use Rattle.mine_phases.proofs.supports.count_supports.Goals.{in-Ok-ended, in-Err}
@@ -21,12 +21,7 @@ by_workers-requires-clause-accepted g c κs within i seat below is =
     )
 
 pub close-requires : goal.close-requires
-close-requires g c = record {
-  own =
-      let Own : SeatView → Type 0 = λ s. s.round ≡ c.in_ok-round.round.id in
-      All-same Own _ _ c.in_ok-seats.ensures.seats
-      (All-map Own (λ share. share.seat) c.in_ok-seats.ensures.shares (λ k d below. (c.in_ok-seats.ensures.each k d below).call.met.1.own));
-}
+close-requires g c = record { own = all_own c.in_ok-round.round c.in_ok-seats.ensures.shares c.in_ok-seats.seats.items c.in_ok-seats.ensures.seats (λ k d below. (c.in_ok-seats.ensures.each k d below).call.met.1.own) }
 
 pub returns : goal.returns
 returns g c =

@@ -1,80 +1,70 @@
-use Rattle.std.proofs.Common.{◌≡◌, ◌<◌, ◌+◌, ◌++◌, ◌∷◌, [], Err, ℕ, List, Vec, map, ap, sym, ◌∙◌, subst, arith, slice_index}
+use Rattle.std.proofs.Common.{◌≡◌, ◌<◌, ◌++◌, ◌∷◌, [], Err, ℕ, List, ap, sym, ◌∙◌, subst, arith, slice_index}
 use Rattle.std.specs.Prelude.{All}
-use Rattle.std.specs.Global.{Global}
-use Rattle.std.specs.List.{sum_by}
-use Rattle.std.proofs.lemmas.List.{map-append}
-use Rattle.std.proofs.lemmas.List.Elements.{All-push, All-same}
+use Rattle.std.specs.List.{flat_map, sum_by}
+use Rattle.std.proofs.lemmas.List.{append-nil}
+use Rattle.std.proofs.lemmas.List.Concat.{flat_map-append}
 use Rattle.std.proofs.lemmas.List.Sums.{sum_by_push}
 use Rattle.basket_ranks.specs.Codes.{Coding}
 use Rattle.basket_core.specs.declared.fault.MineFault.TheVariants.{TooMany}
-use Rattle.basket_sets.specs.declared.counted.Counted.{Counted}
+use Rattle.mine_round.specs.Record.{with_piece}
 use Rattle.mine_round.specs.SeatView.{SeatView}
-use Rattle.mine_phases.specs.Classes.{AreMined, claimed_size, piece_from_end, piece_size, ranks_of}
-use Rattle.mine_phases.specs.Share.{numbers_of}
+use Rattle.mine_phases.specs.Classes.{claimed_size, ranks_of}
+use Rattle.mine_phases.specs.RoundTally.{still}
 use Rattle.mine_phases.proofs.Claims.{behind, behind-le, behind_push}
 use Rattle.mine_phases.proofs.classes.Classes.share.Goals as goal
+
+-- what a seat has claimed that looked at the counter, claimed a piece and told of it
+claimed_next : (before looked claimed told : SeatView) (number : ℕ) → still looked ≡ still before → claimed.held ≡ with_piece looked.held number → still told ≡ still claimed
+    → told.held.claimed ≡ before.held.claimed ++ number ∷ []
+claimed_next before looked claimed told number same piece kept =
+    ap (λ (s : SeatView). s.held.claimed) kept ∙ ap (λ h. h.claimed) piece ∙ ap (λ (s : SeatView). s.held.claimed ++ number ∷ []) same
 
 pub loop-alloc-smaller : goal.loop-alloc-smaller
 loop-alloc-smaller g c =
     let before : List ℕ = c.loop-alloc.seat.held.claimed in
     let number = c.in-Some.claimed in
-    let looked : c.is_over.new.seat.held.claimed ≡ before = ap (λ (s : SeatView). s.held.claimed) c.is_over.ensures.same in
-    let rises : All (λ p. p < number) before = subst (All (λ p. p < number)) looked c.in-Some.ensures.rises in
-    let claimed : c.piece-back.result.0.held.claimed ≡ before ++ number ∷ [] =
-    ap (λ (s : SeatView). s.held.claimed) c.piece-back.ensures.same ∙ ap (λ h. h.claimed) c.in-Some.ensures.piece.1 ∙ ap (λ l. l ++ number ∷ []) looked in
+    let rises : All (λ p. p < number) before = subst (λ (s : SeatView). All (λ p. p < number) s.held.claimed) c.is_over.ensures.same c.in-Some.ensures.rises in
+    let claimed = claimed_next c.loop-alloc.seat c.is_over.new.seat c.claim_piece.new.seat c.mine-back.result.0 number c.is_over.ensures.same c.in-Some.ensures.piece.1 c.mine-back.ensures.same in
     let low = behind-le before number rises in
     let high = ap behind claimed ∙ behind_push before number rises in
-    let within = c.in-Some.ensures.piece.0 in
-    omega (arith, low, high, within, c.requires.pieces.1)
+    omega (arith, low, high, c.in-Some.ensures.piece.0, c.requires.pieces.1)
 
 pub loop-alloc-preserved : goal.loop-alloc-preserved
 loop-alloc-preserved g c =
     let coding : Coding = g.M.ClassMiner.coding_of c.args.self.now.miner.now in
-    let is_work = g.M.ClassMiner.is_work c.args.self.now.miner.now in
-    let pieces = c.args.self.now.pieces in
-    let Mined : ℕ × Vec (List Counted × ℕ) Global → Type 0 = λ value. AreMined coding is_work (ranks_of coding pieces value.0) value.1.items in
+    let ranks = ranks_of coding c.args.self.now.pieces in
+    let size = claimed_size coding c.args.self.now.pieces in
     let before : List ℕ = c.loop-alloc.seat.held.claimed in
     let was = c.loop-alloc.invariant in
     let number = c.in-Some.claimed in
-    let looked : c.is_over.new.seat.held.claimed ≡ before = ap (λ (s : SeatView). s.held.claimed) c.is_over.ensures.same in
-    let rises : All (λ p. p < number) before = subst (All (λ p. p < number)) looked c.in-Some.ensures.rises in
-    let claimed : c.piece-back.result.0.held.claimed ≡ before ++ number ∷ [] =
-    ap (λ (s : SeatView). s.held.claimed) c.piece-back.ensures.same ∙ ap (λ h. h.claimed) c.in-Some.ensures.piece.1 ∙ ap (λ l. l ++ number ∷ []) looked in
+    let rises : All (λ p. p < number) before = subst (λ (s : SeatView). All (λ p. p < number) s.held.claimed) c.is_over.ensures.same c.in-Some.ensures.rises in
+    let claimed = claimed_next c.loop-alloc.seat c.is_over.new.seat c.claim_piece.new.seat c.mine-back.result.0 number c.is_over.ensures.same c.in-Some.ensures.piece.1 c.mine-back.ensures.same in
     let high = ap behind claimed ∙ behind_push before number rises in
-    let within = c.in-Some.ensures.piece.0 in
-    let pushed = c.in-Ok-push.ensures.items in
-    let added = ap (λ h. slice_index h.added 0) c.in-Some.ensures.piece.1 in
-    let same = ap (λ l. slice_index l 0) c.is_over.ensures.added in
-    let told : slice_index c.piece-back.result.0.held.added 0 ≡ slice_index c.claim_piece.new.seat.held.added 0 + piece_size coding pieces (piece_from_end pieces number) = rw c.in-Ok-mined.is at c.piece-back.ensures.told in
-    let sum = ap (sum_by (claimed_size coding pieces)) claimed in
-    let push = sum_by_push (claimed_size coding pieces) before number in
+    let seat = ap (λ h. slice_index h.added 0) c.in-Some.ensures.piece.1 in
+    let looked = ap (λ l. slice_index l 0) c.is_over.ensures.added in
+    let told = rw c.in_default-mined.is at c.mine-back.ensures.told in
+    let sum = ap (sum_by size) claimed ∙ sum_by_push size before number in
     record {
-      counts = c.piece-back.ensures.counts;
-      sums = (rw c.in-Ok-mined.is at c.piece-back.ensures.sums) ∙ was.sums;
-      places = (rw c.in-Ok-mined.is at c.piece-back.ensures.places) ∙ was.places;
-      within = omega (arith, high, within, c.requires.pieces.1);
-      claimed = ap numbers_of pushed ∙ map-append (λ value. value.0) c.loop-alloc.values.items _ ∙ ap (λ l. l ++ piece_from_end pieces number ∷ []) was.claimed
-          ∙ sym (ap (map (piece_from_end pieces)) claimed ∙ map-append (piece_from_end pieces) before (number ∷ []));
-      mined = All-same Mined _ _ pushed (All-push Mined c.loop-alloc.values.items _ was.mined (rw c.in-Ok-mined.is at c.piece-back.ensures.mined));
-      told = omega (arith, added, same, sum, push, was.told, told);
+      counts = c.mine-back.ensures.counts;
+      sums = (rw c.in_default-mined.is at c.mine-back.ensures.sums) ∙ was.sums;
+      places = (rw c.in_default-mined.is at c.mine-back.ensures.places) ∙ was.places;
+      within = omega (arith, high, c.in-Some.ensures.piece.0, c.requires.pieces.1);
+      numbers = (rw c.in_default-mined.is at c.mine-back.ensures.numbers) ∙ ap (λ l. l ++ ranks number) was.numbers ∙ ap (λ l. flat_map ranks before ++ l) (sym (append-nil (ranks number)))
+          ∙ sym (ap (flat_map ranks) claimed ∙ flat_map-append ranks before (number ∷ []));
+      each = rw c.in_default-mined.is at c.mine-back.ensures.each;
+      told = omega (arith, seat, looked, told, sum, was.told);
     }
 
 pub returns-in-Err : goal.returns-in-Err
 returns-in-Err g c =
-    let coding : Coding = g.M.ClassMiner.coding_of c.args.self.now.miner.now in
-    let pieces = c.args.self.now.pieces in
-    let before : List ℕ = c.loop-alloc.seat.held.claimed in
-    let number = c.in-Some.claimed in
-    let looked : c.is_over.new.seat.held.claimed ≡ before = ap (λ (s : SeatView). s.held.claimed) c.is_over.ensures.same in
-    let claimed : c.piece-back.result.0.held.claimed ≡ before ++ number ∷ [] =
-    ap (λ (s : SeatView). s.held.claimed) c.piece-back.ensures.same ∙ ap (λ h. h.claimed) c.in-Some.ensures.piece.1 ∙ ap (λ l. l ++ number ∷ []) looked in
-    let added = ap (λ h. slice_index h.added 0) c.in-Some.ensures.piece.1 in
-    let same = ap (λ l. slice_index l 0) c.is_over.ensures.added in
-    let sum = ap (sum_by (claimed_size coding pieces)) claimed in
-    let push = sum_by_push (claimed_size coding pieces) before number in
+    let size = claimed_size (g.M.ClassMiner.coding_of c.args.self.now.miner.now) c.args.self.now.pieces in
+    let claimed = claimed_next c.loop-alloc.seat c.is_over.new.seat c.claim_piece.new.seat c.mine-back.result.0 c.in-Some.claimed c.is_over.ensures.same c.in-Some.ensures.piece.1 c.mine-back.ensures.same in
+    let seat = ap (λ h. slice_index h.added 0) c.in-Some.ensures.piece.1 in
+    let looked = ap (λ l. slice_index l 0) c.is_over.ensures.added in
+    let sum = ap (sum_by size) claimed ∙ sum_by_push size c.loop-alloc.seat.held.claimed c.in-Some.claimed in
     record {
-      own = c.piece-back.ensures.counts.own;
-      at_most = omega (arith, added, same, sum, push, c.loop-alloc.invariant.told, c.piece-back.ensures.at_most);
-      values = tt;
-      too_many = λ most e. let fault : c.in-Err.fault ≡ TooMany most = cc in c.piece-back.ensures.too_many most (c.in-Err.is ∙ ap Err fault);
+      of_ranks = record { own = c.mine-back.ensures.counts.own; values = tt };
+      at_most = omega (arith, seat, looked, sum, c.loop-alloc.invariant.told, c.mine-back.ensures.at_most);
+      told = tt;
+      too_many = λ most e. let fault : c.in-Err.fault ≡ TooMany most = cc in c.mine-back.ensures.too_many most (c.in-Err.is ∙ ap Err fault);
     }

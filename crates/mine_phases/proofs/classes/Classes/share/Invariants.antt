@@ -1,7 +1,7 @@
-use Rattle.std.proofs.Common.{◌≡◌, ◌≤◌, ◌-◌, map, slice_index}
+use Rattle.std.proofs.Common.{◌≡◌, ◌≤◌, ◌-◌, slice_index}
 use Rattle.std.specs.Prelude.{All}
-use Rattle.std.specs.List.{sum_by}
-use Rattle.mine_phases.specs.Classes.{AreMined, claimed_size, piece_from_end, ranks_of}
+use Rattle.std.specs.List.{flat_map, sum_by}
+use Rattle.mine_phases.specs.Classes.{IsMined, claimed_size, ranks_of}
 use Rattle.mine_phases.specs.RoundTally.{CountsSets}
 use Rattle.mine_phases.specs.Share.{numbers_of}
 use Rattle.mine_phases.proofs.Claims.{behind}
@@ -13,13 +13,13 @@ invariant-loop-alloc g l = record {
   sums : l.tables.sums ≡ l.self.ranks;
   places : l.tables.places ≡ l.self.ranks;
   within : behind l.seat.held.claimed ≤ l.self.pieces;
-  claimed : numbers_of l.values.items ≡ map (piece_from_end l.self.pieces) l.seat.held.claimed;
-  mined : All (λ value. AreMined (g.M.ClassMiner.coding_of l.self.miner.now) (g.M.ClassMiner.is_work l.self.miner.now) (ranks_of (g.M.ClassMiner.coding_of l.self.miner.now) l.self.pieces value.0) value.1.items) l.values.items;
+  numbers : numbers_of l.values.items ≡ flat_map (ranks_of (g.M.ClassMiner.coding_of l.self.miner.now) l.self.pieces) l.seat.held.claimed;
+  each : All (λ value. IsMined (g.M.ClassMiner.coding_of l.self.miner.now) (g.M.ClassMiner.is_work l.self.miner.now) value.0 value.1) l.values.items;
   told : slice_index l.seat.held.added 0 ≡ sum_by (claimed_size (g.M.ClassMiner.coding_of l.self.miner.now) l.self.pieces) l.seat.held.claimed;
 }
 
 abbrev pub decreases-loop-alloc : goal.decreases-loop-alloc
 decreases-loop-alloc g l = l.self.pieces - behind l.seat.held.claimed
 
-abbrev pub ghosts-piece : goal.ghosts-piece
-ghosts-piece g a = record { start = a.seat }
+abbrev pub ghosts-mine : goal.ghosts-mine
+ghosts-mine g a = record { start = a.seat }

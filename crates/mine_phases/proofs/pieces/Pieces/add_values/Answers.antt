@@ -1,24 +1,18 @@
-use Rattle.std.proofs.Common.{◌≡◌, ◌++◌, ◌∷◌, [], ◌-◌, ◌+◌, ap, sym, ◌∙◌, arith}
+use Rattle.std.proofs.Common.{◌≡◌, ◌++◌, ◌-◌, ap, sym, ◌∙◌, arith}
 use Rattle.std.specs.List.{range_with_len}
-use Rattle.std.proofs.lemmas.List.{append_assoc, map-append}
 use Rattle.std.proofs.lemmas.List.Elements.{All-push, All-same}
 use Rattle.mine_phases.specs.Share.{numbers_of}
-use Rattle.mine_phases.proofs.Mining.{numbers_are, range_split}
+use Rattle.mine_phases.proofs.Numbers.{numbers_are, numbers_next}
 use Rattle.mine_phases.proofs.pieces.Pieces.add_values.Goals as goal
 
 pub loop-part-preserved : goal.loop-part-preserved
 loop-part-preserved g c =
     let was = c.loop-part.invariant in
-    let start = c.shard-start.result.0 in
-    let part = c.loop-part.part in
     let pushed = c.in_ok-push.ensures.items in
     record {
       within = (omega (arith, was.within.0), omega (arith, c.loop-part-test.true));
       tools = c.in_ok-value.ensures.tools;
-      parts = ap numbers_of pushed ∙ map-append (λ value. value.0) c.loop-part.values.items _ ∙ ap (λ l. l ++ part ∷ []) was.parts
-          ∙ append_assoc (numbers_of c.args.values.now.items) (range_with_len start (part - start)) (part ∷ [])
-          ∙ ap (λ l. numbers_of c.args.values.now.items ++ l) (ap (λ p. range_with_len start (part - start) ++ p ∷ []) (let e : part ≡ start + (part - start) = omega (arith, was.within.0) in e)
-          ∙ sym (range_split start (part - start) 1) ∙ ap (range_with_len start) (let e : (part - start) + 1 ≡ (part + 1) - start = omega (arith, was.within.0) in e));
+      parts = numbers_next (numbers_of c.args.values.now.items) c.loop-part.values.items _ c.shard-start.result.0 c.loop-part.part _ was.within.0 pushed was.parts;
       each = All-same (λ value. g.P.PartWork.is_value c.args.self.now.work.now value.0 value.1) _ _ pushed
           (All-push (λ value. g.P.PartWork.is_value c.args.self.now.work.now value.0 value.1) c.loop-part.values.items _ was.each c.in_ok-value.ensures.value);
     }

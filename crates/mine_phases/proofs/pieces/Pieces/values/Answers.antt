@@ -1,8 +1,8 @@
-use Rattle.std.proofs.Common.{ℕ, List, ◌++◌, ◌∷◌, [], ap, sym, ◌∙◌, arith}
-use Rattle.std.specs.List.{flat_map, range_with_len}
+use Rattle.std.proofs.Common.{◌++◌, ◌∷◌, [], ap, sym, ◌∙◌, arith}
+use Rattle.std.specs.List.{flat_map}
 use Rattle.std.proofs.lemmas.List.{append-nil}
 use Rattle.std.proofs.lemmas.List.Concat.{flat_map-append}
-use Rattle.basket_ranks.specs.Shards.{shard_of}
+use Rattle.mine_phases.specs.Pieces.{parts_of}
 use Rattle.mine_phases.proofs.Claims.{behind, behind-le, behind_push}
 use Rattle.mine_phases.proofs.pieces.Pieces.values.Goals as goal
 
@@ -22,7 +22,7 @@ loop-piece-preserved g c =
     let claimed = ap (λ h. h.claimed) c.in-Some.ensures.piece.1 in
     let high = ap behind claimed ∙ behind_push before.claimed piece c.in-Some.ensures.rises in
     let within = c.in-Some.ensures.piece.0 in
-    let part : ℕ → List ℕ = λ p. shard_of p pieces (range_with_len 0 (g.P.PartWork.part_count c.args.self.now.work.now)) in
+    let part = parts_of (g.P.PartWork.part_count c.args.self.now.work.now) pieces in
     record {
       own = c.claim_piece.ensures.own ∙ was.own;
       within = omega arith;

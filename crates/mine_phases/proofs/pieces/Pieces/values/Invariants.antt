@@ -1,5 +1,6 @@
 use Rattle.std.proofs.Common.{◌≡◌, ◌≤◌, ◌-◌}
 use Rattle.std.specs.Prelude.{All}
+use Rattle.std.specs.List.{flat_map}
 use Rattle.mine_phases.specs.Pieces.{parts_of}
 use Rattle.mine_phases.specs.Share.{numbers_of}
 use Rattle.mine_phases.proofs.Claims.{behind}
@@ -10,7 +11,7 @@ invariant-loop-piece g l = record {
   own : l.seat.round ≡ l.fn.seat.round;
   within : behind l.seat.held.claimed ≤ l.self.phase.now.cutting.pieces;
   tools : g.P.PartWork.are_tools l.self.work.now l.tools;
-  claimed : numbers_of l.values.items ≡ parts_of (g.P.PartWork.part_count l.self.work.now) l.self.phase.now.cutting.pieces l.seat.held.claimed;
+  claimed : numbers_of l.values.items ≡ flat_map (parts_of (g.P.PartWork.part_count l.self.work.now) l.self.phase.now.cutting.pieces) l.seat.held.claimed;
   each : All (λ value. g.P.PartWork.is_value l.self.work.now value.0 value.1) l.values.items;
 }
 
