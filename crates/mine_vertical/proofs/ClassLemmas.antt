@@ -1,14 +1,17 @@
 -- A class as a search lists it.
-use Rattle.std.proofs.Common.{◌≡◌, ℕ, ◌+◌, ◌<◌, ◌≤◌, Bool, true, false, ◌&&◌, List, [], ◌∷◌, suc, length, map, leb, refl, sym, ap, ◌∙◌, subst, inl, inr, arith}
+use Rattle.std.proofs.Common.{◌≡◌, ℕ, ◌+◌, ◌<◌, ◌≤◌, Bool, true, false, ◌&&◌, List, [], ◌∷◌, ◌++◌, suc, length, get_or, map, leb, refl, sym, ap, ◌∙◌, subst, inl, inr, arith}
+use Rattle.std.specs.Prelude.{All}
 use Rattle.std.specs.List.{Contains}
 use Rattle.std.proofs.lemmas.Bool.{le-leb, leb-true, lt-leb, true≢false}
 use Rattle.std.proofs.lemmas.List.Elements.{All-weaker}
-use Rattle.basket_ranks.specs.Codes.{Coding, MOST_RANKS, decoded, decoded_set}
+use Rattle.basket_lists.specs.CountedSets.{set_at}
+use Rattle.basket_lists.proofs.theory.Places.{set_added}
+use Rattle.basket_ranks.specs.Codes.{Coding, IsCoding, MOST_RANKS, decoded, decoded_set}
 use Rattle.basket_sets.specs.declared.weighted.Weighted.{Weighted}
 use Rattle.basket_sets.specs.declared.counted.Counted.{Counted}
 use Rattle.basket_sets.specs.declared.minimum.Minimum.TheVariants.{Count}
 use Rattle.basket_sets.specs.Frequent.{IsNonemptySet, counted, is_frequent}
-use Rattle.basket_sets.specs.Itemset.{contains}
+use Rattle.basket_sets.specs.Itemset.{contains, rising}
 use Rattle.basket_sets.specs.Minimum.{IsLeastSupport}
 use Rattle.basket_sets.specs.Support.{support_of, total_of}
 use Rattle.basket_sets.proofs.theory.Members.{Member}
@@ -19,7 +22,7 @@ use Rattle.mine_classes.specs.Conditional.{ConditionalSupports, conditional}
 use Rattle.mine_classes.specs.Mined.{ListsClassItems, RanksAreFrequent, ListsHaveClassSize, class_size}
 use Rattle.mine_baskets.specs.ListBaskets.{HaveSameWeights}
 use Rattle.mine_vertical.specs.declared.joins.Sibling.{Sibling}
-use Rattle.mine_vertical.specs.Search.{IsNode, Node, found_at, is_met}
+use Rattle.mine_vertical.specs.Search.{IsNode, IsSibling, Node, found_at, is_met}
 use Rattle.mine_vertical.specs.Siblings.{AreClassSiblings}
 use Rattle.mine_vertical.specs.Joins.{class_joins}
 use Rattle.mine_vertical.specs.Walk.{joins_below, sets_below}
@@ -114,10 +117,10 @@ module _ (coding : Coding) (least : ℕ) (all : List Weighted) (is : IsLeastSupp
         as_many (set ∷ found) = ap suc (as_many found)
 
 -- a frequent rank has a class with a set
-pub class_has_one : (coding : Coding) (least : ℕ) (all : List Weighted) → IsLeastSupport coding.minimum (total_of coding.baskets) least → HaveSameWeights coding.baskets all
-    → ConditionalSupports → SupportsSettleFrequent → ClassesAreConditional → ListsHaveClassSize → (rank : ℕ) → least ≤ support_of all (rank ∷ []) → 1 ≤ class_size coding rank
-class_has_one coding least all is weights conditionals settle classes sizes rank enough =
-    let size = whole_size coding least all is weights conditionals settle classes sizes rank (conditional least all rank) (λ set. refl) enough in omega arith
+pub class_has_one : (coding : Coding) (least support : ℕ) (all : List Weighted) (rank : ℕ) → IsLeastSupport coding.minimum (total_of coding.baskets) least → support ≡ support_of all (rank ∷ []) → least ≤ support
+    → HaveSameWeights coding.baskets all → ConditionalSupports → SupportsSettleFrequent → ClassesAreConditional → ListsHaveClassSize → 1 ≤ class_size coding rank
+class_has_one coding least support all rank is support_is enough weights conditionals settle classes sizes =
+    let size = whole_size coding least all is weights conditionals settle classes sizes rank (conditional least all rank) (λ set. refl) (omega arith) in omega arith
 
 -- and the joins that it makes, with one for each rank below, are those of the class
 pub whole_joins : (coding : Coding) (least : ℕ) (all : List Weighted) → IsLeastSupport coding.minimum (total_of coding.baskets) least → HaveSameWeights coding.baskets all → ConditionalSupports
@@ -127,25 +130,29 @@ whole_joins coding least all is weights law rank baskets same each here =
     class_joins_are coding rank each here
     ∙ ap (λ n. rank + n) (sym (same_joins law all least rank baskets same coding.baskets coding.minimum (tests coding least all is weights) rank (omega arith) [] (λ item m. absurd m)))
 
--- the search of a class begins at its rank
-pub top_is : {R : Type 0} (stands : List ℕ → List ℕ → List ℕ → R → Type 0) (all : List Weighted) (least rank : ℕ) (weights : List ℕ) (siblings : List (Sibling R)) (baskets : List Weighted) (set items : List ℕ)
-    → AreClassSiblings stands all least rank weights siblings baskets → set ≡ decoded items (rank ∷ []) → rank < length items → length items < MOST_RANKS
-    → IsNode stands (record { weights = weights; least = least; siblings = siblings; set = set; items = items }) (top baskets rank)
-top_is stands all least rank weights siblings baskets set items are set_is known few = record {
+-- the search of a class begins at its rank, whose set is the first one found
+pub top_is : {R : Type 0} {stands : List ℕ → List ℕ → List ℕ → R → Type 0} {all baskets : List Weighted} {least rank : ℕ} {weights : List ℕ} {made siblings : List (Sibling R)} {coding coded : Coding} {item : ℕ} {set : List ℕ} (count : ℕ) {before after : List Counted}
+    → AreClassSiblings stands all least rank weights made baskets → siblings ≡ made → coded ≡ coding → IsCoding coding → rank < length coding.items
+    → before ≡ [] → after ≡ before ++ record { set = set; count = count } ∷ [] → set ≡ rising (item ∷ []) → item ≡ get_or coded.items rank 0
+    → IsNode stands (record { weights = weights; least = least; siblings = siblings; set = set_at after 0; items = coded.items }) (top baskets rank)
+top_is {R} {stands} {all} {baskets} {least} {rank} {weights} {made} {siblings} {coding} {coded} {item} {set} count {before} {after} are same is coding_is here none adds set_is item_is = record {
   weighs = are.weighs;
-  ranks = are.ranks;
-  rows = are.rows;
-  of_set = set_is;
-  few = few;
-  known = λ item h. only item (Member-from_has (rank ∷ []) item h);
-  low = λ item h. least_one item (Member-from_has (rank ∷ []) item h);
-  within = known;
+  ranks = ap (map (λ (sibling : Sibling R). sibling.rank)) same ∙ are.ranks;
+  rows = subst (All (IsSibling stands baskets [])) (sym same) are.rows;
+  of_set = set_added before after (record { set = set; count = count }) 0 (sym (ap length none)) adds ∙ set_is ∙ ap (λ i. rising (i ∷ [])) item_is;
+  few = subst (λ (k : Coding). length k.items < MOST_RANKS) (sym is) coding_is.few;
+  known = λ i h. only i (Member-from_has (rank ∷ []) i h);
+  low = λ i h. least_one i (Member-from_has (rank ∷ []) i h);
+  within = inside;
 }
   where
-    only : (item : ℕ) → Member item (rank ∷ []) → item < length items
-    only item (inl e) = omega arith
-    only item (inr m) = absurd m
+    inside : rank < length coded.items
+    inside = subst (λ (k : Coding). rank < length k.items) (sym is) here
 
-    least_one : (item : ℕ) → Member item (rank ∷ []) → rank ≤ item
-    least_one item (inl e) = omega arith
-    least_one item (inr m) = absurd m
+    only : (i : ℕ) → Member i (rank ∷ []) → i < length coded.items
+    only i (inl e) = let k = inside in omega arith
+    only i (inr m) = absurd m
+
+    least_one : (i : ℕ) → Member i (rank ∷ []) → rank ≤ i
+    least_one i (inl e) = omega arith
+    least_one i (inr m) = absurd m

@@ -1,18 +1,15 @@
-use Rattle.std.proofs.Common.{◌≡◌, ◌≤◌, ◌<◌, ◌++◌, ◌∷◌, [], Err, length, map, subst, sym, ap, ◌∙◌, inl, inr, arith, length-append}
+use Rattle.std.proofs.Common.{◌≡◌, ◌≤◌, ◌++◌, ◌∷◌, [], Err, length, map, subst, sym, ap, ◌∙◌, inl, inr, arith, length-append}
 use Rattle.std.proofs.lemmas.List.{length-map}
 use Rattle.std.proofs.lemmas.Result.{err_from_is_err_and}
-use Rattle.basket_ranks.specs.Codes.{Coding, MOST_RANKS, decoded}
+use Rattle.basket_ranks.specs.Codes.{Coding, decoded}
 use Rattle.basket_core.specs.declared.fault.MineFault.TheVariants.{TooMany}
 use Rattle.basket_sets.specs.declared.counted.Counted.{Counted}
 use Rattle.basket_sets.specs.Itemset.{rising}
 use Rattle.basket_sets.specs.Support.{support_of}
 use Rattle.mine_classes.specs.Mined.{ListsClassItems}
-use Rattle.basket_lists.specs.CountedSets.{set_at}
 use Rattle.mine_vertical.specs.Search.{found_at, is_met}
-use Rattle.mine_vertical.specs.Siblings.{AreClassSiblings}
 use Rattle.mine_vertical.specs.Walk.{sets_below}
 use Rattle.mine_vertical.proofs.ClassLemmas.{class_has_one, rare_class, rare_rank, top, top_is, whole, whole_joins, whole_lists, whole_size}
-use Rattle.basket_lists.proofs.theory.Places.{set_added}
 use Rattle.mine_vertical.proofs.eclat.eclat_class_with.Goals as goal
 
 pub returns-then-support-least-clause-listed : goal.returns-then-support-least-clause-listed
@@ -22,9 +19,8 @@ returns-then-support-least-clause-listed g c =
 
 pub returns-in_err-add-clause-too_many : goal.returns-in_err-add-clause-too_many
 returns-in_err-add-clause-too_many g c = λ limit e.
-    let one = class_has_one c.args.vertical.now c.least-least.result c.runs-runs.result.now.baskets c.least-least.ensures c.runs-runs.ensures.weights
-    c.conditional_supports.ensures c.supports_settle_frequent.ensures c.classes_are_conditional.ensures c.lists_have_class_size.ensures
-    c.args.rank (omega (arith, c.if-support-least.false, c.support-support.ensures)) in
+    let one = class_has_one c.args.vertical.now c.least-least.result c.support-support.result c.runs-runs.result.now.baskets c.args.rank c.least-least.ensures c.support-support.ensures c.if-support-least.false
+    c.runs-runs.ensures.weights c.conditional_supports.ensures c.supports_settle_frequent.ensures c.classes_are_conditional.ensures c.lists_have_class_size.ensures in
     let p = err_from_is_err_and c.from_residual-in_err-add.result c.from_residual-in_err-add.ensures.1 in
     let both = sym p.1 ∙ e in
     let fault : p.0 ≡ TooMany limit = cc in
@@ -34,91 +30,55 @@ returns-in_err-add-clause-too_many g c = λ limit e.
 
 pub returns-in_err-add-clause-at_most : goal.returns-in_err-add-clause-at_most
 returns-in_err-add-clause-at_most g c =
-    let one = class_has_one c.args.vertical.now c.least-least.result c.runs-runs.result.now.baskets c.least-least.ensures c.runs-runs.ensures.weights
-    c.conditional_supports.ensures c.supports_settle_frequent.ensures c.classes_are_conditional.ensures c.lists_have_class_size.ensures
-    c.args.rank (omega (arith, c.if-support-least.false, c.support-support.ensures)) in
+    let one = class_has_one c.args.vertical.now c.least-least.result c.support-support.result c.runs-runs.result.now.baskets c.args.rank c.least-least.ensures c.support-support.ensures c.if-support-least.false
+    c.runs-runs.ensures.weights c.conditional_supports.ensures c.supports_settle_frequent.ensures c.classes_are_conditional.ensures c.lists_have_class_size.ensures in
     omega (arith, c.add.ensures.told)
 
 pub returns-in_err-weights-clause-at_most : goal.returns-in_err-weights-clause-at_most
 returns-in_err-weights-clause-at_most g c =
-    let one = class_has_one c.args.vertical.now c.least-least.result c.runs-runs.result.now.baskets c.least-least.ensures c.runs-runs.ensures.weights
-    c.conditional_supports.ensures c.supports_settle_frequent.ensures c.classes_are_conditional.ensures c.lists_have_class_size.ensures
-    c.args.rank (omega (arith, c.if-support-least.false, c.support-support.ensures)) in
+    let one = class_has_one c.args.vertical.now c.least-least.result c.support-support.result c.runs-runs.result.now.baskets c.args.rank c.least-least.ensures c.support-support.ensures c.if-support-least.false
+    c.runs-runs.ensures.weights c.conditional_supports.ensures c.supports_settle_frequent.ensures c.classes_are_conditional.ensures c.lists_have_class_size.ensures in
     omega (arith, c.add.ensures.told)
 
 pub returns-in_err-room-clause-at_most : goal.returns-in_err-room-clause-at_most
 returns-in_err-room-clause-at_most g c =
-    let one = class_has_one c.args.vertical.now c.least-least.result c.runs-runs.result.now.baskets c.least-least.ensures c.runs-runs.ensures.weights
-    c.conditional_supports.ensures c.supports_settle_frequent.ensures c.classes_are_conditional.ensures c.lists_have_class_size.ensures
-    c.args.rank (omega (arith, c.if-support-least.false, c.support-support.ensures)) in
+    let one = class_has_one c.args.vertical.now c.least-least.result c.support-support.result c.runs-runs.result.now.baskets c.args.rank c.least-least.ensures c.support-support.ensures c.if-support-least.false
+    c.runs-runs.ensures.weights c.conditional_supports.ensures c.supports_settle_frequent.ensures c.classes_are_conditional.ensures c.lists_have_class_size.ensures in
     omega (arith, c.add.ensures.told)
 
 pub extend-requires-clause-given : goal.extend-requires-clause-given
 extend-requires-clause-given g c =
-    let coding = c.args.vertical.now in
     let rank = c.args.rank in
-    let least = c.least-least.result in
-    let all = c.runs-runs.result.now.baskets in
-    let enough : least ≤ support_of all (rank ∷ []) = omega (arith, c.if-support-least.false, c.support-support.ensures) in
     let (baskets, are) = c.in_ok-weights.ensures.siblings in
-    let items = c.coded-coded.result.now.items in
-    let set : c.in_ok-set.set ≡ decoded items (rank ∷ []) = c.in_ok-set.ensures.ok ∙ ap (λ item. rising (item ∷ [])) c.item.ensures in
-    let known : rank < length items = omega (arith, c.requires.rank, ap (λ (k : Coding). length k.items) c.coded-coded.ensures.coded) in
-    let few : length items < MOST_RANKS = omega (arith, c.coded-coded.ensures.coding.few, ap (λ (k : Coding). length k.items) c.coded-coded.ensures.coded) in
-    let made = subst (λ s. AreClassSiblings g.R.Row.stands all least rank c.in_ok-weights.weights s baskets) (sym c.deref.ensures.value) are in
-    let listed = set_added c.in_ok-mined.mined.sets c.add.new.self.sets (record { set = c.in_ok-set.set; count = c.support-support.result }) 0 (sym (ap length c.in_ok-mined.ensures.sets)) c.in_ok-add.ensures.sets ∙ set in
-    let node = top_is g.R.Row.stands all least rank c.in_ok-weights.weights c.deref.result.now baskets (set_at c.add.new.self.sets 0) items made listed known few in
+    let node = top_is c.support-support.result are c.deref.ensures.value c.coded-coded.ensures.coded c.coded-coded.ensures.coding c.requires.rank c.in_ok-mined.ensures.sets c.in_ok-add.ensures.sets c.in_ok-set.ensures.ok c.item.ensures in
     let pairs : c.class_siblings.new.joins.number ≡ rank = omega (arith, c.in_ok-weights.ensures.joins, ap (λ j. j.number) c.add.ensures.joins, c.in_ok-mined.ensures.joins) in
-    let one = ap length (c.in_ok-add.ensures.sets ∙ ap (λ l. l ++ record { set = c.in_ok-set.set; count = c.support-support.result } ∷ []) c.in_ok-mined.ensures.sets) in
+    let one = ap length (rw c.in_ok-mined.ensures.sets at c.in_ok-add.ensures.sets) in
     record {
       node = (top baskets rank, node);
       some = c.least-least.ensures.some;
-      going = record { going = c.in_ok-add.ensures.going_on; few = omega (arith, pairs, known, few, one) };
+      going = record { going = c.in_ok-add.ensures.going_on; few = omega (arith, pairs, node.within, node.few, one) };
     }
 
 pub returns-in_err-extend-clause-too_many : goal.returns-in_err-extend-clause-too_many
 returns-in_err-extend-clause-too_many g c = λ limit e.
-    let coding = c.args.vertical.now in
-    let rank = c.args.rank in
-    let least = c.least-least.result in
-    let all = c.runs-runs.result.now.baskets in
-    let enough : least ≤ support_of all (rank ∷ []) = omega (arith, c.if-support-least.false, c.support-support.ensures) in
     let (baskets, are) = c.in_ok-weights.ensures.siblings in
-    let size = whole_size coding least all c.least-least.ensures c.runs-runs.ensures.weights c.conditional_supports.ensures c.supports_settle_frequent.ensures c.classes_are_conditional.ensures c.lists_have_class_size.ensures
-    rank baskets are.same enough in
-    let items = c.coded-coded.result.now.items in
-    let set : c.in_ok-set.set ≡ decoded items (rank ∷ []) = c.in_ok-set.ensures.ok ∙ ap (λ item. rising (item ∷ [])) c.item.ensures in
-    let known : rank < length items = omega (arith, c.requires.rank, ap (λ (k : Coding). length k.items) c.coded-coded.ensures.coded) in
-    let few : length items < MOST_RANKS = omega (arith, c.coded-coded.ensures.coding.few, ap (λ (k : Coding). length k.items) c.coded-coded.ensures.coded) in
-    let made = subst (λ s. AreClassSiblings g.R.Row.stands all least rank c.in_ok-weights.weights s baskets) (sym c.deref.ensures.value) are in
-    let listed = set_added c.in_ok-mined.mined.sets c.add.new.self.sets (record { set = c.in_ok-set.set; count = c.support-support.result }) 0 (sym (ap length c.in_ok-mined.ensures.sets)) c.in_ok-add.ensures.sets ∙ set in
-    let node = top_is g.R.Row.stands all least rank c.in_ok-weights.weights c.deref.result.now baskets (set_at c.add.new.self.sets 0) items made listed known few in
-    let one = ap length c.in_ok-add.ensures.sets ∙ length-append c.in_ok-mined.mined.sets (record { set = c.in_ok-set.set; count = c.support-support.result } ∷ []) in
-    let none = ap length c.in_ok-mined.ensures.sets in
+    let node = top_is c.support-support.result are c.deref.ensures.value c.coded-coded.ensures.coded c.coded-coded.ensures.coding c.requires.rank c.in_ok-mined.ensures.sets c.in_ok-add.ensures.sets c.in_ok-set.ensures.ok c.item.ensures in
+    let size = whole_size c.args.vertical.now c.least-least.result c.runs-runs.result.now.baskets c.least-least.ensures c.runs-runs.ensures.weights c.conditional_supports.ensures c.supports_settle_frequent.ensures c.classes_are_conditional.ensures c.lists_have_class_size.ensures
+    c.args.rank baskets are.same (omega (arith, c.if-support-least.false, c.support-support.ensures)) in
+    let one = ap length (rw c.in_ok-mined.ensures.sets at c.in_ok-add.ensures.sets) in
     let p = err_from_is_err_and c.from_residual-in_err-extend.result c.from_residual-in_err-extend.ensures.1 in
     let both = sym p.1 ∙ e in
     let fault : p.0 ≡ TooMany limit = cc in
-    let many = c.extend.ensures.done.too_many limit (c.in_err-extend.was ∙ ap Err (sym p.2 ∙ fault)) (top baskets rank) node in
+    let many = c.extend.ensures.done.too_many limit (c.in_err-extend.was ∙ ap Err (sym p.2 ∙ fault)) (top baskets c.args.rank) node in
     (many.limit_is ∙ c.add.ensures.limit, elim many.why [ inl over ↦ inl over | inr less ↦ inr (omega arith) ])
 
 pub returns-in_err-extend-clause-at_most : goal.returns-in_err-extend-clause-at_most
 returns-in_err-extend-clause-at_most g c =
-    let coding = c.args.vertical.now in
-    let rank = c.args.rank in
-    let least = c.least-least.result in
-    let all = c.runs-runs.result.now.baskets in
-    let enough : least ≤ support_of all (rank ∷ []) = omega (arith, c.if-support-least.false, c.support-support.ensures) in
     let (baskets, are) = c.in_ok-weights.ensures.siblings in
-    let size = whole_size coding least all c.least-least.ensures c.runs-runs.ensures.weights c.conditional_supports.ensures c.supports_settle_frequent.ensures c.classes_are_conditional.ensures c.lists_have_class_size.ensures
-    rank baskets are.same enough in
-    let items = c.coded-coded.result.now.items in
-    let set : c.in_ok-set.set ≡ decoded items (rank ∷ []) = c.in_ok-set.ensures.ok ∙ ap (λ item. rising (item ∷ [])) c.item.ensures in
-    let known : rank < length items = omega (arith, c.requires.rank, ap (λ (k : Coding). length k.items) c.coded-coded.ensures.coded) in
-    let few : length items < MOST_RANKS = omega (arith, c.coded-coded.ensures.coding.few, ap (λ (k : Coding). length k.items) c.coded-coded.ensures.coded) in
-    let made = subst (λ s. AreClassSiblings g.R.Row.stands all least rank c.in_ok-weights.weights s baskets) (sym c.deref.ensures.value) are in
-    let listed = set_added c.in_ok-mined.mined.sets c.add.new.self.sets (record { set = c.in_ok-set.set; count = c.support-support.result }) 0 (sym (ap length c.in_ok-mined.ensures.sets)) c.in_ok-add.ensures.sets ∙ set in
-    let node = top_is g.R.Row.stands all least rank c.in_ok-weights.weights c.deref.result.now baskets (set_at c.add.new.self.sets 0) items made listed known few in
-    omega (arith, c.add.ensures.told, c.extend.ensures.done.at_most (top baskets rank) node)
+    let node = top_is c.support-support.result are c.deref.ensures.value c.coded-coded.ensures.coded c.coded-coded.ensures.coding c.requires.rank c.in_ok-mined.ensures.sets c.in_ok-add.ensures.sets c.in_ok-set.ensures.ok c.item.ensures in
+    let size = whole_size c.args.vertical.now c.least-least.result c.runs-runs.result.now.baskets c.least-least.ensures c.runs-runs.ensures.weights c.conditional_supports.ensures c.supports_settle_frequent.ensures c.classes_are_conditional.ensures c.lists_have_class_size.ensures
+    c.args.rank baskets are.same (omega (arith, c.if-support-least.false, c.support-support.ensures)) in
+    omega (arith, c.add.ensures.told, c.extend.ensures.done.at_most (top baskets c.args.rank) node)
 
 pub returns : goal.returns
 returns g c =
@@ -126,23 +86,19 @@ returns g c =
     let rank = c.args.rank in
     let least = c.least-least.result in
     let all = c.runs-runs.result.now.baskets in
-    let enough : least ≤ support_of all (rank ∷ []) = omega (arith, c.if-support-least.false, c.support-support.ensures) in
     let (baskets, are) = c.in_ok-weights.ensures.siblings in
+    let node = top_is c.support-support.result are c.deref.ensures.value c.coded-coded.ensures.coded c.coded-coded.ensures.coding c.requires.rank c.in_ok-mined.ensures.sets c.in_ok-add.ensures.sets c.in_ok-set.ensures.ok c.item.ensures in
+    let enough : least ≤ support_of all (rank ∷ []) = omega (arith, c.if-support-least.false, c.support-support.ensures) in
     let size = whole_size coding least all c.least-least.ensures c.runs-runs.ensures.weights c.conditional_supports.ensures c.supports_settle_frequent.ensures c.classes_are_conditional.ensures c.lists_have_class_size.ensures
     rank baskets are.same enough in
-    let items = c.coded-coded.result.now.items in
-    let set : c.in_ok-set.set ≡ decoded items (rank ∷ []) = c.in_ok-set.ensures.ok ∙ ap (λ item. rising (item ∷ [])) c.item.ensures in
-    let known : rank < length items = omega (arith, c.requires.rank, ap (λ (k : Coding). length k.items) c.coded-coded.ensures.coded) in
-    let few : length items < MOST_RANKS = omega (arith, c.coded-coded.ensures.coding.few, ap (λ (k : Coding). length k.items) c.coded-coded.ensures.coded) in
-    let made = subst (λ s. AreClassSiblings g.R.Row.stands all least rank c.in_ok-weights.weights s baskets) (sym c.deref.ensures.value) are in
-    let listed = set_added c.in_ok-mined.mined.sets c.add.new.self.sets (record { set = c.in_ok-set.set; count = c.support-support.result }) 0 (sym (ap length c.in_ok-mined.ensures.sets)) c.in_ok-add.ensures.sets ∙ set in
-    let node = top_is g.R.Row.stands all least rank c.in_ok-weights.weights c.deref.result.now baskets (set_at c.add.new.self.sets 0) items made listed known few in
     let done = c.extend.ensures.done in
     let found = c.in_ok-extend.ensures.done.found (top baskets rank) node in
     let below = sets_below (is_met baskets least) rank [] in
+    let items = c.coded-coded.result.now.items in
+    let set : c.in_ok-set.set ≡ decoded items (rank ∷ []) = c.in_ok-set.ensures.ok ∙ ap (λ item. rising (item ∷ [])) c.item.ensures in
     let one : Counted = record { set = c.in_ok-set.set; count = c.support-support.result } in
     let first : one ≡ record { set = decoded items (rank ∷ []); count = support_of all (rank ∷ []) } = λ i. record { set = set i; count = c.support-support.ensures i } in
-    let added = c.in_ok-add.ensures.sets ∙ ap (λ l. l ++ one ∷ []) c.in_ok-mined.ensures.sets ∙ ap (λ x. x ∷ []) first in
+    let added = (rw c.in_ok-mined.ensures.sets at c.in_ok-add.ensures.sets) ∙ ap (λ (x : Counted). x ∷ []) first in
     let sets = found.sets ∙ ap (λ l. l ++ map (found_at items (top baskets rank)) below) added
     ∙ ap (λ (k : Coding). whole k.items baskets least rank (support_of all (rank ∷ []))) c.coded-coded.ensures.coded in
     let longer = ap length found.sets ∙ length-append c.add.new.self.sets (map (found_at items (top baskets rank)) below) in
