@@ -27,13 +27,14 @@ use Rattle.basket_sets.proofs.theory.Members.{Member, All-from_Member, Member-fi
 use Rattle.basket_sets.proofs.theory.Rising.{Member-from_has, has-from_Member, nil_rises, cons_rises}
 use Rattle.basket_sets.proofs.theory.Subsets.{IsSubset-from_Member, Member-from_IsSubset, of_size_sorted, same_length}
 use Rattle.basket_sets.proofs.theory.Support.{support_falls}
+use Rattle.basket_sets.proofs.theory.Ranges.{Member-into_range, Member-range, range_rises}
 use Rattle.mine_classes.specs.Conditional.{is_kept}
 use Rattle.mine_classes.specs.Pairs.{pairs_of}
 use Rattle.mine_classes.specs.Runs.{ArePairsOf}
 use Rattle.mine_apriori.specs.Pairs.{ArePairs, pairs_by_greater, partners, pairs_with, pairs_by_lesser, pairs_at, lesser_from, all_lesser, lists_of, AreBelow}
 use Rattle.mine_apriori.specs.Levels.{level_of}
 use Rattle.mine_apriori.proofs.LevelsLemmas.{from_level, into_level, level_in_order}
-use Rattle.mine_apriori.proofs.PlaceLemmas.{Member-range, range_more}
+use Rattle.mine_apriori.proofs.PlaceLemmas.{range_more}
 use Rattle.mine_apriori.proofs.TriangleLemmas.{below_at}
 
 filter_none : (p : ℕ → Bool) (xs : List ℕ) → ((x : ℕ) → Member x xs → p x ≡ false) → filter p xs ≡ []
@@ -47,7 +48,7 @@ is x other = eqb other x
 
 none_in : (keep : ℕ → Bool) (x first count : ℕ) → (first ≤ x → first + count ≤ x) → filter (is x) (filter keep (range_with_len first count)) ≡ []
 none_in keep x first count out = filter_none (is x) (filter keep (range_with_len first count)) (λ y m.
-    let r = Member-range y first count (Member-filter keep y (range_with_len first count) m).0 in
+    let r = Member-range first count y (Member-filter keep y (range_with_len first count) m).0 in
     ne_eqb y x (λ e. let low : first ≤ x = omega (arith, r.0, e) in let past = out low in omega (arith, r.1, e, past)))
 
 here_once : (b : Bool) (x : ℕ) (rest : List ℕ) → filter (is x) rest ≡ [] → filter (is x) (cond b (x ∷ rest) rest) ≡ cond b (x ∷ []) []
@@ -200,7 +201,7 @@ pairs_below coding least count k d below rank h =
     let m = Member-from_has (map (λ (pair : ℕ × ℕ). pair.0) (pairs_of coding.baskets least k)) rank (subst (λ l. has (map (λ (pair : ℕ × ℕ). pair.0) l) rank ≡ true) at h) in
     let p = Member-from_map (λ (pair : ℕ × ℕ). pair.0) rank (pairs_of coding.baskets least k) m in
     let o = Member-from_map (λ other. (other, support_of coding.baskets (other ∷ k ∷ []))) p.0 (filter (is_kept coding.baskets least k) (range_with_len 0 k)) p.1 in
-    let r = Member-range o.0 0 k (Member-filter (is_kept coding.baskets least k) o.0 (range_with_len 0 k) o.1).0 in
+    let r = Member-range 0 k o.0 (Member-filter (is_kept coding.baskets least k) o.0 (range_with_len 0 k) o.1).0 in
     let same = ap (λ (pair : ℕ × ℕ). pair.0) o.2 ∙ p.2 in
     omega (arith, r.1, same, long, below)
 
@@ -255,17 +256,6 @@ lesser_all coding least settles =
 abbrev pub pairs_from : Coding → ℕ → ℕ → List (List ℕ)
 pairs_from coding first count = filter (is_frequent coding.baskets coding.minimum) (subsets_of_size 2 (range_with_len first count))
 
-range_rises : (first count : ℕ) → IsRising (range_with_len first count)
-range_rises first zero = nil_rises
-range_rises first (suc count) = cons_rises first (range_with_len (first + 1) count) (λ x m. let r = Member-range x (first + 1) count m in let low = r.0 in omega arith) (range_rises (first + 1) count)
-
-into_range : (x first count : ℕ) → first ≤ x → x < first + count → Member x (range_with_len first count)
-into_range x first zero low high = absurd (omega arith)
-into_range x first (suc count) low high = elim (cases_eq first x) [
-  | inl e ↦ inl e
-  | inr differ ↦ inr (into_range x (first + 1) count (let apart : first ≢ x = differ in omega arith) (omega arith))
-]
-
 -- all of them are the second level
 pub second_level : (coding : Coding) → IsCoding coding → pairs_from coding 0 (length coding.items) ≡ level_of coding 2
 second_level coding is =
@@ -287,7 +277,7 @@ second_level coding is =
     (Member-from_IsSubset 2 range set (range_rises 0 count) (record {
       rises = s.0.rises;
       sized = s.0.sized;
-      within = λ rank n. into_range rank 0 count (omega arith) (let below = ranks_below coding is set s.1 rank (has-from_Member set rank n) in omega arith);
+      within = λ rank n. Member-into_range 0 count rank (omega arith) (let below = ranks_below coding is set s.1 rank (has-from_Member set rank n) in omega arith);
     })) s.1)
 
 -- the pairs of a rank, and those of the later ones
@@ -315,5 +305,5 @@ pub pairs_above : (coding : Coding) (count rank : ℕ) → All (λ (pair : ℕ �
 pairs_above coding count rank =
     All-from_recursion (λ (pair : ℕ × ℕ). rank < pair.0) (pairs_with coding count rank) (All-from_Member (λ (pair : ℕ × ℕ). rank < pair.0) (pairs_with coding count rank) (λ pair m.
     let o = Member-from_map (λ other. (other, support_of coding.baskets (rank ∷ other ∷ []))) pair (partners coding count rank) m in
-    let r = Member-range o.0 (rank + 1) (count - (rank + 1)) (Member-filter (λ other. is_frequent coding.baskets coding.minimum (rank ∷ other ∷ [])) o.0 (range_with_len (rank + 1) (count - (rank + 1))) o.1).0 in
+    let r = Member-range (rank + 1) (count - (rank + 1)) o.0 (Member-filter (λ other. is_frequent coding.baskets coding.minimum (rank ∷ other ∷ [])) o.0 (range_with_len (rank + 1) (count - (rank + 1))) o.1).0 in
     let same = ap (λ (p : ℕ × ℕ). p.0) o.2 in let low = r.0 in omega arith))

@@ -12,11 +12,6 @@ pub range_more : (first count last : ℕ) → first + count ≡ last → range_w
 range_more first count last is =
     sym (map-id (range_with_len first (count + 1))) ∙ map-range_with_len_more (λ x. x) first count last is ∙ ap (λ l. l ++ last ∷ []) (map-id (range_with_len first count))
 
-pub Member-range : (x first count : ℕ) → Member x (range_with_len first count) → (first ≤ x) × (x < first + count)
-Member-range x first zero m = absurd m
-Member-range x first (suc count) (inl e) = (omega (arith, e), omega (arith, e))
-Member-range x first (suc count) (inr m) = let r = Member-range x (first + 1) count m in (omega (arith, r.0), omega (arith, r.1))
-
 -- ---- how many pairs there are
 
 pairs_more : (count : ℕ) → all_pairs (count + 1) ≡ all_pairs count ++ pairs_below count

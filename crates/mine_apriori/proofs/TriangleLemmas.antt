@@ -16,11 +16,12 @@ use Rattle.basket_sets.specs.Support.{support_of, total_of, weight_at}
 use Rattle.basket_sets.proofs.theory.Members.{Member, Member-filter}
 use Rattle.basket_sets.proofs.theory.Rising.{Member-from_has, first_below, rest_rises, has_more, has_place, not_before}
 use Rattle.basket_sets.proofs.theory.Support.{support_falls}
+use Rattle.basket_sets.proofs.theory.Ranges.{Member-range}
 use Rattle.mine_classes.specs.Conditional.{is_kept}
 use Rattle.mine_classes.specs.Pairs.{WithBasket, is_met, pairs_of}
 use Rattle.mine_apriori.specs.Shard.{WithSupports}
 use Rattle.mine_apriori.specs.Triangle.{AreSupports, HaveRows, WithPairs, all_pairs, place_of}
-use Rattle.mine_apriori.proofs.PlaceLemmas.{Member-range, find_pair, pair_at, pair_of, row_before}
+use Rattle.mine_apriori.proofs.PlaceLemmas.{find_pair, pair_at, pair_of, row_before}
 use Rattle.mine_apriori.proofs.RunLemmas.{has_before, rises_by_places}
 
 pub below_at : (count : ℕ) (ranks : List ℕ) (k : ℕ) → AllBelow count ranks → k < length ranks → get_or ranks k 0 < count
@@ -203,10 +204,10 @@ module _ (baskets : List Weighted) (count : ℕ) (supports : List ℕ) (greater 
   row_pairs least row is =
       ap (λ n. map (λ rank. (rank, get_or row rank 0)) (filter (λ rank. is_met least (get_or row rank 0)) (range_with_len 0 n))) (ap length is ∙ row_long (length (all_pairs greater)) greater supports row_within)
       ∙ ap (map (λ rank. (rank, get_or row rank 0))) (filter_same (λ rank. is_met least (get_or row rank 0)) (is_kept baskets least greater) (range_with_len 0 greater)
-      (λ lesser m. let r = Member-range lesser 0 greater m in let less : lesser < greater = omega (arith, r.1) in
+      (λ lesser m. let r = Member-range 0 greater lesser m in let less : lesser < greater = omega (arith, r.1) in
       ap (is_met least) (support lesser less) ∙ ap (λ b. b && is_met least (support_of baskets (lesser ∷ greater ∷ []))) (sym (lt-ltb lesser greater less))))
       ∙ map_same (λ rank. (rank, get_or row rank 0)) (λ other. (other, support_of baskets (other ∷ greater ∷ []))) (filter (is_kept baskets least greater) (range_with_len 0 greater))
-      (λ lesser m. ap (λ n. (lesser, n)) (support lesser (let r = Member-range lesser 0 greater (Member-filter (is_kept baskets least greater) lesser (range_with_len 0 greater) m).0 in omega (arith, r.1))))
+      (λ lesser m. ap (λ n. (lesser, n)) (support lesser (let r = Member-range 0 greater lesser (Member-filter (is_kept baskets least greater) lesser (range_with_len 0 greater) m).0 in omega (arith, r.1))))
     where
       support : (lesser : ℕ) → lesser < greater → get_or row lesser 0 ≡ support_of baskets (lesser ∷ greater ∷ [])
       support lesser less =

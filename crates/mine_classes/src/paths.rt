@@ -1,12 +1,10 @@
 //! Baskets of ranks in the form that suits the number of ranks.
-ghost use Rattle.std.specs.Prelude.{◌≡◌, ◌≤◌, ◌<◌, ◌-◌, ◌==◌, All, IfOk, length, map};
+ghost use Rattle.std.specs.Prelude.{◌≡◌, ◌≤◌, ◌<◌, ◌-◌, ◌==◌, All, IfOk};
 ghost use Rattle.std.specs.List.{list_all};
-ghost use Rattle.basket_ranks.specs.Codes.{IsCoding, decoded_place};
-ghost use Rattle.basket_sets.specs.declared.minimum.Minimum.TheVariants.{Count};
 ghost use Rattle.mine_baskets.specs.declared.span.Span.{Span as Run};
 ghost use Rattle.mine_classes.specs.Conditional.{conditional, conditional_baskets};
-ghost use Rattle.mine_baskets.specs.ListBaskets.{AreRankBaskets, HaveSameWeights};
-ghost use Rattle.mine_classes.specs.Pairs.{kept_ranks, pairs_of};
+ghost use Rattle.mine_baskets.specs.ListBaskets.{AreRankBaskets};
+ghost use Rattle.mine_classes.specs.Pairs.{pairs_of};
 ghost use Rattle.mine_classes.specs.Paths.{IsConditional, IsOrdered, is_branch};
 
 use crate::conditional::Conditional;

@@ -1,9 +1,9 @@
 //! Apriori, whose phases workers share.
-ghost use Rattle.std.specs.Prelude.{◌≡◌, ◌≤◌, ℕ, Err, IfOk, OnOk, length};
+ghost use Rattle.std.specs.Prelude.{◌≡◌, ◌≤◌, ℕ, Err, IfOk, length};
 ghost use Rattle.basket_core.specs.declared.fault.MineFault.TheVariants.{TooMany};
 ghost use Rattle.basket_ranks.specs.Codes.{baskets_of};
 ghost use Rattle.basket_core.specs.Listing.{listing_of};
-ghost use Rattle.mine_apriori.specs.Levels.{AreTooMany, asked_of};
+ghost use Rattle.mine_apriori.specs.Levels.{AreTooMany};
 ghost use Rattle.mine_apriori.specs.Pairs.{ArePairs, lists_of};
 ghost use Rattle.mine_apriori.specs.Work.{candidate_count};
 

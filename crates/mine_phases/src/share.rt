@@ -1,5 +1,5 @@
 //! What the workers of a phase hand back, and what it is together.
-ghost use Rattle.std.specs.Prelude.{◌≡◌, ◌≤◌, ◌<◌, ◌+◌, ◌^◌, ℕ, [], map, vec_len, vec_capacity, MatchResult, Ok, Some, None, length, IfOk, IfSome, IfNone, EachIndex, slice_index};
+ghost use Rattle.std.specs.Prelude.{◌≡◌, ◌≤◌, ◌<◌, ◌+◌, ◌^◌, ℕ, [], map, vec_len, vec_capacity, MatchResult, Ok, Some, None, length, IfOk, IfSome, IfNone, slice_index};
 ghost use Rattle.std.specs.List.{enumerate_from};
 ghost use Rattle.mine_phases.specs.Share.{AcceptsSeats, ArePartsOfShares, fault_of, worse};
 ghost use Rattle.mine_round.specs.Record.{with_piece, with_end_seen};

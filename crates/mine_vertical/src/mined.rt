@@ -1,5 +1,5 @@
 //! What a class call has found so far.
-ghost use Rattle.std.specs.Prelude.{◌≡◌, ◌≤◌, ◌<◌, ◌+◌, ◌*◌, ◌++◌, [], ◌∷◌, ℕ, ◌⊎◌, Err, IfOk, IsTrue, false, OnOk, length};
+ghost use Rattle.std.specs.Prelude.{◌≡◌, ◌≤◌, ◌<◌, ◌+◌, ◌++◌, [], ◌∷◌, ℕ, ◌⊎◌, Err, IfOk, IsTrue, false, OnOk, length};
 ghost use Rattle.basket_core.specs.declared.fault.MineFault.TheVariants.{TooMany};
 ghost use Rattle.basket_sets.specs.Itemset.{with_item};
 ghost use Rattle.basket_lists.specs.CountedSets.{set_at};

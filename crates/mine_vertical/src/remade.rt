@@ -1,13 +1,11 @@
 //! The database of a set, made anew from the rows of its extensions: for each place of the set's cover
 //! the extensions whose covers have it, equal ones merged.
-ghost use Rattle.std.specs.Prelude.{◌≡◌, ◌≤◌, [], ℕ, Bool, List, All, IfOk, IfSome, length, map};
+ghost use Rattle.std.specs.Prelude.{◌≡◌, ◌≤◌, ℕ, List, All, IfOk, IfSome, length, map};
 ghost use Rattle.std.specs.List.{sum_by};
-ghost use Rattle.basket_ranks.specs.Codes.{decoded};
 ghost use Rattle.basket_sets.specs.declared.weighted.Weighted.{Weighted as Basket};
 ghost use Rattle.basket_sets.specs.Database.{MOST_WEIGHT};
 ghost use Rattle.basket_sets.specs.Itemset.{IsRising};
 ghost use Rattle.mine_baskets.specs.declared.words.Word.{Word as Bits};
-ghost use Rattle.mine_baskets.specs.ListBaskets.{weight_where};
 ghost use Rattle.mine_baskets.specs.Words.{word_places};
 ghost use Rattle.mine_baskets.specs.Covers.{weights_of};
 ghost use Rattle.mine_vertical.specs.Remade.{AreBitsOf, GiveSupports, HaveSameNonempty, bit_places};
