@@ -8,7 +8,7 @@ use Rattle.std.proofs.lemmas.Nat.{pow-add, pow_pos, one_shl}
 use Rattle.std.proofs.lemmas.Nat.Bits.{bit_at-lt, bit_at-pow_other, bit_at-pow_same, bit_at_above, bit_at_set_same, bit_at_set_other, bit_at_xor}
 use Rattle.std.proofs.lemmas.List.{get_or-map, get_or-replicate, length-drop, length-map}
 use Rattle.basket_lists.specs.declared.packed.Packed.{Packed}
-use Rattle.basket_lists.specs.declared.places.TheConstants.{NOWHERE}
+use Rattle.basket_order.specs.declared.places.TheConstants.{NOWHERE}
 use Rattle.basket_lists.specs.CountedSets.{set_at}
 use Rattle.basket_lists.specs.Known.{IsRestOf}
 use Rattle.basket_lists.specs.Packed.{HasBits, count_bits, items_in, unpacked}
