@@ -1,4 +1,4 @@
-//! How a list is put in order, and searched. Nothing here knows what the elements of the list are.
+//! How a list is put in order, and searched. Nothing here knows of sets.
 //!
 //! `parts` sorts a list part after part, by an order that tells the part of an element and sorts the elements
 //! of one; `halves` has threads sort halves of such a list. `places` keeps by hashes where elements may stand.
