@@ -8,12 +8,12 @@ use Rattle.std.proofs.lemmas.Nat.{pow-add, pow_pos, one_shl}
 use Rattle.std.proofs.lemmas.Nat.Bits.{bit_at-lt, bit_at-pow_other, bit_at-pow_same, bit_at_above, bit_at_set_same, bit_at_set_other, bit_at_xor}
 use Rattle.std.proofs.lemmas.List.{get_or-map, get_or-replicate, length-drop, length-map}
 use Rattle.basket_lists.specs.declared.packed.Packed.{Packed}
-use Rattle.basket_lists.specs.declared.places.TheConstants.{NOWHERE}
 use Rattle.basket_lists.specs.CountedSets.{set_at}
 use Rattle.basket_lists.specs.Known.{IsRestOf}
 use Rattle.basket_lists.specs.Packed.{HasBits, count_bits, items_in, unpacked}
 use Rattle.basket_lists.specs.Without.{ArePlacesWithout, IsLongerBy, IsPlaceWithout}
 use Rattle.basket_lists.proofs.PackedLemmas.{HasMore, bit_is_set, highest, items_in-few, items_in-rises, items_in-same, items_in-zero, lower_bits, lower_power, moved_low, moved_rest, one_more, small, with_first, with_later}
+use Rattle.basket_order.specs.declared.places.TheConstants.{NOWHERE}
 use Rattle.basket_sets.specs.declared.counted.Counted.{Counted}
 use Rattle.basket_sets.specs.Itemset.{IsRising, with_item}
 use Rattle.basket_sets.proofs.theory.Rising.{Member-from_has, first_below, has_place, rest_rises}

@@ -4,17 +4,13 @@
 
 mod counted_sets;
 mod half_words;
-mod halves;
 mod keys;
 mod known;
 mod packed;
-mod parts;
 mod place;
-mod places;
 mod plain;
 mod sets;
 
 pub use counted_sets::CountedSets;
 pub use known::MOST_ITEMS;
-pub use places::{NOWHERE, Places};
 pub use sets::Sets;

@@ -11,7 +11,7 @@ mod without;
 
 use crate::keys::{sort_places, sort_places_shared};
 use crate::place::{Place, end_of, places_behind};
-use crate::places::items_hash;
+use basket_order::items_hash;
 use std::alloc::{AllocError, Global};
 use std::cmp::Ordering;
 use std::marker::Model;

@@ -10,7 +10,8 @@ ghost use Rattle.basket_sets.specs.Itemset.{without};
 use crate::listed::items_at;
 use crate::search::find_near;
 use basket_core::CountedSets;
-use basket_lists::{MOST_ITEMS, NOWHERE, Places};
+use basket_lists::MOST_ITEMS;
+use basket_order::{NOWHERE, Places};
 use std::alloc::{AllocError, Global};
 
 /// Which supersets matter.

@@ -8,7 +8,7 @@ use crate::hashes::{ItemHashes, SetHash};
 use crate::met::MetRule;
 use crate::rights::Sides;
 use basket_core::{Counted, Unpacked};
-use basket_lists::Places;
+use basket_order::Places;
 use std::alloc::{AllocError, Global};
 
 /// What is kept from union to union while the rules of a list are made: where its sets may stand,

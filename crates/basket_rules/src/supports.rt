@@ -9,7 +9,7 @@ use crate::lookups::Lookups;
 use crate::rights::MOST_PLACES;
 use crate::search::find;
 use basket_core::Counted;
-use basket_lists::Places;
+use basket_order::Places;
 use std::alloc::AllocError;
 
 /// How many places are looked at for one hash.

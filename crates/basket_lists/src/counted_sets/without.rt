@@ -5,7 +5,7 @@ ghost use Rattle.basket_lists.specs.Without.{ArePlacesWithout};
 
 use crate::counted_sets::CountedSets;
 use crate::known::MOST_ITEMS;
-use crate::places::{NOWHERE, Places};
+use basket_order::{NOWHERE, Places};
 use std::alloc::{AllocError, Global};
 
 impl CountedSets {

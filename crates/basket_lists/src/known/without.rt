@@ -6,7 +6,7 @@ ghost use Rattle.basket_lists.specs.Packed.{IsPacked, items_in, unpacked};
 
 use crate::known::{KnownItems, MOST_ITEMS};
 use crate::packed::{Packed, WORD, bits_hash, find_bits};
-use crate::places::Places;
+use basket_order::Places;
 
 impl KnownItems {
     /// The hash of a packed set, whatever its count is.

@@ -5,8 +5,8 @@ ghost use Rattle.basket_lists.specs.Without.{ArePlacesWithout, IsLongerBy, IsPla
 ghost use Rattle.basket_sets.specs.Itemset.{IsRising};
 
 use crate::known::MOST_ITEMS;
-use crate::places::{MOST_STEPS, NOWHERE, Places, item_hash, items_hash};
 use crate::plain::PlainSets;
+use basket_order::{MOST_STEPS, NOWHERE, Places, item_hash, items_hash};
 
 impl PlainSets {
     /// Where the sets stand that are the set at a place without one of its items, as far as the places

@@ -1,5 +1,5 @@
-//! Where sets of a list may stand, by hashes. Nothing is claimed of the places: whoever asks compares
-//! the sets.
+//! Where elements of a list may stand, by hashes. Nothing is claimed of the places: whoever asks
+//! compares the elements.
 
 use std::alloc::{AllocError, Global};
 
@@ -9,8 +9,8 @@ pub const NOWHERE: u32 = u32::MAX;
 /// How many slots are looked at for one hash.
 pub const MOST_STEPS: usize = 16;
 
-/// How many slots there are at least for each set: most sets are then in the first slot that is looked
-/// at.
+/// How many slots there are at least for each element: most elements are then in the first slot that is
+/// looked at.
 const SLOTS: usize = 4;
 
 /// Odd numbers whose bits look random.
@@ -18,8 +18,8 @@ const MULTIPLIER: u64 = 0x9E37_79B9_7F4A_7C15;
 
 const OTHER_MULTIPLIER: u64 = 0xD1B5_4A32_D192_ED03;
 
-/// The places of sets, each in the first free slot from that of its hash on. The hash has no key: a set
-/// that finds no free slot nearby isn't kept, and has to be searched for in the list.
+/// The places of elements, each in the first free slot from that of its hash on. The hash has no key: an
+/// element that finds no free slot nearby isn't kept, and has to be searched for in the list.
 #[derive(Debug, Drop)]
 pub struct Places {
     slots: Vec<u32>,
@@ -33,9 +33,9 @@ impl Places {
         }
     }
 
-    /// Nothing is kept, but there is room for so many sets.
-    pub fn with_room(alloc: Global, sets: usize) -> Result<Self, AllocError> {
-        let slots = sets
+    /// Nothing is kept, but there is room for so many elements.
+    pub fn with_room(alloc: Global, elements: usize) -> Result<Self, AllocError> {
+        let slots = elements
             .saturating_mul(SLOTS)
             .checked_next_power_of_two()
             .unwrap_or(1);
@@ -52,7 +52,7 @@ impl Places {
         }
     }
 
-    /// Keeps the place of a set with this hash, if there is a free slot for it.
+    /// Keeps the place of an element with this hash, if there is a free slot for it.
     pub fn keep(&mut self, hash: u64, place: usize) {
         let Ok(place) = u32::try_from(place) else {
             return;

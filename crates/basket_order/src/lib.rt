@@ -1,0 +1,13 @@
+//! How a list is put in order, and searched. Nothing here knows of sets.
+//!
+//! `parts` sorts a list part after part, by an order that tells the part of an element and sorts the elements
+//! of one; `halves` has threads sort halves of such a list. `places` keeps by hashes where elements may stand.
+#![tactic(auto)]
+
+mod halves;
+mod parts;
+mod places;
+
+pub use halves::share_parts;
+pub use parts::{ByParts, PARTS, sort_by_parts};
+pub use places::{MOST_STEPS, NOWHERE, Places, item_hash, items_hash, word_hash};
