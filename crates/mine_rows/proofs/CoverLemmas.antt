@@ -1,7 +1,7 @@
 -- Covers: what they share, what they lack, and what they weigh.
 use Rattle.std.proofs.Common.{◌≡◌, ℕ, zero, suc, ◌+◌, ◌<◌, ◌≤◌, Bool, true, false, not, List, [], ◌∷◌, ◌++◌, take, length, get_or, cond, sum, refl, sym, ap, ◌∙◌, inl, inr, arith}
 use Rattle.std.specs.List.{filter, range_with_len, sum_by}
-use Rattle.std.proofs.lemmas.List.Elements.{filter-append, filter_more}
+use Rattle.std.proofs.lemmas.List.Elements.{filter_more}
 use Rattle.std.proofs.lemmas.List.{append-nil}
 use Rattle.std.proofs.lemmas.Bool.{cases_Bool, cases_eq, cases_lt, true≢false}
 use Rattle.std.proofs.lemmas.List.Sums.{sum_by-cons}
@@ -10,7 +10,7 @@ use Rattle.basket_sets.proofs.theory.Members.{Member, Member-filter, Member-from
 use Rattle.basket_sets.proofs.theory.Rising.{Member-from_has, has-from_Member, first_below, rest_rises, same_rising, contains_each, has_each, has_place, same_test}
 use Rattle.mine_rows.specs.Cover.{IsCover, all_places, common, cover_weight, lacking}
 use Rattle.mine_rows.proofs.theory.Filters.{filter_rises}
-use Rattle.mine_rows.proofs.RangeLemmas.{Member-into_range, Member-range, range_next, range_rises}
+use Rattle.mine_rows.proofs.RangeLemmas.{Member-into_range, Member-range, range_drops, range_keeps, range_rises}
 
 -- a filter that goes on
 pub filter_keeps : (p : ℕ → Bool) (xs : List ℕ) (i : ℕ) → i < length xs → p (get_or xs i 0) ≡ true → filter p (take (i + 1) xs) ≡ filter p (take i xs) ++ get_or xs i 0 ∷ []
@@ -191,11 +191,7 @@ module _ (cover : List ℕ) (up : IsRising cover) (place at : ℕ) (is : IsReach
 
 -- one more place below a number
 pub lacking_more : (cover : List ℕ) (place : ℕ) → has cover place ≡ false → lacking (range_with_len 0 (place + 1)) cover ≡ lacking (range_with_len 0 place) cover ++ place ∷ []
-lacking_more cover place h =
-    ap (λ l. lacking l cover) (range_next place) ∙ filter-append (λ p. not (has cover p)) (range_with_len 0 place) (place ∷ [])
-    ∙ ap (λ b. lacking (range_with_len 0 place) cover ++ cond (not b) (place ∷ []) []) h
+lacking_more cover place h = range_keeps (λ p. not (has cover p)) place (ap not h)
 
 pub lacking_same : (cover : List ℕ) (place : ℕ) → has cover place ≡ true → lacking (range_with_len 0 (place + 1)) cover ≡ lacking (range_with_len 0 place) cover
-lacking_same cover place h =
-    ap (λ l. lacking l cover) (range_next place) ∙ filter-append (λ p. not (has cover p)) (range_with_len 0 place) (place ∷ [])
-    ∙ ap (λ b. lacking (range_with_len 0 place) cover ++ cond (not b) (place ∷ []) []) h ∙ append-nil (lacking (range_with_len 0 place) cover)
+lacking_same cover place h = range_drops (λ p. not (has cover p)) place (ap not h)
