@@ -9,7 +9,7 @@ use Rattle.basket_sets.specs.Itemset.{AllBelow, IsRising, contains, has}
 use Rattle.basket_sets.proofs.theory.Members.{Member, Member-filter, Member-from_filter}
 use Rattle.basket_sets.proofs.theory.Rising.{Member-from_has, has-from_Member, first_below, rest_rises, same_rising, contains_each, has_each, has_place, same_test}
 use Rattle.basket_sets.proofs.theory.Tests.{rising_at}
-use Rattle.basket_sets.proofs.theory.Ranges.{Member-into_range, Member-range, filter_rises, range_next, range_rises}
+use Rattle.basket_sets.proofs.theory.Ranges.{Member-into_range, Member-range, filter_rises, range_drops, range_keeps, range_rises}
 use Rattle.mine_rows.specs.Cover.{IsCover, all_places, common, cover_weight, lacking}
 
 -- a filter that goes on
@@ -185,11 +185,7 @@ module _ (cover : List ℕ) (up : IsRising cover) (place at : ℕ) (is : IsReach
 
 -- one more place below a number
 pub lacking_more : (cover : List ℕ) (place : ℕ) → has cover place ≡ false → lacking (range_with_len 0 (place + 1)) cover ≡ lacking (range_with_len 0 place) cover ++ place ∷ []
-lacking_more cover place h =
-    ap (λ l. lacking l cover) (range_next place) ∙ filter-append (λ p. not (has cover p)) (range_with_len 0 place) (place ∷ [])
-    ∙ ap (λ b. lacking (range_with_len 0 place) cover ++ cond (not b) (place ∷ []) []) h
+lacking_more cover place h = range_keeps (λ p. not (has cover p)) place (ap not h)
 
 pub lacking_same : (cover : List ℕ) (place : ℕ) → has cover place ≡ true → lacking (range_with_len 0 (place + 1)) cover ≡ lacking (range_with_len 0 place) cover
-lacking_same cover place h =
-    ap (λ l. lacking l cover) (range_next place) ∙ filter-append (λ p. not (has cover p)) (range_with_len 0 place) (place ∷ [])
-    ∙ ap (λ b. lacking (range_with_len 0 place) cover ++ cond (not b) (place ∷ []) []) h ∙ append-nil (lacking (range_with_len 0 place) cover)
+lacking_same cover place h = range_drops (λ p. not (has cover p)) place (ap not h)

@@ -1,4 +1,3 @@
-mod RangeLemmas
 mod CoverLemmas
 mod RowLemmas
 mod MarkLemmas

@@ -5,9 +5,9 @@ use Rattle.std.proofs.lemmas.Bool.{eq-eqb, ne_eqb}
 use Rattle.std.proofs.lemmas.List.{map-append}
 use Rattle.std.proofs.lemmas.List.Elements.{All-push}
 use Rattle.mine_rows.specs.Planes.{IsPlane, bits_of, has_bit}
-use Rattle.mine_rows.proofs.RangeLemmas.{range_drops, range_keeps}
 use Rattle.mine_rows.proofs.planes.planes_of.Goals as goal
 use Rattle.mine_rows.proofs.planes.planes_of.Goals.{then-bits-bit-eq1+in_ok-plane_of+in_ok-push, else-bits-bit-eq1}
+use Rattle.basket_sets.proofs.theory.Ranges.{range_drops, range_keeps}
 
 pub loop-bit-preserved : goal.loop-bit-preserved
 loop-bit-preserved c =
