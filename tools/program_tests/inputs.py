@@ -33,6 +33,19 @@ def dense() -> Baskets:
     ]
 
 
+def pairs() -> Baskets:
+    """2,000 baskets of two or three of 80 items, most of which are equal to others."""
+    source = random.Random(4)
+    baskets = []
+    for _ in range(2_000):
+        item = int(80 * source.random())
+        basket = {item + 1, (item + 1) % 80 + 1}
+        if source.random() < 0.2:
+            basket.add(int(80 * source.random()) + 1)
+        baskets.append(sorted(basket))
+    return baskets
+
+
 def repeated() -> Baskets:
     """4,000 baskets over eight items, most of which are equal to others."""
     source = random.Random(3)

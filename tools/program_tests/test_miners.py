@@ -15,7 +15,12 @@ from . import inputs
 from .program import Run, run
 
 MINERS = ("apriori", "eclat", "eclat-diff", "eclat-bits", "fpgrowth")
-INPUTS = {"shop": inputs.shop, "dense": inputs.dense, "repeated": inputs.repeated}
+INPUTS = {
+    "shop": inputs.shop,
+    "dense": inputs.dense,
+    "repeated": inputs.repeated,
+    "pairs": inputs.pairs,
+}
 
 # Input, minimum, number of lines and sum of `sets`.
 SETS = (
@@ -48,6 +53,12 @@ SETS = (
         "1",
         255,
         "4a92e3dcc5ab59bc9a1334ecb5e6fcb9d723878cdf940f15f4a1e5c77d53412a",
+    ),
+    (
+        "pairs",
+        "2",
+        236,
+        "4a94417a322ae32c158c5f3b461a02c7ee1ce47f75e1284e5c5af59fe918de9d",
     ),
 )
 
@@ -104,7 +115,7 @@ class Miners(unittest.TestCase):
     def test_each_miner_by_one_and_by_four_workers_writes_what_another_program_writes(
         self,
     ) -> None:
-        # 512 pieces are more than the frequent items, so that Eclat cuts classes into parts.
+        # 512 pieces are more than the frequent items, so that most pieces have no class.
         for (
             (name, minimum, lines, digest),
             miner,
