@@ -18,7 +18,7 @@ use Rattle.basket_sets.specs.Itemset.{IsRising, has, rising}
 use Rattle.basket_ranks.specs.declared.ranks.Entry.{Entry}
 use Rattle.basket_ranks.specs.Ranks.{AreSlots, AreRanksAt, entries_of}
 use Rattle.basket_sets.proofs.theory.Members.{Member, All-from_Member, at_Member, Member-map, Member-from_map, Member-filter, Member-from_Contains, Contains-from_Member}
-use Rattle.basket_sets.proofs.theory.Rising.{has_more, first_below, rest_rises, cons_rises, nil_rises, rising-rises, Member-rising, Member-into_rising, has-from_Member, found_at, found_nowhere}
+use Rattle.basket_sets.proofs.theory.Rising.{Member-into_rising, Member-rising, cons_rises, first_below, found_at, found_nowhere, has-from_Member, has_more, nil_rises, rest_rises, rising-rises, rising_distinct}
 use Rattle.basket_sets.proofs.theory.Sorting.{sorted_is}
 
 -- ---- the order of ranks
@@ -155,15 +155,6 @@ sorted_ranks entries sorted up moved in_order =
     let apart = distinct_entries entries up in
     sorted_is rank_order_total entries sorted (ranked entries) apart moved in_order (ranked_sorted entries apart)
     (λ z m. Member-into_ranked entries z m) (λ z m. Member-ranked entries z m)
-
--- rising numbers are distinct
-rising_distinct : (items : List ℕ) → IsRising items → IsDistinct nat_eq items
-unfolding IsDistinct
-rising_distinct [] up = tt
-rising_distinct (x ∷ items) up = (
-  All-from_Member (λ y. nat_eq x y ≡ false) items (λ y m. ne_eqb x y (λ e. let b = first_below x items up y m in omega arith)),
-  rising_distinct items (rest_rises x items up),
-)
 
 flips : (x y : ℕ) → nat_eq x y ≡ nat_eq y x
 flips x y = grind (arith, nat_tests)

@@ -1,7 +1,7 @@
 -- Words of bits for places, and the baskets that they are.
 use Rattle.std.proofs.Common.{◌≡◌, ◌≢◌, ℕ, zero, suc, ◌+◌, ◌-◌, ◌^◌, ◌<◌, ◌≤◌, Bool, true, false, ◌&&◌, ◌||◌, ◌⊎◌, List, [], ◌∷◌, ◌++◌, take, length, get_or, map, cond, eqb, refl, sym, ap, ◌∙◌, subst, inl, inr, arith, zero-add}
-use Rattle.std.specs.Prelude.{bit_or, nat_eq, replicate}
-use Rattle.std.specs.List.{IsDistinct, filter, list_all, range_with_len, sum_by}
+use Rattle.std.specs.Prelude.{bit_or, replicate}
+use Rattle.std.specs.List.{filter, list_all, range_with_len, sum_by}
 use Rattle.std.proofs.lemmas.Bool.{cases_Bool, cases_eq, eq-eqb, ne_eqb, true≢false}
 use Rattle.std.proofs.lemmas.List.{map-append}
 use Rattle.std.proofs.lemmas.List.Sums.{sum_by-append, sum_by-cons}
@@ -11,8 +11,8 @@ use Rattle.basket_sets.specs.declared.minimum.Minimum.TheVariants.{Count}
 use Rattle.basket_sets.specs.Database.{weighted}
 use Rattle.basket_sets.specs.Itemset.{AllBelow, IsRising, contains, has}
 use Rattle.basket_sets.specs.Support.{support_of}
-use Rattle.basket_sets.proofs.theory.Members.{Member, All-from_Member, Member-append, Member-append_left, Member-append_right, Member-filter, Member-from_filter}
-use Rattle.basket_sets.proofs.theory.Rising.{Member-from_has, has-from_Member, has_each, has_place, contains_each, first_below, rest_rises, same_test}
+use Rattle.basket_sets.proofs.theory.Members.{Member, Member-append, Member-append_left, Member-append_right, Member-filter, Member-from_filter}
+use Rattle.basket_sets.proofs.theory.Rising.{Member-from_has, contains_each, has-from_Member, has_each, has_place, rising_distinct, same_test}
 use Rattle.basket_sets.proofs.theory.Ranges.{Member-into_range, Member-range}
 use Rattle.basket_ranks.specs.Codes.{IsCoding, decoded, decoded_place}
 use Rattle.basket_ranks.proofs.theory.Coding.{from_decoded, into_decoded}
@@ -242,15 +242,6 @@ module _ (baskets : List Weighted) (set kept bits : List ℕ) (are : AreBitsOf b
                   let m = Member-filter (has_rank word) i (range_with_len 0 (length kept)) (Member-from_has (ranks_in (length kept) word) i h) in
                   let r = Member-range 0 (length kept) i m.0 in
                   let high = r.1 in omega arith
-
--- rising ranks are distinct
-rising_distinct : (ranks : List ℕ) → IsRising ranks → IsDistinct nat_eq ranks
-unfolding IsDistinct
-rising_distinct [] up = tt
-rising_distinct (x ∷ ranks) up = (
-  All-from_Member (λ y. nat_eq x y ≡ false) ranks (λ y m. ne_eqb x y (λ e. let less = first_below x ranks up y m in omega arith)),
-  rising_distinct ranks (rest_rises x ranks up),
-)
 
 -- baskets of ranks are those of a coding of as many items
 pub coded : (kept : List ℕ) (value : RankBaskets) → IsRising kept → length kept ≤ 64 → value.ranks ≡ length kept → AreRankBaskets value → IsCoding (record { items = kept; minimum = Count 1; baskets = value.baskets })

@@ -3,13 +3,14 @@ use Rattle.std.proofs.Common.{◌≡◌, ◌≢◌, ℕ, zero, suc, ◌+◌, ◌
 use Rattle.std.specs.declared.cmp.Ordering.TheVariants.{Less, Equal, Greater}
 use Rattle.std.specs.Ordering.{nat_cmp}
 use Rattle.std.specs.Cmp.{nat_cmp_total}
+use Rattle.std.specs.Prelude.{nat_eq}
 use Rattle.std.specs.List.Sorted.{IsStrictlySortedBy}
-use Rattle.std.proofs.lemmas.Bool.{eqb-true, eqb-false, ltb-true, ltb-false, eq-eqb, lt-ltb, or_cases, cases_Bool, and_parts, and_from, cases_lt, true≢false, false_from_ne_true}
+use Rattle.std.proofs.lemmas.Bool.{eqb-true, eqb-false, ltb-true, ltb-false, eq-eqb, ne_eqb, lt-ltb, or_cases, cases_Bool, and_parts, and_from, cases_lt, true≢false, false_from_ne_true}
 use Rattle.std.proofs.Math.Bool.{or-false, or_assoc}
 use Rattle.std.proofs.lemmas.Bool.Decides.{nat_tests}
 use Rattle.basket_sets.specs.Itemset.{IsRising, has, contains, with_item, rising}
 use Rattle.std.specs.List.Sorted.{IsBinarySearchResult, IsPermutation, IsSorted}
-use Rattle.std.specs.List.{Contains, IsAllAdjacentAnswer, dedup, insert}
+use Rattle.std.specs.List.{Contains, IsAllAdjacentAnswer, IsDistinct, dedup, insert}
 use Rattle.std.proofs.lemmas.List.{get_or_default, get_or-take, length-take, take_more}
 use Rattle.std.proofs.lemmas.List.Kept.{Contains-dedup_nat, Contains-from_dedup}
 use Rattle.std.proofs.lemmas.List.Sorted.{searched, Contains-permutation, IsPermutation-sym}
@@ -85,6 +86,15 @@ first_below x xs up y m = lt-from_Less x y (first_is_less nat_cmp_total x y xs u
 -- the rest of a rising list rises
 pub rest_rises : (x : ℕ) (xs : List ℕ) → IsRising (x ∷ xs) → IsRising xs
 rest_rises x xs up = rest_is_sorted nat_cmp_total x xs up
+
+-- rising numbers are distinct
+pub rising_distinct : (xs : List ℕ) → IsRising xs → IsDistinct nat_eq xs
+unfolding IsDistinct
+rising_distinct [] up = tt
+rising_distinct (x ∷ xs) up = (
+  All-from_Member (λ y. nat_eq x y ≡ false) xs (λ y m. ne_eqb x y (λ e. let less = first_below x xs up y m in omega arith)),
+  rising_distinct xs (rest_rises x xs up),
+)
 
 -- two rising lists that have the same items are equal
 pub same_rising : (xs ys : List ℕ) → IsRising xs → IsRising ys → ((z : ℕ) → Member z xs → Member z ys) → ((z : ℕ) → Member z ys → Member z xs) → xs ≡ ys

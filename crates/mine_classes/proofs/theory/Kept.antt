@@ -1,8 +1,7 @@
 -- The ranks that a conditional database keeps.
-use Rattle.std.proofs.Common.{◌≡◌, ℕ, ◌<◌, ◌≤◌, Bool, true, false, List, [], ◌∷◌, length, map, ltb, refl, ap, subst, inl, inr, arith}
-use Rattle.std.specs.Prelude.{nat_eq}
-use Rattle.std.specs.List.{IsDistinct, range_with_len}
-use Rattle.std.proofs.lemmas.Bool.{and_parts, cases_Bool, eqb-true, ltb-true}
+use Rattle.std.proofs.Common.{◌≡◌, ℕ, ◌<◌, ◌≤◌, Bool, true, List, [], ◌∷◌, length, map, ltb, refl, ap, subst, arith}
+use Rattle.std.specs.List.{range_with_len}
+use Rattle.std.proofs.lemmas.Bool.{and_parts, ltb-true}
 use Rattle.std.proofs.lemmas.List.Elements.{All-weaker}
 use Rattle.std.proofs.lemmas.List.FromFn.{length-range_with_len}
 use Rattle.basket_ranks.specs.Codes.{IsCodedPlace, IsCoding, MOST_RANKS}
@@ -13,23 +12,12 @@ use Rattle.basket_sets.specs.Database.{HasWeight}
 use Rattle.basket_sets.specs.Frequent.{is_frequent}
 use Rattle.basket_sets.specs.Itemset.{IsRising, has}
 use Rattle.basket_sets.specs.Support.{support_of}
-use Rattle.basket_sets.proofs.theory.Members.{All-from_Member, Member, Member-filter, Member-from_filter}
-use Rattle.basket_sets.proofs.theory.Rising.{Member-from_has, first_below, has-from_Member, length-le-contains, rest_rises, same_test}
+use Rattle.basket_sets.proofs.theory.Members.{Member, Member-filter, Member-from_filter}
+use Rattle.basket_sets.proofs.theory.Rising.{Member-from_has, has-from_Member, length-le-contains, rising_distinct, same_test}
 use Rattle.basket_sets.proofs.theory.Ranges.{Member-into_range, filtered_range_rises, range_rises}
 use Rattle.mine_classes.specs.Conditional.{is_kept}
 use Rattle.mine_baskets.specs.ListBaskets.{AreRankBaskets, IsRankBasket, RankBaskets}
 use Rattle.mine_classes.specs.Pairs.{kept_ranks, pairs_of}
-
-rising_distinct : (xs : List ℕ) → IsRising xs → IsDistinct nat_eq xs
-unfolding IsDistinct
-rising_distinct [] up = tt
-rising_distinct (x ∷ xs) up = (
-  All-from_Member (λ y. nat_eq x y ≡ false) xs (λ y m. elim (cases_Bool (nat_eq x y)) [
-    | inl e ↦ (let same = eqb-true x y e in let less = first_below x xs up y m in absurd (omega arith))
-    | inr e ↦ e
-  ]),
-  rising_distinct xs (rest_rises x xs up),
-)
 
 module _ (baskets : List Weighted) (least rank : ℕ) where
   abbrev keeps : ℕ → Bool
