@@ -65,7 +65,7 @@ impl CountPlan {
         CountPlan { workers, ..self }
     }
 
-    /// Into how many pieces the counting of each size is cut. No report depends on it.
+    /// Into how many pieces the counting of each size is cut at most. No report depends on it.
     pub fn pieces(&self) -> u32
         ensures value { result ≡ self.now.pieces }
         ensures within { (1 ≤ result) × (result ≤ MOST_PIECES) }

@@ -178,7 +178,7 @@ impl Plan {
         Plan { workers, ..self }
     }
 
-    /// Into how many pieces each phase of the mining is cut. No report depends on it.
+    /// Into how many pieces each phase of the mining is cut at most. No report depends on it.
     pub fn pieces(&self) -> u32
         ensures value { result ≡ self.now.pieces }
         ensures within { (1 ≤ result) × (result ≤ MOST_PIECES) }

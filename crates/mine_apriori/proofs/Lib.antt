@@ -17,8 +17,6 @@ mod SupportLemmas
 mod RegularLemmas
 mod LevelsLemmas
 mod MarkLemmas
-mod PlaceLemmas
-mod TriangleLemmas
 mod PairLemmas
 mod WorkLemmas
 mod ItemLemmas

@@ -1,9 +1,9 @@
 -- Pairs by the greater rank and by the lesser.
-use Rattle.std.proofs.Common.{◌≡◌, ◌≢◌, ℕ, ◌+◌, ◌-◌, ◌<◌, ◌≤◌, Bool, true, false, ◌&&◌, List, [], ◌∷◌, ◌++◌, length, take, get_or, map, set, cond, eqb, ltb, leb, refl, sym, ap, ◌∙◌, subst, inl, inr, arith, zero, suc, append_assoc, append-nil}
+use Rattle.std.proofs.Common.{◌≡◌, ◌≢◌, ℕ, ◌+◌, ◌-◌, ◌<◌, ◌≤◌, Bool, true, false, ◌&&◌, List, [], ◌∷◌, ◌++◌, length, take, get_or, map, set, cond, eqb, leb, refl, sym, ap, ◌∙◌, subst, inl, inr, arith, zero, suc, add-one, append_assoc, append-nil}
 use Rattle.std.specs.Cmp.Lexicographic.{slice_cmp}
 use Rattle.std.specs.Ordering.{nat_cmp}
 use Rattle.std.specs.List.{All, filter, range_with_len}
-use Rattle.std.proofs.lemmas.Bool.{cases_eq, cases_lt, cases_order, eq-eqb, ne_eqb, lt-ltb, le-leb, leb-true}
+use Rattle.std.proofs.lemmas.Bool.{cases_eq, cases_lt, eq-eqb, ne_eqb, lt-ltb, le-leb, leb-true}
 use Rattle.std.specs.declared.vec.Vec.{Vec}
 use Rattle.std.specs.declared.alloc.Global.{Global}
 use Rattle.std.proofs.lemmas.List.{map-append, map-set, length-map, get_or-map, get_or-set_same, get_or-set_other, take_more}
@@ -14,28 +14,25 @@ use Rattle.std.proofs.lemmas.Simd.{map-map}
 use Rattle.basket_ranks.specs.Codes.{Coding, IsCoding}
 use Rattle.basket_ranks.proofs.theory.Decoding.{ranks_below}
 use Rattle.basket_sets.specs.declared.weighted.Weighted.{Weighted}
-use Rattle.basket_sets.specs.declared.minimum.Minimum.{Minimum}
 use Rattle.basket_sets.specs.declared.minimum.Minimum.TheVariants.{Count}
 use Rattle.basket_sets.specs.Frequent.{is_frequent}
-use Rattle.basket_sets.specs.Itemset.{IsRising, has}
+use Rattle.basket_sets.specs.Itemset.{has}
 use Rattle.basket_sets.specs.Order.{report_order, report_order_total}
 use Rattle.basket_sets.specs.Subsets.{subsets_of_size}
 use Rattle.basket_sets.specs.Minimum.{IsLeastSupport}
 use Rattle.basket_sets.specs.Support.{support_of, total_of}
 use Rattle.basket_sets.proofs.theory.Items.{filter-map, one_item}
 use Rattle.basket_sets.proofs.theory.Members.{Member, All-from_Member, Member-filter, Member-from_filter, Member-from_map, same_members, sorted_along}
-use Rattle.basket_sets.proofs.theory.Rising.{Member-from_has, has-from_Member, nil_rises, cons_rises}
+use Rattle.basket_sets.proofs.theory.Rising.{Member-from_has, has-from_Member}
 use Rattle.basket_sets.proofs.theory.Subsets.{IsSubset-from_Member, Member-from_IsSubset, of_size_sorted, same_length}
 use Rattle.basket_sets.proofs.theory.Support.{support_falls}
-use Rattle.basket_sets.proofs.theory.Ranges.{Member-into_range, Member-range, range_rises}
+use Rattle.basket_sets.proofs.theory.Ranges.{Member-into_range, Member-range, range_more, range_rises}
 use Rattle.mine_classes.specs.Conditional.{is_kept}
-use Rattle.mine_classes.specs.Pairs.{pairs_of}
-use Rattle.mine_classes.specs.Runs.{ArePairsOf}
-use Rattle.mine_apriori.specs.Pairs.{ArePairs, pairs_by_greater, partners, pairs_with, pairs_by_lesser, pairs_at, lesser_from, all_lesser, lists_of, AreBelow}
+use Rattle.mine_classes.specs.Pairs.{pairs_of, pairs_by_greater, lists_of}
+use Rattle.mine_apriori.specs.Partners.{partners, pairs_with, pairs_by_lesser, pairs_at, lesser_from, all_lesser, AreBelow}
 use Rattle.mine_apriori.specs.Levels.{level_of}
 use Rattle.mine_apriori.proofs.LevelsLemmas.{from_level, into_level, level_in_order}
-use Rattle.mine_apriori.proofs.PlaceLemmas.{range_more}
-use Rattle.mine_apriori.proofs.TriangleLemmas.{below_at}
+use Rattle.basket_sets.proofs.theory.Tests.{all_below_at}
 
 filter_none : (p : ℕ → Bool) (xs : List ℕ) → ((x : ℕ) → Member x xs → p x ≡ false) → filter p xs ≡ []
 filter_none p [] none = refl
@@ -97,7 +94,7 @@ lesser_more first (list ∷ lists) pairs lesser =
 pub pair_below : (count : ℕ) (pairs : List (ℕ × ℕ)) (k : ℕ) → AreBelow count pairs → k < length pairs → (get_or pairs k (0, 0)).0 < count
 pair_below count pairs k below here =
     let at = get_or-map (λ (pair : ℕ × ℕ). pair.0) pairs k (0, 0) 0 here in
-    let less = below_at count (map (λ (pair : ℕ × ℕ). pair.0) pairs) k below (omega (arith, length-map pairs (λ (pair : ℕ × ℕ). pair.0), here)) in
+    let less = all_below_at count (map (λ (pair : ℕ × ℕ). pair.0) pairs) k below (omega (arith, length-map pairs (λ (pair : ℕ × ℕ). pair.0), here)) in
     omega (arith, at, less)
 
 pub list_at : {X : Type 0} (lists : List (Vec X Global)) (k : ℕ) (d : Vec X Global) → k < length lists → get_or (lists_of lists) k [] ≡ (get_or lists k d).items
@@ -171,7 +168,7 @@ module _ (coding : Coding) (least : ℕ) (settles : IsLeastSupport coding.minimu
         (let long : count + 1 - (lesser + 1) ≡ count - (lesser + 1) + 1 = omega arith in
         let last : lesser + 1 + (count - (lesser + 1)) ≡ count = omega arith in
         ap (λ n. map (with lesser) (filter (frequent lesser) (range_with_len (lesser + 1) n))) long
-        ∙ ap (λ l. map (with lesser) (filter (frequent lesser) l)) (range_more (lesser + 1) (count - (lesser + 1)) count last)
+        ∙ ap (λ l. map (with lesser) (filter (frequent lesser) l)) (ap (range_with_len (lesser + 1)) (add-one (count - (lesser + 1))) ∙ range_more (lesser + 1) (count - (lesser + 1)) ∙ ap (λ m. range_with_len (lesser + 1) (count - (lesser + 1)) ++ m ∷ []) last)
         ∙ ap (map (with lesser)) (filter-append (frequent lesser) (range_with_len (lesser + 1) (count - (lesser + 1))) (count ∷ []))
         ∙ map-append (with lesser) (filter (frequent lesser) (range_with_len (lesser + 1) (count - (lesser + 1)))) (cond (frequent lesser count) (count ∷ []) [])
         ∙ ap (λ l. pairs_with coding count lesser ++ l) (sym (added_below lesser count less)))
@@ -204,42 +201,6 @@ pairs_below coding least count k d below rank h =
     let r = Member-range 0 k o.0 (Member-filter (is_kept coding.baskets least k) o.0 (range_with_len 0 k) o.1).0 in
     let same = ap (λ (pair : ℕ × ℕ). pair.0) o.2 ∙ p.2 in
     omega (arith, r.1, same, long, below)
-
--- baskets that give each set the same support have the same pairs
-same_of_rank : (one other : List Weighted) (least rank : ℕ) → ((set : List ℕ) → support_of one set ≡ support_of other set) → pairs_of one least rank ≡ pairs_of other least rank
-same_of_rank one other least rank same i = map (λ lesser. (lesser, same (lesser ∷ rank ∷ []) i))
-    (filter (λ lesser. ltb lesser rank && (leb 1 (same (lesser ∷ rank ∷ []) i) && leb least (same (lesser ∷ rank ∷ []) i))) (range_with_len 0 rank))
-
-pub same_pairs : (one other : List Weighted) (least count : ℕ) → ((set : List ℕ) → support_of one set ≡ support_of other set) → pairs_by_greater one least count ≡ pairs_by_greater other least count
-same_pairs one other least count same i = map (λ rank. same_of_rank one other least rank same i) (range_with_len 0 count)
-
--- there is one least support that meets a minimum
-one_least : (minimum : Minimum) (total one other : ℕ) → IsLeastSupport minimum total one → IsLeastSupport minimum total other → one ≡ other
-one_least minimum total one other a b = elim (cases_order one other) [
-  | inl same ↦ same
-  | inr (inl less) ↦ absurd (apart one other a b less)
-  | inr (inr more) ↦ absurd (apart other one b a more)
-]
-  where
-    apart : (low high : ℕ) → IsLeastSupport minimum total low → IsLeastSupport minimum total high → low < high → ⊥
-    apart low high is also less =
-        let within = also.within in
-        let here = sym (also.met low (omega arith)) ∙ is.met low (omega arith) ∙ le-leb low low (omega arith) in
-        let up = leb-true high low here in
-        omega (arith, up, less)
-
--- the pairs of each rank are those of baskets with the same supports
-pub pairs_for : (coding : Coding) (least : ℕ) (others : List Weighted) (lists : List (Vec (ℕ × ℕ) Global)) → IsLeastSupport coding.minimum (total_of coding.baskets) least
-    → ((set : List ℕ) → support_of others set ≡ support_of coding.baskets set) → ArePairs coding (lists_of lists) → ArePairsOf others least lists
-pairs_for coding least others lists settles same are rank none below =
-    let count = length coding.items in
-    let one = one_least coding.minimum (total_of coding.baskets) are.least least are.settles settles in
-    let long : rank < count = omega (arith, below, length-map lists (λ list. list.items), ap length are.pairs, length-map-range_with_len (pairs_of coding.baskets are.least) 0 count) in
-    sym (get_or-map (λ (list : Vec (ℕ × ℕ) Global). list.items) lists rank none [] below)
-    ∙ ap (λ l. get_or l rank []) are.pairs
-    ∙ get_or-map-range_with_len (pairs_of coding.baskets are.least) 0 count rank rank [] long (omega arith)
-    ∙ ap (λ n. pairs_of coding.baskets n rank) one
-    ∙ sym (same_of_rank others coding.baskets least rank same)
 
 pub pairs_long : (baskets : List Weighted) (least count : ℕ) → length (pairs_by_greater baskets least count) ≡ count
 pairs_long baskets least count = length-map-range_with_len (pairs_of baskets least) 0 count

@@ -1,8 +1,7 @@
 -- Counts with the supports of sets in the baskets so far added.
-use Rattle.std.specs.Prelude.{replicate}
-use Rattle.std.proofs.Common.{◌≡◌, ℕ, ◌+◌, ◌<◌, ◌≤◌, ◌^◌, List, [], length, take, map, get_or, refl, sym, subst, ap, ◌∙◌, arith, zero-add}
+use Rattle.std.proofs.Common.{◌≡◌, ℕ, ◌+◌, ◌<◌, ◌≤◌, ◌^◌, List, [], length, take, get_or, refl, sym, subst, ap, ◌∙◌, arith}
 use Rattle.std.specs.List.{AllWithin}
-use Rattle.std.proofs.lemmas.List.{ext_get_or, get_or-map, get_or-replicate, length-map, length-replicate, get_or_default}
+use Rattle.std.proofs.lemmas.List.{get_or_default}
 use Rattle.std.proofs.lemmas.List.Sums.{sum_by_more, sum_by_more_le}
 use Rattle.basket_sets.specs.declared.weighted.Weighted.{Weighted}
 use Rattle.basket_sets.specs.Database.{MOST_WEIGHT}
@@ -11,7 +10,7 @@ use Rattle.basket_sets.specs.Support.{weight_at, support_of, total_of}
 use Rattle.basket_sets.proofs.theory.Support.{support_falls}
 use Rattle.mine_apriori.specs.Nodes.{starts_of, first_leaf}
 use Rattle.mine_apriori.specs.Run.{AddsWithin}
-use Rattle.mine_apriori.specs.Shard.{WithSupports}
+use Rattle.mine_classes.specs.Triangle.{WithSupports}
 use Rattle.mine_apriori.proofs.NodeLemmas.{first_leaf_zero, first_leaf_end}
 use Rattle.mine_apriori.proofs.RunLemmas.{adds_agree}
 use Rattle.mine_apriori.proofs.TreeLemmas.{rest_in}
@@ -53,14 +52,3 @@ supports_more sets baskets i place old counts new below is adds added leaf insid
     let now = adds.within leaf (omega arith) inside in
     let more = sum_by_more (weight_at (get_or sets leaf [])) baskets i place below ∙ ap (λ p. support_of (take i baskets) (get_or sets leaf []) + weight_at (get_or sets leaf []) p) (sym is) in
     omega (arith, before, now, more)
-
--- counts from 0 on are the supports
-pub counts_are_supports : (sets : List (List ℕ)) (baskets : List Weighted) (old new : List ℕ) → old ≡ replicate (length sets) 0 → length new ≡ length old → WithSupports sets baskets old new
-    → new ≡ map (support_of baskets) sets
-counts_are_supports sets baskets old new none same added =
-    let long = ap length none ∙ length-replicate (length sets) 0 in
-    ext_get_or 0 new (map (support_of baskets) sets) (same ∙ long ∙ sym (length-map sets (support_of baskets)))
-    (λ k within. added k (omega arith) (omega arith)
-    ∙ ap (λ n. n + support_of baskets (get_or sets k [])) (ap (λ l. get_or l k 0) none ∙ get_or-replicate (length sets) k 0 0 (omega arith))
-    ∙ zero-add (support_of baskets (get_or sets k []))
-    ∙ sym (get_or-map (support_of baskets) sets k [] 0 (omega arith)))

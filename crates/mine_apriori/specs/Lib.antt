@@ -8,7 +8,6 @@ pub mod Used
 pub mod Endings
 pub mod Tree
 pub mod Shard
-pub mod Pairs
-pub mod Triangle
+pub mod Partners
 pub mod Work
 pub mod Levels

@@ -4,13 +4,13 @@ ghost use Rattle.basket_core.specs.declared.fault.MineFault.TheVariants.{TooMany
 ghost use Rattle.basket_ranks.specs.Codes.{IsCoding};
 ghost use Rattle.basket_sets.specs.Support.{support_of};
 ghost use Rattle.mine_apriori.specs.Levels.{AreFound, AreTooMany, level_of};
-ghost use Rattle.mine_apriori.specs.Pairs.{ArePairs, lists_of};
+ghost use Rattle.mine_classes.specs.Pairs.{ArePairs, lists_of};
 
 use crate::levels::{Known, Levels};
-use crate::pairs::by_lesser;
+use crate::partners::by_lesser;
 use crate::rank_sets::RankSets;
-use crate::triangle::pair_count;
 use basket_core::{Coded, Itemset, MineFault, count_items};
+use mine_classes::pair_count;
 use std::alloc::{AllocError, Global};
 use std::marker::Model;
 

@@ -10,10 +10,10 @@ ghost use Rattle.mine_apriori.specs.Work.{candidate_count, candidates_of_size, c
 
 use crate::first_level::{FirstLevel, frequent_ranks};
 use crate::join::candidates;
-use crate::pairs::frequent_pairs;
 use crate::rank_sets::RankSets;
 use crate::shard::count_shard;
 use basket_core::{Coded, Frequent, Itemset, MineFault};
+use mine_classes::frequent_pairs;
 use std::alloc::Global;
 use std::marker::Model;
 

@@ -7,7 +7,7 @@ ghost use Rattle.basket_sets.specs.Order.{IsInReportOrder};
 ghost use Rattle.basket_sets.specs.Support.{total_of};
 ghost use Rattle.mine_apriori.specs.Nodes.{first_leaf, node_items, starts_of};
 ghost use Rattle.mine_apriori.specs.Run.{AddsWithin, IsMissingAt};
-ghost use Rattle.mine_apriori.specs.Shard.{WithSupports};
+ghost use Rattle.mine_classes.specs.Triangle.{WithSupports};
 ghost use Rattle.mine_apriori.specs.Tree.{AreTold, IsRun, leaf_depth};
 ghost use Rattle.mine_apriori.specs.Sizes.{AreOfOneSize};
 ghost use Rattle.mine_apriori.specs.Used.{IsClear};

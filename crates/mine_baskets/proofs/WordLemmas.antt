@@ -20,20 +20,13 @@ use Rattle.basket_sets.proofs.theory.Tests.{or_false}
 use Rattle.mine_baskets.specs.declared.words.Word.{Word}
 use Rattle.mine_baskets.specs.ListBaskets.{AreRankBaskets, HaveSameWeights, IsRankBasket, weight_where}
 use Rattle.mine_baskets.specs.Words.{AreInOrder, EndsBy, has_rank, rank_bits, ranks_in, word_place, word_places}
-use Rattle.mine_baskets.proofs.theory.Weights.{cond_sum}
+use Rattle.mine_baskets.proofs.theory.Weights.{cond_sum, word_sum}
 use Rattle.mine_baskets.proofs.theory.Bits.{has_either, one_rank}
 use Rattle.mine_baskets.specs.declared.words.TheConstants.{WORD_RANKS}
 
 module _ (test : List ℕ → Bool) where
   abbrev weigh : Weighted → ℕ
   weigh place = cond (test place.basket) place.weight 0
-
-  -- the weight of words' baskets, word by word
-  word_weights : (count : ℕ) (words : List Word) → weight_where test (word_places count words) ≡ sum_by (λ word. weigh (word_place count word)) words
-  word_weights count [] = refl
-  word_weights count (word ∷ words) =
-      sum_by-cons weigh (word_place count word) (word_places count words) ∙ ap (λ n. weigh (word_place count word) + n) (word_weights count words)
-      ∙ sym (sum_by-cons (λ (w : Word). weigh (word_place count w)) word words)
 
   -- more weight at a word is as good as an equal word
   pub heavier_word : (count : ℕ) (words : List Word) (i : ℕ) (d word : Word) → i < length words → (get_or words i d).bits ≡ word.bits
@@ -49,7 +42,7 @@ module _ (test : List ℕ → Bool) where
       let both = cond_sum (test (ranks_in count last.bits)) last.weight word.weight in
       let alike = ap (λ b. cond (test (ranks_in count b)) word.weight 0) same in
       let raised : sum_by f (words ++ word ∷ []) ≡ sum_by f (set words i new) = omega arith in
-      word_weights count (words ++ word ∷ []) ∙ raised ∙ sym (word_weights count (set words i new))
+      word_sum weigh count (words ++ word ∷ []) ∙ raised ∙ sym (word_sum weigh count (set words i new))
 
 -- words in another order have the same weights
 pub moved_words : (count : ℕ) (words moved : List Word) → IsPermutation words moved → HaveSameWeights (word_places count words) (word_places count moved)
@@ -72,7 +65,7 @@ words_ranked count words some light = record {
             omega arith;
         weighs = some k none inside;
       });
-  light = subst (λ n. n ≤ MOST_WEIGHT) (sym (word_weights (λ basket. contains basket []) count words)) light;
+  light = subst (λ n. n ≤ MOST_WEIGHT) (sym (word_sum (weigh (λ basket. contains basket [])) count words)) light;
 }
   where
     none : Word

@@ -5,12 +5,15 @@ mod TogetherLemmas
 mod RunLemmas
 mod RunStepLemmas
 mod RunLoopLemmas
-mod PairLemmas
+mod SumStepLemmas
 mod SumLemmas
+mod PairLemmas
+mod AllPairsLemmas
+mod TriangleLemmas
 mod PlaceLemmas
 mod BitLemmas
 mod CodedLemmas
 mod MinedLemmas
 mod BranchLemmas
 mod ShiftLemmas
-mod WordLemmas
+mod WordPathLemmas

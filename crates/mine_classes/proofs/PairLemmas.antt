@@ -1,104 +1,78 @@
--- Sums by rank.
-use Rattle.std.proofs.Common.{◌≡◌, ℕ, ◌+◌, ◌<◌, Bool, true, false, ◌||◌, List, [], ◌∷◌, ◌++◌, length, take, get_or, set, cond, eqb, ltb, refl, sym, ap, ◌∙◌, subst, inl, inr, arith, add-zero}
-use Rattle.std.specs.Prelude.{replicate}
-use Rattle.std.specs.List.{filter}
-use mir.Val.{bool_byte}
-use Rattle.std.proofs.lemmas.Bool.{cases_Bool, cases_eq, cases_lt, eq-eqb, ltb-true, true≢false}
-use Rattle.std.proofs.lemmas.List.{ext_get_or, get_or-replicate, get_or-set_same, get_or-set_other, length-replicate, length-set, take-set, take_more_set}
-use Rattle.std.proofs.lemmas.List.Folds.{list_any_more}
-use Rattle.basket_sets.specs.Counts.{AllBelow}
-use Rattle.basket_sets.specs.Itemset.{IsRising, has, rising}
-use Rattle.basket_sets.proofs.theory.Members.{Member, Member-append, Member-append_left, Member-append_right, Member-filter}
-use Rattle.basket_sets.proofs.theory.Rising.{Member-from_has, has-from_Member, Member-rising}
-use Rattle.basket_sets.proofs.theory.Tests.{apart_eqb, or_false, or_true}
-use Rattle.mine_classes.specs.Pairs.{AreSums, WithBasket}
-use Rattle.mine_classes.proofs.RunStepLemmas.{front_is}
+-- The frequent pairs of ranks.
+use Rattle.std.proofs.Common.{◌≡◌, ℕ, ◌<◌, Bool, ◌&&◌, List, [], ◌∷◌, length, get_or, map, leb, ltb, refl, sym, ap, ◌∙◌, inl, inr, arith}
+use Rattle.std.specs.List.{filter, range_with_len}
+use Rattle.std.specs.declared.alloc.Global.{Global}
+use Rattle.std.specs.declared.vec.Vec.{Vec}
+use Rattle.std.proofs.lemmas.Bool.{cases_order, le-leb, leb-true, lt-ltb}
+use Rattle.std.proofs.lemmas.List.{length-map, get_or-map}
+use Rattle.std.proofs.lemmas.List.FromFn.{length-map-range_with_len, get_or-map-range_with_len}
+use Rattle.basket_ranks.specs.Codes.{Coding}
+use Rattle.basket_sets.specs.declared.minimum.Minimum.{Minimum}
+use Rattle.basket_sets.specs.declared.minimum.Minimum.TheVariants.{Count}
+use Rattle.basket_sets.specs.declared.weighted.Weighted.{Weighted}
+use Rattle.basket_sets.specs.Frequent.{is_frequent}
+use Rattle.basket_sets.specs.Minimum.{IsLeastSupport}
+use Rattle.basket_sets.specs.Support.{support_of, total_of}
+use Rattle.basket_sets.proofs.theory.Members.{Member, Member-filter}
+use Rattle.basket_sets.proofs.theory.Ranges.{Member-range, filter_members}
+use Rattle.mine_classes.specs.Conditional.{is_kept}
+use Rattle.mine_classes.specs.Pairs.{ArePairs, kept_ranks, lists_of, pairs_by_greater, pairs_of}
+use Rattle.mine_classes.specs.Runs.{ArePairsOf}
+use Rattle.mine_classes.specs.Sums.{is_met}
 
--- ---- a basket's ranks, one after another
+map_same : (f g : ℕ → ℕ × ℕ) (xs : List ℕ) → ((x : ℕ) → Member x xs → f x ≡ g x) → map f xs ≡ map g xs
+map_same f g [] same = refl
+map_same f g (x ∷ xs) same = ap (λ y. y ∷ map f xs) (same x (inl refl)) ∙ ap (λ l. g x ∷ l) (map_same f g xs (λ y m. same y (inr m)))
 
-not_before : (basket : List ℕ) (i : ℕ) → IsRising basket → i < length basket → has (take i basket) (get_or basket i 0) ≡ false
-not_before basket i up here = elim (cases_Bool (has (take i basket) (get_or basket i 0))) [
-  | inl e ↦
-      (let m = subst (Member (get_or basket i 0)) (sym (front_is basket i up here)) (Member-from_has (take i basket) (get_or basket i 0) e) in
-      let less = ltb-true (get_or basket i 0) (get_or basket i 0) (Member-filter (λ other. ltb other (get_or basket i 0)) (get_or basket i 0) basket m).1 in
-      absurd (omega arith))
-  | inr e ↦ e
+-- sums that are the supports of the pairs of a rank give its frequent pairs
+pub sums_are_pairs : (baskets : List Weighted) (least rank : ℕ) (sums : List ℕ) → length sums ≡ rank → ((other : ℕ) → other < rank → get_or sums other 0 ≡ support_of baskets (other ∷ rank ∷ []))
+    → map (λ other. (other, get_or sums other 0)) (filter (λ other. is_met least (get_or sums other 0)) (range_with_len 0 (length sums))) ≡ pairs_of baskets least rank
+sums_are_pairs baskets least rank sums long are =
+    ap (λ n. map (λ other. (other, get_or sums other 0)) (filter summed (range_with_len 0 n))) long
+    ∙ ap (map (λ other. (other, get_or sums other 0))) (filter_members summed (is_kept baskets least rank) (range_with_len 0 rank) (λ other m.
+    let less = within other m in
+    ap (is_met least) (are other less) ∙ ap (λ b. b && is_frequent baskets (Count least) (other ∷ rank ∷ [])) (sym (lt-ltb other rank less))))
+    ∙ map_same (λ other. (other, get_or sums other 0)) (λ other. (other, support_of baskets (other ∷ rank ∷ []))) (kept_ranks baskets least rank) (λ other m i.
+    (other, are other (within other (Member-filter (is_kept baskets least rank) other (range_with_len 0 rank) m).0) i))
+  where
+    summed : ℕ → Bool
+    summed other = is_met least (get_or sums other 0)
+
+    within : (other : ℕ) → Member other (range_with_len 0 rank) → other < rank
+    within other m = let high = (Member-range 0 rank other m).1 in omega arith
+
+-- baskets that give each set the same support have the same pairs
+same_of_rank : (one other : List Weighted) (least rank : ℕ) → ((set : List ℕ) → support_of one set ≡ support_of other set) → pairs_of one least rank ≡ pairs_of other least rank
+same_of_rank one other least rank same i = map (λ lesser. (lesser, same (lesser ∷ rank ∷ []) i))
+    (filter (λ lesser. ltb lesser rank && (leb 1 (same (lesser ∷ rank ∷ []) i) && leb least (same (lesser ∷ rank ∷ []) i))) (range_with_len 0 rank))
+
+pub same_pairs : (one other : List Weighted) (least count : ℕ) → ((set : List ℕ) → support_of one set ≡ support_of other set) → pairs_by_greater one least count ≡ pairs_by_greater other least count
+same_pairs one other least count same i = map (λ rank. same_of_rank one other least rank same i) (range_with_len 0 count)
+
+-- there is one least support that meets a minimum
+one_least : (minimum : Minimum) (total one other : ℕ) → IsLeastSupport minimum total one → IsLeastSupport minimum total other → one ≡ other
+one_least minimum total one other a b = elim (cases_order one other) [
+  | inl same ↦ same
+  | inr (inl less) ↦ absurd (apart one other a b less)
+  | inr (inr more) ↦ absurd (apart other one b a more)
 ]
+  where
+    apart : (low high : ℕ) → IsLeastSupport minimum total low → IsLeastSupport minimum total high → low < high → ⊥
+    apart low high is also less =
+        let within = also.within in
+        let here = sym (also.met low (omega arith)) ∙ is.met low (omega arith) ∙ le-leb low low (omega arith) in
+        let up = leb-true high low here in
+        omega (arith, up, less)
 
-pub has_more : (basket : List ℕ) (i rank : ℕ) → i < length basket → has (take (i + 1) basket) rank ≡ (has (take i basket) rank || eqb (get_or basket i 0) rank)
-has_more basket i rank here = list_any_more (λ other. eqb other rank) basket i 0 here
-
-pub with_more : (basket : List ℕ) (i weight : ℕ) (old now : List ℕ) → IsRising basket → i < length basket → get_or basket i 0 < length now → length now ≡ length old → WithBasket (take i basket) weight old now
-    → WithBasket (take (i + 1) basket) weight old (set now (get_or basket i 0) (get_or now (get_or basket i 0) 0 + weight))
-with_more basket i weight old now up here inside long added rank below = elim (cases_eq rank (get_or basket i 0)) [
-  | inl e ↦
-      (let as_was : get_or now rank 0 ≡ get_or old rank 0 + 0 = added rank below
-      ∙ ap (λ b. get_or old rank 0 + cond b weight 0) (ap (has (take i basket)) e ∙ not_before basket i up here) in
-      let new = ap (λ b. get_or old rank 0 + cond b weight 0) (has_more basket i rank here ∙ ap (λ b. has (take i basket) rank || b) (eq-eqb (get_or basket i 0) rank (sym e)) ∙ or_true (has (take i basket) rank)) in
-      subst (λ r. get_or (set now r (get_or now r 0 + weight)) rank 0 ≡ get_or old rank 0 + cond (has (take (i + 1) basket) rank) weight 0) e
-      (get_or-set_same now rank (get_or now rank 0 + weight) 0 (omega arith) ∙ ap (λ n. n + weight) (as_was ∙ add-zero (get_or old rank 0)) ∙ sym new))
-  | inr differ ↦
-      get_or-set_other now (get_or basket i 0) rank (get_or now (get_or basket i 0) 0 + weight) 0 differ ∙ added rank below
-      ∙ ap (λ b. get_or old rank 0 + cond b weight 0)
-      (sym (has_more basket i rank here ∙ ap (λ b. has (take i basket) rank || b) (apart_eqb (get_or basket i 0) rank (λ e. differ (sym e))) ∙ or_false (has (take i basket) rank)))
-]
-
--- ---- the list of the sums that are not 0
-
-sums_more : (count : ℕ) (sums found grown : List ℕ) (rank weight : ℕ) → AreSums count sums found → AllBelow count grown
-    → ((other : ℕ) → has found other ≡ true → has grown other ≡ true) → has grown rank ≡ true → AreSums count (set sums rank (get_or sums rank 0 + weight)) grown
-sums_more count sums found grown rank weight are below more there = record {
-  long = length-set sums rank (get_or sums rank 0 + weight) ∙ are.long;
-  below = below;
-  listed = λ other some. elim (cases_eq other rank) [
-    | inl e ↦ subst (λ r. has grown r ≡ true) (sym e) there
-    | inr differ ↦ more other (are.listed other (subst (λ n. 0 < n) (get_or-set_other sums rank other (get_or sums rank 0 + weight) 0 differ) some))
-  ];
-}
-
-has-append_left : (found : List ℕ) (rank other : ℕ) → has found other ≡ true → has (found ++ rank ∷ []) other ≡ true
-has-append_left found rank other h = has-from_Member (found ++ rank ∷ []) other (Member-append_left other found (rank ∷ []) (Member-from_has found other h))
-
-has-append_last : (found : List ℕ) (rank : ℕ) → has (found ++ rank ∷ []) rank ≡ true
-has-append_last found rank = has-from_Member (found ++ rank ∷ []) rank (Member-append_right rank found (rank ∷ []) (inl refl))
-
-below_push : (count : ℕ) (found : List ℕ) (rank : ℕ) → AllBelow count found → rank < count → AllBelow count (found ++ rank ∷ [])
-below_push count found rank below here other h = elim (Member-append other found (rank ∷ []) (Member-from_has (found ++ rank ∷ []) other h)) [
-  | inl m ↦ below other (has-from_Member found other m)
-  | inr (inl e) ↦ subst (λ r. r < count) e here
-  | inr (inr n) ↦ absurd n
-]
-
--- a rank put down behind those that are listed, and kept where its sum was 0
-pub listed_more : (count : ℕ) (sums found : List ℕ) (end rank weight more : ℕ) → AreSums count sums (take end found) → rank < count → end < length found
-    → more ≡ bool_byte (eqb (get_or sums rank 0) 0) → AreSums count (set sums rank (get_or sums rank 0 + weight)) (take (end + more) (set found end rank))
-listed_more count sums found end rank weight more are here room counted = elim (cases_Bool (eqb (get_or sums rank 0) 0)) [
-  | inl e ↦
-      (let listed = take end found in
-      let one : end + more ≡ end + 1 = ap (λ n. end + n) (counted ∙ ap bool_byte e) in
-      subst (AreSums count (set sums rank (get_or sums rank 0 + weight))) (sym (ap (λ n. take n (set found end rank)) one ∙ take_more_set found end rank room))
-      (sums_more count sums listed (listed ++ rank ∷ []) rank weight are (below_push count listed rank are.below here) (has-append_left listed rank) (has-append_last listed rank)))
-  | inr e ↦
-      (let listed = take end found in
-      let none : end + more ≡ end = ap (λ n. end + n) (counted ∙ ap bool_byte e) ∙ add-zero end in
-      let some : 0 < get_or sums rank 0 = elim (cases_lt 0 (get_or sums rank 0)) [
-        | inl h ↦ h
-        | inr h ↦ absurd (true≢false (sym (eq-eqb (get_or sums rank 0) 0 (omega (arith, h))) ∙ e))
-      ] in
-      subst (AreSums count (set sums rank (get_or sums rank 0 + weight))) (sym (ap (λ n. take n (set found end rank)) none ∙ take-set found end rank))
-      (sums_more count sums listed listed rank weight are are.below (λ other h. h) (are.listed rank some)))
-]
-
-pub all_zero : (count : ℕ) (sums : List ℕ) → length sums ≡ count → ((rank : ℕ) → get_or sums rank 0 ≡ 0) → sums ≡ replicate count 0
-all_zero count sums long zero_at = ext_get_or 0 sums (replicate count 0) (long ∙ sym (length-replicate count 0))
-    (λ rank here. zero_at rank ∙ sym (get_or-replicate count rank 0 0 (omega arith)))
-
-pub below_rising : (count : ℕ) (p : ℕ → Bool) (found : List ℕ) → AllBelow count found → AllBelow count (rising (filter p found))
-below_rising count p found below rank h =
-    let m = Member-rising (filter p found) rank (Member-from_has (rising (filter p found)) rank h) in below rank (has-from_Member found rank (Member-filter p rank found m).0)
-
-pub not_listed : (count : ℕ) (sums found : List ℕ) (rank : ℕ) → AreSums count sums found → has found rank ≡ false → get_or sums rank 0 ≡ 0
-not_listed count sums found rank are none = elim (cases_lt 0 (get_or sums rank 0)) [
-  | inl some ↦ absurd (true≢false (sym (are.listed rank some) ∙ none))
-  | inr none_is ↦ omega arith
-]
+-- the pairs of each rank are those of baskets with the same supports
+pub pairs_for : (coding : Coding) (least : ℕ) (others : List Weighted) (lists : List (Vec (ℕ × ℕ) Global)) → IsLeastSupport coding.minimum (total_of coding.baskets) least
+    → ((set : List ℕ) → support_of others set ≡ support_of coding.baskets set) → ArePairs coding (lists_of lists) → ArePairsOf others least lists
+pairs_for coding least others lists settles same are rank none below =
+    let count = length coding.items in
+    let one = one_least coding.minimum (total_of coding.baskets) are.least least are.settles settles in
+    let long : rank < count = omega (arith, below, length-map lists (λ list. list.items), ap length are.pairs, length-map-range_with_len (pairs_of coding.baskets are.least) 0 count) in
+    sym (get_or-map (λ (list : Vec (ℕ × ℕ) Global). list.items) lists rank none [] below)
+    ∙ ap (λ l. get_or l rank []) are.pairs
+    ∙ get_or-map-range_with_len (pairs_of coding.baskets are.least) 0 count rank rank [] long (omega arith)
+    ∙ ap (λ n. pairs_of coding.baskets n rank) one
+    ∙ sym (same_of_rank others coding.baskets least rank same)

@@ -18,7 +18,8 @@ use Rattle.basket_sets.proofs.theory.Ranges.{Member-into_range, Member-range, fi
 use Rattle.mine_baskets.specs.declared.span.Span.{Span}
 use Rattle.mine_classes.specs.Conditional.{is_kept}
 use Rattle.mine_baskets.specs.ListBaskets.{AreRankBaskets, IsRankBasket}
-use Rattle.mine_classes.specs.Pairs.{AreSums, is_met, kept_ranks, pairs_of, ranks_met, weight_with}
+use Rattle.mine_classes.specs.Sums.{AreSums, is_met, ranks_met, weight_with}
+use Rattle.mine_classes.specs.Pairs.{kept_ranks, pairs_of}
 use Rattle.mine_classes.specs.Runs.{AreRunsOf, below}
 use Rattle.mine_baskets.specs.Span.{basket_at, baskets_at}
 use Rattle.mine_classes.proofs.ConditionalLemmas.{kept_support}

@@ -1,10 +1,12 @@
 pub mod Conditional
 pub mod Classes
 pub mod Runs
+pub mod Sums
 pub mod Pairs
+pub mod Triangle
 pub mod Places
 pub mod BitTable
-pub mod Words
+pub mod WordPaths
 pub mod Shift
 pub mod Paths
 pub mod Worked

@@ -1,12 +1,13 @@
--- Supports of pairs, by a sum for each rank.
-use Rattle.std.specs.Prelude.{◌≡◌, ◌<◌, ◌+◌, ℕ, Bool, ◌&&◌, IsTrue, List, [], ◌∷◌, filter, length, map, nat_le, slice_index, if◌then◌else◌}
+-- The frequent pairs of ranks, by their greater ranks, and their supports.
+use Rattle.std.specs.Prelude.{◌≡◌, ℕ, List, [], ◌∷◌, filter, length, map, slice_index}
 use Rattle.std.specs.List.{range_with_len}
+use Rattle.std.specs.declared.vec.Vec.{Vec}
+use Rattle.std.specs.declared.alloc.Global.{Global}
+use Rattle.basket_ranks.specs.Codes.{Coding}
 use Rattle.basket_sets.specs.declared.weighted.Weighted.{Weighted}
-use Rattle.basket_sets.specs.Counts.{AllBelow}
-use Rattle.basket_sets.specs.Itemset.{has}
-use Rattle.basket_sets.specs.Support.{support_of}
+use Rattle.basket_sets.specs.Minimum.{IsLeastSupport}
+use Rattle.basket_sets.specs.Support.{support_of, total_of}
 use Rattle.mine_classes.specs.Conditional.{is_kept}
-use Rattle.mine_baskets.specs.ListBaskets.{weight_where}
 
 -- the ranks below a rank that are frequent together with it, by a least support
 abbrev pub kept_ranks : List Weighted → ℕ → ℕ → List ℕ
@@ -16,27 +17,19 @@ kept_ranks baskets least rank = filter (is_kept baskets least rank) (range_with_
 abbrev pub pairs_of : List Weighted → ℕ → ℕ → List (ℕ × ℕ)
 pairs_of baskets least rank = map (λ other. (other, support_of baskets (other ∷ rank ∷ []))) (kept_ranks baskets least rank)
 
--- sums of some ranks: each that is not 0 is of a rank that is listed
-pub record AreSums (count : ℕ) (sums found : List ℕ) : Type 0 where
-  pub long : length sums ≡ count
-  pub below : AllBelow count found
-  pub listed : (rank : ℕ) → 0 < slice_index sums rank → IsTrue (has found rank)
+-- the lists in a list
+abbrev pub lists_of : {X : Type 0} → List (Vec X Global) → List (List X)
+lists_of lists = map (λ list. list.items) lists
 
--- the sums with a weight added at each rank of a basket
-abbrev pub WithBasket : List ℕ → ℕ → List ℕ → List ℕ → Type 0
-WithBasket basket weight old new = (rank : ℕ) → rank < length old → slice_index new rank ≡ slice_index old rank + (if has basket rank then weight else 0)
+-- for each rank below a number the ranks below it that are frequent together with it, by a least support, each with the support of the pair
+abbrev pub pairs_by_greater : List Weighted → ℕ → ℕ → List (List (ℕ × ℕ))
+pairs_by_greater baskets least count = map (pairs_of baskets least) (range_with_len 0 count)
 
--- whether a sum is a support that is asked for
-abbrev pub is_met : ℕ → ℕ → Bool
-is_met least sum = nat_le 1 sum && nat_le least sum
-
--- the weight of the baskets that have a rank
-abbrev pub weight_with : ℕ → List Weighted → ℕ
-weight_with rank baskets = weight_where (λ basket. has basket rank) baskets
-
--- the ranks below a number that stand in baskets of at least so much weight, each with that weight
-abbrev pub ranks_met : ℕ → ℕ → List Weighted → List (ℕ × ℕ)
-ranks_met count least baskets = map (λ rank. (rank, weight_with rank baskets)) (filter (λ rank. is_met least (weight_with rank baskets)) (range_with_len 0 count))
+-- the pairs of each rank of a coding, by the least support that meets its minimum
+pub record ArePairs (coding : Coding) (lists : List (List (ℕ × ℕ))) : Type 0 where
+  pub least : ℕ
+  pub settles : IsLeastSupport coding.minimum (total_of coding.baskets) least
+  pub pairs : lists ≡ pairs_by_greater coding.baskets least (length coding.items)
 
 -- a pair with the rank that stands at its place in a list
 abbrev pub named_pair : List ℕ → ℕ × ℕ → ℕ × ℕ

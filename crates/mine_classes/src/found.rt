@@ -3,7 +3,7 @@ ghost use Rattle.std.specs.Prelude.{◌≡◌, ◌≤◌, ◌<◌, ◌+◌, ℕ,
 ghost use Rattle.basket_sets.specs.Counts.{AllBelow};
 ghost use Rattle.basket_sets.specs.Database.{MOST_WEIGHT};
 ghost use Rattle.basket_sets.specs.Itemset.{IsRising};
-ghost use Rattle.mine_classes.specs.Pairs.{AreSums, WithBasket};
+ghost use Rattle.mine_classes.specs.Sums.{AreSums, WithBasket};
 
 use crate::room::make_room;
 use std::alloc::{AllocError, Global};

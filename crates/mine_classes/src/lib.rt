@@ -1,11 +1,13 @@
-//! Classes and conditional databases, the ground of the miners that go depth first.
+//! Pairs, classes and conditional databases, the ground of all miners.
+//!
+//! `pairs` finds the frequent pairs of ranks for every miner: by a count for each pair, in `triangle`, where
+//! these are few, else rank by rank, by `sums`.
 //!
 //! The class of a rank is the frequent sets whose greatest rank it is, and its conditional database
 //! is what a miner needs to find them. `paths` has coded baskets in the form from which classes are mined:
-//! by `runs`, the places where each rank stands, or as `words` where there are few ranks. `pairs` sums the
-//! supports of pairs, and `conditional` keeps the baskets that have a rank to the ranks that are frequent
-//! together with it, which `places`, `bit_table` and `shift` number anew. `tables` are used again from rank to
-//! rank.
+//! by `runs`, the places where each rank stands, or as words where there are few ranks (`word_paths`).
+//! `conditional` keeps the baskets that have a rank to the ranks that are frequent together with it, which
+//! `places`, `bit_table` and `shift` number anew. `tables` are used again from rank to rank.
 #![tactic(auto)]
 
 mod bit_table;
@@ -18,13 +20,20 @@ mod places;
 mod room;
 mod runs;
 mod shift;
+mod sums;
 mod tables;
-mod words;
+mod triangle;
+mod word_paths;
 pub mod worked;
 
 pub use conditional::{Conditional, ranks_of};
-pub use pairs::{Sums, met_in_order};
+pub use pairs::{
+    frequent_pairs, is_small_triangle, pairs_by_triangle, pays_for_classes, runs_keeping,
+    runs_with_least,
+};
 pub use paths::Paths;
 pub use places::Places;
 pub use runs::Runs;
+pub use sums::Sums;
 pub use tables::Tables;
+pub use triangle::{add_pairs, pair_count, pairs_of_supports};

@@ -8,10 +8,10 @@ ghost use Rattle.mine_classes.specs.Pairs.{pairs_of};
 ghost use Rattle.mine_classes.specs.Paths.{IsConditional, IsOrdered, is_branch};
 
 use crate::conditional::Conditional;
-use crate::pairs::Sums;
 use crate::places::Places;
 use crate::runs::Runs;
-use crate::words;
+use crate::sums::Sums;
+use crate::word_paths;
 use mine_baskets::{Span, WordBaskets};
 use std::alloc::{AllocError, Global};
 use std::marker::Model;
@@ -77,7 +77,7 @@ impl Paths {
     {
         match &self.form {
             Form::Runs(runs) => have_whole_paths(runs),
-            Form::Words(baskets) => words::is_single_branch(baskets),
+            Form::Words(baskets) => word_paths::is_single_branch(baskets),
         }
     }
 
@@ -97,7 +97,7 @@ impl Paths {
     {
         match &self.form {
             Form::Runs(runs) => runs.pairs(alloc, sums, rank, least),
-            Form::Words(baskets) => words::pairs(alloc, baskets, rank, least),
+            Form::Words(baskets) => word_paths::pairs(alloc, baskets, rank, least),
         }
     }
 
@@ -139,7 +139,7 @@ fn below_words(
     requires pairs { pairs.now ≡ pairs_of baskets.now.baskets least rank }
     ensures { IfOk result (IsConditional baskets.now.baskets least rank) }
 {
-    let below = words::below(alloc, baskets, rank, pairs)?;
+    let below = word_paths::below(alloc, baskets, rank, pairs)?;
     Ok(below)
 }
 

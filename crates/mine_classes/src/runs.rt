@@ -11,7 +11,7 @@ ghost use Rattle.mine_classes.specs.Pairs.{pairs_of};
 ghost use Rattle.mine_classes.specs.Runs.{ArePairsOf, AreRunsOf, HaveAllRuns, HaveRuns, lists_in, with_run};
 ghost use Rattle.mine_baskets.specs.Span.{IsWithin, baskets_at};
 
-use crate::pairs::Sums;
+use crate::sums::Sums;
 use mine_baskets::ListBaskets;
 use mine_baskets::span::Span;
 use std::alloc::{AllocError, Global};

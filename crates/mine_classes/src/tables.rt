@@ -1,8 +1,8 @@
 //! What is used again from rank to rank.
 ghost use Rattle.std.specs.Prelude.{◌≡◌, IfOk};
 
-use crate::pairs::Sums;
 use crate::places::Places;
+use crate::sums::Sums;
 use std::alloc::{AllocError, Global};
 
 /// A place and a sum for each rank, used again from rank to rank, and by databases of fewer ranks.

@@ -5,4 +5,3 @@ pub mod Pieces
 pub mod Supports
 pub mod RoundTally
 pub mod Classes
-pub mod Pairs

@@ -4,7 +4,7 @@ ghost use Rattle.basket_core.specs.declared.fault.MineFault.TheVariants.{TooMany
 ghost use Rattle.basket_ranks.specs.Codes.{baskets_of};
 ghost use Rattle.basket_core.specs.Listing.{listing_of};
 ghost use Rattle.mine_apriori.specs.Levels.{AreTooMany};
-ghost use Rattle.mine_apriori.specs.Pairs.{ArePairs, lists_of};
+ghost use Rattle.mine_classes.specs.Pairs.{ArePairs, lists_of};
 ghost use Rattle.mine_apriori.specs.Work.{candidate_count};
 
 use crate::cutting::Cutting;
@@ -13,7 +13,8 @@ use crate::level::count_level;
 use crate::pairs::count_pairs;
 use crate::triangle::triangle_pairs;
 use basket_core::{Coded, Frequent, MineFault};
-use mine_apriori::{FirstLevel, is_small_triangle, runs_with_least};
+use mine_apriori::FirstLevel;
+use mine_classes::{is_small_triangle, runs_with_least};
 use std::alloc::{AllocError, Global};
 use std::thread::Threads;
 

@@ -1,5 +1,5 @@
 //! The phase that mines class by class, with one limit over all workers.
-ghost use Rattle.std.specs.Prelude.{◌≡◌, ◌≤◌, ◌<◌, ◌+◌, ◌++◌, ◌⊎◌, ℕ, All, Err, IfOk, IsTrue, OnOk, false, length, nat_lt, slice_index};
+ghost use Rattle.std.specs.Prelude.{◌≡◌, ◌≤◌, ◌<◌, ◌+◌, ◌++◌, ◌⊎◌, ℕ, All, Err, IfOk, IsTrue, OnOk, false, length, slice_index};
 ghost use Rattle.basket_core.specs.declared.fault.MineFault.TheVariants.{TooMany};
 ghost use Rattle.basket_ranks.specs.Codes.{frequent_of_coding};
 ghost use Rattle.basket_core.specs.Listing.{listing_of};
@@ -15,7 +15,7 @@ use crate::gate::Gate;
 use crate::joined::{Class, joined};
 use crate::phase::Phase;
 use crate::placed::collected;
-use crate::round_tally::{RoundTally, Start};
+use crate::round_tally::{RoundTally, Start, are_over};
 use crate::share::{Share, by_workers, claim_piece};
 use basket_core::{Coded, Frequent, MineFault, Tally, shard};
 use mine_classes::Tables;
@@ -67,7 +67,7 @@ impl<M: ClassMiner, G: Gate> Classes<'_, '_, M, G> {
             let values = Err(MineFault::Memory);
             return Share { seat, values };
         };
-        while !self.is_over(&mut seat) {
+        while !are_over(self.round, &mut seat, self.limit) {
             let Some(claimed) = claim_piece(self.round, &mut seat, self.gate, PHASE, worker) else {
                 let values = Ok(values);
                 return Share { seat, values };
@@ -82,17 +82,6 @@ impl<M: ClassMiner, G: Gate> Classes<'_, '_, M, G> {
         let limit = self.limit;
         let values = Err(MineFault::TooMany { limit });
         Share { seat, values }
-    }
-
-    /// Whether the workers have found more sets than the limit.
-    fn is_over(&self, seat: &mut RoundSeat) -> bool
-        requires counts { CountsSets self.now.round.now seat.old }
-        ensures counts { CountsSets self.now.round.now seat.new }
-        ensures same { still seat.new ≡ still seat.old }
-        ensures added { seat.new.held.added ≡ seat.old.held.added }
-        ensures over { result ≡ nat_lt self.now.limit (slice_index seat.new.held.seen 0) }
-    {
-        self.round.read(seat, 0) > u64::from(self.limit)
     }
 
     /// Adds the class of each rank of a claimed piece to the values, told by a seat.
@@ -128,16 +117,17 @@ impl<M: ClassMiner, G: Gate> Classes<'_, '_, M, G> {
         (tally.into_seat(), mined)
     }
 
-    /// The same, told to a tally. The tables are used again from piece to piece.
-    fn add_classes<T: Tally>(
+    /// The same, told to a tally, which looks behind each class at what the others have found. The tables
+    /// are used again from piece to piece.
+    fn add_classes<S: Start>(
         &self,
         alloc: Global,
         tables: &mut Tables,
         claimed: u32,
         values: &mut Vec<(u32, Class)>,
-        tally: &mut T,
+        tally: &mut RoundTally<'_, S>,
     ) -> Result<(), MineFault>
-        requires going { T.is_over tally.old ≡ false }
+        requires going { tally.old.over ≡ false }
         requires sums { tables.old.sums ≡ self.now.ranks }
         requires places { tables.old.places ≡ self.now.ranks }
         requires claimed { claimed < self.now.pieces }
@@ -145,12 +135,12 @@ impl<M: ClassMiner, G: Gate> Classes<'_, '_, M, G> {
         requires each { All (λ value. IsMined (M.coding_of self.now.miner.now) (M.is_work self.now.miner.now) value.0 value.1) values.old.items }
         ensures numbers { OnOk result (numbers_of values.new.items ≡ numbers_of values.old.items ++ ranks_of (M.coding_of self.now.miner.now) self.now.pieces claimed) }
         ensures each { OnOk result (All (λ value. IsMined (M.coding_of self.now.miner.now) (M.is_work self.now.miner.now) value.0 value.1) values.new.items) }
-        ensures told { OnOk result (T.told_of tally.new ≡ T.told_of tally.old + claimed_size (M.coding_of self.now.miner.now) self.now.pieces claimed) }
-        ensures going_on { OnOk result (T.is_over tally.new ≡ false) }
+        ensures told { OnOk result (tally.new.told ≡ tally.old.told + claimed_size (M.coding_of self.now.miner.now) self.now.pieces claimed) }
+        ensures going_on { OnOk result (tally.new.over ≡ false) }
         ensures too_many { (most : ℕ) → result ≡ Err (TooMany most)
-            → (most ≡ T.limit_of tally.old) × (IsTrue (T.is_over tally.new) ⊎ HasLargeClass (M.coding_of self.now.miner.now) most) }
-        ensures at_most { T.told_of tally.new ≤ T.told_of tally.old + claimed_size (M.coding_of self.now.miner.now) self.now.pieces claimed }
-        ensures limit { T.limit_of tally.new ≡ T.limit_of tally.old }
+            → (most ≡ tally.old.limit) × (IsTrue tally.new.over ⊎ HasLargeClass (M.coding_of self.now.miner.now) most) }
+        ensures at_most { tally.new.told ≤ tally.old.told + claimed_size (M.coding_of self.now.miner.now) self.now.pieces claimed }
+        ensures limit { tally.new.limit ≡ tally.old.limit }
         ensures sums { OnOk result (tables.new.sums ≡ tables.old.sums) }
         ensures places { OnOk result (tables.new.places ≡ tables.old.places) }
     {
@@ -161,6 +151,10 @@ impl<M: ClassMiner, G: Gate> Classes<'_, '_, M, G> {
         for rank in start..end {
             let class = self.miner.class(alloc, tables, rank as u32, tally)?;
             values.push((rank as u32, class))?;
+            if !tally.look() {
+                let limit = tally.limit();
+                return Err(MineFault::TooMany { limit });
+            }
         }
         Ok(())
     }
@@ -184,12 +178,13 @@ fn mined_classes<'a, 'g, R: Threads + Sync, G: Gate + Sync, M: ClassMiner + Sync
 {
     class_sizes_add_up();
     let _baskets = coded.baskets();
-    let cutting = phase.cutting;
+    let ranks = coded.ranks();
+    let cutting = phase.for_parts(ranks as usize).cutting;
     let (round, seats) = Round::new(alloc, cutting.pieces, 1, cutting.workers)?;
     let classes = Classes {
         round: &round,
         pieces: cutting.pieces,
-        ranks: coded.ranks(),
+        ranks,
         miner,
         limit,
         gate: phase.gate,
@@ -207,7 +202,7 @@ fn mined_classes<'a, 'g, R: Threads + Sync, G: Gate + Sync, M: ClassMiner + Sync
     let Ok(_) = round.close(seats) else {
         unreachable!()
     };
-    let classes = collected(alloc, coded.ranks(), values?)?;
+    let classes = collected(alloc, ranks, values?)?;
     Ok(classes)
 }
 

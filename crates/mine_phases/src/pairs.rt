@@ -1,9 +1,7 @@
 //! The second phase of Apriori, which finds the frequent pairs of ranks. They are counted where they
 //! occur, and no list of all pairs is made.
 ghost use Rattle.std.specs.Prelude.{◌≡◌, IfOk};
-ghost use Rattle.mine_apriori.specs.Pairs.{lists_of};
-ghost use Rattle.mine_classes.specs.Pairs.{pairs_of};
-ghost use Rattle.mine_phases.specs.Pairs.{pairs_in};
+ghost use Rattle.mine_classes.specs.Pairs.{lists_of, pairs_by_greater, pairs_of};
 
 use crate::cutting::Cutting;
 use crate::gate::Gate;
@@ -59,7 +57,7 @@ pub fn count_pairs<R: Threads + Sync, G: Gate + Sync>(
     cutting: Cutting,
     gate: &G,
 ) -> Result<Vec<Vec<(u32, u64)>>, AllocError>
-    ensures { IfOk result (λ pairs. lists_of pairs.items ≡ pairs_in runs.now least) }
+    ensures { IfOk result (λ pairs. lists_of pairs.items ≡ pairs_by_greater runs.now.baskets least runs.now.ranks) }
 {
     let pairing = Pairing { runs, least };
     by_pieces(rt, alloc, &pairing, &Phase::new(PHASE, cutting, gate))

@@ -1,5 +1,5 @@
 //! What the workers of a phase have in common.
-ghost use Rattle.std.specs.Prelude.{◌≡◌};
+ghost use Rattle.std.specs.Prelude.{◌≡◌, max, min};
 
 use crate::cutting::Cutting;
 use crate::gate::Gate;
@@ -24,5 +24,17 @@ impl<'a, G: Gate> Phase<'a, G> {
             cutting,
             gate,
         }
+    }
+
+    /// The same phase over so many parts: it has no more pieces than parts, and one at least.
+    pub fn for_parts(&self, parts: usize) -> Self
+        ensures number { result.number ≡ self.now.number }
+        ensures workers { result.cutting.workers ≡ self.now.cutting.workers }
+        ensures pieces { result.cutting.pieces ≡ max 1 (min parts self.now.cutting.pieces) }
+        ensures gate { result.gate.now ≡ self.now.gate.now }
+    {
+        let Cutting { workers, pieces } = self.cutting;
+        let pieces = parts.clamp(1, pieces as usize) as u32;
+        Phase::new(self.number, Cutting::new(workers, pieces), self.gate)
     }
 }

@@ -127,12 +127,14 @@ pub fn by_pieces<'a, 'p, R: Threads + Sync, G: Gate + Sync, V: Send + Drop, P: P
 ) -> Result<Vec<V>, AllocError>
     ensures { IfOk result (λ values. HasEach (P.is_value work.now) (P.part_count work.now) values.items) }
 {
+    let parts = work.parts();
+    let phase = phase.for_parts(parts as usize);
     let cutting = phase.cutting;
     let (round, seats) = Round::new(alloc, cutting.pieces, 0, cutting.workers)?;
     let shared = Pieces {
         round: &round,
         work,
-        phase,
+        phase: &phase,
     };
     let lent = &shared;
     let (seats, values) = by_workers(
@@ -150,5 +152,5 @@ pub fn by_pieces<'a, 'p, R: Threads + Sync, G: Gate + Sync, V: Send + Drop, P: P
     let Ok(lists) = values else {
         return Err(AllocError);
     };
-    collected(alloc, work.parts(), lists)
+    collected(alloc, parts, lists)
 }

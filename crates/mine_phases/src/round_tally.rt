@@ -1,5 +1,5 @@
 //! The sets that the workers of a round have found together.
-ghost use Rattle.std.specs.Prelude.{◌≡◌, ◌≤◌, ◌<◌, ◌+◌, ◌-◌, ◌^◌, IsTrue, min, slice_index};
+ghost use Rattle.std.specs.Prelude.{◌≡◌, ◌≤◌, ◌<◌, ◌+◌, ◌^◌, IsTrue, nat_lt, slice_index};
 ghost use Rattle.mine_phases.specs.RoundTally.{CountsSets, no_seat, still};
 ghost use Rattle.mine_round.specs.SeatView.{SeatView};
 
@@ -45,7 +45,7 @@ impl<'a, S: Start> Model for RoundTally<'a, S> {
 }
 
 impl<'a, S: Start> RoundTally<'a, S> {
-    ghost use Rattle.std.specs.Prelude.{false};
+    ghost use Rattle.std.specs.Prelude.{false, not};
     ghost use Rattle.mine_phases.specs.RoundTally.{IsRoundTally};
 
     /// The tally of a worker that has seen no more sets than the limit.
@@ -75,9 +75,23 @@ impl<'a, S: Start> RoundTally<'a, S> {
     {
         let mut seat = self.seat;
         if !self.over {
-            add_sets(self.round, &mut seat, self.waiting);
+            add_sets(self.round, &mut seat, self.waiting, self.limit);
         }
         seat
+    }
+
+    /// Looks at what all workers have found, and answers whether there may be more.
+    pub fn look(&mut self) -> bool
+        requires { self.old.over ≡ false }
+        ensures limit { self.new.limit ≡ self.old.limit }
+        ensures told { self.new.told ≡ self.old.told }
+        ensures over { result ≡ not self.new.over }
+    {
+        if are_over(self.round, &mut self.seat, self.limit) {
+            self.over = add_sets(self.round, &mut self.seat, self.waiting, self.limit);
+            self.waiting = 0;
+        }
+        !self.over
     }
 }
 
@@ -104,23 +118,33 @@ impl<'a, S: Start> Tally for RoundTally<'a, S> {
         self.told += 1;
         self.waiting += 1;
         if self.waiting == PORTION {
-            let seen = add_sets(self.round, &mut self.seat, self.waiting);
+            self.over = add_sets(self.round, &mut self.seat, self.waiting, self.limit);
             self.waiting = 0;
-            self.over = seen > u64::from(self.limit);
         }
         !self.over
     }
 }
 
-/// Adds sets to the counter, and answers how many are there then, or `u64::MAX` where they are more.
-fn add_sets(round: &Round, seat: &mut RoundSeat, sets: u64) -> u64
+/// Whether the workers have found more sets than the limit.
+pub fn are_over(round: &Round, seat: &mut RoundSeat, limit: u32) -> bool
+    requires counts { CountsSets round.now seat.old }
+    ensures counts { CountsSets round.now seat.new }
+    ensures same { still seat.new ≡ still seat.old }
+    ensures added { seat.new.held.added ≡ seat.old.held.added }
+    ensures over { result ≡ nat_lt limit (slice_index seat.new.held.seen 0) }
+{
+    round.read(seat, 0) > u64::from(limit)
+}
+
+/// Adds sets to the counter, and answers whether there are more than the limit then.
+fn add_sets(round: &Round, seat: &mut RoundSeat, sets: u64, limit: u32) -> bool
     requires counts { CountsSets round.now seat.old }
     requires few { slice_index seat.old.held.added 0 + sets ≤ 2 ^ 40 }
     ensures counts { CountsSets round.now seat.new }
     ensures same { still seat.new ≡ still seat.old }
     ensures added { slice_index seat.new.held.added 0 ≡ slice_index seat.old.held.added 0 + sets }
-    ensures seen { result ≡ min (slice_index seat.new.held.seen 0) (2 ^ 64 - 1) }
+    ensures over { result ≡ nat_lt limit (slice_index seat.new.held.seen 0) }
 {
     let found = round.add(seat, 0, sets);
-    found.saturating_add(sets)
+    found.saturating_add(sets) > u64::from(limit)
 }

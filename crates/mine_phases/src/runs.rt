@@ -7,9 +7,8 @@ use crate::cutting::Cutting;
 use crate::gate::Open;
 use crate::triangle::triangle_pairs;
 use basket_core::Coded;
-use mine_apriori::{pays_for_classes, runs_keeping};
 use mine_baskets::ListBaskets;
-use mine_classes::Runs;
+use mine_classes::{Runs, pays_for_classes, runs_keeping};
 use std::alloc::{AllocError, Global};
 use std::thread::Threads;
 

@@ -2,7 +2,7 @@
 ghost use Rattle.std.specs.Prelude.{◌≡◌, ◌≤◌, ◌<◌, ◌+◌, ℕ, List, All, IfOk, OnOk, length, map, slice_index};
 ghost use Rattle.basket_sets.specs.Database.{MOST_WEIGHT};
 ghost use Rattle.basket_sets.specs.Support.{support_of, total_of};
-ghost use Rattle.mine_apriori.specs.Shard.{WithSupports};
+ghost use Rattle.mine_classes.specs.Triangle.{WithSupports};
 ghost use Rattle.mine_phases.specs.Supports.{AddsSupports, IsSupportShare};
 ghost use Rattle.mine_round.specs.Record.{unused};
 
@@ -13,6 +13,12 @@ use basket_core::{MineFault, Weighted, shard};
 use mine_round::{Round, RoundSeat};
 use std::alloc::{AllocError, Global};
 use std::thread::Threads;
+
+/// To claim so many baskets takes little time beside counting in them.
+const SMALL_PART: usize = 16;
+
+/// So many parts are never too many.
+const FEW_PARTS: usize = 128;
 
 /// Sets whose supports are counted in some baskets after others.
 pub trait SupportCounter {
@@ -102,13 +108,14 @@ pub fn count_supports<'b, 'c, 'p, R: Threads + Sync, G: Gate + Sync, C: SupportC
     requires light { total_of baskets.now ≤ MOST_WEIGHT }
     ensures { IfOk result (λ supports. supports.items ≡ map (support_of baskets.now) (C.sets_of counter.now)) }
 {
+    let phase = phase.for_parts((baskets.len() / SMALL_PART).max(FEW_PARTS));
     let cutting = phase.cutting;
     let (round, seats) = Round::new(alloc, cutting.pieces, counter.len(), cutting.workers)?;
     let counting = Counting {
         round: &round,
         baskets,
         counter,
-        phase,
+        phase: &phase,
     };
     let lent = &counting;
     let (seats, ended) = by_workers(

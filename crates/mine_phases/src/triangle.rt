@@ -1,6 +1,6 @@
 //! The pairs of few ranks, each of which has a counter that the workers share.
 ghost use Rattle.std.specs.Prelude.{IfOk};
-ghost use Rattle.mine_apriori.specs.Pairs.{ArePairs, lists_of};
+ghost use Rattle.mine_classes.specs.Pairs.{ArePairs, lists_of};
 
 use crate::cutting::Cutting;
 use crate::gate::{Gate, pass_alone};
@@ -8,7 +8,7 @@ use crate::pairs::PHASE;
 use crate::phase::Phase;
 use crate::supports::{SupportCounter, count_supports};
 use basket_core::{Coded, Weighted};
-use mine_apriori::{add_pairs, pair_count, pairs_by_triangle, pairs_of_supports};
+use mine_classes::{add_pairs, pair_count, pairs_by_triangle, pairs_of_supports};
 use std::alloc::{AllocError, Global};
 use std::thread::Threads;
 
@@ -23,7 +23,7 @@ struct RankPairs {
 
 impl SupportCounter for RankPairs {
     ghost use Rattle.basket_sets.specs.Counts.{AllBelow};
-    ghost use Rattle.mine_apriori.specs.Triangle.{all_pairs};
+    ghost use Rattle.mine_classes.specs.Triangle.{all_pairs};
 
     ghost sets_of = { λ pairs. all_pairs pairs.ranks };
 

@@ -16,6 +16,7 @@ use Rattle.basket_sets.proofs.theory.Members.{Member, All-from_Member, Contains-
 use Rattle.basket_sets.proofs.theory.Rising.{Member-from_has, has-from_Member, nil_rises, contains_each}
 use Rattle.basket_sets.proofs.theory.Support.{subsets_are_frequent}
 use Rattle.basket_sets.proofs.theory.Ranges.{range_more}
+use Rattle.basket_sets.proofs.theory.Tests.{all_of}
 use Rattle.mine_classes.specs.Conditional.{ConditionalSupports, conditional, is_kept}
 use Rattle.mine_classes.specs.Mined.{RanksAreFrequent}
 use Rattle.mine_vertical.specs.Joins.{ClassJoinsAddUp, SetsOfRanksAreAll, class_joins, is_join, sets_of_ranks}
@@ -107,10 +108,6 @@ module _ (baskets : List Weighted) (minimum : Minimum) where
 
 module _ (law : ConditionalSupports) (all : List Weighted) (least rank : ℕ) (baskets : List Weighted) (same : (set : List ℕ) → support_of baskets set ≡ support_of (conditional least all rank) set)
     (others : List Weighted) (minimum : Minimum) (tests : (set : List ℕ) → is_frequent all (Count least) set ≡ is_frequent others minimum set) where
-  each_all : (xs : List ℕ) → ((x : ℕ) → Member x xs → is_kept all least rank x ≡ true) → list_all (is_kept all least rank) xs ≡ true
-  each_all [] h = refl
-  each_all (y ∷ ys) h = and_from (is_kept all least rank y) (list_all (is_kept all least rank) ys) (h y (inl refl)) (each_all ys (λ x m. h x (inr m)))
-
   -- a set is frequent there where it is frequent with the rank
   same_test : (set : List ℕ) → ((item : ℕ) → Member item set → item < rank) → is_met baskets least set ≡ is_frequent others minimum (set ++ rank ∷ [])
   same_test set lower =
@@ -122,7 +119,7 @@ module _ (law : ConditionalSupports) (all : List Weighted) (least rank : ℕ) (b
       frequent = is_frequent all (Count least) (set ++ rank ∷ [])
 
       kept : is_frequent all (Count least) (set ++ rank ∷ []) ≡ true → list_all (is_kept all least rank) set ≡ true
-      kept h = each_all set (λ item m. and_from (ltb item rank) (is_frequent all (Count least) (item ∷ rank ∷ [])) (lt-ltb item rank (lower item m))
+      kept h = all_of (is_kept all least rank) set (λ item m. and_from (ltb item rank) (is_frequent all (Count least) (item ∷ rank ∷ [])) (lt-ltb item rank (lower item m))
           (subsets_are_frequent all (Count least) (set ++ rank ∷ []) (item ∷ rank ∷ []) (contains_each (set ++ rank ∷ []) (item ∷ rank ∷ []) (λ z n. pair item m z n)) h))
         where
           pair : (item : ℕ) → Member item set → (z : ℕ) → Member z (item ∷ rank ∷ []) → Member z (set ++ rank ∷ [])

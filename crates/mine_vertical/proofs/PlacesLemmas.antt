@@ -1,5 +1,5 @@
 -- Words of bits for places, and the baskets that they are.
-use Rattle.std.proofs.Common.{◌≡◌, ◌≢◌, ℕ, zero, suc, ◌+◌, ◌-◌, ◌^◌, ◌<◌, ◌≤◌, Bool, true, false, ◌&&◌, ◌||◌, ◌⊎◌, List, [], ◌∷◌, ◌++◌, take, length, get_or, map, cond, eqb, refl, sym, ap, ◌∙◌, subst, inl, inr, arith, zero-add}
+use Rattle.std.proofs.Common.{◌≡◌, ◌≢◌, ℕ, zero, suc, ◌+◌, ◌-◌, ◌^◌, ◌<◌, ◌≤◌, Bool, true, false, ◌&&◌, ◌||◌, ◌⊎◌, List, [], ◌∷◌, ◌++◌, take, length, get_or, cond, eqb, refl, sym, ap, ◌∙◌, subst, inl, inr, arith, zero-add}
 use Rattle.std.specs.Prelude.{bit_or, replicate}
 use Rattle.std.specs.List.{filter, list_all, range_with_len, sum_by}
 use Rattle.std.proofs.lemmas.Bool.{cases_Bool, cases_eq, eq-eqb, ne_eqb, true≢false}
@@ -7,17 +7,16 @@ use Rattle.std.proofs.lemmas.List.{map-append}
 use Rattle.std.proofs.lemmas.List.Sums.{sum_by-append, sum_by-cons}
 use Rattle.std.proofs.lemmas.Nat.Bits.{bit_at-zero}
 use Rattle.basket_sets.specs.declared.weighted.Weighted.{Weighted}
-use Rattle.basket_sets.specs.declared.minimum.Minimum.TheVariants.{Count}
 use Rattle.basket_sets.specs.Database.{weighted}
-use Rattle.basket_sets.specs.Itemset.{AllBelow, IsRising, contains, has}
+use Rattle.basket_sets.specs.Itemset.{AllBelow, contains, has}
 use Rattle.basket_sets.specs.Support.{support_of}
 use Rattle.basket_sets.proofs.theory.Members.{Member, Member-append, Member-append_left, Member-append_right, Member-filter, Member-from_filter}
-use Rattle.basket_sets.proofs.theory.Rising.{Member-from_has, contains_each, has-from_Member, has_each, has_place, rising_distinct, same_test}
+use Rattle.basket_sets.proofs.theory.Rising.{Member-from_has, contains_each, has-from_Member, has_each, has_place, same_test}
 use Rattle.basket_sets.proofs.theory.Ranges.{Member-into_range, Member-range}
-use Rattle.basket_ranks.specs.Codes.{IsCoding, decoded, decoded_place}
+use Rattle.basket_ranks.specs.Codes.{decoded}
 use Rattle.basket_ranks.proofs.theory.Coding.{from_decoded, into_decoded}
 use Rattle.mine_baskets.specs.declared.words.Word.{Word}
-use Rattle.mine_baskets.specs.ListBaskets.{AreRankBaskets, RankBaskets, weight_where}
+use Rattle.mine_baskets.specs.ListBaskets.{weight_where}
 use Rattle.mine_baskets.specs.Words.{has_rank, ranks_in, word_place, word_places}
 use Rattle.mine_baskets.specs.Covers.{basket_at, cover_of, weights_of}
 use Rattle.mine_rows.specs.Cover.{IsAdded}
@@ -128,13 +127,6 @@ word_dropped count bits weights i words here there none same = λ test empty.
 
 -- ---- baskets of places as baskets of ranks
 
-pub decoded_weighs : (kept : List ℕ) (test : List ℕ → Bool) (baskets : List Weighted) → weight_where test (map (decoded_place kept) baskets) ≡ weight_where (λ basket. test (decoded kept basket)) baskets
-decoded_weighs kept test [] = refl
-decoded_weighs kept test (place ∷ places) =
-    sum_by-cons (λ (p : Weighted). cond (test p.basket) p.weight 0) (decoded_place kept place) (map (decoded_place kept) places)
-    ∙ ap (λ n. cond (test (decoded kept place.basket)) place.weight 0 + n) (decoded_weighs kept test places)
-    ∙ sym (sum_by-cons (λ (p : Weighted). cond (test (decoded kept p.basket)) p.weight 0) place places)
-
 -- tests that agree place by place
 same_weights : (f g : List ℕ → Bool) (count : ℕ) (bits : List ℕ) (baskets : List Weighted) → length bits ≡ length baskets
     → ((i : ℕ) → i < length baskets → f (ranks_in count (get_or bits i 0)) ≡ g (basket_at baskets i)) → weight_where f (bit_places count bits (weights_of baskets)) ≡ weight_where g baskets
@@ -242,13 +234,3 @@ module _ (baskets : List Weighted) (set kept bits : List ℕ) (are : AreBitsOf b
                   let m = Member-filter (has_rank word) i (range_with_len 0 (length kept)) (Member-from_has (ranks_in (length kept) word) i h) in
                   let r = Member-range 0 (length kept) i m.0 in
                   let high = r.1 in omega arith
-
--- baskets of ranks are those of a coding of as many items
-pub coded : (kept : List ℕ) (value : RankBaskets) → IsRising kept → length kept ≤ 64 → value.ranks ≡ length kept → AreRankBaskets value → IsCoding (record { items = kept; minimum = Count 1; baskets = value.baskets })
-coded kept value up few as_many are = record {
-  distinct = rising_distinct kept up;
-  few = omega arith;
-  places = λ k d here. let place = are.places k d here in (place.rises, subst (λ n. AllBelow n (get_or value.baskets k d).basket) as_many place.below);
-  weights = λ k d here. (are.places k d here).weighs;
-  light = are.light;
-}

@@ -2,6 +2,7 @@
 use Rattle.std.proofs.Common.{true, false, ◌++◌, ◌≡◌, ℕ, ◌+◌, Bool, List, [], ◌∷◌, map, cond, refl, sym, ap, ◌∙◌}
 use Rattle.std.proofs.lemmas.List.{map-append}
 use Rattle.std.proofs.lemmas.List.Sums.{sum_by-append, sum_by-cons}
+use Rattle.std.specs.List.{sum_by}
 use Rattle.basket_ranks.specs.Codes.{decoded, decoded_place}
 use Rattle.basket_sets.specs.declared.weighted.Weighted.{Weighted}
 use Rattle.basket_sets.specs.Database.{weighted}
@@ -20,6 +21,13 @@ changed_weight test f (place ∷ places) =
     sum_by-cons (λ (p : Weighted). cond (test p.basket) p.weight 0) (weighted (f place.basket) place.weight) (map (λ (p : Weighted). weighted (f p.basket) p.weight) places)
     ∙ ap (λ n. cond (test (f place.basket)) place.weight 0 + n) (changed_weight test f places)
     ∙ sym (sum_by-cons (λ (p : Weighted). cond (test (f p.basket)) p.weight 0) place places)
+
+-- what is summed of words' baskets, word by word
+pub word_sum : (f : Weighted → ℕ) (count : ℕ) (words : List Word) → sum_by f (word_places count words) ≡ sum_by (λ (word : Word). f (word_place count word)) words
+word_sum f count [] = refl
+word_sum f count (word ∷ words) =
+    sum_by-cons f (word_place count word) (word_places count words) ∙ ap (λ n. f (word_place count word) + n) (word_sum f count words)
+    ∙ sym (sum_by-cons (λ (w : Word). f (word_place count w)) word words)
 
 -- what has the same weights has them as items too
 pub decoded_weights : (items : List ℕ) (baskets others : List Weighted) → HaveSameWeights baskets others → HaveSameWeights (map (decoded_place items) baskets) (map (decoded_place items) others)

@@ -19,6 +19,17 @@ use Rattle.mine_classes.specs.Conditional.{is_kept}
 use Rattle.mine_baskets.specs.ListBaskets.{AreRankBaskets, IsRankBasket, RankBaskets}
 use Rattle.mine_classes.specs.Pairs.{kept_ranks, pairs_of}
 
+-- baskets of so many ranks are a coding of as many items that rise
+pub coding_of : (items : List ℕ) (least : ℕ) (value : RankBaskets) → IsRising items → length items < MOST_RANKS → AreRankBaskets value → value.ranks ≡ length items
+    → IsCoding (record { items = items; minimum = Count least; baskets = value.baskets })
+coding_of items least value up few are long = record {
+  distinct = rising_distinct items up;
+  few = few;
+  places = All-weaker (IsRankBasket value.ranks) (IsCodedPlace items) (λ place is. (is.rises, subst (λ n. AllBelow n place.basket) long is.below)) value.baskets are.places;
+  weights = All-weaker (IsRankBasket value.ranks) HasWeight (λ place is. is.weighs) value.baskets are.places;
+  light = are.light;
+}
+
 module _ (baskets : List Weighted) (least rank : ℕ) where
   abbrev keeps : ℕ → Bool
   keeps other = is_kept baskets least rank other
@@ -62,10 +73,4 @@ module _ (baskets : List Weighted) (least rank : ℕ) where
   -- baskets of so many ranks are a coding of the ranks that are kept
   pub conditional_coding : (value : RankBaskets) → AreRankBaskets value → value.ranks ≡ length kept → rank < MOST_RANKS
       → IsCoding (record { items = kept; minimum = Count least; baskets = value.baskets })
-  conditional_coding value are long few = record {
-    distinct = rising_distinct kept kept_rises;
-    few = (let short = kept_short in omega arith);
-    places = All-weaker (IsRankBasket value.ranks) (IsCodedPlace kept) (λ place is. (is.rises, subst (λ n. AllBelow n place.basket) long is.below)) value.baskets are.places;
-    weights = All-weaker (IsRankBasket value.ranks) HasWeight (λ place is. is.weighs) value.baskets are.places;
-    light = are.light;
-  }
+  conditional_coding value are long few = coding_of kept least value kept_rises (let short = kept_short in omega arith) are long

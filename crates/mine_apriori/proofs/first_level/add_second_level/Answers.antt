@@ -6,7 +6,8 @@ use Rattle.std.proofs.lemmas.List.{map-append}
 use Rattle.std.proofs.lemmas.List.FromFn.{get_or-map-range_with_len, length-map-range_with_len}
 use Rattle.basket_sets.specs.Support.{support_of}
 use Rattle.mine_apriori.specs.Levels.{level_of}
-use Rattle.mine_apriori.specs.Pairs.{AreBelow, all_lesser, lists_of, pairs_by_greater, pairs_by_lesser, pairs_with}
+use Rattle.mine_apriori.specs.Partners.{AreBelow, all_lesser, pairs_by_lesser, pairs_with}
+use Rattle.mine_classes.specs.Pairs.{lists_of, pairs_by_greater}
 use Rattle.mine_apriori.proofs.LevelsLemmas.{up_to_next}
 use Rattle.mine_apriori.proofs.PairLemmas.{counts_of_first, lesser_all, list_at, lists_long, pairs_above, pairs_below, pairs_long, pairs_from, pairs_of_first, second_level}
 use Rattle.mine_apriori.proofs.first_level.add_second_level.Goals as goal

@@ -1,8 +1,8 @@
 use Rattle.std.proofs.Common.{◌≡◌, length, subst, ◌∙◌}
 use Rattle.std.specs.Prelude.{replicate}
 use Rattle.std.proofs.lemmas.List.{take_at}
-use Rattle.mine_apriori.specs.Shard.{WithSupports}
-use Rattle.mine_apriori.proofs.SupportLemmas.{counts_are_supports}
+use Rattle.mine_classes.specs.Triangle.{WithSupports}
+use Rattle.mine_classes.proofs.theory.Supports.{counts_are_supports}
 use Rattle.mine_apriori.proofs.shard.count_by_tree.Goals as goal
 
 pub returns : goal.returns

@@ -2,7 +2,7 @@ use Rattle.std.proofs.Common.{length, ap, ◌∙◌, arith}
 use Rattle.std.proofs.lemmas.List.{take_all}
 use Rattle.basket_sets.specs.Itemset.{has}
 use Rattle.mine_classes.proofs.BitLemmas.{nothing_left}
-use Rattle.mine_classes.proofs.PairLemmas.{all_zero}
+use Rattle.mine_classes.proofs.SumStepLemmas.{all_zero}
 use Rattle.mine_classes.proofs.bit_table.clear_bits.Goals as goal
 use Rattle.basket_sets.proofs.theory.Tests.{all_below_at}
 

@@ -1,5 +1,5 @@
 use Rattle.std.proofs.Common.{◌<◌, length, get_or, eqb, arith}
-use Rattle.mine_classes.proofs.PairLemmas.{listed_more, with_more}
+use Rattle.mine_classes.proofs.SumStepLemmas.{listed_more, with_more}
 use Rattle.mine_classes.proofs.PlaceLemmas.{one_at_most}
 use Rattle.mine_classes.proofs.found.add_and_list.Goals as goal
 use Rattle.basket_sets.proofs.theory.Tests.{all_below_at}

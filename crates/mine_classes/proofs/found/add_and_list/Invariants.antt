@@ -1,5 +1,5 @@
 use Rattle.std.proofs.Common.{◌≤◌, ◌+◌, length, take}
-use Rattle.mine_classes.specs.Pairs.{AreSums, WithBasket}
+use Rattle.mine_classes.specs.Sums.{AreSums, WithBasket}
 use Rattle.mine_classes.proofs.found.add_and_list.Given as goal
 
 abbrev pub invariant-loop-rank : goal.invariant-loop-rank

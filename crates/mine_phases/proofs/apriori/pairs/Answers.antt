@@ -1,6 +1,6 @@
 use Rattle.std.proofs.Common.{subst, sym}
 use Rattle.std.proofs.lemmas.Result.{IfOk-weaker}
-use Rattle.mine_apriori.specs.Pairs.{ArePairs, lists_of}
+use Rattle.mine_classes.specs.Pairs.{ArePairs, lists_of}
 use Rattle.mine_phases.proofs.apriori.pairs.Goals as goal
 
 pub returns : goal.returns

@@ -19,7 +19,7 @@ close-requires g c = record { own = all_own c.in_ok-round.round c.in_ok-seats.en
 pub collected-requires : goal.collected-requires
 collected-requires g c x =
     let parts = g.P.PartWork.part_count c.args.work.now in
-    let cutting = c.args.phase.now.cutting in
+    let cutting = c.for_parts-phase.result.cutting in
     let shares = c.in_ok-seats.ensures.shares in
     let lists = c.in-Ok-values.lists.items in
     let all : map Ok lists ≡ map (λ share. share.values) shares = rw c.in-Ok-values.is at c.in_ok-seats.ensures.lists in
@@ -27,7 +27,7 @@ collected-requires g c x =
     hold_numbers (g.P.PartWork.is_value c.args.work.now) (parts_of parts cutting.pieces) c.in_ok-round.round shares lists all (λ k d below. (c.in_ok-seats.ensures.each k d below).call.met.1)
     c.in_ok-seats.seats.items _ cutting.pieces c.in_ok-seats.ensures.seats some (λ any. c.in-Ok.ensures.ended any ∙ c.in_ok-round.ensures.round.0) c.in-Ok.ensures.claimed
     parts (parts_once parts cutting.pieces cutting.some_pieces.0) x
-    ∙ ap (λ n. once_below n x) (sym c.parts.ensures)
+    ∙ ap (λ n. once_below n x) (sym c.parts-parts.ensures)
 
 pub returns : goal.returns
 returns g c =
@@ -37,5 +37,5 @@ returns g c =
     let lists = c.in-Ok-values.lists.items in
     let all : map Ok lists ≡ map (λ share. share.values) shares = rw c.in-Ok-values.is at c.in_ok-seats.ensures.lists in
     IfOk-weaker c.collected.result _ (λ values. HasEach is_value parts values.items)
-    (λ values placed. have_each is_value (parts_of parts c.args.phase.now.cutting.pieces) c.in_ok-round.round shares lists all (λ k d below. (c.in_ok-seats.ensures.each k d below).call.met.1)
-    parts values.items (rw c.parts.ensures at placed)) c.collected.ensures
+    (λ values placed. have_each is_value (parts_of parts c.for_parts-phase.result.cutting.pieces) c.in_ok-round.round shares lists all (λ k d below. (c.in_ok-seats.ensures.each k d below).call.met.1)
+    parts values.items (rw c.parts-parts.ensures at placed)) c.collected.ensures

@@ -28,7 +28,7 @@ returns g c =
     let shares = c.in_ok-seats.ensures.shares in
     let baskets = c.args.baskets.now in
     let sets = g.C.SupportCounter.sets_of c.args.counter.now in
-    let cutting = c.args.phase.now.cutting in
+    let cutting = c.for_parts-phase.result.cutting in
     elim c.match-ended.branch [
       | in-Ok-ended w ↦
           (let all : map Ok w.in-Ok-ended.field-0.items ≡ map (λ share. share.values) shares = rw w.in-Ok-ended.is at c.in_ok-seats.ensures.lists in

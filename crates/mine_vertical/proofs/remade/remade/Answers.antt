@@ -7,9 +7,11 @@ use Rattle.basket_sets.specs.Itemset.{IsRising, contains, has}
 use Rattle.basket_sets.specs.Support.{support_of}
 use Rattle.mine_baskets.specs.ListBaskets.{weight_where}
 use Rattle.mine_baskets.specs.Words.{word_places}
+use Rattle.mine_baskets.proofs.theory.Weights.{changed_weight}
+use Rattle.mine_classes.proofs.theory.Kept.{coding_of}
 use Rattle.mine_vertical.specs.Remade.{AreBitsOf, bit_places}
 use Rattle.mine_vertical.specs.Siblings.{AreOver}
-use Rattle.mine_vertical.proofs.PlacesLemmas.{coded, decoded_weighs, nothing_in, supports_are}
+use Rattle.mine_vertical.proofs.PlacesLemmas.{nothing_in, supports_are}
 use Rattle.mine_vertical.proofs.remade.remade.Goals as goal
 
 pub words_of_places-requires : goal.words_of_places-requires
@@ -22,8 +24,8 @@ pub siblings_of-requires-clause-coding : goal.siblings_of-requires-clause-coding
 siblings_of-requires-clause-coding g c =
     let kept = c.deref-2.result.now in
     let kept_are = c.deref-2.ensures.value ∙ c.in_ok-kept.ensures in
-    coded kept c.in_ok-merged.merged (subst IsRising (sym kept_are) c.requires.rises) (omega (arith, c.if-siblings-gt-WORD_RANKS.false, ap length kept_are, length-map c.args.siblings.now (λ s. s.rank)))
-    (omega (arith, c.in_ok-merged.ensures.ranks, c.len.ensures, c.deref-2.ensures.len)) c.in_ok-merged.ensures.ranked
+    coding_of kept 1 c.in_ok-merged.merged (subst IsRising (sym kept_are) c.requires.rises) (omega (arith, c.if-siblings-gt-WORD_RANKS.false, ap length kept_are, length-map c.args.siblings.now (λ s. s.rank)))
+    c.in_ok-merged.ensures.ranked (omega (arith, c.in_ok-merged.ensures.ranks, c.len.ensures, c.deref-2.ensures.len))
 
 pub returns : goal.returns
 returns g c =
@@ -43,7 +45,7 @@ returns g c =
           let test : List ℕ → Bool = λ basket. contains (decoded kept basket) more in
           let is = subst (λ k. AreBitsOf baskets set k bits) (sym kept_are)
           (subst (λ b. AreBitsOf baskets set ranks b) (sym c.deref.ensures.value) (made baskets set (sym (ap length weigh) ∙ sym c.places.ensures) all)) in
-          decoded_weighs kept (λ basket. contains basket more) merged ∙ sym (c.in_ok-merged.ensures.weights test)
+          changed_weight (λ basket. contains basket more) (decoded kept) merged ∙ sym (c.in_ok-merged.ensures.weights test)
           ∙ ap (λ n. weight_where test (word_places n c.in_ok-words.words.items)) count
           ∙ sym (c.in_ok-words.ensures.weights (length kept) test (nothing_in kept more some))
           ∙ ap (λ w. weight_where test (bit_places (length kept) bits w)) weigh

@@ -1,6 +1,6 @@
 use Rattle.std.proofs.Common.{◌≡◌, ◌≤◌, All, length, refl, subst, sym, ap, ◌∙◌, arith}
 use Rattle.std.proofs.lemmas.List.{take_all, take_at}
-use Rattle.mine_apriori.specs.Shard.{WithSupports}
+use Rattle.mine_classes.specs.Triangle.{WithSupports}
 use Rattle.mine_apriori.specs.Used.{IsClear}
 use Rattle.mine_apriori.proofs.SupportLemmas.{supports_fit, supports_more}
 use Rattle.mine_apriori.proofs.tree.CandidateTree.add.Goals as goal

@@ -1,5 +1,5 @@
 use Rattle.std.proofs.Common.{◌≤◌, All, length, take}
-use Rattle.mine_apriori.specs.Shard.{WithSupports}
+use Rattle.mine_classes.specs.Triangle.{WithSupports}
 use Rattle.mine_apriori.specs.Used.{IsClear}
 use Rattle.mine_apriori.proofs.tree.CandidateTree.add.Given as goal
 

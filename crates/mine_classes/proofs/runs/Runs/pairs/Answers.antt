@@ -1,6 +1,7 @@
 use Rattle.std.proofs.Common.{◌≡◌, ◌∙◌, arith}
 use Rattle.std.proofs.lemmas.Result.{IfOk-weaker}
-use Rattle.mine_classes.specs.Pairs.{pairs_of, ranks_met}
+use Rattle.mine_classes.specs.Pairs.{pairs_of}
+use Rattle.mine_classes.specs.Sums.{ranks_met}
 use Rattle.mine_baskets.specs.Span.{baskets_at}
 use Rattle.mine_classes.proofs.SumLemmas.{pairs_are, runs_ranked}
 use Rattle.mine_classes.proofs.runs.Runs.pairs.Goals as goal

@@ -1,15 +1,25 @@
-use Rattle.std.proofs.Common.{◌≡◌, ◌<◌, ◌++◌, ℕ, List, Err, ap, sym, ◌∙◌, inl, inr, arith, length}
-use Rattle.std.specs.List.{sum_by}
+use Rattle.std.proofs.Common.{◌≡◌, ◌+◌, ◌-◌, ◌<◌, ◌≤◌, ◌++◌, ℕ, Bool, true, false, not, List, Err, refl, ap, sym, ◌∙◌, inl, inr, arith, length}
+use Rattle.std.specs.List.{range_with_len, sum_by}
 use Rattle.std.proofs.lemmas.List.Elements.{All-push, All-same}
 use Rattle.std.proofs.lemmas.Result.{err_from_is_err_and}
 use Rattle.basket_ranks.specs.Codes.{Coding}
 use Rattle.basket_core.specs.declared.fault.MineFault.TheVariants.{TooMany}
 use Rattle.basket_sets.specs.declared.counted.Counted.{Counted}
+use Rattle.basket_ranks.specs.Shards.{shard_start}
 use Rattle.mine_classes.specs.Mined.{class_size}
-use Rattle.mine_phases.specs.Classes.{IsMined, piece_from_end}
+use Rattle.mine_phases.specs.Classes.{IsMined, claimed_size, piece_from_end}
 use Rattle.mine_phases.specs.Share.{numbers_of}
 use Rattle.mine_phases.proofs.Numbers.{numbers_are, numbers_next, sum_fits, sum_next}
 use Rattle.mine_phases.proofs.classes.Classes.add_classes.Goals as goal
+
+-- with the class of a rank, the classes before it in a claimed piece have no more sets than the piece
+class_fits : (coding : Coding) (pieces claimed count start end rank : ℕ) → count ≡ length coding.items → start ≡ shard_start (piece_from_end pieces claimed) pieces count
+    → end ≡ shard_start (piece_from_end pieces claimed + 1) pieces count → start ≤ end → end ≤ count → start ≤ rank → rank < end
+    → sum_by (class_size coding) (range_with_len start (rank - start)) + class_size coding rank ≤ claimed_size coding pieces claimed
+class_fits coding pieces claimed count start end rank all begins ends rises within low below =
+    let ranks = ap (sum_by (class_size coding)) (numbers_are (length coding.items) pieces (piece_from_end pieces claimed) start end count all begins ends rises within) in
+    let fits = sum_fits (class_size coding) start rank end low below in
+    omega (arith, ranks, fits)
 
 pub returns-in_err-class-clause-too_many : goal.returns-in_err-class-clause-too_many
 returns-in_err-class-clause-too_many g c = λ most e.
@@ -22,23 +32,28 @@ returns-in_err-class-clause-too_many g c = λ most e.
 
 pub returns-in_err-class-clause-at_most : goal.returns-in_err-class-clause-at_most
 returns-in_err-class-clause-at_most g c =
-    let coding : Coding = g.M.ClassMiner.coding_of c.args.self.now.miner.now in
     let was = c.loop-rank.invariant in
-    let pieces = c.args.self.now.pieces in
-    let ranks = ap (sum_by (class_size coding)) (numbers_are (length coding.items) pieces (piece_from_end pieces c.args.claimed) c.shard-start.result.0 c.shard-start.result.1 c.args.self.now.ranks
-    c.requires.ranks c.shard-start.ensures.start c.shard-start.ensures.end c.shard-start.ensures.within.0 c.shard-start.ensures.within.1) in
-    let fits = sum_fits (class_size coding) c.shard-start.result.0 c.loop-rank.rank c.shard-start.result.1 was.within.0 (omega (arith, c.loop-rank-test.true)) in
-    omega (arith, ranks, fits, was.told, c.class.ensures.at_most)
+    let fits = class_fits (g.M.ClassMiner.coding_of c.args.self.now.miner.now) c.args.self.now.pieces c.args.claimed c.args.self.now.ranks c.shard-start.result.0 c.shard-start.result.1 c.loop-rank.rank
+    c.requires.ranks c.shard-start.ensures.start c.shard-start.ensures.end c.shard-start.ensures.within.0 c.shard-start.ensures.within.1 was.within.0 (omega (arith, c.loop-rank-test.true)) in
+    omega (arith, fits, was.told, c.class.ensures.at_most)
 
 pub returns-in_err-push-clause-at_most : goal.returns-in_err-push-clause-at_most
 returns-in_err-push-clause-at_most g c =
-    let coding : Coding = g.M.ClassMiner.coding_of c.args.self.now.miner.now in
     let was = c.loop-rank.invariant in
-    let pieces = c.args.self.now.pieces in
-    let ranks = ap (sum_by (class_size coding)) (numbers_are (length coding.items) pieces (piece_from_end pieces c.args.claimed) c.shard-start.result.0 c.shard-start.result.1 c.args.self.now.ranks
-    c.requires.ranks c.shard-start.ensures.start c.shard-start.ensures.end c.shard-start.ensures.within.0 c.shard-start.ensures.within.1) in
-    let fits = sum_fits (class_size coding) c.shard-start.result.0 c.loop-rank.rank c.shard-start.result.1 was.within.0 (omega (arith, c.loop-rank-test.true)) in
-    omega (arith, ranks, fits, was.told, c.class.ensures.at_most)
+    let fits = class_fits (g.M.ClassMiner.coding_of c.args.self.now.miner.now) c.args.self.now.pieces c.args.claimed c.args.self.now.ranks c.shard-start.result.0 c.shard-start.result.1 c.loop-rank.rank
+    c.requires.ranks c.shard-start.ensures.start c.shard-start.ensures.end c.shard-start.ensures.within.0 c.shard-start.ensures.within.1 was.within.0 (omega (arith, c.loop-rank-test.true)) in
+    omega (arith, fits, was.told, c.class.ensures.at_most)
+
+not_true : (b : Bool) → not b ≡ true → b ≡ false
+not_true true h = absurd cc
+not_true false h = refl
+
+pub returns-then-not-look-clause-at_most : goal.returns-then-not-look-clause-at_most
+returns-then-not-look-clause-at_most g c =
+    let was = c.loop-rank.invariant in
+    let fits = class_fits (g.M.ClassMiner.coding_of c.args.self.now.miner.now) c.args.self.now.pieces c.args.claimed c.args.self.now.ranks c.shard-start.result.0 c.shard-start.result.1 c.loop-rank.rank
+    c.requires.ranks c.shard-start.ensures.start c.shard-start.ensures.end c.shard-start.ensures.within.0 c.shard-start.ensures.within.1 was.within.0 (omega (arith, c.loop-rank-test.true)) in
+    omega (arith, fits, was.told, c.class.ensures.at_most, c.look.ensures.told)
 
 pub loop-rank-preserved : goal.loop-rank-preserved
 loop-rank-preserved g c =
@@ -52,12 +67,12 @@ loop-rank-preserved g c =
     record {
       sums = class.sums ∙ was.sums;
       places = class.places ∙ was.places;
-      going = class.going_on;
-      limit = class.limit ∙ was.limit;
+      going = not_true _ (sym c.look.ensures.over ∙ c.if-not-look.false);
+      limit = c.look.ensures.limit ∙ class.limit ∙ was.limit;
       within = (omega (arith, was.within.0), omega (arith, c.loop-rank-test.true));
       numbers = numbers_next (numbers_of c.args.values.now.items) c.loop-rank.values.items _ c.shard-start.result.0 c.loop-rank.rank _ was.within.0 pushed was.numbers;
       each = All-same Mined _ _ pushed (All-push Mined c.loop-rank.values.items _ was.each (record { listed = class.listed; work = class.work; few = class.few }));
-      told = omega (arith, next, size, was.told, class.told);
+      told = omega (arith, next, size, was.told, class.told, c.look.ensures.told);
     }
 
 pub returns-clause-numbers : goal.returns-clause-numbers

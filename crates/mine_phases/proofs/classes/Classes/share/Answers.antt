@@ -23,8 +23,8 @@ pub loop-alloc-smaller : goal.loop-alloc-smaller
 loop-alloc-smaller g c =
     let before : List ℕ = c.loop-alloc.seat.held.claimed in
     let number = c.in-Some.claimed in
-    let rises : All (λ p. p < number) before = subst (λ (s : SeatView). All (λ p. p < number) s.held.claimed) c.is_over.ensures.same c.in-Some.ensures.rises in
-    let claimed = claimed_next c.loop-alloc.seat c.is_over.new.seat c.claim_piece.new.seat c.mine-back.result.0 number c.is_over.ensures.same c.in-Some.ensures.piece.1 c.mine-back.ensures.same in
+    let rises : All (λ p. p < number) before = subst (λ (s : SeatView). All (λ p. p < number) s.held.claimed) c.are_over.ensures.same c.in-Some.ensures.rises in
+    let claimed = claimed_next c.loop-alloc.seat c.are_over.new.seat c.claim_piece.new.seat c.mine-back.result.0 number c.are_over.ensures.same c.in-Some.ensures.piece.1 c.mine-back.ensures.same in
     let low = behind-le before number rises in
     let high = ap behind claimed ∙ behind_push before number rises in
     omega (arith, low, high, c.in-Some.ensures.piece.0, c.requires.pieces.1)
@@ -37,11 +37,11 @@ loop-alloc-preserved g c =
     let before : List ℕ = c.loop-alloc.seat.held.claimed in
     let was = c.loop-alloc.invariant in
     let number = c.in-Some.claimed in
-    let rises : All (λ p. p < number) before = subst (λ (s : SeatView). All (λ p. p < number) s.held.claimed) c.is_over.ensures.same c.in-Some.ensures.rises in
-    let claimed = claimed_next c.loop-alloc.seat c.is_over.new.seat c.claim_piece.new.seat c.mine-back.result.0 number c.is_over.ensures.same c.in-Some.ensures.piece.1 c.mine-back.ensures.same in
+    let rises : All (λ p. p < number) before = subst (λ (s : SeatView). All (λ p. p < number) s.held.claimed) c.are_over.ensures.same c.in-Some.ensures.rises in
+    let claimed = claimed_next c.loop-alloc.seat c.are_over.new.seat c.claim_piece.new.seat c.mine-back.result.0 number c.are_over.ensures.same c.in-Some.ensures.piece.1 c.mine-back.ensures.same in
     let high = ap behind claimed ∙ behind_push before number rises in
     let seat = ap (λ h. slice_index h.added 0) c.in-Some.ensures.piece.1 in
-    let looked = ap (λ l. slice_index l 0) c.is_over.ensures.added in
+    let looked = ap (λ l. slice_index l 0) c.are_over.ensures.added in
     let told = rw c.in_default-mined.is at c.mine-back.ensures.told in
     let sum = ap (sum_by size) claimed ∙ sum_by_push size before number in
     record {
@@ -58,9 +58,9 @@ loop-alloc-preserved g c =
 pub returns-in-Err : goal.returns-in-Err
 returns-in-Err g c =
     let size = claimed_size (g.M.ClassMiner.coding_of c.args.self.now.miner.now) c.args.self.now.pieces in
-    let claimed = claimed_next c.loop-alloc.seat c.is_over.new.seat c.claim_piece.new.seat c.mine-back.result.0 c.in-Some.claimed c.is_over.ensures.same c.in-Some.ensures.piece.1 c.mine-back.ensures.same in
+    let claimed = claimed_next c.loop-alloc.seat c.are_over.new.seat c.claim_piece.new.seat c.mine-back.result.0 c.in-Some.claimed c.are_over.ensures.same c.in-Some.ensures.piece.1 c.mine-back.ensures.same in
     let seat = ap (λ h. slice_index h.added 0) c.in-Some.ensures.piece.1 in
-    let looked = ap (λ l. slice_index l 0) c.is_over.ensures.added in
+    let looked = ap (λ l. slice_index l 0) c.are_over.ensures.added in
     let sum = ap (sum_by size) claimed ∙ sum_by_push size c.loop-alloc.seat.held.claimed c.in-Some.claimed in
     record {
       of_ranks = record { own = c.mine-back.ensures.counts.own; values = tt };

@@ -1,5 +1,0 @@
-use Rattle.mine_apriori.proofs.TriangleLemmas.{WithFirst}
-use Rattle.mine_apriori.proofs.triangle.count_basket.Given as goal
-
-abbrev pub invariant-loop-place : goal.invariant-loop-place
-invariant-loop-place l = WithFirst l.ranks l.weight l.initial.counts l.place l.counts

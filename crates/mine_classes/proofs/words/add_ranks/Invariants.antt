@@ -1,5 +1,0 @@
-use Rattle.mine_classes.proofs.WordLemmas.{HasSums}
-use Rattle.mine_classes.proofs.words.add_ranks.Given as goal
-
-abbrev pub invariant-loop-rank : goal.invariant-loop-rank
-invariant-loop-rank l = HasSums l.rank l.word l.fn.sums l.sums
