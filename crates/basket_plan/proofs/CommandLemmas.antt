@@ -20,7 +20,7 @@ use Rattle.clap.proofs.OnLiterals.{clap_on_literals}
 use Rattle.clap.proofs.ValueTestLemmas.{Accepts-accepts, accepts-Accepts}
 use Rattle.clap.proofs.WalkLemmas.{first_value-rows, one_text-rows}
 use Rattle.basket_plan.proofs.HelpLemmas.{help_told}
-use Rattle.basket_plan.specs.Command.{asks_help, is_answer, command_line, flag_in, number_in, number_of, invocation_of_command, invocation_of_rows, invocation_of_words, where_taken}
+use Rattle.basket_plan.specs.Command.{plain_asks_help, is_answer, command_line, flag_in, number_in, number_of, invocation_of_command, invocation_of_rows, invocation_of_plain, where_taken}
 
 -- ---- values
 
@@ -139,13 +139,13 @@ module _ (app : App) (is : app ≡ command_line) (words : List Text) where
   same_faults = ap (λ a. fault_of a words) is
 
   pub plan_taken : (entered : Option (Text × List Row)) → (is_simple_and_free app ≡ true → fault_of app words ≡ [])
-      → (is_simple app ≡ true → entered ≡ subcommand_of app words) → invocation_of_words words ≡ invocation_of_command entered
+      → (is_simple app ≡ true → entered ≡ subcommand_of app words) → invocation_of_plain words ≡ invocation_of_command entered
   plan_taken entered takes enters =
       let faults : fault_of command_line words ≡ [] = sym same_faults ∙ takes simple in
       let found : subcommand_of command_line words ≡ entered = ap (λ a. subcommand_of a words) (sym is) ∙ sym (enters (ap is_simple is ∙ simple_app)) in
       ap₂ (λ (kinds : Kinds) (e : Option (Text × List Row)). where_taken kinds (invocation_of_command e)) faults found
 
-  pub plan_refused : (e : Error) → (is_simple_and_free app ≡ true → HasKind (fault_of app words) e) → (kind_of e ≡ OutOfMemory → ⊥) → invocation_of_words words ≡ None
+  pub plan_refused : (e : Error) → (is_simple_and_free app ≡ true → HasKind (fault_of app words) e) → (kind_of e ≡ OutOfMemory → ⊥) → invocation_of_plain words ≡ None
   plan_refused e fails has_memory = go (fault_of command_line words) (subst (λ (kinds : Kinds). HasKind kinds e) same_faults (fails simple))
     where
       go : (kinds : Kinds) → HasKind kinds e → where_taken kinds (invocation_of_command (subcommand_of command_line words)) ≡ None
@@ -153,10 +153,10 @@ module _ (app : App) (is : app ≡ command_line) (words : List Text) where
       go [] (inr among) = absurd among
       go (k ∷ ks) h = refl
 
-  pub no_help : (is_simple_and_free app ≡ true → fault_of app words ≡ []) → asks_help words ≡ false
+  pub no_help : (is_simple_and_free app ≡ true → fault_of app words ≡ []) → plain_asks_help words ≡ false
   no_help takes = ap (list_any is_answer) (sym same_faults ∙ takes simple)
 
-  pub help_refused : (e : Error) → (is_simple_and_free app ≡ true → HasKind (fault_of app words) e) → (kind_of e ≡ OutOfMemory → ⊥) → asks_help words ≡ is_answer (kind_of e)
+  pub help_refused : (e : Error) → (is_simple_and_free app ≡ true → HasKind (fault_of app words) e) → (kind_of e ≡ OutOfMemory → ⊥) → plain_asks_help words ≡ is_answer (kind_of e)
   help_refused e fails has_memory = elim (subst (λ (kinds : Kinds). HasKind kinds e) same_faults (fails simple)) [
     | inl memory ↦ absurd (has_memory memory)
     | inr among ↦ help_told (kind_of e) words among

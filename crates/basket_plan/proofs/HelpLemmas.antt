@@ -21,7 +21,7 @@ use Rattle.clap.specs.declared.builder.action.ArgAction.TheVariants.{Set, Append
 use Rattle.clap.specs.declared.error.kind.ErrorKind.{ErrorKind}
 use Rattle.clap.specs.declared.error.kind.ErrorKind.TheVariants as kind
 use Rattle.clap.proofs.OnLiterals.{clap_on_literals}
-use Rattle.basket_plan.specs.Command.{asks_help, command_line, is_answer}
+use Rattle.basket_plan.specs.Command.{plain_asks_help, command_line, is_answer}
 
 -- the kinds are all answers, or none is
 record IsUniform (kinds : Kinds) : Type 0 where
@@ -249,7 +249,7 @@ all_among k (x ∷ xs) (inr among) e = all_among k xs among (go (is_answer x) e)
         cc
 
 -- the kind of an error that the words make says whether they ask for help
-pub help_told : (k : ErrorKind) (words : List Text) → IsAmong k (fault_of command_line words) → asks_help words ≡ is_answer k
+pub help_told : (k : ErrorKind) (words : List Text) → IsAmong k (fault_of command_line words) → plain_asks_help words ≡ is_answer k
 help_told k words among = go (is_answer k) refl (list_any is_answer (fault_of command_line words)) refl
   where
     go : (b : Bool) → is_answer k ≡ b → (any : Bool) → list_any is_answer (fault_of command_line words) ≡ any → any ≡ b

@@ -1,5 +1,5 @@
 -- The words of a plan are read as that plan.
-use Rattle.std.proofs.Common.{◌≡◌, ◌∙◌, ◌<◌, ◌≤◌, ◌||◌, ℕ, [], ◌∷◌, ◌++◌, Bool, true, false, decimal, option_map, Option, Some, None, refl, sym, subst, ap, ap₂, arith}
+use Rattle.std.proofs.Common.{◌≡◌, ◌∙◌, ◌<◌, ◌≤◌, ◌||◌, ℕ, List, [], ◌∷◌, ◌++◌, Bool, true, false, decimal, option_map, Option, Some, None, refl, sym, subst, ap, ap₂, arith}
 use Rattle.std.specs.Prelude.{option_and_then, if◌then◌else◌, nat_eq}
 use Rattle.std.specs.Str.Parse.{IsNumeral, digits_value, without_leading_plus}
 use Rattle.std.proofs.lemmas.Bool.{eqb-true}
@@ -18,7 +18,7 @@ use Rattle.basket_sets.specs.Share.{share_of}
 use Rattle.basket_sets.specs.declared.minimum.Minimum.{Minimum}
 use Rattle.basket_sets.specs.declared.minimum.Minimum.TheVariants.{Count, Share}
 use Rattle.basket_sets.proofs.theory.Numerals.{count_minimum_read, share_minimum_read, share_read}
-use Rattle.basket_plan.specs.Command.{command_line, form_of, invocation_of_command, miner_of, number_of, reporting, separator_of, where_taken}
+use Rattle.basket_plan.specs.Command.{command_line, form_of, invocation_of_command, invocation_of_plain, miner_of, number_of, plain_words, reporting, separator_of, where_taken}
 use Rattle.basket_plan.specs.Plan.{GREATEST_LIMIT, Planned, is_separator}
 use Rattle.basket_plan.specs.declared.layout.Form.{Form}
 use Rattle.basket_plan.specs.declared.layout.Form.TheVariants.{Fimi, Baskets, Single, Counts, CsvCounts}
@@ -162,6 +162,14 @@ ask_read (Rules confidence) range = ap (option_map Rules) (share_read confidence
 
 -- ---- the plan
 
+-- no command of a plan is `help`, so `clap` is given the words as they are
+no_help_word : (ask : Ask) (rest : List Text) → plain_words (ask_words ask ++ rest) ≡ ask_words ask ++ rest
+no_help_word Items rest = refl
+no_help_word Sets rest = refl
+no_help_word Closed rest = refl
+no_help_word Maximal rest = refl
+no_help_word (Rules confidence) rest = refl
+
 pub plans_are_read_back : PlansAreReadBack
 plans_are_read_back plan range =
     let q = plan.question in
@@ -170,7 +178,7 @@ plans_are_read_back plan range =
     let limit = no_fault GREATEST_LIMIT q.limit range.limit.0 range.limit.1 (omega arith) in
     let workers = no_fault MOST_WORKERS plan.workers range.workers.0 range.workers.1 (omega arith) in
     let pieces = no_fault MOST_PIECES plan.pieces range.pieces.0 range.pieces.1 (omega arith) in
-    ap₂ where_taken (is.fault ∙ (λ i. numbers_fault (limit i) (workers i) (pieces i)))
+    ap invocation_of_plain (no_help_word q.ask _) ∙ ap₂ where_taken (is.fault ∙ (λ i. numbers_fault (limit i) (workers i) (pieces i)))
     (is.plan ∙ (λ i. option_and_then (reporting None) (plan_from
     (ask_read q.ask range.ask i) (form_read q.layout.form i) (separator_read q.layout.separator range.separator i) q.layout.header q.layout.weighted
     (miner_read plan.miner i) (minimum_read q.minimum range.minimum i)

@@ -1,5 +1,5 @@
 -- The command line as `clap` sees it, and what words ask for.
-use Rattle.std.specs.Prelude.{◌≡◌, List, [], ◌∷◌, ℕ, Bool, true, false, map, codes, if◌then◌else◌, option_and_then, option_map, unwrap_or, Option, Some, None}
+use Rattle.std.specs.Prelude.{◌≡◌, List, [], ◌∷◌, ◌++◌, ℕ, Bool, true, false, map, codes, if◌then◌else◌, option_and_then, option_map, unwrap_or, Option, Some, None}
 use Rattle.std.specs.List.{list_any}
 use Rattle.std.specs.Str.{bytes_eq}
 use Rattle.std.specs.Str.Parse.{digits_value, without_leading_plus}
@@ -267,9 +267,18 @@ abbrev pub where_taken : Kinds → Option Invocation → Option Invocation
 where_taken [] invocation = invocation
 where_taken (kind ∷ rest) invocation = None
 
+-- what words ask for that `clap` is given
+abbrev pub invocation_of_plain : List Text → Option Invocation
+invocation_of_plain words = where_taken (fault_of command_line words) (invocation_of_command (subcommand_of command_line words))
+
+-- the words that `clap` is given: `help sets` stands for `sets --help`
+abbrev pub plain_words : List Text → List Text
+plain_words [] = []
+plain_words (first ∷ rest) = if bytes_eq first (codes "help") then rest ++ codes "--help" ∷ [] else first ∷ rest
+
 -- what words ask for, the program's name not among them
 abbrev pub invocation_of_words : List Text → Option Invocation
-invocation_of_words words = where_taken (fault_of command_line words) (invocation_of_command (subcommand_of command_line words))
+invocation_of_words words = invocation_of_plain (plain_words words)
 
 -- ---- help
 
@@ -280,8 +289,11 @@ is_answer kind.DisplayVersion = true
 is_answer _ = false
 
 -- the words ask for help or the version
+abbrev pub plain_asks_help : List Text → Bool
+plain_asks_help words = list_any is_answer (fault_of command_line words)
+
 abbrev pub asks_help : List Text → Bool
-asks_help words = list_any is_answer (fault_of command_line words)
+asks_help words = plain_asks_help (plain_words words)
 
 -- the fault is help, or a version, that was asked for
 abbrev pub is_help : PlanFault → Bool

@@ -3,7 +3,7 @@ ghost use Rattle.std.specs.Prelude.{◌≡◌, ◌≢◌, IfErr, IfOk, codes, fa
 ghost use Rattle.clap.specs.Words.{app_of, kind_of};
 ghost use Rattle.clap.specs.declared.builder.command.Command.TheViews.{out-Command as fields_of};
 ghost use Rattle.basket_plan.specs.declared.command.PlanFault.TheVariants.{Memory};
-ghost use Rattle.basket_plan.specs.Command.{asks_help, bare_line, command_app, command_line, count_app, invocation_of_words, is_answer, is_help, rules_app};
+ghost use Rattle.basket_plan.specs.Command.{asks_help, bare_line, command_app, command_line, count_app, invocation_of_plain, invocation_of_words, is_answer, is_help, plain_asks_help, plain_words, rules_app};
 ghost use Rattle.basket_plan.specs.Status.{plan_status_of};
 
 use crate::help;
@@ -44,10 +44,34 @@ pub fn plan_status(fault: &PlanFault) -> u8
 }
 
 /// What the words ask for. The program's name is not among them.
-pub fn invocation_of<'a>(alloc: Global, words: &'a [&'a str]) -> Result<Invocation, PlanFault>
+pub fn invocation_of(alloc: Global, words: &[&str]) -> Result<Invocation, PlanFault>
     ensures made { IfOk result (λ invocation. invocation_of_words (map (λ word. word.now) words.now) ≡ Some invocation) }
     ensures refused { IfErr result (λ fault. fault ≢ PlanFault.Memory → invocation_of_words (map (λ word. word.now) words.now) ≡ None) }
     ensures help { IfErr result (λ fault. fault ≢ PlanFault.Memory → asks_help (map (λ word. word.now) words.now) ≡ is_help fault) }
+{
+    let words = plain_words(alloc, words)?;
+    invocation_of_plain(alloc, &words)
+}
+
+/// The words that `clap` is given: `help sets` stands for `sets --help`.
+fn plain_words<'a>(alloc: Global, words: &[&'a str]) -> Result<Vec<&'a str>, AllocError>
+    ensures { IfOk result (λ plain. map (λ word. word.now) plain.items ≡ plain_words (map (λ word. word.now) words.now)) }
+{
+    match words.split_first() {
+        Some((first, rest)) if *first == "help" => {
+            let mut plain = Vec::from_slice(alloc, rest)?;
+            plain.push("--help")?;
+            Ok(plain)
+        }
+        _ => Vec::from_slice(alloc, words),
+    }
+}
+
+/// What words ask for that `clap` is given.
+fn invocation_of_plain<'a>(alloc: Global, words: &'a [&'a str]) -> Result<Invocation, PlanFault>
+    ensures made { IfOk result (λ invocation. invocation_of_plain (map (λ word. word.now) words.now) ≡ Some invocation) }
+    ensures refused { IfErr result (λ fault. fault ≢ PlanFault.Memory → invocation_of_plain (map (λ word. word.now) words.now) ≡ None) }
+    ensures help { IfErr result (λ fault. fault ≢ PlanFault.Memory → plain_asks_help (map (λ word. word.now) words.now) ≡ is_help fault) }
 {
     match command_line(alloc)?.try_get_matches_from(words) {
         Ok(matches) => invocation_from(alloc, &matches),
@@ -59,10 +83,10 @@ fn command_line<'a>(alloc: Global) -> Result<Command<'a>, AllocError>
     ensures { IfOk result (λ command. app_of command ≡ command_line) }
 {
     bare_line(alloc)?
-        .subcommand(command(alloc, "items", help::ITEMS_ABOUT, help::ITEMS_EXAMPLE)?)?
-        .subcommand(command(alloc, "sets", help::SETS_ABOUT, help::SETS_EXAMPLE)?)?
-        .subcommand(command(alloc, "closed", help::CLOSED_ABOUT, help::CLOSED_EXAMPLE)?)?
-        .subcommand(command(alloc, "maximal", help::MAXIMAL_ABOUT, help::MAXIMAL_EXAMPLE)?)?
+        .subcommand(command(alloc, "items", help::ITEMS)?)?
+        .subcommand(command(alloc, "sets", help::SETS)?)?
+        .subcommand(command(alloc, "closed", help::CLOSED)?)?
+        .subcommand(command(alloc, "maximal", help::MAXIMAL)?)?
         .subcommand(rules_command(alloc)?)?
         .subcommand(count_command(alloc)?)
 }
@@ -76,55 +100,36 @@ fn bare_line<'a>(alloc: Global) -> Result<Command<'a>, AllocError>
             .no_binary_name(true)
             .bin_name("basket")?
             .version(help::VERSION)
-            .about(help::ABOUT)
-            .after_help(help::INPUT)
+            .override_help(help::MAIN)
             .subcommand_required(true)
             .disable_help_subcommand(true),
     )
 }
 
-/// A command with its options, which are the same for all but `count`.
-fn command<'a>(
-    alloc: Global,
-    name: &'a str,
-    about: &'a str,
-    example: &'a str,
-) -> Result<Command<'a>, AllocError>
+/// A command with its options, which are the same for all except `count`.
+fn command<'a>(alloc: Global, name: &'a str, help: &'a str) -> Result<Command<'a>, AllocError>
     ensures options { IfOk result (λ command. app_of command ≡ command_app name.now) }
     ensures local { IfOk result (λ command. (fields_of command).has_globals ≡ false) }
 {
     Command::new(alloc, name)
-        .about(about)
-        .after_help(example)
-        .arg(required(alloc, "min", "M", help::MIN_HELP))?
-        .arg(choice(alloc, "form", "F", help::FORM_HELP, "fimi"))?
-        .arg(choice(alloc, "sep", "S", help::SEP_HELP, "comma"))?
-        .arg(flag(alloc, "header", help::HEADER_HELP))?
-        .arg(flag(alloc, "weight", help::WEIGHT_HELP))?
-        .arg(choice(alloc, "miner", "A", help::MINER_HELP, "apriori"))?
-        .arg(number(
-            alloc,
-            "limit",
-            "L",
-            help::LIMIT_HELP,
-            u32::MAX,
-            "4294967295",
-        ))?
-        .arg(number(alloc, "workers", "W", help::WORKERS_HELP, MOST_WORKERS, "1"))?
-        .arg(number(alloc, "pieces", "P", help::PIECES_HELP, MOST_PIECES, "16"))?
-        .arg(positional(alloc, "file", "FILE", help::FILE_HELP))
+        .override_help(help)
+        .arg(required(alloc, "min", "M"))?
+        .arg(choice(alloc, "form", "F", "fimi"))?
+        .arg(choice(alloc, "sep", "S", "comma"))?
+        .arg(flag(alloc, "header"))?
+        .arg(flag(alloc, "weight"))?
+        .arg(choice(alloc, "miner", "A", "apriori"))?
+        .arg(number(alloc, "limit", "L", u32::MAX, "4294967295"))?
+        .arg(number(alloc, "workers", "W", MOST_WORKERS, "1"))?
+        .arg(number(alloc, "pieces", "P", MOST_PIECES, "16"))?
+        .arg(positional(alloc, "file", "FILE"))
 }
 
 fn rules_command<'a>(alloc: Global) -> Result<Command<'a>, AllocError>
     ensures options { IfOk result (λ command. app_of command ≡ rules_app) }
     ensures local { IfOk result (λ command. (fields_of command).has_globals ≡ false) }
 {
-    command(alloc, "rules", help::RULES_ABOUT, help::RULES_EXAMPLE)?.arg(required(
-        alloc,
-        "conf",
-        "C",
-        help::CONF_HELP,
-    ))
+    command(alloc, "rules", help::RULES)?.arg(required(alloc, "conf", "C"))
 }
 
 /// The command that counts given sets.
@@ -133,16 +138,15 @@ fn count_command<'a>(alloc: Global) -> Result<Command<'a>, AllocError>
     ensures local { IfOk result (λ command. (fields_of command).has_globals ≡ false) }
 {
     Command::new(alloc, "count")
-        .about(help::COUNT_ABOUT)
-        .after_help(help::COUNT_EXAMPLE)
-        .arg(required(alloc, "sets", "FILE", help::SETS_HELP))?
-        .arg(choice(alloc, "form", "F", help::FORM_HELP, "fimi"))?
-        .arg(choice(alloc, "sep", "S", help::SEP_HELP, "comma"))?
-        .arg(flag(alloc, "header", help::HEADER_HELP))?
-        .arg(flag(alloc, "weight", help::WEIGHT_HELP))?
-        .arg(number(alloc, "workers", "W", help::WORKERS_HELP, MOST_WORKERS, "1"))?
-        .arg(number(alloc, "pieces", "P", help::PIECES_HELP, MOST_PIECES, "16"))?
-        .arg(positional(alloc, "file", "FILE", help::FILE_HELP))
+        .override_help(help::COUNT)
+        .arg(required(alloc, "sets", "FILE"))?
+        .arg(choice(alloc, "form", "F", "fimi"))?
+        .arg(choice(alloc, "sep", "S", "comma"))?
+        .arg(flag(alloc, "header"))?
+        .arg(flag(alloc, "weight"))?
+        .arg(number(alloc, "workers", "W", MOST_WORKERS, "1"))?
+        .arg(number(alloc, "pieces", "P", MOST_PIECES, "16"))?
+        .arg(positional(alloc, "file", "FILE"))
 }
 
 fn fault_of(alloc: Global, error: &Error) -> Result<PlanFault, AllocError>

@@ -8,46 +8,35 @@ use clap::{Arg, ArgAction};
 use std::alloc::Global;
 
 /// An option that has to be given.
-pub fn required<'a>(alloc: Global, name: &'a str, value: &'a str, help: &'a str) -> Arg<'a>
+pub fn required<'a>(alloc: Global, name: &'a str, value: &'a str) -> Arg<'a>
     ensures rule { rule_of result ≡ required name.now }
     ensures local { result.global ≡ false }
 {
     Arg::new(alloc, name)
         .long(name)
         .value_name(value)
-        .help(help)
         .required(true)
         .action(ArgAction::Set)
 }
 
 /// An option whose value is one of some names. Which these are is judged with the other values:
 /// `clap`'s own list of names would have the plan depend on where they lie.
-pub fn choice<'a>(
-    alloc: Global,
-    name: &'a str,
-    value: &'a str,
-    help: &'a str,
-    default: &'a str,
-) -> Arg<'a>
+pub fn choice<'a>(alloc: Global, name: &'a str, value: &'a str, default: &'a str) -> Arg<'a>
     ensures rule { rule_of result ≡ choice name.now default.now }
     ensures local { result.global ≡ false }
 {
     Arg::new(alloc, name)
         .long(name)
         .value_name(value)
-        .help(help)
         .default_value(default)
         .action(ArgAction::Set)
 }
 
-pub fn flag<'a>(alloc: Global, name: &'a str, help: &'a str) -> Arg<'a>
+pub fn flag<'a>(alloc: Global, name: &'a str) -> Arg<'a>
     ensures rule { rule_of result ≡ flag name.now }
     ensures local { result.global ≡ false }
 {
-    Arg::new(alloc, name)
-        .long(name)
-        .help(help)
-        .action(ArgAction::SetTrue)
+    Arg::new(alloc, name).long(name).action(ArgAction::SetTrue)
 }
 
 /// An option whose value is a whole number from 1 to the greatest.
@@ -55,7 +44,6 @@ pub fn number<'a>(
     alloc: Global,
     name: &'a str,
     value: &'a str,
-    help: &'a str,
     most: u32,
     default: &'a str,
 ) -> Arg<'a>
@@ -65,19 +53,17 @@ pub fn number<'a>(
     Arg::new(alloc, name)
         .long(name)
         .value_name(value)
-        .help(help)
         .value_parser(ValueParser::unsigned(1, u64::from(most)))
         .default_value(default)
         .action(ArgAction::Set)
 }
 
 /// A value without the name of an option, which may be left out.
-pub fn positional<'a>(alloc: Global, name: &'a str, value: &'a str, help: &'a str) -> Arg<'a>
+pub fn positional<'a>(alloc: Global, name: &'a str, value: &'a str) -> Arg<'a>
     ensures rule { rule_of result ≡ positional name.now }
     ensures local { result.global ≡ false }
 {
     Arg::new(alloc, name)
         .value_name(value)
-        .help(help)
         .action(ArgAction::Set)
 }

@@ -58,10 +58,13 @@ pub fn no_plan()
     ensures twice { invocation_of_words (codes "sets" ∷ codes "--min" ∷ codes "2" ∷ codes "--min" ∷ codes "3" ∷ []) ≡ None }
 {}
 
-/// `sets --help` asks for help and `--version` for the version, and `sets` alone makes a mistake.
+/// `sets --help`, `help sets` and `help` ask for help and `--version` for the version, and `sets` alone
+/// makes a mistake.
 pub fn help_of_sets()
     ensures plan { invocation_of_words (codes "sets" ∷ codes "--help" ∷ []) ≡ None }
     ensures help { asks_help (codes "sets" ∷ codes "--help" ∷ []) ≡ true }
+    ensures help_word { asks_help (codes "help" ∷ codes "sets" ∷ []) ≡ true }
+    ensures help_alone { asks_help (codes "help" ∷ []) ≡ true }
     ensures version { asks_help (codes "--version" ∷ []) ≡ true }
     ensures mistake { asks_help (codes "sets" ∷ []) ≡ false }
 {}

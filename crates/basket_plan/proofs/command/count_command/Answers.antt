@@ -7,7 +7,7 @@ use Rattle.basket_plan.proofs.command.count_command.Goals as goal
 
 pub returns-clause-options : goal.returns-clause-options
 returns-clause-options c =
-    let bare = ap app_of_fields c.after_help.ensures ∙ (ap app_of_fields c.about.ensures ∙ c.new.ensures.app) in
+    let bare = ap app_of_fields c.override_help.ensures ∙ c.new.ensures.app in
     let first = c.in_ok-arg.ensures.shape c.required.ensures.local ∙ ap₂ with_rule bare c.required.ensures.rule in
     let second = c.in_ok-arg-2.ensures.shape c.choice.ensures.local ∙ ap₂ with_rule first c.choice.ensures.rule in
     let third = c.in_ok-arg-3.ensures.shape c.choice-2.ensures.local ∙ ap₂ with_rule second c.choice-2.ensures.rule in
@@ -19,7 +19,7 @@ returns-clause-options c =
 
 pub returns-clause-local : goal.returns-clause-local
 returns-clause-local c =
-    let bare = ap (λ f. f.has_globals) c.after_help.ensures ∙ (ap (λ f. f.has_globals) c.about.ensures ∙ c.new.ensures.local) in
+    let bare = ap (λ f. f.has_globals) c.override_help.ensures ∙ c.new.ensures.local in
     let first = stays_local _ _ _ c.in_ok-arg.ensures.globals c.required.ensures.local bare in
     let second = stays_local _ _ _ c.in_ok-arg-2.ensures.globals c.choice.ensures.local first in
     let third = stays_local _ _ _ c.in_ok-arg-3.ensures.globals c.choice-2.ensures.local second in

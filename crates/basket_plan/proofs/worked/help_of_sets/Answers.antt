@@ -7,6 +7,8 @@ unfolding clap_on_literals
 returns c = record {
   plan = refl;
   help = refl;
+  help_word = refl;
+  help_alone = refl;
   version = refl;
   mistake = refl;
 }

@@ -2,7 +2,7 @@ use Rattle.std.proofs.Common.{◌∙◌, map, sym}
 use Rattle.std.proofs.lemmas.Result.{IfErr-weaker, IfOk-weaker}
 use Rattle.clap.specs.Words.{subcommand_rows_of}
 use Rattle.basket_plan.proofs.CommandLemmas.{help_refused, no_help, plan_taken, plan_refused}
-use Rattle.basket_plan.proofs.command.invocation_of.Goals as goal
+use Rattle.basket_plan.proofs.command.invocation_of_plain.Goals as goal
 
 pub returns-in-Ok-clause-made : goal.returns-in-Ok-clause-made
 returns-in-Ok-clause-made c =
