@@ -15,6 +15,7 @@ mod memory;
 mod mining;
 pub mod worked;
 
+pub use asked::read_asked;
 pub use basket_core::{CountedSets, Database, Frequent, Itemset, MineFault, Minimum, Share};
 pub use basket_plan::{
     Ask, CountPlan, Form, Invocation, Layout, Miner, Origin, Plan, PlanFault, Task, invocation_of,
@@ -22,6 +23,7 @@ pub use basket_plan::{
 };
 pub use basket_read::ReadFault;
 pub use basket_stream::{MemSink, MemSource, Sink, SliceSource, Source, StdSink, StdSource};
+pub use contents::Contents;
 pub use count::run_count;
 pub use engine::run;
 pub use fault::{RunFault, status_of};

@@ -1,11 +1,22 @@
-//! The program `basket`: a command line, an input, a report on standard output.
+//! The program `basket`: a command line, an input, a report on standard output. At a terminal a
+//! line of advice follows a fault.
 #![tactic(auto)]
 
+mod again;
+mod advice;
+mod fault_advice;
+mod kept;
+mod place;
+mod words_advice;
+
+use advice::{Ends, advise_on_count, advise_on_fault, advise_on_report, advise_on_words};
 use basket::{
-    CountPlan, Invocation, Origin, Plan, PlanFault, RunFault, Task, invocation_of, plan_status,
+    CountPlan, Invocation, Layout, Plan, PlanFault, RunFault, Task, invocation_of, plan_status,
     run, run_count, status_of,
 };
 use basket_core::{StdSink, StdSource};
+use kept::Kept;
+use place::{Place, Places};
 use std::alloc::AllocError;
 use std::env;
 use std::fs::File;
@@ -14,37 +25,51 @@ use std::process::ExitCode;
 use std::random::RandomSource;
 use std::thread::Threads;
 
-/// The status where a reader or a writer failed, or a file can't be opened.
+/// The status if a reader or a writer failed, or a file can't be opened.
 const BROKEN: u8 = 4;
 
-/// The status for want of memory.
+/// The status if memory is out.
 const NO_MEMORY: u8 = 6;
 
 fn main(rt: HostRuntime) -> ExitCode {
-    let status = match invocation(&rt) {
-        Ok(invocation) => perform(&rt, &rt, &invocation),
-        Err(fault) => explain(&rt, &fault),
+    let status = match words(&rt) {
+        Ok(words) => begin(&rt, &rt, &words),
+        Err(fault) => explain(&rt, &fault, &[]),
     };
     ExitCode::from(status)
 }
 
-/// What the command line asks for.
-fn invocation(rt: &HostRuntime) -> Result<Invocation, PlanFault> {
-    let owned: Vec<String> = match env::args(rt) {
-        Ok(words) => words.skip(1).collect(rt.alloc())?,
-        Err(error) if error.kind() == ErrorKind::OutOfMemory => return Err(PlanFault::Memory),
-        Err(_) => return Err(PlanFault::Usage(no_text(rt)?)),
-    };
-    let words: Vec<&str> = owned.iter().map(|word| word.as_str()).collect(rt.alloc())?;
-    invocation_of(rt.alloc(), &words)
+/// The words of the command line, without the program's name.
+fn words(rt: &HostRuntime) -> Result<Vec<String>, PlanFault> {
+    match env::args(rt) {
+        Ok(words) => Ok(words.skip(1).collect(rt.alloc())?),
+        Err(error) if error.kind() == ErrorKind::OutOfMemory => Err(PlanFault::Memory),
+        Err(_) => Err(PlanFault::Usage(no_text(rt)?)),
+    }
 }
 
 fn no_text(rt: &HostRuntime) -> Result<String, AllocError> {
     String::from_str(rt.alloc(), "basket: the command line is not UTF-8 text\n")
 }
 
-/// Opens the files that are named, does what is asked for, and answers the exit status. The workers
-/// are threads of the second runtime.
+/// Does what the words ask for, and returns the exit status. The workers are threads of the second
+/// runtime.
+fn begin<R: RandomSource + Threads + Sync>(
+    rt: &HostRuntime,
+    threads: &R,
+    owned: &[String],
+) -> u8 {
+    let words: Vec<&str> = match owned.iter().map(|word| word.as_str()).collect(rt.alloc()) {
+        Ok(words) => words,
+        Err(AllocError) => return explain(rt, &PlanFault::Memory, &[]),
+    };
+    match invocation_of(rt.alloc(), &words) {
+        Ok(invocation) => perform(rt, threads, &invocation),
+        Err(fault) => explain(rt, &fault, &words),
+    }
+}
+
+/// Opens the input's file if it has one, does what is asked for, and returns the exit status.
 fn perform<R: RandomSource + Threads + Sync>(
     rt: &HostRuntime,
     threads: &R,
@@ -52,10 +77,10 @@ fn perform<R: RandomSource + Threads + Sync>(
 ) -> u8 {
     match invocation.input.path() {
         Some(path) => match File::open(rt, path) {
-            Ok(file) => over(rt, threads, &invocation.task, file),
+            Ok(file) => over(rt, threads, invocation, file),
             Err(error) => not_opened(rt, path, &error),
         },
-        None => over(rt, threads, &invocation.task, rt.stdin()),
+        None => over(rt, threads, invocation, rt.stdin()),
     }
 }
 
@@ -63,12 +88,29 @@ fn perform<R: RandomSource + Threads + Sync>(
 fn over<R: RandomSource + Threads + Sync, I: Read + Drop>(
     rt: &HostRuntime,
     threads: &R,
-    task: &Task,
+    invocation: &Invocation,
     input: I,
 ) -> u8 {
-    match task {
-        Task::Report(plan) => report(rt, threads, plan, input),
-        Task::Count(plan, sets) => count(rt, threads, plan, sets, input),
+    let path = invocation.input.path();
+    match &invocation.task {
+        Task::Report(plan) => report(rt, threads, plan, path, input),
+        Task::Count(plan, sets) => {
+            let places = Places {
+                input: Place {
+                    path,
+                    layout: plan.layout(),
+                },
+                sets: Place {
+                    path: sets.path(),
+                    // The sets have no header.
+                    layout: Layout {
+                        header: true,
+                        ..plan.layout()
+                    },
+                },
+            };
+            count(rt, threads, plan, places, input)
+        }
     }
 }
 
@@ -77,61 +119,95 @@ fn report<R: RandomSource + Threads + Sync, I: Read + Drop>(
     rt: &HostRuntime,
     threads: &R,
     plan: &Plan,
+    path: Option<&str>,
     input: I,
 ) -> u8 {
-    let mut reader = StdSource::new(input);
-    let mut writer = StdSink::new(rt.stdout());
-    ended(rt, run(threads, rt.alloc(), plan, &mut reader, &mut writer))
+    let place = Place {
+        path,
+        layout: plan.layout(),
+    };
+    let places = Places {
+        input: place,
+        sets: place,
+    };
+    let mut input = Kept::new(input);
+    let mut output = Kept::new(rt.stdout());
+    let mut reader = StdSource::new(&mut input);
+    let mut writer = StdSink::new(&mut output);
+    let ran = run(threads, rt.alloc(), plan, &mut reader, &mut writer);
+    let status = ended(rt, &ran);
+    let ends = Ends {
+        input: input.reason(),
+        sets: None,
+        output: output.reason(),
+    };
+    match &ran {
+        Ok(()) => advise_on_report(rt, threads, plan, place, output.is_used()),
+        Err(fault) => advise_on_fault(rt, threads, fault, places, &ends),
+    }
+    status
 }
 
-/// Writes the counts of the sets that come from there to standard output.
+/// Writes the counts of sets to standard output.
 fn count<R: RandomSource + Threads + Sync, I: Read + Drop>(
     rt: &HostRuntime,
     threads: &R,
     plan: &CountPlan,
-    sets: &Origin,
+    places: Places<'_>,
     input: I,
 ) -> u8 {
-    match sets.path() {
+    match places.sets.path {
         Some(path) => match File::open(rt, path) {
-            Ok(file) => count_sets(rt, threads, plan, file, input),
+            Ok(file) => count_sets(rt, threads, plan, places, file, input),
             Err(error) => not_opened(rt, path, &error),
         },
-        None => count_sets(rt, threads, plan, rt.stdin(), input),
+        None => count_sets(rt, threads, plan, places, rt.stdin(), input),
     }
 }
 
-/// The same of sets that come from a reader.
+/// Writes the counts of sets that come from a reader to standard output.
 fn count_sets<R: RandomSource + Threads + Sync, J: Read + Drop, I: Read + Drop>(
     rt: &HostRuntime,
     threads: &R,
     plan: &CountPlan,
+    places: Places<'_>,
     sets: J,
     input: I,
 ) -> u8 {
-    let mut sets = StdSource::new(sets);
-    let mut reader = StdSource::new(input);
-    let mut writer = StdSink::new(rt.stdout());
+    let mut sets = Kept::new(sets);
+    let mut input = Kept::new(input);
+    let mut output = Kept::new(rt.stdout());
+    let mut lists = StdSource::new(&mut sets);
+    let mut reader = StdSource::new(&mut input);
+    let mut writer = StdSink::new(&mut output);
     let alloc = rt.alloc();
-    ended(
-        rt,
-        run_count(threads, alloc, plan, &mut sets, &mut reader, &mut writer),
-    )
+    let ran = run_count(threads, alloc, plan, &mut lists, &mut reader, &mut writer);
+    let status = ended(rt, &ran);
+    let ends = Ends {
+        input: input.reason(),
+        sets: sets.reason(),
+        output: output.reason(),
+    };
+    match &ran {
+        Ok(()) => advise_on_count(rt, threads, places.input),
+        Err(fault) => advise_on_fault(rt, threads, fault, places, &ends),
+    }
+    status
 }
 
-/// Prints the fault of a run, if it has one, and answers the exit status.
-fn ended(rt: &HostRuntime, run: Result<(), RunFault>) -> u8 {
+/// Prints the fault of a run, if it has one, and returns the exit status.
+fn ended(rt: &HostRuntime, run: &Result<(), RunFault>) -> u8 {
     match run {
         Ok(()) => 0,
         Err(fault) => {
-            // Where standard error takes nothing, the status still tells the fault.
+            // If standard error takes nothing, the status still tells the fault.
             let _ = eprintln!(rt; "basket: {fault}");
-            status_of(&fault)
+            status_of(fault)
         }
     }
 }
 
-/// Prints that a file can't be opened, and answers the exit status.
+/// Prints that a file can't be opened, and returns the exit status.
 fn not_opened(rt: &HostRuntime, path: &str, error: &io::Error) -> u8 {
     if error.kind() == ErrorKind::OutOfMemory {
         let _ = eprintln!(rt; "basket: out of memory");
@@ -141,13 +217,16 @@ fn not_opened(rt: &HostRuntime, path: &str, error: &io::Error) -> u8 {
     BROKEN
 }
 
-/// Prints why there is no plan, and answers the exit status.
-fn explain(rt: &HostRuntime, fault: &PlanFault) -> u8 {
+/// Prints why there is no plan, with advice on these words, and returns the exit status.
+fn explain(rt: &HostRuntime, fault: &PlanFault, words: &[&str]) -> u8 {
     let printed = match fault {
         PlanFault::Memory => eprintln!(rt; "basket: out of memory"),
         PlanFault::Usage(text) => eprint!(rt; "{text}"),
         PlanFault::Help(text) => print!(rt; "{text}"),
     };
+    if let PlanFault::Usage(text) = fault {
+        advise_on_words(rt, text.as_str(), words);
+    }
     match (fault, printed) {
         (PlanFault::Help(_), Err(_)) => BROKEN,
         _ => plan_status(fault),

@@ -1,0 +1,161 @@
+//! Lines of advice on standard error if it is a terminal.
+use crate::again::{asked_at, baskets_in, gap_at, may_be_header};
+use crate::fault_advice::input_advice;
+use crate::place::{Place, Places};
+use crate::words_advice::words_advice;
+use basket::{Ask, Form, MineFault, Plan, ReadFault, RunFault};
+use std::alloc::{AllocError, Global};
+use std::io::{Error, IsTerminal};
+use std::random::RandomSource;
+use std::thread::Threads;
+
+/// The system's reasons for which a run's streams failed.
+#[derive(Debug, Drop)]
+pub struct Ends {
+    pub input: Option<Error>,
+    pub sets: Option<Error>,
+    pub output: Option<Error>,
+}
+
+/// Prints advice, if there is any. If standard error takes nothing, nobody misses it.
+fn say(rt: &HostRuntime, advice: Result<Option<String>, AllocError>) {
+    if let Ok(Some(text)) = advice {
+        let _ = eprintln!(rt; "hint: {text}");
+    }
+}
+
+fn is_watched(rt: &HostRuntime) -> bool {
+    rt.stderr().is_terminal()
+}
+
+/// Advice on words that were refused with a text.
+pub fn advise_on_words(rt: &HostRuntime, text: &str, words: &[&str]) {
+    if is_watched(rt) {
+        say(rt, words_advice(rt.alloc(), text, words));
+    }
+}
+
+/// Advice after a report was written, which `has_lines` or is empty.
+pub fn advise_on_report<R: RandomSource + Threads + Sync>(
+    rt: &HostRuntime,
+    threads: &R,
+    plan: &Plan,
+    place: Place<'_>,
+    has_lines: bool,
+) {
+    if !is_watched(rt) {
+        return;
+    }
+    if !has_lines {
+        let baskets = baskets_in(rt, threads, place);
+        say(rt, empty_advice(rt.alloc(), plan.ask(), place, baskets));
+    }
+    advise_on_input(rt, threads, place);
+}
+
+/// Advice after counts were written.
+pub fn advise_on_count<R: RandomSource + Threads + Sync>(
+    rt: &HostRuntime,
+    threads: &R,
+    place: Place<'_>,
+) {
+    if is_watched(rt) {
+        advise_on_input(rt, threads, place);
+    }
+}
+
+/// Advice on what may be wrong with an input that was read.
+fn advise_on_input<R: RandomSource + Threads + Sync>(
+    rt: &HostRuntime,
+    threads: &R,
+    place: Place<'_>,
+) {
+    let alloc = rt.alloc();
+    let (form, name) = (place.form_name(), place.name());
+    if place.layout.header && !place.layout.form.has_names() {
+        say(rt, format!(in alloc; "--header has no effect with --form {form}").map(Some));
+    }
+    if place.layout.weighted && place.layout.form != Form::Baskets {
+        say(rt, format!(in alloc; "--weight has no effect with --form {form}").map(Some));
+    }
+    if may_be_header(rt, threads, place) == Some(true) {
+        let text = "no other record near the first has its names; if it is a header, add --header";
+        say(rt, format!(in alloc; "in {name}, {text}").map(Some));
+    }
+}
+
+/// Advice on a report without a line.
+fn empty_advice(
+    alloc: Global,
+    ask: Ask,
+    place: Place<'_>,
+    baskets: Option<u64>,
+) -> Result<Option<String>, AllocError> {
+    let name = place.name();
+    let what = match ask {
+        Ask::Rules(_) => "no rule meets --min and --conf",
+        Ask::Items => "no item meets --min",
+        _ => "no set meets --min",
+    };
+    match baskets {
+        Some(0) => format!(in alloc; "{name} has no basket").map(Some),
+        Some(baskets) => format!(in alloc; "{what} in the {baskets} baskets of {name}").map(Some),
+        None => format!(in alloc; "{what} in {name}").map(Some),
+    }
+}
+
+/// Advice on the fault of a run.
+pub fn advise_on_fault<R: RandomSource + Threads + Sync>(
+    rt: &HostRuntime,
+    threads: &R,
+    fault: &RunFault,
+    places: Places<'_>,
+    ends: &Ends,
+) {
+    if is_watched(rt) {
+        say(rt, fault_advice(rt, threads, fault, places, ends));
+    }
+}
+
+fn fault_advice<R: RandomSource + Threads + Sync>(
+    rt: &HostRuntime,
+    threads: &R,
+    fault: &RunFault,
+    places: Places<'_>,
+    ends: &Ends,
+) -> Result<Option<String>, AllocError> {
+    let alloc = rt.alloc();
+    let (input, sets) = (places.input, places.sets);
+    match *fault {
+        RunFault::Input(ReadFault::Read) => reason(alloc, input.name(), &ends.input),
+        RunFault::Sets(ReadFault::Read) => reason(alloc, sets.name(), &ends.sets),
+        RunFault::Write => reason(alloc, "standard output", &ends.output),
+        RunFault::Input(ReadFault::Memory)
+        | RunFault::Sets(ReadFault::Memory)
+        | RunFault::Mine(MineFault::Memory) => Ok(None),
+        RunFault::Mine(MineFault::TooMany { .. }) => {
+            Ok(Some(String::from_str(alloc, "raise --min, or raise --limit")?))
+        }
+        RunFault::Uncounted { nth } => match asked_at(rt, threads, sets, nth) {
+            Some(set) => {
+                let name = input.name();
+                format!(in alloc; "set {nth} of {} is {set}, and {name} has no line for it", sets.name()).map(Some)
+            }
+            None => Ok(None),
+        },
+        RunFault::Input(ReadFault::Subset { line }) => match gap_at(rt, threads, input, line) {
+            Some(text) => Ok(Some(text)),
+            None => format!(in alloc; "in {}", input.name()).map(Some),
+        },
+        RunFault::Input(fault) => input_advice(alloc, fault, input).map(Some),
+        RunFault::Sets(fault) => input_advice(alloc, fault, sets).map(Some),
+    }
+}
+
+/// Why a stream failed, if the system said so.
+fn reason(alloc: Global, name: &str, error: &Option<Error>) -> Result<Option<String>, AllocError> {
+    match error {
+        Some(error) => format!(in alloc; "{name}: {error}").map(Some),
+        None => Ok(None),
+    }
+}
