@@ -10,8 +10,8 @@ use basket_read::{CountedLine, ReadFault};
 use std::alloc::{AllocError, Global};
 use std::random::RandomSource;
 
-/// Reads sets to their end, in numbers or in CSV as the layout has items, with the names of their items;
-/// numbers have none. Where they have counts, these mean nothing.
+/// Reads sets to their end, as numbers or as CSV names like the layout's items, with the names of
+/// their items; numbers have none. Their counts, if they have any, are ignored.
 pub fn read_asked<R: RandomSource, S: Source>(
     rt: &R,
     alloc: Global,
@@ -32,7 +32,7 @@ pub fn read_asked<R: RandomSource, S: Source>(
     }
 }
 
-/// The same in CSV, where each record has a count before its names.
+/// Reads sets of names in CSV to their end, where each record has a count before its names.
 fn read_named_sets<R: RandomSource, S: Source>(
     rt: &R,
     alloc: Global,

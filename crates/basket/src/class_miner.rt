@@ -1,4 +1,4 @@
-//! The miners that go class by class.
+//! The miners that mine class by class.
 ghost use Rattle.basket.specs.Classes.{IsJoins, IsTrees};
 
 use basket_core::{CountedSets, MineFault, Tally};

@@ -18,7 +18,7 @@ use std::alloc::Global;
 use std::random::RandomSource;
 use std::thread::Threads;
 
-/// What an input says, and of CSV the names of its items.
+/// What an input says, and for CSV the names of its items.
 #[derive(Debug, Drop)]
 pub enum Contents {
     Baskets(Database, Option<Names>),
@@ -27,7 +27,8 @@ pub enum Contents {
 }
 
 impl Contents {
-    /// Reads an input to its end, FIMI by so many workers. In CSV the known names have the first numbers.
+    /// Reads an input to its end, FIMI by this many workers. In CSV the known names have the first
+    /// numbers.
     pub fn read<R: RandomSource + Threads + Sync, S: Source>(
         rt: &R,
         alloc: Global,
@@ -63,7 +64,7 @@ impl Contents {
     }
 }
 
-/// How a report writes items: as the input does, with this byte between the fields of CSV.
+/// How a report writes items: as the input does, with this separator for CSV.
 pub fn style_of(names: &Option<Names>, separator: u8) -> Style<'_>
     ensures { wording_of result ≡ wording_with separator names.now }
 {
@@ -73,7 +74,7 @@ pub fn style_of(names: &Option<Names>, separator: u8) -> Style<'_>
     }
 }
 
-/// Reads counted sets to their end, and puts them together.
+/// Reads counted sets to their end, and merges equal ones.
 fn read_together<S: Source>(alloc: Global, reader: &mut S) -> Result<Together, ReadFault>
     requires { S.has_failed reader.old ≡ false }
     ensures exact { S.has_failed reader.new ≡ false → IfSome (S.left reader.old) (λ bytes. Answers result (where_read together_of (counts_of bytes))) }
@@ -86,7 +87,7 @@ fn read_together<S: Source>(alloc: Global, reader: &mut S) -> Result<Together, R
     }
 }
 
-/// Reads counted sets of names to their end, and puts them together.
+/// Reads counted sets of names to their end, and merges equal ones.
 fn read_named_together<R: RandomSource, S: Source>(
     rt: &R,
     alloc: Global,

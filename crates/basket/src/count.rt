@@ -21,13 +21,13 @@ use std::alloc::{AllocError, Global};
 use std::random::RandomSource;
 use std::thread::Threads;
 
-/// Reads sets and an input to their ends, and writes the sets with their counts: the empty set first,
-/// whose count is the weight of all baskets, then the others in their order, each once. Once its first
-/// byte is written nothing but the writer can refuse the others, and a flush ends the run.
+/// Reads sets and an input to their ends, and writes the sets with their counts: the empty set
+/// first, whose count is the weight of all baskets, then the others in their order, each once. Once
+/// its first byte is written nothing but the writer can fail, and a flush ends the run.
 ///
-/// `Sets` and `Input` have a fault of the bytes of one or of reading them, `Uncounted` says that a counted
-/// input lacks a set, and `Write` that the writer failed. Want of memory is in `Sets`, `Input` or `Mine`.
-/// What a reader has left is said only where it failed.
+/// `Sets` and `Input` have a fault of the bytes of one or of reading them, `Uncounted` says that a
+/// counted input lacks a set, and `Write` that the writer failed. Out of memory is a fault in
+/// `Sets`, `Input` or `Mine`. What a reader has left is said only if it failed.
 pub fn run_count<R: RandomSource + Threads + Sync, S: Source, T: Source, W: Sink>(
     rt: &R,
     alloc: Global,
@@ -40,7 +40,7 @@ pub fn run_count<R: RandomSource + Threads + Sync, S: Source, T: Source, W: Sink
     requires reader { T.has_failed reader.old ≡ false }
     requires writer { W.has_failed writer.old ≡ false }
 
-    // What is written, for readers and a writer that tell their bytes.
+    // What is written, for readers and a writer that report their bytes.
     ensures report { OnOk result (WritesCounts plan.now.layout (S.left sets.old) (T.left reader.old) (W.taken writer.old) (W.taken writer.new)) }
     ensures front { result ≡ Err RunFault.Write → WritesCountsFront plan.now.layout (S.left sets.old) (T.left reader.old) (W.taken writer.old) (W.taken writer.new) }
     ensures whole { result ≡ Err RunFault.Write → W.ends_in_flush writer.new ≡ true → WritesCounts plan.now.layout (S.left sets.old) (T.left reader.old) (W.taken writer.old) (W.taken writer.new) }
@@ -59,7 +59,7 @@ pub fn run_count<R: RandomSource + Threads + Sync, S: Source, T: Source, W: Sink
     Ok(())
 }
 
-/// The sets with their counts, made and not written yet.
+/// The sets with their counts, as a report that is not written yet.
 fn counts<R: RandomSource + Threads + Sync, S: Source, T: Source>(
     rt: &R,
     alloc: Global,
@@ -124,7 +124,7 @@ fn listed(
     Made::of_sets(alloc, list, style, plan.workers())
 }
 
-/// The sets with the sums of their counts, or the first that has none.
+/// The sets with the sums of their counts, or the first set without a count.
 fn sums(alloc: Global, together: &Together, sets: &[Itemset]) -> Result<Vec<Counted>, RunFault>
     ensures { MatchResult result (λ list. counts_over together.now sets.now ≡ Ok list.items) (IsSumsFault together.now sets.now) }
 {

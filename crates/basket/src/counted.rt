@@ -18,7 +18,7 @@ use basket_report::rules_report;
 use basket_sets::Minimum;
 use std::alloc::{AllocError, Global};
 
-/// Of counted sets that are put together those that meet the minimum, where all is there that matters.
+/// The sets that meet the minimum among merged counted sets, if all is there that matters.
 pub fn listing(alloc: Global, plan: &Plan, together: &Together) -> Result<Frequent, ReadFault>
     ensures exact { Answers result (listing_in plan.now.question together.now) }
     ensures not_read { result ≢ Err ReadFault.Read }
@@ -33,7 +33,7 @@ pub fn listing(alloc: Global, plan: &Plan, together: &Together) -> Result<Freque
     }
 }
 
-/// The first of the sets that meet the minimum which lacks a subset, where that matters.
+/// The first of the sets that meet the minimum which lacks a subset, if that matters.
 fn gap(alloc: Global, plan: &Plan, together: &Together) -> Result<Option<ReadFault>, AllocError>
     ensures { IfOk result (λ gap. gap ≡ gap_in plan.now.question together.now) }
 {
@@ -44,7 +44,7 @@ fn gap(alloc: Global, plan: &Plan, together: &Together) -> Result<Option<ReadFau
     }
 }
 
-/// Whether the weight of all baskets matters: a share is one of it, and so is a lift.
+/// Whether the weight of all baskets matters: a share is a part of it, and so is a lift.
 fn needs_total(ask: Ask, minimum: Minimum) -> bool
     ensures { result ≡ needs_total ask minimum }
 {
@@ -58,7 +58,7 @@ fn needs_subsets(ask: Ask) -> bool
     !matches!(ask, Ask::Items | Ask::Sets)
 }
 
-/// The report that the plan asks for of counted sets that meet the minimum.
+/// The report that the plan asks for, of counted sets that meet the minimum.
 pub fn report_listing(
     alloc: Global,
     frequent: Frequent,
@@ -90,7 +90,7 @@ pub fn report_listing(
     }
 }
 
-/// Those of the sets that have one item.
+/// The sets of one item.
 fn single_items(alloc: Global, sets: &CountedSets) -> Result<CountedSets, AllocError>
     ensures { IfOk result (λ items. items ≡ filter (λ c. length c.set == 1) sets.now) }
 {

@@ -25,11 +25,11 @@ use std::random::RandomSource;
 use std::thread::Threads;
 
 /// Reads the input to its end and writes the report that the plan asks for. Once its first byte is
-/// written nothing but the writer can refuse the others, and a flush ends the run.
+/// written nothing but the writer can fail, and a flush ends the run.
 ///
-/// `Input` has a fault of the bytes or of reading them, `Mine` says that there are more sets than the
-/// plan's limit, and `Write` that the writer failed. Want of memory is in the first two. What the reader
-/// has left is said only where it failed.
+/// `Input` has a fault of the bytes or of reading them, `Mine` says that there are more sets than
+/// the plan's limit, and `Write` that the writer failed. Out of memory is a fault in the first two.
+/// What the reader has left is said only if it failed.
 pub fn run<R: RandomSource + Threads + Sync, S: Source, W: Sink>(
     rt: &R,
     alloc: Global,
@@ -40,7 +40,7 @@ pub fn run<R: RandomSource + Threads + Sync, S: Source, W: Sink>(
     requires reader { S.has_failed reader.old ≡ false }
     requires writer { W.has_failed writer.old ≡ false }
 
-    // What is written, for a reader and a writer that tell their bytes.
+    // What is written, for a reader and a writer that report their bytes.
     ensures report { OnOk result (WritesReport (S.left reader.old) plan.now.question (W.taken writer.old) (W.taken writer.new)) }
     ensures front { result ≡ Err RunFault.Write → WritesFront (S.left reader.old) plan.now.question (W.taken writer.old) (W.taken writer.new) }
     ensures whole { result ≡ Err RunFault.Write → W.ends_in_flush writer.new ≡ true → WritesReport (S.left reader.old) plan.now.question (W.taken writer.old) (W.taken writer.new) }
@@ -82,7 +82,7 @@ pub fn reported<R: RandomSource + Threads + Sync, S: Source>(
     }
 }
 
-/// The same by way of all that the input says.
+/// The report that the plan asks for, made from all that the input says.
 fn report_input<R: RandomSource + Threads + Sync, S: Source>(
     rt: &R,
     alloc: Global,

@@ -20,7 +20,7 @@ pub enum RunFault {
     /// A set that is to be counted has no count in a counted input: the empty set is the first, 0.
     #[error("the input has no count of set {nth}")]
     Uncounted { nth: usize },
-    /// What was asked for was not found out.
+    /// The list of sets was not made.
     #[error(transparent)]
     Mine(MineFault),
     /// The writer failed, or took nothing of what was left.

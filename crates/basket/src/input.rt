@@ -13,11 +13,11 @@ use std::alloc::Global;
 use std::random::RandomSource;
 use std::thread::Threads;
 
-/// What an input says, and of CSV the names of its items.
+/// What an input says, and for CSV the names of its items.
 #[derive(Debug, Drop)]
 pub enum Input {
     Baskets(Database, Option<Names>),
-    /// Of sets with their counts those that meet the minimum.
+    /// Of sets with their counts, those that meet the minimum.
     Counts(Frequent, Option<Names>),
 }
 
@@ -43,7 +43,7 @@ impl Input {
         }
     }
 
-    /// Of what an input says what the plan asks for.
+    /// The part of what an input says that the plan asks for.
     fn of(alloc: Global, plan: &Plan, contents: Contents) -> Result<Self, ReadFault>
         ensures exact { Answers (result_said result) (said_for plan.now.question contents) }
         ensures not_read { result_said result ≢ Err ReadFault.Read }

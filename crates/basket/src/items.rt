@@ -40,7 +40,7 @@ pub fn report_items<R: Threads + Sync, S: Source>(
     }
 }
 
-/// The report of the frequent items of baskets of which the first have been counted. Workers count
+/// The report of the frequent items of baskets. The first of them have been counted; workers count
 /// the others.
 fn report_counts<R: Threads + Sync>(
     rt: &R,

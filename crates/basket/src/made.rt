@@ -1,4 +1,4 @@
-//! A report that is made and not written yet.
+//! A report that is made but not written yet.
 ghost use Rattle.std.specs.Prelude.{◌≡◌, ◌↔◌, List, true, false, IfOk, IsOk, OnErr, OnOk};
 ghost use Rattle.std.specs.Io.KnownBytes.{Appends};
 ghost use Rattle.basket_report.specs.Bytes.{TakesFront};
@@ -25,7 +25,7 @@ pub enum Made {
 }
 
 impl Made {
-    /// The report of the sets, whose lines so many workers will make.
+    /// The report of the sets, whose lines this many workers will make.
     pub fn of_sets(
         alloc: Global,
         sets: CountedSets,
@@ -43,7 +43,7 @@ impl Made {
         }
     }
 
-    /// The report of those of the frequent sets that are closed.
+    /// The report of the closed sets among the frequent ones.
     pub fn of_closed(
         alloc: Global,
         frequent: Frequent,
@@ -57,7 +57,7 @@ impl Made {
         Made::of_sets(alloc, closed(alloc, &frequent)?, style, workers)
     }
 
-    /// The report of those of the frequent sets that are maximal.
+    /// The report of the maximal sets among the frequent ones.
     pub fn of_maximal(
         alloc: Global,
         frequent: Frequent,
@@ -71,8 +71,8 @@ impl Made {
         Made::of_sets(alloc, maximal(alloc, &frequent)?, style, workers)
     }
 
-    /// Writes the report to its end and flushes. Where the sink fails, it has taken a front of it, and
-    /// all of it where the flush alone failed.
+    /// Writes the report to its end and flushes. If the sink fails, it has taken a prefix of it,
+    /// and all of it if only the flush failed.
     pub fn write<R: Threads + Sync, W: Sink>(self, rt: &R, writer: &mut W) -> Result<(), Failed>
         requires { W.has_failed writer.old ≡ false }
         ensures ok { OnOk result (Appends (W.taken writer.old) (W.taken writer.new) (made_text self)) }
@@ -104,8 +104,8 @@ impl Made {
     }
 }
 
-/// Writes all bytes and flushes. Where the sink fails, it has taken a front of them, and all where the
-/// flush alone failed.
+/// Writes all bytes and flushes. If the sink fails, it has taken a prefix of them, and all of them
+/// if only the flush failed.
 fn write_all<W: Sink>(writer: &mut W, bytes: &[u8]) -> Result<(), Failed>
     requires { W.has_failed writer.old ≡ false }
     ensures ok { OnOk result (Appends (W.taken writer.old) (W.taken writer.new) bytes.now) }

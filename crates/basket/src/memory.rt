@@ -11,8 +11,8 @@ use std::alloc::Global;
 use std::random::RandomSource;
 use std::thread::Threads;
 
-/// The text of the report that the plan asks for over the bytes of an input: but for want of memory
-/// the outcome, and so is each fault.
+/// The text of the report that the plan asks for over the bytes of an input: the outcome, as is
+/// each fault except out of memory.
 pub fn report<R: RandomSource + Threads + Sync>(
     rt: &R,
     alloc: Global,

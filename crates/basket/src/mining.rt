@@ -64,11 +64,11 @@ impl Work {
     }
 }
 
-/// The list of the frequent sets, where it is no longer than the plan's limit, and how much the
-/// plan's miner did for it. The plan's workers pass the gate with each piece of their work, in the
-/// phase that counts the items, which is 1, and in those of the miner.
+/// The list of the frequent sets, if it is no longer than the plan's limit, and how much the plan's
+/// miner did for it. The plan's workers pass the gate with each piece of their work, in the phase
+/// that counts the items, which is 1, and in those of the miner.
 ///
-/// The fault is `TooMany` where there are more sets than the plan's limit, else `Memory`.
+/// The fault is `TooMany` if there are more sets than the plan's limit, else `Memory`.
 pub fn mine<R: Threads + Sync, G: Gate + Sync>(
     rt: &R,
     alloc: Global,
@@ -86,7 +86,7 @@ pub fn mine<R: Threads + Sync, G: Gate + Sync>(
     mine_in_place(rt, alloc, database.copied(alloc)?, plan, gate)
 }
 
-/// The same, where the ranks of the baskets take the room of their items.
+/// Mines as `mine` does; the ranks of the baskets take the room of their items.
 pub fn mine_in_place<R: Threads + Sync, G: Gate + Sync>(
     rt: &R,
     alloc: Global,
@@ -109,7 +109,7 @@ pub fn mine_in_place<R: Threads + Sync, G: Gate + Sync>(
     mine_coded(rt, alloc, coded, plan, gate)
 }
 
-/// The same of a database that is coded.
+/// Mines a database that is coded.
 fn mine_coded<R: Threads + Sync, G: Gate + Sync>(
     rt: &R,
     alloc: Global,
@@ -156,7 +156,7 @@ fn coded<R: Threads + Sync, G: Gate + Sync>(
 }
 
 /// The list of the frequent sets by Apriori, and how many candidates it counted. Equal baskets are
-/// merged before.
+/// merged first.
 fn by_apriori<R: Threads + Sync, G: Gate + Sync>(
     rt: &R,
     alloc: Global,

@@ -9,7 +9,7 @@ ghost use Rattle.basket.specs.Outcome.{outcome};
 ghost use Rattle.basket.specs.Worked.{asked, limited, nine_baskets};
 ghost use Rattle.basket.specs.declared.fault.RunFault.TheVariants.{Input, Mine};
 
-/// Each item with the number of its baskets, where these are two or more.
+/// Each item with the number of its baskets, if these are two or more.
 pub fn nine_baskets_items()
     ensures { outcome nine_baskets (asked Fimi Items 2) ≡ Ok (lines (codes "1 (6)|2 (7)|3 (6)|4 (2)|5 (2)|")) }
 {}
@@ -30,14 +30,14 @@ pub fn quoted_names_are_quoted()
         ≡ Ok (lines (codes "1,\"semi, skim\"|2,bread|1,\"5\"\" pan\"|1,\"semi, skim\",bread|1,bread,\"5\"\" pan\"|")) }
 {}
 
-/// Six sets are too many where there may be five. Items are not limited.
+/// Six sets are too many if there may be five. Items are not limited.
 pub fn six_sets_are_too_many()
     ensures five { outcome nine_baskets (limited Fimi Sets 3 5) ≡ Err (Mine (TooMany 5)) }
     ensures six { outcome nine_baskets (limited Fimi Sets 3 6) ≡ Ok (lines (codes "1 (6)|2 (7)|3 (6)|1 2 (4)|1 3 (4)|2 3 (4)|")) }
     ensures items { outcome nine_baskets (limited Fimi Items 3 1) ≡ Ok (lines (codes "1 (6)|2 (7)|3 (6)|")) }
 {}
 
-/// The first fault of a text is told, with the number of its line or record.
+/// The first fault of a text is reported with the number of its line or record.
 pub fn first_fault_is_told()
     ensures byte { outcome (lines (codes "1 2|3 x|4 y|")) (asked Fimi Sets 1) ≡ Err (Input (Byte 2 120)) }
     ensures no_text { outcome (97 ∷ 10 ∷ 255 ∷ 10 ∷ 254 ∷ []) (asked Baskets Items 1) ≡ Err (Input (NotText 2)) }

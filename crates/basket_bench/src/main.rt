@@ -1,5 +1,5 @@
-//! The stage bench: how long each stage of `basket sets` takes over a FIMI input with one, two and four
-//! workers, by the calls that the program makes.
+//! The stage bench: how long each stage of `basket sets` takes over a FIMI input with one, two and
+//! four workers, using the calls that the program makes.
 #![tactic(auto)]
 
 mod stage;
@@ -46,7 +46,7 @@ fn main(rt: HostRuntime) -> anyhow::Result<()> {
     }
 }
 
-/// Takes standard input in, and prints the times of the stages over it. The workers are threads of the
+/// Reads standard input, and prints the times of the stages over it. The workers are threads of the
 /// second runtime.
 fn bench<R: Threads + Sync>(
     rt: &HostRuntime,
@@ -73,7 +73,7 @@ fn bench<R: Threads + Sync>(
     Ok(())
 }
 
-/// Prints the times of the stages by the workers of the plan.
+/// Prints the times of the stages for the plan's number of workers.
 fn print_stages<R: Threads + Sync>(
     rt: &HostRuntime,
     threads: &R,

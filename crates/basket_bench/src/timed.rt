@@ -1,4 +1,4 @@
-//! How long the stages take, so many times over, by the calls that the program makes.
+//! How long the stages take, over a number of runs, using the calls that the program makes.
 use anyhow::Context;
 use basket::SliceSource;
 use basket_core::{Database, Frequent, StdSink};
@@ -8,7 +8,7 @@ use std::io::sink;
 use std::thread::Threads;
 use std::time::{Duration, Instant};
 
-/// How long each of so many runs of some work takes.
+/// How long each of this many runs of some work takes.
 pub fn times<F: Fn() -> anyhow::Result<()>>(
     rt: &HostRuntime,
     runs: u32,
@@ -36,7 +36,7 @@ pub fn read<R: Threads + Sync>(
     Ok(read.context("the input was not read")?)
 }
 
-/// Makes the lines of the list, which nobody takes.
+/// Makes the lines of the list and discards them.
 pub fn report<R: Threads + Sync>(
     rt: &HostRuntime,
     threads: &R,

@@ -18,7 +18,7 @@ pub fn subsets(alloc: Global, set: &Itemset) -> Result<Vec<Itemset>, AllocError>
     Ok(sets)
 }
 
-/// The subsets that have so many items: first those with the first item, then those without.
+/// The subsets of this many items: first those with the first item, then those without.
 fn subsets_of_size(alloc: Global, size: usize, items: &[u32]) -> Result<Vec<Itemset>, AllocError>
     requires { IsRising items.now }
     ensures { IfOk result (λ sets. sets.items ≡ subsets_of_size size items.now) }

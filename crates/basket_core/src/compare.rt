@@ -6,7 +6,7 @@ ghost use Rattle.std.specs.Ordering.{nat_cmp};
 use std::cmp::Ordering;
 
 /// Compares a list of items with the items of `front` and then those of `rest`, which need not be
-/// copied together.
+/// copied into one list.
 pub fn compare_parts(items: &[u32], front: &[u32], rest: &[u32]) -> Ordering
     ensures { result ≡ slice_cmp nat_cmp items.now (front.now ++ rest.now) }
 {

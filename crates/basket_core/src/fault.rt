@@ -9,7 +9,7 @@ use thiserror::Error;
 pub enum MineFault {
     #[error("out of memory")]
     Memory,
-    /// The list is longer than the limit that was asked for.
+    /// The list is longer than the given limit.
     #[error("more than {limit} frequent itemsets")]
     TooMany { limit: u32 },
 }

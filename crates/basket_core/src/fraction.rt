@@ -73,7 +73,7 @@ fn common_divisor(a: u128, b: u128) -> u128
     greater
 }
 
-/// The same of numbers that the processor divides.
+/// The greatest common divisor of numbers that the processor divides.
 fn short_divisor(a: u64, b: u64) -> u64
     ensures { IsGcd a b result }
 {

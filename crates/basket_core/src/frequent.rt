@@ -44,7 +44,7 @@ impl Frequent {
         })
     }
 
-    /// The same, put in order by so many threads at most.
+    /// The list of the sets of all classes, sorted by at most this many threads.
     pub fn of_classes_shared<R: Threads + Sync>(
         rt: &R,
         alloc: Global,
@@ -92,7 +92,7 @@ impl Frequent {
         self.total
     }
 
-    /// The same list with the items of each set side by side.
+    /// The same list, with each set as a value of its own.
     pub fn unpacked(self, alloc: Global) -> Result<Unpacked, AllocError>
         ensures { IfOk result (λ unpacked. unpacked ≡ self) }
     {
@@ -101,8 +101,8 @@ impl Frequent {
     }
 }
 
-/// The sets of the classes, one class after another. The first that has sets isn't copied, and the room
-/// for the others is made when it is taken.
+/// The sets of the classes, one class after another. The first class that has sets isn't copied,
+/// and the room for the others is made when it is taken.
 fn gathered(alloc: Global, classes: Vec<CountedSets>) -> Result<CountedSets, AllocError>
     ensures { IfOk result (λ sets. sets ≡ flat_map (λ class. class) classes.items) }
 {
@@ -119,7 +119,7 @@ fn gathered(alloc: Global, classes: Vec<CountedSets>) -> Result<CountedSets, All
     Ok(sets)
 }
 
-/// How many sets the classes have together, or `usize::MAX` where they have more.
+/// How many sets the classes have together, or `usize::MAX` if they have more.
 fn count_sets(classes: &[CountedSets]) -> usize {
     let mut count: usize = 0;
     for class in classes {
@@ -128,7 +128,7 @@ fn count_sets(classes: &[CountedSets]) -> usize {
     count
 }
 
-/// The greatest frequent item, or 0 where there is none.
+/// The greatest frequent item, or 0 if there is none.
 fn greatest_item(coded: &Coded) -> u32 {
     coded.items().iter().copied().max().unwrap_or(0)
 }

@@ -14,7 +14,7 @@ pub trait Tally {
     fn limit(&self) -> u32
         ensures { result ≡ limit_of self.now };
 
-    /// How many sets were told to this tally.
+    /// How many sets were reported to this tally.
     fn told(&self) -> u64
         ensures { result ≡ told_of self.now };
 
@@ -22,7 +22,7 @@ pub trait Tally {
     fn over(&self) -> bool
         ensures { result ≡ is_over self.now };
 
-    /// Counts a set, and answers whether there may be another.
+    /// Counts a set, and returns whether there may be another.
     fn tell(&mut self) -> bool
         requires { is_over self.old ≡ false }
         ensures limit { limit_of self.new ≡ limit_of self.old }
@@ -30,7 +30,7 @@ pub trait Tally {
         ensures over { result ≡ not (is_over self.new) };
 }
 
-/// The tally of one miner alone, which is over where it was told more sets than its limit.
+/// The tally of one miner alone, which is over once more sets than its limit were reported.
 #[derive(Debug, Drop)]
 pub struct Limit {
     limit: u32,

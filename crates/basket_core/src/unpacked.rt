@@ -5,7 +5,7 @@ use basket_sets::Counted;
 use std::alloc::{AllocError, Global};
 use std::marker::Model;
 
-/// The frequent sets of a database and a minimum, in report order, each with its items side by side.
+/// The frequent sets of a database and a minimum, in report order, each as a value of its own.
 #[derive(Debug, Drop)]
 pub struct Unpacked {
     sets: Vec<Counted>,
@@ -27,7 +27,7 @@ impl Unpacked {
         Unpacked { sets, total }
     }
 
-    /// A copy of a list, with the items of each set side by side.
+    /// A copy of a list, with each set as a value of its own.
     pub fn of(alloc: Global, frequent: &Frequent) -> Result<Self, AllocError>
         ensures { IfOk result (λ unpacked. unpacked ≡ frequent.now) }
     {

@@ -9,7 +9,7 @@ pub enum Class {
     Blank,
     /// The parenthesis before a count.
     Open,
-    /// The parenthesis behind a count.
+    /// The parenthesis after a count.
     Close,
     LineFeed,
     Other,

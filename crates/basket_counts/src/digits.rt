@@ -13,14 +13,14 @@ pub const MAX_NUMBER: u64 = 4_294_967_295;
 /// The greatest count.
 pub const MAX_COUNT: u64 = 1_099_511_627_775;
 
-/// Digits at the front of some bytes: how many, and the value of the number that ends with them.
+/// The leading digits of some bytes: how many, and the value of the number that ends with them.
 #[derive(Clone, Copy, Debug)]
 pub struct Digits {
     pub value: u64,
     pub count: usize,
 }
 
-/// A value with the digits at the front of the bytes behind it, as many as keep it from going above the
+/// A value with the leading digits of the bytes appended, as many as keep it from going above the
 /// bound.
 #[inline(always)]
 pub fn with_digits(value: u64, bound: u64, bytes: &[u8]) -> Digits

@@ -1,6 +1,6 @@
 use basket_sets::Itemset;
 
-/// A set of a list, with its count where it has a whole one.
+/// A set of a list, with its count if it has a whole one.
 #[derive(Debug, Drop)]
 pub struct Entry {
     pub set: Itemset,

@@ -24,7 +24,7 @@ pub struct Input {
 }
 
 impl Input {
-    /// Takes in what a reader gives.
+    /// Reads what a reader gives.
     pub fn take_in<S: Source>(alloc: Global, reader: &mut S) -> Result<Self, ReadFault>
         requires { S.has_failed reader.old ≡ false }
         ensures { TakesIn (S.left reader.old) (S.has_failed reader.new) result }
@@ -33,7 +33,7 @@ impl Input {
         take_blocks(alloc, reader, &mut block)
     }
 
-    /// The text of the bytes, which is behind the mark if they begin with it.
+    /// The text of the bytes: what follows the mark if they begin with it.
     pub fn text(&self) -> &[u8]
         ensures { result.now ≡ text_of self.now.bytes.items }
     {

@@ -3,12 +3,12 @@ ghost use Rattle.basket_counts.specs.Counts.{fault_at, is_good, is_line};
 ghost use Rattle.basket_counts.specs.Laws.{ListsAreReadBack};
 ghost use Rattle.basket_read.specs.Grammar.{FirstFaultIsExact, FrontsAreGood, GoodIsFaultless};
 
-/// Each front of a good line is one.
+/// Each prefix of a good line is one.
 pub fn line_fronts_are_good()
     ensures { FrontsAreGood is_line }
 {}
 
-/// Each front of a good text is good.
+/// Each prefix of a good text is good.
 pub fn fronts_are_good()
     ensures { FrontsAreGood is_good }
 {}
@@ -23,7 +23,7 @@ pub fn first_fault_is_exact()
     ensures { FirstFaultIsExact is_good fault_at }
 {}
 
-/// Counted sets that are written a line each are read back.
+/// Counted sets that are written one a line are read back.
 pub fn lists_are_read_back()
     ensures { ListsAreReadBack }
 {}

@@ -1,4 +1,4 @@
-//! A reader of counted sets that answers exactly the sets of a list, or its first fault.
+//! A reader of counted sets that returns exactly the sets of a list, or its first fault.
 #![tactic(auto)]
 
 mod class;

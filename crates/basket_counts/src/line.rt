@@ -12,7 +12,7 @@ use crate::place::Place;
 use basket_read::ReadFault;
 use std::alloc::{AllocError, Global};
 
-/// What has been read of a line: where it stands, and the numbers that have ended.
+/// What has been read of a line: the place that was reached, and the numbers that have ended.
 #[derive(Debug, Drop)]
 pub struct Line {
     place: Place,
@@ -48,7 +48,7 @@ impl Line {
         }
     }
 
-    /// Takes digits from the front of the bytes, as many as can stand here, and answers how many.
+    /// Takes leading digits of the bytes, as many as can stand here, and returns how many.
     #[inline(always)]
     pub fn take_digits(&mut self, bytes: &[u8]) -> usize
         ensures within { result ≤ length bytes.now }
@@ -142,7 +142,7 @@ impl Line {
         }
     }
 
-    /// Takes the parenthesis behind a count, if it can stand here.
+    /// Takes the parenthesis after a count, if it can stand here.
     fn close(&mut self) -> bool
         ensures line { (if result then Some (line_state self.new) else None) ≡ with_class (line_state self.old) Class.Close }
         ensures refused { result ≡ false → line_state self.new ≡ line_state self.old }
@@ -156,7 +156,7 @@ impl Line {
         }
     }
 
-    /// Ends a number, if the line stands in one.
+    /// Ends a number, if the line is in one.
     #[inline(always)]
     pub fn end_number(&mut self) -> Result<(), AllocError>
         ensures { OnOk result (line_state self.new ≡ number_ended (line_state self.old)) }

@@ -2,26 +2,26 @@ ghost use Rattle.std.specs.Prelude.{◌≡◌, ◌<◌};
 
 use crate::digits::{MAX_COUNT, MAX_NUMBER, with_digit};
 
-/// Where in a line the next byte stands.
+/// What has been read of a line just before its next byte.
 #[derive(Clone, Copy, Debug)]
 pub enum Place {
-    /// At the head of the line, or behind a blank.
+    /// At the beginning of the line, or after a blank.
     Between,
     /// In a number.
     Number(u32),
-    /// Behind the parenthesis before a count.
+    /// After the parenthesis before a count.
     Opened,
     /// In the count.
     Count(u64),
-    /// Behind the count and its parenthesis.
+    /// After the count and its parenthesis.
     Closed(u64),
 }
 
 impl Place {
     ghost use Rattle.basket_counts.specs.Line.{digit_added};
 
-    /// The place behind one digit more, if it can stand here and takes neither a number nor a count above
-    /// its bound.
+    /// The place after one more digit, if it can stand here and takes neither a number nor a count
+    /// above its bound.
     #[inline(always)]
     pub fn with_digit(self, digit: u8) -> Option<Self>
         requires { digit < 10 }

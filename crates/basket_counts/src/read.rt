@@ -13,13 +13,13 @@ use basket_sets::Itemset;
 use basket_stream::Source;
 use std::alloc::Global;
 
-/// Reads a list of sets to its end, a line a set, and answers the sets in its order. Their counts may be
-/// there or not, and are not looked at.
+/// Reads a list of sets to its end, one set a line, and returns the sets in its order. Their counts
+/// may be there or not, and are ignored.
 pub fn read_sets<S: Source>(alloc: Global, reader: &mut S) -> Result<Vec<Itemset>, ReadFault>
     requires { S.has_failed reader.old ≡ false }
-    // Where the reader doesn't fail, the answer is that of all its bytes.
+    // If the reader doesn't fail, the result is that of all its bytes.
     ensures exact { S.has_failed reader.new ≡ false → IfSome (S.left reader.old) (λ bytes. Answers result (sets_of_bytes bytes)) }
-    // Where it fails, the answer is `Read`, and only there.
+    // If it fails, the result is `Read`, and only then.
     ensures failed { S.has_failed reader.new ≡ true → result ≡ Err Read }
     ensures read_is_failed { result ≡ Err Read → S.has_failed reader.new ≡ true }
 {
@@ -27,13 +27,13 @@ pub fn read_sets<S: Source>(alloc: Global, reader: &mut S) -> Result<Vec<Itemset
     sets_among(alloc, entries)
 }
 
-/// Reads a list of counted sets to its end, a line a set, and answers the sets with their counts, in its
-/// order.
+/// Reads a list of counted sets to its end, one set a line, and returns the sets with their counts,
+/// in its order.
 pub fn read_counts<S: Source>(alloc: Global, reader: &mut S) -> Result<Vec<CountedLine>, ReadFault>
     requires { S.has_failed reader.old ≡ false }
-    // Where the reader doesn't fail, the answer is that of all its bytes.
+    // If the reader doesn't fail, the result is that of all its bytes.
     ensures exact { S.has_failed reader.new ≡ false → IfSome (S.left reader.old) (λ bytes. Answers result (counts_of bytes)) }
-    // Where it fails, the answer is `Read`, and only there.
+    // If it fails, the result is `Read`, and only then.
     ensures failed { S.has_failed reader.new ≡ true → result ≡ Err Read }
     ensures read_is_failed { result ≡ Err Read → S.has_failed reader.new ≡ true }
 {

@@ -1,11 +1,11 @@
-//! Worked lists, proved by computing what the definition answers.
+//! Worked lists, proved by computing what the definition returns.
 ghost use Rattle.std.specs.Prelude.{◌≡◌, [], ◌∷◌, Ok, Err, codes};
 ghost use Rattle.basket_read.specs.Worked.{lines};
 ghost use Rattle.basket_read.specs.declared.fault.ReadFault.TheVariants.{Byte, Number, Count, NoCount};
 ghost use Rattle.basket_counts.specs.Counts.{sets_of_bytes, counts_of};
 ghost use Rattle.basket_counts.specs.Worked.{line};
 
-/// A set counts as it stands or with its count, in any order of its items, and each item once.
+/// A set is good with or without a count, with its items in any order, and each item counts once.
 pub fn counts_may_be_left_out()
     ensures sets { sets_of_bytes (lines (codes "1 2 (7)|(15)|2 1 1")) ≡ Ok ((1 ∷ 2 ∷ []) ∷ [] ∷ (1 ∷ 2 ∷ []) ∷ []) }
     ensures counts { counts_of (lines (codes "1 2 (7)|(15)|2 1 1")) ≡ Err (NoCount 3) }

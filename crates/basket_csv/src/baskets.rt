@@ -22,7 +22,7 @@ use csv::ByteRecord;
 use std::alloc::Global;
 use std::hash::BuildHasher;
 
-/// The weight of a record, if it has one: that in its first field, where one is asked for, else 1.
+/// The weight of a record, if it has one: that in its first field, if one is asked for, else 1.
 fn weight_of(weighted: bool, nth: u32, row: &ByteRecord) -> Result<Option<u32>, ReadFault>
     ensures weight { MatchResult result
         (λ weight. (weight ≡ weight_of weighted (fields_of row.now)) × (is_text (fields_of row.now) ≡ is_text (drop (fields_before weighted) (fields_of row.now))))

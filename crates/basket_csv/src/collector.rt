@@ -14,7 +14,8 @@ use basket_read::ReadFault;
 use csv::ByteRecord;
 use std::alloc::Global;
 
-/// What records are added to. Where one is a fault, or memory is wanting, all that was added is lost.
+/// What records are added to. After a faulty record, or if memory runs out, all that was added is
+/// lost.
 pub trait Collector {
     // The fault of a record with this number.
     ghost fault_of: { Start → ℕ → List (List ℕ) → Option ReadFault };
@@ -30,7 +31,7 @@ pub trait Collector {
             OnOk result (has_read self.new start (rows ++ fields_of row.now ∷ [])) };
 }
 
-/// Adds all records of the bytes but the header, up to the first with a fault.
+/// Adds all records of the bytes except the header, up to the first with a fault.
 pub fn add_all<C: Collector>(
     alloc: Global,
     bytes: &[u8],

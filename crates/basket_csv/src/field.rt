@@ -13,7 +13,7 @@ fn is_space(byte: u8) -> bool
     matches!(byte, b' ' | b'\t')
 }
 
-/// How many spaces and tabs stand at the front.
+/// How many leading spaces and tabs there are.
 #[inline]
 fn front_spaces(bytes: &[u8]) -> usize
     ensures value { result ≡ prefix_len is_space bytes.now }
@@ -51,7 +51,7 @@ pub fn trim(text: &str) -> &str
     &rest[..end_spaces(rest.as_bytes())]
 }
 
-/// Whether a field is a name as it stands: it is not empty, and has no spaces and tabs at its ends.
+/// Whether a field is a name as it is: it is not empty, and has no spaces and tabs at its ends.
 #[inline]
 pub fn is_name(field: &[u8]) -> bool
     ensures trimmed { result ≡ true → trimmed field.now ≡ field.now }

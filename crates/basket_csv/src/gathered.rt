@@ -9,7 +9,7 @@ use basket_read::ReadFault;
 use basket_sets::{Database, Itemset};
 use std::alloc::Global;
 
-/// The baskets so far. Where one can't be added, all are lost.
+/// The baskets so far. If one can't be added, all are lost.
 #[derive(Drop)]
 pub struct Gathered {
     alloc: Global,
@@ -45,7 +45,7 @@ impl Gathered {
         if self.heavy {
             return Ok(());
         }
-        // An input is too short for so many baskets.
+        // No input is long enough for that many baskets.
         if self.baskets.len() >= Database::MAX_BASKETS {
             return Err(ReadFault::Memory);
         }

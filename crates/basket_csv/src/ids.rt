@@ -11,7 +11,7 @@ use std::alloc::Global;
 use std::hash::BuildHasher;
 use std::marker::Model;
 
-/// The ids so far, by which new ones are numbered. Where one can't be, all are lost.
+/// The ids so far, by which new ones are numbered. If one can't be numbered, all are lost.
 #[derive(Drop)]
 pub struct Ids<S: BuildHasher> {
     numbering: Numbering<S>,
@@ -40,7 +40,7 @@ impl<S: BuildHasher> Ids<S> {
         }
     }
 
-    /// The number of a known id, if it was numbered last or was found of late.
+    /// The number of a known id, if it was numbered last or was found recently.
     #[inline]
     pub fn known(&self, id: &[u8]) -> Option<u32>
         ensures { IfSome result (IsKnown self.now id.now) }

@@ -12,7 +12,7 @@ const MAX_BYTES: usize = 4_294_967_295;
 /// How many bytes are asked for at once.
 const BLOCK: usize = 65_536;
 
-/// Takes all bytes of an input in.
+/// Reads all bytes of an input.
 pub fn take_in<S: Source>(alloc: Global, reader: &mut S) -> Result<Vec<u8>, ReadFault>
     requires { S.has_failed reader.old ≡ false }
     ensures { TakesIn (S.left reader.old) (S.has_failed reader.new) result }

@@ -8,10 +8,10 @@ use std::hash::{FoldHasher, Hasher};
 /// The greatest length of a name that its key has whole.
 const WHOLE: u32 = 16;
 
-/// What stands for the length of a longer name.
+/// Replaces the length of a longer name.
 pub const LONG: u32 = 17;
 
-/// The hash of a name. It has no key: names that are picked to have one hash push one another out
+/// The hash of a name. It has no key: names that are chosen to have one hash push one another out
 /// of their bucket, and are then looked up in the map like names that aren't kept.
 #[inline(always)]
 pub fn hash_of(name: &[u8]) -> u64 {
@@ -88,8 +88,8 @@ fn ends_of(name: &[u8]) -> (u64, u64)
     }
 }
 
-/// The length of a name, and its first and its last bytes. They tell a name of up to 16 bytes from
-/// all others.
+/// The length of a name, and its first and its last bytes. They distinguish a name of up to 16
+/// bytes from all others.
 #[derive(Clone, Copy)]
 pub struct Key {
     pub front: u64,
@@ -110,7 +110,7 @@ impl Key {
         }
     }
 
-    /// Whether the key tells its name from all others.
+    /// Whether the key distinguishes its name from all others.
     #[inline(always)]
     pub fn is_whole(&self) -> bool
         ensures { IsTrue result ↔ (self.now.len ≤ WHOLE) }

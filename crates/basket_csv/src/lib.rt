@@ -1,4 +1,5 @@
-//! Readers of baskets of names from CSV, which answer exactly the baskets of an input, or its first fault.
+//! Readers of baskets of names from CSV, which return exactly the baskets of an input, or its first
+//! fault.
 #![tactic(auto)]
 
 mod baskets;

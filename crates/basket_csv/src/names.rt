@@ -58,7 +58,7 @@ impl Names {
     }
 }
 
-/// The names so far, by which new ones are numbered. Where one can't be, all are lost.
+/// The names so far, by which new ones are numbered. If one can't be numbered, all are lost.
 #[derive(Drop)]
 pub struct Numbering<S: BuildHasher> {
     alloc: Global,
@@ -107,12 +107,12 @@ impl<S: BuildHasher> Numbering<S> {
                 self.keep(&key, name.as_bytes(), number, place < known)?;
                 Ok(number)
             }
-            // An input is too short for so many names.
+            // No input is long enough for that many names.
             Err(_) => Err(ReadFault::Memory),
         }
     }
 
-    /// The number of a known name of this key, if it was found of late.
+    /// The number of a known name of this key, if it was found recently.
     #[inline(always)]
     pub fn recent_number(&self, key: &Key, name: &[u8]) -> Option<u32>
         requires { IsKeyOf key.now name.now }
@@ -137,7 +137,7 @@ impl<S: BuildHasher> Numbering<S> {
         Ok(())
     }
 
-    /// The place of a name, which is put behind all where it is new.
+    /// The place of a name, which is added at the end if it is new.
     #[inline]
     fn place(&mut self, name: &str) -> Result<usize, ReadFault>
         ensures names { OnOk result (self.new ≡ with_name self.old name.now) }

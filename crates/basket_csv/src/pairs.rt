@@ -27,7 +27,7 @@ use std::hash::BuildHasher;
 /// The numbers of the names of an id. Most have few, which need no allocation.
 type Group = SmallVec<u32, { INLINE_ITEMS }>;
 
-/// Adds a number to the group at a place, or to a new one behind all.
+/// Adds a number to the group at a place, or to a new one at the end.
 fn add_number(
     alloc: Global,
     groups: &mut Vec<Group>,
@@ -94,8 +94,8 @@ impl<S: BuildHasher> Pairs<S> {
         Ok(())
     }
 
-    /// The numbers of the id and the name of a record, if these are its two fields as they stand, and
-    /// both were found of late.
+    /// The numbers of the id and the name of a record, if these are its two fields as they are, and
+    /// both were found recently.
     #[inline]
     fn known_pair(&self, row: &ByteRecord) -> Option<(u32, u32)>
         ensures fault { (nth : ℕ) → IfSome result (λ _. pair_fault nth (fields_of row.now) ≡ None) }
@@ -142,7 +142,7 @@ impl<S: BuildHasher> Collector for Pairs<S> {
 }
 
 impl<S: BuildHasher + Drop> Pairs<S> {
-    /// A basket for each id, with the names of all.
+    /// A basket for each id, with the names of all its records.
     pub fn finish(self) -> Result<(Database, Names), ReadFault>
         ensures { (known : List (List ℕ)) (pairs : List (List ℕ × List ℕ)) → HasPairs self known pairs →
             Answers result (with_names (if_light (baskets_of_pairs known pairs)) (names_of_pairs known pairs)) }
@@ -153,7 +153,7 @@ impl<S: BuildHasher + Drop> Pairs<S> {
             ids,
             groups,
         } = self;
-        // Their memory serves the baskets.
+        // The memory of the groups is used for the baskets.
         drop(ids);
         let baskets = gathered_from(alloc, &groups)?.finish()?;
         Ok((baskets, names.into_names()?))

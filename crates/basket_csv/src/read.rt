@@ -20,8 +20,8 @@ use std::random::RandomSource;
 
 /// Reads a CSV input to its end, where each record is a basket of names: its fields, without the
 /// spaces and tabs at their ends and without the empty ones. With `weight` the first field of each
-/// record but the header is the basket's weight. The known names keep their numbers, and new ones
-/// are numbered behind them.
+/// record except the header is the basket's weight. The known names keep their numbers, and new
+/// ones are numbered after them.
 pub fn read_baskets<R: RandomSource, S: Source>(
     rt: &R,
     alloc: Global,
@@ -31,9 +31,9 @@ pub fn read_baskets<R: RandomSource, S: Source>(
     known: Names,
 ) -> Result<(Database, Names), ReadFault>
     requires { S.has_failed reader.old ≡ false }
-    // Where the reader doesn't fail, the answer is that of all its bytes.
+    // If the reader doesn't fail, the result is that of all its bytes.
     ensures exact { S.has_failed reader.new ≡ false → IfSome (S.left reader.old) (λ bytes. Answers result (baskets_of_csv dialect.separator dialect.header weight known bytes)) }
-    // Where it fails, the answer is `Read`, and only there.
+    // If it fails, the result is `Read`, and only then.
     ensures failed { S.has_failed reader.new ≡ true → result ≡ Err Read }
     ensures read_is_failed { result ≡ Err Read → S.has_failed reader.new ≡ true }
 {
@@ -49,8 +49,8 @@ pub fn read_baskets<R: RandomSource, S: Source>(
 }
 
 /// Reads a CSV input to its end, where each record is a pair: the id of a basket and a name in it,
-/// both without the spaces and tabs at their ends. A record without a name is passed over. The known
-/// names keep their numbers, and new ones are numbered behind them.
+/// both without the spaces and tabs at their ends. A record without a name is ignored. The known
+/// names keep their numbers, and new ones are numbered after them.
 pub fn read_single<R: RandomSource, S: Source>(
     rt: &R,
     alloc: Global,
@@ -59,9 +59,9 @@ pub fn read_single<R: RandomSource, S: Source>(
     known: Names,
 ) -> Result<(Database, Names), ReadFault>
     requires { S.has_failed reader.old ≡ false }
-    // Where the reader doesn't fail, the answer is that of all its bytes.
+    // If the reader doesn't fail, the result is that of all its bytes.
     ensures exact { S.has_failed reader.new ≡ false → IfSome (S.left reader.old) (λ bytes. Answers result (pairs_of_csv dialect.separator dialect.header known bytes)) }
-    // Where it fails, the answer is `Read`, and only there.
+    // If it fails, the result is `Read`, and only then.
     ensures failed { S.has_failed reader.new ≡ true → result ≡ Err Read }
     ensures read_is_failed { result ≡ Err Read → S.has_failed reader.new ≡ true }
 {
@@ -76,10 +76,10 @@ pub fn read_single<R: RandomSource, S: Source>(
     }
 }
 
-/// Reads a CSV input to its end, where each record is a count and a set of names: its first field is
-/// the count, and the others are the names, without the spaces and tabs at their ends and without the
-/// empty ones. The known names keep their numbers, and new ones are numbered behind them. A set's line
-/// is the number of its record, of which the header's is 1.
+/// Reads a CSV input to its end, where each record is a count and a set of names: its first field
+/// is the count, and the others are the names, without the spaces and tabs at their ends and
+/// without the empty ones. The known names keep their numbers, and new ones are numbered after
+/// them. A set's line is the number of its record; the header, if there is one, is number 1.
 pub fn read_named_counts<R: RandomSource, S: Source>(
     rt: &R,
     alloc: Global,
@@ -88,9 +88,9 @@ pub fn read_named_counts<R: RandomSource, S: Source>(
     known: Names,
 ) -> Result<(Vec<CountedLine>, Names), ReadFault>
     requires { S.has_failed reader.old ≡ false }
-    // Where the reader doesn't fail, the answer is that of all its bytes.
+    // If the reader doesn't fail, the result is that of all its bytes.
     ensures exact { S.has_failed reader.new ≡ false → IfSome (S.left reader.old) (λ bytes. AnswersCounts result (named_counts_of dialect.separator dialect.header known bytes)) }
-    // Where it fails, the answer is `Read`, and only there.
+    // If it fails, the result is `Read`, and only then.
     ensures failed { S.has_failed reader.new ≡ true → result ≡ Err Read }
     ensures read_is_failed { result ≡ Err Read → S.has_failed reader.new ≡ true }
 {

@@ -1,11 +1,11 @@
-//! The numbers of names that were found of late, which spare most look-ups in the map.
+//! The numbers of names that were found recently, which save most look-ups in the map.
 ghost use Rattle.std.specs.Prelude.{◌≡◌, ℕ, List, IsTrue, IfSome};
 ghost use Rattle.basket_csv.specs.Recent.{IsNumberAt, KeepsKnown};
 
 use crate::key::{Key, LONG, hash_of};
 use std::alloc::{AllocError, Global};
 
-/// How many buckets there are at first, and at most. Between these they become four times as many.
+/// How many buckets there are at first, and at most. They grow fourfold.
 const FEWEST: usize = 4_096;
 
 const MOST: usize = 262_144;
@@ -56,7 +56,7 @@ struct Bucket {
     older: Slot,
 }
 
-/// The numbers of names that were found of late. The lower bits of a name's hash are its bucket.
+/// The numbers of names that were found recently. The lower bits of a name's hash are its bucket.
 #[derive(Drop)]
 pub struct Recent {
     buckets: Vec<Bucket>,
@@ -75,7 +75,7 @@ impl Recent {
         }
     }
 
-    /// The number that a name of this key has, or may have if the name is long. Where nothing is kept
+    /// The number that a name of this key has, or may have if the name is long. If nothing is kept
     /// yet, no hash is made.
     #[inline(always)]
     pub fn number(&self, key: &Key, name: &[u8]) -> Option<u32>
@@ -105,8 +105,8 @@ impl Recent {
         }
     }
 
-    /// Makes room, where nothing was kept yet, or where a known name wasn't found among more names
-    /// than there are buckets, but not more than there can be slots. What was kept is then forgotten.
+    /// Makes room if nothing was kept yet, or if a known name wasn't found among more names than
+    /// there are buckets; but no more slots than there can be. What was kept is then forgotten.
     #[inline]
     pub fn make_room(&mut self, alloc: Global, names: usize, missed: bool) -> Result<(), AllocError>
         ensures { (all : List (List ℕ)) → KeepsKnown all self.old → KeepsKnown all self.new }
@@ -121,7 +121,7 @@ impl Recent {
         Ok(())
     }
 
-    /// Forgets all names, and has so many buckets then.
+    /// Forgets all names, and makes this many buckets.
     fn forget(&mut self, alloc: Global, count: usize) -> Result<(), AllocError>
         ensures { (names : List (List ℕ)) → KeepsKnown names self.old → KeepsKnown names self.new }
     {

@@ -9,8 +9,8 @@ use basket_read::ReadFault;
 use csv::{ByteRecord, Reader, ReaderBuilder};
 use std::alloc::Global;
 
-/// The records of some bytes, which are read one at a time into one record. Behind the last of them,
-/// and after an `Err`, none is read any more.
+/// The records of some bytes, which are read one at a time into one record. After the last of them,
+/// and after an `Err`, no more are read.
 #[derive(Drop)]
 pub struct Records<'a> {
     reader: Reader<&'a [u8]>,
@@ -47,7 +47,8 @@ impl<'a> Records<'a> {
     {
         let found = match self.reader.read_byte_record(&mut self.row) {
             Ok(found) => found,
-            // A record may have any length and bytes in memory can be read, so memory is wanting.
+            // A record may have any length and bytes in memory can be read, so the only error is
+            // out of memory.
             Err(_) => return Err(ReadFault::Memory),
         };
         if !found {
@@ -57,7 +58,7 @@ impl<'a> Records<'a> {
         Ok(true)
     }
 
-    /// Leaves out the header, where there is one, and answers whether there can be records behind it.
+    /// Leaves out the header, if there is one, and returns whether there can be records after it.
     pub fn pass_header(&mut self, header: bool) -> Result<bool, ReadFault>
         requires reading { IsReading self.old }
         requires fresh { records_taken self.old ≡ 0 }

@@ -13,7 +13,7 @@ use basket_read::ReadFault;
 use csv::ByteRecord;
 use std::hash::BuildHasher;
 
-/// The text of a field, if it is UTF-8. It is empty where there is no such field.
+/// The text of a field, if it is UTF-8. It is empty if there is no such field.
 #[inline]
 pub fn text_at(row: &ByteRecord, place: usize) -> Option<&str>
     ensures { let field = field_in (fields_of row.now) place in
@@ -25,7 +25,8 @@ pub fn text_at(row: &ByteRecord, place: usize) -> Option<&str>
     }
 }
 
-/// The number of the name in a field, if the field is the name and no more, and it was found of late.
+/// The number of the name in a field, if the field is the name and no more, and it was found
+/// recently.
 #[inline]
 pub fn known_number<S: BuildHasher>(
     row: &ByteRecord,
@@ -54,8 +55,8 @@ pub fn is_text_from(row: &ByteRecord, first: usize) -> bool
     true
 }
 
-/// Numbers the names in the fields from a place on. Where one of these is not UTF-8, or after an `Err`,
-/// `names` and `numbers` are lost.
+/// Numbers the names in the fields from a place on. If one of these is not UTF-8, or after an
+/// `Err`, `names` and `numbers` are lost.
 pub fn number_names<S: BuildHasher>(
     row: &ByteRecord,
     first: usize,

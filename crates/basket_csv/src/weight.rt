@@ -1,4 +1,4 @@
-//! The weight that a record's first field writes.
+//! The weight that is written in a record's first field.
 ghost use Rattle.std.specs.Prelude.{◌≡◌, ◌≤◌, IfSome};
 ghost use Rattle.basket_csv.specs.Csv.{weight_written};
 

@@ -1,4 +1,4 @@
-//! Worked inputs, proved by computing what the definition answers.
+//! Worked inputs, proved by computing what the definition returns.
 ghost use Rattle.std.specs.Prelude.{◌≡◌, [], ◌∷◌, Ok, Err, true, false, codes};
 ghost use Rattle.basket_sets.specs.Database.{weighted};
 ghost use Rattle.basket_csv.specs.Counts.{named_counts_of};
@@ -7,7 +7,7 @@ ghost use Rattle.basket_csv.specs.Records.{records_of};
 ghost use Rattle.basket_csv.specs.Worked.{lines, counted};
 ghost use Rattle.basket_read.specs.declared.fault.ReadFault.TheVariants.{NotText, ShortRecord, Weight, RecordCount};
 
-/// Names lose the spaces at their ends, empty names are passed over, and a name counts once.
+/// Names lose the spaces at their ends, empty names are ignored, and a name counts once.
 pub fn names_are_trimmed()
     ensures { baskets_of_csv 44 false false [] (lines (codes " x ,x|,y|")) ≡ Ok (weighted (0 ∷ []) 1 ∷ weighted (1 ∷ []) 1 ∷ [], codes "x" ∷ codes "y" ∷ []) }
 {}
@@ -17,15 +17,15 @@ pub fn quoted_names_are_whole()
     ensures { baskets_of_csv 44 false false [] (codes "\"semi, skim\", bread,,") ≡ Ok (weighted (0 ∷ 1 ∷ []) 1 ∷ [], codes "semi, skim" ∷ codes "bread" ∷ []) }
 {}
 
-/// A quote opens a field only as its first byte, and stands for itself elsewhere. Within quotes one is
-/// written twice.
+/// A quote opens a field only as its first byte, and is an ordinary byte elsewhere. Within quotes
+/// one is written twice.
 pub fn quotes_open_fields_at_their_start()
     ensures inside { records_of 44 (codes "a\"b\",c") ≡ (codes "a\"b\"" ∷ codes "c" ∷ []) ∷ [] }
     ensures twice { records_of 44 (codes "\"a\"\"b\",c") ≡ (codes "a\"b" ∷ codes "c" ∷ []) ∷ [] }
     ensures empty { records_of 44 (lines (codes "\"\"|")) ≡ ([] ∷ []) ∷ [] }
 {}
 
-/// Text behind a closing quote joins the field, and a quote that is left open ends with the input.
+/// Text after a closing quote joins the field, and a quote that is left open ends with the input.
 pub fn quotes_end_with_their_field()
     ensures joined { records_of 44 (lines (codes "\"a,\"b,c|")) ≡ (codes "a,b" ∷ codes "c" ∷ []) ∷ [] }
     ensures joined_quote { records_of 44 (lines (codes "\"a\"b\"c\",d|")) ≡ (codes "ab\"c\"" ∷ codes "d" ∷ []) ∷ [] }
@@ -43,13 +43,14 @@ pub fn the_header_is_a_record()
     ensures numbered { baskets_of_csv 44 true false [] (97 ∷ 10 ∷ 255 ∷ 10 ∷ []) ≡ Err (NotText 2) }
 {}
 
-/// A weight stands in the first field, and is at least 1.
+/// A weight is in the first field, and is at least 1.
 pub fn a_weight_is_a_field()
     ensures two { baskets_of_csv 59 false true [] (lines (codes "2;bread;milk|1;bread|")) ≡ Ok (weighted (0 ∷ 1 ∷ []) 2 ∷ weighted (0 ∷ []) 1 ∷ [], codes "bread" ∷ codes "milk" ∷ []) }
     ensures zero { baskets_of_csv 44 false true [] (lines (codes "0,bread|")) ≡ Err (Weight 1) }
 {}
 
-/// Baskets stand in the order in which their ids first appear, and so do the numbers of names.
+/// Baskets are in the order in which their ids first appear, and names are numbered in that order
+/// too.
 pub fn ids_are_gathered()
     ensures { pairs_of_csv 44 false [] (lines (codes "b,milk|a,bread| b,bread|b,milk|")) ≡ Ok (weighted (0 ∷ 1 ∷ []) 1 ∷ weighted (1 ∷ []) 1 ∷ [], codes "milk" ∷ codes "bread" ∷ []) }
 {}
@@ -60,7 +61,7 @@ pub fn an_id_needs_a_name()
     ensures text_first { pairs_of_csv 44 false [] (255 ∷ []) ≡ Err (NotText 1) }
 {}
 
-/// Known names keep their numbers, whether the input has them or not, and new ones come behind them.
+/// Known names keep their numbers, whether the input has them or not, and new ones come after them.
 pub fn known_names_come_first()
     ensures baskets { baskets_of_csv 44 false false (codes "tea" ∷ codes "x" ∷ []) (lines (codes "y,x|")) ≡ Ok (weighted (1 ∷ 2 ∷ []) 1 ∷ [], codes "tea" ∷ codes "x" ∷ codes "y" ∷ []) }
     ensures pairs { pairs_of_csv 44 false (codes "tea" ∷ codes "x" ∷ []) (lines (codes "b,y|b,x|")) ≡ Ok (weighted (1 ∷ 2 ∷ []) 1 ∷ [], codes "tea" ∷ codes "x" ∷ codes "y" ∷ []) }

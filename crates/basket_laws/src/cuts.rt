@@ -3,8 +3,8 @@ ghost use Rattle.basket_laws.specs.Cuts.{CutsAreParts};
 
 use basket_read::laws::{fronts_are_good, good_is_faultless, lines_say_theirs};
 
-/// Each part of a FIMI input that is cut behind line feeds is an input, and the baskets of the parts, one
-/// part behind another, are those of the whole.
+/// Each part of a FIMI input that is cut after line feeds is an input, and the baskets of the
+/// parts, concatenated, are those of the whole.
 pub fn cuts_are_parts()
     ensures { CutsAreParts }
 {

@@ -3,8 +3,8 @@ ghost use Rattle.basket_laws.specs.Names.{NamedPartsAnswerAsTheWhole, NamedParts
 
 use basket_parts::laws::{together_keeps_counts, together_keeps_frequent, together_keeps_sets};
 
-/// Where records of baskets of names are cut into parts, and the names of all are known beforehand in the
-/// order in which they first appear, the baskets of the parts, one part behind another, are those of all
+/// If records of baskets of names are cut into parts, and the names of all are known beforehand in
+/// the order in which they first appear, the baskets of the parts, concatenated, are those of all
 /// records, number by number.
 pub fn named_parts_are_parts()
     ensures { NamedPartsAreParts }

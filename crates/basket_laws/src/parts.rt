@@ -7,9 +7,9 @@ pub fn some_part_has_it()
     ensures { SomePartHasIt }
 {}
 
-/// What is counted in each part of some sets that have each set which is frequent in some part, put
-/// together, lists exactly the frequent sets of all parts one behind another, with their counts, in
-/// report order.
+/// The counts, in each part, of some sets that include each set which is frequent in some part, put
+/// together, list exactly the frequent sets of all parts concatenated, with their counts, in report
+/// order.
 pub fn parts_make_the_whole()
     ensures { PartsMakeTheWhole }
 {}

@@ -14,8 +14,8 @@ use std::marker::Model;
 /// How many items are known at most, each with a bit of its own.
 pub const MOST_ITEMS: usize = 120;
 
-/// Up to 120 items in rising order. None are known where there are more, or where a word has too few
-/// bits beside theirs for the counts.
+/// Up to 120 items in rising order. None are known if there are more, or if a word has too few bits
+/// beside theirs for the counts.
 #[derive(Debug, Drop)]
 pub struct KnownItems {
     items: Vec<u32>,
@@ -36,7 +36,7 @@ impl Model for KnownItems {
     ghost invariant = { λ known. IsRising known.items.items × (length known.items.items ≤ MOST_ITEMS) × (known.mask ≡ items_mask known.items.items) };
 }
 
-/// The highest bits of a word, so many as there are items.
+/// The highest bits of a word, as many as there are items.
 fn mask_of(items: &[u32]) -> u128
     requires { length items.now ≤ MOST_ITEMS }
     ensures { result ≡ items_mask items.now }
@@ -62,7 +62,7 @@ impl KnownItems {
         }
     }
 
-    /// The items, which come in any order, or none where they are too many, one comes twice, or the
+    /// The items, which come in any order, or none if they are too many, one comes twice, or the
     /// greatest count doesn't fit beside them.
     pub fn of(alloc: Global, items: &[u32], most: u64) -> Result<Self, AllocError> {
         if items.len() > MOST_ITEMS {
@@ -82,7 +82,7 @@ impl KnownItems {
         self.items.last().copied().unwrap_or(0)
     }
 
-    /// Whether they are the same as others.
+    /// Whether the items are the same as others.
     pub fn is_same(&self, other: &KnownItems) -> bool
         ensures { IsTrue result → self.now ≡ other.now }
     {
@@ -138,7 +138,7 @@ impl KnownItems {
         Some(1 << (127 - place as u32))
     }
 
-    /// Where an item stands, if it is known.
+    /// The place of an item, if it is known.
     fn place_of(&self, item: u32) -> Option<usize>
         ensures within { IfSome result (λ place. place < length self.now) }
         ensures is { IfSome result (λ place. slice_index_or self.now place 0 ≡ item) }
@@ -146,7 +146,7 @@ impl KnownItems {
         self.items.binary_search(&item).ok()
     }
 
-    /// A packed set with one more item and a count of its own, or none where the item isn't known, or
+    /// A packed set with one more item and a count of its own, or none if the item isn't known, or
     /// is in the set, or the count doesn't fit.
     pub fn longer(&self, packed: &Packed, item: u32, count: u64) -> Option<Packed>
         requires { IsPacked self.now packed.now }
@@ -162,7 +162,7 @@ impl KnownItems {
         })
     }
 
-    /// The set without items, or none where no item is known, or the count doesn't fit.
+    /// The empty set, or none if no item is known, or the count doesn't fit.
     fn no_items(&self, count: u64) -> Option<Packed>
         ensures packed { IfSome result (IsPacked self.now) }
         ensures same { IfSome result (λ packed. unpacked self.now packed ≡ record { set = []; count = count }) }
@@ -175,7 +175,7 @@ impl KnownItems {
         })
     }
 
-    /// A set as a word, or none where an item isn't known, or the count doesn't fit.
+    /// A set as a word, or none if an item isn't known, or the count doesn't fit.
     pub fn pack(&self, set: &Itemset, count: u64) -> Option<Packed>
         ensures packed { IfSome result (IsPacked self.now) }
         ensures same { IfSome result (λ packed. unpacked self.now packed ≡ record { set = set.now; count = count }) }
@@ -187,8 +187,8 @@ impl KnownItems {
         Some(packed)
     }
 
-    /// The set of the names of some numbers as a word, or none where one isn't known, two are one, or the
-    /// count doesn't fit. The name of a number stands at its place in the list.
+    /// The set of the names of some numbers as a word, or none if one isn't known, two are one, or
+    /// the count doesn't fit. The list has the name of a number at the place of that number.
     pub fn pack_renamed(&self, numbers: &Itemset, names: &[u32], count: u64) -> Option<Packed>
         requires { AllBelow (length names.now) numbers.now }
         ensures packed { IfSome result (IsPacked self.now) }
@@ -205,8 +205,8 @@ impl KnownItems {
         Some(packed)
     }
 
-    /// Puts the items of a packed set, which rise, to the front of the room, and answers how many they
-    /// are.
+    /// Writes the items of a packed set, which rise, to the beginning of the room, and returns how
+    /// many they are.
     pub fn put(&self, packed: &Packed, room: &mut [u32; MOST_ITEMS]) -> usize
         requires { IsPacked self.now packed.now }
         ensures items { take result room.new ≡ (unpacked self.now packed.now).set }
@@ -218,8 +218,8 @@ impl KnownItems {
     }
 }
 
-/// Puts those of the items that have a one among 64 bits, of which the lowest is at a place, behind the
-/// first of the room, and answers how many there are then.
+/// Writes those of the items that have a one among 64 bits, of which the lowest is at a place,
+/// after the first ones of the room, and returns how many there are then.
 fn put_bits(
     items: &[u32],
     bits: u64,

@@ -1,4 +1,4 @@
-//! Lists of sets with their counts, each kept in one word where its items are known beforehand, and
+//! Lists of sets with their counts, each kept in one word if its items are known beforehand, and
 //! their report order.
 #![tactic(auto)]
 

@@ -1,4 +1,4 @@
-//! Where sets stand in a list of items.
+//! The places of sets in a list of items.
 ghost use Rattle.std.specs.Prelude.{◌≡◌, ◌≤◌, ◌<◌, ◌+◌, All, IfOk, length, map};
 ghost use Rattle.std.specs.List.{slice_range};
 ghost use Rattle.basket_lists.specs.declared.place.Place.{Place as Part};
@@ -15,7 +15,7 @@ pub struct Place {
 }
 
 impl Place {
-    /// The items that stand there, or none where it is no part of the list.
+    /// The items of this part, or none if it is no part of the list.
     pub fn of<'a>(&self, items: &'a [u32]) -> &'a [u32]
         ensures { IsWithin (length items.now) self.now → result.now ≡ slice_range items.now self.now.start self.now.end }
     {
@@ -25,7 +25,7 @@ impl Place {
         }
     }
 
-    /// The same part where so many items stand before those of its list.
+    /// The same part once this many items come before those of its list.
     fn behind(&self, start: u32) -> Place
         requires { (self.now.start ≤ self.now.end) × (start + self.now.end < 4294967296) }
         ensures { result ≡ behind start self.now }
@@ -38,7 +38,7 @@ impl Place {
     }
 }
 
-/// The places where so many items stand before those of their list.
+/// The places once this many items come before those of their list.
 pub fn places_behind(alloc: Global, places: &[Place], start: u32) -> Result<Vec<Place>, AllocError>
     requires { All (λ (place : Part). (place.start ≤ place.end) × (start + place.end < 4294967296)) places.now }
     ensures { IfOk result (λ moved. moved.items ≡ map (behind start) places.now) }
@@ -50,7 +50,7 @@ pub fn places_behind(alloc: Global, places: &[Place], start: u32) -> Result<Vec<
     Ok(moved)
 }
 
-/// The end of a list of items. More than 4,294,967,295 of them count as a refused growth.
+/// The end of a list of items. More than 4,294,967,295 of them count as out of memory.
 pub fn end_of(items: &[u32]) -> Result<u32, AllocError>
     ensures { IfOk result (λ end. end ≡ length items.now) }
 {

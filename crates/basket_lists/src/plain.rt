@@ -1,4 +1,4 @@
-//! Sets whose items stand one behind another.
+//! Sets whose items are concatenated in one list.
 ghost use Rattle.std.specs.Prelude.{◌≡◌, ◌<◌, ◌++◌, ◌^◌, [], ◌∷◌, IfOk, IsTrue, ◌↔◌, OnOk, length, map, take};
 ghost use Rattle.std.specs.List.{slice_range};
 ghost use Rattle.std.specs.List.Sorted.{IsPermutation, IsSorted};
@@ -130,18 +130,19 @@ impl PlainSets {
         self.items.iter().copied().max().unwrap_or(0)
     }
 
-    /// Puts the sets into report order, and answers whether they are in it. The greatest item only makes
-    /// it fast.
+    /// Puts the sets into report order, and returns whether they are in it. The greatest item only
+    /// makes it fast.
     pub fn sort(&mut self, alloc: Global, greatest: u32) -> Result<bool, AllocError>
         ensures permutation { IsPermutation self.old self.new }
         ensures sorted { IfOk result (λ found. IsTrue found → IsSorted report_order (map (λ c. c.set) self.new)) }
     {
         sort_places(alloc, &mut self.places, &self.items, greatest)?;
-        // The contract leaves the order of the sort open, since to see that it is found is cheap.
+        // The contract leaves the order of the sort open, since it is cheap to check.
         Ok(self.is_in_order())
     }
 
-    /// The same by so many threads at most.
+    /// Puts the sets into report order by at most this many threads, and returns whether they are
+    /// in it.
     pub fn sort_shared<R: Threads + Sync>(
         &mut self,
         rt: &R,
@@ -169,7 +170,7 @@ impl PlainSets {
     }
 }
 
-/// Adds the items of the set at a place at the end, with one item more.
+/// Appends the items of the set at a place, with one more item.
 fn add_longer(items: &mut Vec<u32>, place: Place, item: u32) -> Result<(), AllocError>
     requires { IsPlaceOfSet items.old.items place }
     ensures kept { take (length items.old.items) items.new.items ≡ items.old.items }

@@ -26,8 +26,8 @@ impl<'a> Model for Sets<'a> {
 }
 
 impl CountedSets {
-    /// The sets with their counts, one after another. Want of memory for one is its error, and those
-    /// behind it still come.
+    /// The sets with their counts, one after another. If memory runs out for one, that is an error
+    /// for this set, and those after it still come.
     pub fn iter(&self, alloc: Global) -> Sets<'_>
         ensures { result ≡ self.now }
     {

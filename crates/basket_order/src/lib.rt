@@ -1,7 +1,8 @@
-//! How a list is put in order, and searched. Nothing here knows of sets.
+//! How a list is sorted, and searched. Nothing here knows of sets.
 //!
-//! `parts` sorts a list part after part, by an order that tells the part of an element and sorts the elements
-//! of one; `halves` has threads sort halves of such a list. `places` keeps by hashes where elements may stand.
+//! `parts` sorts a list part by part, by an order that gives the part of an element and sorts the
+//! elements of one; `halves` has threads sort halves of such a list. `places` keeps by hashes where
+//! elements may be.
 #![tactic(auto)]
 
 mod halves;

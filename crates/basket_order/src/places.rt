@@ -1,9 +1,9 @@
-//! Where elements of a list may stand, by hashes. Nothing is claimed of the places: whoever asks
-//! compares the elements.
+//! Where elements of a list may be, by hashes. Nothing is claimed of the places: callers compare
+//! the elements.
 
 use std::alloc::{AllocError, Global};
 
-/// Stands for no place.
+/// No place.
 pub const NOWHERE: u32 = u32::MAX;
 
 /// How many slots are looked at for one hash.
@@ -33,7 +33,7 @@ impl Places {
         }
     }
 
-    /// Nothing is kept, but there is room for so many elements.
+    /// Nothing is kept, but there is room for this many elements.
     pub fn with_room(alloc: Global, elements: usize) -> Result<Self, AllocError> {
         let slots = elements
             .saturating_mul(SLOTS)
@@ -44,7 +44,7 @@ impl Places {
         })
     }
 
-    /// The place that is kept so many slots behind that of the hash.
+    /// The place that is kept this many slots after that of the hash.
     pub fn at(&self, hash: u64, step: usize) -> u32 {
         match self.slots.get(self.slot(hash, step)) {
             Some(place) => *place,

@@ -9,8 +9,8 @@ use basket_read::CountedLine;
 use std::alloc::{AllocError, Global};
 
 impl Together {
-    /// The nonempty sets that meet the minimum, where the weight of all baskets is the count of the empty
-    /// set, or 0 where that isn't there.
+    /// The nonempty sets that meet the minimum. The weight of all baskets is the count of the empty
+    /// set, or 0 if that isn't there.
     pub fn frequent(&self, alloc: Global, minimum: Minimum) -> Result<Frequent, AllocError>
         ensures frequent { IfOk result (λ frequent. frequent ≡ record { sets = frequent_in self.now minimum; total = total_in self.now }) }
         ensures rising { All HasRisingSet self.now }

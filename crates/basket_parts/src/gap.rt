@@ -9,8 +9,8 @@ use basket_read::{CountedLine, ReadFault};
 use std::alloc::{AllocError, Global};
 
 impl Together {
-    /// The first frequent set with a subset of one item less that isn't there, unless it is empty, or that
-    /// is there with a lower count.
+    /// The first frequent set with a subset of one item less that is there with a lower count, or
+    /// that is not empty and isn't there.
     pub fn first_gap(
         &self,
         alloc: Global,
@@ -28,7 +28,8 @@ impl Together {
         Ok(None)
     }
 
-    /// Whether some subset of the line's set with one item less shows a gap. The list is for its use.
+    /// Whether some subset of the line's set with one item less shows a gap. The list is scratch
+    /// space.
     fn has_gap(&self, line: &CountedLine, subset: &mut Vec<u32>) -> Result<bool, AllocError>
         requires { 0 < length line.now.set }
         ensures { IfOk result (λ gap. gap ≡ has_gap_below self.now line.now.count line.now.set) }

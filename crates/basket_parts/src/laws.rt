@@ -21,7 +21,7 @@ pub fn counts_add_up()
     ensures { CountsAddUp }
 {}
 
-/// Lists may be put together each for itself first.
+/// Each list may be put together by itself first.
 pub fn together_by_parts()
     ensures { TogetherByParts }
 {}

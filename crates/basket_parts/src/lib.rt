@@ -1,6 +1,6 @@
-//! Lists of counted sets, put together and asked. `merge` makes one line of those that have one set,
-//! `together` is what comes of it, `frequent` are its sets that meet a minimum, and `gap` finds one of
-//! these whose subsets are missing.
+//! Lists of counted sets, put together and asked. `merge` makes one line of those that have one
+//! set, `together` is the result, `frequent` are its sets that meet a minimum, and `gap` finds one
+//! of these whose subsets are missing.
 #![tactic(auto)]
 
 mod frequent;

@@ -1,4 +1,4 @@
-//! Lines that have one set made one.
+//! Merges lines that have one set.
 ghost use Rattle.std.specs.Prelude.{◌≡◌, ◌≢◌, All, IfErr, IfOk, OnOk, true};
 ghost use Rattle.std.specs.List.{list_any};
 ghost use Rattle.std.specs.List.Sorted.{IsSortedByKey, IsStableByKey};
@@ -19,8 +19,7 @@ pub fn sort_by_set(lines: &mut Vec<CountedLine>) -> Result<(), AllocError>
     lines.sort_by(|line, other| line.set.cmp(&other.set))
 }
 
-/// Makes one of the lines that stand side by side and have one set: the first, with the sum of their
-/// counts.
+/// Merges neighbouring lines that have one set: the first stays, with the sum of their counts.
 pub fn merged(alloc: Global, lines: Vec<CountedLine>) -> Result<Vec<CountedLine>, ReadFault>
     ensures ok { IfOk result (λ list. list.items ≡ merged lines.items) }
     ensures light { IfOk result (λ list. All IsLight list.items) }

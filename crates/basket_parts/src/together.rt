@@ -29,8 +29,8 @@ impl Model for Together {
 }
 
 impl Together {
-    /// Puts the lines together: the counts of one set are added up. They are refused where they add up to
-    /// too much.
+    /// Puts the lines together: the counts of one set are added up. They are refused if they add up
+    /// to too much.
     pub fn of(alloc: Global, mut lines: Vec<CountedLine>) -> Result<Self, ReadFault>
         ensures { Answers result (together_of lines.items) }
     {
@@ -56,14 +56,14 @@ impl Together {
         self.count_of(&[])
     }
 
-    /// The same, or 0 where it isn't there.
+    /// The count of the empty set, or 0 if it isn't there.
     pub(crate) fn weight(&self) -> u64
         ensures { result ≡ total_in self.now }
     {
         self.total().unwrap_or(0)
     }
 
-    /// The count of a set, if it is there. Its items rise, or it isn't.
+    /// The count of a set, if it is there. A set whose items don't rise isn't.
     pub fn count_of(&self, set: &[u32]) -> Option<u64>
         ensures { result ≡ count_if self.now set.now }
     {

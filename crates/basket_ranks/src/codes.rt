@@ -14,8 +14,7 @@ use std::alloc::{AllocError, Global};
 use std::marker::Model;
 use std::thread::{self, Threads};
 
-/// The frequent items by rank: rank 0 is the item of the greatest support, and of items of one
-/// support the least number has the least rank.
+/// The frequent items by rank: by falling support, those of one support by rising number.
 #[derive(Debug, Drop)]
 pub struct Codes {
     items: Vec<u32>,
@@ -70,7 +69,7 @@ impl Codes {
         Ok(self.with_baskets(baskets))
     }
 
-    /// The same by so many threads, where the ranks take the room of the items.
+    /// Codes the baskets by this many threads. The ranks take the room of the items.
     pub fn code_shared<R: Threads + Sync>(self, rt: &R, database: Database, threads: u32) -> Coded
         requires threads { 1 ≤ threads }
         requires database { self ≡ ranking_of database self.minimum }
@@ -83,7 +82,7 @@ impl Codes {
         self.with_baskets(baskets)
     }
 
-    /// Puts a basket's ranks in the place of its items.
+    /// Replaces a basket's items by their ranks.
     fn put_ranks(&self, place: &mut Weighted)
         ensures { place.new ≡ coded_place self.now.items place.old }
     {
@@ -153,8 +152,8 @@ impl Coded {
         Codes::of(alloc, &counts, database.total(), minimum)?.code(alloc, database)
     }
 
-    /// The same with each distinct basket of ranks once, at its first place, with the sum of its
-    /// weights. Baskets that differ only in items that are not frequent become one.
+    /// The coding with each distinct basket of ranks once, at its first place, with the sum of its
+    /// weights. Baskets that differ only in infrequent items become one.
     pub fn merged(self, alloc: Global) -> Result<Self, AllocError>
         ensures { IfOk result (λ coded. coded ≡ merged_coding self) }
     {
@@ -225,7 +224,7 @@ impl Coded {
     }
 }
 
-/// Puts each basket's ranks in the place of its items.
+/// Replaces the items of each basket by their ranks.
 fn put_codes(codes: &Codes, baskets: &mut [Weighted])
     ensures { baskets.new ≡ map (coded_place codes.now.items) baskets.old }
 {
@@ -234,7 +233,7 @@ fn put_codes(codes: &Codes, baskets: &mut [Weighted])
     }
 }
 
-/// The same by so many threads.
+/// Replaces the items of each basket by their ranks, by this many threads.
 fn share_codes<R: Threads + Sync>(rt: &R, codes: &Codes, baskets: &mut [Weighted], threads: u32)
     requires { 1 ≤ threads }
     ensures { baskets.new ≡ map (coded_place codes.now.items) baskets.old }

@@ -12,9 +12,9 @@ use crate::codes::Coded;
 use basket_sets::{Itemset, Weighted, count_items};
 use std::alloc::{AllocError, Global};
 
-/// Whether a frequent set of so many items was found. It goes through the ranks from 0 upward once
-/// and keeps each with which the set so far is still frequent, so there may be one where it answers
-/// that it found none. Baskets that have too few ranks for such a set are left out.
+/// Whether a frequent set of this many items was found. It goes through the ranks from 0 upward
+/// once and keeps each with which the set so far is still frequent, so there may be one even if it
+/// returns that it found none. Baskets that have too few ranks for such a set are left out.
 pub fn deep(alloc: Global, coded: &Coded, depth: u32) -> Result<bool, AllocError>
     requires { 1 ≤ depth }
     ensures { IfOk result (λ found. IsTrue found → HasSetOfSize (frequent_of_coding coded.now) depth) }
@@ -33,7 +33,7 @@ pub fn deep(alloc: Global, coded: &Coded, depth: u32) -> Result<bool, AllocError
 }
 
 /// The baskets that have the least rank whose support over them meets the minimum, kept to the
-/// ranks above it, where these are at least so many.
+/// ranks above it, if these are at least this many.
 fn narrower(
     alloc: Global,
     coded: &Coded,
@@ -77,7 +77,7 @@ fn first_met(coded: &Coded, counts: &[(u32, u64)]) -> Option<u32>
     None
 }
 
-/// The baskets that have the rank, kept to the ranks above it, where these are at least so many.
+/// The baskets that have the rank, kept to the ranks above it, if these are at least this many.
 fn narrowed_to(
     alloc: Global,
     baskets: &[Weighted],
@@ -98,14 +98,14 @@ fn narrowed_to(
     Ok(rest)
 }
 
-/// The ranks above a rank, where the rank is there and they are at least so many.
+/// The ranks above a rank, if the rank is there and they are at least this many.
 fn ranks_above(ranks: &[u32], rank: u32, least: u32) -> Option<&[u32]>
     requires { IsRising ranks.now }
     ensures some { IfSome result (λ kept. IsRising kept.now
         × ((weight : ℕ) → filter (is_long least) (narrowed_place rank (weighted ranks.now weight)) ≡ weighted kept.now weight ∷ [])) }
     ensures none { IsNone result → (weight : ℕ) → filter (is_long least) (narrowed_place rank (weighted ranks.now weight)) ≡ [] }
 {
-    // Most baskets are too short, so this is asked first.
+    // Most baskets are too short, so this is tested first.
     if ranks.len() <= least as usize {
         return None;
     }

@@ -1,5 +1,5 @@
-//! Laws on coded baskets, for whoever proves a miner. Each is a function that does nothing: its
-//! contract is the law.
+//! Laws on coded baskets, for proofs of miners. Each is a function that does nothing: its contract
+//! is the law.
 ghost use Rattle.basket_ranks.specs.Added.{ItemSupportsAddUp};
 ghost use Rattle.basket_ranks.specs.Codes.{CodingKeepsFrequent, DecodingKeepsFrequent, MergingKeepsCoded};
 ghost use Rattle.basket_ranks.specs.Depth.{DeepSetsAreMany};
@@ -21,7 +21,7 @@ pub fn decoding_keeps_frequent()
     ensures { DecodingKeepsFrequent }
 {}
 
-/// Where a set of so many items is frequent, so are all its nonempty subsets.
+/// If a set of this many items is frequent, so are all its nonempty subsets.
 pub fn deep_sets_are_many()
     ensures { DeepSetsAreMany }
 {}

@@ -13,13 +13,13 @@ use std::cmp::Reverse;
 /// How many ranks there are at most.
 const MAX_RANKS: usize = 4_294_967_295;
 
-/// A table of so many slots is made for any items.
+/// A table of this many slots is made for any items.
 const SMALL_TABLE: usize = 65_536;
 
 /// How many slots a larger table may have for each item.
 const SLOTS_PER_ITEM: usize = 16;
 
-/// A frequent item. The items with the greatest counts come first, of one count by number.
+/// A frequent item. The items with the greatest counts come first, those of one count by number.
 #[derive(PartialEq, Eq, PartialOrd, Ord, Drop)]
 struct Entry {
     count: Reverse<u64>,

@@ -10,7 +10,7 @@ pub enum Class {
     /// A digit, by its value.
     Digit(u8),
     Blank,
-    /// The `x` behind a weight.
+    /// The `x` after a weight.
     Times,
     LineFeed,
     Other,
@@ -40,8 +40,8 @@ pub fn class_of(byte: u8) -> Class
     }
 }
 
-/// How many blanks to take from the front of the bytes. Behind a number that is at most one, since
-/// mostly another number follows.
+/// How many blanks to take from the beginning of the bytes. After a number that is at most one,
+/// since mostly another number follows.
 #[inline(always)]
 pub fn blanks_behind(number: bool, bytes: &[u8]) -> usize
     ensures within { result ≤ length bytes.now }
@@ -56,7 +56,7 @@ pub fn blanks_behind(number: bool, bytes: &[u8]) -> usize
     }
 }
 
-/// How many blanks stand at the front of the bytes.
+/// How many blanks the bytes begin with.
 #[inline(always)]
 fn blanks_at(bytes: &[u8]) -> usize
     ensures within { result ≤ length bytes.now }

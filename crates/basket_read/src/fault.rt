@@ -30,13 +30,13 @@ pub enum ReadFault {
     /// The weights of the baskets add up to too much.
     #[error("total weight above 1099511627775")]
     Heavy,
-    /// A CSV record whose first field is no weight, where one is asked for.
+    /// A CSV record whose first field is no weight, if one is asked for.
     #[error("record {nth}: bad weight")]
     Weight { nth: u32 },
     /// The digit that takes the count of a set above the bound.
     #[error("line {line}: count above 1099511627775")]
     Count { line: u32 },
-    /// A set without a count, or with one that doesn't end, where one is asked for.
+    /// A set without a count, or with one that doesn't end, if one is asked for.
     #[error("line {line}: no count in parentheses")]
     NoCount { line: u32 },
     /// The weight of all baskets is asked for, and counted sets don't have it.
@@ -45,13 +45,13 @@ pub enum ReadFault {
     /// A set with a subset of one item less that isn't there, or is there with a lower count.
     #[error("line or record {line}: a subset of one item less is missing or has a lower count")]
     Subset { line: u32 },
-    /// A CSV record whose first field is no count, where one is asked for.
+    /// A CSV record whose first field is no count, if one is asked for.
     #[error("record {nth}: bad count")]
     RecordCount { nth: u32 },
 }
 
 impl ReadFault {
-    /// The number by which programs tell the faults apart.
+    /// The number that programs use for a fault.
     pub fn number(self) -> u8
         ensures { result ≡ number_of_fault self }
     {

@@ -25,7 +25,7 @@ const HALF_A_MARK: ReadFault = ReadFault::Byte {
     byte: MARK[0],
 };
 
-/// What stands at the front of the input.
+/// What the input begins with.
 #[derive(Clone, Copy, Debug)]
 pub enum Front {
     /// Nothing yet.
@@ -38,8 +38,8 @@ pub enum Front {
     Decided,
 }
 
-/// What has been read of an input: what stands at its front, how many bytes, and the text behind
-/// the front.
+/// What has been read of an input: what it begins with, how many bytes, and the text after its
+/// beginning.
 #[derive(Debug, Drop)]
 pub struct Input {
     front: Front,
@@ -73,7 +73,7 @@ impl Input {
         Ok(())
     }
 
-    /// Takes a byte, behind the mark or where it may stand.
+    /// Takes a byte, after the mark or where it may be.
     fn take_byte(&mut self, byte: u8) -> Result<(), ReadFault>
         requires { IsSomeInput self.old }
         ensures { (past : List Weighted) (bytes : List ℕ) → IsInputSoFar self.old past bytes →
@@ -108,7 +108,7 @@ impl Input {
         Ok(())
     }
 
-    /// Takes bytes behind the front, as many as an input may have.
+    /// Takes bytes after the beginning, as many as an input may have.
     fn take_text(&mut self, piece: &[u8], counting: bool) -> Result<(), ReadFault>
         requires some { IsSomeInput self.old }
         requires decided { self.old.front ≡ Front.Decided }
@@ -125,7 +125,7 @@ impl Input {
         Ok(())
     }
 
-    /// Takes more of the input as `take` does, by so many workers.
+    /// Takes more of the input as `take` does, by this many workers.
     pub fn take_shared<R: Threads + Sync>(
         &mut self,
         rt: &R,
@@ -142,7 +142,7 @@ impl Input {
         self.take_rest(rt, rest, workers, counting)
     }
 
-    /// The same, where the front is mostly decided.
+    /// Takes more of the input once its beginning is mostly decided.
     fn take_rest<R: Threads + Sync>(
         &mut self,
         rt: &R,

@@ -3,7 +3,7 @@ ghost use Rattle.basket_read.specs.Fimi.{fault_at, is_good};
 ghost use Rattle.basket_read.specs.Grammar.{FirstFaultIsExact, FrontsAreGood, GoodIsFaultless};
 ghost use Rattle.basket_read.specs.Laws.{LinesSayTheirs, SettledFaultsStay, UnsettledMayBeGood};
 
-/// Each front of a good text is good.
+/// Each prefix of a good text is good.
 pub fn fronts_are_good()
     ensures { FrontsAreGood is_good }
 {}
@@ -28,8 +28,8 @@ pub fn unsettled_may_be_good()
     ensures { UnsettledMayBeGood }
 {}
 
-/// A text that is cut behind a line feed has the baskets of its parts, one part behind the other, and the
-/// first fault of the first part that has one, its line counted on.
+/// A text that is cut after a line feed has the baskets of its parts, concatenated, and the first
+/// fault of the first part that has one, its line counted on.
 pub fn lines_say_theirs()
     ensures { LinesSayTheirs }
 {}

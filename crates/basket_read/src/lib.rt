@@ -1,4 +1,4 @@
-//! Readers of baskets that answer exactly the baskets of an input, or its first fault.
+//! Readers of baskets that return exactly the baskets of an input, or its first fault.
 #![tactic(auto)]
 
 mod class;

@@ -5,14 +5,14 @@ use crate::class::blanks_behind;
 use crate::number::{Digits, number_at, with_digit, with_digits};
 use std::alloc::{AllocError, Global};
 
-/// Where in a line the next byte stands.
+/// What has been read of a line just before its next byte.
 #[derive(Clone, Copy, Debug)]
 pub enum Place {
-    /// Behind blanks, at the head of the line.
+    /// Only blanks, at the beginning of the line.
     Head,
     /// In the first number, which may turn out to be a weight.
     First(u32),
-    /// Behind a weight or behind a blank after a number.
+    /// After a weight, or after a number and a blank.
     Between,
     /// In a number that is no weight.
     Number(u32),
@@ -28,7 +28,7 @@ impl Place {
         matches!(self, Place::First(_) | Place::Number(_))
     }
 
-    /// The number so far, 0 where there is none.
+    /// The number so far, 0 if there is none.
     #[inline(always)]
     fn value(self) -> u32
         ensures { result ≡ value_at self }
@@ -39,7 +39,7 @@ impl Place {
         }
     }
 
-    /// The place behind more digits, with which the number has this value.
+    /// The place after more digits, with which the number has this value.
     #[inline(always)]
     fn with_value(self, value: u32) -> Self
         ensures { result ≡ place_after self value }
@@ -51,7 +51,8 @@ impl Place {
     }
 }
 
-/// What has been read of a line: where it stands, its weight, and the numbers that have ended.
+/// What has been read of a line: the place that was reached, its weight, and the numbers that have
+/// ended.
 #[derive(Debug, Drop)]
 pub struct Line {
     place: Place,
@@ -107,7 +108,7 @@ impl Line {
         Ok(())
     }
 
-    /// Takes the `x` behind a weight, if it stands there.
+    /// Takes the `x` after a weight, if it can stand here.
     #[inline(always)]
     pub fn add_times(&mut self) -> bool
         ensures { (if result then Some (line_state self.new) else None) ≡ times_added (line_state self.old) }
@@ -122,8 +123,8 @@ impl Line {
         }
     }
 
-    /// Takes digits and blanks from the front of the bytes, up to another byte or to a digit that
-    /// takes a number above the bound, and answers how many. Behind a number that began before
+    /// Takes digits and blanks from the beginning of the bytes, up to another byte or to a digit
+    /// that takes a number above the bound, and returns how many. After a number that began before
     /// them it takes no more than its digits.
     #[inline(always)]
     pub fn take_numbers(&mut self, bytes: &[u8]) -> Result<usize, AllocError>
@@ -147,7 +148,7 @@ impl Line {
         }
     }
 
-    /// Takes a number from the front of the bytes, and answers its digits, which may be none.
+    /// Takes a number from the beginning of the bytes, and returns its digits, which may be none.
     #[inline(always)]
     fn take_number(&mut self, bytes: &[u8]) -> Digits
         requires { is_in_number self.old.place ≡ false }
@@ -174,8 +175,8 @@ impl Line {
         Ok(())
     }
 
-    /// Takes digits from the front of the bytes, as many as keep the number from going above the
-    /// bound, and answers how many.
+    /// Takes digits from the beginning of the bytes, as many as keep the number from going above
+    /// the bound, and returns how many.
     #[inline(always)]
     fn take_digits(&mut self, bytes: &[u8]) -> usize
         ensures within { result ≤ length bytes.now }

@@ -12,7 +12,7 @@ use std::thread::{Threads, join};
 /// A shorter text is not worth a thread.
 const LEAST: usize = 65_536;
 
-/// Takes more of a text, up to its first fault, as `Text::feed` does, by so many workers. Where they
+/// Takes more of a text, up to its first fault, as `Text::feed` does, by this many workers. If they
 /// count, each counts the baskets of its part.
 #[cycle(halves)]
 pub fn feed_shared<R: Threads + Sync>(
@@ -41,12 +41,12 @@ pub fn feed_shared<R: Threads + Sync>(
             return Ok(text);
         }
     }
-    // The text comes to a fault again, and knows the number of its line.
+    // The text meets the fault again, and knows the number of its line.
     feed_part(&mut text, rest, counting)?;
     Ok(text)
 }
 
-/// What the text is with the front, and what the rest is as a text of its own.
+/// What the text is with `front`, and what the rest is as a text of its own.
 #[cycle(halves)]
 fn feed_halves<R: Threads + Sync>(
     rt: &R,
@@ -81,7 +81,7 @@ fn feed_halves<R: Threads + Sync>(
     (text, read)
 }
 
-/// Takes more of a text, up to its first fault. Where its baskets are counted, so are those of each
+/// Takes more of a text, up to its first fault. If its baskets are counted, so are those of each
 /// block before the next.
 pub fn feed_part(text: &mut Text, piece: &[u8], counting: bool) -> Result<(), ReadFault>
     requires { HasRoom text.old (length piece.now) }
@@ -98,7 +98,7 @@ pub fn feed_part(text: &mut Text, piece: &[u8], counting: bool) -> Result<(), Re
     Ok(())
 }
 
-/// Where a piece is cut in two, behind a line feed, if that is worth a thread.
+/// Where a piece is cut in two, after a line feed, if that is worth a thread.
 fn middle_of(piece: &[u8], workers: u32) -> Option<usize>
     ensures several { IfSome result (λ _. 2 ≤ workers) }
     ensures within { IfSome result (λ end. end ≤ length piece.now) }

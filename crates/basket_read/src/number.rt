@@ -1,4 +1,4 @@
-//! Numbers at the front of bytes.
+//! Numbers at the beginning of bytes.
 ghost use Rattle.std.specs.Prelude.{◌≡◌, ◌≤◌, ◌<◌, ℕ, List, ◌++◌, length, take, true};
 ghost use Rattle.std.specs.List.{list_all};
 ghost use Rattle.basket_sets.specs.Number.{is_digit, value_of};
@@ -7,17 +7,17 @@ ghost use Rattle.basket_read.specs.Number.{number_with};
 
 use crate::class::{Class, class_of};
 
-/// So many digits are never above the bound.
+/// This many digits are never above the bound.
 const SHORT: usize = 8;
 
-/// Digits at the front of some bytes: how many, and the value of the number that ends with them.
+/// The leading digits of some bytes: how many, and the value of the number that ends with them.
 #[derive(Clone, Copy)]
 pub struct Digits {
     pub value: u32,
     pub count: usize,
 }
 
-/// The number at the front of the bytes, of as many digits as keep it from going above the
+/// The number at the beginning of the bytes, of as many digits as keep it from going above the
 /// bound.
 #[inline(always)]
 pub fn number_at(bytes: &[u8]) -> Digits
@@ -40,7 +40,7 @@ pub fn number_at(bytes: &[u8]) -> Digits
     }
 }
 
-/// The number at the front of so few bytes that it can't go above the bound.
+/// The number at the beginning of bytes that are too few for it to go above the bound.
 #[inline(always)]
 fn short_number(bytes: &[u8]) -> Digits
     requires { length bytes.now ≡ SHORT }
@@ -65,8 +65,8 @@ fn short_number(bytes: &[u8]) -> Digits
     }
 }
 
-/// A number with the digits at the front of the bytes behind it, as many as keep it from going
-/// above the bound.
+/// A number with the leading digits of the bytes appended, as many as keep it from going above the
+/// bound.
 #[inline(always)]
 pub fn with_digits(before: u32, bytes: &[u8]) -> Digits
     ensures within { result.count ≤ length bytes.now }

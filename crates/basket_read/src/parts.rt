@@ -34,14 +34,14 @@ impl FimiParts {
         }
     }
 
-    /// Takes the next piece. After an `Err` the parts answer the same fault for ever.
+    /// Takes the next piece. After an `Err` the parts return the same fault from then on.
     pub fn feed(&mut self, piece: &[u8]) -> Result<(), ReadFault>
-        // It refuses exactly the bytes that have a fault whatever follows, and tells that fault.
+        // It refuses exactly the bytes that have a fault whatever follows, and returns that fault.
         ensures exact { (bytes : List ℕ) → IsFed self.old bytes →
             MatchResult result (λ _. settled_fault (bytes ++ piece.now) ≡ None) (λ fault. Tells fault (settled_fault (bytes ++ piece.now))) }
         // The bytes so far are those of all pieces.
         ensures fed { (bytes : List ℕ) → IsFed self.old bytes → result ≢ Err Memory → IsFed self.new (bytes ++ piece.now) }
-        // A fault is told for ever.
+        // A fault is returned from then on.
         ensures ok { OnOk result (refusal_of self.new ≡ None) }
         ensures refused { IfErr result (λ fault. refusal_of self.new ≡ Some fault) }
         ensures again { IfSome (refusal_of self.old) (λ fault. result ≡ Err fault) }

@@ -22,11 +22,11 @@ pub(crate) const BLOCK: usize = 65_536;
 /// Reads a FIMI input to its end, in blocks of 65,536 bytes.
 pub fn read_fimi<S: Source>(alloc: Global, reader: &mut S) -> Result<Database, ReadFault>
     requires { S.has_failed reader.old ≡ false }
-    // Where the reader doesn't fail, the answer is that of all its bytes.
+    // If the reader doesn't fail, the result is that of all its bytes.
     ensures exact { S.has_failed reader.new ≡ false → IfSome (S.left reader.old) (λ bytes. Answers result (fimi_of bytes)) }
-    // Where it fails, the answer is the fault in the bytes that it gave, else `Read`.
+    // If it fails, the result is the fault in the bytes that it gave, else `Read`.
     ensures failed { S.has_failed reader.new ≡ true → IfSome (S.left reader.old) (λ bytes. FailsAfter bytes (S.left reader.new) result) }
-    // So far as the reader doesn't tell its bytes too.
+    // Even if the reader doesn't report its bytes.
     ensures failed_is_err { S.has_failed reader.new ≡ true → IsErr result }
     ensures read_is_failed { result ≡ Err Read → S.has_failed reader.new ≡ true }
 {
@@ -42,11 +42,11 @@ pub fn read_fimi_by<S: Source>(
     requires fresh { S.has_failed reader.old ≡ false }
     requires some { 1 ≤ block }
     requires few { block ≤ MAX_BLOCK }
-    // Where the reader doesn't fail, the answer is that of all its bytes.
+    // If the reader doesn't fail, the result is that of all its bytes.
     ensures exact { S.has_failed reader.new ≡ false → IfSome (S.left reader.old) (λ bytes. Answers result (fimi_of bytes)) }
-    // Where it fails, the answer is the fault in the bytes that it gave, else `Read`.
+    // If it fails, the result is the fault in the bytes that it gave, else `Read`.
     ensures failed { S.has_failed reader.new ≡ true → IfSome (S.left reader.old) (λ bytes. FailsAfter bytes (S.left reader.new) result) }
-    // So far as the reader doesn't tell its bytes too.
+    // Even if the reader doesn't report its bytes.
     ensures failed_is_err { S.has_failed reader.new ≡ true → IsErr result }
     ensures read_is_failed { result ≡ Err Read → S.has_failed reader.new ≡ true }
 {
@@ -54,17 +54,17 @@ pub fn read_fimi_by<S: Source>(
 }
 
 /// Reads a FIMI input to its end, in blocks of 65,536 bytes, and counts its items. The baskets of a
-/// block are counted before the next is read, so that only those are kept whose items are too great
-/// for a table.
+/// block are counted before the next is read, and only those are kept whose items are too great for
+/// a table.
 pub fn count_fimi<S: Source>(alloc: Global, reader: &mut S) -> Result<ItemCounts, ReadFault>
     requires { S.has_failed reader.old ≡ false }
-    // Where the reader doesn't fail, the answer is that of all its bytes.
+    // If the reader doesn't fail, the result is that of all its bytes.
     ensures exact { S.has_failed reader.new ≡ false → IfSome (S.left reader.old) (λ bytes. Counts result (fimi_of bytes)) }
-    // So far as the reader doesn't tell its bytes too, the counts are those of some baskets.
+    // Even if the reader doesn't report its bytes, the counts are those of some baskets.
     ensures light { IfOk result AreLightCounts }
-    // Where it fails, the answer is the fault in the bytes that it gave, else `Read`.
+    // If it fails, the result is the fault in the bytes that it gave, else `Read`.
     ensures failed { S.has_failed reader.new ≡ true → IfErr result (λ fault. IfSome (S.left reader.old) (λ bytes. FailsAfter bytes (S.left reader.new) (Err fault))) }
-    // So far as the reader doesn't tell its bytes too.
+    // Even if the reader doesn't report its bytes.
     ensures failed_is_err { S.has_failed reader.new ≡ true → IsErr result }
     ensures read_is_failed { result ≡ Err Read → S.has_failed reader.new ≡ true }
 {

@@ -16,13 +16,14 @@ use basket_stream::Source;
 use std::alloc::{AllocError, Global};
 use std::thread::Threads;
 
-/// A batch has so many bytes where its baskets are kept, since they take more than their text.
+/// How many bytes a batch has if its baskets are kept, since they take more than their text.
 const BATCH: usize = 2_097_152;
 
-/// And so many where they are counted, since each batch has a table for each worker.
+/// How many bytes a batch has if its baskets are counted, since each batch has a table for each
+/// worker.
 const COUNTING_BATCH: usize = 8_388_608;
 
-/// Reads a FIMI input to its end, as `read_fimi` does, by so many workers.
+/// Reads a FIMI input to its end, as `read_fimi` does, by this many workers.
 pub fn read_fimi_shared<R: Threads + Sync, S: Source>(
     rt: &R,
     alloc: Global,
@@ -30,11 +31,11 @@ pub fn read_fimi_shared<R: Threads + Sync, S: Source>(
     workers: u32,
 ) -> Result<Database, ReadFault>
     requires { S.has_failed reader.old ≡ false }
-    // Where the reader doesn't fail, the answer is that of all its bytes.
+    // If the reader doesn't fail, the result is that of all its bytes.
     ensures exact { S.has_failed reader.new ≡ false → IfSome (S.left reader.old) (λ bytes. Answers result (fimi_of bytes)) }
-    // Where it fails, the answer is the fault in the bytes that it gave, else `Read`.
+    // If it fails, the result is the fault in the bytes that it gave, else `Read`.
     ensures failed { S.has_failed reader.new ≡ true → IfSome (S.left reader.old) (λ bytes. FailsAfter bytes (S.left reader.new) result) }
-    // So far as the reader doesn't tell its bytes too.
+    // Even if the reader doesn't report its bytes.
     ensures failed_is_err { S.has_failed reader.new ≡ true → IsErr result }
     ensures read_is_failed { result ≡ Err Read → S.has_failed reader.new ≡ true }
 {
@@ -44,7 +45,7 @@ pub fn read_fimi_shared<R: Threads + Sync, S: Source>(
     read_batches(rt, alloc, reader, BATCH, workers, false).map(ItemCounts::into_rest)
 }
 
-/// Reads a FIMI input to its end and counts its items, as `count_fimi` does. So many workers read.
+/// Reads a FIMI input to its end and counts its items, as `count_fimi` does, by this many workers.
 pub fn count_fimi_shared<R: Threads + Sync, S: Source>(
     rt: &R,
     alloc: Global,
@@ -52,13 +53,13 @@ pub fn count_fimi_shared<R: Threads + Sync, S: Source>(
     workers: u32,
 ) -> Result<ItemCounts, ReadFault>
     requires { S.has_failed reader.old ≡ false }
-    // Where the reader doesn't fail, the answer is that of all its bytes.
+    // If the reader doesn't fail, the result is that of all its bytes.
     ensures exact { S.has_failed reader.new ≡ false → IfSome (S.left reader.old) (λ bytes. Counts result (fimi_of bytes)) }
-    // So far as the reader doesn't tell its bytes too, the counts are those of some baskets.
+    // Even if the reader doesn't report its bytes, the counts are those of some baskets.
     ensures light { IfOk result AreLightCounts }
-    // Where it fails, the answer is the fault in the bytes that it gave, else `Read`.
+    // If it fails, the result is the fault in the bytes that it gave, else `Read`.
     ensures failed { S.has_failed reader.new ≡ true → IfErr result (λ fault. IfSome (S.left reader.old) (λ bytes. FailsAfter bytes (S.left reader.new) (Err fault))) }
-    // So far as the reader doesn't tell its bytes too.
+    // Even if the reader doesn't report its bytes.
     ensures failed_is_err { S.has_failed reader.new ≡ true → IsErr result }
     ensures read_is_failed { result ≡ Err Read → S.has_failed reader.new ≡ true }
 {
@@ -68,7 +69,7 @@ pub fn count_fimi_shared<R: Threads + Sync, S: Source>(
     read_batches(rt, alloc, reader, COUNTING_BATCH, workers, true)
 }
 
-/// Reads an input to its end in batches of so many bytes, whose baskets may be counted.
+/// Reads an input to its end in batches of this many bytes, whose baskets may be counted.
 fn read_batches<R: Threads + Sync, S: Source>(
     rt: &R,
     alloc: Global,
@@ -96,8 +97,8 @@ fn read_batches<R: Threads + Sync, S: Source>(
     }
 }
 
-/// Fills the front of the buffer, which grows up to so many bytes, and answers how much of it: all but
-/// where the input ends, or the reader fails.
+/// Fills the buffer, which grows up to this many bytes, from its beginning, and returns how much of
+/// it: all unless the input ends or the reader fails.
 fn fill<S: Source>(reader: &mut S, buffer: &mut Vec<u8>, most: usize) -> Result<usize, AllocError>
     requires fresh { S.has_failed reader.old ≡ false }
     requires few { most < 2 ^ 32 }

@@ -21,11 +21,11 @@ use std::alloc::{AllocError, Global};
 pub struct Text {
     alloc: Global,
     lines: u32,
-    /// The baskets of the lines that have ended, but for those that are past: that were counted.
+    /// The baskets of the lines that have ended, except those that are past: counted and dropped.
     baskets: Database,
-    /// The counts of those that are past.
+    /// The counts of the baskets that are past.
     table: ItemTable,
-    /// So many were kept when the table was too small for them. It is tried again at twice as many.
+    /// How many were kept when the table was too small. It is tried again at twice as many.
     refused: usize,
     /// Whether the baskets weigh too much for a database, which then has not all of them.
     heavy: bool,
@@ -64,7 +64,7 @@ impl Text {
         }
     }
 
-    /// Takes digits and blanks from the front of the piece, as many as the line does.
+    /// Takes leading digits and blanks of the piece, as many as the line takes.
     #[inline(always)]
     fn take_numbers(&mut self, piece: &[u8]) -> Result<usize, ReadFault>
         ensures within { IfOk result (λ taken. taken ≤ length piece.now) }
@@ -153,7 +153,7 @@ impl Text {
         self.alloc
     }
 
-    /// Whether a text that follows may count its baskets: none can be past behind one that is kept.
+    /// Whether a text that follows may count its baskets: none can be past after one that is kept.
     pub fn counts_behind(&self, counting: bool) -> bool
         ensures { counting ≡ false → result ≡ false }
     {
@@ -167,8 +167,8 @@ impl Text {
         self.baskets.is_empty() || !counting
     }
 
-    /// Adds what was read of the text that follows, where this one ends behind a line feed. Baskets that
-    /// it has counted can't stand behind some that are kept.
+    /// Adds what was read of the text that follows, if this one ends after a line feed. Baskets
+    /// that it counted can't come after some that are kept.
     pub fn append(&mut self, other: Text) -> Result<(), AllocError>
         requires { HasRoomFor self.old other }
         ensures { (past behind : List Weighted) (lines more : List ℕ) → IsTextSoFar self.old past lines → (cut_at is_line_feed lines).last ≡ []
@@ -189,7 +189,7 @@ impl Text {
         Ok(())
     }
 
-    /// Adds baskets behind those of the text, the first of them counted, unless all weigh too much.
+    /// Appends baskets to those of the text, the first of them counted, unless all weigh too much.
     fn add_baskets(
         &mut self,
         table: &ItemTable,

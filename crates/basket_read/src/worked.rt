@@ -1,4 +1,4 @@
-//! Worked texts, proved by computing what the definition answers.
+//! Worked texts, proved by computing what the definition returns.
 ghost use Rattle.std.specs.Prelude.{◌≡◌, [], ◌∷◌, Ok, Err, None, Some, codes};
 ghost use Rattle.basket_sets.specs.Database.{weighted};
 ghost use Rattle.basket_read.specs.Fimi.{fimi_of, fault_in, settled_fault};
@@ -15,7 +15,7 @@ pub fn blank_lines_are_no_baskets()
     ensures { fimi_of (lines (codes "|2 1| |3")) ≡ Ok (weighted (1 ∷ 2 ∷ []) 1 ∷ weighted (3 ∷ []) 1 ∷ []) }
 {}
 
-/// A carriage return is a blank, also where no line feed follows it.
+/// A carriage return is a blank, also if no line feed follows it.
 pub fn a_carriage_return_is_a_blank()
     ensures { fimi_of (49 ∷ 13 ∷ 50 ∷ 13 ∷ 10 ∷ []) ≡ Ok (weighted (1 ∷ 2 ∷ []) 1 ∷ []) }
 {}
@@ -27,7 +27,7 @@ pub fn numbers_have_a_bound()
     ensures before_the_times { fimi_of (codes "99999999999x") ≡ Err (Number 1) }
 {}
 
-/// The first byte that can't stand where it stands is the fault.
+/// The first byte that can't stand at its place is the fault.
 pub fn a_sign_is_a_fault()
     ensures { fimi_of (lines (codes "1 2|3 -4")) ≡ Err (Byte 2 45) }
 {}
@@ -40,7 +40,7 @@ pub fn a_mark_is_whole()
     ensures ended { fault_in (239 ∷ 187 ∷ []) ≡ Some (Byte 1 239) }
 {}
 
-/// A weight stands at the head of a line, is at least 1, and has its `x` at once behind it.
+/// A weight begins a line, is at least 1, and has its `x` right after it.
 pub fn a_weight_heads_a_line()
     ensures one { fimi_of (codes "02x1 3") ≡ Ok (weighted (1 ∷ 3 ∷ []) 2 ∷ []) }
     ensures zero { fimi_of (codes "0x 1") ≡ Err (Byte 1 120) }

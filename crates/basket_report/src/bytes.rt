@@ -16,7 +16,7 @@ pub fn send_bytes<W: Sink>(writer: &mut W, bytes: &[u8])
     }
 }
 
-/// Writes all bytes. Where the sink fails, it has taken a front of them.
+/// Writes all bytes. If the sink fails, it has taken a prefix of them.
 pub fn write_bytes<W: Sink>(writer: &mut W, bytes: &[u8]) -> Result<(), Failed>
     requires { W.has_failed writer.old ≡ false }
     ensures ok { OnOk result (Appends (W.taken writer.old) (W.taken writer.new) bytes.now) }

@@ -9,12 +9,12 @@ const MOST_DIGITS: usize = 20;
 /// The room of a text, two parentheses and a line feed.
 pub const COUNT_TEXT_ROOM: usize = 32;
 
-/// Where a text is made: from the first parenthesis to the end of the digits, and a room behind its
-/// start.
+/// Where a text is made: from the first parenthesis to the end of the digits, and a room more after
+/// its start.
 const SCRATCH: usize = 1 + MOST_DIGITS + COUNT_TEXT_ROOM;
 
-/// A count, and its text in parentheses with a line feed behind it, in front of a room. The length is
-/// that of the text without the line feed.
+/// A count, and its text in parentheses followed by a line feed, at the beginning of a room. The
+/// length is that of the text without the line feed.
 #[derive(Clone, Copy, Debug)]
 pub struct CountText {
     pub count: u64,
@@ -26,7 +26,7 @@ pub struct CountText {
 }
 
 impl CountText {
-    /// It is a call, since its locals would cost a count whose text is made already time.
+    /// It is a call, since its locals would cost time for a count whose text is made already.
     #[inline(never)]
     pub fn new(count: u64) -> Self
         ensures { result.count ≡ count }
@@ -44,7 +44,7 @@ impl CountText {
         }
     }
 
-    /// Makes it the text of this count, where it isn't yet.
+    /// Makes it the text of this count, if it isn't yet.
     pub fn set(&mut self, count: u64)
         ensures { self.new.count ≡ count }
     {

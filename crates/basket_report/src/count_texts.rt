@@ -1,4 +1,4 @@
-//! The texts of counts that were written of late.
+//! The texts of counts that were written recently.
 ghost use Rattle.std.specs.Prelude.{◌≡◌, ◌≤◌, ◌+◌, ◌++◌, [], ◌∷◌, decimal, length, IfOk};
 ghost use Rattle.basket_report.specs.Room.{IsPut};
 
@@ -24,7 +24,7 @@ impl CountTexts {
         })
     }
 
-    /// Puts a count in parentheses and a line feed into a room, and answers where they end.
+    /// Puts a count in parentheses and a line feed into a room, and returns where they end.
     #[inline(always)]
     pub fn put(&mut self, room: &mut [u8], start: usize, count: u64) -> usize
         requires { start + COUNT_TEXT_ROOM ≤ length room.old }

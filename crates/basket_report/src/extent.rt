@@ -10,10 +10,11 @@ const MOST_TEXTS: usize = 65_536;
 /// Room for what a line has beside its items: two parentheses, a space, a line feed and most counts.
 const COUNT_ROOM: usize = 10;
 
-/// A strip has room for so many bytes at least, which take the line of a set of `LONGEST` items.
+/// A strip has room for at least this many bytes, which take the line of a set of `LONGEST` items.
 const LEAST_STRIP: usize = 65_536;
 
-/// And for so many at most, so that threads live long beside what it takes to start them.
+/// A strip has room for at most this many bytes, so that threads live long compared with what it
+/// takes to start them.
 const MOST_STRIP: usize = 524_288;
 
 #[derive(Clone, Copy)]
@@ -33,7 +34,7 @@ impl Extent {
         }
     }
 
-    /// The same of sets whose items stand side by side.
+    /// The extent of sets that are values of their own.
     pub fn of_unpacked(sets: &[Counted]) -> Self {
         let mut items: usize = 0;
         let mut greatest = 0;
@@ -68,15 +69,16 @@ impl Extent {
         self.items.saturating_mul(digits + 1).saturating_add(counts)
     }
 
-    /// How many bytes each of so many strips has room for: twice its part of the report, within bounds.
+    /// How many bytes each of this many strips has room for: twice its part of the report, within
+    /// bounds.
     pub fn strip_room(self, strips: u32) -> usize {
         (self.room() / strips.max(1) as usize)
             .saturating_mul(2)
             .clamp(LEAST_STRIP, MOST_STRIP)
     }
 
-    /// How many sets each of so many strips takes at once: those whose lines fill half of it, where they
-    /// are like most, so that few have more lines than it has room for.
+    /// How many sets each of this many strips takes at once: those whose lines fill half of it if
+    /// they are like most, so that few have more lines than it has room for.
     pub fn share(self, strips: u32) -> usize {
         let line = (self.room() / self.lines.max(1)).max(1);
         (self.strip_room(strips) / 2 / line).max(1)

@@ -9,10 +9,10 @@ const MOST_DIGITS: usize = 10;
 /// The room of a text and a space.
 pub const ITEM_TEXT_ROOM: usize = 16;
 
-/// Where a text is made: at the end of the digits, and a room behind its start.
+/// Where a text is made: at the end of the digits, and a room more after its start.
 const SCRATCH: usize = MOST_DIGITS + ITEM_TEXT_ROOM;
 
-/// An item, and its text with a space behind it, in front of a room.
+/// An item, and its text followed by a space, at the beginning of a room.
 #[derive(Debug, Drop)]
 pub struct ItemText {
     pub item: u32,

@@ -9,7 +9,7 @@ use crate::style::Style;
 use basket_core::Minimum;
 use std::alloc::{AllocError, Global};
 
-/// The report of the items whose counts meet the minimum, where all baskets weigh so much together.
+/// The report of the items whose counts meet the minimum, if all baskets together have this weight.
 pub fn items_report(
     alloc: Global,
     counts: &[(u32, u64)],

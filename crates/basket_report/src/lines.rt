@@ -13,7 +13,7 @@ use basket_rules::{Figures, Sides};
 use std::alloc::{AllocError, Global};
 use std::marker::Model;
 
-/// Lines so far. Where one can't be added, all are lost.
+/// Lines so far. If one can't be added, all are lost.
 #[derive(Debug, Drop)]
 pub struct Lines {
     texts: Texts,
@@ -86,7 +86,7 @@ impl Lines {
     }
 }
 
-/// Adds the items with a space behind each.
+/// Adds the items, each followed by a space.
 fn put_items(report: &mut Vec<u8>, texts: &Texts, items: &[u32]) -> Result<(), AllocError>
     ensures { OnOk result (report.new.items ≡ report.old.items ++ items_text items.now) }
 {

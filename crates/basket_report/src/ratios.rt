@@ -1,4 +1,4 @@
-//! The texts of fractions that were written of late.
+//! The texts of fractions that were written recently.
 ghost use Rattle.std.specs.Prelude.{◌≡◌, ◌≤◌, ◌++◌, take, OnOk};
 ghost use Rattle.basket_core.specs.Fraction.{lowest};
 ghost use Rattle.basket_report.specs.Texts.{ratio_text};
@@ -16,13 +16,14 @@ const SLOTS: usize = 2_048;
 /// How long the text of a fraction of two numbers in 64 bits is at most.
 const ROOM: usize = 41;
 
-/// Where a text is made: at the end of a room, and a room behind its start.
+/// Where a text is made: at the end of a room, and a room more after its start.
 const SCRATCH: usize = 2 * ROOM;
 
 /// An odd number whose bits look random.
 const MULTIPLIER: u64 = 0x9E37_79B9_7F4A_7C15;
 
-/// A numerator and a denominator, and the text of their fraction in lowest terms, in front of a room.
+/// A numerator and a denominator, and the text of their fraction in lowest terms, at the beginning
+/// of a room.
 #[derive(Clone, Copy, Debug)]
 struct Written {
     numerator: u64,

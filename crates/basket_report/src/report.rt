@@ -11,7 +11,7 @@ use basket_core::{Counted, Unpacked};
 use basket_rules::{Figures, Lookups, MetRule, Sides};
 use std::alloc::{AllocError, Global};
 
-/// A report so far. Where something can't be added to it, all of it is lost.
+/// A report so far. If something can't be added to it, all of it is lost.
 #[derive(Drop)]
 pub enum Report<'a> {
     Lines(Lines),

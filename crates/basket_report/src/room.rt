@@ -1,4 +1,4 @@
-//! Texts that are put into a room, one behind another.
+//! Texts that are put into a room, one after another.
 ghost use Rattle.std.specs.Prelude.{◌≡◌, ◌<◌, ◌≤◌, ◌+◌, ◌*◌, ◌++◌, [], ◌∷◌, decimal, length, take};
 ghost use Rattle.basket_report.specs.Lines.{items_text, set_line};
 ghost use Rattle.basket_report.specs.Report.{set_of};
@@ -11,11 +11,12 @@ use crate::item_text::{ITEM_TEXT_ROOM, ItemText};
 use crate::texts::Texts;
 use std::simd::Simd;
 
-/// What a line takes beside its items: a space where it has none, and the room of the text of a count.
+/// What a line takes beside its items: a space if it has none, and the room of the text of a count.
 pub const LINE_ROOM: usize = 1 + COUNT_TEXT_ROOM;
 
-/// Puts the first bytes of a small room behind the first of a room, and answers where they end. The
-/// whole small room is loaded and stored at once, and the next text lies over what is too much.
+/// Puts the first bytes of a small room after the first ones of a room, and returns where they end.
+/// The whole small room is loaded and stored at once, and the next text overwrites what is too
+/// much.
 #[inline(always)]
 pub fn put_text<const N: usize>(room: &mut [u8], start: usize, text: &[u8], count: usize) -> usize
     requires text { N ≤ length text.now }
@@ -54,7 +55,7 @@ fn put_new_item(room: &mut [u8], start: usize, item: u32) -> usize
     put_text::<ITEM_TEXT_ROOM>(room, start, &text.bytes, text.length)
 }
 
-/// Puts items with a space behind each.
+/// Puts items, each followed by a space.
 pub fn put_items(room: &mut [u8], start: usize, texts: &Texts, items: &[u32]) -> usize
     requires { start + ITEM_TEXT_ROOM * length items.now ≤ length room.old }
     ensures put { IsPut room.old room.new start (items_text items.now) result }

@@ -18,8 +18,8 @@ use basket_core::{CountedSets, Failed, MOST_ITEMS, Sink};
 use std::alloc::{AllocError, Global};
 use std::thread::{self, Threads};
 
-/// What it takes to write the lines of sets, a strip a worker at a time. Once it is made no memory is
-/// needed, so a report is written to its end unless the writer fails.
+/// What it takes to write the lines of sets, with a strip for each worker. Once it is made no
+/// memory is needed, so a report is written to its end unless the writer fails.
 #[derive(Debug, Drop)]
 pub struct SetLines {
     texts: Texts,
@@ -29,7 +29,7 @@ pub struct SetLines {
 }
 
 impl SetLines {
-    /// Nothing is written yet. So many workers will make the lines.
+    /// Nothing is written yet. This many workers will make the lines.
     pub fn new(alloc: Global, sets: &CountedSets, workers: u32) -> Result<Self, AllocError> {
         let extent = Extent::of(sets);
         let mut strips = Vec::with_capacity(alloc, workers as usize)?;
@@ -43,8 +43,8 @@ impl SetLines {
         })
     }
 
-    /// Writes the lines of the sets, and flushes. Where the writer fails, it has taken a front of them,
-    /// and all where the flush alone failed.
+    /// Writes the lines of the sets, and flushes. If the writer fails, it has taken a prefix of
+    /// them, and all if only the flush failed.
     pub fn write<R: Threads + Sync, W: Sink>(
         &mut self,
         rt: &R,
@@ -74,7 +74,7 @@ impl SetLines {
     }
 }
 
-/// Has each worker make the lines of so many sets, from a place on.
+/// Has each worker make the lines of this many sets, from a place on.
 fn fill_strips<R: Threads + Sync>(
     rt: &R,
     strips: &mut [Strip],
@@ -99,8 +99,8 @@ fn fill_strips<R: Threads + Sync>(
     );
 }
 
-/// Writes the lines of the strips, as far as one has those of the sets behind those of the strip before,
-/// from a place on. The answer is the place behind them.
+/// Writes the lines of the strips, as far as each begins where the one before ends, from a place
+/// on. Returns the place after them.
 fn send_strips<W: Sink>(writer: &mut W, strips: &[Strip], sets: &CountedSets, place: usize) -> usize
     requires place { place ≤ length sets.now }
     requires strips { All (HasLines sets.now) strips.now }
@@ -132,7 +132,7 @@ fn send_set<W: Sink>(writer: &mut W, texts: &Texts, sets: &CountedSets, place: u
     send_line(writer, texts, items, sets.count(place));
 }
 
-/// Writes the line of a set, so many items at a time.
+/// Writes the line of a set, a limited number of items at a time.
 fn send_line<W: Sink>(writer: &mut W, texts: &Texts, items: &[u32], count: u64)
     ensures { (start : Option (List ℕ)) (text : List ℕ)
         → IsWritten start (W.taken writer.old) (W.has_failed writer.old) (W.ends_in_flush writer.old) text

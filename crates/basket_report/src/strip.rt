@@ -16,7 +16,7 @@ use std::marker::Model;
 /// No strip takes the line of a set of more items.
 pub const LONGEST: usize = 1_024;
 
-/// The lines of the sets from one place up to another, at the front of a room.
+/// The lines of the sets from one place up to another, at the beginning of a room.
 #[derive(Debug, Drop)]
 pub struct Strip {
     counts: CountTexts,
@@ -39,7 +39,7 @@ impl Model for Strip {
 }
 
 impl Strip {
-    /// No lines yet. There will be so many strips.
+    /// No lines yet. There will be this many strips.
     pub fn new(alloc: Global, extent: Extent, strips: u32) -> Result<Self, AllocError>
         ensures { IfOk result (λ strip. (strip.from ≡ 0) × (strip.to ≡ 0) × (strip.text ≡ [])) }
     {
@@ -52,7 +52,7 @@ impl Strip {
         })
     }
 
-    /// Makes the lines of the sets from a place on, of so many at most, and of no more than there is room
+    /// Makes the lines of at most this many sets from a place on, and of no more than there is room
     /// for.
     pub fn fill(&mut self, texts: &Texts, sets: &CountedSets, from: usize, most: usize)
         requires { from ≤ length sets.now }
@@ -73,7 +73,7 @@ impl Strip {
         }
     }
 
-    /// Whether there is room for the line of a set of so many items.
+    /// Whether there is room for the line of a set of this many items.
     fn has_room(&self, items: usize) -> bool
         ensures { IsTrue result → length self.now.text + ITEM_TEXT_ROOM * items + LINE_ROOM ≤ self.now.room }
     {
@@ -104,7 +104,7 @@ impl Strip {
         self.from
     }
 
-    /// The place behind the last set.
+    /// The place after the last set.
     pub fn to(&self) -> usize
         ensures { result ≡ self.now.to }
     {

@@ -5,6 +5,6 @@ use basket_csv::Names;
 pub enum Style<'a> {
     /// By their numbers, a line for each set or rule.
     Numbers,
-    /// By their names, a CSV record for each set or rule, with this byte between fields.
+    /// By their names, a CSV record for each set or rule, with this separator.
     Names { names: &'a Names, separator: u8 },
 }

@@ -13,7 +13,7 @@ use basket_rules::{Figures, Sides};
 use csv::{Writer, WriterBuilder};
 use std::alloc::{AllocError, Global};
 
-/// Records so far. Where one can't be added, all are lost.
+/// Records so far. If one can't be added, all are lost.
 #[derive(Drop)]
 pub struct Table<'a> {
     names: &'a Names,
@@ -24,7 +24,7 @@ pub struct Table<'a> {
 }
 
 impl<'a> Table<'a> {
-    /// No records, with this byte between fields.
+    /// No records, with this separator.
     pub fn new(alloc: Global, names: &'a Names, separator: u8) -> Self
         ensures { HasText result separator names.now [] }
     {
@@ -84,7 +84,7 @@ impl<'a> Table<'a> {
             → IfOk result (λ written. written.items ≡ text) }
     {
         let Table { writer, .. } = self;
-        // A vector takes all bytes, so nothing but memory is wanting.
+        // A vector takes all bytes, so the only error is out of memory.
         writer.into_inner().map_err(|_| AllocError)
     }
 }
@@ -114,7 +114,7 @@ fn put_number_field(
     put_field(writer, field)
 }
 
-/// Adds the confidence of a rule, behind another field.
+/// Adds the confidence of a rule, after another field.
 fn put_confidence_field(
     writer: &mut Writer<Vec<u8>>,
     field: &mut Vec<u8>,
@@ -129,7 +129,7 @@ fn put_confidence_field(
     put_field(writer, field)
 }
 
-/// Adds the lift of a rule, behind another field.
+/// Adds the lift of a rule, after another field.
 fn put_lift_field(
     writer: &mut Writer<Vec<u8>>,
     field: &mut Vec<u8>,
@@ -144,7 +144,7 @@ fn put_lift_field(
     put_field(writer, field)
 }
 
-/// Adds the names of some items, behind another field.
+/// Adds the names of some items, after another field.
 fn put_names(writer: &mut Writer<Vec<u8>>, names: &Names, items: &[u32]) -> Result<(), AllocError>
     ensures { (separator : ℕ) (text : List ℕ) (fields : List (List ℕ)) → HasFields writer.old separator text fields → fields ≢ []
         → OnOk result (HasFields writer.new separator text (fields ++ names_of names.now items.now)) }

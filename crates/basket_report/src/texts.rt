@@ -44,7 +44,7 @@ impl Texts {
         &self.texts
     }
 
-    /// The text of an item, where it is made already.
+    /// The text of an item, if it is made already.
     pub fn get(&self, item: u32) -> Option<&ItemText>
         ensures { IfSome result (λ text. text.now.item ≡ item) }
     {
@@ -65,7 +65,7 @@ impl Texts {
     }
 }
 
-/// Adds the first bytes of a room. The whole room is copied, which is no call where its size is known,
+/// Adds the first bytes of a room. The whole room is copied, which is no call if its size is known,
 /// and what is too much is cut off.
 #[inline(always)]
 pub fn put_front(report: &mut Vec<u8>, room: &[u8], count: usize) -> Result<(), AllocError>

@@ -16,25 +16,25 @@ use crate::supports::count_of;
 use basket_core::{Fraction, Frequent, Itemset, Share, Unpacked};
 use std::alloc::{AllocError, Global};
 
-/// The rules of a union of so many items have room before they are made.
+/// The rules of a union of up to this many items have room before they are made.
 const MOST_ROOM: usize = 10;
 
-/// A rule: baskets that have the left side often have the right side too. Neither side is empty,
-/// and they have no item in common.
+/// A rule: baskets that have the left side, the antecedent, often have the right side, the
+/// consequent, too. Neither is empty, and they have no item in common.
 #[derive(Debug, PartialEq, Eq, Drop)]
 pub struct Rule {
     pub left: Itemset,
     pub right: Itemset,
     /// The support of both sides together.
     pub count: u64,
-    /// Which share of the baskets with the left side has the right side too.
+    /// Which share of the baskets with the antecedent has the consequent too.
     pub confidence: Fraction,
-    /// How many times as often the right side stands beside the left side as in all baskets.
+    /// How many times as often the consequent occurs beside the antecedent as in all baskets.
     pub lift: Fraction,
 }
 
-/// The rules that meet the confidence: union after union in report order, those of one union by their
-/// right sides in report order.
+/// The rules that meet the confidence: union after union in report order, those of one union by
+/// their consequents in report order.
 pub fn rules(alloc: Global, frequent: &Frequent, confidence: Share) -> Result<Vec<Rule>, AllocError>
     ensures baskets { IfOk result (λ rules. AreRules frequent.now confidence rules.items) }
     ensures lists { IfOk result (λ rules. IsConsistent frequent.now.sets → rules.items ≡ rules_among frequent.now confidence) }
@@ -49,7 +49,7 @@ pub fn rules(alloc: Global, frequent: &Frequent, confidence: Share) -> Result<Ve
     Ok(rules)
 }
 
-/// Those of the rules whose union is the set at the place.
+/// The rules that meet the confidence whose union is the set at the place.
 pub fn rules_with(
     alloc: Global,
     frequent: &Unpacked,
@@ -101,9 +101,9 @@ fn rule_of_sides(alloc: Global, sides: &Sides, figures: &Figures) -> Result<Rule
     })
 }
 
-/// Those of the rules whose union is the set at the place, without their items. Right sides go level
-/// by level: those of one more item are the ones that met the confidence, each with an item before
-/// its first.
+/// The rules that meet the confidence whose union is the set at the place, without their items.
+/// Consequents go level by level: those of one more item are the ones that met the confidence, each
+/// with an item before its first.
 pub fn met_rules(
     alloc: Global,
     frequent: &Unpacked,
@@ -143,14 +143,14 @@ struct Wanted<'a> {
     confidence: Share,
 }
 
-/// How many items a right side has at most, since a left side has one too.
+/// How many items a consequent has at most, since an antecedent has one too.
 fn most_right_items(count: usize) -> usize
     ensures { result ≡ count - 1 }
 {
     count.saturating_sub(1)
 }
 
-/// Of the right sides, those whose rules meet the confidence. Their rules are added.
+/// The consequents whose rules meet the confidence. Their rules are added.
 fn keep_confident(
     alloc: Global,
     wanted: &Wanted<'_>,
@@ -174,7 +174,7 @@ fn keep_confident(
     Ok(met)
 }
 
-/// The rule whose sides make the set at the place, with this right side, where it meets the
+/// The rule whose sides make the set at the place, with this consequent, if it meets the
 /// confidence. `whole` is the hash of that set.
 fn rule_for(
     wanted: &Wanted<'_>,
@@ -198,7 +198,7 @@ fn rule_for(
     Ok(MetRule::new(right, left_count, right_count))
 }
 
-/// Whether a count is at least such a share of that of the left side.
+/// Whether a count is at least this share of that of the antecedent.
 fn meets(confidence: Share, count: u64, left_count: u64) -> bool
     ensures { result ≡ nat_le (confidence.0 * left_count) (count * confidence.1) }
 {

@@ -8,7 +8,7 @@ use crate::covered::{Supersets, covered};
 use basket_core::{CountedSets, Frequent};
 use std::alloc::{AllocError, Global};
 
-/// The sets of which no proper superset has the same support, in report order.
+/// The frequent sets of which no proper superset has the same support, in report order.
 pub fn closed(alloc: Global, frequent: &Frequent) -> Result<CountedSets, AllocError>
     ensures baskets { IfOk result (λ closed. AreClosed frequent.now closed) }
     ensures lists { IfOk result (λ closed. IsConsistent frequent.now.sets → closed ≡ closed_in frequent.now.sets) }
@@ -18,7 +18,7 @@ pub fn closed(alloc: Global, frequent: &Frequent) -> Result<CountedSets, AllocEr
     unmarked(alloc, sets, &marks)
 }
 
-/// The sets of which no proper superset is frequent, in report order.
+/// The frequent sets of which no proper superset is frequent, in report order.
 pub fn maximal(alloc: Global, frequent: &Frequent) -> Result<CountedSets, AllocError>
     ensures baskets { IfOk result (λ maximal. AreMaximal frequent.now maximal) }
     ensures lists { IfOk result (λ maximal. IsConsistent frequent.now.sets → maximal ≡ maximal_in frequent.now.sets) }

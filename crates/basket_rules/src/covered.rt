@@ -1,4 +1,4 @@
-//! Which sets of a list have a superset there with one item more.
+//! Which sets of a list have a superset in it with one item more.
 ghost use Rattle.std.specs.Prelude.{◌≡◌, ◌≤◌, ◌<◌, ◌+◌, IfOk, IfSome, IfNone, IsTrue, ◌↔◌, ◌⊎◌, length};
 ghost use Rattle.basket_lists.specs.Without.{ArePlacesWithout};
 ghost use Rattle.basket_lists.specs.declared.known.TheConstants.{MOST_ITEMS};
@@ -22,8 +22,7 @@ pub enum Supersets {
 }
 
 impl Supersets {
-    /// Whether a set with that count is marked that was marked already or has a superset with a count of
-    /// its own.
+    /// Whether a set with this count is marked, given its mark so far and the count of a superset.
     fn marked(self, mark: bool, count: u64, above: u64) -> bool
         ensures { IsTrue result ↔ (IsTrue mark ⊎ Matters self count above) }
     {
@@ -34,8 +33,8 @@ impl Supersets {
     }
 }
 
-/// Marks the sets of the list of which some superset with one item more is in the list, and matters.
-/// The sets of one size are gone over together.
+/// Marks the sets of the list of which some superset with one item more is in the list, and
+/// matters. The sets of one size are processed together.
 pub fn covered(
     alloc: Global,
     sets: &CountedSets,
@@ -56,7 +55,7 @@ pub fn covered(
     Ok(marks)
 }
 
-/// Where the sets end that stand from `start` on and have as many items as the first of them.
+/// Where the sets end that begin at `start` and have as many items as the first of them.
 fn end_of_size(sets: &CountedSets, start: usize) -> usize
     requires { start < length sets.now }
     ensures behind { start < result }
@@ -71,7 +70,7 @@ fn end_of_size(sets: &CountedSets, start: usize) -> usize
     end
 }
 
-/// Marks what is left of the sets from `start` up to `end` without one of their items.
+/// Marks the sets that are those from `start` up to `end` without one of their items.
 fn mark_below(
     sets: &CountedSets,
     supersets: Supersets,
@@ -93,7 +92,7 @@ fn mark_below(
     }
 }
 
-/// Marks what is left of one set.
+/// Marks the sets that are one set without one of its items.
 fn mark_subsets(
     sets: &CountedSets,
     supersets: Supersets,
@@ -115,7 +114,7 @@ fn mark_subsets(
     }
 }
 
-/// Where the set at `number` stands without the item at the place.
+/// The place of the set at `number` without the item at the place.
 fn find_below(
     sets: &CountedSets,
     found: &[u32; MOST_ITEMS],
@@ -136,7 +135,8 @@ fn find_below(
     search_below(sets, number, place, hint)
 }
 
-/// Looks for it in the list. The search begins at the hint, which then becomes the place.
+/// Looks for the set at `number` without the item at the place in the list. The search begins at
+/// the hint, which then becomes the place.
 #[inline(never)]
 fn search_below(sets: &CountedSets, number: usize, place: usize, hint: &mut usize) -> Option<usize>
     requires listed { number < length sets.now }

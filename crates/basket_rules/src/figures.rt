@@ -18,14 +18,14 @@ pub struct Figures {
 }
 
 impl Figures {
-    /// Which share of the baskets with the left side has the right side too.
+    /// Which share of the baskets with the antecedent has the consequent too.
     pub fn confidence(&self) -> Fraction
         ensures { result ≡ lowest self.now.count self.now.left_count }
     {
         Fraction::reduced(u128::from(self.count), u128::from(self.left_count))
     }
 
-    /// How many times as often the right side stands beside the left side as in all baskets.
+    /// How many times as often the consequent occurs beside the antecedent as in all baskets.
     pub fn lift(&self) -> Fraction
         ensures { result ≡ lowest (self.now.count * self.now.total) (self.now.left_count * self.now.right_count) }
     {

@@ -1,12 +1,12 @@
-//! Hashes of sets. Nothing is claimed of them: whoever finds a set by its hash compares it.
+//! Hashes of sets. Nothing is claimed of them: code that finds a set by its hash compares it.
 
 use std::alloc::{AllocError, Global};
 
 /// An odd number whose bits look random.
 const MULTIPLIER: u64 = 0x9E37_79B9_7F4A_7C15;
 
-/// The hash of a set: the sum of those of its items. So what is left of a set without a part of it
-/// has the hash of the set less that of the part.
+/// The hash of a set: the sum of those of its items. So a set without a part of it has the hash of
+/// the set less that of the part.
 #[derive(Clone, Copy, Debug)]
 pub struct SetHash {
     sum: u64,
@@ -44,14 +44,14 @@ pub struct ItemHashes {
 }
 
 impl ItemHashes {
-    /// Those of no items. Nothing is allocated.
+    /// The hashes of no items. Nothing is allocated.
     pub fn none(alloc: Global) -> Self {
         ItemHashes {
             hashes: Vec::new(alloc),
         }
     }
 
-    /// Puts those of these items in the place of those that are there.
+    /// Replaces the hashes by those of these items.
     pub fn set(&mut self, union: &[u32]) -> Result<(), AllocError> {
         self.hashes.clear();
         for item in union {
@@ -65,7 +65,7 @@ impl ItemHashes {
         self.side(u64::MAX)
     }
 
-    /// That of its items at the places of a word.
+    /// The hash of the items of the union at the places of a word.
     pub fn side(&self, places: u64) -> SetHash {
         let mut sum: u64 = 0;
         let mut rest = places;

@@ -19,17 +19,17 @@ pub fn list_decides_closed()
     ensures { ListDecidesClosed }
 {}
 
-/// It decides which of them are maximal.
+/// The list of the frequent sets decides which of them are maximal, without the baskets.
 pub fn list_decides_maximal()
     ensures { ListDecidesMaximal }
 {}
 
-/// With the weight of all baskets it decides their rules.
+/// The list of the frequent sets, with the weight of all baskets, decides their rules.
 pub fn list_decides_rules()
     ensures { ListDecidesRules }
 {}
 
-/// The confidence of the rules of one union falls as the right side grows (Agrawal and Srikant
+/// The confidence of the rules of one union falls as the consequent grows (Agrawal and Srikant
 /// 1994).
 pub fn confidence_falls()
     ensures { ConfidenceFalls }

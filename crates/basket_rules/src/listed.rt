@@ -5,7 +5,7 @@ ghost use Rattle.basket_rules.specs.Listed.{set_at};
 use basket_core::CountedSets;
 use basket_lists::MOST_ITEMS;
 
-/// The items of the set at a place, in the room where the set is kept as a word.
+/// The items of the set at a place, written into the room if the set is kept as a word.
 pub fn items_at<'a>(
     sets: &'a CountedSets,
     place: usize,

@@ -11,12 +11,12 @@ use basket_core::{Counted, Unpacked};
 use basket_order::Places;
 use std::alloc::{AllocError, Global};
 
-/// What is kept from union to union while the rules of a list are made: where its sets may stand,
-/// and room that is used again. No rule depends on it.
+/// What is kept from union to union while the rules of a list are made: places of its sets by
+/// hashes, and room that is used again. No rule depends on it.
 #[derive(Debug, Drop)]
 pub struct Lookups {
     pub(crate) places: Places,
-    /// Those of the items of the last union.
+    /// The hashes of the items of the last union.
     pub(crate) hashes: ItemHashes,
     /// The items of the sides of the last rule.
     pub sides: Sides,
@@ -32,7 +32,7 @@ impl Lookups {
         }
     }
 
-    /// For the sets of a list, each of which is kept.
+    /// The look-ups for the sets of a list, each of which is kept.
     pub fn of(alloc: Global, sets: &[Counted]) -> Result<Self, AllocError> {
         Ok(Lookups {
             places: places_of(alloc, sets)?,
@@ -41,7 +41,7 @@ impl Lookups {
         })
     }
 
-    /// Puts the items of both sides of a rule of the set at the place into `sides`, and answers its
+    /// Puts the items of both sides of a rule of the set at the place into `sides`, and returns its
     /// figures.
     pub fn rule(
         &mut self,

@@ -3,7 +3,7 @@ ghost use Rattle.std.specs.Prelude.{◌≡◌, ◌≤◌, ◌⊎◌, IfNone, IfS
 
 use crate::rights::Right;
 
-/// A rule of a union: its right side, and the supports of both sides.
+/// A rule of a union: its consequent, and the supports of both sides.
 #[derive(Clone, Copy, Debug)]
 pub struct MetRule {
     pub(crate) right: Right,
@@ -14,7 +14,7 @@ pub struct MetRule {
 }
 
 impl MetRule {
-    /// The rule with these supports, or none where one is 0, as that of a frequent set never is.
+    /// The rule with these supports, or none if one is 0, which no support of a frequent set is.
     pub(crate) fn new(right: Right, left_count: u64, right_count: u64) -> Option<Self>
         ensures some { IfSome result (λ met. (met.right ≡ right) × (met.left_count ≡ left_count) × (met.right_count ≡ right_count)) }
         ensures none { IfNone result ((left_count ≡ 0) ⊎ (right_count ≡ 0)) }

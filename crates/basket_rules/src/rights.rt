@@ -1,13 +1,14 @@
-//! Right sides of the rules with one union, each as the places of its items in the union.
+//! Consequents, the right sides, of the rules with one union, each as the places of its items in
+//! the union.
 ghost use Rattle.std.specs.Prelude.{◌≡◌, ◌≤◌, ◌<◌, ◌++◌, IfOk, OnOk, length, not, take};
 ghost use Rattle.basket_rules.specs.Rights.{chosen, has_place, longer, longer_by, no_places, with_place};
 
 use std::alloc::{AllocError, Global};
 
-/// How many places have a bit in a word. No list has the subsets of a set of so many items.
+/// How many places have a bit in a word. No list has the subsets of a set of this many items.
 pub const MOST_PLACES: usize = 64;
 
-/// A right side: the bits of its places, and the first of these.
+/// A consequent: the bits of its places, and the first of these.
 #[derive(Clone, Copy, Debug)]
 pub struct Right {
     pub places: u64,
@@ -37,7 +38,7 @@ impl Right {
     }
 }
 
-/// The right sides with a place more before their first, in report order where these are.
+/// The consequents with one place more before their first, in report order if these are.
 pub fn longer_rights(alloc: Global, met: &[Right], count: usize) -> Result<Vec<Right>, AllocError>
     requires { count ≤ MOST_PLACES }
     ensures { IfOk result (λ rights. rights.items ≡ longer count met.now) }
@@ -49,7 +50,7 @@ pub fn longer_rights(alloc: Global, met: &[Right], count: usize) -> Result<Vec<R
     Ok(rights)
 }
 
-/// Adds those with this place more.
+/// Adds the consequents with this place before their first.
 fn add_longer(rights: &mut Vec<Right>, met: &[Right], place: usize) -> Result<(), AllocError>
     requires { place < MOST_PLACES }
     ensures { OnOk result (rights.new.items ≡ rights.old.items ++ longer_by met.now place) }
@@ -93,8 +94,8 @@ impl Sides {
     }
 }
 
-/// Puts the items of the union at the places of a word in front of `right`, and the others in front
-/// of `left`. Answers how many these and those are.
+/// Puts the items of the union at the places of a word at the beginning of `right`, and the others
+/// at the beginning of `left`. Returns how many these and those are.
 fn part(union: &[u32], places: u64, left: &mut [u32], right: &mut [u32]) -> (usize, usize)
     requires left { length left.old ≡ length union.now }
     requires right { length right.old ≡ length union.now }

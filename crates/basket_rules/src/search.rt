@@ -1,5 +1,5 @@
-//! A search for a set in the list of the frequent sets, quick where it stands close behind a given
-//! place: an exponential search (Bentley and Yao 1976).
+//! A search for a set in the list of the frequent sets, fast if it is close after a given place: an
+//! exponential search (Bentley and Yao 1976).
 //!
 //! The set comes in two parts, the items of `front` and then those of `rest`, so that a set without
 //! one of its items need not be copied.
@@ -16,8 +16,8 @@ use basket_core::{Counted, CountedSets, compare_parts};
 use basket_lists::MOST_ITEMS;
 use std::cmp::Ordering;
 
-/// Where the set stands in a list as it is kept. The search begins at the place `near`, from which the
-/// steps to greater sets double; whatever `near` is, the set is found.
+/// The place of the set in a list as it is kept. The search begins at the place `near`, from which
+/// the steps to greater sets double; whatever `near` is, the set is found.
 pub fn find_near(sets: &CountedSets, front: &[u32], rest: &[u32], near: usize) -> Option<usize>
     ensures bound { IfSome result (λ at. at < length sets.now) }
     ensures found { IfSome result (λ at. set_at sets.now at ≡ front.now ++ rest.now) }
@@ -56,7 +56,7 @@ fn probe(start: usize, end: usize, guess: usize) -> usize
     }
 }
 
-/// Where the set with these items stands, or where it is missing.
+/// The place of the set with these items, or where it is missing.
 pub fn find(sets: &[Counted], items: &[u32]) -> Result<usize, usize>
     ensures bound { IsSearchInRange result (length sets.now) }
     ensures found { IfOk result (λ at. set_at sets.now at ≡ items.now) }

@@ -15,8 +15,8 @@ use std::alloc::AllocError;
 /// How many places are looked at for one hash.
 const MOST_STEPS: usize = 4;
 
-/// The count of the set with the items of a union at the places of a word, or 0 where the list
-/// doesn't have it. The items are put together only where it isn't found by its hash.
+/// The count of the set with the items of a union at the places of a word, or 0 if the list doesn't
+/// have it. The items are put together only if it isn't found by its hash.
 pub fn count_of(
     sets: &[Counted],
     union: &[u32],
@@ -34,7 +34,7 @@ pub fn count_of(
     Ok(searched_count(sets, &lookups.sides.right))
 }
 
-/// Where that set stands, if it is found by its hash.
+/// The place of that set, if it is found by its hash.
 fn place_of(
     sets: &[Counted],
     union: &[u32],
@@ -74,7 +74,7 @@ fn is_side(set: &[u32], union: &[u32], places: u64) -> bool
     rest.trailing_zeros() as usize >= union.len()
 }
 
-/// The count of the set with these items, or 0 where the list doesn't have it.
+/// The count of the set with these items, or 0 if the list doesn't have it.
 fn searched_count(sets: &[Counted], items: &[u32]) -> u64
     ensures { IsCountIn sets.now items.now result }
 {

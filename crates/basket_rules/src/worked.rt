@@ -15,12 +15,12 @@ pub fn nine_baskets_maximal()
     ensures { maximal_of nine_baskets (Count 2) ≡ three_maximal }
 {}
 
-/// At a confidence of 7/10 there are six rules, one of them with two items on its right side.
+/// At a confidence of 7/10 there are six rules, one of them with two items in its consequent.
 pub fn nine_baskets_rules()
     ensures { rules_of nine_baskets (Count 2) (7, 10) ≡ six_rules }
 {}
 
-/// A confidence of 4/6 is 2/3, so at 2/3 there are four rules more.
+/// A confidence of 4/6 is 2/3, so at 2/3 there are four more rules.
 pub fn nine_baskets_rules_at_the_boundary()
     ensures { rules_of nine_baskets (Count 2) (2, 3) ≡ ten_rules }
 {}

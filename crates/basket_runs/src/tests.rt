@@ -73,7 +73,7 @@ fn forty_items(alloc: Global) -> Result<Vec<u8>, AllocError> {
     Ok(text)
 }
 
-/// Runs what the words ask for. Want of memory is a failure of its own, after which nothing may be
+/// Runs what the words ask for. Out of memory is a failure of its own, after which nothing may be
 /// written.
 fn run_words<R: Threads + Sync, S: Source>(
     rt: &R,

@@ -11,7 +11,7 @@ use crate::slot::Slot;
 use crate::weighted::Weighted;
 use std::alloc::{AllocError, Global};
 
-/// A table of so many slots is made for any baskets, however few items they have.
+/// A table of this many slots is made for any baskets, however few items they have.
 pub const SMALL_TABLE: usize = 65_536;
 
 /// The items of the baskets in rising order, each with its support.
@@ -28,7 +28,7 @@ pub fn count_items(alloc: Global, baskets: &[Weighted]) -> Result<Vec<(u32, u64)
     }
 }
 
-/// How many items the baskets have together, or `usize::MAX` where they have more.
+/// How many items the baskets have together, or `usize::MAX` if they have more.
 pub fn occurrences(baskets: &[Weighted]) -> usize {
     let mut occurrences = 0usize;
     for place in baskets {
@@ -105,7 +105,7 @@ pub fn add_slots(table: &mut [Slot], more: &[Slot])
     }
 }
 
-/// How many slots have something.
+/// How many slots are not empty.
 fn seen(table: &[Slot]) -> usize {
     let mut seen = 0usize;
     for slot in table {
@@ -114,7 +114,7 @@ fn seen(table: &[Slot]) -> usize {
     seen
 }
 
-/// The numbers of the slots that have something.
+/// The numbers of the slots that are not empty, each with its support.
 pub fn listed(alloc: Global, table: &[Slot]) -> Result<Vec<(u32, u64)>, AllocError>
     requires { length table.now ≤ 2 ^ 32 }
     ensures { IfOk result (λ entries. entries.items ≡ entries_of table.now) }
@@ -128,7 +128,8 @@ pub fn listed(alloc: Global, table: &[Slot]) -> Result<Vec<(u32, u64)>, AllocErr
     Ok(entries)
 }
 
-/// Counts beside the rising list of the items, where a table would have far more slots than items.
+/// Counts beside the rising list of the items, for baskets for which a table would have far more
+/// slots than items.
 fn count_by_search(alloc: Global, baskets: &[Weighted]) -> Result<Vec<(u32, u64)>, AllocError>
     requires { total_of baskets.now ≤ MOST_WEIGHT }
     ensures { IfOk result (λ counts. counts.items ≡ item_supports baskets.now) }

@@ -8,7 +8,7 @@ use crate::weighted::Weighted;
 use std::alloc::{AllocError, AllocFailed, Global};
 use std::marker::Model;
 
-/// A list of nonempty baskets, each with its weight. Equal baskets may stand at several places.
+/// A list of nonempty baskets, each with its weight. Equal baskets may be at several places.
 #[derive(Debug, Drop)]
 pub struct Database {
     baskets: Vec<Weighted>,
@@ -45,7 +45,7 @@ impl Database {
         }
     }
 
-    /// Adds a basket at the end. Where there is no memory the basket comes back.
+    /// Adds a basket at the end. If memory runs out the basket comes back.
     pub fn push(&mut self, basket: Itemset, weight: u64) -> Result<(), Itemset>
         requires nonempty { basket ≢ [] }
         requires weighs { 1 ≤ weight }
@@ -69,7 +69,7 @@ impl Database {
         }
     }
 
-    /// Adds the baskets of another database behind these. Where there is no memory, nothing is added.
+    /// Appends the baskets of another database. If memory runs out, nothing is added.
     pub fn append(&mut self, other: Database) -> Result<(), AllocError>
         requires few { length self.old + length other ≤ MOST_BASKETS }
         requires light { total_of self.old + total_of other ≤ MOST_WEIGHT }

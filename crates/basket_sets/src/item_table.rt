@@ -18,9 +18,9 @@ use std::marker::Model;
 #[derive(Debug, Drop)]
 pub struct ItemTable {
     slots: Vec<Slot>,
-    /// What the baskets weigh together.
+    /// The weight of these baskets together.
     total: u64,
-    /// How many items they have together, or `usize::MAX` where they have more.
+    /// How many items they have together, or `usize::MAX` if they have more.
     occurrences: usize,
 }
 
@@ -46,15 +46,15 @@ impl ItemTable {
         }
     }
 
-    /// What the baskets weigh together.
+    /// The weight of the baskets together.
     pub fn total(&self) -> u64
         ensures { result ≡ self.now.total }
     {
         self.total
     }
 
-    /// Counts more baskets, unless their greatest item is far above the number of occurrences, so that
-    /// the table would be too large for them. The answer is whether they were counted.
+    /// Counts more baskets, unless their greatest item is far above the number of occurrences, so
+    /// that the table would be too large for them. Returns whether they were counted.
     pub fn add(&mut self, baskets: &[Weighted]) -> Result<bool, AllocError>
         requires { self.old.total + total_of baskets.now ≤ MOST_WEIGHT }
         ensures counted { IfOk result (λ counted. IsTrue counted → (before : List Place) → HasCounted self.old before → HasCounted self.new (before ++ baskets.now)) }
@@ -82,7 +82,7 @@ impl ItemTable {
         Ok(())
     }
 
-    /// Makes the table have so many slots.
+    /// Makes the table have at least this many slots.
     fn reach(&mut self, slots: usize) -> Result<(), AllocError>
         requires { slots ≤ 2 ^ 32 }
         ensures reaches { OnOk result (slots ≤ length self.new.slots) }
@@ -95,7 +95,7 @@ impl ItemTable {
         Ok(())
     }
 
-    /// Counts more baskets, with which there are so many occurrences.
+    /// Counts more baskets, with which there are this many occurrences.
     fn count(&mut self, baskets: &[Weighted], occurrences: usize)
         requires within { AllBelow (length self.old.slots) (all_items baskets.now) }
         requires light { self.old.total + total_of baskets.now ≤ MOST_WEIGHT }
@@ -115,7 +115,7 @@ impl ItemTable {
     }
 }
 
-/// What baskets weigh together.
+/// The weight of baskets together.
 fn weight_of(baskets: &[Weighted]) -> u64
     requires { total_of baskets.now ≤ MOST_WEIGHT }
     ensures { result ≡ total_of baskets.now }

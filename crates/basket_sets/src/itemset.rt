@@ -42,7 +42,7 @@ fn put_rising(items: &mut SmallVec<u32, { INLINE_ITEMS }>)
     items.dedup();
 }
 
-/// Puts the name of each number in its place.
+/// Replaces each number by its name.
 fn rename(numbers: &mut [u32], names: &[u32])
     requires { AllBelow (length names.now) numbers.old }
     ensures { numbers.new ≡ map (λ number. slice_index_or names.now number 0) numbers.old }
@@ -80,8 +80,7 @@ impl Itemset {
         Ok(Itemset { items })
     }
 
-    /// Puts the set of the names of its items in the place of this one. An item without a name is left
-    /// out.
+    /// Replaces the set by that of the names of its items. An item without a name is left out.
     pub fn put_names<N: Names>(&mut self, names: &N)
         ensures { self.new ≡ rising (filter_map (N.name_of names.now) self.old) }
     {
@@ -90,8 +89,8 @@ impl Itemset {
         put_rising(&mut self.items);
     }
 
-    /// The set of the names of the items, where the name of an item stands at its place in the
-    /// list. It takes the room of the items.
+    /// The set of the names of the items. The list has the name of an item at the place of that
+    /// item. It takes the room of the items.
     pub fn renamed(self, names: &[u32]) -> Self
         requires { AllBelow (length names.now) self }
         ensures { result ≡ rising (map (λ item. slice_index_or names.now item 0) self) }
@@ -102,7 +101,7 @@ impl Itemset {
         Itemset { items }
     }
 
-    /// The set with one item more, or the same where the item is there.
+    /// The set with one item more, or the same if the item is in it.
     pub fn with(&self, alloc: Global, item: u32) -> Result<Self, AllocError>
         ensures ok { IfOk result (λ more. more ≡ with_item item self.now) }
         ensures short { length self.now < INLINE_ITEMS → IsOk result }

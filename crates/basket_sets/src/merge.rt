@@ -28,7 +28,7 @@ impl Place<'_> {
     }
 }
 
-/// A number that depends on the items alone, and tells most sets apart.
+/// A number that depends on the items alone, and distinguishes most sets.
 fn digest(basket: &Itemset) -> u64
     ensures { result ≡ digest_of basket.now }
 {

@@ -10,14 +10,14 @@ const MAX_COUNT: u64 = 1_099_511_627_775;
 /// The least support that is asked for (Agrawal and Srikant 1994).
 #[derive(Clone, Copy, Debug, PartialEq, Eq, Hash)]
 pub enum Minimum {
-    /// At least so much weight.
+    /// At least this weight.
     Count(u64),
     /// At least this share of the total weight.
     Share(Share),
 }
 
 impl Minimum {
-    /// Whether a set of this support is frequent where all baskets together weigh `total`.
+    /// Whether a set of this support is frequent if all baskets together weigh `total`.
     pub fn met(&self, support: u64, total: u64) -> bool
         ensures { result ≡ meets self.now support total }
     {
@@ -31,8 +31,8 @@ impl Minimum {
             }
     }
 
-    /// The least support that meets the minimum where all baskets together weigh `total`, so that
-    /// a loop needs one comparison. Where no support does, it is above the total.
+    /// The least support that meets the minimum if all baskets together weigh `total`, so that a
+    /// loop needs one comparison. If no support does, it is above the total.
     pub fn least(&self, total: u64) -> u64
         requires { total < u64.MAX }
         ensures { IsLeastSupport self.now total result }

@@ -10,9 +10,9 @@ pub trait Names {
         ensures { result ≡ name_of self.now number };
 }
 
-/// Puts the names of the numbers that have one at the front, in their order, and answers how many they
-/// are. A name is written for each number, and the next one over it where it has none: which have one
-/// can't be predicted, so a branch would cost more.
+/// Puts the names of the numbers that have one at the beginning, in their order, and returns how
+/// many they are. A name is written for each number, and the next one over it if it has none: which
+/// have one can't be predicted, so a branch would cost more.
 pub fn put_names<N: Names>(numbers: &mut [u32], names: &N) -> usize
     ensures names { take result numbers.new ≡ filter_map (N.name_of names.now) numbers.old }
     ensures few { result ≤ length numbers.old }

@@ -3,7 +3,7 @@ ghost use Rattle.std.specs.Prelude.{◌≡◌, ◌≤◌, IfSome};
 ghost use Rattle.basket_sets.specs.Database.{MOST_WEIGHT};
 ghost use Rattle.basket_sets.specs.Number.{number_of};
 
-/// The number that one or more digits write, where it is at most the bound. There are no signs and no
+/// The number that one or more digits write, if it is at most the bound. There are no signs and no
 /// blanks.
 pub fn parse_number(text: &[u8], bound: u64) -> Option<u64>
     requires { bound ≤ MOST_WEIGHT }

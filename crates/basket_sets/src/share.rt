@@ -6,7 +6,7 @@ ghost use Rattle.basket_sets.specs.Number.{number_of};
 use crate::number::parse_number;
 use std::marker::Model;
 
-/// So many of so many parts: none at least, and all at most.
+/// A fraction of a whole, from 0 to 1: a numerator and a denominator.
 #[derive(Clone, Copy, Debug, PartialEq, Eq, Hash)]
 pub struct Share {
     numerator: u32,

@@ -4,8 +4,8 @@ ghost use Rattle.basket_sets.specs.Slot.{slot_with};
 
 use std::marker::Model;
 
-/// The support of an item so far, or nothing where it was not seen. One number tells both, so that a
-/// table of slots is half as large as one of `Option<u64>`.
+/// The support of an item so far, or nothing if it was not seen. It is one number, so that a table
+/// of slots is half as large as one of `Option<u64>`.
 #[derive(Clone, Copy, Debug)]
 pub struct Slot {
     /// One more than the support, or 0.
@@ -41,7 +41,7 @@ impl Slot {
         self.above += weight + u64::from(self.above == 0);
     }
 
-    /// The support, where the item was seen.
+    /// The support, if the item was seen.
     pub fn support(self) -> Option<u64>
         ensures { result ≡ self }
     {

@@ -9,13 +9,13 @@ pub fn nine_baskets_at_two()
     ensures { frequent_of nine_baskets (Count 2) ≡ thirteen_sets }
 {}
 
-/// A share of 22 per cent of nine asks for 2, since 1 is less than it.
+/// 22 per cent of nine requires 2, since 1 is less than it.
 pub fn nine_baskets_at_22_percent()
     ensures percent { frequent_of nine_baskets (Share (22, 100)) ≡ thirteen_sets }
     ensures boundary { frequent_of nine_baskets (Share (2, 9)) ≡ thirteen_sets }
 {}
 
-/// A share of 23 per cent of nine asks for 3.
+/// 23 per cent of nine requires 3.
 pub fn nine_baskets_at_23_percent()
     ensures { frequent_of nine_baskets (Share (23, 100)) ≡ six_sets }
 {}

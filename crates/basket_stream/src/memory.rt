@@ -50,7 +50,7 @@ pub struct MemSource<'a> {
 }
 
 impl<'a> MemSource<'a> {
-    /// A source that gives at most `greatest_piece` bytes a read, and fails after so many reads,
+    /// A source that gives at most `greatest_piece` bytes a read, and fails after this many reads,
     /// or never.
     pub fn new(bytes: &'a [u8], greatest_piece: usize, reads_before_failure: Option<u64>) -> Self
         requires { 0 < greatest_piece }
@@ -104,7 +104,7 @@ pub struct MemSink {
 }
 
 impl MemSink {
-    /// A sink that takes all bytes, and fails only for want of memory.
+    /// A sink that takes all bytes, and fails only if memory runs out.
     pub fn unbounded(alloc: Global) -> Self
         ensures fresh { ⟦<MemSink as Sink>⟧.has_failed result ≡ false }
         ensures taken { ⟦<MemSink as Sink>⟧.taken result ≡ Some [] }

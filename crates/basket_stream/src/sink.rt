@@ -8,7 +8,7 @@ use std::io::Write;
 
 /// A writer of bytes, whose first failure is its last call.
 pub trait Sink {
-    // The bytes that were taken, or nothing where the sink does not tell them.
+    // The bytes that were taken, or nothing if the sink does not report them.
     ghost taken: { Self → Option (List ℕ) };
 
     ghost has_failed: { Self → Bool };
@@ -16,7 +16,7 @@ pub trait Sink {
     // Whether the last call was a flush.
     ghost ends_in_flush: { Self → Bool };
 
-    /// Takes the front of the bytes, and answers how many. To take none of a nonempty piece is a
+    /// Takes a prefix of the bytes, and returns how many. To take none of a nonempty piece is a
     /// failure.
     fn write(&mut self, bytes: &[u8]) -> Result<usize, Failed>
         requires { has_failed self.old ≡ false }

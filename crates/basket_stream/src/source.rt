@@ -8,12 +8,12 @@ use std::io::Read;
 
 /// A reader of bytes, whose first failure is its last call.
 pub trait Source {
-    // The bytes that are left, or nothing where the source does not tell them.
+    // The bytes that are left, or nothing if the source does not report them.
     ghost left: { Self → Option (List ℕ) };
 
     ghost has_failed: { Self → Bool };
 
-    /// Fills the front of the buffer, and answers how much of it: 0 only at the end or where the
+    /// Fills the buffer from its beginning, and returns how much of it: 0 only at the end or if the
     /// buffer is empty.
     fn read(&mut self, buf: &mut [u8]) -> Result<usize, Failed>
         requires { has_failed self.old ≡ false }

@@ -1,5 +1,4 @@
-//! The last two items of sets, in a table that tells quickly of most others that no set ends in
-//! them.
+//! The last two items of sets, in a table that quickly excludes most other endings.
 ghost use Rattle.std.specs.Prelude.{◌≡◌, ◌≤◌, ◌+◌, ◌*◌, ◌%◌, ◌++◌, ◌∷◌, [], IfOk, length};
 ghost use Rattle.mine_apriori.specs.Endings.{AreEndings, ending_of};
 ghost use Rattle.basket_sets.specs.Itemset.{without};
@@ -25,7 +24,7 @@ fn ending_of(items: &[u32]) -> u32
     number_of(items[items.len().saturating_sub(2)], items[items.len() - 1])
 }
 
-/// The same for a set without its first item and with one more behind it.
+/// The number for the last two items of a set without its first item and with one more at its end.
 #[inline]
 pub fn ending_with(set: &[u32], item: u32) -> u32
     requires { 1 ≤ length set.now }

@@ -75,7 +75,7 @@ impl<'a> Model for FirstLevel<'a> {
 }
 
 impl<'a> FirstLevel<'a> {
-    /// The frequent items, where they are no more than the limit.
+    /// The frequent items, if they are no more than the limit.
     pub fn of(alloc: Global, coded: &'a Coded, limit: u32) -> Result<Self, MineFault>
         ensures ok { IfOk result (λ first. first ≡ record { coding = coded.now; limit = limit; size = 1 }) }
         ensures too_many { (most : ℕ) → result ≡ Err (TooMany most) → (most ≡ limit) × AreTooMany coded.now limit }
@@ -91,8 +91,8 @@ impl<'a> FirstLevel<'a> {
         })
     }
 
-    /// The search that has found the frequent items and pairs. The pairs are for each rank the ranks
-    /// below it that are frequent together with it, each with the support of the pair.
+    /// The search that has found the frequent items and pairs. For each rank the pairs are the
+    /// ranks below it that are frequent together with it, each with the support of the pair.
     pub fn with_pairs(
         self,
         alloc: Global,

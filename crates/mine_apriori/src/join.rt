@@ -46,9 +46,9 @@ pub fn candidates(alloc: Global, sets: &[Itemset]) -> Result<Vec<Itemset>, Alloc
 }
 
 /// Adds the candidates that are joins of the set at the place with a later one. The sets that it
-/// can be joined to have the same items before the last, so they stand right behind it. The hints
-/// for `has_all_subsets` stay from set to set, since the sets that are looked up mostly rise. Most
-/// joins lack the subset without the first item, which the endings tell without a search.
+/// can be joined to have the same items before the last, so they come right after it. The hints for
+/// `has_all_subsets` stay from set to set, since the sets that are looked up mostly rise. Most
+/// joins lack the subset without the first item, which the endings show without a search.
 fn join_later(
     alloc: Global,
     level: Level<'_>,
@@ -84,7 +84,7 @@ fn join_later(
     Ok(())
 }
 
-/// Makes `joined` the items of a set with one more behind them. Its room is used again.
+/// Makes `joined` the items of a set with one more at its end. Its room is used again.
 fn fill(joined: &mut Vec<u32>, set: &[u32], item: u32) -> Result<(), AllocError>
     ensures { OnOk result (joined.new.items ≡ set.now ++ item ∷ []) }
 {

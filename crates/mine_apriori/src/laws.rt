@@ -1,4 +1,4 @@
-//! Laws on the definitions, for whoever proves a miner. Each is a function that does nothing: its
+//! Laws on the definitions, for proofs of miners. Each is a function that does nothing: its
 //! contract is the law.
 ghost use Rattle.mine_apriori.specs.Candidates.{CandidatesAreExact, CandidatesAreInReportOrder, CandidatesAreOneLarger};
 ghost use Rattle.mine_apriori.specs.Work.{CandidatesBySets};

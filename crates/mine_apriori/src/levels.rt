@@ -18,8 +18,8 @@ use std::alloc::Global;
 use std::marker::Model;
 
 /// A search for the frequent sets, level by level (Agrawal and Srikant 1994): a level is those of
-/// one size. All frequent sets up to some size are found, and the supports of the candidates of one
-/// more item are asked.
+/// one size. All frequent sets up to some size are found, and it asks for the supports of the
+/// candidates of one more item.
 #[derive(Debug, Drop)]
 pub struct Levels<'a> {
     coded: &'a Coded,
@@ -59,7 +59,7 @@ impl<'a> Levels<'a> {
         known.ask(alloc, limit, 0)
     }
 
-    /// The search at its end, where nothing is asked any more.
+    /// The search at its end, which asks for nothing more.
     pub fn searched(alloc: Global, coded: &'a Coded, limit: u32) -> Result<Self, MineFault>
         ensures search { IfOk result (λ levels. (levels.coding ≡ coded.now) × (levels.limit ≡ limit)) }
         ensures done { IfOk result (λ levels. asked_of levels.coding levels.size ≡ []) }
@@ -74,7 +74,7 @@ impl<'a> Levels<'a> {
         Ok(levels)
     }
 
-    /// The candidates whose supports are asked, as ranks. Where there are none, all frequent sets
+    /// The candidates whose supports are asked for, as ranks. If there are none, all frequent sets
     /// are found.
     pub fn asked(&self) -> &[Itemset]
         ensures asked { result.now ≡ asked_of self.now.coding self.now.size }
@@ -85,7 +85,7 @@ impl<'a> Levels<'a> {
         &self.asked
     }
 
-    /// How many sets were asked so far, those that are asked now among them.
+    /// How many sets were asked for so far, including those that are asked for now.
     pub fn counted(&self) -> u64
         ensures so_far { result ≡ length (candidates_up_to self.now.coding.baskets self.now.coding.minimum (self.now.size + 1)) }
         ensures all { asked_of self.now.coding self.now.size ≡ [] → result ≡ candidate_count (baskets_of self.now.coding) self.now.coding.minimum }
@@ -93,7 +93,7 @@ impl<'a> Levels<'a> {
         self.counted
     }
 
-    /// The search that goes on with the supports of what is asked, in order.
+    /// The search that goes on with the supports of what is asked for, in order.
     pub fn answer(self, alloc: Global, counts: &[u64]) -> Result<Self, MineFault>
         requires counts { counts.now ≡ wanted self }
         ensures next { asked_of self.entry.coding self.entry.size ≢ [] → IfOk result (λ levels. levels ≡ record { coding = self.entry.coding; limit = self.entry.limit; size = self.entry.size + 1 }) }
@@ -143,7 +143,7 @@ pub(crate) struct Known<'a> {
     pub coded: &'a Coded,
     pub size: usize,
     pub found: RankSets,
-    /// How many sets of at most the size were asked.
+    /// How many sets of at most the size were asked for.
     pub counted: u64,
 }
 
@@ -180,7 +180,7 @@ impl<'a> Known<'a> {
     }
 }
 
-/// The list of the frequent sets, where it is no longer than the limit, and the number of candidates
+/// The list of the frequent sets, if it is no longer than the limit, and the number of candidates
 /// (Agrawal and Srikant 1994). No list of all pairs is made.
 pub fn apriori(alloc: Global, coded: &Coded, limit: u32) -> Result<(Frequent, u64), MineFault>
     ensures ok { IfOk result (λ mined. mined.0 ≡ listing_of coded.now) }

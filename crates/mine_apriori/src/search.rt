@@ -1,5 +1,5 @@
-//! A search for a set in a sorted list, quick where it stands close behind a given place: an
-//! exponential search (Bentley and Yao 1976).
+//! A search for a set in a sorted list, fast if it is close after a given place: an exponential
+//! search (Bentley and Yao 1976).
 //!
 //! The set comes in two parts, the items of `front` and then those of `rest`, so that a set without
 //! one of its items need not be copied.
@@ -13,7 +13,7 @@ ghost use Rattle.mine_apriori.specs.Search.{IsBetween};
 use basket_core::{Itemset, compare_parts};
 use std::cmp::Ordering;
 
-/// Where the set stands, or else a place to begin the search for a greater one. From the place
+/// The place of the set, or else a place to begin the search for a greater one. From the place
 /// `near` on the steps double while they meet smaller sets; whatever `near` is, the set is found.
 pub fn find_near(sets: &[Itemset], front: &[u32], rest: &[u32], near: usize) -> Result<usize, usize>
     requires sorted { IsStrictlySortedBy (slice_cmp nat_cmp) sets.now }
@@ -35,8 +35,8 @@ pub fn find_near(sets: &[Itemset], front: &[u32], rest: &[u32], near: usize) -> 
     find_between(sets, front, rest, start, sets.len())
 }
 
-/// Searches the sets from `start` up to `end`, where those before are smaller and those behind
-/// greater. The last is tried first: a set that is missing often belongs behind it.
+/// Searches the sets from `start` up to `end`; those before are smaller and those after greater.
+/// The last is tried first: a set that is missing often belongs after it.
 fn find_between(
     sets: &[Itemset],
     front: &[u32],

@@ -20,7 +20,7 @@ pub fn used_items(alloc: Global, sets: &[Itemset]) -> Result<Vec<bool>, AllocErr
     Ok(table)
 }
 
-/// How many items a table need know for some items: those up to the greatest, as far as tables go.
+/// How many items a table must know for some items: those up to the greatest, as far as tables go.
 pub fn known_for(items: &[u32]) -> usize {
     let mut known = 0usize;
     for item in items {
@@ -29,7 +29,7 @@ pub fn known_for(items: &[u32]) -> usize {
     known.min(KNOWN_ITEMS)
 }
 
-/// A table with no item marked, which knows so many.
+/// A table with no item marked, which knows this many.
 pub fn no_items(alloc: Global, known: usize) -> Result<Vec<bool>, AllocError>
     ensures { IfOk result (λ table. IsClear table.items) }
 {
@@ -67,8 +67,8 @@ pub fn may_be_used(table: &[bool], item: u32) -> bool
     item as usize >= table.len() || table[item as usize]
 }
 
-/// Puts those of the items that may be in a set at the front of a list, and answers how many they
-/// are. Each item is written, and the next one over it where it is not kept: which are kept can't
+/// Puts those of the items that may be in a set at the beginning of a list, and returns how many
+/// they are. Each item is written, and the next one over it if it is not kept: which are kept can't
 /// be predicted, so a branch would cost more.
 pub fn keep_used(table: &[bool], items: &[u32], kept: &mut [u32]) -> usize
     requires room { length items.now ≤ length kept.old }

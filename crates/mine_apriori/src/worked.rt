@@ -16,7 +16,7 @@ pub fn no_set_makes_no_candidate()
     ensures { candidates_of [] ≡ [] }
 {}
 
-/// Of single items each pair is a candidate.
+/// Every pair of single items is a candidate.
 pub fn items_make_all_pairs()
     ensures { candidates_of ((1 ∷ []) ∷ (2 ∷ []) ∷ (3 ∷ []) ∷ []) ≡ (1 ∷ 2 ∷ []) ∷ (1 ∷ 3 ∷ []) ∷ (2 ∷ 3 ∷ []) ∷ [] }
 {}

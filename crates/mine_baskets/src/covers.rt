@@ -11,7 +11,7 @@ use crate::span::Span;
 use crate::words::{WORD_RANKS, Word};
 use std::alloc::{AllocError, Global};
 
-/// How often each rank below a number stands in a list: how much room its cover needs.
+/// How often each rank below a number occurs in a list: how much room its cover needs.
 fn rank_counts(alloc: Global, count: usize, ranks: &[u32]) -> Result<Vec<usize>, AllocError>
     ensures { IfOk result (λ counts. length counts.items ≡ count) }
 {
@@ -24,7 +24,7 @@ fn rank_counts(alloc: Global, count: usize, ranks: &[u32]) -> Result<Vec<usize>,
     Ok(counts)
 }
 
-/// The same where they stand in words.
+/// How often each rank below a number occurs in words.
 fn word_counts(alloc: Global, count: u32, words: &[Word]) -> Result<Vec<usize>, AllocError>
     requires { count ≤ WORD_RANKS }
     ensures { IfOk result (λ counts. length counts.items ≡ count) }
@@ -40,7 +40,7 @@ fn word_counts(alloc: Global, count: u32, words: &[Word]) -> Result<Vec<usize>, 
     Ok(counts)
 }
 
-/// An empty cover for each number, with room for so many places.
+/// An empty cover for each number, with room for this many places.
 fn no_covers(alloc: Global, counts: &[usize]) -> Result<Vec<Vec<u32>>, AllocError>
     ensures { IfOk result (λ covers. covers_in covers.items ≡ replicate (length counts.now) []) }
 {
@@ -64,7 +64,7 @@ fn add_place(covers: &mut [Vec<u32>], place: u32, basket: &[u32]) -> Result<(), 
     Ok(())
 }
 
-/// The same of a basket that is the bits of a word.
+/// Adds a place to the covers of the ranks of a basket that is the bits of a word.
 fn add_word_place(covers: &mut [Vec<u32>], place: u32, bits: u64) -> Result<(), AllocError>
     requires { length covers.old ≤ WORD_RANKS }
     ensures { OnOk result (HasPlace place (ranks_in (length covers.old) bits) (covers_in covers.old) (covers_in covers.new)) }
@@ -82,8 +82,8 @@ fn add_word_place(covers: &mut [Vec<u32>], place: u32, bits: u64) -> Result<(), 
     Ok(())
 }
 
-/// The cover of each rank below a number, in one pass over baskets that are parts of a list. More than
-/// 4,294,967,295 baskets count as a refused growth.
+/// The cover of each rank below a number, in one pass over baskets that are parts of a list. More
+/// than 4,294,967,295 baskets count as out of memory.
 pub fn covers_of_lists(
     alloc: Global,
     count: u32,
@@ -105,7 +105,7 @@ pub fn covers_of_lists(
     Ok(covers)
 }
 
-/// The same of baskets that are words.
+/// The cover of each rank below a number, in one pass over baskets that are words.
 pub fn covers_of_words(
     alloc: Global,
     count: u32,

@@ -1,9 +1,10 @@
 //! Baskets of ranks, as lists and as words.
 //!
-//! `list_baskets` puts coded baskets in an order in which those that begin alike are neighbours, and merges
-//! equal ones; `entries` has the keys by which they are sorted, and `span` is a part of the list in which
-//! all their ranks stand. Where there are at most 64 ranks, `words` has the baskets as bits, which are sorted
-//! and merged faster than lists, and `word_baskets` keeps them. `covers` finds the cover of each rank in both.
+//! `list_baskets` sorts coded baskets so that those with a common prefix are neighbours, and merges
+//! equal ones; `entries` has the keys by which they are sorted, and `span` is a part of the list
+//! that has all their ranks. If there are at most 64 ranks, `words` has the baskets as bits, which
+//! are sorted and merged faster than lists, and `word_baskets` keeps them. `covers` finds the cover
+//! of each rank in both.
 #![tactic(auto)]
 
 mod covers;

@@ -6,10 +6,10 @@ ghost use Rattle.mine_baskets.specs.Span.{IsWithin, span_front};
 
 use std::alloc::AllocError;
 
-/// Of how many baskets the ends are read ahead.
+/// The ends of this many baskets are read ahead.
 pub const BASKETS_AHEAD: usize = 16;
 
-/// A part of a list of ranks, from `start` up to `end`, and the weight of a basket that it is.
+/// A part of a list of ranks, from `start` up to `end`, which is a basket, and its weight.
 #[derive(Clone, Copy, Debug, PartialEq, Eq)]
 pub struct Span {
     pub start: u32,
@@ -18,7 +18,7 @@ pub struct Span {
 }
 
 impl Span {
-    /// The ranks that stand there.
+    /// The ranks of this part.
     pub fn of<'a>(&self, ranks: &'a [u32]) -> &'a [u32]
         requires { IsWithin (length ranks.now) self.now }
         ensures { result.now ≡ slice_range ranks.now self.now.start self.now.end }
@@ -26,7 +26,7 @@ impl Span {
         &ranks[self.start as usize..self.end as usize]
     }
 
-    /// So many of its first ranks.
+    /// The first ranks of this part, this many of them.
     pub fn first(&self, depth: u32) -> Span
         requires { self.now.start + depth ≤ self.now.end }
         ensures { result ≡ span_front self.now depth }
@@ -55,7 +55,7 @@ impl Span {
     }
 }
 
-/// A place in a list of ranks. More than 4,294,967,295 ranks count as a refused growth.
+/// A place in a list of ranks. More than 4,294,967,295 ranks count as out of memory.
 pub fn place(len: usize) -> Result<u32, AllocError>
     ensures { IfOk result (λ place. place ≡ len) }
 {
@@ -75,7 +75,7 @@ pub fn read_ahead(ranks: &[u32], baskets: &[Span]) -> [u32; BASKETS_AHEAD] {
     end_ranks
 }
 
-/// The rank at a place, or 0 where there is none.
+/// The rank at a place, or 0 if there is none.
 fn rank_at(ranks: &[u32], place: u32) -> u32 {
     ranks.get(place as usize).copied().unwrap_or(0)
 }

@@ -15,7 +15,8 @@ use basket_sets::Weighted;
 use std::alloc::{AllocError, Global};
 use std::marker::Model;
 
-/// Baskets of up to 64 ranks, each as the bits of a word. The words stand in order, equal ones merged.
+/// Baskets of up to 64 ranks, each as the bits of a word. The words are in order, equal ones
+/// merged.
 #[derive(Debug, Drop)]
 pub struct WordBaskets {
     count: u32,
@@ -34,7 +35,7 @@ impl Model for WordBaskets {
 }
 
 impl WordBaskets {
-    /// The baskets of the words, of so many ranks.
+    /// The baskets of the words, of this many ranks.
     pub fn of(alloc: Global, count: u32, mut words: Vec<Word>) -> Result<Self, AllocError>
         requires few { count ≤ WORD_RANKS }
         requires some { All (λ (word : Bits). 1 ≤ word.weight) words.items }
@@ -51,7 +52,7 @@ impl WordBaskets {
         })
     }
 
-    /// The same of words that stay as they are.
+    /// The baskets of words that are in order already and stay as they are.
     pub fn of_ordered(count: u32, words: Vec<Word>) -> Self
         requires few { count ≤ WORD_RANKS }
         requires some { All (λ (word : Bits). 1 ≤ word.weight) words.items }
@@ -114,7 +115,7 @@ impl WordBaskets {
     }
 }
 
-/// Baskets of so many ranks as words, equal neighbours merged.
+/// Baskets of this many ranks as words, equal neighbours merged.
 fn words_of_ranks(alloc: Global, count: u32, baskets: &[Weighted]) -> Result<Vec<Word>, AllocError>
     requires few { count ≤ WORD_RANKS }
     requires ranked { AreRankBaskets (record { ranks = count; baskets = baskets.now }) }

@@ -11,8 +11,8 @@ use std::alloc::{AllocError, Global};
 /// How many ranks a word has bits for.
 pub const WORD_RANKS: usize = 64;
 
-/// A basket of up to 64 ranks: the bits of its ranks, of which rank 0 has the highest, so that
-/// baskets that begin alike stand together where words are in order.
+/// A basket of up to 64 ranks: the bits of its ranks, rank 0 the highest, so that in the order of
+/// the words baskets with a common prefix are neighbours.
 #[derive(Clone, Copy, Debug, PartialEq, Eq, PartialOrd, Ord)]
 pub struct Word {
     pub bits: u64,
@@ -83,7 +83,7 @@ fn repeats(words: &[Word], bits: u64) -> bool
     }
 }
 
-/// Adds a word at the end, or its weight to the last one where that is equal.
+/// Adds a word at the end, or its weight to the last one if that is equal.
 pub fn add(words: &mut Vec<Word>, word: Word) -> Result<(), AllocError>
     requires some { All (λ (other : Bits). 1 ≤ other.weight) words.old.items × (1 ≤ word.weight) }
     requires light { sum_by (λ (other : Bits). other.weight) words.old.items + word.weight ≤ MOST_WEIGHT }

@@ -27,7 +27,7 @@ pub fn set_bits(of: &mut [u64], kept: &[u32])
     }
 }
 
-/// Takes the bits away.
+/// Clears the bits of the list.
 pub fn clear_bits(of: &mut [u64], kept: &[u32])
     requires bits { AreBits kept.now of.old }
     requires below { AllBelow (length of.old) kept.now }

@@ -12,8 +12,8 @@ use mine_baskets::{ListBaskets, WordBaskets};
 use std::alloc::{AllocError, Global};
 
 /// The baskets that have a rank, kept to the ranks below it that are frequent together with it, by
-/// a least support (Han, Pei and Yin 2000): words where at most 64 are kept, else lists. The ranks that
-/// are kept are numbered anew, from 0 on, so that the baskets are baskets of ranks again.
+/// a least support (Han, Pei and Yin 2000): words if at most 64 are kept, else lists. The ranks
+/// that are kept are numbered anew, from 0 on, so that the baskets are baskets of ranks again.
 #[derive(Debug, Drop)]
 pub enum Conditional {
     Lists(ListBaskets),
@@ -21,7 +21,7 @@ pub enum Conditional {
 }
 
 impl Conditional {
-    /// The same baskets in order, equal ones merged. Words are.
+    /// The same baskets in order, equal ones merged. Words are in order already.
     pub fn sorted(self, alloc: Global) -> Result<Conditional, AllocError>
         requires { AreRankBaskets (conditional_baskets self) }
         ensures ranks { IfOk result (λ sorted. (conditional_baskets sorted).ranks ≡ (conditional_baskets self).ranks) }

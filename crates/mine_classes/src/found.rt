@@ -9,11 +9,11 @@ use crate::room::make_room;
 use std::alloc::{AllocError, Global};
 use std::marker::Model;
 
-/// A list of ranks. Behind them is room that stays when it is cleared, so that a rank is put down with
-/// no test of the room.
+/// A list of ranks, with room after them that stays when it is cleared, so that a rank is written
+/// with no test of the room.
 #[derive(Debug, Drop)]
 pub struct Found {
-    /// The ranks, and in the room behind them whatever was put down there.
+    /// The ranks, and whatever was written into the room after them.
     ranks: Vec<u32>,
     count: usize,
 }
@@ -76,9 +76,9 @@ impl Found {
     }
 }
 
-/// Adds a weight to the sum of each rank of a basket, and puts the ranks whose sums were 0 behind the first
-/// ones of a list. Answers how many these are then. Each rank is put down, and the next one over it where
-/// its sum was not 0: which were can't be predicted, so a branch would cost more.
+/// Adds a weight to the sum of each rank of a basket, and puts the ranks whose sums were 0 after
+/// the first ones of a list. Returns how many these are then. Each rank is written, and the next
+/// one over it if its sum was not 0: which were can't be predicted, so a branch would cost more.
 fn add_and_list(
     sums: &mut [u64],
     ranks: &mut [u32],

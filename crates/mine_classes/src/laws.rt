@@ -1,4 +1,4 @@
-//! Laws on the definitions, for whoever proves a miner. Each is a function that does nothing: its
+//! Laws on the definitions, for proofs of miners. Each is a function that does nothing: its
 //! contract is the law.
 ghost use Rattle.mine_classes.specs.Conditional.{ConditionalSupports};
 ghost use Rattle.mine_classes.specs.Classes.{ClassesAreListed, ClassesAreConditional, RareRanksHaveNoClass, ClassesAreAll, SupportsSettleFrequent, LeastSupportSettles, ClassesByCodings, DecodedClassesAreAll};
@@ -41,7 +41,7 @@ pub fn supports_settle_frequent()
     ensures { SupportsSettleFrequent }
 {}
 
-/// A least support asks for what its minimum does.
+/// A least support requires what its minimum does.
 pub fn least_support_settles()
     ensures { LeastSupportSettles }
 {}
@@ -86,7 +86,7 @@ pub fn deep_classes_are_large()
     ensures { DeepClassesAreLarge }
 {}
 
-/// Each rank of a coded database is that of a frequent item, also where equal baskets of ranks were
+/// Each rank of a coded database is that of a frequent item, also if equal baskets of ranks were
 /// merged.
 pub fn coded_ranks_are_frequent()
     ensures { CodedRanksAreFrequent }

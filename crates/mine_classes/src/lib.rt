@@ -1,13 +1,14 @@
-//! Pairs, classes and conditional databases, the ground of all miners.
+//! Pairs, classes and conditional databases, the basis of all miners.
 //!
-//! `pairs` finds the frequent pairs of ranks for every miner: by a count for each pair, in `triangle`, where
-//! these are few, else rank by rank, by `sums`.
+//! `pairs` finds the frequent pairs of ranks for every miner: by a count for each pair, in
+//! `triangle`, if these are few, else rank by rank, by `sums`.
 //!
 //! The class of a rank is the frequent sets whose greatest rank it is, and its conditional database
-//! is what a miner needs to find them. `paths` has coded baskets in the form from which classes are mined:
-//! by `runs`, the places where each rank stands, or as words where there are few ranks (`word_paths`).
-//! `conditional` keeps the baskets that have a rank to the ranks that are frequent together with it, which
-//! `places`, `bit_table` and `shift` number anew. `tables` are used again from rank to rank.
+//! is what a miner needs to find them. `paths` has coded baskets in the form from which classes are
+//! mined: by `runs`, the places of each rank, or as words if there are few ranks (`word_paths`).
+//! `conditional` keeps the baskets that have a rank to the ranks that are frequent together with
+//! it, which `places`, `bit_table` and `shift` number anew. `tables` are used again from rank to
+//! rank.
 #![tactic(auto)]
 
 mod bit_table;

@@ -10,7 +10,7 @@ use basket_ranks::Coded;
 use mine_baskets::ListBaskets;
 use std::alloc::{AllocError, Global};
 
-/// Where of so many baskets no more than one stays once equal ones are merged, most are equal to others.
+/// If merging equal baskets leaves no more than one of this many, most are equal to others.
 const SHARED: usize = 4;
 
 /// For each rank the ranks below it that are frequent together with it, rising, each with the
@@ -37,7 +37,7 @@ pub fn runs_with_least(alloc: Global, coded: &Coded) -> Result<(Runs, u64), Allo
     Ok((runs, least))
 }
 
-/// The runs of the coded baskets, which keep the frequent pairs of each rank, or none where none are
+/// The runs of the coded baskets, which keep the frequent pairs of each rank, or none if none are
 /// given.
 pub fn runs_keeping(coded: &Coded, mut runs: Runs, pairs: Vec<Vec<(u32, u64)>>) -> Runs
     requires supports { (set : List ℕ) → support_of runs.baskets set ≡ support_of coded.now.baskets set }
@@ -50,9 +50,9 @@ pub fn runs_keeping(coded: &Coded, mut runs: Runs, pairs: Vec<Vec<(u32, u64)>>) 
     runs
 }
 
-/// Whether a miner that goes class by class has a count for each pair of ranks. The runs are made in any
-/// case, and sum the pairs of a rank as fast as a triangle that is larger than the caches, and faster
-/// where most baskets are equal to others.
+/// Whether a miner that mines class by class has a count for each pair of ranks. The runs are made
+/// in any case, and sum the pairs of a rank as fast as a triangle that is larger than the caches,
+/// and faster if most baskets are equal to others.
 pub fn pays_for_classes(coded: &Coded, lists: &ListBaskets) -> bool {
     let baskets = coded.baskets().len();
     lists.len() > baskets / SHARED && is_small_triangle(coded.ranks(), baskets / 2)
@@ -67,7 +67,7 @@ pub fn is_small_triangle(ranks: u32, baskets: usize) -> bool
     ranks * ranks / 2 <= (baskets as u64).saturating_mul(16)
 }
 
-/// The same from a count for each pair of ranks.
+/// The frequent pairs of each rank, from a count for each pair of ranks.
 pub fn pairs_by_triangle(alloc: Global, coded: &Coded) -> Result<Vec<Vec<(u32, u64)>>, AllocError>
     ensures { IfOk result (λ lists. ArePairs coded.now (lists_of lists.items)) }
 {
@@ -76,7 +76,7 @@ pub fn pairs_by_triangle(alloc: Global, coded: &Coded) -> Result<Vec<Vec<(u32, u
     pairs_of_supports(alloc, coded, &counts)
 }
 
-/// The same from the runs of the baskets, one rank after another.
+/// The frequent pairs of each rank, from the runs of the baskets, one rank after another.
 fn pairs_by_runs(alloc: Global, runs: &Runs, least: u64) -> Result<Vec<Vec<(u32, u64)>>, AllocError>
     ensures { IfOk result (λ lists. lists_of lists.items ≡ pairs_by_greater runs.now.baskets least runs.now.ranks) }
 {

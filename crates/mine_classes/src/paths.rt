@@ -16,8 +16,8 @@ use mine_baskets::{Span, WordBaskets};
 use std::alloc::{AllocError, Global};
 use std::marker::Model;
 
-/// Baskets from which the classes of ranks are mined: those of a conditional database as words where there
-/// are at most 64 ranks, else by the runs of each rank. Below words all is words.
+/// Baskets from which the classes of ranks are mined: those of a conditional database as words if
+/// there are at most 64 ranks, else by the runs of each rank. Below words all is words.
 #[derive(Debug, Drop)]
 pub struct Paths {
     form: Form,
@@ -158,7 +158,7 @@ fn have_whole_paths(runs: &Runs) -> bool
     true
 }
 
-/// Whether the path of each run is so long.
+/// Whether the path of each run has this length.
 fn are_whole(runs: &[Span], depth: u32) -> bool
     requires { All IsOrdered runs.now }
     ensures { result ≡ list_all (λ (run : Run). run.end - run.start == depth) runs.now }

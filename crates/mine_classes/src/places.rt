@@ -1,4 +1,4 @@
-//! Baskets of the ranks that stand in a list, by their places there.
+//! Baskets of the ranks of a list, by their places in it.
 ghost use Rattle.std.specs.Prelude.{◌≡◌, ◌≤◌, ◌+◌, ◌++◌, [], None, All, IfOk, length, map, replicate, take};
 ghost use Rattle.basket_ranks.specs.Codes.{coded_place};
 ghost use Rattle.basket_sets.specs.Counts.{AllBelow};
@@ -39,7 +39,7 @@ impl Model for Places {
 }
 
 impl Places {
-    /// The places for so many ranks.
+    /// The places for this many ranks.
     pub fn new(alloc: Global, count: u32) -> Result<Self, AllocError>
         ensures { IfOk result (λ places. places ≡ count) }
     {
@@ -75,8 +75,8 @@ impl Places {
         Ok(Conditional::Lists(lists))
     }
 
-    /// The same of many ranks, where each basket is a list. They stay in the order in which they come:
-    /// to sort them takes longer than neighbours that begin alike save.
+    /// The baskets kept to many ranks, each as a list. They stay in the order in which they come:
+    /// sorting them takes longer than neighbours with a common prefix save.
     fn coded_by_lists(
         &mut self,
         alloc: Global,
@@ -101,7 +101,7 @@ impl Places {
         Ok(ListBaskets::of_spans(count, locals, coded?))
     }
 
-    /// The same of few ranks, where each basket is a word.
+    /// The baskets kept to few ranks, each as a word.
     fn coded_by_words(
         &mut self,
         alloc: Global,
@@ -126,7 +126,7 @@ impl Places {
     }
 }
 
-/// Puts the place of each rank of the list.
+/// Writes the place of each rank of the list.
 fn put(of: &mut [Option<u32>], kept: &[u32])
     requires none { of.old ≡ replicate (length of.old) None }
     requires rises { IsRising kept.now }
@@ -138,7 +138,7 @@ fn put(of: &mut [Option<u32>], kept: &[u32])
     }
 }
 
-/// Takes the places away.
+/// Clears the places of the list.
 fn take_away(of: &mut [Option<u32>], kept: &[u32])
     requires places { ArePlaces kept.now of.old }
     requires below { AllBelow (length of.old) kept.now }
@@ -149,9 +149,9 @@ fn take_away(of: &mut [Option<u32>], kept: &[u32])
     }
 }
 
-/// Puts the places of those ranks of a basket that have one behind the first places of a list. Answers how
-/// many these are then. A place is put down for each rank, and the next one over it where the rank has
-/// none: which have one can't be predicted, so a branch would cost more.
+/// Puts the places of those ranks of a basket that have one after the first places of a list.
+/// Returns how many these are then. A place is written for each rank, and the next one over it if
+/// the rank has none: which have one can't be predicted, so a branch would cost more.
 fn put_places(locals: &mut [u32], count: usize, of: &[Option<u32>], basket: &[u32]) -> usize
     requires room { count + length basket.now ≤ length locals.old }
     requires below { AllBelow (length of.now) basket.now }
@@ -167,7 +167,7 @@ fn put_places(locals: &mut [u32], count: usize, of: &[Option<u32>], basket: &[u3
     end
 }
 
-/// The baskets as the places that a table has for their ranks, one after another, and where each stands.
+/// The baskets as the places that a table has for their ranks, concatenated, and where each is.
 fn coded_spans(
     alloc: Global,
     locals: &mut Vec<u32>,

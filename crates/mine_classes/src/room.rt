@@ -1,9 +1,9 @@
-//! Room behind the numbers of a list, in which others are put down.
+//! Room after the numbers of a list, into which others are written.
 ghost use Rattle.std.specs.Prelude.{◌≡◌, ◌≤◌, ◌+◌, OnOk, take, vec_len};
 
 use std::alloc::AllocError;
 
-/// Makes room for so many numbers behind the first ones, and for more, so that it is seldom made.
+/// Makes room for this many numbers after the first ones, and for more, so that it is seldom made.
 pub fn make_room(list: &mut Vec<u32>, count: usize, more: usize) -> Result<(), AllocError>
     requires { count ≤ vec_len list.old }
     ensures front { take count list.new.items ≡ take count list.old.items }

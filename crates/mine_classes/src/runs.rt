@@ -1,4 +1,4 @@
-//! The places where each rank stands in baskets that lie one after another.
+//! The places of each rank in baskets that follow one another.
 ghost use Rattle.std.specs.Prelude.{◌≡◌, ◌≤◌, ◌<◌, ◌+◌, ◌-◌, ℕ, [], ◌∷◌, All, IfOk, IsTrue, OnOk, length, replicate, take, slice_index, slice_index_or, sum_by};
 ghost use Rattle.std.specs.List.{slice_range};
 ghost use Rattle.basket_sets.specs.Counts.{AllBelow};
@@ -17,10 +17,10 @@ use mine_baskets::span::Span;
 use std::alloc::{AllocError, Global};
 use std::marker::Model;
 
-/// Baskets of ranks that lie one after another, and the runs of each rank in them. A run is a place
-/// where the rank stands after some others: the ranks before it are its path, and its weight is that
-/// of the neighbours that share the path and the rank. Where baskets that begin alike stand together,
-/// a run is a node of their prefix tree (Han, Pei and Yin 2000).
+/// Baskets of ranks that follow one another, and the runs of each rank in them. A run is an
+/// occurrence of the rank after some others: the ranks before it are its path, and its weight is
+/// that of the neighbours that share the path and the rank. If baskets with a common prefix are
+/// neighbours, a run is a node of their prefix tree (Han, Pei and Yin 2000).
 #[derive(Debug, Drop)]
 pub struct Runs {
     count: u32,
@@ -82,7 +82,7 @@ impl Runs {
         self.count
     }
 
-    /// The ranks of all baskets, and where the runs of a rank stand among them.
+    /// The ranks of all baskets, and the places of the runs of a rank among them.
     pub fn of_rank(&self, rank: u32) -> (&[u32], &[Span])
         requires { rank < self.now.ranks }
         ensures runs { AreRunsOf result.0.now self.now.baskets rank result.1.now }
@@ -91,7 +91,7 @@ impl Runs {
         (&self.ranks, &self.of[rank as usize])
     }
 
-    /// The support of a rank, which is what its runs weigh.
+    /// The support of a rank, which is the weight of its runs.
     pub fn support(&self, rank: u32) -> u64
         requires { rank < self.now.ranks }
         ensures { result ≡ support_of self.now.baskets (rank ∷ []) }
@@ -105,7 +105,7 @@ impl Runs {
     }
 
     /// The ranks below the rank that are frequent together with it, by a least support, each with
-    /// the support of the pair. Where they aren't kept, only the runs of the rank are looked at.
+    /// the support of the pair. If they aren't kept, only the runs of the rank are looked at.
     pub fn pairs(
         &self,
         alloc: Global,
@@ -160,7 +160,7 @@ fn no_runs(alloc: Global, count: u32) -> Result<Vec<Vec<Span>>, AllocError>
     Ok(of)
 }
 
-/// How many ranks two baskets share at their beginnings.
+/// The length of the common prefix of two baskets.
 fn shared(a: &[u32], b: &[u32]) -> usize
     ensures in_first { result ≤ length a.now }
     ensures in_second { result ≤ length b.now }
@@ -198,7 +198,7 @@ fn add_runs(
     Ok(())
 }
 
-/// Adds a run to those of a rank, or its weight to the last one where that is the same.
+/// Adds a run to those of a rank, or its weight to the last one if that is the same.
 fn add_run(runs: &mut Vec<Span>, run: Span, same: bool) -> Result<(), AllocError>
     requires some { IsTrue same → 0 < length runs.old.items }
     requires light { sum_by (λ (other : Run). other.weight) runs.old.items + run.weight ≤ MOST_WEIGHT }

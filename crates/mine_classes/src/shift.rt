@@ -12,7 +12,7 @@ use mine_baskets::words::bit_of;
 use smallvec::SmallVec;
 use std::alloc::{AllocError, Global};
 
-/// How many shifts stand without an allocation.
+/// This many shifts need no allocation.
 const INLINE_SHIFTS: usize = 8;
 
 /// Shifts, one for each run of neighbours among the kept ranks.

@@ -32,7 +32,7 @@ impl Model for Sums {
 }
 
 impl Sums {
-    /// The sums for so many ranks.
+    /// The sums for this many ranks.
     pub fn new(alloc: Global, count: u32) -> Result<Self, AllocError>
         ensures { IfOk result (λ sums. sums ≡ count) }
     {
@@ -42,7 +42,7 @@ impl Sums {
         })
     }
 
-    /// The ranks that stand in baskets of at least so much weight, rising, each with that weight.
+    /// The ranks that occur in baskets of at least this much weight, rising, each with that weight.
     /// The baskets are parts of the list of ranks.
     pub fn of_spans(
         &mut self,
@@ -91,7 +91,7 @@ fn add_up(
     Ok(())
 }
 
-/// The ranks whose sums are at least so much, with their sums.
+/// The ranks whose sums are at least this much, with their sums.
 pub fn met_in_order(alloc: Global, sums: &[u64], least: u64) -> Result<Vec<(u32, u64)>, AllocError>
     requires { length sums.now ≤ 4294967295 }
     ensures { IfOk result (λ pairs. pairs.items ≡ map (λ rank. (rank, slice_index sums.now rank)) (filter (λ rank. is_met least (slice_index sums.now rank)) (range_with_len 0 (length sums.now)))) }
@@ -107,7 +107,7 @@ pub fn met_in_order(alloc: Global, sums: &[u64], least: u64) -> Result<Vec<(u32,
     Ok(pairs)
 }
 
-/// Sets the sums of the ranks that are listed to 0, which are all that are not.
+/// Sets the sums of the listed ranks to 0; all others are 0 already.
 fn clear(sums: &mut [u64], found: &mut Found)
     requires { AreSums (length sums.old) sums.old found.old }
     ensures sums { sums.new ≡ replicate (length sums.old) 0 }
@@ -119,7 +119,7 @@ fn clear(sums: &mut [u64], found: &mut Found)
     found.clear();
 }
 
-/// The ranks that are listed whose sums are at least so much, rising, with their sums.
+/// The listed ranks whose sums are at least this much, rising, with their sums.
 fn met(
     alloc: Global,
     sums: &[u64],

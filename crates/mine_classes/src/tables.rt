@@ -13,7 +13,7 @@ pub struct Tables {
 }
 
 impl Tables {
-    /// The tables for so many ranks.
+    /// The tables for this many ranks.
     pub fn new(alloc: Global, count: u32) -> Result<Self, AllocError>
         ensures sums { IfOk result (λ tables. tables.sums ≡ count) }
         ensures places { IfOk result (λ tables. tables.places ≡ count) }

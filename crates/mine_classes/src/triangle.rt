@@ -15,8 +15,8 @@ use basket_ranks::Coded;
 use basket_sets::Weighted;
 use std::alloc::{AllocError, Global};
 
-/// Adds the supports of all pairs of ranks in some more baskets to counts, which lie first by the greater
-/// rank of a pair, then by the lesser.
+/// Adds the supports of all pairs of ranks in some more baskets to counts, which are ordered first
+/// by the greater rank of a pair, then by the lesser.
 pub fn add_pairs(counts: &mut [u64], baskets: &[Weighted])
     requires below { HaveCounts counts.old baskets.now }
     requires light { (k : ℕ) → k < length counts.old → slice_index counts.old k + total_of baskets.now ≤ MOST_WEIGHT }
@@ -53,7 +53,7 @@ fn count_below(row: &mut [u64], ranks: &[u32], weight: u64)
     }
 }
 
-/// How many pairs so many ranks make.
+/// How many pairs this many ranks make.
 pub fn pair_count(ranks: u32) -> usize
     ensures number { result ≡ ranks * (ranks - 1) / 2 }
     ensures pairs { result ≡ length (all_pairs ranks) }

@@ -64,7 +64,7 @@ pub fn below(
 {
     let count = pairs.len() as u32;
     let words = words_below(alloc, baskets.words(), rank, pairs)?;
-    // Where none or only the greatest of the lower ranks were dropped, they are as they were.
+    // If none or only the greatest of the lower ranks were dropped, they are as they were.
     if are_in_order(&words) {
         return Ok(WordBaskets::of_ordered(count, words));
     }
@@ -104,7 +104,7 @@ fn is_front(word: &Word, count: u32) -> bool
     true
 }
 
-/// For each rank below one, what the words weigh that have both.
+/// For each rank below one, the weight of the words that have both.
 fn pair_sums(words: &[Word], rank: u32) -> [u64; WORD_RANKS]
     requires rank { rank < WORD_RANKS }
     requires light { sum_by (λ (word : Bits). word.weight) words.now ≤ MOST_WEIGHT }
@@ -130,7 +130,7 @@ fn add_ranks(sums: &mut [u64; WORD_RANKS], word: &Word, count: u32)
     }
 }
 
-/// What the word weighs where it has the rank, else 0, without a branch.
+/// The weight of the word if it has the rank, else 0, without a branch.
 fn weight_at(word: &Word, rank: u32) -> u64
     requires rank { rank < WORD_RANKS }
     requires light { word.now.weight ≤ MOST_WEIGHT }

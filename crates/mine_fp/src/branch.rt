@@ -15,7 +15,7 @@ use std::alloc::Global;
 
 impl Level {
     /// The frequent sets, read off a single branch: each choice of its nodes, with the least count
-    /// among them (Han, Pei and Yin 2000). Each is told as soon as it is known.
+    /// among them (Han, Pei and Yin 2000). Each is reported as soon as it is known.
     #[tactic(auto, using(crate::proofs::FoundLemmas::found_classes))]
     pub fn read_off<T: Tally>(
         &self,
@@ -42,7 +42,7 @@ impl Level {
     }
 
     /// The sets that a rank and lower ones make: the rank alone, and with each set of lower ranks,
-    /// which stand from `start` on.
+    /// which are those from `start` on.
     #[tactic(auto, using(crate::proofs::ClassLemmas::class_has_one))]
     fn choices<T: Tally>(
         &self,

@@ -17,8 +17,8 @@ use mine_classes::{Paths, Runs, Tables};
 use std::alloc::{AllocError, Global};
 use std::marker::Model;
 
-/// All coded baskets in order. What neighbours share is one branch of their prefix tree, and each run
-/// of a rank is a node of it (Han, Pei and Yin 2000).
+/// All coded baskets in order. A prefix that neighbours share is one branch of their prefix tree,
+/// and each run of a rank is a node of it (Han, Pei and Yin 2000).
 #[derive(Debug, Drop)]
 pub struct Forest<'a> {
     coded: &'a Coded,
@@ -48,7 +48,7 @@ impl<'a> Forest<'a> {
         Forest::of_runs(alloc, coded, Runs::of(alloc, baskets)?)
     }
 
-    /// The same with runs of the coded baskets that were made before.
+    /// The forest of the coded baskets, from runs of them that were made before.
     pub fn of_runs(alloc: Global, coded: &'a Coded, runs: Runs) -> Result<Self, AllocError>
         requires ranks { runs.ranks ≡ length coded.now.items }
         requires ranked { AreRankBaskets runs }
@@ -84,9 +84,10 @@ fn names_of(alloc: Global, coded: &Coded, runs: &Runs) -> Result<Vec<(u32, u64)>
     Ok(names)
 }
 
-/// The sets of the class of a rank, as items, each once with its support (Han, Pei and Yin 2000), and
-/// how many conditional trees they take: none below one that is a single branch, from which the sets
-/// are read off. A tree of the root alone counts, and nothing is made for it. Each set is told to the tally as soon as it is known to be frequent.
+/// The sets of the class of a rank, as items, each once with its support (Han, Pei and Yin 2000),
+/// and how many conditional trees they take: none below one that is a single branch, from which the
+/// sets are read off. A tree of the root alone counts, and nothing is made for it. Each set is
+/// reported to the tally as soon as it is known to be frequent.
 pub fn fp_class<T: Tally>(
     alloc: Global,
     forest: &Forest<'_>,
@@ -109,7 +110,7 @@ pub fn fp_class<T: Tally>(
     fp_class_with(alloc, forest, &mut tables, rank, tally)
 }
 
-/// The same with tables that are used again from class to class.
+/// The class of a rank as `fp_class` finds it, with tables that are used again from class to class.
 pub fn fp_class_with<T: Tally>(
     alloc: Global,
     forest: &Forest<'_>,

@@ -14,7 +14,7 @@ pub struct Found {
     pub trees: Trees,
 }
 
-/// Tells a frequent set to the tally, and adds it to those found.
+/// Reports a frequent set to the tally, and adds it to those found.
 pub fn tell<T: Tally>(
     set: Itemset,
     count: u64,
@@ -36,7 +36,7 @@ pub fn tell<T: Tally>(
     Ok(())
 }
 
-/// Tells a set that was found, with one more item and a count of its own.
+/// Reports a set that was found, with one more item and a count of its own.
 pub fn choose<T: Tally>(
     alloc: Global,
     at: usize,

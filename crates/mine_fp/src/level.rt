@@ -26,8 +26,8 @@ const DEPTH: usize = 32;
 pub struct Level {
     pub paths: Paths,
     pub names: Vec<(u32, u64)>,
-    /// Where the set that it is of stands among those found, unless that has no items. Each set found in
-    /// it gets the items of that set.
+    /// The place among those found of the set whose conditional database this is, unless that set
+    /// has no items. Each set found in it gets the items of that set.
     pub place: Option<usize>,
     /// How many databases it lies within.
     pub depth: usize,
@@ -35,8 +35,8 @@ pub struct Level {
 }
 
 impl Level {
-    /// The class of a rank, each set as items, added at the end of those found. Each set is told as
-    /// soon as it is known to be frequent.
+    /// The class of a rank, each set as items, added at the end of those found. Each set is
+    /// reported as soon as it is known to be frequent.
     #[cycle(growth)]
     #[tactic(auto, using(crate::proofs::ClassLemmas::class_has_one))]
     pub fn class<T: Tally>(
@@ -142,7 +142,7 @@ impl Level {
         self.support(rank) >= self.least
     }
 
-    /// Tells the set of a rank to the tally, and adds it to those found.
+    /// Reports the set of a rank to the tally, and adds it to those found.
     pub fn tell_rank<T: Tally>(
         &self,
         alloc: Global,

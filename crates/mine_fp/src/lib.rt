@@ -1,5 +1,5 @@
 //! FP-growth (Han, Pei and Yin 2000): the classes of coded baskets, each grown within conditional
-//! databases, and read off where one is a single branch.
+//! databases, and read off if one is a single branch.
 #![tactic(auto)]
 
 mod branch;

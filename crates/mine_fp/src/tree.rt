@@ -25,8 +25,8 @@ impl Node {
     }
 }
 
-/// The prefix tree of weighted paths (Han, Pei and Yin 2000). Paths that begin alike share nodes. The
-/// nodes lie one after another, each behind the one above it.
+/// The prefix tree of weighted paths (Han, Pei and Yin 2000). Paths with a common prefix share
+/// nodes. The nodes are in one list, each after the one above it.
 #[derive(Debug, Drop)]
 pub struct FpTree {
     nodes: Vec<Node>,
@@ -54,7 +54,7 @@ impl FpTree {
         }
     }
 
-    /// Adds a path of some weight. All paths together weigh at most 2^40. The nodes that there were keep
+    /// Adds a path of some weight. All paths together weigh at most 2^40. The older nodes keep
     /// their places.
     pub fn insert(&mut self, path: &[u32], weight: u64) -> Result<(), AllocError>
         requires rises { IsRising path.now }
@@ -73,7 +73,7 @@ impl FpTree {
         Ok(())
     }
 
-    /// What all paths weigh together.
+    /// The weight of all paths together.
     pub fn total(&self) -> u64
         ensures { result ≡ self.now.total }
     {
@@ -95,7 +95,7 @@ impl FpTree {
     }
 }
 
-/// The node of the rank below a node, which gets more weight. It is made where there is none.
+/// The node of the rank below a node, which gets more weight. It is made if there is none.
 fn add(nodes: &mut Vec<Node>, above: Option<usize>, rank: u32, weight: u64) -> usize
     requires room { vec_len nodes.old < vec_capacity nodes.old }
     requires before { (k : ℕ) → k < length nodes.old.items → IsBefore k (slice_index_or (links_of nodes.old.items) k (0, None)).1 }
@@ -121,7 +121,7 @@ fn add(nodes: &mut Vec<Node>, above: Option<usize>, rank: u32, weight: u64) -> u
     made
 }
 
-/// The node of the rank below a node. It stands behind that.
+/// The node of the rank below a node. It comes after that node.
 fn child_of(nodes: &[Node], above: Option<usize>, rank: u32) -> Option<usize>
     requires before { (k : ℕ) → k < length nodes.now → IsBefore k (slice_index_or (links_of nodes.now) k (0, None)).1 }
     requires above { IsBefore (length nodes.now) above }

@@ -9,7 +9,7 @@ use mine_classes::{Paths, Places, Tables};
 use std::alloc::{AllocError, Global};
 use std::marker::Model;
 
-/// How many conditional trees there were. Nothing else raises the number than the call that makes one.
+/// How many conditional trees there were. Only the call that makes one raises the number.
 #[derive(Debug, Drop)]
 pub struct Trees {
     number: u64,
@@ -37,8 +37,8 @@ impl Trees {
         self.number
     }
 
-    /// Sums the pairs of a rank, whose set stands at a place, and makes its conditional tree: the level
-    /// below. Where no rank is frequent together with it, the tree is the root alone. That one is
+    /// Sums the pairs of a rank, whose set is at a place, and makes its conditional tree: the level
+    /// below. If no rank is frequent together with it, the tree is the root alone. That one is
     /// counted, since the number is the definition's, and nothing is made for it.
     pub fn make(
         &mut self,
@@ -70,7 +70,7 @@ impl Trees {
     }
 }
 
-/// The conditional database of a rank with these pairs, whose set stands at a place.
+/// The conditional database of a rank with these pairs, whose set is at a place.
 fn level_below(
     alloc: Global,
     level: &Level,
@@ -99,7 +99,7 @@ fn level_below(
     })
 }
 
-/// Puts the item of each rank in its place.
+/// Replaces each rank by its item.
 fn rename(pairs: &mut [(u32, u64)], names: &[(u32, u64)])
     requires { AllBelow (length names.now) (map (λ pair. pair.0) pairs.old) }
     ensures { pairs.new ≡ map (named_pair (map (λ name. name.0) names.now)) pairs.old }

@@ -18,7 +18,7 @@ use mine_classes::{is_small_triangle, runs_with_least};
 use std::alloc::{AllocError, Global};
 use std::thread::Threads;
 
-/// The frequent pairs of ranks. The workers count each pair of ranks where these are few, and
+/// The frequent pairs of ranks. The workers count each pair of ranks if these are few, and
 /// otherwise only the pairs that occur, rank by rank.
 fn pairs<R: Threads + Sync, G: Gate + Sync>(
     rt: &R,
@@ -36,9 +36,9 @@ fn pairs<R: Threads + Sync, G: Gate + Sync>(
     count_pairs(rt, alloc, &runs, least, cutting, gate)
 }
 
-/// The list of the frequent sets, where it is no longer than the limit, and the number of candidates
-/// (Agrawal and Srikant 1994), found by so many workers: the pairs over so many parts of the ranks,
-/// and the supports of the candidates of each level over so many parts of the baskets.
+/// The list of the frequent sets, if it is no longer than the limit, and the number of candidates
+/// (Agrawal and Srikant 1994), found by this many workers: the pairs over parts of the ranks, and
+/// the supports of the candidates of each level over parts of the baskets.
 pub fn apriori_shared<R: Threads + Sync, G: Gate + Sync>(
     rt: &R,
     alloc: Global,

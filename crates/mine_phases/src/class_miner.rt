@@ -1,4 +1,4 @@
-//! The miners that go class by class.
+//! The miners that mine class by class.
 ghost use Rattle.std.specs.Prelude.{◌≡◌, ◌≤◌, ◌<◌, ◌+◌, ◌*◌, ◌⊎◌, ℕ, Err, IfOk, IsTrue, OnOk, false, length};
 ghost use Rattle.basket_core.specs.declared.fault.MineFault.TheVariants.{TooMany};
 ghost use Rattle.basket_ranks.specs.Codes.{Coding};
@@ -14,8 +14,8 @@ pub trait ClassMiner {
 
     ghost is_work: { Self → ℕ → ℕ → Type 0 };
 
-    /// The sets of the class as items, and how much work they took. Each set is told. The tables are
-    /// used again from class to class.
+    /// The sets of the class as items, and how much work they took. Each set is reported to the
+    /// tally. The tables are used again from class to class.
     fn class<T: Tally>(
         &self,
         alloc: Global,

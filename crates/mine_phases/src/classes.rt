@@ -51,8 +51,8 @@ struct Classes<'a, 'g, M, G> {
 }
 
 impl<M: ClassMiner, G: Gate> Classes<'_, '_, M, G> {
-    /// What a worker does: it mines the classes of each piece that it claims, until none is left, or
-    /// it sees more sets than the limit, or it finds no memory.
+    /// What a worker does: it mines the classes of each piece that it claims, until none is left,
+    /// or it sees more sets than the limit, or it runs out of memory.
     fn share(&self, alloc: Global, worker: u32, seat: RoundSeat) -> Share<Vec<(u32, Class)>>
         requires own { seat.round ≡ self.now.round.now.id }
         requires unused { seat.held ≡ unused 1 1 }
@@ -84,7 +84,7 @@ impl<M: ClassMiner, G: Gate> Classes<'_, '_, M, G> {
         Share { seat, values }
     }
 
-    /// Adds the class of each rank of a claimed piece to the values, told by a seat.
+    /// Adds the class of each rank of a claimed piece to the values, reported by a seat.
     fn mine<S: Start>(
         &self,
         alloc: Global,
@@ -117,8 +117,9 @@ impl<M: ClassMiner, G: Gate> Classes<'_, '_, M, G> {
         (tally.into_seat(), mined)
     }
 
-    /// The same, told to a tally, which looks behind each class at what the others have found. The tables
-    /// are used again from piece to piece.
+    /// Adds the class of each rank of a claimed piece to the values, reported to a tally, which
+    /// looks after each class at what the others have found. The tables are used again from piece
+    /// to piece.
     fn add_classes<S: Start>(
         &self,
         alloc: Global,
@@ -160,9 +161,9 @@ impl<M: ClassMiner, G: Gate> Classes<'_, '_, M, G> {
     }
 }
 
-/// The class of each rank, mined by so many workers over so many pieces of the ranks, where they have no
-/// more sets than the limit. The workers share one count of the sets that they find, and each stops where
-/// it sees more than the limit.
+/// The class of each rank, mined by a number of workers over pieces of the ranks, if they have no
+/// more sets than the limit. The workers share one count of the sets that they find, and each stops
+/// once it sees more than the limit.
 fn mined_classes<'a, 'g, R: Threads + Sync, G: Gate + Sync, M: ClassMiner + Sync>(
     rt: &R,
     alloc: Global,
@@ -206,9 +207,9 @@ fn mined_classes<'a, 'g, R: Threads + Sync, G: Gate + Sync, M: ClassMiner + Sync
     Ok(classes)
 }
 
-/// The list of the frequent sets, mined class by class by so many workers over so many pieces of the
-/// ranks, where it is no longer than the limit, and how much work that took. What the classes are mined
-/// from is dropped before the list is made.
+/// The list of the frequent sets, mined class by class by a number of workers over pieces of the
+/// ranks, if it is no longer than the limit, and how much work that took. What the classes are
+/// mined from is dropped before the list is made.
 pub fn mine_shared<R: Threads + Sync, G: Gate + Sync, M: ClassMiner + Sync + Drop>(
     rt: &R,
     alloc: Global,

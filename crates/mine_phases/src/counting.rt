@@ -24,7 +24,7 @@ type Counts = Vec<(u32, u64)>;
 /// Each part has a list of counts, and may have a table of half a megabyte while it is counted.
 const MOST_PARTS: u32 = 128;
 
-/// Baskets whose items are counted, in so many parts.
+/// Baskets whose items are counted, in this many parts.
 #[derive(Drop)]
 struct Counting<'a> {
     baskets: &'a [Weighted],
@@ -55,7 +55,7 @@ impl PartWork<Counts> for Counting<'_> {
     }
 }
 
-/// Counts of parts added, neighbours first, so that no list is long before its time.
+/// Counts of parts added, neighbours first, so that no list is long before it must be.
 fn add_up(alloc: Global, lists: &[Counts]) -> Result<Counts, AllocError>
     requires { (baskets : List Place) × CountParts baskets (map (λ list. list.items) lists.now) × (total_of baskets ≤ MOST_WEIGHT) }
     ensures { (baskets : List Place) → CountParts baskets (map (λ list. list.items) lists.now) → IfOk result (λ counts. counts.items ≡ item_supports baskets) }
@@ -84,8 +84,8 @@ fn parts_for(cutting: Cutting) -> u32
     }
 }
 
-/// The items of the baskets in rising order, each with its support, counted by so many workers over
-/// parts of the baskets, of which each piece has some. Only memory may be wanting.
+/// The items of the baskets in rising order, each with its support, counted by a number of workers
+/// over parts of the baskets, of which each piece has some. The only error is out of memory.
 pub fn count_shared<R: Threads + Sync, G: Gate + Sync>(
     rt: &R,
     alloc: Global,

@@ -1,7 +1,7 @@
 //! How the work of a phase is cut.
 ghost use Rattle.std.specs.Prelude.{◌≡◌, ◌≤◌};
 
-/// By how many workers a phase is done, 1 to 64, and in how many pieces, 1 to 65,536.
+/// How many workers do a phase, 1 to 64, and in how many pieces, 1 to 65,536.
 #[derive(Clone, Copy, Debug)]
 pub struct Cutting {
     pub workers: u32,

@@ -33,8 +33,8 @@ impl SupportCounter for CandidateTree<'_> {
     }
 }
 
-/// The support of each set in the baskets, counted by so many workers over so many parts of the baskets.
-/// The number of the phase is the size of the sets.
+/// The support of each set in the baskets, counted by a number of workers over parts of the
+/// baskets. The number of the phase is the size of the sets.
 pub fn count_level<R: Threads + Sync, G: Gate + Sync>(
     rt: &R,
     alloc: Global,

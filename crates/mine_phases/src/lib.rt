@@ -1,13 +1,13 @@
 //! The phases of mining that workers share. Each is a round of pieces, which the workers claim: the
-//! baskets or the ranks are cut into so many parts, and what is found doesn't depend on which
-//! worker takes which.
+//! baskets or the ranks are cut into parts, and what is found doesn't depend on which worker takes
+//! which.
 //!
-//! A `phase` either finds a value for each part that its `pieces` have, or adds `supports` to counters
-//! that its workers share. `counting` counts the items. Of `apriori`, `triangle` counts the pairs of few ranks,
-//! `pairs` finds the frequent pairs of many, and `level` counts the candidates of a level. `runs` makes
-//! ready what `classes` mines class by class with a `class_miner`, whose sets are told to a
-//! `round_tally`. `share` is what a worker hands back, `placed` puts values in their order, and workers
-//! pass a `gate` with each piece.
+//! A `phase` either finds a value for each part that its `pieces` have, or adds `supports` to
+//! counters that its workers share. `counting` counts the items. Of `apriori`, `triangle` counts
+//! the pairs of few ranks, `pairs` finds the frequent pairs of many, and `level` counts the
+//! candidates of a level. `runs` prepares what `classes` mines class by class with a `class_miner`,
+//! whose sets are reported to a `round_tally`. `share` is what a worker hands back, `placed` puts
+//! values in their order, and workers pass a `gate` with each piece.
 #![tactic(auto)]
 
 mod apriori;

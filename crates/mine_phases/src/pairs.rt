@@ -47,8 +47,8 @@ impl PartWork<Pairs> for Pairing<'_> {
 }
 
 /// For each rank the ranks below it that are frequent together with it, by a least support, rising,
-/// each with the support of the pair, found by so many workers over so many parts of the ranks. Only
-/// memory may be wanting.
+/// each with the support of the pair, found by a number of workers over parts of the ranks. The
+/// only error is out of memory.
 pub fn count_pairs<R: Threads + Sync, G: Gate + Sync>(
     rt: &R,
     alloc: Global,

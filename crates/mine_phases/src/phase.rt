@@ -26,7 +26,7 @@ impl<'a, G: Gate> Phase<'a, G> {
         }
     }
 
-    /// The same phase over so many parts: it has no more pieces than parts, and one at least.
+    /// The same phase over this many parts: it has no more pieces than parts, and at least one.
     pub fn for_parts(&self, parts: usize) -> Self
         ensures number { result.number ≡ self.now.number }
         ensures workers { result.cutting.workers ≡ self.now.cutting.workers }

@@ -46,8 +46,8 @@ struct Pieces<'r, 'a, 'p, P, G> {
 }
 
 impl<P, G: Gate> Pieces<'_, '_, '_, P, G> {
-    /// What a worker does: it finds the values of each piece that it claims, until none is left or it
-    /// finds no memory.
+    /// What a worker does: it finds the values of each piece that it claims, until none is left or
+    /// it runs out of memory.
     fn share<V: Drop>(
         &self,
         alloc: Global,
@@ -118,7 +118,8 @@ impl<P, G: Gate> Pieces<'_, '_, '_, P, G> {
     }
 }
 
-/// The value of each part, in their order, found by the workers of a phase. Only memory may be wanting.
+/// The value of each part, in their order, found by the workers of a phase. The only error is out
+/// of memory.
 pub fn by_pieces<'a, 'p, R: Threads + Sync, G: Gate + Sync, V: Send + Drop, P: PartWork<V> + Sync>(
     rt: &R,
     alloc: Global,

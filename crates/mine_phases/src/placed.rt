@@ -8,7 +8,7 @@ ghost use Rattle.mine_phases.specs.Share.{numbers_of};
 use mine_round::Collector;
 use std::alloc::{AllocError, Global};
 
-/// So many values by their numbers.
+/// The values by their numbers, of which there are this many.
 pub fn collected<X: Drop>(
     alloc: Global,
     count: u32,

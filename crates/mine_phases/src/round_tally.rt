@@ -7,11 +7,11 @@ use basket_core::Tally;
 use mine_round::{Round, RoundSeat};
 use std::marker::{Brand, Model, PhantomData};
 
-/// So many sets are added to the counter at once: each addition takes it from the other workers.
+/// This many sets are added to the counter at once: each addition takes it from the other workers.
 const PORTION: u64 = 1_024;
 
-/// The seat of a worker as it was where a tally began with it. It is picked where a tally is made,
-/// and the proofs alone see it: what is asked of a miner says nothing of seats.
+/// The seat of a worker as it was when a tally began with it. It is chosen when a tally is made,
+/// and only the proofs see it: what a miner is asked for says nothing of seats.
 pub trait Start {
     ghost start: { SeatView };
 }
@@ -20,15 +20,16 @@ impl Start for Brand {
     ghost start = { no_seat };
 }
 
-/// A worker's tally. It counts the sets of all workers in the one counter of a round, to which it adds
-/// its own in portions, and is over where the number that its worker last saw there is above the limit.
+/// A worker's tally. It counts the sets of all workers in the one counter of a round, to which it
+/// adds its own in portions, and is over once the number that its worker last saw there is above
+/// the limit.
 #[derive(Drop)]
 pub struct RoundTally<'a, S: Start> {
     round: &'a Round,
     seat: RoundSeat,
     limit: u32,
     told: u64,
-    /// How many of the sets that were told are not added yet.
+    /// How many of the sets that were reported are not added yet.
     waiting: u64,
     over: bool,
     of: PhantomData<S>,
@@ -66,7 +67,7 @@ impl<'a, S: Start> RoundTally<'a, S> {
         }
     }
 
-    /// The seat, which has added all that was told.
+    /// The seat, which has added all that was reported.
     pub fn into_seat(self) -> RoundSeat
         ensures counts { CountsSets self.entry.round result }
         ensures same { still result ≡ still S.start }
@@ -80,7 +81,7 @@ impl<'a, S: Start> RoundTally<'a, S> {
         seat
     }
 
-    /// Looks at what all workers have found, and answers whether there may be more.
+    /// Looks at what all workers have found, and returns whether there may be more.
     pub fn look(&mut self) -> bool
         requires { self.old.over ≡ false }
         ensures limit { self.new.limit ≡ self.old.limit }
@@ -136,7 +137,7 @@ pub fn are_over(round: &Round, seat: &mut RoundSeat, limit: u32) -> bool
     round.read(seat, 0) > u64::from(limit)
 }
 
-/// Adds sets to the counter, and answers whether there are more than the limit then.
+/// Adds sets to the counter, and returns whether there are then more than the limit.
 fn add_sets(round: &Round, seat: &mut RoundSeat, sets: u64, limit: u32) -> bool
     requires counts { CountsSets round.now seat.old }
     requires few { slice_index seat.old.held.added 0 + sets ≤ 2 ^ 40 }

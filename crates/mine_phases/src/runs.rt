@@ -12,8 +12,9 @@ use mine_classes::{Runs, pays_for_classes, runs_keeping};
 use std::alloc::{AllocError, Global};
 use std::thread::Threads;
 
-/// The runs of the coded baskets, which so many workers put in order. They keep the frequent pairs of each
-/// rank where it pays to count each pair of ranks, which the workers do over so many parts of the baskets.
+/// The runs of the coded baskets, which a number of workers sort. They keep the frequent pairs of
+/// each rank if it pays to count each pair of ranks, which the workers do over parts of the
+/// baskets.
 pub fn runs_shared<R: Threads + Sync>(
     rt: &R,
     alloc: Global,

@@ -73,7 +73,7 @@ pub fn add_counts(round: &Round, seat: &mut RoundSeat, counts: &[u64])
     }
 }
 
-/// The fault to tell, where one was found before: that there are too many sets, before want of
+/// The fault to report, if one was found before: that there are too many sets comes before out of
 /// memory.
 fn worse(fault: Option<MineFault>, found: MineFault) -> Option<MineFault>
     ensures { result ≡ worse fault found }
@@ -84,7 +84,7 @@ fn worse(fault: Option<MineFault>, found: MineFault) -> Option<MineFault>
     }
 }
 
-/// The seats of the workers, and the values of all, or the fault to tell where one has a fault.
+/// The seats of the workers, and the values of all, or the fault to report if one has a fault.
 fn parted<V: Drop>(
     shares: Vec<Share<V>>,
     mut seats: Vec<RoundSeat>,
@@ -112,8 +112,8 @@ fn parted<V: Drop>(
     }
 }
 
-/// Has a worker for each seat, whose number is the place of the seat, do the work, and answers the seats, and the values of all workers, or
-/// the fault to tell where one has a fault.
+/// Has a worker for each seat do the work; its number is the place of the seat. Returns the seats,
+/// and the values of all workers, or the fault to report if one has a fault.
 pub fn by_workers<R: Threads + Sync, V: Send + Drop, F: Fn((u32, RoundSeat)) -> Share<V> + Sync>(
     rt: &R,
     alloc: Global,

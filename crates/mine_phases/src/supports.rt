@@ -14,10 +14,10 @@ use mine_round::{Round, RoundSeat};
 use std::alloc::{AllocError, Global};
 use std::thread::Threads;
 
-/// To claim so many baskets takes little time beside counting in them.
+/// To claim this many baskets takes little time beside counting in them.
 const SMALL_PART: usize = 16;
 
-/// So many parts are never too many.
+/// This many parts are never too many.
 const FEW_PARTS: usize = 128;
 
 /// Sets whose supports are counted in some baskets after others.
@@ -50,8 +50,8 @@ struct Counting<'r, 'b, 'c, 'p, C, G> {
 }
 
 impl<C: SupportCounter, G: Gate> Counting<'_, '_, '_, '_, C, G> {
-    /// What a worker does: it counts the sets in each part of the baskets that it claims, and adds its
-    /// counts to the counters of all once no part is left.
+    /// What a worker does: it counts the sets in each part of the baskets that it claims, and adds
+    /// its counts to the shared counters once no part is left.
     fn share(&self, alloc: Global, worker: u32, mut seat: RoundSeat) -> Share<()>
         requires own { seat.round ≡ self.now.round.now.id }
         requires unused { seat.held ≡ unused 1 (length (C.sets_of self.now.counter.now)) }

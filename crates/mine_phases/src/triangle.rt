@@ -12,10 +12,10 @@ use mine_classes::{add_pairs, pair_count, pairs_by_triangle, pairs_of_supports};
 use std::alloc::{AllocError, Global};
 use std::thread::Threads;
 
-/// So many counts, half a megabyte, are never too many.
+/// This many counts, half a megabyte, are never too many.
 const FEW_COUNTS: usize = 65_536;
 
-/// So many ranks whose pairs are counted.
+/// The number of the ranks whose pairs are counted.
 #[derive(Drop)]
 struct RankPairs {
     ranks: u32,
@@ -44,7 +44,7 @@ impl SupportCounter for RankPairs {
     }
 }
 
-/// How many ranks the baskets have together, as far as so many.
+/// How many ranks the baskets have together. It stops counting at `most`.
 fn ranks_among(baskets: &[Weighted], most: usize) -> usize {
     let mut seen = 0usize;
     for place in baskets {
@@ -56,8 +56,8 @@ fn ranks_among(baskets: &[Weighted], most: usize) -> usize {
     seen
 }
 
-/// As many of the workers as may have a count for each pair of ranks of their own, and one at least:
-/// all these counts are no more than half the ranks of the baskets, or few.
+/// As many of the workers as may have a count for each pair of ranks of their own, and at least
+/// one: all these counts are no more than half the ranks of the baskets, or few.
 fn with_triangles(coded: &Coded, cutting: Cutting) -> Cutting {
     let pairs = pair_count(coded.ranks()).max(1);
     let wanted = pairs.saturating_mul(2 * cutting.workers as usize);
@@ -66,7 +66,7 @@ fn with_triangles(coded: &Coded, cutting: Cutting) -> Cutting {
     Cutting::new(workers as u32, cutting.pieces)
 }
 
-/// The frequent pairs of each rank, by a count for each pair of ranks, by so many workers over so many
+/// The frequent pairs of each rank, by a count for each pair of ranks, by a number of workers over
 /// parts of the baskets. One worker has all parts, and needs no counts beside its own.
 pub fn triangle_pairs<R: Threads + Sync, G: Gate + Sync>(
     rt: &R,

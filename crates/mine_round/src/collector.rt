@@ -41,7 +41,7 @@ pub struct Missing<T> {
 }
 
 impl<T: Drop> Collector<T> {
-    /// A collector with no value. It is refused only where memory runs out.
+    /// A collector with no value. It is refused only if memory runs out.
     pub fn new(alloc: Global, pieces: u32) -> Result<Collector<T>, AllocError>
         ensures { IfOk result (λ c. c ≡ replicate pieces None) }
     {

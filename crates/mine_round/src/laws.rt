@@ -11,7 +11,8 @@ pub fn rounds_stay_lawful()
     ensures unfit { (m : Machine) (event : Event) → ¬ Fits m event → after m event ≡ m }
 {}
 
-/// The records of all seats tell the words: lawful states of one round with the same seats are the same.
+/// The records of all seats determine the words: lawful states of one round with the same seats are
+/// the same.
 pub fn records_tell_the_words()
     ensures { (m n : Machine) → Lawful m → Lawful n → IsOfRound m n → n.seats ≡ m.seats → n ≡ m }
 {}
@@ -28,7 +29,7 @@ pub fn pieces_go_to_one_seat()
     ensures { (m : Machine) (i j : ℕ) (r other : Record) (piece : ℕ) → Lawful m → i ≢ j → record_at m.seats i ≡ Some r → record_at m.seats j ≡ Some other → Contains r.claimed piece → ¬ Contains other.claimed piece }
 {}
 
-/// Two seats share three pieces. The seat 1 was answered `None`, so its last claim changes nothing.
+/// Two seats share three pieces. Seat 1 got `None`, so its last claim changes nothing.
 pub fn three_pieces_are_claimed()
     ensures answers { answers (opening 3 0 2) (split 0 ∷ claim 1 ∷ claim 0 ∷ claim 1 ∷ claim 1 ∷ claim 1 ∷ []) ≡ None ∷ Some 0 ∷ Some 1 ∷ Some 2 ∷ None ∷ None ∷ [] }
     ensures last { run (opening 3 0 2) (split 0 ∷ claim 1 ∷ claim 0 ∷ claim 1 ∷ claim 1 ∷ claim 1 ∷ []) ≡ record {

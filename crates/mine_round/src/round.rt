@@ -44,7 +44,8 @@ impl Debug for Round {
 }
 
 impl Round {
-    /// A round with its seats, of which each was made with it. It is refused only where memory runs out.
+    /// A round with its seats, each of which was made with it. It is refused only if memory runs
+    /// out.
     pub fn new(
         alloc: Global,
         pieces: u32,
@@ -76,9 +77,9 @@ impl Round {
         Ok((round, seats))
     }
 
-    /// A piece that no other call on this round gets, or `None` where each piece was claimed.
-    /// A seat's pieces rise, so after as many as there are pieces it is answered `None`.
-    /// Once a seat was answered `None`, it is answered `None` from then on.
+    /// A piece that no other call on this round gets, or `None` if each piece was claimed. A seat's
+    /// pieces rise, so after as many as there are pieces it gets `None`, and from then on only
+    /// that.
     pub fn claim(&self, seat: &mut RoundSeat) -> Option<u32>
         requires own { seat.old.round ≡ self.now.id }
         ensures own { seat.new.round ≡ seat.old.round }
@@ -99,7 +100,7 @@ impl Round {
         }
     }
 
-    /// Adds to a counter, and answers what it was.
+    /// Adds to a counter, and returns what it was.
     pub fn add(&self, seat: &mut RoundSeat, counter: usize, amount: u64) -> u64
         requires own { seat.old.round ≡ self.now.id }
         requires counter { counter < self.now.counters }
@@ -111,7 +112,7 @@ impl Round {
         add_amount(&self.words, &mut seat.table_seat, counter, amount)
     }
 
-    /// Answers what a counter is.
+    /// Returns what a counter is.
     pub fn read(&self, seat: &mut RoundSeat, counter: usize) -> u64
         requires own { seat.old.round ≡ self.now.id }
         requires counter { counter < self.now.counters }
@@ -122,16 +123,17 @@ impl Round {
         read_number(&self.words, &mut seat.table_seat, counter)
     }
 
-    /// Ends the round, given all its seats. It is refused only where a seat is missing.
+    /// Ends the round, given all its seats. It is refused only if a seat is missing.
     pub fn close(self, seats: Vec<RoundSeat>) -> Result<Totals, Outstanding>
         requires own { All (λ seat. seat.round ≡ self.id) seats.items }
 
-        // It is refused where a seat is missing, and then all comes back as it was.
+        // It is refused if a seat is missing, and then all comes back as it was.
         ensures refused { IsErr result ↔ (vec_len seats < self.seats) }
         ensures missing { IfErr result (λ back. vec_len seats + back.missing ≡ self.seats) }
         ensures returned { IfErr result (λ back. (back.round ≡ self) × (back.seats.items ≡ seats.items)) }
 
-        // The seats claimed the pieces below `claimed`, each once. These are all where a seat was answered `None`.
+        // The seats claimed the pieces below `claimed`, each once. These are all pieces if a seat
+        // got `None`.
         ensures claimed { IfOk result (λ totals. IsPermutation (claimed_by seats.items) (range_with_len 0 totals.claimed)) }
         ensures within { IfOk result (λ totals. totals.claimed ≤ self.pieces) }
         ensures ended { IfOk result (λ totals. Any (λ seat. 0 < seat.held.past) seats.items → totals.claimed ≡ self.pieces) }

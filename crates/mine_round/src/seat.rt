@@ -10,7 +10,7 @@ use std::fmt;
 use std::fmt::{Debug, Formatter};
 use std::marker::Model;
 
-/// A seat of a round. It remembers where it was answered that there is no piece left.
+/// A seat of a round. It remembers once there was no piece left for it.
 #[derive(Drop)]
 pub struct RoundSeat {
     pub(crate) past: bool,
@@ -52,7 +52,7 @@ impl RoundSeat {
     }
 }
 
-/// Cuts this many seats from the one that stands for them all.
+/// Cuts this many seats from the one that represents them all.
 pub(crate) fn cut_seats(
     words: &Words,
     mut table_seat: TableSeat,

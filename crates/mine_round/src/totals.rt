@@ -1,4 +1,4 @@
-//! What the close of a round answers.
+//! What the close of a round returns.
 use crate::round::Round;
 use crate::seat::RoundSeat;
 use thiserror::Error;

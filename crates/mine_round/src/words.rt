@@ -33,7 +33,8 @@ pub type Words = Table<(), SeatState, Terms, RoundRule, Global>;
 /// A seat as the words know it.
 pub type TableSeat = Seat<(), SeatState>;
 
-/// The number of pieces of a round. What a step tells cannot read the terms, so each claim picks the number.
+/// The number of pieces of a round. The result of a step can't depend on the terms, so each claim
+/// picks the number.
 pub trait Pieces {
     ghost pieces: { ℕ };
 }
@@ -95,7 +96,7 @@ pub fn open_words(
     Table::of_words(alloc, zeros, terms)
 }
 
-/// Counts the piece word up, and answers what it was.
+/// Counts the piece word up, and returns what it was.
 pub fn claim_number<B: Pieces>(words: &Words, table_seat: &mut TableSeat) -> u64
     requires own { table_seat.old.table_id ≡ words.now.shared.table_id }
     requires sized { 0 < words.now.shared.table_id.words }
@@ -109,7 +110,7 @@ pub fn claim_number<B: Pieces>(words: &Words, table_seat: &mut TableSeat) -> u64
     words.shared.fetch_add::<Claim<B>>(table_seat, 0, 1)
 }
 
-/// Adds to a counter, and answers what it was.
+/// Adds to a counter, and returns what it was.
 pub fn add_amount(words: &Words, table_seat: &mut TableSeat, counter: usize, amount: u64) -> u64
     requires own { table_seat.old.table_id ≡ words.now.shared.table_id }
     requires sized { (words.now.shared.table_id.words ≡ words.now.shared.key.counters + 1) × (words.now.shared.key.counters + 1 < 2 ^ 64) }
@@ -125,7 +126,7 @@ pub fn add_amount(words: &Words, table_seat: &mut TableSeat, counter: usize, amo
         .fetch_add::<Add>(table_seat, counter + 1, amount)
 }
 
-/// Answers what a counter is.
+/// Returns what a counter is.
 pub fn read_number(words: &Words, table_seat: &mut TableSeat, counter: usize) -> u64
     requires own { table_seat.old.table_id ≡ words.now.shared.table_id }
     requires sized { (words.now.shared.table_id.words ≡ words.now.shared.key.counters + 1) × (words.now.shared.key.counters + 1 < 2 ^ 64) }
@@ -162,7 +163,8 @@ pub fn join_seat(words: &Words, table_seat: &mut TableSeat, other: TableSeat)
     words.shared.join_seat::<Merge>(table_seat, other);
 }
 
-/// Ends the words by a seat that all others joined: writes what each counter is, and answers what the piece word is.
+/// Ends the words by a seat that all others joined: writes what each counter is, and returns what
+/// the piece word is.
 pub fn settle(words: Words, table_seat: TableSeat, totals: &mut [u64]) -> u64
     requires own { table_seat.table_id ≡ words.shared.table_id }
     requires sized { (words.shared.table_id.words ≡ length totals.old + 1) × (words.shared.table_id.slots ≡ 0) }

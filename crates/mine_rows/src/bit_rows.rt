@@ -11,17 +11,17 @@ use crate::weights::Weights;
 use smallvec::SmallVec;
 use std::alloc::{AllocError, Global};
 
-/// For how many rows a database of more than one word is made anew, at the least.
+/// At least this many rows must be kept for a database of more than one word to be made anew.
 const LEAST_KEPT: usize = 6;
 
-/// A row with a bit for each place, which is one where the place is in its cover.
+/// A row with a bit for each place, which is one if the place is in its cover.
 #[derive(Debug, Drop)]
 pub struct BitRow {
     words: RowWords,
     count: u64,
 }
 
-/// A bit for each place below a number, which is one where the place is in a cover.
+/// A bit for each place below a number, which is one if the place is in a cover.
 fn bits_of_cover(alloc: Global, cover: &[u32], places: u32) -> Result<RowWords, AllocError>
     requires { AllBelow places cover.now }
     ensures { IfOk result (λ words. words.items ≡ words_of places cover.now) }

@@ -48,7 +48,7 @@ pub fn and_count(a: &[u64], b: &[u64]) -> u64
     shared_by_lanes(chunks, other_chunks) + shared_by_words(rest, other_rest)
 }
 
-/// Puts down the bits that two rows of words share, and answers how many they are.
+/// Writes the bits that two rows of words share, and returns how many they are.
 pub fn put_shared(words: &mut [u64], x: &[u64], y: &[u64]) -> u64
     requires long { length words.old ≡ length x.now }
     requires same { length x.now ≡ length y.now }

@@ -6,7 +6,7 @@ ghost use Rattle.mine_rows.specs.Cover.{lacking};
 
 use std::alloc::{AllocError, Global};
 
-/// The places below a number that do not stand in a cover.
+/// The places below a number that are not in a cover.
 pub fn missing_places(alloc: Global, cover: &[u32], count: u32) -> Result<Vec<u32>, AllocError>
     requires { IsRising cover.now }
     ensures { IfOk result (λ places. places.items ≡ lacking (range_with_len 0 count) cover.now) }

@@ -71,7 +71,7 @@ impl Row for DiffList {
         false
     }
 
-    // Its places are those of its parent's cover, which it doesn't have.
+    // Its places are those of its parent's cover that it lacks.
     fn add_bit(&self, _words: &mut [u64], _bit: u64) -> bool {
         false
     }

@@ -1,6 +1,6 @@
-//! Rows that stand for covers, the places whose baskets contain a set: `tids` lists them, `diffs`
-//! lists what is lacking of them, and `bit_rows` has a bit for each place. Two rows are joined to the
-//! row of what their covers share.
+//! Rows that represent covers, the places whose baskets contain a set: `tids` lists them, `diffs`
+//! lists what they lack, and `bit_rows` has a bit for each place. Two rows are joined to the row of
+//! what their covers share.
 #![tactic(auto)]
 
 mod bit_rows;

@@ -46,7 +46,7 @@ impl Marks {
         }
     }
 
-    /// Takes the marks of places away.
+    /// Clears the marks of places.
     pub fn clear(&mut self, places: &[u32])
         requires { AllBelow (length self.old.weights.items) places.now }
         ensures { (weights : List ℕ) (test : ℕ → Bool) → IsMarked weights test self.old
@@ -57,8 +57,7 @@ impl Marks {
         }
     }
 
-    /// Keeps those of some places that are marked, in the place of other places. The answer is what
-    /// they weigh.
+    /// Keeps those of some places that are marked, replacing other places. Returns their weight.
     pub fn keep(&self, places: &[u32], kept: &mut Vec<u32>) -> Result<u64, AllocError>
         requires below { AllBelow (length self.now.weights.items) places.now }
         requires light { sum_by (λ place. slice_index self.now.weights.items place) places.now
@@ -74,8 +73,8 @@ impl Marks {
         let mut sum = 0;
         for place in places {
             let weight = self.weights[*place as usize];
-            // Whether a place is marked can't be predicted, so each is put down, and the next one in
-            // its place where it isn't kept.
+            // Whether a place is marked can't be predicted, so each is written, and the next one
+            // over it if it isn't kept.
             kept[count] = *place;
             count += usize::from(weight > 0);
             sum += weight;

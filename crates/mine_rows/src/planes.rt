@@ -47,7 +47,7 @@ fn bits_in(weights: &[u64]) -> u64
     bits
 }
 
-/// A plane for each bit that some weight has, or none where all weights are 1.
+/// A plane for each bit that some weight has, or none if all weights are 1.
 pub fn planes_of(alloc: Global, weights: &[u64], are_ones: bool) -> Result<Vec<Plane>, AllocError>
     requires few { length weights.now ≤ MOST_PLACES }
     ensures { IfOk result (λ planes. ArePlanes weights.now are_ones planes.items) }
@@ -65,7 +65,7 @@ pub fn planes_of(alloc: Global, weights: &[u64], are_ones: bool) -> Result<Vec<P
     Ok(planes)
 }
 
-/// What the places of a row of bits weigh together, by the planes of the weights.
+/// The weight of the places of a row of bits, by the planes of the weights.
 pub fn weight_by_planes(words: &RowWords, planes: &[Plane]) -> u64
     requires few { length words.now.items ≤ MOST_WORDS }
     requires wide { All (λ plane. length plane.words.items ≡ length words.now.items) planes.now }

@@ -6,18 +6,19 @@ use crate::marks::Marks;
 use crate::weights::Weights;
 use std::alloc::{AllocError, Global};
 
-/// A row stands for a cover beside its parent's: the places whose baskets contain a set, beside
+/// A row represents a cover beside its parent's: the places whose baskets contain a set, beside
 /// those that contain the set that it extends (Zaki 2000).
 pub trait Row: Drop {
     ghost use Rattle.mine_rows.specs.declared.marks.Marks.{Marks};
 
-    /// Whether a row over weights stands, beside a parent's cover, for a cover.
+    /// Whether a row over weights represents a cover, beside a parent's cover.
     ghost stands: { List ℕ → List ℕ → List ℕ → Self → Type 0 };
 
     /// What is marked while no row is joined with others, of the places of weights.
     ghost at_rest: { List ℕ → Marks → Type 0 };
 
-    /// What is marked while a row is: of the places of the other rows those that are to be kept.
+    /// What is marked while a row is joined with others: of the places of the other rows those that
+    /// are to be kept.
     ghost marked: { Self → List ℕ → Marks → Type 0 };
 
     /// The row of a cover beside all places.
@@ -26,7 +27,7 @@ pub trait Row: Drop {
         requires below { AllBelow (length weights.now) cover.now }
         ensures { IfOk result (λ row. stands weights.now (all_places weights.now) cover.now row) };
 
-    /// A row that stands for nothing yet, for `join` to make another of.
+    /// A row that represents nothing yet, for `join` to make another of.
     fn empty(alloc: Global) -> Self;
 
     /// Marks for rows over weights, none of which is joined yet.
@@ -40,15 +41,15 @@ pub trait Row: Drop {
         requires marks { at_rest weights.now marks.old }
         ensures { marked self.now weights.now marks.new };
 
-    /// Undoes that.
+    /// Undoes the marks of `mark`.
     fn unmark(&self, marks: &mut Marks, weights: &Weights)
         requires row { (parent : List ℕ) × (cover : List ℕ)
             × stands weights.now parent cover self.now }
         requires marks { marked self.now weights.now marks.old }
         ensures { at_rest weights.now marks.new };
 
-    /// Becomes the row of what two covers share, beside the first of them, for which places are marked.
-    /// Both stand beside one parent.
+    /// Becomes the row of what two covers share, beside the first of them, for which places are
+    /// marked. Both rows are beside one parent.
     fn join(
         &mut self,
         x: &Self,
@@ -63,7 +64,7 @@ pub trait Row: Drop {
             → stands weights.now parent first x.now → stands weights.now parent second y.now
             → stands weights.now first (common first second) self.new) };
 
-    /// The row of what two covers share, beside the first of them. Both stand beside one parent.
+    /// The row of what two covers share, beside the first of them. Both rows are beside one parent.
     fn joined(alloc: Global, x: &Self, y: &Self, weights: &Weights) -> Result<Self, AllocError>
         requires { (parent : List ℕ) × (first : List ℕ) × (second : List ℕ)
             × stands weights.now parent first x.now × stands weights.now parent second y.now }
@@ -78,13 +79,13 @@ pub trait Row: Drop {
         Ok(row)
     }
 
-    /// What the cover weighs.
+    /// The weight of the cover.
     fn count(&self) -> u64
         ensures { (weights parent cover : List ℕ) → stands weights parent cover self.now
             → result ≡ cover_weight weights cover };
 
-    /// Whether it pays to make a database of its cover, where so many of the rows that were joined with
-    /// it are kept.
+    /// Whether it pays to make a database of its cover, if this many of the rows that were joined
+    /// with it are kept.
     fn is_large(&self, kept: usize, joined: usize, weights: &Weights) -> bool;
 
     /// Adds a bit to the words of the places of its cover, or says that it doesn't list them.

@@ -7,17 +7,18 @@ use crate::bits::put_shared;
 use smallvec::SmallVec;
 use std::alloc::{AllocError, Global};
 
-/// One or more words. One stands in its place, so that up to 64 places take no memory of their own.
+/// One or more words. One word is kept in place, so that up to 64 places take no memory of their
+/// own.
 pub type RowWords = SmallVec<u64, { 1 }>;
 
-/// How many words have a bit for each of so many places, of which there is always one.
+/// How many words have a bit for each of this many places, of which there is always one.
 fn words_for(places: usize) -> usize
     ensures { result ≡ word_count places }
 {
     places.div_ceil(64).max(1)
 }
 
-/// Words without ones, with a bit for each of so many places.
+/// Words without ones, with a bit for each of this many places.
 pub fn zeros(alloc: Global, places: usize) -> Result<RowWords, AllocError>
     ensures { IfOk result (λ words. words.items ≡ replicate (word_count places) 0) }
 {
@@ -37,7 +38,7 @@ pub fn set(words: &mut RowWords, place: usize)
     words[place / 64] |= 1 << (place % 64);
 }
 
-/// Becomes the words that two rows share. The answer is how many ones they have.
+/// Becomes the words that two rows share. Returns how many ones they have.
 #[inline]
 pub fn share(words: &mut RowWords, x: &RowWords, y: &RowWords) -> Result<u64, AllocError>
     requires same { length x.now.items ≡ length y.now.items }
@@ -52,7 +53,7 @@ pub fn share(words: &mut RowWords, x: &RowWords, y: &RowWords) -> Result<u64, Al
     Ok(put_shared(words.as_mut_slice(), x.as_slice(), y.as_slice()))
 }
 
-/// The word at a place among them, or 0 where there is none.
+/// The word at a place among them, or 0 if there is none.
 pub fn word(words: &RowWords, at: usize) -> u64
     ensures { result ≡ slice_index words.now.items at }
 {

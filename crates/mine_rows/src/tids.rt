@@ -9,10 +9,10 @@ use crate::row::Row;
 use crate::weights::Weights;
 use std::alloc::{AllocError, Global};
 
-/// For how many rows a database is made anew, at the least.
+/// At least this many rows must be kept for a database to be made anew.
 const LEAST_KEPT: usize = 5;
 
-/// For how many places of a cover it is.
+/// At least this many places must be in the cover for a database to be made anew.
 const LEAST_PLACES: usize = 16;
 
 /// A row that lists the places of its cover (Zaki 2000).

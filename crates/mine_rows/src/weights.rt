@@ -41,7 +41,7 @@ impl Model for Weights {
 }
 
 impl Weights {
-    /// The weights of so many places as there are.
+    /// The weights of the places, as many as there are.
     pub fn of(alloc: Global, weights: &[u64]) -> Result<Self, AllocError>
         requires few { length weights.now ≤ MOST_PLACES }
         requires some { All (λ weight. 1 ≤ weight) weights.now }
@@ -51,8 +51,8 @@ impl Weights {
         Weights::of_vec(alloc, weights.to_vec(alloc)?, false)
     }
 
-    /// The same weights, in their own vector, of places that were at least twice as many before equal
-    /// ones were merged, or not.
+    /// The weights of places, in their own vector, and whether there were at least twice as many
+    /// places before equal ones were merged.
     pub fn of_vec(alloc: Global, weights: Vec<u64>, is_halved: bool) -> Result<Self, AllocError>
         requires few { length weights.items ≤ MOST_PLACES }
         requires some { All (λ weight. 1 ≤ weight) weights.items }
@@ -88,7 +88,7 @@ impl Weights {
         self.weights.to_vec(alloc)
     }
 
-    /// What a place weighs.
+    /// The weight of a place.
     pub fn of_place(&self, place: u32) -> u64
         requires { place < length self.now }
         ensures { result ≡ slice_index self.now place }
@@ -106,7 +106,7 @@ impl Weights {
         let _ = self.weights.len();
     }
 
-    /// What some places weigh together.
+    /// The weight of some places together.
     pub fn weight(&self, places: &[u32]) -> u64
         requires rises { IsRising places.now }
         requires below { AllBelow (length self.now) places.now }
@@ -120,7 +120,7 @@ impl Weights {
         weight
     }
 
-    /// What the places of a row of bits weigh together, where the row has so many ones.
+    /// The weight of the places of a row of bits, if the row has this many ones.
     pub(crate) fn weight_of_bits(&self, words: &RowWords, ones: u64) -> u64
         requires { (cover : List ℕ) × IsCover self.now cover × (words.now.items ≡ words_of (length self.now) cover) × (ones ≡ length cover) }
         ensures { (cover : List ℕ) → IsCover self.now cover → words.now.items ≡ words_of (length self.now) cover → ones ≡ length cover → result ≡ cover_weight self.now cover }

@@ -16,8 +16,8 @@ pub struct Asked {
     pub place: usize,
 }
 
-/// The sets that are asked for: the empty set, and then each of the others once, at its first place.
-/// They are found to be the same by random keys, or by a fixed seed.
+/// The sets that are asked for: the empty set, and then each of the others once, at its first
+/// place. Equal sets are found by random keys, or by a fixed seed.
 pub fn asked_for<R: RandomSource>(
     rt: &R,
     alloc: Global,

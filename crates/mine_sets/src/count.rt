@@ -57,7 +57,7 @@ fn count_placed<R: Threads + Sync, G: Gate + Sync>(
     joined(alloc, places, sets, supports)
 }
 
-/// Each set with what stands beside it.
+/// Each set with the value beside it.
 fn joined(
     alloc: Global,
     places: Vec<usize>,

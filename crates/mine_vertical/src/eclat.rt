@@ -18,9 +18,9 @@ use mine_classes::laws::{
 use mine_rows::Row;
 use std::alloc::Global;
 
-/// The frequent sets of a class, those whose greatest rank is the rank, as items, and how many joins
-/// were made for them (Zaki 2000). Each set is told to the tally once it is known to be frequent.
-/// `TooMany` comes where the tally is over, or the class is longer than its limit.
+/// The frequent sets of a class, those whose greatest rank is the rank, as items, and how many
+/// joins were made for them (Zaki 2000). Each set is reported to the tally once it is known to be
+/// frequent. `TooMany` comes if the tally is over, or the class is longer than its limit.
 pub fn eclat_class<R: Row, T: Tally>(
     alloc: Global,
     vertical: &Vertical<'_>,
@@ -43,7 +43,8 @@ pub fn eclat_class<R: Row, T: Tally>(
     eclat_class_with::<R, T>(alloc, vertical, &mut tables, rank, tally)
 }
 
-/// The same with tables that are used again from class to class.
+/// The class of a rank as `eclat_class` finds it, with tables that are used again from class to
+/// class.
 pub fn eclat_class_with<R: Row, T: Tally>(
     alloc: Global,
     vertical: &Vertical<'_>,

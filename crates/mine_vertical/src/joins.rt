@@ -26,7 +26,7 @@ pub struct Joins {
 }
 
 impl<R: Row> Sibling<R> {
-    /// That of a rank beside all places, by its cover.
+    /// The sibling of a rank beside all places, by its cover.
     pub fn first(
         alloc: Global,
         rank: u32,
@@ -43,7 +43,7 @@ impl<R: Row> Sibling<R> {
         Ok(Sibling { rank, row })
     }
 
-    /// One that stands for nothing yet.
+    /// A sibling that represents nothing yet.
     pub fn empty(alloc: Global) -> Self {
         Sibling {
             rank: 0,
@@ -85,7 +85,7 @@ impl<R: Row> Sibling<R> {
         self.row.mark(marks, weights);
     }
 
-    /// Undoes that.
+    /// Undoes the marks of `mark`.
     pub fn unmark(&self, marks: &mut Marks, weights: &Weights)
         requires row { (baskets : List Basket) × (set : List ℕ) × (weights.now ≡ weights_of baskets)
             × IsSibling R.stands baskets set self.now }
@@ -111,8 +111,9 @@ impl Joins {
         self.number
     }
 
-    /// The frequent pairs of a rank with lower ranks, each with its support. The joins of the pairs are
-    /// the definition's number, one for each lower rank, and no count of steps: no row is joined here.
+    /// The frequent pairs of a rank with lower ranks, each with its support. The joins of the pairs
+    /// are the definition's number, one for each lower rank, not a count of steps: no row is joined
+    /// here.
     pub fn pairs(
         &mut self,
         alloc: Global,
@@ -133,8 +134,8 @@ impl Joins {
         Ok(pairs)
     }
 
-    /// Joins two siblings, for the first of which places are marked: the set with both ranks, in the
-    /// place of another sibling. The answer is its support.
+    /// Joins two siblings, for the first of which places are marked: the set with both ranks, which
+    /// replaces another sibling. Returns its support.
     pub fn join<R: Row>(
         &mut self,
         both: &mut Sibling<R>,

@@ -1,4 +1,4 @@
-//! Laws on the work of Eclat, for whoever adds it up. Each is a function that does nothing: its
+//! Laws on the work of Eclat, for proofs that add it up. Each is a function that does nothing: its
 //! contract is the law.
 ghost use Rattle.mine_vertical.specs.Joins.{ClassJoinsAddUp, SetsOfRanksAreAll};
 

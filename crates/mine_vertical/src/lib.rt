@@ -1,6 +1,6 @@
 //! Eclat (Zaki 2000): a class is mined alone, depth first, over the places of its conditional
-//! database. A row stands for the places whose baskets contain a set; `remade` makes the database of a
-//! set anew where that is smaller.
+//! database. A row represents the places whose baskets contain a set; `remade` makes the database
+//! of a set anew if that is smaller.
 #![tactic(auto)]
 
 mod eclat;

@@ -16,7 +16,7 @@ pub struct Mined {
 }
 
 impl Mined {
-    /// Nothing yet, where sets of the items are to come, with counts up to the greatest.
+    /// Nothing yet. Sets of the items are to come, with counts up to the greatest.
     pub fn new(alloc: Global, items: &[u32], most: u64) -> Result<Self, AllocError>
         ensures sets { IfOk result (λ mined. mined.sets ≡ []) }
         ensures joins { IfOk result (λ mined. mined.joins.number ≡ 0) }
@@ -27,7 +27,7 @@ impl Mined {
         })
     }
 
-    /// Tells a frequent set to the tally, and adds it.
+    /// Reports a frequent set to the tally, and adds it.
     pub fn add<T: Tally>(
         &mut self,
         set: Itemset,
@@ -55,8 +55,8 @@ impl Mined {
         Ok(())
     }
 
-    /// Tells a frequent set to the tally, and adds it: the set at a place with one more item. The
-    /// answer is the place where it stands.
+    /// Reports a frequent set to the tally, and adds it: the set at a place with one more item.
+    /// Returns the place of the new set.
     pub fn add_longer<T: Tally>(
         &mut self,
         alloc: Global,

@@ -20,7 +20,7 @@ use mine_classes::Conditional;
 use mine_rows::{Row, Weights};
 use std::alloc::{AllocError, Global};
 
-/// The bits of each place: that of a sibling where the sibling's cover has the place. Nothing where rows
+/// The bits of each place: that of a sibling if the sibling's cover has the place. Nothing if rows
 /// don't list their covers.
 fn bits_of_places<R: Row>(
     alloc: Global,
@@ -69,8 +69,8 @@ fn ranks_of<R: Row>(alloc: Global, siblings: &[Sibling<R>]) -> Result<Vec<u32>, 
     siblings.iter().map(|sibling| sibling.rank).collect(alloc)
 }
 
-/// The database of a set, if it is large, made anew: weights of fewer places, and the same siblings over
-/// them. Nothing where rows don't list their covers, or the siblings are too many for a word.
+/// The database of a set, if it is large, made anew: weights of fewer places, and the same siblings
+/// over them. Nothing if rows don't list their covers, or the siblings are too many for a word.
 pub fn remade<R: Row>(
     alloc: Global,
     siblings: &[Sibling<R>],

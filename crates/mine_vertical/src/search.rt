@@ -28,7 +28,7 @@ pub struct Progress<R> {
     pub room: Room<R>,
 }
 
-/// Sees that a list has a sibling at a place.
+/// Makes sure that a list has a sibling at a place.
 fn make_place<R: Row>(
     alloc: Global,
     list: &mut Vec<Sibling<R>>,
@@ -45,8 +45,8 @@ fn make_place<R: Row>(
 }
 
 impl Search<'_> {
-    /// The frequent extensions of the set with the sibling's rank, in place of the first siblings of a
-    /// list: the sibling is joined with each of the others. The answer is how many they are.
+    /// The frequent extensions of the set with the sibling's rank, which replace the first siblings
+    /// of a list: the sibling is joined with each of the others. Returns how many they are.
     fn joined<R: Row>(
         &self,
         sibling: &Sibling<R>,
@@ -84,7 +84,7 @@ impl Search<'_> {
     }
 
     /// Adds the frequent sets that extend the set at a place by siblings and by what extends those,
-    /// depth first. Each set is told to the tally once it is known to be frequent.
+    /// depth first. Each set is reported to the tally once it is known to be frequent.
     #[cycle(search)]
     pub fn extend<R: Row, T: Tally>(
         &self,
@@ -119,7 +119,8 @@ impl Search<'_> {
         Ok(())
     }
 
-    /// The same by siblings of one set, whose database is made anew where it is large.
+    /// Adds the frequent sets that extend one set by siblings, as `extend` does. Its database is
+    /// made anew if it is large.
     #[cycle(search)]
     fn extend_set<R: Row, T: Tally>(
         &self,

@@ -37,8 +37,8 @@ fn conditional_of(
     Ok(merged)
 }
 
-/// The weights of merged baskets, which were so many before. More than 4,294,967,295 baskets count as a
-/// refused growth.
+/// The weights of merged baskets; before, there were this many. More than 4,294,967,295 baskets
+/// count as out of memory.
 fn merged_weights(
     alloc: Global,
     baskets: &Conditional,
@@ -56,8 +56,8 @@ fn merged_weights(
     Weights::of_vec(alloc, weights, is_halved)
 }
 
-/// The weights of merged baskets, which were so many before, and a sibling over them for each rank that
-/// is kept, whose number in the baskets is its place.
+/// The weights of merged baskets, of which there were this many before, and a sibling over them for
+/// each rank that is kept, whose number in the baskets is its place.
 pub fn siblings_of<R: Row>(
     alloc: Global,
     kept: &[u32],

@@ -11,8 +11,7 @@ use mine_classes::Runs;
 use std::alloc::{AllocError, Global};
 use std::marker::Model;
 
-/// Coded baskets with the places where each rank stands among them, in lexicographic order and
-/// merged, and the least support that meets their minimum.
+/// Coded baskets with the runs of each rank, and the least support that meets their minimum.
 #[derive(Debug, Drop)]
 pub struct Vertical<'a> {
     coded: &'a Coded,
@@ -40,7 +39,7 @@ impl<'a> Vertical<'a> {
         Ok(Vertical::of_runs(coded, Runs::of(alloc, lists)?))
     }
 
-    /// The same with runs of the coded baskets that were made before.
+    /// The coded baskets, with runs of them that were made before.
     pub fn of_runs(coded: &'a Coded, runs: Runs) -> Self
         requires ranks { runs.ranks ≡ length coded.now.items }
         requires weights { HaveSameWeights coded.now.baskets runs.baskets }
@@ -69,7 +68,7 @@ impl Vertical<'_> {
         self.least
     }
 
-    /// The places where each rank stands.
+    /// The runs of each rank.
     pub(crate) fn runs(&self) -> &Runs
         ensures ranks { result.now.ranks ≡ length self.now.items }
         ensures weights { HaveSameWeights self.now.baskets result.now.baskets }

@@ -24,7 +24,7 @@ fn are_ranks(coded: &Coded, ranks: &[u32]) -> bool
     ranks.iter().all(|rank| *rank < count)
 }
 
-/// The set of the items of the ranks, where they are ranks.
+/// The set of the items of the ranks, if they are ranks.
 fn decoded(alloc: Global, coded: &Coded, ranks: &[u32]) -> Result<Option<Itemset>, AllocError> {
     let set = Itemset::from_items(alloc, ranks)?;
     if are_ranks(coded, set.items()) {
@@ -40,7 +40,7 @@ fn is_rank_of(alloc: Global, coded: &Coded, rank: u32, item: u32) -> Result<bool
     Ok(set.is_some_and(|set| set.items() == [item].as_slice()))
 }
 
-/// Asserts that these are the items by rank, and that no more have a rank.
+/// Asserts that these are the items by rank, and that no others have a rank.
 fn assert_ranks(
     rt: &impl Abort,
     alloc: Global,

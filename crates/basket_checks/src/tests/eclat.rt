@@ -17,7 +17,7 @@ fn text(alloc: Global, found: CountedSets) -> Result<String, Fail> {
     Ok(text)
 }
 
-/// The sets of a class and its joins, where there is such a rank.
+/// The sets of a class and its joins, if there is such a rank.
 fn class<R: Kind>(
     alloc: Global,
     coded: &Coded,
@@ -50,7 +50,7 @@ fn a_class_is_the_same_by_each_kind_of_row(rt: HostRuntime) -> Result<(), Fail> 
     Ok(())
 }
 
-/// What is told to a tally that is over early, whatever the rows.
+/// What is reported to a tally that is over early, whatever the rows.
 fn told_early<R: Kind>(alloc: Global, coded: &Coded) -> Result<u64, Fail> {
     let vertical = Vertical::of(alloc, coded)?;
     let mut tally = Early { told: 0 };

@@ -39,7 +39,7 @@ fn base(alloc: Global, tree: &FpTree, rank: u32) -> Result<String, Fail> {
     Ok(text)
 }
 
-/// The fault of a class, where there is such a rank.
+/// The fault of a class, if there is such a rank.
 fn fault_of_class<T: Tally>(
     alloc: Global,
     coded: &Coded,

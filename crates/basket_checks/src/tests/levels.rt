@@ -23,7 +23,7 @@ fn listed(alloc: Global, sets: &[Itemset]) -> Result<String, Fail> {
     Ok(text)
 }
 
-/// The search after the answer to what it asks.
+/// The search after the supports that it asked for.
 fn answered<'a>(alloc: Global, coded: &Coded, levels: Levels<'a>) -> Result<Levels<'a>, Fail>
     requires { levels.coding ≡ coded.now }
     ensures { IfOk result (λ next. next.coding ≡ coded.now) }
@@ -39,7 +39,7 @@ fn is_too_many(answer: &Result<(Frequent, u64), MineFault>, limit: u32) -> bool 
     matches!(answer, Err(MineFault::TooMany { limit: told }) if *told == limit)
 }
 
-/// Asserts that the search asks these sets, and how many it has asked so far.
+/// Asserts that the search asks for these sets, and how many it has asked for so far.
 fn assert_asked(
     rt: &impl Abort,
     alloc: Global,

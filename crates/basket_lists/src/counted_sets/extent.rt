@@ -1,9 +1,9 @@
-//! How much a list of sets has, for who makes room or a table.
+//! How much a list of sets has, for code that makes room or a table.
 
 use crate::counted_sets::CountedSets;
 
 impl CountedSets {
-    /// How many items the sets have together, or `usize::MAX` where they have more.
+    /// How many items the sets have together, or `usize::MAX` if they have more.
     pub fn item_count(&self) -> usize {
         let mut items = self.plain.item_count();
         for packed in &self.packed {

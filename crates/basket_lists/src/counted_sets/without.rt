@@ -1,4 +1,4 @@
-//! Where a list has its sets without one of their items.
+//! Finds the sets of a list without one of their items.
 ghost use Rattle.std.specs.Prelude.{◌≤◌, ◌<◌, length};
 ghost use Rattle.basket_lists.specs.CountedSets.{set_at};
 ghost use Rattle.basket_lists.specs.Without.{ArePlacesWithout};
@@ -9,8 +9,8 @@ use basket_order::{NOWHERE, Places};
 use std::alloc::{AllocError, Global};
 
 impl CountedSets {
-    /// Where the sets stand that are the set at a place without one of its items, each beside the place
-    /// of that item, as far as the places say it.
+    /// Where the list has the set at a place without one of its items: each such place beside the
+    /// place of the item, as far as the places know it.
     pub fn places_without(&self, places: &Places, number: usize, found: &mut [u32; MOST_ITEMS])
         requires { number < length self.now }
         ensures { ArePlacesWithout self.now (set_at self.now number) MOST_ITEMS found.new }

@@ -1,4 +1,4 @@
-//! Where packed sets stand without one of their items.
+//! Finds packed sets without one of their items.
 ghost use Rattle.std.specs.Prelude.{◌<◌, ◌≤◌, ◌+◌, ◌*◌, ◌^◌, ◌/◌, ◌%◌, length, map};
 ghost use Rattle.basket_lists.specs.Known.{IsRestOf};
 ghost use Rattle.basket_lists.specs.Without.{ArePlacesWithout};
@@ -16,8 +16,7 @@ impl KnownItems {
         bits_hash(self.bits(packed))
     }
 
-    /// Where the packed sets stand that are a packed set without one of its items, as far as the places
-    /// say it.
+    /// Where the list has a packed set without one of its items, as far as the places know it.
     pub fn places_without(
         &self,
         sets: &[Packed],
@@ -33,8 +32,8 @@ impl KnownItems {
         let _count = self.add_places::<0>(sets, places, bits, found, count);
     }
 
-    /// Adds those without an item that has a one among the 64 bits from the lowest of them on. So many
-    /// items have higher bits.
+    /// Adds the places of the set without each of those items that have a one among 64 bits. This
+    /// many items have higher bits.
     #[inline(always)]
     fn add_places<const LOWEST: u32>(
         &self,

@@ -1,4 +1,4 @@
-//! Where sets whose items stand one behind another stand without one of them.
+//! Finds sets in a list of items without one of their items.
 ghost use Rattle.std.specs.Prelude.{◌≡◌, ◌<◌, ◌+◌, IsTrue, length, slice_index_or};
 ghost use Rattle.basket_lists.specs.CountedSets.{set_at};
 ghost use Rattle.basket_lists.specs.Without.{ArePlacesWithout, IsLongerBy, IsPlaceWithout};
@@ -9,8 +9,8 @@ use crate::plain::PlainSets;
 use basket_order::{MOST_STEPS, NOWHERE, Places, item_hash, items_hash};
 
 impl PlainSets {
-    /// Where the sets stand that are the set at a place without one of its items, as far as the places
-    /// say it.
+    /// Where the list has the set at a place without one of its items, as far as the places know
+    /// it.
     pub fn places_without(&self, places: &Places, number: usize, found: &mut [u32; MOST_ITEMS])
         requires { number < length self.now }
         ensures { ArePlacesWithout self.now (set_at self.now number) MOST_ITEMS found.new }
@@ -27,7 +27,7 @@ impl PlainSets {
         }
     }
 
-    /// Whether the set that stands at a number is another without the item at a place.
+    /// Whether the set with a number is another without the item at a place.
     fn is_without_at(&self, number: u32, items: &[u32], place: usize) -> bool
         requires place { place < length items.now }
         requires rises { IsRising items.now }
@@ -37,8 +37,8 @@ impl PlainSets {
         number < self.len() && is_without(self.items(number), items, place)
     }
 
-    /// Where the set with this hash stands that is another without the item at a place, if the places say
-    /// it.
+    /// The place of the set with this hash that is another without the item at a place, if the
+    /// places know it.
     #[inline(never)]
     fn find_without(&self, places: &Places, items: &[u32], place: usize, hash: u64) -> u32
         requires place { place < length items.now }

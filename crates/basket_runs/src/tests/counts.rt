@@ -75,7 +75,7 @@ fn a_set_without_a_count_is_told_by_its_place(rt: HostRuntime) -> Result<(), Fai
     Ok(())
 }
 
-/// Counts the sets. Want of memory is a failure of its own.
+/// Counts the sets. Out of memory is a failure of its own.
 fn counted<R: Threads + Sync, S: Source, T: Source>(
     rt: &R,
     alloc: Global,

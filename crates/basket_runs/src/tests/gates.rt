@@ -1,11 +1,11 @@
-//! Mining by two workers under gates that hold them. What is asserted holds whatever the schedule.
+//! Mining by two workers under gates that pause them. What is asserted holds whatever the schedule.
 use super::*;
 use std::sync::atomic::{AtomicU64, Ordering};
 
-/// How many turns a worker is held at most.
+/// How many turns a worker is paused at most.
 const TURNS: u64 = 1_000_000_000;
 
-/// How many sets two workers find, where they aren't too many.
+/// How many sets two workers find, if they aren't too many.
 pub fn found_by_two<R: Threads + Sync, G: Gate + Sync>(
     rt: &R,
     alloc: Global,
@@ -21,7 +21,7 @@ pub fn found_by_two<R: Threads + Sync, G: Gate + Sync>(
     }
 }
 
-/// Waits for a number to be as great as another.
+/// Waits until a number is as great as another.
 fn wait_for(number: &AtomicU64, least: u64) -> bool {
     for _ in 0..TURNS {
         if number.load(Ordering::SeqCst) >= least {
@@ -31,7 +31,7 @@ fn wait_for(number: &AtomicU64, least: u64) -> bool {
     false
 }
 
-/// Holds each of two workers in a phase until the other has come there, and notes the phases.
+/// Pauses each of two workers in a phase until the other has arrived there, and notes the phases.
 #[derive(Drop)]
 pub struct Meeting {
     phase: u32,
@@ -63,7 +63,7 @@ impl Meeting {
         self.passed.fetch_add(1, Ordering::SeqCst);
     }
 
-    /// Whether both workers came, and neither was held for all turns.
+    /// Whether both workers arrived, and neither was paused for all turns.
     pub fn met(&self) -> bool {
         self.first.load(Ordering::SeqCst) == 1
             && self.second.load(Ordering::SeqCst) == 1
@@ -106,7 +106,7 @@ fn workers_meet_in_each_phase(rt: HostRuntime) -> Result<(), Fail> {
     Ok(())
 }
 
-/// Holds the worker that has the first piece of the class phase until the others have passed.
+/// Pauses the worker that has the first piece of the class phase until the others have passed.
 #[derive(Drop)]
 pub struct FirstLast {
     others: u64,
@@ -123,7 +123,7 @@ impl FirstLast {
         }
     }
 
-    /// Whether the worker was held for all turns.
+    /// Whether the worker was paused for all turns.
     pub fn is_late(&self) -> bool {
         self.late.load(Ordering::SeqCst) != 0
     }

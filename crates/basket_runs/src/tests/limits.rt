@@ -3,12 +3,12 @@ use super::gates::{FirstLast, Meeting, found_by_two};
 use super::*;
 use std::sync::atomic::{AtomicU64, Ordering};
 
-/// 4,095 sets at a minimum of 2, of which none has more than ten items: that they are more than a limit
-/// isn't known from one of them before they are mined.
+/// 4,095 sets at a minimum of 2, of which none has more than ten items: no single set shows, before
+/// they are mined, that they are more than a limit.
 const FOUR_TENS: &[u8] =
     b"2x1 2 3 4 5 6 7 8 9 10\n2x11 12 13 14 15 16 17 18 19 20\n2x21 22 23 24 25 26 27 28 29 30\n2x31 32 33 34 35 36 37 38 39 40\n2x41\n2x42\n2x43\n";
 
-/// Where each worker had a limit of its own, three pieces a worker would be passed.
+/// If each worker had a limit of its own, a worker could pass three pieces.
 #[test]
 fn two_workers_have_one_limit(rt: HostRuntime) -> Result<(), Fail> {
     let forty = forty_items(rt.alloc())?;
@@ -25,8 +25,9 @@ fn two_workers_have_one_limit(rt: HostRuntime) -> Result<(), Fail> {
     Ok(())
 }
 
-/// While one worker is held at the first piece, of one set, the other has 1,025 in twelve pieces and 512 in
-/// the next. Before it has told of these, the first may go on to one more piece, of 256.
+/// While one worker is paused at the first piece, of one set, the other has 1,025 in twelve pieces
+/// and 512 in the next. Before it has reported these, the first may go on to one more piece, of
+/// 256.
 #[test]
 fn a_worker_stops_at_what_the_other_found(rt: HostRuntime) -> Result<(), Fail> {
     for (name, miner) in [("eclat", Miner::Eclat), ("fpgrowth", Miner::FpGrowth)] {
@@ -44,7 +45,7 @@ fn a_worker_stops_at_what_the_other_found(rt: HostRuntime) -> Result<(), Fail> {
     Ok(())
 }
 
-/// Holds one worker at its first piece of each phase.
+/// Pauses one worker at its first piece of each phase.
 #[derive(Drop)]
 struct Held {
     worker: u32,

@@ -14,8 +14,8 @@ const INPUTS: &[&[u8]] = &[
     b"2x70000 80000 90000\n2x70000 90000 4000000000\n1 70000 4000000000\n1000000x1 80000\n",
 ];
 
-/// Asserts that each miner finds the plain miner's list, however many workers share it, and does as much
-/// for it by any number of them.
+/// Asserts that each miner finds the plain miner's list, however many workers share it, and does as
+/// much work for it with any number of them.
 fn assert_plain<R: Threads + Sync + Abort>(
     rt: &R,
     alloc: Global,
