@@ -13,8 +13,9 @@ _basket() {
             [ "${COMP_WORDS[1]}" = rules ] && values="$values --conf"
             ;;
         count) values="--sets --form --sep --header --weight --workers --pieces --help" ;;
+        help) values="items sets closed maximal rules count" ;;
         esac
-        [ "$COMP_CWORD" = 1 ] && values="items sets closed maximal rules count --help --version"
+        [ "$COMP_CWORD" = 1 ] && values="items sets closed maximal rules count help --help --version"
         ;;
     esac
     mapfile -t COMPREPLY < <(compgen -W "$values" -- "$word")

@@ -52,8 +52,13 @@ def options_of(command: str) -> set[str]:
 def values_of(option: str) -> list[str]:
     """The values that help lists of an option."""
     said = run(["sets", "--help"]).out.decode()
-    found = re.search(rf"--{option} .*\[possible values: ([^]]*)\]", said)
+    found = re.search(rf"--{option} [^[]*\[possible values: ([^]]*)\]", said)
     return found[1].split(", ") if found else []
+
+
+def is_taken(command: str, option: str) -> bool:
+    """Whether the program knows an option of a command, whatever it says of the value."""
+    return "unexpected argument" not in run([command, f"{option}=?"]).said
 
 
 class Documents(unittest.TestCase):
@@ -69,26 +74,27 @@ class Documents(unittest.TestCase):
                     ended = run_script(command, ROOT)
                     self.assertEqual((ended.out.decode(), ended.status), (lines, 0))
 
-    def test_the_way_over_parts_in_readme_writes_what_it_shows_of_the_whole(
+    def test_the_way_over_parts_writes_what_is_shown_and_what_the_whole_gives(
         self,
     ) -> None:
-        text = text_of("README.md")
-        section = text.partition("## Parts\n")[2].partition("\n## ")[0]
-        script = "".join(
-            line + "\n" for line in section.splitlines() if line.startswith("    ")
+        blocks = re.findall(r"(?m)(?:^    .*\n)+", text_of("docs/PARTS.md"))
+        script, shown_lines = (re.sub(r"(?m)^    ", "", block) for block in blocks[:2])
+        whole = (
+            "basket sets --min 20% examples/shop.dat; "
+            "basket rules --min 20% --conf 2/3 examples/shop.dat"
         )
         with tempfile.TemporaryDirectory() as folder:
             Path(folder, "examples").symlink_to(ROOT / "examples")
             ended = run_script(script, Path(folder))
-        wanted = [
-            lines for command, lines in shown(text) if command.endswith("shop.dat")
-        ]
-        self.assertEqual(len(wanted), 2)
-        self.assertEqual((ended.out.decode(), ended.said), ("".join(wanted), ""))
+            at_once = run_script(whole, Path(folder))
+        self.assertEqual((ended.out.decode(), ended.said), (shown_lines, ""))
+        self.assertEqual(at_once.out.decode(), shown_lines)
 
-    def test_the_theorem_that_readme_quotes_stands_in_the_source(self) -> None:
+    def test_the_theorem_that_is_quoted_stands_in_the_source(self) -> None:
         theorem = (
-            text_of("README.md").partition("## The theorem\n")[2].partition("\n## ")[0]
+            text_of("docs/THEOREM.md")
+            .partition("## The statement\n")[2]
+            .partition("\n## ")[0]
         )
         quoted = [
             line.strip() for line in theorem.splitlines() if line.startswith("    ")
@@ -109,6 +115,40 @@ class Documents(unittest.TestCase):
                 completed = re.sub(r"(?m)^set -l .*$", "", text_of(name))
                 found = re.findall(r"(?:--|-l )([a-z]+)", completed)
                 self.assertEqual({f"--{option}" for option in found}, wanted)
+
+    def test_help_of_a_command_has_each_of_its_options_and_no_other(self) -> None:
+        known = set().union(*(options_of(command) for command in COMMANDS))
+        for command in COMMANDS:
+            taken = {option for option in known if is_taken(command, option)}
+            with self.subTest(command=command):
+                self.assertEqual(options_of(command), taken)
+
+    def test_help_is_no_wider_than_100_columns_and_help_is_a_word_too(self) -> None:
+        for words in ([], *([command] for command in COMMANDS)):
+            with self.subTest(words=words):
+                text = run([*words, "--help"]).out.decode()
+                self.assertLessEqual(max(map(len, text.splitlines())), 100)
+                self.assertEqual(run(["help", *words]).out.decode(), text)
+
+    def test_pages_tell_one_rule_of_which_miner_suits_which_data(self) -> None:
+        said = run(["--help"]).out.decode()
+        rule = re.findall(r"(?m)^  ((?:apriori|eclat|fpgrowth)\S* .*)$", said)
+        self.assertEqual(len(rule), 5)
+        for name in ("README.md", "docs/GUIDE.md", "docs/CLI.md"):
+            lines = [line.strip() for line in text_of(name).splitlines()]
+            with self.subTest(name=name):
+                self.assertEqual([line for line in rule if line not in lines], [])
+        for line in rule:
+            miner, _, text = line.partition(" ")
+            self.assertIn(f"{miner}\n{text.strip()}\n", manual())
+
+    def test_relative_links_of_documents_lead_to_files(self) -> None:
+        pages = [ROOT / "README.md", *sorted((ROOT / "docs").glob("*.md"))]
+        for page in pages:
+            links = re.findall(r"\]\(([^)#:]+)\)", page.read_text(encoding="utf-8"))
+            for link in links:
+                with self.subTest(page=page.name, link=link):
+                    self.assertTrue((page.parent / link).exists())
 
     def test_manual_and_completions_have_each_command_and_value(self) -> None:
         for name in ("man/basket.1", *COMPLETIONS):
@@ -149,9 +189,10 @@ class Documents(unittest.TestCase):
         version = run(["--version"]).out.decode().removeprefix("basket ").strip()
         self.assertRegex(version, r"^\d+\.\d+\.\d+$")
         self.assertIn(f'"basket {version}"', text_of("man/basket.1"))
+        self.assertIn(f"\nversion: {version}\n", text_of("CITATION.cff"))
         self.assertRegex(
             text_of("CHANGELOG.md"),
-            rf"\A# [^\n]*\n+(## Unreleased\n[^#]*)?## {re.escape(version)}\b",
+            rf"\A# [^#]*(## Unreleased\n[^#]*)?## {re.escape(version)}, \d{{4}}-\d\d-\d\d\n",
         )
 
     def test_the_manual_page_is_laid_out_without_a_warning(self) -> None:
