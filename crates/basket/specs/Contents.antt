@@ -22,7 +22,7 @@ abbrev pub where_read : {A B : Type 0} → (A → Result B ReadFault) → Result
 where_read next (Ok read) = next read
 where_read next (Err fault) = Err fault
 
--- but for want of memory, the answer is the one that is defined
+-- except if memory is out, the result is the one that is defined
 abbrev pub Answers : {A : Type 0} → Result A ReadFault → Result A ReadFault → Type 0
 Answers (Ok read) answer = answer ≡ Ok read
 Answers (Err fault) answer = fault ≢ Memory → answer ≡ Err fault
@@ -52,7 +52,7 @@ contents_in CsvCounts layout known bytes = by_names contents.Counts (where_read 
 abbrev pub contents_of : Layout → List (List ℕ) → List ℕ → Result Contents ReadFault
 contents_of layout known bytes = contents_in layout.form layout known bytes
 
--- what a reader that failed answers: in FIMI the fault in the bytes that it gave, else `Read`; in the other forms `Read`
+-- what a reader that failed returns: in FIMI the fault in the bytes that it gave, else `Read`; in the other forms `Read`
 abbrev pub FailsIn : Form → List ℕ → Option (List ℕ) → ReadFault → Type 0
 FailsIn Fimi bytes left fault = FailsAfter bytes left (Err fault)
 FailsIn _ bytes left fault = fault ≡ Read
@@ -75,7 +75,7 @@ named_sets_of separator bytes = where_read sets_without_counts (named_counts_of 
 abbrev pub asked_in : Layout → List ℕ → Result (List (List ℕ) × List (List ℕ)) ReadFault
 asked_in layout bytes = if has_names layout.form then named_sets_of layout.separator bytes else with_names [] (sets_of_bytes bytes)
 
--- but for want of memory, the answer is the one that is defined
+-- except if memory is out, the result is the one that is defined
 abbrev pub AskedAnswers : {A : Type 0} → Result (Vec (List ℕ) A × List (List ℕ)) ReadFault → Result (List (List ℕ) × List (List ℕ)) ReadFault → Type 0
 AskedAnswers (Ok both) answer = answer ≡ Ok (both.0.items, both.1)
 AskedAnswers (Err fault) answer = fault ≢ Memory → answer ≡ Err fault

@@ -72,12 +72,12 @@ OfBoth asked left holds = IfSome asked (λ sets. IfSome left (holds sets))
 abbrev pub WritesCounts : Layout → Option (List ℕ) → Option (List ℕ) → Option (List ℕ) → Option (List ℕ) → Type 0
 WritesCounts layout asked left before after = OfBoth asked left (λ sets bytes. (text : List ℕ) × (count_outcome layout sets bytes ≡ Ok text) × Appends before after text)
 
--- the writer took a front of them, which may be all of it
+-- the writer took a prefix of them, which may be all of it
 abbrev pub WritesCountsFront : Layout → Option (List ℕ) → Option (List ℕ) → Option (List ℕ) → Option (List ℕ) → Type 0
 WritesCountsFront layout asked left before after =
     OfBoth asked left (λ sets bytes. (text : List ℕ) × (count : ℕ) × (count_outcome layout sets bytes ≡ Ok text) × (count ≤ length text) × Appends before after (take count text))
 
--- the fault is the one of the outcome, but for want of memory; where a reader failed, it is what the form of what it reads says of that
+-- the fault is the one of the outcome, except if memory is out; if a reader failed, it is what the form of what it reads says of that
 abbrev pub IsCountFault : Layout → Option (List ℕ) → Bool → Option (List ℕ) → Option (List ℕ) → Bool → RunFault → Type 0
 IsCountFault layout asked asked_failed left after failed (Sets fault) =
     (asked_failed ≡ false → OfBoth asked left (λ sets bytes. fault ≢ Memory → count_outcome layout sets bytes ≡ Err (Sets fault)))

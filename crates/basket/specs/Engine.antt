@@ -17,20 +17,20 @@ use Rattle.basket_plan.specs.Plan.{Question}
 abbrev pub WritesReport : Option (List ℕ) → Question → Option (List ℕ) → Option (List ℕ) → Type 0
 WritesReport left question before after = IfSome left (λ bytes. (text : List ℕ) × (outcome bytes question ≡ Ok text) × Appends before after text)
 
--- the writer took a front of that report, which may be all of it
+-- the writer took a prefix of that report, which may be all of it
 abbrev pub WritesFront : Option (List ℕ) → Question → Option (List ℕ) → Option (List ℕ) → Type 0
 WritesFront left question before after =
     IfSome left (λ bytes. (text : List ℕ) × (count : ℕ) × (outcome bytes question ≡ Ok text) × (count ≤ length text) × Appends before after (take count text))
 
--- but for want of memory, the outcome is that fault of the input
+-- except if memory is out, the outcome is that fault of the input
 abbrev pub RefusesInput : Option (List ℕ) → Question → ReadFault → Type 0
 RefusesInput left question fault = IfSome left (λ bytes. fault ≢ Memory → outcome bytes question ≡ Err (Input fault))
 
--- but for want of memory, the outcome is that fault of mining
+-- except if memory is out, the outcome is that fault of mining
 abbrev pub RefusesSets : Option (List ℕ) → Question → MineFault → Type 0
 RefusesSets left question fault = IfSome left (λ bytes. fault ≢ mine.Memory → outcome bytes question ≡ Err (Mine fault))
 
--- where the reader failed, the fault is what the form of the input says of that
+-- if the reader failed, the fault is what the form of the input says of that
 abbrev pub FailsInput : Option (List ℕ) → Question → Option (List ℕ) → ReadFault → Type 0
 FailsInput left question after fault = IfSome left (λ bytes. FailsIn question.layout.form bytes after fault)
 
@@ -44,6 +44,6 @@ MakesReport question left after failed (Err (Sets fault)) = ⊥
 MakesReport question left after failed (Err (Uncounted nth)) = ⊥
 MakesReport question left after failed (Err Write) = ⊥
 
--- the outcome is that fault, but for want of memory
+-- the outcome is that fault, except if memory is out
 abbrev pub IsOutcomeFault : Result (List ℕ) RunFault → RunFault → Type 0
 IsOutcomeFault outcome fault = fault ≢ Input Memory → fault ≢ Mine mine.Memory → outcome ≡ Err fault

@@ -7,7 +7,7 @@ use Rattle.basket_read.specs.declared.fault.ReadFault.TheVariants as read
 use Rattle.basket.specs.declared.fault.RunFault.{RunFault}
 use Rattle.basket.specs.declared.fault.RunFault.TheVariants.{Input, Sets, Uncounted, Mine, Write}
 
--- the status after an input that was not read: 6 for want of memory, 4 where the reader failed, else 3
+-- the status after an input that was not read: 6 if memory is out, 4 if the reader failed, else 3
 abbrev pub status_after_input : ReadFault → ℕ
 status_after_input read.Memory = 6
 status_after_input read.Read = 4
@@ -24,7 +24,7 @@ status_after_input read.NoTotal = 3
 status_after_input (read.Subset line) = 3
 status_after_input (read.RecordCount nth) = 3
 
--- the status after mining: 6 for want of memory, 5 for too many sets
+-- the status after mining: 6 if memory is out, 5 for too many sets
 abbrev pub status_after_mining : MineFault → ℕ
 status_after_mining mine.Memory = 6
 status_after_mining (mine.TooMany limit) = 5

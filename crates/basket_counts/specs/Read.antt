@@ -1,4 +1,4 @@
--- What a reader answers.
+-- What a reader returns.
 use Rattle.std.specs.Prelude.{◌≡◌, ◌≢◌, ℕ, List, ◌++◌, Vec, Some, None, Result, Ok, Err}
 use Rattle.basket_read.specs.declared.fault.ReadFault.{ReadFault}
 use Rattle.basket_read.specs.declared.fault.ReadFault.TheVariants.{Memory}
@@ -7,12 +7,12 @@ use Rattle.basket_read.specs.declared.counted_line.CountedLine.{CountedLine}
 use Rattle.basket_counts.specs.declared.entry.Entry.{Entry}
 use Rattle.basket_counts.specs.Counts.{fault_in, entries_of}
 
--- but for want of memory, the answer is the one that is defined
+-- except if memory is out, the result is the one that is defined
 abbrev pub Answers : {X A : Type 0} → Result (Vec X A) ReadFault → Result (List X) ReadFault → Type 0
 Answers (Ok list) answer = answer ≡ Ok list.items
 Answers (Err fault) answer = fault ≢ Memory → answer ≡ Err fault
 
--- but for want of memory, the bytes have no fault and these are their entries, or the fault is theirs
+-- except if memory is out, the bytes have no fault and these are their entries, or the fault is theirs
 abbrev pub Says : {A : Type 0} → Result (Vec Entry A) ReadFault → List ℕ → Type 0
 Says (Ok entries) bytes = (fault_in bytes ≡ None) × (entries.items ≡ entries_of (text_of bytes))
 Says (Err fault) bytes = fault ≢ Memory → fault_in bytes ≡ Some fault

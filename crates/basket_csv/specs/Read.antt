@@ -1,4 +1,4 @@
--- What a reader answers.
+-- What a reader returns.
 use Rattle.std.specs.Prelude.{◌≡◌, ◌≢◌, ℕ, List, Vec, Result, Ok, Err}
 use Rattle.basket_read.specs.declared.counted_line.CountedLine.{CountedLine}
 use Rattle.basket_read.specs.declared.fault.ReadFault.{ReadFault}
@@ -6,7 +6,7 @@ use Rattle.basket_read.specs.declared.fault.ReadFault.TheVariants.{Memory}
 use Rattle.basket_csv.specs.Counts.{NamedCounts}
 use Rattle.basket_csv.specs.Csv.{Named}
 
--- but for want of memory, the answer is the one that is defined
+-- except if memory is out, the result is the one that is defined
 abbrev pub Answers : Result Named ReadFault → Result Named ReadFault → Type 0
 Answers (Ok named) answer = answer ≡ Ok named
 Answers (Err fault) answer = fault ≢ Memory → answer ≡ Err fault

@@ -1,4 +1,4 @@
--- The numbers of names that were found of late.
+-- The numbers of names that were found recently.
 use Rattle.std.specs.Prelude.{◌≤◌, ℕ, List}
 use Rattle.std.specs.List.{All}
 use Rattle.basket_csv.specs.declared.key.Key.{Key}

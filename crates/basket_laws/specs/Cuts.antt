@@ -1,4 +1,4 @@
--- FIMI texts that are cut behind line feeds.
+-- FIMI texts that are cut after line feeds.
 use Rattle.std.specs.Prelude.{◌≡◌, ℕ, List, [], ◌∷◌, ◌++◌, Ok, map}
 use Rattle.std.specs.List.{flat_map}
 use Rattle.basket_read.specs.Fimi.{fimi_of}
@@ -16,7 +16,7 @@ parts_cut fronts last = map with_line_feed fronts ++ last ∷ []
 abbrev pub text_cut : List (List ℕ) → List ℕ → List ℕ
 text_cut fronts last = flat_map with_line_feed fronts ++ last
 
--- each part of a FIMI input that is cut behind line feeds is one, and their baskets one part behind another are its baskets
+-- each part of a FIMI input that is cut after line feeds is one, and their baskets one part behind another are its baskets
 abbrev pub CutsAreParts : Type 0
 CutsAreParts = (fronts : List (List ℕ)) (last : List ℕ) (baskets : List Weighted) → fimi_of (text_cut fronts last) ≡ Ok baskets
     → (parts : List (List Weighted)) × (map fimi_of (parts_cut fronts last) ≡ map (λ part. Ok part) parts) × (whole_of parts ≡ baskets)

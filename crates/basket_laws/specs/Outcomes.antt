@@ -26,7 +26,7 @@ in_form form layout = record layout { form = form }
 abbrev pub of_counts_at : Question → ℕ × ℕ → Question
 of_counts_at question share = record question { layout = in_form Counts question.layout; minimum = Share share }
 
--- the outcome of each question over the texts of the counts of parts is that over all parts one behind another
+-- the outcome of each question over the texts of the counts of parts is that over all parts concatenated
 abbrev pub PartsAnswerAsTheWhole : Type 0
 PartsAnswerAsTheWhole = (parts : List (List Weighted)) (share : ℕ × ℕ) (sets : List (List ℕ)) (question : Question)
     → parts ≢ [] → total_of (whole_of parts) ≤ MOST_WEIGHT → All IsRising sets

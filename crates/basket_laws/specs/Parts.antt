@@ -12,7 +12,7 @@ use Rattle.basket_sets.specs.Itemset.{IsRising}
 use Rattle.basket_sets.specs.Support.{total_of}
 use Rattle.mine_sets.specs.Asked.{asked_of}
 
--- the parts one behind another
+-- the parts, concatenated
 abbrev pub whole_of : List (List Weighted) → List Weighted
 whole_of parts = flat_map (λ part. part) parts
 
@@ -33,7 +33,7 @@ said_of line = record { set = line.set; count = line.count }
 abbrev pub counts_of_parts : List (List Weighted) → List (List ℕ) → List Counted
 counts_of_parts parts sets = flat_map (λ part. map (counted part) (asked_of sets)) parts
 
--- lines with the counts of parts list, put together, exactly the frequent sets of all parts one behind another, where the sets that were counted have each that is frequent in some part
+-- lines with the counts of parts list, put together, exactly the frequent sets of all parts concatenated, where the sets that were counted have each that is frequent in some part
 abbrev pub PartsMakeTheWhole : Type 0
 PartsMakeTheWhole = (parts : List (List Weighted)) (share : ℕ × ℕ) (sets : List (List ℕ)) (lines : List CountedLine)
     → All IsRising sets

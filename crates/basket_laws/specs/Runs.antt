@@ -20,7 +20,7 @@ use Rattle.basket_laws.specs.Parts.{counts_of_parts, is_frequent_in_some}
 abbrev pub of_baskets_at : Question → ℕ × ℕ → Question
 of_baskets_at question share = record question { layout = in_form Fimi question.layout; minimum = Share share }
 
--- a good FIMI input is cut behind line feeds, and the sets of some bytes, which have each set that is frequent in some part, are counted over each part: the counts one behind another answer each question as the whole input does
+-- a good FIMI input is cut after line feeds, and the sets of some bytes, which have each set that is frequent in some part, are counted over each part: the counts concatenated answer each question as the whole input does
 abbrev pub RunsOverPartsAgree : Type 0
 RunsOverPartsAgree = (fronts : List (List ℕ)) (last asked : List ℕ) (baskets : List Weighted) (sets texts : List (List ℕ)) (share : ℕ × ℕ) (question : Question)
     → fimi_of (text_cut fronts last) ≡ Ok baskets → sets_of_bytes asked ≡ Ok sets → All IsRising sets

@@ -24,7 +24,7 @@ ReportsAreReadBack = (sets : List Counted) → All IsWritten sets → length (re
 abbrev pub texts_of_parts : List (List Weighted) → List (List ℕ) → List ℕ
 texts_of_parts parts sets = flat_map (λ part. report_of Numbered (map (counted part) (asked_of sets))) parts
 
--- the texts of parts one behind another are an input whose counted sets list the frequent sets of all parts
+-- the texts of parts, concatenated, are an input whose counted sets list the frequent sets of all parts
 abbrev pub TextsMakeTheWhole : Type 0
 TextsMakeTheWhole = (parts : List (List Weighted)) (share : ℕ × ℕ) (sets : List (List ℕ))
     → All IsRising sets

@@ -1,4 +1,4 @@
--- Sets whose items stand one behind another.
+-- Sets whose items are concatenated in one list.
 use Rattle.std.specs.Prelude.{◌≤◌, ◌+◌, ℕ, List, length, map}
 use Rattle.std.specs.List.{slice_range}
 use Rattle.basket_lists.specs.declared.place.Place.{Place}

@@ -29,7 +29,7 @@ pub record IsTogether (lines : List CountedLine) : Type 0 where
   pub in_order : IsInReportOrder (map (λ line. line.set) lines)
   pub light : All IsLight lines
 
--- but for want of memory, the answer is the one that is defined
+-- except if memory is out, the result is the one that is defined
 abbrev pub Answers : Result (List CountedLine) ReadFault → Result (List CountedLine) ReadFault → Type 0
 Answers (Ok lines) answer = answer ≡ Ok lines
 Answers (Err fault) answer = fault ≢ Memory → answer ≡ Err fault

@@ -16,7 +16,7 @@ AreCountsOf counts baskets = (first : List Weighted) × HasCounted counts.table 
 abbrev pub AreLightCounts : ItemCounts → Type 0
 AreLightCounts counts = (baskets : List Weighted) × AreCountsOf counts baskets × (total_of baskets ≤ MOST_WEIGHT)
 
--- but for want of memory, the baskets that were counted are those of the answer that is defined, or the fault is its
+-- except if memory is out, the baskets that were counted are those of the result that is defined, or the fault is its
 abbrev pub Counts : Result ItemCounts ReadFault → Result (List Weighted) ReadFault → Type 0
 Counts (Ok counts) answer = (baskets : List Weighted) × (answer ≡ Ok baskets) × AreCountsOf counts baskets
 Counts (Err fault) answer = fault ≢ Memory → answer ≡ Err fault

@@ -1,4 +1,4 @@
--- What reading answers, by the bytes that the reader had and has left, and by whether it failed.
+-- What reading returns, by the bytes that the reader had and has left, and by whether it failed.
 use Rattle.std.specs.Prelude.{◌≡◌, ◌≢◌, ℕ, Bool, true, false, List, [], ◌++◌, Option, Some, Result, Ok, Err, IfSome, MatchResult, unwrap_or}
 use Rattle.std.specs.Io.KnownBytes.{Consumes}
 use Rattle.basket_sets.specs.declared.weighted.Weighted.{Weighted}
@@ -9,7 +9,7 @@ use Rattle.basket_read.specs.declared.item_counts.ItemCounts.{ItemCounts}
 use Rattle.basket_read.specs.Fimi.{fault_in, fimi_of}
 use Rattle.basket_read.specs.Text.{Answers}
 
--- an answer after a failure: but for want of memory, the fault that was found, else `Read`
+-- a result after a failure: except if memory is out, the fault that was found, else `Read`
 abbrev pub TellsFailure : Result (List Weighted) ReadFault → Option ReadFault → Type 0
 TellsFailure (Ok baskets) found = ⊥
 TellsFailure (Err fault) found = fault ≢ Memory → fault ≡ unwrap_or found Read
@@ -28,7 +28,7 @@ pub record Ends (counting : Bool) (old : Option (List ℕ)) (failed : Bool) (cou
   pub counted : HasCounted counts.table past
   pub answer : fimi_of bytes ≡ Ok (past ++ counts.rest)
 
--- the fault is that of all bytes where the reader has not failed, and else the one that is told then
+-- the fault is that of all bytes if the reader has not failed, else the one that is returned then
 pub record Stops (old new : Option (List ℕ)) (failed : Bool) (fault : ReadFault) : Type 0 where
   pub exact : failed ≡ false → IfSome old (λ bytes. Answers (Err fault) (fimi_of bytes))
   pub fails : failed ≡ true → IfSome old (λ bytes. FailsAfter bytes new (Err fault))

@@ -49,11 +49,11 @@ GoesOn counting past P = (now : List Weighted) × (counting ≡ false → now �
 abbrev pub EndsLine : List ℕ → Type 0
 EndsLine bytes = (before : List ℕ) → (cut_at is_line_feed (before ++ bytes)).last ≡ []
 
--- but for want of memory, the fault is the one that was found
+-- except if memory is out, the fault is the one that was found
 abbrev pub Tells : ReadFault → Option ReadFault → Type 0
 Tells fault found = fault ≢ Memory → found ≡ Some fault
 
--- but for want of memory, the answer is the one that is defined
+-- except if memory is out, the result is the one that is defined
 abbrev pub Answers : Result (List Weighted) ReadFault → Result (List Weighted) ReadFault → Type 0
 Answers (Ok baskets) answer = answer ≡ Ok baskets
 Answers (Err fault) answer = fault ≢ Memory → answer ≡ Err fault

@@ -1,4 +1,4 @@
--- Texts in a room, one behind another.
+-- Texts in a room, concatenated.
 use Rattle.std.specs.Prelude.{◌≡◌, ℕ, List, ◌++◌, length, take}
 
 -- the text stands behind the first bytes of a room, up to an end

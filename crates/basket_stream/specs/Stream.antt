@@ -1,12 +1,12 @@
 -- What a read or a write says of the bytes, and of a failure.
 use Rattle.std.specs.Prelude.{ℕ, Bool, true, false, ◌&&◌, ◌==◌, nat_lt, List, length, Result, Ok, Err}
 
--- a read or a flush fails exactly where it answers an error
+-- a read or a flush fails exactly if it returns an error
 abbrev pub read_fails : {T E : Type 0} → Result T E → Bool
 read_fails (Ok x) = false
 read_fails (Err e) = true
 
--- a write fails where it answers an error, and where it takes nothing of a nonempty piece
+-- a write fails if it returns an error, or if it takes nothing of a nonempty piece
 abbrev pub write_fails : {E : Type 0} → Result ℕ E → List ℕ → Bool
 write_fails (Ok taken) bytes = taken == 0 && nat_lt 0 (length bytes)
 write_fails (Err e) bytes = true

@@ -1,4 +1,4 @@
--- What a miner of classes answers, and what the answers for all classes add up to.
+-- What a miner of classes returns, and what the results for all classes add up to.
 use Rattle.std.specs.Prelude.{◌≡◌, ◌≤◌, ◌<◌, ◌+◌, ◌-◌, ◌^◌, ℕ, IsTrue, List, [], ◌∷◌, length, map, slice_index_or}
 use Rattle.std.specs.List.{flat_map, range_with_len, sum_by}
 use Rattle.basket_sets.specs.declared.weighted.Weighted.{Weighted}

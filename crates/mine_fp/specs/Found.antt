@@ -1,4 +1,4 @@
--- What a tally is told of the sets that are found.
+-- What is reported to a tally of the sets that are found.
 use Rattle.std.specs.Prelude.{◌≡◌, ◌≤◌, ◌+◌, ◌⊎◌, ℕ, Bool, false, List, Result, Err, IsTrue, OnOk, length}
 use Rattle.basket_core.specs.declared.fault.MineFault.{MineFault}
 use Rattle.basket_core.specs.declared.fault.MineFault.TheVariants.{TooMany}

@@ -30,7 +30,7 @@ pub record CountsSets (round : RoundView) (seat : SeatView) : Type 0 where
   pub one_seen : length seat.held.seen ≡ 1
   pub known : slice_index seat.held.added 0 ≤ slice_index seat.held.seen 0
 
--- the tally counts in the one counter of its round: its seat added there what was told since the start, but for what waits, and it is over where the seat has last seen more there than the limit; then none waits
+-- the tally counts in the one counter of its round: its seat added there what was reported since the start, except what waits, and it is over where the seat has last seen more there than the limit; then none waits
 pub record IsRoundTally (start : SeatView) (tally : TallyView) : Type 0 where
   pub counts : CountsSets tally.round tally.seat
   pub same : still tally.seat ≡ still start

@@ -12,7 +12,7 @@ use Rattle.mine_phases.specs.declared.share.Share.{Share}
 abbrev pub numbers_of : {X : Type 0} → List (ℕ × X) → List ℕ
 numbers_of values = map (λ value. value.0) values
 
--- the fault to tell of two: that there are too many sets, before want of memory
+-- the fault to report of two: that there are too many sets, before out of memory
 abbrev pub worse : Option MineFault → MineFault → Option MineFault
 worse None found = Some found
 worse (Some Memory) found = Some found

@@ -96,7 +96,7 @@ Fits m (add i counter amount) = (r : Record) × (record_at m.seats i ≡ Some r)
 Fits m (read i counter) = (r : Record) × (record_at m.seats i ≡ Some r) × (counter < length m.counters)
 Fits m (join i j) = (r : Record) × (other : Record) × (record_at m.seats i ≡ Some r) × (record_at m.seats j ≡ Some other) × (i ≢ j)
 
--- what an event that fits answers: a claim its piece, or None where there is none left; an add or a read the number that it finds
+-- what an event that fits returns: a claim its piece, or None if there is none left; an add or a read the number that it finds
 abbrev pub answer : Machine → Event → Option ℕ
 answer m (claim i) = if nat_lt m.next m.pieces then Some m.next else None
 answer m (add i counter amount) = Some (slice_index m.counters counter)
@@ -104,7 +104,7 @@ answer m (read i counter) = Some (slice_index m.counters counter)
 answer m (split i) = None
 answer m (join i j) = None
 
--- the answers of these events, one after the other
+-- what these events return, one after the other
 abbrev pub answers : Machine → List Event → List (Option ℕ)
 answers m [] = []
 answers m (event ∷ events) = answer m event ∷ answers (after m event) events

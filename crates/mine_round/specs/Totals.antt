@@ -26,7 +26,7 @@ added_by seats c = sum_by (λ s. slice_index s.held.added c) seats
 abbrev pub seen_by : List SeatView → ℕ → ℕ
 seen_by seats c = greatest_by (λ s. slice_index s.held.seen c) seats
 
--- the record has what all these seats did, but for the rest
+-- the record has what all these seats did, except the rest
 pub record Gathers (r : Record) (rest all : List SeatView) : Type 0 where
   pub parts : r.parts + length rest ≡ length all
   pub claimed : (x : ℕ) → times x r.claimed + times x (claimed_by rest) ≡ times x (claimed_by all)

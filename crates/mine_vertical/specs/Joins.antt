@@ -15,7 +15,7 @@ is_join baskets minimum [] = false
 is_join baskets minimum (rank ∷ []) = false
 is_join baskets minimum (first ∷ second ∷ others) = is_frequent baskets minimum (second ∷ others) && is_frequent baskets minimum (first ∷ others)
 
--- the sets of ranks below a number, and the sets whose greatest rank is a rank, but for the rank alone
+-- the sets of ranks below a number, and the sets whose greatest rank is a rank, except the rank alone
 abbrev pub sets_of_ranks : ℕ → List (List ℕ)
 sets_of_ranks count = sets_below (λ set. true) count []
 

@@ -20,7 +20,7 @@ bit_places count [] weights = []
 bit_places count (word ∷ words) [] = []
 bit_places count (word ∷ words) (weight ∷ weights) = weighted (ranks_in count word) weight ∷ bit_places count words weights
 
--- two lists have the same baskets with the same weights, but for empty ones
+-- two lists have the same baskets with the same weights, except empty ones
 abbrev pub HaveSameNonempty : List Weighted → List Weighted → Type 0
 HaveSameNonempty baskets others = (test : List ℕ → Bool) → test [] ≡ false → weight_where test baskets ≡ weight_where test others
 
