@@ -91,3 +91,55 @@ class Statuses(unittest.TestCase):
         ended = run(SETS, many, little_memory)
         said = "basket: out of memory\n"
         self.assertEqual((ended.out, ended.said, ended.status), (b"", said, 6))
+
+
+class Closed(unittest.TestCase):
+    """Standard streams that are closed before the program starts."""
+
+    def test_a_closed_standard_input_ends_with_4_and_no_file_takes_its_place(
+        self,
+    ) -> None:
+        with tempfile.NamedTemporaryFile() as file:
+            file.write(b"1 2\n2\n")
+            file.flush()
+            rows = (
+                (ITEMS, "basket: cannot read the input\n"),
+                (["count", "--sets", file.name], "basket: cannot read the input\n"),
+                (
+                    ["count", "--sets", "-", file.name],
+                    "basket: in the sets: cannot read the input\n",
+                ),
+            )
+            for words, text in rows:
+                with self.subTest(words=words):
+                    ended = run(list(words), prepare=lambda: os.close(0))
+                    self.assertEqual(
+                        (ended.out, ended.said, ended.status), (b"", text, 4)
+                    )
+            ended = run([*SETS, file.name], prepare=lambda: os.close(0))
+            self.assertEqual((ended.out, ended.status), (b"1 (1)\n2 (2)\n1 2 (1)\n", 0))
+
+    def test_a_closed_standard_output_ends_with_4_and_leaves_files_alone(self) -> None:
+        with tempfile.NamedTemporaryFile() as file:
+            file.write(b"1 2\n")
+            file.flush()
+            for words in (
+                [*SETS, file.name],
+                ["count", "--sets", file.name, file.name],
+            ):
+                with self.subTest(words=words):
+                    ended = run(words, prepare=lambda: os.close(1))
+                    self.assertEqual(
+                        (ended.out, ended.said, ended.status),
+                        (b"", "basket: cannot write the report\n", 4),
+                    )
+            self.assertEqual(file.seek(0), 0)
+            self.assertEqual(file.read(), b"1 2\n")
+
+    def test_a_closed_standard_error_changes_neither_report_nor_status(self) -> None:
+        rows = ((b"1 2\n", b"1 (1)\n2 (1)\n1 2 (1)\n", 0), (b"1 -\n", b"", 3))
+        for given, report, status in rows:
+            ended = run(SETS, given, prepare=lambda: os.close(2))
+            self.assertEqual(
+                (ended.out, ended.said, ended.status), (report, "", status)
+            )

@@ -73,10 +73,16 @@ fn advise_on_input<R: RandomSource + Threads + Sync>(
     let alloc = rt.alloc();
     let (form, name) = (place.form_name(), place.name());
     if place.layout.header && !place.layout.form.has_names() {
-        say(rt, format!(in alloc; "--header has no effect with --form {form}").map(Some));
+        say(
+            rt,
+            format!(in alloc; "--header has no effect with --form {form}").map(Some),
+        );
     }
     if place.layout.weighted && place.layout.form != Form::Baskets {
-        say(rt, format!(in alloc; "--weight has no effect with --form {form}").map(Some));
+        say(
+            rt,
+            format!(in alloc; "--weight has no effect with --form {form}").map(Some),
+        );
     }
     if may_be_header(rt, threads, place) == Some(true) {
         let text = "no other record near the first has its names; if it is a header, add --header";
@@ -139,7 +145,11 @@ fn fault_advice<R: RandomSource + Threads + Sync>(
         RunFault::Uncounted { nth } => match asked_at(rt, threads, sets, nth) {
             Some(set) => {
                 let name = input.name();
-                format!(in alloc; "set {nth} of {} is {set}, and {name} has no line for it", sets.name()).map(Some)
+                format!(in alloc;
+                    "set {nth} of {} is {set}, and {name} has no line for it",
+                    sets.name()
+                )
+                .map(Some)
             }
             None => Ok(None),
         },

@@ -48,11 +48,18 @@ pub fn gap_at<R: RandomSource + Threads + Sync>(
     let Contents::Counts(together, names) = contents(rt, threads, place)? else {
         return None;
     };
-    let counted = together.lines().iter().find(|counted| counted.line == line)?;
+    let counted = together
+        .lines()
+        .iter()
+        .find(|counted| counted.line == line)?;
     let subset = lacking(alloc, &together, counted.set.items(), counted.count)?;
     let set = shown(alloc, counted.set.items(), &names)?;
     let lacks = shown(alloc, &subset, &names)?;
-    format!(in alloc; "in {}, the set {set} needs its subset {lacks}, with no lower count", place.name()).ok()
+    format!(in alloc;
+        "in {}, the set {set} needs its subset {lacks}, with no lower count",
+        place.name()
+    )
+    .ok()
 }
 
 /// The first subset with one item less that lacks a count or has a lower one.
@@ -120,9 +127,7 @@ pub fn may_be_header<R: RandomSource + Threads + Sync>(
     };
     let first = database.baskets().first()?;
     let counts = count_items(alloc, database.baskets()).ok()?;
-    let is_alone = counts
-        .iter()
-        .all(|(item, count)| *count == 1 || !first.basket.contains(*item));
+    let is_alone = counts.iter().all(|(item, count)| *count == 1 || !first.basket.contains(*item));
     Some(database.baskets().len() > 1 && is_alone)
 }
 

@@ -4,13 +4,16 @@ use basket::{Form, ReadFault};
 use std::alloc::{AllocError, Global};
 
 /// Advice on a fault of an input that is not about reading its bytes.
-pub fn input_advice(alloc: Global, fault: ReadFault, place: Place<'_>) -> Result<String, AllocError> {
+pub fn input_advice(
+    alloc: Global,
+    fault: ReadFault,
+    place: Place<'_>,
+) -> Result<String, AllocError> {
     let name = place.name();
     match fault {
         ReadFault::Byte { byte, .. } => byte_advice(alloc, byte, place),
         ReadFault::NotText { .. } => format!(in alloc; "in {name}; save the file as UTF-8"),
-        ReadFault::ShortRecord { .. } => format!(
-            in alloc;
+        ReadFault::ShortRecord { .. } => format!(in alloc;
             "in {name}; --form single takes a basket's id and an item's name in each record, \
 --form baskets a whole basket; see --sep too"
         ),
@@ -22,12 +25,10 @@ pub fn input_advice(alloc: Global, fault: ReadFault, place: Place<'_>) -> Result
             let header = header_advice(nth, place);
             format!(in alloc; "in {name}; each record has a count first, then names{header}")
         }
-        ReadFault::NoCount { .. } => format!(
-            in alloc;
+        ReadFault::NoCount { .. } => format!(in alloc;
             "in {name}; --form counts takes sets with counts, as 1 2 (7); baskets are --form fimi"
         ),
-        ReadFault::NoTotal => format!(
-            in alloc;
+        ReadFault::NoTotal => format!(in alloc;
             "in {name}; `count` writes that line first; a --min that is a count needs none"
         ),
         _ => format!(in alloc; "in {name}"),

@@ -2,11 +2,12 @@
 //! line of advice follows a fault.
 #![tactic(auto)]
 
-mod again;
 mod advice;
+mod again;
 mod fault_advice;
 mod kept;
 mod place;
+mod streams;
 mod words_advice;
 
 use advice::{Ends, advise_on_count, advise_on_fault, advise_on_report, advise_on_words};
@@ -24,6 +25,7 @@ use std::io::{self, ErrorKind, Read};
 use std::process::ExitCode;
 use std::random::RandomSource;
 use std::thread::Threads;
+use streams::Held;
 
 /// The status if a reader or a writer failed, or a file can't be opened.
 const BROKEN: u8 = 4;
@@ -32,6 +34,7 @@ const BROKEN: u8 = 4;
 const NO_MEMORY: u8 = 6;
 
 fn main(rt: HostRuntime) -> ExitCode {
+    let _held = Held::new(&rt);
     let status = match words(&rt) {
         Ok(words) => begin(&rt, &rt, &words),
         Err(fault) => explain(&rt, &fault, &[]),
@@ -54,11 +57,7 @@ fn no_text(rt: &HostRuntime) -> Result<String, AllocError> {
 
 /// Does what the words ask for, and returns the exit status. The workers are threads of the second
 /// runtime.
-fn begin<R: RandomSource + Threads + Sync>(
-    rt: &HostRuntime,
-    threads: &R,
-    owned: &[String],
-) -> u8 {
+fn begin<R: RandomSource + Threads + Sync>(rt: &HostRuntime, threads: &R, owned: &[String]) -> u8 {
     let words: Vec<&str> = match owned.iter().map(|word| word.as_str()).collect(rt.alloc()) {
         Ok(words) => words,
         Err(AllocError) => return explain(rt, &PlanFault::Memory, &[]),

@@ -17,7 +17,9 @@ pub fn words_advice(
     words: &[&str],
 ) -> Result<Option<String>, AllocError> {
     match text {
-        "basket: bad value for --min\n" => Ok(Some(value_advice(alloc, "--min", MIN_FORMS, words)?)),
+        "basket: bad value for --min\n" => Ok(Some(value_advice(
+            alloc, "--min", MIN_FORMS, words,
+        )?)),
         "basket: bad value for --conf\n" => {
             Ok(Some(value_advice(alloc, "--conf", CONF_FORMS, words)?))
         }
