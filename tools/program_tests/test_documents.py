@@ -124,7 +124,8 @@ class Documents(unittest.TestCase):
                 self.assertEqual(options_of(command), taken)
 
     def test_help_is_no_wider_than_100_columns_and_help_is_a_word_too(self) -> None:
-        for words in ([], *([command] for command in COMMANDS)):
+        given: list[list[str]] = [[], *([command] for command in COMMANDS)]
+        for words in given:
             with self.subTest(words=words):
                 text = run([*words, "--help"]).out.decode()
                 self.assertLessEqual(max(map(len, text.splitlines())), 100)
