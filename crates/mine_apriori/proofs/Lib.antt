@@ -11,6 +11,7 @@ mod NodeLemmas
 mod BuildLemmas
 mod ContainLemmas
 mod TreeLemmas
+mod DeepLemmas
 mod UsedLemmas
 mod EndingLemmas
 mod SupportLemmas

@@ -5,10 +5,10 @@ use Rattle.std.specs.Ordering.{nat_cmp, ordering_then}
 use Rattle.std.specs.Cmp.{nat_cmp_total}
 use Rattle.std.specs.Cmp.Lexicographic.{slice_cmp, pointwise, nat_list_cmp_total, bytes_decides}
 use Rattle.std.specs.List.{All}
-use Rattle.std.proofs.lemmas.Bool.{eqb-true, cases_lt, cases_order, or_parts, or_cases, true_from_ne_false, true≢false, false≢true}
+use Rattle.std.proofs.lemmas.Bool.{eqb-true, eq-eqb, ne_eqb, cases_eq, cases_lt, cases_order, or_parts, or_cases, false_from_ne_true, true_from_ne_false, true≢false, false≢true}
 use Rattle.std.proofs.lemmas.Bool.Decides.{nat_tests}
 use Rattle.std.proofs.lemmas.Cmp.{tied_itself}
-use Rattle.std.proofs.lemmas.List.{get_or-map, get_or_past, get_or-take, take-take, take_all}
+use Rattle.std.proofs.lemmas.List.{get_or-map, get_or_past, get_or-take, take-take, take_all, take_more_same}
 use Rattle.std.proofs.lemmas.Map.Keys.{Less-from_sorted}
 use Rattle.basket_sets.specs.Order.{report_order, IsInReportOrder}
 use Rattle.mine_apriori.specs.Nodes.{begins, starts_of, first_leaf, item_of, node_items, children_before}
@@ -77,11 +77,40 @@ differs sets depth number some same =
     ]
 
 -- where a node begins, one of the next depth does
-begins_below : (sets : List (List ℕ)) (depth number : ℕ) → begins sets depth number ≡ true → begins sets (depth + 1) number ≡ true
+pub begins_below : (sets : List (List ℕ)) (depth number : ℕ) → begins sets depth number ≡ true → begins sets (depth + 1) number ≡ true
 begins_below sets depth zero some = refl
 begins_below sets depth (suc number) some = true_from_ne_false _ (λ none.
     let longer = goes_on sets (depth + 1) number none in
     differs sets depth number some (shorter (suc depth) (suc (depth + 1)) (get_or sets number []) (get_or sets (suc number) []) (omega arith) longer))
+
+-- where none does, the items there decide
+same_below : (sets : List (List ℕ)) (depth number : ℕ) → begins sets depth (suc number) ≡ false
+    → depth + 1 < length (get_or sets number []) → depth + 1 < length (get_or sets (suc number) [])
+    → get_or (get_or sets number []) (depth + 1) 0 ≡ get_or (get_or sets (suc number) []) (depth + 1) 0 → begins sets (depth + 1) (suc number) ≡ false
+same_below sets depth number none deep deep' same = false_from_ne_true _ (λ some.
+    let a = get_or sets number [] in
+    let b = get_or sets (suc number) [] in
+    let one : suc depth ≡ depth + 1 = omega arith in
+    let two : depth + 1 + 1 ≡ suc (depth + 1) = omega arith in
+    differs sets (depth + 1) number some
+    (subst (λ n. take n a ≡ take n b) two
+    (take_more_same a b (depth + 1) 0 deep deep' (subst (λ n. take n a ≡ take n b) one (goes_on sets depth number none)) same)))
+
+other_below : (sets : List (List ℕ)) (depth number : ℕ)
+    → get_or (get_or sets number []) (depth + 1) 0 ≢ get_or (get_or sets (suc number) []) (depth + 1) 0 → begins sets (depth + 1) (suc number) ≡ true
+other_below sets depth number apart = true_from_ne_false _ (λ none.
+    apart (same_item (depth + 1) (get_or sets number []) (get_or sets (suc number) []) (goes_on sets (depth + 1) number none)))
+
+pub items_decide : (sets : List (List ℕ)) (depth number : ℕ) → begins sets depth (suc number) ≡ false
+    → depth + 1 < length (get_or sets number []) → depth + 1 < length (get_or sets (suc number) [])
+    → not (eqb (get_or (get_or sets number []) (depth + 1) 0) (get_or (get_or sets (suc number) []) (depth + 1) 0)) ≡ begins sets (depth + 1) (suc number)
+items_decide sets depth number none deep deep' =
+    let x = get_or (get_or sets number []) (depth + 1) 0 in
+    let y = get_or (get_or sets (suc number) []) (depth + 1) 0 in
+    elim (cases_eq x y) [
+      | inl same ↦ ap not (eq-eqb x y same) ∙ sym (same_below sets depth number none deep deep' same)
+      | inr apart ↦ ap not (ne_eqb x y apart) ∙ sym (other_below sets depth number apart)
+    ]
 
 -- the sets within the bounds agree up to a depth
 abbrev pub Agree : List (List ℕ) → ℕ → ℕ → ℕ → Type 0

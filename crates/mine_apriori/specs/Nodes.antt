@@ -1,4 +1,4 @@
-use Rattle.std.specs.Prelude.{◌≡◌, ◌<◌, ℕ, zero, suc, ◌+◌, ◌-◌, ◌==◌, nat_eq, Bool, not, ◌||◌, List, [], ◌∷◌, ◌++◌, length, map, take, All, slice_index, slice_index_or, if◌then◌else◌}
+use Rattle.std.specs.Prelude.{◌≡◌, ◌<◌, ℕ, zero, suc, ◌+◌, ◌-◌, ◌==◌, nat_eq, Bool, false, not, ◌||◌, List, [], ◌∷◌, ◌++◌, length, map, take, All, slice_index, slice_index_or, if◌then◌else◌}
 use Rattle.std.specs.Cmp.Lexicographic.{pointwise}
 use Rattle.mine_apriori.specs.declared.nodes.Nodes.{Nodes}
 
@@ -44,3 +44,8 @@ pub record AreNodes (sets : List (List ℕ)) (depth : ℕ) (nodes : Nodes) : Typ
 -- each set has an item at the depth
 abbrev pub AreDeep : List (List ℕ) → ℕ → Type 0
 AreDeep sets depth = All (λ set. depth < length set) sets
+
+-- a table that tells for each set whether a node of the depth begins at it
+pub record AreBegun (sets : List (List ℕ)) (depth : ℕ) (table : List Bool) : Type 0 where
+  pub long : length table ≡ length sets
+  pub each : (k : ℕ) → k < length sets → slice_index_or table k false ≡ begins sets depth k

@@ -4,9 +4,10 @@
 //! `levels` goes from size to size, from the `first_level` on, and keeps `rank_sets`. `join` makes candidates,
 //! whose subsets `search` looks up where `endings` doesn't tell already that one is missing, and `shard` counts
 //! sets, by a prefix tree where it can: `tree`, whose inner nodes are in `nodes`. `run` looks items up in the tree, by the
-//! `hints` of where they stand. The second level is made of the frequent pairs, which `partners` puts in order.
+//! `hints` of where they stand, and `deep` goes over the sets of deep nodes. The second level is made of the frequent pairs, which `partners` puts in order.
 #![tactic(auto)]
 
+mod deep;
 mod endings;
 mod first_level;
 mod hints;

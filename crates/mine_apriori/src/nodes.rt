@@ -1,7 +1,7 @@
 //! The inner nodes of a tree of candidates.
 ghost use Rattle.std.specs.Prelude.{◌≡◌, ◌<◌, ◌+◌, ◌^◌, [], ◌∷◌, ◌++◌, IfOk, OnOk, length, slice_index, All, map};
 ghost use Rattle.basket_sets.specs.Itemset.{IsRising};
-ghost use Rattle.mine_apriori.specs.Nodes.{begins, AreDeep, AreNodes};
+ghost use Rattle.mine_apriori.specs.Nodes.{begins, AreBegun, AreDeep, AreNodes};
 
 use basket_core::Itemset;
 use std::alloc::{AllocError, Global};
@@ -44,11 +44,48 @@ fn begins(sets: &[Itemset], depth: usize, number: usize) -> bool
     before[..depth + 1] != items[..depth + 1]
 }
 
-/// The nodes of a depth, by one pass over the sets.
-pub fn nodes_at(alloc: Global, sets: &[Itemset], depth: usize) -> Result<Nodes, AllocError>
+/// Whether each set begins a node of the first depth.
+pub fn roots(alloc: Global, sets: &[Itemset]) -> Result<Vec<bool>, AllocError>
+    requires { AreDeep sets.now 0 }
+    ensures { IfOk result (λ begun. AreBegun sets.now 0 begun.items) }
+{
+    let mut begun = Vec::with_capacity(alloc, sets.len())?;
+    for number in 0..sets.len() {
+        begun.push(begins(sets, 0, number))?;
+    }
+    Ok(begun)
+}
+
+/// Whether a set begins a node of the next depth: it does if it begins one of this depth, and else
+/// its item there decides.
+fn begins_below(sets: &[Itemset], depth: usize, number: usize, begun: bool) -> bool
     requires deep { AreDeep sets.now (depth + 1) }
     requires small { depth + 1 < 2 ^ 64 }
-    ensures { IfOk result (AreNodes sets.now depth) }
+    requires within { number < length sets.now }
+    requires known { begun ≡ begins sets.now depth number }
+    ensures { result ≡ begins sets.now (depth + 1) number }
+{
+    if begun || number == 0 {
+        return true;
+    }
+    let before = sets[number - 1].items();
+    let items = sets[number].items();
+    before[depth + 1] != items[depth + 1]
+}
+
+/// The nodes of a depth, by one pass over the sets. At first the table tells which sets begin one
+/// of them, and then which begin one of the next depth.
+pub fn nodes_at(
+    alloc: Global,
+    sets: &[Itemset],
+    depth: usize,
+    begun: &mut [bool],
+) -> Result<Nodes, AllocError>
+    requires deep { AreDeep sets.now (depth + 1) }
+    requires small { depth + 1 < 2 ^ 64 }
+    requires known { AreBegun sets.now depth begun.old }
+    ensures nodes { IfOk result (AreNodes sets.now depth) }
+    ensures known { OnOk result (AreBegun sets.now (depth + 1) begun.new) }
 {
     let mut nodes = Nodes {
         items: Vec::new(alloc),
@@ -56,10 +93,11 @@ pub fn nodes_at(alloc: Global, sets: &[Itemset], depth: usize) -> Result<Nodes, 
     };
     let mut children = 0;
     for (number, set) in sets.iter().enumerate() {
-        if begins(sets, depth, number) {
+        if begun[number] {
             nodes.push(set.items()[depth], children)?;
         }
-        if begins(sets, depth + 1, number) {
+        begun[number] = begins_below(sets, depth, number, begun[number]);
+        if begun[number] {
             children += 1;
         }
     }

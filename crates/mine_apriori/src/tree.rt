@@ -12,8 +12,9 @@ ghost use Rattle.mine_apriori.specs.Tree.{AreTold, IsRun, leaf_depth};
 ghost use Rattle.mine_apriori.specs.Sizes.{AreOfOneSize};
 ghost use Rattle.mine_apriori.specs.Used.{IsClear};
 
+use crate::deep::{MOST_DEPTH, count_deep};
 use crate::hints::Hints;
-use crate::nodes::{Nodes, items_at, nodes_at};
+use crate::nodes::{Nodes, items_at, nodes_at, roots};
 use crate::run::{Rest, are_known, count_leaves, find_by, marked_at_most};
 use crate::used::{keep_used, known_for, longest, mark, no_items, unmark, used_items};
 use basket_core::{Itemset, Weighted};
@@ -58,9 +59,10 @@ impl<'a> CandidateTree<'a> {
             Some(set) => set.len() - 1,
             None => 0,
         };
+        let mut begun = roots(alloc, sets)?;
         let mut inner = Vec::with_capacity(alloc, last)?;
         for depth in 0..last {
-            inner.push(nodes_at(alloc, sets, depth)?)?;
+            inner.push(nodes_at(alloc, sets, depth, &mut begun)?)?;
         }
         let leaves = items_at(alloc, sets, last)?;
         let hints = Hints::of(alloc, &inner, &leaves)?;
@@ -202,6 +204,10 @@ impl<'a> CandidateTree<'a> {
         ensures { AddsWithin (λ leaf. contains rest.now.items.now (drop depth (slice_index_or self.now leaf []))) rest.now.weight
             (first_leaf self.now depth start) (first_leaf self.now depth end) counts.old counts.new }
     {
+        if depth == MOST_DEPTH {
+            count_deep(self.sets, &self.inner, depth, start..end, rest, counts);
+            return;
+        }
         let Some(nodes) = self.inner.get(depth) else {
             count_leaves(&self.leaves, start, end, &self.hints, rest, counts);
             return;

@@ -17,7 +17,7 @@ at_leaves : (t : ℕ) (c : walk-In_default t) → c.args.depth ≡ leaf_depth c.
 at_leaves t c =
     let tree = subst (λ s. IsTree s c.self.inside.inner.items c.self.inside.leaves.items) c.self.view_is c.self.invariant.0 in
     let deep = tree.deep in
-    let all = ap length c.deref.ensures.value in
+    let all = ap length c.deref-2.ensures.value in
     let past = c.in_default.ensures.lookup.3 in
     omega (arith, c.requires.deep)
 
@@ -60,14 +60,14 @@ at_inner t c =
     let sets = c.args.self.now in
     let tree = subst (λ s. IsTree s c.self.inside.inner.items c.self.inside.leaves.items) c.self.view_is c.self.invariant.0 in
     let deep = tree.deep in
-    let all = ap length c.deref.ensures.value in
+    let all = ap length c.deref-2.ensures.value in
     let below = c.in-Some.ensures.lookup.3.0 in
     record {
       full = are_full sets tree.sized;
       in_order = tree.in_order;
       rising = tree.rising;
       inner = omega arith;
-      are_nodes = nodes_read sets c.self.inside.inner.items c.self.inside.leaves.items c.args.depth c.deref.result.now c.in-Some.nodes.now tree c.deref.ensures.value below c.in-Some.ensures.lookup.1;
+      are_nodes = nodes_read sets c.self.inside.inner.items c.self.inside.leaves.items c.args.depth c.deref-2.result.now c.in-Some.nodes.now tree c.deref-2.ensures.value below c.in-Some.ensures.lookup.1;
       run = c.requires.run;
       up = c.requires.rising;
       enough = omega (arith, c.self.inside.inner.ok.0, c.len.ensures, c.saturating_sub-most.ensures);

@@ -1,7 +1,8 @@
-use Rattle.std.proofs.Common.{◌≡◌, ℕ, List, [], length, map, get_or, suc, sym, ap, ◌∙◌, arith}
-use Rattle.std.proofs.lemmas.List.{nil_from_length}
+use Rattle.std.proofs.Common.{◌≡◌, ◌+◌, ℕ, List, [], length, map, get_or, suc, subst, sym, ap, ◌∙◌, arith, rules}
+use Rattle.std.proofs.lemmas.List.{nil_from_length, take_at}
+use Rattle.mine_apriori.specs.Nodes.{AreBegun}
 use Rattle.mine_apriori.specs.Tree.{leaf_depth}
-use Rattle.mine_apriori.proofs.BuildLemmas.{leaf_items}
+use Rattle.mine_apriori.proofs.BuildLemmas.{inner_more, leaf_items}
 use Rattle.mine_apriori.proofs.TreeLemmas.{are_full}
 use Rattle.mine_apriori.proofs.tree.CandidateTree.of.Goals as goal
 use Rattle.mine_apriori.proofs.tree.CandidateTree.of.Goals.{in-Some, in-None}
@@ -25,3 +26,13 @@ invariant_of-result c =
       },
       c.in_ok-used_items.ensures,
     )
+
+pub loop-depth-preserved : goal.loop-depth-preserved
+loop-depth-preserved c =
+    let table = c.nodes_at.new.begun in
+    let whole = take_at table _ c.loop-depth.begun.len (c.nodes_at.auto.begun ∙ c.deref_mut.ensures.len) in
+    record {
+      count = search rules;
+      known = subst (AreBegun c.args.sets.now (c.loop-depth.depth + 1)) (sym whole) c.in_ok-nodes_at.ensures.known;
+      each = inner_more c.args.sets.now c.loop-depth.depth c.loop-depth.inner.items c.push.new.self.items _ c.in_ok-push.ensures.items c.loop-depth.invariant.count c.in_ok-nodes_at.ensures.nodes c.loop-depth.invariant.each;
+    }
