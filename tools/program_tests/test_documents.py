@@ -149,6 +149,7 @@ class Documents(unittest.TestCase):
         version = run(["--version"]).out.decode().removeprefix("basket ").strip()
         self.assertRegex(version, r"^\d+\.\d+\.\d+$")
         self.assertIn(f'"basket {version}"', text_of("man/basket.1"))
+        self.assertIn(f"\nversion: {version}\n", text_of("CITATION.cff"))
         self.assertRegex(
             text_of("CHANGELOG.md"),
             rf"\A# [^\n]*\n+(## Unreleased\n[^#]*)?## {re.escape(version)}\b",
