@@ -3,6 +3,7 @@
 PREFIX ?= $(HOME)/.local
 PROGRAM := crates/basket_cli/out/basket_cli
 STAGES := crates/basket_bench/out/basket_bench
+YARDSTICK := bench/out/yardstick
 TESTS := crates/basket_checks/% crates/basket_runs/%
 SOURCES := crates.txt $(filter-out $(TESTS),$(shell find crates -name out -prune -o -type f \( -name '*.rt' -o -name '*.antt' \) -print))
 PLACE := $(DESTDIR)$(PREFIX)
@@ -59,9 +60,14 @@ pictures: $(if $(BASKET),,$(PROGRAM))
 	tools/python-packages
 	/usr/bin/python3 tools/pictures.py
 
-# Times the program, and its stages, and writes bench/RESULTS.md.
 $(STAGES): $(SOURCES)
 	tools/prove.py basket_bench
 
-bench: $(PROGRAM) $(STAGES)
-	bench/run.py $(PROGRAM) --stages $(STAGES)
+# What a C++ program takes for the same work.
+$(YARDSTICK): bench/yardstick.cpp
+	mkdir -p $(@D)
+	$(CXX) -O3 -march=x86-64-v2 -std=c++17 -o $@ $<
+
+# Times the program, beside the C++ program, and its stages, and writes bench/RESULTS.md.
+bench: $(PROGRAM) $(STAGES) $(YARDSTICK)
+	bench/run.py $(PROGRAM) --beside $(YARDSTICK) --stages $(STAGES)
