@@ -1,13 +1,14 @@
-.PHONY: all demo test test-python install uninstall package wheel bench pictures
+.PHONY: all demo try test test-python install uninstall package wheel bench pictures
 
 PREFIX ?= $(HOME)/.local
 PROGRAM := crates/basket_cli/out/basket_cli
 STAGES := crates/basket_bench/out/basket_bench
+YARDSTICK := bench/out/yardstick
 TESTS := crates/basket_checks/% crates/basket_runs/%
 SOURCES := crates.txt $(filter-out $(TESTS),$(shell find crates -name out -prune -o -type f \( -name '*.rt' -o -name '*.antt' \) -print))
 PLACE := $(DESTDIR)$(PREFIX)
 
-# Proves and builds the program, if that is not done, on all processors.
+# Proves and builds the program, if that is not done, on all processors. A second make goes on where one failed.
 all: $(PROGRAM)
 
 $(PROGRAM): $(SOURCES)
@@ -16,6 +17,13 @@ $(PROGRAM): $(SOURCES)
 # Builds the program without its proofs and runs it over examples/.
 demo:
 	tools/demo.py
+
+# Builds the program without its proofs and runs it once over a file of yours, as
+#     make try FILE=receipts.csv WORDS="rules --min 1% --conf 1/2 --form single --header"
+#     make try FILE=shop.dat SETS=found.txt WORDS="count"
+# Standard output is the report alone.
+try:
+	@tools/try.py $(if $(SETS),--sets "$(SETS)") "$(FILE)" $(WORDS)
 
 # The gate: proves every crate and its tests from nothing, tries the must-fail edits, and tests the program
 # and the Python package.
@@ -26,7 +34,8 @@ test:
 test-python: $(if $(BASKET),,$(PROGRAM))
 	tools/test.py --python
 
-# Puts the program, its manual page and its completions below PREFIX.
+# Puts the program, its manual page and its completions below PREFIX. Like package, wheel and bench, it proves and
+# builds the program first, if that is not done.
 install: $(PROGRAM)
 	install -D -m 755 $(PROGRAM) $(PLACE)/bin/basket
 	install -D -m 644 man/basket.1 $(PLACE)/share/man/man1/basket.1
@@ -51,9 +60,14 @@ pictures: $(if $(BASKET),,$(PROGRAM))
 	tools/python-packages
 	/usr/bin/python3 tools/pictures.py
 
-# Times the program, and its stages, and writes bench/RESULTS.md.
 $(STAGES): $(SOURCES)
 	tools/prove.py basket_bench
 
-bench: $(PROGRAM) $(STAGES)
-	bench/run.py $(PROGRAM) --stages $(STAGES)
+# What a C++ program takes for the same work.
+$(YARDSTICK): bench/yardstick.cpp
+	mkdir -p $(@D)
+	$(CXX) -O3 -march=x86-64-v2 -std=c++17 -o $@ $<
+
+# Times the program, beside the C++ program, and its stages, and writes bench/RESULTS.md.
+bench: $(PROGRAM) $(STAGES) $(YARDSTICK)
+	bench/run.py $(PROGRAM) --beside $(YARDSTICK) --stages $(STAGES)

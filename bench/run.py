@@ -1,9 +1,9 @@
 #!/usr/bin/env python3
 """Times a program over baskets of the generators here, and writes RESULTS.md here.
 
-With --beside another program runs in turn with it, which takes `items --min M`, and
-`fast --min M` for `sets`, and has to write the same bytes. With --stages the program
-that times the stages of `sets` runs too."""
+With --beside the C++ program of yardstick.cpp runs in turn with it over the same files,
+and has to write the same bytes. With --stages the program that times the stages of
+`sets` runs too."""
 
 import argparse
 import ctypes
@@ -32,8 +32,12 @@ INPUTS = {
     "100,000 of some forty items": "quest.py 40 10 100000 1000 2000 2",
     "60,000 of some four items": "quest.py 4 2 60000 20000 20000 3",
     "8,000 of 23 attributes": "dense.py 8000 23 8 1",
+    "4,600 of a store's departments": "shapes.py store 4600 1",
+    "1,550 texts": "shapes.py news 1550 1",
+    "56,000 of packages": "shapes.py packages 56000 1",
+    "990,000 visits to pages": "shapes.py clicks 990000 1",
 }
-MANY, SPARSE, FORTY, SHORT, DENSE = INPUTS
+MANY, SPARSE, FORTY, SHORT, DENSE, STORE, NEWS, PACKAGES, CLICKS = INPUTS
 
 TABLES = {
     "Items": [(MANY, "items --min 1")],
@@ -44,6 +48,10 @@ TABLES = {
         (SHORT, "sets --min 1/5000"),
         (DENSE, "sets --min 10%"),
         (DENSE, "sets --min 5%"),
+        (STORE, "sets --min 3%"),
+        (NEWS, "sets --min 4%"),
+        (PACKAGES, "sets --min 1/2000"),
+        (CLICKS, "sets --min 1/1000"),
     ],
     "Closed and maximal itemsets, and rules": [
         (DENSE, "closed --min 10%"),
@@ -67,9 +75,12 @@ GIVEN = [(SPARSE, "1/1000"), (SPARSE, "1/10000"), (DENSE, "10%")]
 
 STAGES = [(SPARSE, "1/1000"), (FORTY, "1%"), (DENSE, "10%")]
 
-# The shell ends at once and leaves the program to this process. A process has at least
-# the memory of the one that begins it, and a shell has little.
+# The shell leaves the program to this process. A process has at least the memory of the
+# one that begins it, and a shell has little.
 START = 'data=$1; report=$2; shift 2; "$@" < "$data" > "$report" & echo $!'
+
+BESIDE = """
+*Times the C++ program's seconds*: the program yardstick.cpp here ran in turn and wrote the same bytes."""
 
 Words = Sequence[str]
 
@@ -135,18 +146,17 @@ class Bench:
     def rows(self, says: str, command: str) -> list[list[str]]:
         """A row for each miner: all for `sets`, and for what is made of these one."""
         print(says, command, sep=": ", file=sys.stderr)
-        verb, _, options = command.partition(" ")
+        verb = command.split()[0]
         miners = MINERS if verb == "sets" else ["eclat-bits"]
         words = [self.program, *command.split(), "--miner"]
         commands: list[Words] = [[*words, miner] for miner in miners]
         if self.beside and verb in ("items", "sets"):
-            other = "fast" if verb == "sets" else verb
-            commands.append([self.beside, other, *options.split()])
+            commands.append([self.beside, *command.split()])
         lines, runs = in_turn(commands, self.data[says])
         rows = []
         for miner, run in zip(miners, runs):
             by = "" if verb == "items" else miner
-            took = [f"{run.seconds:.3f}", f"{run.memory:.0f}"]
+            took = f"{run.seconds:.3f}", f"{run.memory:.0f}"
             rows.append([says, f"`{command}`", f"{lines:,}", by, *took])
             if len(commands) > len(miners):
                 rows[-1].append(f"{run.seconds / max(runs[-1].seconds, 0.001):.1f}")
@@ -158,7 +168,7 @@ class Bench:
             rows = [row for each in commands for row in self.rows(*each)]
             head = ["Baskets", "Command", "Lines", "Miner", "Seconds", "MB"]
             if len(rows[0]) > len(head):
-                head.append("Times the other program's seconds")
+                head.append("Times the C++ program's seconds")
             text += ["", f"## {title}", "", *table(head, rows)]
         return text
 
@@ -227,13 +237,14 @@ def main() -> None:
     commit = output("git", "-C", str(HERE), "describe", "--always", "--dirty")
     with tempfile.TemporaryDirectory() as folder:
         bench = Bench(given.program, given.beside, folder)
-        text = [*bench.tables(), *bench.given(), *bench.shared()]
+        found = [*bench.tables(), *bench.given(), *bench.shared()]
         if given.stages:
-            text += bench.stages(given.stages)
+            found += bench.stages(given.stages)
     made = f"{machine()}; {datetime.date.today()}; {commit}; {output('rt', 'version')}."
     how = f"Least processor time and most memory of {RUNS} runs in turn."
-    lines = ["# Results", "", f"{made} {how}", *text, ""]
-    (HERE / "RESULTS.md").write_text("\n".join(lines), encoding="utf-8")
+    head = ["# Results", "", f"{made} {how}", BESIDE if given.beside else ""]
+    text = "\n".join([*head, *found, ""])
+    (HERE / "RESULTS.md").write_text(text, encoding="utf-8")
 
 
 main()

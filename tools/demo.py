@@ -3,10 +3,11 @@
 
 import re
 import shutil
-import subprocess
 import sys
 import tempfile
 from pathlib import Path
+
+import kit
 
 RUNS = (
     ("shop.dat", "sets --min 20%"),
@@ -16,16 +17,8 @@ RUNS = (
 )
 
 
-def written(folder: str) -> tuple[int, str, str]:
-    """Runs each case of a folder, and answers the status, what the program wrote, and what `rt` said."""
-    words = ["rt", "try", "--cases", folder]
-    ended = subprocess.run(
-        words, cwd="crates/basket_cli", capture_output=True, text=True, check=False
-    )
-    return ended.returncode, ended.stdout, ended.stderr
-
-
 def main() -> None:
+    kit.demand()
     print(
         "Building the program without its proofs, which takes a minute or two.",
         flush=True,
@@ -36,14 +29,16 @@ def main() -> None:
             Path(folder, f"{number}.args").write_text(
                 words.replace(" ", "\n") + "\n", encoding="utf-8"
             )
-        status, out, said = written(folder)
+        ended = kit.tried(["--cases", folder])
+    out = ended.out.decode()
     parts = re.split(r"(?m)^== \d+\n", out)[1:]
-    if status != 0 or len(parts) != len(RUNS):
-        sys.exit(f"{out}{said}The program was not built, or didn't run.")
+    if ended.status != 0 or len(parts) != len(RUNS):
+        sys.exit(f"{out}{ended.said}The program was not built, or didn't run.")
     for (data, words), lines in zip(RUNS, parts):
         print(f"\n$ basket {words} < examples/{data}\n{lines}", end="")
     print(
-        "\nThis program is not proved yet: `make` proves and builds it, in some half an hour on four processors."
+        "\nThis program is not proved yet: `make` proves and builds it, in some half an hour on four processors.\n"
+        'Over a file of yours: make try FILE=shop.csv WORDS="sets --min 1% --form baskets"'
     )
 
 

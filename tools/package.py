@@ -3,7 +3,8 @@
 
 usage: tools/package.py    at the top of the repository, after `make`
 
-The same program and commit give the same bytes: every file has the commit's time and root as its owner.
+The documents keep their places beside each other, so that their links hold: it ends with what it found where
+one doesn't. The same program and commit give the same bytes: every file has the commit's time and root as its owner.
 """
 
 import gzip
@@ -12,18 +13,23 @@ import os
 import re
 import shutil
 import subprocess
+import sys
 import tempfile
 from pathlib import Path
 
 PROGRAM = Path("crates/basket_cli/out/basket_cli")
 DOCUMENTS = (
-    "README.md",
-    "CHANGELOG.md",
-    "docs/FORMATS.md",
-    "docs/DEFINITIONS.md",
-    "docs/RELEASE.md",
-    "LICENSE",
+    "*.md",
+    "CITATION.cff",
+    "LICENSE*",
+    "NOTICE",
+    "docs/*.md",
+    "docs/pictures/*.png",
+    "bench/RESULTS.md",
+    "examples/*",
+    "python/README.md",
 )
+PLACE = "share/doc/basket"
 PLACES = {
     "completions/basket.bash": "share/bash-completion/completions/basket",
     "completions/_basket": "share/zsh/vendor-completions/_basket",
@@ -44,11 +50,73 @@ def least_libc() -> str:
     return f"{major}.{minor}"
 
 
+def documents() -> list[str]:
+    """The documents of a package, by their places in the repository."""
+    return sorted(str(path) for name in DOCUMENTS for path in Path().glob(name))
+
+
+def links_of(document: str) -> list[str]:
+    """The files that a document links to, by their places in the repository."""
+    text = Path(document).read_text(encoding="utf-8")
+    text = re.sub(r"(?ms)^```.*?^```|`[^`\n]*`|^    .*?$", "", text)
+    found = re.findall(r"\]\(<?([^)>\s]+)|\b(?:src|href)=\"([^\"]+)", text)
+    links = [(one or other).partition("#")[0] for one, other in found]
+    folder = os.path.dirname(document)
+    return [
+        os.path.normpath(os.path.join(folder, link))
+        for link in links
+        if link and not re.match(r"[a-z]+:", link)
+    ]
+
+
+def check_links() -> None:
+    """Ends this process where a document links to a file that is not packaged."""
+    packaged = documents()
+    folders = {str(folder) for name in packaged for folder in Path(name).parents}
+    lost = [
+        f"{name} links to {link}, which is not packaged"
+        for name in packaged
+        if name.endswith(".md")
+        for link in links_of(name)
+        if link not in packaged and link not in folders
+    ]
+    if lost:
+        sys.exit("\n".join(lost))
+
+
+def indented(text: str) -> str:
+    """A text as a field of Debian's has it: lines behind a space, and a point on an empty one."""
+    lines = text.strip().splitlines()
+    return "\n".join(f" {line}" if line.strip() else " ." for line in lines)
+
+
+def copyright_of(version: str) -> str:
+    """Debian's copyright file, which programs can read."""
+    permission = Path("LICENSE-MIT").read_text(encoding="utf-8").partition("\n\n")[2]
+    return f"""Format: https://www.debian.org/doc/packaging-manuals/copyright-format/1.0/
+Upstream-Name: basket
+Comment:
+ basket {version}. The program has libraries of the kit that built it linked into
+ it. The file NOTICE beside this one has what the kit states of their copyright
+ and their licenses, with the texts.
+
+Files: *
+Copyright: the basket authors
+License: Expat or Apache-2.0
+
+License: Expat
+{indented(permission)}
+
+License: Apache-2.0
+ On Debian systems the text of the Apache License, Version 2.0, is the file
+ /usr/share/common-licenses/Apache-2.0.
+"""
+
+
 def fill(prefix: Path) -> None:
     """Puts the program, its manual page, completions and documents below a prefix."""
     places = {str(PROGRAM): "bin/basket", **PLACES}
-    documents = [name for name in DOCUMENTS if Path(name).is_file()]
-    places |= {name: f"share/doc/basket/{Path(name).name}" for name in documents}
+    places |= {name: f"{PLACE}/{name}" for name in documents()}
     for name, place in places.items():
         (prefix / place).parent.mkdir(parents=True, exist_ok=True)
         shutil.copyfile(name, prefix / place)
@@ -65,9 +133,11 @@ def settle(folder: Path, time: int) -> None:
         os.utime(path, (time, time))
 
 
-def write_control(tree: Path, version: str) -> None:
+def write_debian(tree: Path, version: str) -> None:
     size = sum(path.stat().st_size for path in tree.rglob("*") if path.is_file())
     (tree / "DEBIAN").mkdir()
+    terms = tree / "usr" / PLACE / "copyright"
+    terms.write_text(copyright_of(version), encoding="utf-8")
     (tree / "DEBIAN/control").write_text(
         f"""Package: basket
 Version: {version}
@@ -92,6 +162,7 @@ def sum_up(made: Path) -> None:
 
 
 def main() -> None:
+    check_links()
     version = output_of(str(PROGRAM), "--version").removeprefix("basket ")
     time = int(output_of("git", "log", "-1", "--format=%ct"))
     os.environ["SOURCE_DATE_EPOCH"] = str(time)
@@ -118,7 +189,7 @@ def main() -> None:
         sum_up(made)
         tree = Path(folder, "debian")
         fill(tree / "usr")
-        write_control(tree, version)
+        write_debian(tree, version)
         settle(tree, time)
         made = dist / f"basket_{version}_amd64.deb"
         output_of(

@@ -4,9 +4,10 @@
 usage: tools/prove.py PROGRAM..    at the top of the repository
 
 The crates are copied, without their must-fail edits, into a folder of their own, and `rt ci` proves
-them there from nothing: several at once, those with the longest chain of others behind them first.
+them there: several at once, those with the longest chain of others behind them first. It keeps each
+proof on this machine, so a second run proves only what failed, what changed, and the crates above.
 Each program is built, run on its own files stdin and args, and put into its folder out/. Prints a line
-for each crate once it is proved, and what the checker says where one is not.
+for each crate once it is proved, and all that the checker says of one that is not.
 """
 
 import os
@@ -20,11 +21,14 @@ import time
 from collections.abc import Iterator
 from pathlib import Path
 
-PROVED = re.compile(r"rt: (\w+) proved")
-# Lines on what is well.
-WELL = re.compile(
-    r"\w+ \S+: (proved|modules loaded)|logic |logic=proved|by-macro: |empty contracts: 0 "
-)
+import kit
+
+# What the checker says of a crate begins and ends so. A crate that an earlier run proved has no more than its end.
+BEGINS = re.compile(r"== ")
+PROVED = re.compile(r"rt: (\w+)(?: is kept: .*| proved)$")
+FAILED = re.compile(r"rt: (.+) NOT PROVED")
+# Lines of a crate that failed on what is well in it.
+WELL = re.compile(r"\w+ \S+: (proved$|modules loaded)|by-macro: ")
 
 
 def say(text: str) -> None:
@@ -68,7 +72,7 @@ def copy_to(
         shutil.copytree(Path("crates", name), tree / "crates" / name, ignore=unread)
 
 
-def proved_in(tree: Path) -> Iterator[str]:
+def lines_of(tree: Path) -> Iterator[str]:
     """The lines that `rt ci` prints over the tree. An interrupt ends it with all that it started."""
     checker = subprocess.Popen(
         ["rt", "ci"],
@@ -89,28 +93,58 @@ def proved_in(tree: Path) -> Iterator[str]:
             os.killpg(checker.pid, signal.SIGKILL)
 
 
+class Report:
+    """What the checker says, of which that on crates that failed, and on none, is kept."""
+
+    def __init__(self) -> None:
+        self.faults: list[str] = []
+        self.loose: list[str] = []
+        self._of_crate: list[str] | None = None
+
+    def take(self, line: str) -> str | None:
+        """Takes a line. The crate that it says is proved, if it does."""
+        if BEGINS.match(line):
+            self._of_crate = [line]
+        elif found := PROVED.match(line):
+            self._of_crate = None
+            return found[1]
+        elif FAILED.match(line):
+            self.faults += [*(self._of_crate or []), line]
+            self._of_crate = None
+        elif self._of_crate is None:
+            self.loose.append(line)
+        elif not WELL.match(line):
+            self._of_crate.append(line)
+        return None
+
+    def text(self) -> str:
+        """What the checker said of what failed, and its last lines."""
+        return "".join([*self.faults, *(self._of_crate or []), *self.loose])
+
+
 def prove(
     programs: list[str], crates: dict[str, tuple[str, list[str]]], tree: Path
 ) -> None:
     names = needed(programs, crates)
-    copy_to(tree, names, crates)
     say(
-        f"Proving {len(names)} crates, once. On four processors that takes some half an hour."
+        f"{' '.join(programs)} is not built as its sources stand. Proving its {len(names)} crates first, which takes "
+        "some 25 minutes on four processors, and less where some of them are proved already."
     )
-    begun, done, said = time.monotonic(), 0, []
+    copy_to(tree, names, crates)
+    begun, done, report = time.monotonic(), 0, Report()
     try:
-        for line in proved_in(tree):
-            if not WELL.match(line):
-                said.append(line)
-            if found := PROVED.match(line):
+        for line in lines_of(tree):
+            if name := report.take(line):
                 done += 1
                 minutes, seconds = divmod(round(time.monotonic() - begun), 60)
                 say(
-                    f"{found[1]}: proved, {done} of {len(names)} after {minutes}:{seconds:02}"
+                    f"{name}: proved, {done} of {len(names)} after {minutes}:{seconds:02}"
                 )
     except subprocess.CalledProcessError:
         say("Not proved. What the checker said:")
-        sys.exit("".join(said))
+        sys.exit(
+            f"{report.text()}{done} of {len(names)} crates are proved, and kept: a second `make` goes on from there."
+        )
     for program in programs:
         made = Path("crates", program, "out", program)
         made.parent.mkdir(exist_ok=True)
@@ -119,6 +153,7 @@ def prove(
 
 
 def main(programs: list[str]) -> None:
+    kit.demand()
     crates = listed()
     strange = [
         name for name in programs if not Path("crates", name, "src/main.rt").is_file()

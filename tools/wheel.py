@@ -4,8 +4,8 @@
 usage: tools/wheel.py [FOLDER]    at the top of the repository, after `make`; FOLDER instead of dist
 
 `BASKET` names another program. The wheel's tag is that of the oldest C library that has all symbols which
-the program asks for. It needs `setuptools`, `wheel` and `pip` of the Python that runs this, `objdump`, and no
-network. The same program and commit give the same bytes.
+the program asks for. It needs `setuptools`, `wheel` and `pip` of the system's Python, `objdump`, and no
+network: tools/python-packages installs them. The same program and commit give the same bytes.
 """
 
 import os
@@ -18,6 +18,9 @@ from pathlib import Path
 
 PROGRAM = Path(os.environ.get("BASKET", "crates/basket_cli/out/basket_cli"))
 PACKAGE = Path("python")
+# The system's Python, which has Debian's packages, whatever other is first on the path.
+PYTHON = "/usr/bin/python3"
+LICENCES = ("LICENSE", "LICENSE-APACHE", "LICENSE-MIT", "NOTICE")
 # The oldest C library that a tag can name: a static program asks for none.
 LEAST = (2, 5)
 
@@ -26,6 +29,23 @@ def output_of(*words: str) -> str:
     return subprocess.run(
         words, stdout=subprocess.PIPE, text=True, check=True
     ).stdout.strip()
+
+
+def demand() -> None:
+    """Ends this process with one line where what makes a wheel isn't there."""
+    words = [PYTHON, "-c", "import setuptools, wheel, pip"]
+    try:
+        has_all = not subprocess.run(words, capture_output=True, check=False).returncode
+    except FileNotFoundError:
+        has_all = False
+    if not has_all or not shutil.which("objdump"):
+        sys.exit(
+            f"A wheel needs {PYTHON} with pip, setuptools and wheel, and objdump: tools/python-packages installs them."
+        )
+    if not PROGRAM.is_file():
+        sys.exit(
+            f"{PROGRAM} is not here: `make` builds it, or BASKET names another program."
+        )
 
 
 def platform() -> str:
@@ -41,9 +61,11 @@ def platform() -> str:
 
 
 def copy_package(folder: Path) -> None:
-    """The package's sources in a folder, with the program among them."""
-    for name in ("pyproject.toml", "README.md"):
+    """The package's sources in a folder, with the program and the licences among them."""
+    for name in ("pyproject.toml", "setup.py", "README.md"):
         shutil.copy(PACKAGE / name, folder)
+    for name in LICENCES:
+        shutil.copy(name, folder)
     shutil.copytree(
         PACKAGE / "basket_miner",
         folder / "basket_miner",
@@ -58,7 +80,7 @@ def copy_package(folder: Path) -> None:
 def build(source: Path, folder: Path) -> Path:
     """The wheel of a package's sources, in a folder."""
     time = output_of("git", "log", "-1", "--format=%ct")
-    words = [sys.executable, "-m", "pip", "wheel", "--quiet", "--no-index", "--no-deps"]
+    words = [PYTHON, "-m", "pip", "wheel", "--quiet", "--no-index", "--no-deps"]
     words += ["--no-build-isolation", f"--wheel-dir={folder}"]
     words += [f"--config-settings=--build-option=--plat-name={platform()}", str(source)]
     environment = {**os.environ, "SOURCE_DATE_EPOCH": time, "PYTHONWARNINGS": "ignore"}
@@ -68,6 +90,7 @@ def build(source: Path, folder: Path) -> Path:
 
 
 def main(words: list[str]) -> int:
+    demand()
     folder = Path(words[0] if words else "dist")
     folder.mkdir(parents=True, exist_ok=True)
     with tempfile.TemporaryDirectory(prefix="basket-wheel-") as name:

@@ -48,6 +48,7 @@ from ._errors import (
 )
 from ._itemsets import closed, items, maximal, sets
 from ._rules import count, rules
+from ._version import __version__
 
 __all__ = [
     "BasketError",
@@ -58,6 +59,7 @@ __all__ = [
     "ProgramMissing",
     "TooManySets",
     "UsageError",
+    "__version__",
     "closed",
     "count",
     "items",

@@ -1,10 +1,22 @@
-"""The exceptions of this package: one family, by what the program answers with."""
+"""The exceptions of this package: one family, by what the program ends with.
 
+Each may have advice in Python's own words as a note, which stands below the message in a traceback.
+"""
+
+import re
 import signal
+from typing import NamedTuple
 
 
 class BasketError(Exception):
     """Whatever goes wrong here. The message is the program's, where it has one."""
+
+    def __init__(self, *told: object) -> None:
+        super().__init__(*told)
+        for advice in _ADVICE:
+            if isinstance(self, advice.kinds) and re.search(advice.said, str(self)):
+                self.add_note(advice.hint)
+                break
 
 
 class UsageError(BasketError):
@@ -42,6 +54,76 @@ _BY_STATUS: dict[int, type[BasketError]] = {
     5: TooManySets,
     6: OutOfMemory,
 }
+
+
+class _Advice(NamedTuple):
+    """What helps where an exception of some kinds says what a regular expression finds."""
+
+    kinds: tuple[type[BasketError], ...]
+    said: str
+    hint: str
+
+
+_WORDS = (UsageError, DataError)
+# Bytes that CSV has and FIMI text doesn't: quotes, separators, letters, and what begins a letter of UTF-8.
+_OF_CSV = r"0x(22|2C|3B|7C|[46][1-9A-F]|[57][0-9A]|[C-F][0-9A-F])"
+
+# The first that fits is told.
+_ADVICE = (
+    _Advice(
+        _WORDS,
+        r"bad value for --min|\ba? ?minimum ((as a (count|share) )?is|\S+ is) ",
+        "A minimum is a count of baskets as an int, as 20; or a share of all baskets as a float from 0 to 1, where "
+        '0.2 is 20%, as a fractions.Fraction, or as a text: "20%" or "1/5". A text "20" is a count.',
+    ),
+    _Advice(
+        _WORDS,
+        r"bad value for --conf|\ba? ?confidence ((as a share )?is|\S+ is) ",
+        "A confidence is a share: a float from 0 to 1, where 0.6 is 60%, a fractions.Fraction, or a text as "
+        '"60%" or "2/3".',
+    ),
+    _Advice(
+        (InputError,),
+        rf"line \d+: byte {_OF_CSV} is no digit or blank",
+        "The file was read as FIMI text, which has numbers alone. If it is CSV, give "
+        'form="baskets" for a basket in each record, or form="single" for a basket\'s id and an item in each.',
+    ),
+    _Advice(
+        (InputError,),
+        r"fewer than two fields",
+        'form="single" wants two fields in each record, a basket\'s id and an item. Give sep= if the separator is '
+        'no comma, and form="baskets" if a record has a whole basket.',
+    ),
+    _Advice(
+        (InputError,),
+        r"no count of the empty set",
+        "The counts have to begin with the number of all baskets, as `basket count` writes it; without it, give the "
+        "minimum as a count and ask for no rules.",
+    ),
+    _Advice(
+        (TooManySets,), r"", "Raise the minimum, or limit= if more itemsets are wanted."
+    ),
+    _Advice(
+        (OutOfMemory,),
+        r"",
+        "Raise the minimum: fewer frequent itemsets take less memory. With limit= such a question ends early.",
+    ),
+    _Advice(
+        (FileError,),
+        r"cannot open .*: No such file",
+        "A path without a leading / begins at the current folder, which os.getcwd() tells.",
+    ),
+    _Advice(
+        (FileError,),
+        r"cannot open ",
+        "The system does not let this user open the file: see its owner and its permissions.",
+    ),
+    _Advice(
+        (FileError,),
+        r"cannot read ",
+        "The path may be that of a folder, where a file is wanted, or the disk failed.",
+    ),
+)
 
 
 def error_of(status: int, said: str) -> BasketError:
