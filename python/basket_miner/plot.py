@@ -32,7 +32,7 @@ from ._picture import (
 
 _LINES = ("#0072B2", "#D55E00", "#009E73", "#CC79A7", "#56B4E9")
 _MARKS = "os^Dv"
-# So many dots and more are drawn small, without edges.
+# More dots are drawn small, with thin edges.
 _MOST_EDGED = 300
 _STRENGTH = ["lift", "confidence", "support"]
 
@@ -58,7 +58,8 @@ def rules(frame: pd.DataFrame, axes: Axes | None = None, most: int = 5) -> Axes:
     style = {
         "norm": scale_of(frame["lift"]),
         "cmap": COLOURS,
-        "edgecolors": "black" if is_few else "none",
+        "edgecolors": "black" if is_few else "grey",
+        "linewidths": 1.0 if is_few else 0.3,
     }
     rising = frame.sort_values("lift", kind="stable")
     is_low = rising["lift"] < 1
@@ -68,7 +69,7 @@ def rules(frame: pd.DataFrame, axes: Axes | None = None, most: int = 5) -> Axes:
     )
     for part, mark, label, size in reversed(kinds):
         places = 100 * part["support"], 100 * part["confidence"]
-        area = size if is_few else size / 5
+        area = size if is_few else size / 4
         dots = axes.scatter(*places, c=part["lift"], marker=mark, s=area, **style)
     if is_low.any() and not is_low.all():
         own = {"color": "lightgrey", "markeredgecolor": "black", "linestyle": "none"}
