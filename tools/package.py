@@ -3,8 +3,8 @@
 
 usage: tools/package.py    at the top of the repository, after `make`
 
-The documents keep their places beside each other, so that their links hold: it ends with what it found where
-one doesn't. The same program and commit give the same bytes: every file has the commit's time and root as its owner.
+The documents keep their places beside each other, so that their links hold: if one doesn't, it says which and
+packs nothing. The same program and commit give the same bytes: every file has the commit's time and root as its owner.
 """
 
 import gzip
@@ -69,19 +69,17 @@ def links_of(document: str) -> list[str]:
     ]
 
 
-def check_links() -> None:
-    """Ends this process where a document links to a file that is not packaged."""
+def lost_links() -> list[str]:
+    """The links of packaged documents to files that are not packaged, in words."""
     packaged = documents()
     folders = {str(folder) for name in packaged for folder in Path(name).parents}
-    lost = [
+    return [
         f"{name} links to {link}, which is not packaged"
         for name in packaged
         if name.endswith(".md")
         for link in links_of(name)
         if link not in packaged and link not in folders
     ]
-    if lost:
-        sys.exit("\n".join(lost))
 
 
 def indented(text: str) -> str:
@@ -162,7 +160,8 @@ def sum_up(made: Path) -> None:
 
 
 def main() -> None:
-    check_links()
+    if lost := lost_links():
+        sys.exit("\n".join(lost))
     version = output_of(str(PROGRAM), "--version").removeprefix("basket ")
     time = int(output_of("git", "log", "-1", "--format=%ct"))
     os.environ["SOURCE_DATE_EPOCH"] = str(time)

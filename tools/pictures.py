@@ -28,7 +28,7 @@ def main(words: list[str]) -> None:
     pictures = {
         "rules": plot.rules(found),
         "minimums": plot.minimums(RECEIPTS, counts, form="single", header=True),
-        "strongest": plot.strongest(found),
+        "strongest": plot.strongest(found[found["count"] >= 3]),
     }
     for name, axes in pictures.items():
         axes.figure.savefig(folder / f"{name}.png", metadata={"Software": None})

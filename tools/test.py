@@ -15,6 +15,8 @@ import unittest
 from pathlib import Path
 from xml.etree import ElementTree
 
+import kit
+
 BUILT = "crates/basket_cli/out/basket_cli"
 # The system's Python, which has Debian's packages.
 PYTHON = "/usr/bin/python3"
@@ -27,6 +29,7 @@ Sum = tuple[int, int]
 
 def proved() -> Sum:
     """Runs `rt ci`, and answers what it counts as passed and as failed."""
+    kit.demand()
     last = ""
     with subprocess.Popen(["rt", "ci"], stdout=subprocess.PIPE, text=True) as checker:
         assert checker.stdout

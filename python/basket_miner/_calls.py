@@ -14,6 +14,7 @@ import pandas as pd
 from ._baskets import Baskets
 from ._data import Data, Layout, read
 from ._errors import DataError
+from ._minimum import exact_minimum, least_count
 from ._program import run
 from ._report import rules_frame, sets_frame
 
@@ -52,8 +53,13 @@ def asked(
     )
     weight = _weight_of(baskets)
     if command == "rules":
-        return rules_frame(report, baskets, weight, exact=work.exact)
-    return sets_frame(report, baskets, weight, exact=work.exact)
+        frame = rules_frame(report, baskets, weight, exact=work.exact)
+    else:
+        frame = sets_frame(report, baskets, weight, exact=work.exact)
+    minimum = exact_minimum(words[0].removeprefix("--min="))
+    # Whoever draws the frame sees below which count it has nothing.
+    frame.attrs["minimum"] = least_count(minimum, weight)
+    return frame
 
 
 def _weight_of(baskets: Baskets) -> int:

@@ -40,6 +40,24 @@ def confidence_word(confidence: Confidence) -> str:
     return _share_word(confidence if whole is None else Fraction(whole), "confidence")
 
 
+def exact_minimum(minimum: Minimum) -> int | Fraction:
+    """A minimum as a count or as a share."""
+    word = minimum_word(minimum)
+    try:
+        if word.endswith("%"):
+            return Fraction(int(word[:-1]), 100)
+        return Fraction(word) if "/" in word else int(word)
+    except (ValueError, ZeroDivisionError):
+        raise DataError(f"{word!r} is no minimum") from None
+
+
+def least_count(minimum: int | Fraction, total: int) -> int:
+    """The least count that meets a minimum in baskets of a total weight."""
+    if isinstance(minimum, int):
+        return minimum
+    return max(math.ceil(minimum * total), 1)
+
+
 def share_of(value: object) -> Fraction | None:
     """The share that a `Fraction` is or a float prints, or nothing."""
     if isinstance(value, Fraction):

@@ -44,12 +44,41 @@ def overlapping(texts: list[matplotlib.text.Text]) -> list[tuple[str, str]]:
 
 
 def test_each_rule_is_a_dot_and_those_of_a_lift_below_1_are_triangles() -> None:
-    low, high = plot.rules(RULES).collections[:2]
+    high, low = plot.rules(RULES).collections[:2]
     assert low.get_offsets().tolist() == [[25, 50]]
     assert low.get_array().tolist() == [0.75]
     assert high.get_offsets().tolist() == [[12.5, 75], [50, 100], [12.5, 25]]
     assert high.get_array().tolist() == [1.5, 2.0, 2.0]
     assert len(low.get_paths()[0].vertices) < len(high.get_paths()[0].vertices)
+
+
+def test_the_rules_of_highest_lift_are_named_those_of_one_place_together() -> None:
+    found = [
+        *RULES.itertuples(index=False),
+        (frozenset("d"), frozenset("a"), 0.5, 1.0, 9),
+    ]
+    frame = pd.DataFrame(found, columns=RULES.columns)
+    named = [text.get_text() for text in plot.rules(frame, most=3).texts]
+    assert named == ["d → a\nb → c", "a → c, d"]
+    assert len(plot.rules(frame, most=0).texts) == 0
+    assert len(plot.rules(frame.drop(columns="antecedents")).texts) == 0
+
+
+def test_a_lift_has_one_colour_in_all_pictures_and_1_is_in_the_middle() -> None:
+    scales = [
+        plot.rules(RULES).collections[0].norm,
+        plot.strongest(RULES, most=2).collections[0].norm,
+    ]
+    for lift, part in ((0.25, 0.0), (0.5, 0.25), (1, 0.5), (2, 0.75), (4, 1.0)):
+        assert [round(float(scale(lift)), 12) for scale in scales] == [part, part]
+    wide = RULES.assign(lift=[0.0, 5.0, np.inf, 1.0])
+    scale = plot.rules(wide).collections[0].norm
+    assert [round(float(scale(lift)), 12) for lift in (0.025, 1, 40, 99)] == [
+        0,
+        0.5,
+        1,
+        1,
+    ]
 
 
 def test_lines_are_the_numbers_of_sets_of_each_size_that_meet_a_minimum() -> None:
@@ -96,6 +125,27 @@ def test_the_matrix_has_the_strongest_rules_at_their_sides() -> None:
     }
 
 
+def test_a_cell_has_the_number_of_baskets_where_the_frame_has_it() -> None:
+    axes = plot.strongest(RULES.assign(count=[2, 4, 1, 1]), most=1)
+    assert [text.get_text() for text in axes.texts] == ["2\n100%\n4"]
+
+
+def test_a_dollar_sign_in_a_name_begins_no_formula() -> None:
+    axes = plot.strongest(
+        frame_of(("$a_b$", "c", 0.5, 1.0, 2.0)).assign(
+            antecedents=[frozenset(["5$ card \\x$"])]
+        )
+    )
+    axes.figure.canvas.draw()
+    assert [text.get_text() for text in axes.get_yticklabels()] == [r"5\$ card \x\$"]
+
+
+def test_the_scale_of_counts_has_ticks_between_which_one_can_read() -> None:
+    axes = plot.minimums(map(list, BASKETS), [1, 2])
+    ticks = [text.get_text() for text in axes.get_yticklabels()]
+    assert ticks == ["0", "1", "2", "5", "10", "20", "50", "100", "200"]
+
+
 def test_a_picture_is_drawn_on_the_axis_that_is_given() -> None:
     figure, axes = matplotlib.pyplot.subplots(3)
     frame = sets(map(list, BASKETS), 1)
@@ -125,6 +175,11 @@ def test_frames_and_minimums_that_cannot_be_drawn_are_refused() -> None:
         plot.strongest(RULES.drop(columns="lift"))
     with pytest.raises(DataError, match="at least 1"):
         plot.strongest(RULES, most=0)
+    frame = sets(map(list, BASKETS), "25%")
+    for minimum in (2, 0.2):
+        with pytest.raises(DataError, match="in 3 baskets or more"):
+            plot.minimums(frame, [minimum, 1.0] if minimum < 1 else [minimum])
+    assert plot.minimums(frame, [3, 4]).lines[0].get_ydata()[0] == len(frame)
     refused: list[list[Minimum]] = [[], [1, 0.5], ["one"], ["1/0"]]
     for minimums in refused:
         with pytest.raises(DataError):

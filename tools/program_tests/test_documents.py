@@ -1,10 +1,13 @@
 """README, manual page, completions and change log say what the program does."""
 
+import contextlib
 import re
 import subprocess
 import tempfile
 import unittest
 from pathlib import Path
+
+from package import lost_links
 
 from .program import ROOT, run, run_script
 
@@ -185,6 +188,10 @@ class Documents(unittest.TestCase):
     def test_the_program_of_the_library_page_is_the_one_that_runs(self) -> None:
         shown_there = re.findall(r"(?s)```rust\n(.*?)```", text_of("docs/LIBRARY.md"))
         self.assertEqual(shown_there, [text_of("crates/basket_example/src/main.rt")])
+
+    def test_each_link_between_documents_leads_to_a_file_that_is_packaged(self) -> None:
+        with contextlib.chdir(ROOT):
+            self.assertEqual(lost_links(), [])
 
     def test_the_version_is_the_same_everywhere(self) -> None:
         version = run(["--version"]).out.decode().removeprefix("basket ").strip()

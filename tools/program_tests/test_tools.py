@@ -1,0 +1,65 @@
+"""What the tools say where something failed."""
+
+import tempfile
+import unittest
+from pathlib import Path
+
+from package import links_of
+from prove import Report
+
+# As `rt ci` prints it.
+CHECKED = """\
+== basket_stream
+by-macro: thiserror::Error blocks=2
+fn basket_stream::sink::write: proved
+note: something of basket_stream
+logic=proved functions=28
+rt: basket_stream proved
+rt: basket_order is kept: an earlier run on this machine proved the same files over the same libraries
+== basket_report
+fn basket_report::text: proved
+error: an open goal of basket_report::line
+logic=not-proved functions=9
+rt: basket_report NOT PROVED
+rt: basket NOT PROVED: its library basket_report failed
+rt: FAILED: basket_report basket
+2 passed, 2 failed
+"""
+
+
+class Tools(unittest.TestCase):
+    """Tools over texts that are written here."""
+
+    def test_a_failed_proof_is_told_with_what_the_checker_says_of_that_crate_alone(
+        self,
+    ) -> None:
+        report = Report()
+        lines = CHECKED.splitlines(keepends=True)
+        proved = [name for line in lines if (name := report.take(line))]
+        self.assertEqual(proved, ["basket_stream", "basket_order"])
+        self.assertEqual(
+            report.text().splitlines(),
+            [
+                "== basket_report",
+                "error: an open goal of basket_report::line",
+                "logic=not-proved functions=9",
+                "rt: basket_report NOT PROVED",
+                "rt: basket NOT PROVED: its library basket_report failed",
+                "rt: FAILED: basket_report basket",
+                "2 passed, 2 failed",
+            ],
+        )
+
+    def test_links_are_those_outside_code_and_to_files_alone(self) -> None:
+        with tempfile.TemporaryDirectory() as folder:
+            page = Path(folder, "page.md")
+            page.write_text(
+                "[`a`](a.md#part) ![b](<../b.png>) [c](https://c.org) [d](#d) `[e](e.md)`\n"
+                '\n```text\n[f](f.md)\n```\n\n    [g](g.md)\n\n<img src="h.png">\n',
+                encoding="utf-8",
+            )
+            above = Path(folder).parent
+            self.assertEqual(
+                links_of(str(page)),
+                [f"{folder}/a.md", f"{above}/b.png", f"{folder}/h.png"],
+            )
