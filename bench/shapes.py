@@ -1,5 +1,5 @@
 #!/usr/bin/env python3
-"""Writes baskets in the FIMI format, in the shape of data that are often met: shapes.py SHAPE BASKETS SEED.
+"""Writes baskets in the FIMI format, in the shape of data that are common: shapes.py SHAPE BASKETS SEED.
 
 store     varied baskets of a store's 120 departments, 23 in the mean, hardly two of them equal
 news      texts as sets of some of 9,400 words, 86 in the mean: few baskets, very many items
@@ -22,8 +22,8 @@ def falling(count: int, power: float) -> list[float]:
 
 
 def store(source: random.Random, count: int) -> Iterator[set[int]]:
-    """A customer is of some of eight tastes. A taste likes a third of the departments more than others do, and a
-    customer comes for a small or a large purchase."""
+    """A customer has two of eight tastes, and comes for a small or a large purchase. Who has a taste buys more in a
+    third of the departments."""
     items = range(1, 121)
     shares = [0.02 + 0.65 * source.random() ** 3 for _ in items]
     tastes = [[1.6 if source.random() < 0.33 else 0.8 for _ in items] for _ in range(8)]
@@ -57,7 +57,7 @@ def news(source: random.Random, count: int) -> Iterator[set[int]]:
 
 
 def packages(source: random.Random, count: int) -> Iterator[set[int]]:
-    """A basket takes what belongs together of one to three families; large families are taken more often."""
+    """A basket has the first item of one to three families, and few or most of the others that they have."""
     ends = list(
         itertools.accumulate(2 + int(source.paretovariate(1.1)) for _ in range(9000))
     )

@@ -173,19 +173,20 @@ class Found {
 struct Prefix {
     Found& found;
     u32 items[512], size = 0;
-    void push(u32 item) {
+    // Puts an item to its place, which it returns.
+    u32 push(u32 item) {
         u32 at = size++;
         for (; at && items[at - 1] > item; at--) items[at] = items[at - 1];
         items[at] = item;
+        return at;
     }
-    void pop(u32 item) {
-        u32* at = std::find(items, items + size, item);
-        std::copy(at + 1, items + size--, at);
+    void pop(u32 at) {
+        for (size--; at < size; at++) items[at] = items[at + 1];
     }
     void add(u32 item, u32 count) {
-        push(item);
+        u32 at = push(item);
         found.add(items, size, count);
-        pop(item);
+        pop(at);
     }
 };
 
@@ -224,9 +225,9 @@ class Words {
     // Lists the sets of the prefix and a member and later members, those of one member being listed.
     void grow(const Node& node, const Member* members, u32 size) {
         for (u32 i = 0; i + 1 < size; i++) {
-            prefix.push(names[members[i].bit]);
+            u32 at = prefix.push(names[members[i].bit]);
             if (!remade(node, members + i, size - i)) join(node, members + i, size - i);
-            prefix.pop(names[members[i].bit]);
+            prefix.pop(at);
         }
     }
     void join(const Node& node, const Member* members, u32 size) {
@@ -253,7 +254,7 @@ class Words {
     }
     // Mines the first member's class as a node of its own, if its cover is so sparse that this pays.
     bool remade(const Node& node, const Member* members, u32 size) {
-        if (node.length < 4 || size < 6) return false;
+        if (node.length < 4 || size < 10) return false;
         size_t baskets = 0;
         for (size_t i = 0; i < node.length; i++) baskets += ones(members[0].cover[i]);
         if (baskets > node.length * 16) return false;
@@ -349,9 +350,9 @@ class Search {
                 if (word) baskets.push_back({word, 1});
                 if (own.items.size() > begun) own.items.push_back(own.size);
             }
-            prefix.push(all.names[item]);
+            u32 at = prefix.push(all.names[item]);
             own.size <= 64 ? words.mine(baskets, own.names.data()) : mine(own);
-            prefix.pop(all.names[item]);
+            prefix.pop(at);
             baskets.clear();
         }
     }

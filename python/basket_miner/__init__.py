@@ -33,7 +33,7 @@ error what runs, where that is a terminal or a notebook. An interrupt ends the p
 
 `basket_miner.frequent_patterns` has the calls of mlxtend.
 
-All errors are of the family `BasketError`.
+All errors are of the family `BasketError`. Some have advice as a note, which a traceback shows below the message.
 """
 
 from ._errors import (

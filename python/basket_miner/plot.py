@@ -118,7 +118,8 @@ def minimums(
         options: of `basket_miner.sets`, as `basket=` and `item=`.
 
     Raises:
-        DataError: there is no minimum, one doesn't fit, or counts and shares are mixed.
+        DataError: there is no minimum, one doesn't fit, counts and shares are mixed, or the frame
+            was made at a higher minimum, which it has as `frame.attrs["minimum"]`, a count.
         BasketError: as `basket_miner.sets` does.
     """
     asked = sorted({exact_minimum(minimum) for minimum in minimums})
