@@ -1,4 +1,7 @@
-"""The blocks of docs/GUIDE.md, run in their order beside what the guide shows that they print."""
+"""The blocks of docs/GUIDE.md, beside what the guide shows that they print.
+
+Each section is run after the first one alone, as a reader may paste it.
+"""
 
 import contextlib
 import importlib.util
@@ -7,7 +10,7 @@ import os
 import re
 import shutil
 import subprocess
-from collections.abc import Iterator
+from collections.abc import Callable, Iterator
 from dataclasses import dataclass
 from fractions import Fraction
 from pathlib import Path
@@ -32,6 +35,7 @@ class Block:
     """A block of code, what it needs beside the package, and what it shall print."""
 
     line: int
+    section: str
     language: str
     needed: str
     code: str
@@ -40,9 +44,17 @@ class Block:
 
 def blocks() -> list[Block]:
     return [
-        Block(GUIDE.count("\n", 0, found.start()) + 2, *found.groups())
+        Block(
+            GUIDE.count("\n", 0, found.start()) + 2, section_at(found), *found.groups()
+        )
         for found in FENCE.finditer(GUIDE)
     ]
+
+
+def section_at(found: re.Match[str]) -> str:
+    """The heading of the section that has what was found."""
+    headings: list[str] = re.findall(r"(?m)^## (.*)$", GUIDE[: found.start()])
+    return headings[-1]
 
 
 @pytest.fixture(scope="module")
@@ -58,9 +70,14 @@ def place(tmp_path_factory: pytest.TempPathFactory) -> Iterator[Path]:
 
 
 @pytest.fixture(scope="module")
-def names() -> dict[str, Any]:
-    """What the blocks of Python have named so far."""
-    return {"__name__": "guide"}
+def names_in(place: Path) -> Callable[[str], dict[str, Any]]:
+    """What the blocks of a section have named so far: at first what the first section names."""
+    started: dict[str, Any] = {"__name__": "guide"}
+    for block in blocks():
+        if block.section == blocks()[0].section:
+            printed_by(block, started)
+    sections: dict[str, dict[str, Any]] = {}
+    return lambda section: sections.setdefault(section, dict(started))
 
 
 def printed_by(block: Block, names: dict[str, Any]) -> str:
@@ -77,13 +94,13 @@ def printed_by(block: Block, names: dict[str, Any]) -> str:
 
 @pytest.mark.parametrize("block", blocks(), ids=lambda block: f"line {block.line}")
 def test_a_block_prints_what_the_guide_shows(
-    block: Block, place: Path, names: dict[str, Any]
+    block: Block, place: Path, names_in: Callable[[str], dict[str, Any]]
 ) -> None:
     if block.needed and importlib.util.find_spec(block.needed) is None:
         pytest.skip(f"{block.needed} is not here")
     if block.language == "r" and shutil.which("Rscript") is None:
         pytest.skip("R is not here")
-    assert printed_by(block, names) == (block.printed or "")
+    assert printed_by(block, names_in(block.section)) == (block.printed or "")
 
 
 def test_the_pictures_that_the_guide_shows_are_there() -> None:
@@ -104,3 +121,10 @@ def test_the_first_block_gives_the_rules_that_readme_shows(place: Path) -> None:
         wanted.append((frozenset({left}), frozenset({right}), *figures))
     found = names["found"].drop(columns="support")
     assert list(found.itertuples(index=False, name=None)) == wanted
+
+
+def test_the_example_of_readme_prints_what_it_shows(place: Path) -> None:
+    readme = (ROOT / "README.md").read_text(encoding="utf-8")
+    (found,) = FENCE.finditer(readme)
+    block = Block(0, "README", *found.groups())
+    assert printed_by(block, {}) == block.printed
