@@ -9,6 +9,7 @@ mod fraction;
 mod growth;
 mod itemset;
 mod levels;
+mod round;
 mod rules;
 mod seats;
 mod shard;
