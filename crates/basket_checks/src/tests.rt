@@ -1,8 +1,10 @@
 ghost use Rattle.std.specs.Prelude.{nat_lt};
 
 mod bits;
+mod classes;
 mod codes;
 mod databases;
+mod depth;
 mod eclat;
 mod fimi;
 mod fraction;
