@@ -1,14 +1,17 @@
 ghost use Rattle.std.specs.Prelude.{nat_lt};
 
 mod bits;
+mod classes;
 mod codes;
 mod databases;
+mod depth;
 mod eclat;
 mod fimi;
 mod fraction;
 mod growth;
 mod itemset;
 mod levels;
+mod round;
 mod rules;
 mod seats;
 mod shard;

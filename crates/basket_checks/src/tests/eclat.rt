@@ -7,7 +7,7 @@ use std::fmt::Write;
 use std::test::Fail;
 
 /// The sets of a class in report order, as text.
-fn text(alloc: Global, found: CountedSets) -> Result<String, Fail> {
+pub fn text(alloc: Global, found: CountedSets) -> Result<String, Fail> {
     let mut sets = found.unpacked(alloc)?;
     sets.sort_unstable();
     let mut text = String::new(alloc);
