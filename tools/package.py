@@ -140,7 +140,7 @@ def write_debian(tree: Path, version: str) -> None:
         f"""Package: basket
 Version: {version}
 Architecture: amd64
-Maintainer: the developers of basket <basket@localhost>
+Maintainer: the basket authors <basket@localhost>
 Depends: libc6 (>= {least_libc()})
 Installed-Size: {size // 1024 + 1}
 Section: math
