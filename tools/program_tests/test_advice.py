@@ -48,6 +48,11 @@ class Advice(unittest.TestCase):
             (["sets", "--min=.005"], f"{least}; .005 is 1/200"),
             (["sets", "--min", "20 %"], least),
             (["sets", "--min", "-5"], least),
+            ([*SETS, "--conf", "1/2"], "only `rules` takes --conf"),
+            (
+                ["count", "--sets", "s", "--min", "2"],
+                "`count` counts every set of --sets, so it takes no --min, --miner or --limit",
+            ),
             (
                 ["rules", "--min", "1", "--conf", "0.6"],
                 "--conf takes a share, as 60% or 2/3; 0.6 is 60% or 3/5",

@@ -1,7 +1,7 @@
 //! Standard streams that are closed.
-use std::os::fd::AsRawFd;
 use std::fs::{File, OpenOptions};
 use std::io;
+use std::os::fd::AsRawFd;
 
 const NOWHERE: &str = "/dev/null";
 

@@ -10,6 +10,9 @@ const CONF_FORMS: &str = "--conf takes a share, as 60% or 2/3";
 const ONE_INPUT: &str = "there is one input file: concatenate FIMI files (cat A B | basket ..), \
 or count the parts and add up (`man basket`, PARTS)";
 
+const ALL_SETS: &str =
+    "`count` counts every set of --sets, so it takes no --min, --miner or --limit";
+
 /// Advice on words that were refused with a text, if there is any.
 pub fn words_advice(
     alloc: Global,
@@ -91,13 +94,16 @@ fn decimal(text: &str) -> Option<Fraction> {
 fn unexpected<'a>(text: &str, words: &[&str]) -> Option<&'a str> {
     let (_, rest) = text.split_once("unexpected argument '")?;
     let (word, _) = rest.split_once("'")?;
-    if !word.starts_with("-") {
-        return Some(ONE_INPUT);
-    }
-    match before(word, words)? {
-        "--min" => Some(MIN_FORMS),
-        "--conf" => Some(CONF_FORMS),
-        _ => None,
+    match word {
+        "--conf" => Some("only `rules` takes --conf"),
+        "--sets" => Some("only `count` takes --sets"),
+        "--min" | "--miner" | "--limit" => Some(ALL_SETS),
+        _ if !word.starts_with("-") => Some(ONE_INPUT),
+        _ => match before(word, words)? {
+            "--min" => Some(MIN_FORMS),
+            "--conf" => Some(CONF_FORMS),
+            _ => None,
+        },
     }
 }
 
