@@ -41,7 +41,7 @@ def answered(
     """The answer over all parts.
 
     Raises:
-        BasketError: as the program ends over a part, which is told, or over the counts.
+        BasketError: as the program ends over a part, which is named, or over the counts.
     """
     answer: Answer = awaited(_submitted(client, parts, question), progress)
     return answer

@@ -68,7 +68,7 @@ _WORDS = (UsageError, DataError)
 # Bytes that CSV has and FIMI text doesn't: quotes, separators, letters, and what begins a letter of UTF-8.
 _OF_CSV = r"0x(22|2C|3B|7C|[46][1-9A-F]|[57][0-9A]|[C-F][0-9A-F])"
 
-# The first that fits is told.
+# The first that fits is added.
 _ADVICE = (
     _Advice(
         _WORDS,

@@ -89,7 +89,7 @@ def report(parts: Any, *words: str, client: Client, progress: bool = False) -> b
 
     Raises:
         UsageError: the words are no such question, or the program refuses them.
-        BasketError: as the program ends over a part, which is told, or over the counts.
+        BasketError: as the program ends over a part, which is named, or over the counts.
     """
     question = question_of(words)
     ready = prepared(parts, client, question.layout, progress)

@@ -31,15 +31,6 @@ fn zeros(alloc: Global, count: usize) -> Result<Vec<AtomicU64>, AllocError> {
     Ok(numbers)
 }
 
-/// How often each number was counted up.
-fn times(alloc: Global, numbers: &[AtomicU64]) -> Result<Vec<u64>, AllocError> {
-    let mut times = Vec::with_capacity(alloc, numbers.len())?;
-    for number in numbers {
-        times.push(number.load(Ordering::SeqCst))?;
-    }
-    Ok(times)
-}
-
 /// Claims pieces until there is none, and counts each.
 fn claim_all(round: &Round, seat: &mut RoundSeat, claimed: &[AtomicU64])
     requires { seat.old.round ≡ round.now.id }
@@ -87,8 +78,8 @@ fn each_piece_goes_to_one_of_sixty_four_threads(rt: HostRuntime) -> Result<(), F
     let claimed = zeros(rt.alloc(), 65_536)?;
     claim_by_threads(&rt, &round, seats.as_mut_slice(), claimed.as_slice());
     assert_eq!(rt; round.close(seats)?.claimed, 65_536);
-    for (piece, times) in times(rt.alloc(), claimed.as_slice())?.iter().enumerate() {
-        assert_eq!(rt; *times, 1, "of {piece}");
+    for (piece, times) in claimed.iter().enumerate() {
+        assert_eq!(rt; times.load(Ordering::SeqCst), 1, "of {piece}");
     }
     Ok(())
 }
@@ -232,8 +223,9 @@ fn a_round_of_two_threads_is_closed_with_both_seats(rt: HostRuntime) -> Result<(
         &faults,
     );
     assert_eq!(rt; faults.load(Ordering::SeqCst), 0);
-    let times = times(rt.alloc(), claimed.as_slice())?;
-    assert_eq!(rt; times.as_slice(), [1, 1, 1].as_slice());
+    for times in &claimed {
+        assert_eq!(rt; times.load(Ordering::SeqCst), 1);
+    }
     let totals = closed_late(round, seats)?;
     assert_eq!(rt; totals.claimed, 3);
     assert_eq!(rt; totals.counters.as_slice(), [12].as_slice());
