@@ -1,10 +1,9 @@
 // An allocator for tests, which the dynamic linker loads before the C library (LD_PRELOAD). It counts the
 // allocations from the start of main's libraries on and refuses the one whose number REFUSED gives; with ONWARD
-// those after it too. It writes an R to the descriptor of the number NOTES when it first refuses, and at the
-// end the number of allocations.
+// those after it too; none if that is 0. It writes an R to the descriptor of the number NOTES when it first
+// refuses, or at each allocation if it refuses none.
 #include <errno.h>
 #include <stdatomic.h>
-#include <stdio.h>
 #include <stdlib.h>
 #include <unistd.h>
 
@@ -25,13 +24,11 @@ __attribute__((constructor)) static void start(void) {
     notes = atoi(getenv("NOTES"));
 }
 
-__attribute__((destructor)) static void end(void) { dprintf(notes, "%lu", atomic_load(&asked)); }
-
 static int is_refused(void) {
     if (notes < 0) return 0;
     unsigned long number = atomic_fetch_add(&asked, 1) + 1;
-    if (number == refused && write(notes, "R", 1) != 1) abort();
-    if (number != refused && !(onward && refused != 0 && number > refused)) return 0;
+    if ((refused == 0 || number == refused) && write(notes, "R", 1) != 1) abort();
+    if (refused == 0 || (onward ? number < refused : number != refused)) return 0;
     errno = ENOMEM;
     return 1;
 }

@@ -17,6 +17,8 @@ from .test_reports import NINE_BASKETS, SETS
 
 COMPILER = shutil.which("cc")
 OUT_OF_MEMORY = Run(b"", "basket: out of memory\n", 6)
+# Faults of the file of `--sets` begin so.
+OUT_IN_THE_SETS = Run(b"", "basket: in the sets: out of memory\n", 6)
 
 MINERS = ("apriori", "eclat", "eclat-diff", "eclat-bits", "fpgrowth")
 
@@ -101,10 +103,8 @@ class Refused(unittest.TestCase):
         words = [COMPILER, "-O2", "-shared", "-fPIC", str(ROOT / "tools/refuse.c")]
         subprocess.run([*words, "-o", str(cls.folder / "refuse.so")], check=True)
 
-    def refused(
-        self, words: str, number: int, onward: bool = False
-    ) -> tuple[Run, bool, int]:
-        """A run whose allocation of a number is refused, whether there was one, and how many there were."""
+    def refused(self, words: str, number: int, onward: bool = False) -> tuple[Run, int]:
+        """A run whose allocation of a number is refused, and 1 if there was one; for 0, how many there were."""
         notes = self.folder / "notes"
         with open(notes, "wb") as noted, open(self.folder / "given", "rb") as given:
             ended = subprocess.run(
@@ -122,12 +122,9 @@ class Refused(unittest.TestCase):
                 pass_fds=[noted.fileno()],
                 check=False,
             )
-        said = notes.read_bytes()
-        return (
-            Run(ended.stdout, ended.stderr.decode(), ended.returncode),
-            said.startswith(b"R"),
-            int(said.removeprefix(b"R") or b"0"),
-        )
+        noted_times = len(notes.read_bytes())
+        run = Run(ended.stdout, ended.stderr.decode(), ended.returncode)
+        return run, noted_times
 
     def test_each_allocation_of_small_runs(self) -> None:
         # Each allocation is refused alone, and each fifth with all that come after it.
@@ -138,10 +135,12 @@ class Refused(unittest.TestCase):
             (self.folder / "asked").write_bytes(case.asked)
             for number in itertools.count(1, step):
                 with self.subTest(words=case.words, number=number, onward=onward):
-                    ended, is_refused, _ = self.refused(case.words, number, onward)
-                    ends = (
-                        (case.wanted, OUT_OF_MEMORY) if is_refused else (case.wanted,)
-                    )
+                    ended, is_refused = self.refused(case.words, number, onward)
+                    ends = [case.wanted]
+                    if is_refused:
+                        ends.append(OUT_OF_MEMORY)
+                    if is_refused and case.asked and "--sets" in case.words:
+                        ends.append(OUT_IN_THE_SETS)
                     self.assertIn(ended, ends)
                 if not is_refused:
                     break
@@ -154,10 +153,10 @@ class Refused(unittest.TestCase):
         _, ask, lines, digest = ANSWERS[-1]
         for miner, workers in itertools.product(MINERS, ("1", "3")):
             words = f"{ask} --miner {miner} --workers {workers}"
-            wanted, _, asked = self.refused(words, 0)
+            wanted, asked = self.refused(words, 0)
             self.assertEqual(summed(wanted), (lines, digest, "", 0))
             for _ in range(10):
                 number = source.randint(1, asked)
                 with self.subTest(words=words, number=number):
-                    ended, _, _ = self.refused(words, number)
+                    ended, _ = self.refused(words, number)
                     self.assertIn(ended, (wanted, OUT_OF_MEMORY))
