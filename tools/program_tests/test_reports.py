@@ -226,15 +226,17 @@ MISTAKES: tuple[tuple[list[str], str], ...] = (
 )
 
 HELP_OF_SETS = """\
-Writes each set of items that is in enough baskets, with the number of those baskets
+Lists the sets of items that are in enough baskets, each with the number of those baskets,
+its count.
 
-Usage: basket sets [OPTIONS] --min <M> [FILE]
+Usage: basket sets --min M [OPTIONS] [FILE]
 
 Arguments:
-  [FILE]  The file of the input; without it, or with -, standard input
+  [FILE]  The file of the input. Without it, or if it is -, the input is standard input
 
 Options:
-      --min <M>      The least count of a set to be listed: a number, as 20, or a share of all baskets, as 5% or 1/200
+      --min M      The least count of a set: a number of baskets, as 20, or a share of all
+                   baskets, as 5% or 1/200. It is required
 """
 
 
