@@ -128,7 +128,28 @@ def _joined(items: Iterable[object]) -> bytes:
 
 def _as_names(sets: list[list[Hashable]], separator: str) -> bytes:
     """The records of the sets by names, as reports have them: a count first, here always 0."""
+    for itemset in sets:
+        for item in itemset:
+            _refuse_no_name(item)
     text = io.StringIO(newline="")
-    writer = csv.writer(text, delimiter=separator, lineterminator="\n")
+    # Python leaves a carriage return without quotes, and the program ends a record there.
+    writer = csv.writer(
+        text, delimiter=separator, lineterminator="\n", quoting=csv.QUOTE_ALL
+    )
     writer.writerows([0, *itemset] for itemset in sets)
     return text.getvalue().encode()
+
+
+def _refuse_no_name(item: Hashable) -> None:
+    """`DataError` where no name of a CSV file is this item."""
+    if not isinstance(item, str):
+        raise DataError(f"an item of a CSV file is a text, not {item!r}")
+    if not item or item != item.strip(" \t"):
+        raise DataError(
+            "an item of a CSV file is not empty and has no space or tab at its ends, as "
+            f"{item!r} is or has"
+        )
+    try:
+        item.encode()
+    except UnicodeEncodeError as fault:
+        raise DataError(f"an item of a CSV file is UTF-8: {fault}") from fault
