@@ -1,6 +1,7 @@
 """`count` tells the supports of given itemsets."""
 
 import csv
+from collections.abc import Callable
 from fractions import Fraction
 from pathlib import Path
 from typing import Any
@@ -55,9 +56,16 @@ def test_a_name_of_csv_may_have_any_letter_also_those_that_end_records(
     # Two baskets have milk alone, one has a name that goes on behind a carriage return, and tea.
     path.write_bytes(b'"milk\r0",tea\nmilk\nmilk\n"say ""a,b""\n"\n')
     options: Any = {"form": "baskets"}
-    asked = [["milk\r0"], ["tea", "milk\r0"], ["milk"], ['say "a,b"\n'], [], ["a\rb"]]
+    asked: list[list[str]] = [
+        ["milk\r0"],
+        ["tea", "milk\r0"],
+        ["milk"],
+        ['say "a,b"\n'],
+        ["a\rb"],
+        [],
+    ]
     frame = miner.count(path, asked, **options)
-    assert frame["itemsets"].tolist() == [set(), *map(set, asked[:4]), {"a\rb"}]
+    assert frame["itemsets"].tolist() == [set(), *({*names} for names in asked[:5])]
     assert frame["count"].tolist() == [4, 1, 1, 2, 1, 0]
     found = miner.sets(path, 1, **options)
     again = miner.count(path, found, **options).iloc[1:].reset_index(drop=True)
@@ -75,10 +83,13 @@ def test_what_no_name_of_csv_can_be_is_refused(tmp_path: Path, name: Any) -> Non
 def test_a_name_that_is_too_long_for_pythons_csv_is_told(tmp_path: Path) -> None:
     path, name = tmp_path / "shop.csv", "n" * (csv.field_size_limit() + 1)
     path.write_text(f"{name}\n")
-    for call in (miner.sets, miner.count):
-        question: Any = 1 if call == miner.sets else [[name]]
+    calls: list[Callable[[], Any]] = [
+        lambda: miner.sets(path, 1, form="baskets"),
+        lambda: miner.count(path, [[name]], form="baskets"),
+    ]
+    for call in calls:
         with pytest.raises(miner.DataError, match="too long .* csv.field_size_limit"):
-            call(path, question, form="baskets")
+            call()
 
 
 def test_without_baskets_a_support_is_not_a_number() -> None:
