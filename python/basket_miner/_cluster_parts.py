@@ -98,7 +98,8 @@ def _files(names: list[Any], layout: Layout) -> Parts:
     read_so = [read(name, layout) for name in names]
     files = [Path(os.path.abspath(os.path.expanduser(name))) for name in names]
     for file in files:
-        if file.exists() and not (file.is_file() or file.is_dir()):
+        is_plain = os.path.isfile(file) or os.path.isdir(file)
+        if os.path.exists(file) and not is_plain:
             raise DataError(f"{file} is no file that can be read several times")
     return Parts(files, words=read_so[0].words, separator=read_so[0].separator)
 

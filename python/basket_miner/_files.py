@@ -27,11 +27,11 @@ def kept(source: bytes | Path) -> Iterator[bytes | Path]:
     if isinstance(source, bytes):
         yield source
         return
-    real = Path(os.path.realpath(source))
-    is_own = real.parts[1:2] == ("proc",)
-    if real.is_file():
-        yield real
-    elif real.is_dir() or not (is_own or source.exists()):
+    real = os.path.realpath(source)
+    is_own = real.startswith("/proc/")
+    if os.path.isfile(real):
+        yield Path(real)
+    elif os.path.isdir(real) or not (is_own or os.path.exists(source)):
         # The program says what is wrong.
         yield source
     else:
@@ -63,7 +63,7 @@ def _copied(stream: BinaryIO, copy: IO[bytes], source: Path) -> None:
 
 def state_of(source: bytes | Path) -> tuple[int, ...]:
     """What changes when a file is written or another takes its name."""
-    if isinstance(source, bytes) or not source.exists():
+    if isinstance(source, bytes) or not os.path.exists(source):
         return ()
     found = source.stat()
     return found.st_dev, found.st_ino, found.st_size, found.st_mtime_ns

@@ -210,6 +210,8 @@ def test_a_name_of_another_world_is_no_path(name: str) -> None:
 def test_a_home_folder_that_nobody_has_is_a_file_that_is_not_there() -> None:
     with pytest.raises(miner.FileError, match="cannot open ~nobody-has-this/shop"):
         miner.sets("~nobody-has-this/shop", 1)
+    with pytest.raises(miner.FileError, match="cannot open n+: File name too long"):
+        miner.sets("n" * 5000, 1)
 
 
 @pytest.mark.parametrize(

@@ -205,9 +205,6 @@ def test_a_categorical_column_and_numbers_of_numpy_are_labels() -> None:
     assert pairs(found) == [(frozenset([3]), 2), (frozenset([4]), 1)]
 
 
-NAN = float("nan")
-
-
 @pytest.mark.filterwarnings("error")
 @pytest.mark.parametrize(
     ("items", "labels"),
@@ -216,7 +213,7 @@ NAN = float("nan")
         ([2**53 + 1, 2.5, 2**53], [2**53 + 1, 2.5, 2**53]),
         ([True, "tea", 2], [True, "tea", 2]),
         ([1, 1.0, 2.0], [1, 2.0]),
-        ([(NAN, 1), (NAN, 1)], [(NAN, 1)]),
+        ([(float("nan"), 1), (float("nan"), 1)], [(float("nan"), 1)]),
     ],
     ids=str,
 )

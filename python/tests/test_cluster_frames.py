@@ -51,7 +51,7 @@ def test_months_of_ids_of_two_types_are_put_together(client: Client) -> None:
 
 
 def test_numbers_of_the_type_object_keep_their_values_as_labels(client: Client) -> None:
-    items = [2**53, 2**53 + 1, 2.5, True]
+    items = [2**53 + 1, 2.5, 2**53, True]
     frame = pd.DataFrame({"receipt": 1, "product": pd.Series(items, dtype=object)})
     cut_up = from_pandas(frame, npartitions=2, sort=False)
     found = cluster.sets(cut_up, 1, client=client, **COLUMNS)
