@@ -145,13 +145,13 @@ def _as_names(sets: list[list[Hashable]], separator: str) -> bytes:
 
 
 def _refuse_no_name(item: Hashable) -> None:
-    """`DataError` where no name of a CSV file is this item."""
+    """Raises `DataError` if an item can't be a name in a CSV file."""
     if not isinstance(item, str):
         raise DataError(f"an item of a CSV file is a text, not {item!r}")
     if not item or item != item.strip(" \t"):
         raise DataError(
-            "an item of a CSV file is not empty and has no space or tab at its ends, as "
-            f"{item!r} is or has"
+            "an item of a CSV file is not empty and has no space or tab at its ends: "
+            f"{item!r}"
         )
     try:
         item.encode()

@@ -34,7 +34,7 @@ class Tasks:
     def given_up(self) -> Iterator[None]:
         """Ends all runs of the program if the block is left by an exception.
 
-        The engine takes back the tasks that wait, and leaves those alone that run.
+        The engine cancels the tasks that wait, but not those that run.
         """
         try:
             yield

@@ -80,7 +80,7 @@ def _refuse_others(layout: Layout, allowed: str, what: str) -> None:
 
 
 def _refuse_no_path(path: str | os.PathLike[str]) -> None:
-    """`DataError` where a text is no name of a file here, but where something is in the world."""
+    """Raises `DataError` if a text is an address, as `s3://shop/a.csv`, or can't be a path."""
     if isinstance(path, str) and re.match(r"[A-Za-z][A-Za-z0-9+.-]*://", path):
         raise DataError(
             f"{path} is no path of a file: fetch it first, or read it by pandas or Dask and "
@@ -137,15 +137,15 @@ def _iterable(baskets: Any, drop: bool) -> Baskets:
         raise DataError(said) from fault
     if numbering and all(isinstance(label, (bool, np.bool_)) for label in numbering):
         raise DataError(
-            f"the baskets have no items but {[*numbering]}: a table of true and false is given "
-            "as a pandas.DataFrame, with a row for each basket and a column for each item"
+            f"all items of the baskets are true or false: {[*numbering]}; a table of these is "
+            "given as a pandas.DataFrame, with a row for each basket and a column for each item"
         )
     places = np.repeat(np.arange(len(sizes)), sizes)
     return _without_missing(places, np.array(numbers, np.int64), [*numbering], drop)
 
 
 def _refuse_tables(baskets: Any) -> None:
-    """`DataError` where something gives columns, rows of truth or keys one after the other."""
+    """Raises `DataError` if what something iterates over are columns, keys or bytes, and no baskets."""
     name = type(baskets).__name__
     if hasattr(baskets, "__dataframe__") or hasattr(baskets, "to_pandas"):
         raise DataError(

@@ -16,7 +16,7 @@ _BLOCK = 1 << 20
 
 @contextlib.contextmanager
 def kept(source: bytes | Path) -> Iterator[bytes | Path]:
-    """A source that each run of the program finds whole.
+    """A source that the program can read more than once.
 
     A pipe or a device can be read once, and `/dev/stdin` is another file in another process. So
     what is no regular file is copied into a temporary one, and links are followed here.

@@ -140,7 +140,7 @@ def numbered(column: pd.Series, name: Hashable) -> tuple[Array, pd.Index | Array
     """For each row the number of its value by first appearance, below 0 where it is missing,
     and the values by number.
 
-    Values of the type object stay what they are, where an index would make all numbers floats.
+    A column of objects keeps its values. An index would make its numbers floats.
     """
     is_object = column.dtype == object
     try:
@@ -165,7 +165,7 @@ def refuse_zero_bytes(
         return
     given = np.asarray(column, dtype=object)
     is_other = np.asarray(values, dtype=object)[numbers] != given
-    # What differs and is no text, as a tuple with NaN in it, pandas takes for the same rightly.
+    # Values that are no texts may differ and rightly be one value for pandas, as tuples with NaN.
     if any(isinstance(value, str) for value in given[is_other.astype(bool)]):
         raise DataError(f"column {column.name!r} has texts with a zero byte")
 

@@ -82,10 +82,10 @@ def _fault_of(file: str) -> str | None:
 
 @functools.cache
 def _guard() -> tuple[str, ...]:
-    """Words in front of a command, by which Linux ends it if this process ends before.
+    """The words before a command that make Linux kill it when this process ends.
 
-    The system does so when the thread ends that began the command. That is none too early: the
-    thread waits for the command. Without util-linux's setpriv there are no such words.
+    The system does so when the thread that began the command ends. The thread waits for the
+    command, so that is not too early. Without util-linux's setpriv there are no such words.
     """
     if not (found := shutil.which("setpriv")):
         return ()
@@ -117,7 +117,8 @@ def run(
         BasketError: of the kind that belongs to the exit status, with the program's message.
         ProgramMissing: there is no program that runs.
 
-    An interrupt ends the program and goes on. So does the end of this process on Linux.
+    An interrupt ends the program and is raised. On Linux the program also ends when this process
+    does.
     """
     command = [*_guard(), str(find()), *words]
     if isinstance(source, Path):

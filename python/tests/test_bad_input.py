@@ -149,8 +149,8 @@ class Exchanged(Columns):
         ("dict is no iterable of baskets", {"r1": ["tea"]}),
         ("Table is no iterable of baskets: give .* .to_pandas()", Table()),
         ("Exchanged is no iterable of baskets: give .* .to_pandas()", Exchanged()),
-        ("no items but .True, False.: a table of true", Columns()),
-        ("no items but .True.: a table of true", [[np.bool_(True)]]),
+        ("items of the baskets are true or false: .True, False.; a table", Columns()),
+        ("items of the baskets are true or false: .True.; a table", [[np.bool_(True)]]),
         ("iterables of hashable items: 'bool'", [True, False]),
     ],
 )
@@ -203,7 +203,7 @@ def test_words_of_a_path_that_do_not_fit_are_refused(
 @pytest.mark.parametrize(
     "name", ["s3://shop/receipts.dat", "https://shop.example/receipts.dat", "gs://x"]
 )
-def test_a_name_of_another_world_is_no_path(name: str) -> None:
+def test_an_address_is_no_path(name: str) -> None:
     refused(f"{name} is no path of a file: fetch it first", name)
 
 

@@ -244,7 +244,7 @@ class Notebook(io.StringIO):
 
 
 class Bare:
-    """A stream as some loggers put in the place of standard error."""
+    """A stream as some loggers set it as standard error."""
 
     def getvalue(self) -> str:
         return ""
