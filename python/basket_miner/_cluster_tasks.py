@@ -52,7 +52,9 @@ def awaited(future: Future, progress: bool) -> Any:
             import_module("IPython.display").display(bar)
         return future.result()
     except BaseException:
-        future.cancel()
+        # A client that was closed meanwhile can't cancel.
+        with contextlib.suppress(Exception):
+            future.cancel()
         raise
 
 
