@@ -12,7 +12,7 @@ in the order of its report. All take the baskets as one of these:
 - a matrix of `scipy.sparse` with a row for each basket; `names=` are the labels of its columns;
 - the path of a file: `form=` "fimi", or of CSV "baskets" (a basket a record) or "single" (a
   basket's id and an item a record), with `sep=`, `header=` and `weighted=` (a record begins
-  with its weight) as the program has them.
+  with its weight) as the program has them. A pipe or `/dev/stdin` is copied into a temporary file.
 
 Labels come back as they were given; those of a FIMI file are `int`, those of CSV `str`. A weight
 is a whole number from 1 to 4,294,967,295, and stands for that many equal baskets. Missing values
@@ -29,7 +29,10 @@ More keywords: `miner` ("apriori", the program's default, "eclat", "eclat-diff",
 "fpgrowth") and `workers` (threads, from 1 to 64) change time and memory, and no answer; `limit`
 is how many itemsets there may be at most; `exact` adds columns of `fractions.Fraction` beside
 the floats, which are those nearest to the exact values; `progress` tells each second on standard
-error what runs, where that is a terminal or a notebook. An interrupt ends the program.
+error what runs, where that is a terminal or a notebook. An interrupt ends the program, and so
+does the end of Python, however it comes, on Linux with the tool `setpriv` of util-linux.
+
+The program has the package's version, or a later one of the same major version.
 
 `basket_miner.frequent_patterns` has the calls of mlxtend.
 

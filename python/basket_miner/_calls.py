@@ -7,13 +7,15 @@ import os
 import tempfile
 from collections.abc import Hashable, Iterable
 from dataclasses import dataclass
+from pathlib import Path
 from typing import Any, Literal
 
 import pandas as pd
 
 from ._baskets import Baskets
 from ._data import Data, Layout, read
-from ._errors import DataError
+from ._errors import DataError, FileError
+from ._files import kept, state_of
 from ._minimum import exact_minimum, least_count
 from ._program import run
 from ._report import rules_frame, sets_frame
@@ -46,12 +48,13 @@ def asked(
 ) -> pd.DataFrame:
     """The frame of the report of a command over the caller's data."""
     baskets = read(data, layout)
-    report = run(
-        [command, *words, *work.words(), *baskets.words],
-        baskets.source,
-        progress=work.progress,
-    )
-    weight = _weight_of(baskets)
+    command_line = [command, *words, *work.words(), *baskets.words]
+    with kept(baskets.source) as source:
+        before = state_of(source)
+        report = run(command_line, source, progress=work.progress)
+        weight = _weight_of(baskets, source)
+        if state_of(source) != before:
+            raise FileError(f"{source!s} was changed while it was read")
     if command == "rules":
         frame = rules_frame(report, baskets, weight, exact=work.exact)
     else:
@@ -62,7 +65,7 @@ def asked(
     return frame
 
 
-def _weight_of(baskets: Baskets) -> int:
+def _weight_of(baskets: Baskets, source: bytes | Path) -> int:
     """What all baskets weigh together: known, or counted by the program.
 
     The program counts the empty set, which each basket has.
@@ -70,7 +73,7 @@ def _weight_of(baskets: Baskets) -> int:
     if baskets.weight is not None:
         return baskets.weight
     words = ["count", f"--sets={os.devnull}", *baskets.words]
-    return int(run(words, baskets.source).strip(b"()\n"))
+    return int(run(words, source).strip(b"()\n"))
 
 
 def counted(
@@ -87,7 +90,8 @@ def counted(
         file.write(text)
         file.flush()
         words = ["count", f"--sets={file.name}", *work.words(), *baskets.words]
-        report = run(words, baskets.source, progress=work.progress)
+        with kept(baskets.source) as source:
+            report = run(words, source, progress=work.progress)
     return sets_frame(report, baskets, exact=work.exact)
 
 
@@ -128,7 +132,28 @@ def _joined(items: Iterable[object]) -> bytes:
 
 def _as_names(sets: list[list[Hashable]], separator: str) -> bytes:
     """The records of the sets by names, as reports have them: a count first, here always 0."""
+    for itemset in sets:
+        for item in itemset:
+            _refuse_no_name(item)
     text = io.StringIO(newline="")
-    writer = csv.writer(text, delimiter=separator, lineterminator="\n")
+    # Python leaves a carriage return without quotes, and the program ends a record there.
+    writer = csv.writer(
+        text, delimiter=separator, lineterminator="\n", quoting=csv.QUOTE_ALL
+    )
     writer.writerows([0, *itemset] for itemset in sets)
     return text.getvalue().encode()
+
+
+def _refuse_no_name(item: Hashable) -> None:
+    """Raises `DataError` if an item can't be a name in a CSV file."""
+    if not isinstance(item, str):
+        raise DataError(f"an item of a CSV file is a text, not {item!r}")
+    if not item or item != item.strip(" \t"):
+        raise DataError(
+            "an item of a CSV file is not empty and has no space or tab at its ends: "
+            f"{item!r}"
+        )
+    try:
+        item.encode()
+    except UnicodeEncodeError as fault:
+        raise DataError(f"an item of a CSV file is UTF-8: {fault}") from fault

@@ -4,6 +4,7 @@
 import os
 from collections.abc import Hashable, Iterable, Sequence
 from dataclasses import dataclass
+from functools import partial
 from pathlib import Path
 from typing import Any
 
@@ -16,13 +17,15 @@ from dask.delayed import delayed
 from distributed import Client, Future
 
 from ._baskets import baskets_of, checked_weights, grouped
+from ._cluster_keys import keys_of
 from ._cluster_tasks import awaited, tree
 from ._data import SEPARATOR_WORDS, Layout, read
 from ._errors import DataError
+from ._frames import numbered, place_of, refuse_zero_bytes
 
 Labels = list[Hashable]
 
-BASKET, ITEM, WEIGHT = "basket", "item", "weight"
+KEY, BASKET, ITEM, WEIGHT = "key", "basket", "item", "weight"
 
 
 @dataclass(frozen=True)
@@ -60,6 +63,10 @@ def prepared(
         DataError: they are none of these, there is none, they have bad values, or a keyword does
             not go with them.
     """
+    if not isinstance(client, Client) or client.asynchronous:
+        raise DataError(
+            "client= is a distributed.Client, and none that is asynchronous"
+        )
     if isinstance(parts, Parts):
         if layout != Layout():
             raise DataError("the parts are prepared: how they lie was said before")
@@ -89,7 +96,11 @@ def _files(names: list[Any], layout: Layout) -> Parts:
             "(dask.dataframe.read_csv), which brings the rows of a basket together"
         )
     read_so = [read(name, layout) for name in names]
-    files = [Path(os.path.abspath(name)) for name in names]
+    files = [Path(os.path.abspath(os.path.expanduser(name))) for name in names]
+    for file in files:
+        is_plain = os.path.isfile(file) or os.path.isdir(file)
+        if os.path.exists(file) and not is_plain:
+            raise DataError(f"{file} is no file that can be read several times")
     return Parts(files, words=read_so[0].words, separator=read_so[0].separator)
 
 
@@ -107,8 +118,7 @@ def _frame(frame: Any, client: Client, layout: Layout, progress: bool) -> Parts:
     names = [layout.basket, layout.item]
     names += [] if layout.weight is None else [layout.weight]
     for name in names:
-        if list(frame.columns).count(name) != 1:
-            raise DataError(f"the frame has no column {name!r}, or several")
+        place_of(frame.columns, name)
     kept = client.persist(frame[names])
     rows = client.compute(kept.to_delayed())
     labels = _all_labels(rows, client, layout, progress)
@@ -116,8 +126,8 @@ def _frame(frame: Any, client: Client, layout: Layout, progress: bool) -> Parts:
     meta = _numbered(frame._meta, [], layout)
     # The shuffle for several machines, by tasks, which the engine can repeat.
     with client.as_current(), dask.config.set(shuffle="tasks"):
-        numbered = kept.map_partitions(_numbered, numbering, layout, meta=meta)
-        whole = numbered.shuffle(BASKET).to_delayed()
+        rows_of = kept.map_partitions(_numbered, numbering, layout, meta=meta)
+        whole = rows_of.shuffle(KEY).to_delayed()
     return Parts(client.compute([delayed(_rows_text)(part) for part in whole]), labels)
 
 
@@ -130,7 +140,8 @@ def _all_labels(
     the same whatever is lost: the order of a set differs from process to process.
     """
     futures = [client.submit(_labels, part, layout, pure=False) for part in parts]
-    labels: Labels = awaited(tree(client, _joined, futures), progress)
+    submit = partial(client.submit, pure=False)
+    labels: Labels = awaited(tree(submit, _joined, futures), progress)
     return labels
 
 
@@ -158,12 +169,15 @@ def _list_text(baskets: Iterable[Iterable[Hashable]], labels: Labels) -> bytes:
 
 
 def _numbered(part: pd.DataFrame, labels: Labels, layout: Layout) -> pd.DataFrame:
-    """The rows of a part with the numbers of their items, without rows of missing values."""
+    """The rows of a part, without those of missing values: a number that equal ids of baskets share,
+    the id, and the number of the item."""
     part = part.dropna()
-    codes, values = pd.factorize(part[layout.item])
+    codes, values = numbered(part[layout.item], layout.item)
     numbers = {label: number for number, label in enumerate(labels)}
     table = np.array([numbers[value] for value in values.tolist()], dtype=np.int64)
-    columns = {BASKET: part[layout.basket], ITEM: table[codes]}
+    places, ids = numbered(part[layout.basket], layout.basket)
+    columns = {KEY: keys_of(ids)[places], BASKET: part[layout.basket]}
+    columns[ITEM] = table[codes]
     if layout.weight is not None:
         columns[WEIGHT] = part[layout.weight]
     return pd.DataFrame(columns)
@@ -171,7 +185,8 @@ def _numbered(part: pd.DataFrame, labels: Labels, layout: Layout) -> pd.DataFram
 
 def _rows_text(part: pd.DataFrame) -> bytes:
     """The lines of the baskets of a part that has all rows of each."""
-    places, _ = pd.factorize(part[BASKET])
+    places, ids = numbered(part[BASKET], BASKET)
+    refuse_zero_bytes(part[BASKET], places, ids)
     weights = None
     if WEIGHT in part:
         values = checked_weights(part[WEIGHT].to_numpy())

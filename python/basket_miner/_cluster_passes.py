@@ -19,7 +19,7 @@ from distributed import Client, Future
 
 from ._cluster_parts import Parts
 from ._cluster_question import Question
-from ._cluster_tasks import awaited, tree
+from ._cluster_tasks import Tasks, awaited, tree
 from ._errors import BasketError
 from ._program import run
 
@@ -43,18 +43,20 @@ def answered(
     Raises:
         BasketError: as the program ends over a part, which is named, or over the counts.
     """
-    answer: Answer = awaited(_submitted(client, parts, question), progress)
+    tasks = Tasks(client)
+    with tasks.given_up():
+        answer: Answer = awaited(_submitted(tasks, parts, question), progress)
     return answer
 
 
-def _submitted(client: Client, parts: Parts, question: Question) -> Future:
+def _submitted(tasks: Tasks, parts: Parts, question: Question) -> Future:
     """The future of the answer."""
     size = len(parts.texts)
     names = [f"part {number} of {size}" for number in range(1, size + 1)]
 
     def over_parts(task: Callable[..., bytes], *given: Any) -> list[Future]:
         return [
-            client.submit(task, part, name, *given, pure=False)
+            tasks.submit(task, part, name, *given)
             for part, name in zip(parts.texts, names)
         ]
 
@@ -62,16 +64,15 @@ def _submitted(client: Client, parts: Parts, question: Question) -> Future:
     added, united = partial(_added, parts.counts), partial(_united, parts.words)
     share: Future | str = question.minimum
     if question.minimum.isdecimal():
-        weight = tree(client, added, over_parts(_counted, b"", counting))
-        share = client.submit(_share, question.minimum, weight, pure=False)
+        weight = tree(tasks.submit, added, over_parts(_counted, b"", counting))
+        share = tasks.submit(_share, question.minimum, weight)
     mining = (question.first, *parts.words, *question.mining)
     # All names of a part come first, since a report's order goes by where names first appear.
     naming = None if parts.separator is None else ("items", "--min=0%", *parts.words)
     found = over_parts(_found, share, mining, naming)
-    asked = tree(client, united, found)
-    counts = tree(client, added, over_parts(_counted, asked, counting))
-    last: Future = client.submit(_answered, question, parts.counts, counts, pure=False)
-    return last
+    asked = tree(tasks.submit, united, found)
+    counts = tree(tasks.submit, added, over_parts(_counted, asked, counting))
+    return tasks.submit(_answered, question, parts.counts, counts)
 
 
 def _total(counts: bytes) -> int:

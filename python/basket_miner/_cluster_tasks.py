@@ -1,15 +1,47 @@
 # mypy: allow-untyped-calls
 """Futures of Dask's distributed engine, put together and waited for."""
 
-from collections.abc import Callable
+import contextlib
+import uuid
+from collections.abc import Callable, Iterator
+from dataclasses import dataclass, field
 from importlib import import_module
 from typing import Any
 
 from distributed import Client, Future
 from distributed import progress as engine_bar
 
+from ._ending import end, working_for
+
 # How many results one task puts together.
 WIDTH = 8
+
+
+@dataclass(frozen=True)
+class Tasks:
+    """Tasks of one question, whose runs of the program end when it is given up."""
+
+    client: Client
+    name: str = field(default_factory=lambda: uuid.uuid4().hex)
+
+    def submit(self, task: Callable[..., Any], *given: Any) -> Future:
+        """The future of a task."""
+        words = (working_for, self.name, task, *given)
+        future: Future = self.client.submit(*words, pure=False)
+        return future
+
+    @contextlib.contextmanager
+    def given_up(self) -> Iterator[None]:
+        """Ends all runs of the program if the block is left by an exception.
+
+        The engine cancels the tasks that wait, but not those that run.
+        """
+        try:
+            yield
+        except BaseException:
+            with contextlib.suppress(Exception):
+                self.client.run(end, self.name)
+            raise
 
 
 def awaited(future: Future, progress: bool) -> Any:
@@ -20,13 +52,17 @@ def awaited(future: Future, progress: bool) -> Any:
             import_module("IPython.display").display(bar)
         return future.result()
     except BaseException:
-        future.cancel()
+        # A client that was closed meanwhile can't cancel.
+        with contextlib.suppress(Exception):
+            future.cancel()
         raise
 
 
-def tree(client: Client, merge: Callable[..., Any], futures: list[Future]) -> Future:
+def tree(
+    submit: Callable[..., Future], merge: Callable[..., Any], futures: list[Future]
+) -> Future:
     """The future of neighbours put together, and again, until there is one."""
     while len(futures) > 1:
         groups = [futures[at : at + WIDTH] for at in range(0, len(futures), WIDTH)]
-        futures = [client.submit(merge, *group, pure=False) for group in groups]
+        futures = [submit(merge, *group) for group in groups]
     return futures[0]

@@ -2,6 +2,7 @@
 
 import itertools
 import os
+import re
 from collections.abc import Hashable, Mapping
 from dataclasses import dataclass, fields
 from pathlib import Path
@@ -21,6 +22,7 @@ Form = Literal["fimi", "baskets", "single"]
 
 _SEPARATORS = {"comma": ",", "semicolon": ";", "tab": "\t", "pipe": "|"}
 SEPARATOR_WORDS = {character: word for word, character in _SEPARATORS.items()}
+_TABLE_HINT = "; a table is given as a pandas.DataFrame"
 _CSV_ENDINGS = (".csv", ".tsv")
 
 
@@ -50,7 +52,8 @@ def read(data: Data, layout: Layout) -> Baskets:
     drop = layout.missing == "drop"
     if isinstance(data, (str, os.PathLike)):
         _refuse_others(layout, "form sep header weighted", "a path")
-        return _file(Path(data).expanduser(), layout)
+        _refuse_no_path(data)
+        return _file(Path(os.path.expanduser(data)), layout)
     if isinstance(data, pd.DataFrame):
         if layout.basket is None and layout.item is None:
             _refuse_others(layout, "weight missing", "a frame with a column an item")
@@ -74,6 +77,17 @@ def _refuse_others(layout: Layout, allowed: str, what: str) -> None:
         )
         if not is_default and field.name not in allowed.split():
             raise DataError(f"{field.name}= does not go with {what}")
+
+
+def _refuse_no_path(path: str | os.PathLike[str]) -> None:
+    """Raises `DataError` if a text is an address, as `s3://shop/a.csv`, or can't be a path."""
+    if isinstance(path, str) and re.match(r"[A-Za-z][A-Za-z0-9+.-]*://", path):
+        raise DataError(
+            f"{path} is no path of a file: fetch it first, or read it by pandas or Dask and "
+            "give the frame"
+        )
+    if "\0" in os.fspath(path):
+        raise DataError("a path has no zero byte")
 
 
 def _file(path: Path, layout: Layout) -> Baskets:
@@ -105,26 +119,42 @@ def _file(path: Path, layout: Layout) -> Baskets:
 
 def _iterable(baskets: Any, drop: bool) -> Baskets:
     """Baskets of an iterable of iterables of labels, which are numbered as they come."""
-    is_table = isinstance(baskets, np.ndarray) and baskets.ndim > 1
-    if is_table or isinstance(baskets, (Mapping, bytes)):
-        raise DataError(
-            f"{type(baskets).__name__} is no iterable of baskets; a table of true and "
-            "false is given as a pandas.DataFrame"
-        )
+    _refuse_tables(baskets)
     numbering: dict[Hashable, int] = {}
     numbers: list[int] = []
     sizes: list[int] = []
     try:
         for basket in baskets:
             if isinstance(basket, (str, bytes, Mapping)):
-                raise DataError(f"a basket is an iterable of items, not {basket!r}")
+                raise DataError(
+                    f"a basket is an iterable of items, not {basket!r}{_TABLE_HINT}"
+                )
             before = len(numbers)
             numbers += [numbering.setdefault(item, len(numbering)) for item in basket]
             sizes.append(len(numbers) - before)
     except TypeError as fault:
-        raise DataError(f"baskets are iterables of hashable items: {fault}") from fault
+        said = f"baskets are iterables of hashable items: {fault}{_TABLE_HINT}"
+        raise DataError(said) from fault
+    if numbering and all(isinstance(label, (bool, np.bool_)) for label in numbering):
+        raise DataError(
+            f"all items of the baskets are true or false: {[*numbering]}; a table of these is "
+            "given as a pandas.DataFrame, with a row for each basket and a column for each item"
+        )
     places = np.repeat(np.arange(len(sizes)), sizes)
     return _without_missing(places, np.array(numbers, np.int64), [*numbering], drop)
+
+
+def _refuse_tables(baskets: Any) -> None:
+    """Raises `DataError` if what something iterates over are columns, keys or bytes, and no baskets."""
+    name = type(baskets).__name__
+    if hasattr(baskets, "__dataframe__") or hasattr(baskets, "to_pandas"):
+        raise DataError(
+            f"{name} is no iterable of baskets: give a table as its .to_pandas(), and a "
+            "column of lists as a list of them"
+        )
+    is_table = isinstance(baskets, np.ndarray) and baskets.ndim > 1
+    if is_table or isinstance(baskets, (Mapping, bytes)):
+        raise DataError(f"{name} is no iterable of baskets{_TABLE_HINT}")
 
 
 def _without_missing(

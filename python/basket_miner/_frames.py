@@ -9,6 +9,10 @@ import pandas as pd
 from ._baskets import Array, Baskets, Labels, baskets_of, checked_weights, grouped
 from ._errors import DataError
 
+# What may help, behind a fault. The calls of mlxtend have no such keywords.
+DROP_HINT = '; missing="drop" leaves them out'
+LONG_HINT = "; a frame with a row for each item of a basket needs basket= and item="
+
 
 def long_frame(
     frame: pd.DataFrame,
@@ -23,16 +27,16 @@ def long_frame(
     """
     names = [basket, item] if weight is None else [basket, item, weight]
     columns = [column_of(frame, name) for name in names]
-    places, ids = _numbered(columns[0], basket)
-    numbers, items = _numbered(columns[1], item)
+    places, ids = numbered(columns[0], basket)
+    numbers, items = numbered(columns[1], item)
     are_there = [places >= 0, numbers >= 0]
     are_there += [_there(column) for column in columns[2:]]
     _refuse_gaps(are_there, names, drop)
     if not all(is_there.all() for is_there in are_there):
         kept = frame[np.logical_and.reduce(are_there)]
         return long_frame(kept, basket, item, weight, drop)
-    _refuse_zero_bytes(columns[0], places, ids)
-    _refuse_zero_bytes(columns[1], numbers, items)
+    refuse_zero_bytes(columns[0], places, ids)
+    refuse_zero_bytes(columns[1], numbers, items)
     weights = None
     if weight is not None:
         weights = _weights_by_place(places, checked_weights(_plain(columns[2])), weight)
@@ -76,11 +80,26 @@ def matrix(values: Any, names: Labels | None) -> Baskets:
 
 def column_of(frame: pd.DataFrame, name: Hashable) -> pd.Series:
     """The column of a name, or `DataError` where there is none or several."""
-    found = [at for at, label in enumerate(frame.columns) if label == name]
+    return frame.iloc[:, place_of(frame.columns, name)]
+
+
+def place_of(labels: Iterable[Hashable], name: Hashable) -> int:
+    """The place of a name among the labels of columns, or `DataError` likewise."""
+    try:
+        hash(name)
+    except TypeError as fault:
+        said = f"a column is given by its name, not as {type(name).__name__}"
+        raise DataError(said) from fault
+    found = [at for at, label in enumerate(labels) if _are_same(label, name)]
     if len(found) != 1:
         how_many = "several columns" if found else "no column"
         raise DataError(f"the frame has {how_many} {name!r}")
-    return frame.iloc[:, found[0]]
+    return found[0]
+
+
+def _are_same(label: Hashable, name: Hashable) -> bool:
+    """Whether a column's label is a name. The label may be `NA`, which nothing is equal to."""
+    return label is name or (not is_missing(label) and bool(label == name))
 
 
 def distinct(labels: list[Hashable], what: str) -> list[Hashable]:
@@ -112,16 +131,20 @@ def _refuse_gaps(
     for is_there, name in zip(are_there, names):
         if not drop and not is_there.all():
             raise DataError(
-                f"column {name!r} has missing values, {(~is_there).sum()} of them; "
-                'missing="drop" leaves them out'
+                f"column {name!r} has missing values, {(~is_there).sum()} of them"
+                f"{DROP_HINT}"
             )
 
 
-def _numbered(column: pd.Series, name: Hashable) -> tuple[Array, pd.Index]:
+def numbered(column: pd.Series, name: Hashable) -> tuple[Array, pd.Index | Array]:
     """For each row the number of its value by first appearance, below 0 where it is missing,
-    and the values by number."""
+    and the values by number.
+
+    A column of objects keeps its values. An index would make its numbers floats.
+    """
+    is_object = column.dtype == object
     try:
-        numbers, values = pd.factorize(column)
+        numbers, values = pd.factorize(column.to_numpy() if is_object else column)
     except TypeError as fault:
         raise DataError(
             f"column {name!r} has values without a hash: {fault}"
@@ -129,7 +152,9 @@ def _numbered(column: pd.Series, name: Hashable) -> tuple[Array, pd.Index]:
     return numbers, values
 
 
-def _refuse_zero_bytes(column: pd.Series, numbers: Array, values: pd.Index) -> None:
+def refuse_zero_bytes(
+    column: pd.Series, numbers: Array, values: pd.Index | Array
+) -> None:
     """`DataError` where two texts got one number.
 
     pandas numbers texts by what stands before a zero byte: "a" and "a\\0b" alike.
@@ -138,8 +163,10 @@ def _refuse_zero_bytes(column: pd.Series, numbers: Array, values: pd.Index) -> N
         column.dtype == object or isinstance(column.dtype, pd.StringDtype)
     ):
         return
-    texts = np.asarray(values, dtype=object)[numbers]
-    if not (texts == np.asarray(column, dtype=object)).all():
+    given = np.asarray(column, dtype=object)
+    is_other = np.asarray(values, dtype=object)[numbers] != given
+    # Values that are no texts may differ and rightly be one value for pandas, as tuples with NaN.
+    if any(isinstance(value, str) for value in given[is_other.astype(bool)]):
         raise DataError(f"column {column.name!r} has texts with a zero byte")
 
 
@@ -178,8 +205,7 @@ def _truth(column: pd.Series, drop: bool) -> Array:
     try:
         return _ones(np.where(is_there, values, 0), f"column {column.name!r}")
     except DataError as fault:
-        hint = "a frame with a row for each item of a basket needs basket= and item="
-        raise DataError(f"{fault}; {hint}") from None
+        raise DataError(f"{fault}{LONG_HINT}") from None
 
 
 def _ones(values: Array, what: str) -> Array:

@@ -1,7 +1,9 @@
 """Where the program is, and one run of it."""
 
 import contextlib
+import functools
 import os
+import re
 import shutil
 import subprocess
 import sys
@@ -10,7 +12,9 @@ import time
 from collections.abc import Iterator, Sequence
 from pathlib import Path
 
+from ._ending import endable
 from ._errors import ProgramMissing, error_of
+from ._version import __version__
 
 _PACKAGE = Path(__file__).resolve().parent
 _BUILT = _PACKAGE.parents[1] / "crates/basket_cli/out/basket_cli"
@@ -20,24 +24,79 @@ _HOW_TO_GET_IT = (
 )
 
 
+# Files of the program that told a version that fits, with what changes when they are written again.
+_FITTING: set[tuple[str, int, int, int]] = set()
+_SECONDS = 30
+
+
 def find() -> Path:
     """The file of the program.
 
     The first of these that is there: what the environment variable `BASKET` names, the copy
     that a wheel brought inside this package, `basket` on the path, and the program as this
-    repository builds it.
+    repository builds it. Other programs have the name too, so each is asked for its version.
 
     Raises:
-        ProgramMissing: there is none, or `BASKET` names nothing that can be run.
+        ProgramMissing: there is none of a version that fits, or `BASKET` names none.
     """
     if named := os.environ.get("BASKET"):
-        if found := shutil.which(named):
-            return Path(found)
-        raise ProgramMissing(f"BASKET names no program: {named}; {_HOW_TO_GET_IT}")
+        if not (found := shutil.which(named)):
+            raise ProgramMissing(f"BASKET names no program: {named}; {_HOW_TO_GET_IT}")
+        if fault := _fault_of(found):
+            raise ProgramMissing(f"{fault}; {_HOW_TO_GET_IT}")
+        return Path(found)
+    faults = []
     for place in (str(_PACKAGE / "bin/basket"), "basket", str(_BUILT)):
         if found := shutil.which(place):
-            return Path(found)
-    raise ProgramMissing(f"the program basket is not here: {_HOW_TO_GET_IT}")
+            if not (fault := _fault_of(found)):
+                return Path(found)
+            faults.append(fault)
+    said = "; ".join(faults) or "the program basket is not here"
+    raise ProgramMissing(f"{said}; {_HOW_TO_GET_IT}")
+
+
+def _fault_of(file: str) -> str | None:
+    """What is wrong with a file as the program, which is asked for its version once."""
+    state = os.stat(file)
+    key = (file, state.st_ino, state.st_size, state.st_mtime_ns)
+    if key in _FITTING:
+        return None
+    words = [file, "--version"]
+    try:
+        ended = subprocess.run(
+            words, stdin=subprocess.DEVNULL, capture_output=True, timeout=_SECONDS
+        )
+    except (OSError, subprocess.TimeoutExpired) as fault:
+        return f"{file} does not run: {fault}"
+    said = ended.stdout.decode(errors="replace").strip()
+    major, minor = map(int, __version__.split(".")[:2])
+    found = re.fullmatch(r"basket (\d+)\.(\d+)\.\d+", said)
+    if not found or int(found[1]) != major or int(found[2]) < minor:
+        return (
+            f"{file} is not basket {major}.{minor} or a later {major}.x: for --version it "
+            f"prints {said[:60]!r}"
+        )
+    _FITTING.add(key)
+    return None
+
+
+@functools.cache
+def _guard() -> tuple[str, ...]:
+    """The words before a command that make Linux kill it when this process ends.
+
+    The system does so when the thread that began the command ends. The thread waits for the
+    command, so that is not too early. Without util-linux's setpriv there are no such words.
+    """
+    if not (found := shutil.which("setpriv")):
+        return ()
+    words = (found, "--pdeathsig", "KILL", "--")
+    tried = subprocess.run(
+        [*words, found, "--version"],
+        stdin=subprocess.DEVNULL,
+        stdout=subprocess.DEVNULL,
+        stderr=subprocess.DEVNULL,
+    )
+    return words if tried.returncode == 0 else ()
 
 
 def run(
@@ -58,14 +117,15 @@ def run(
         BasketError: of the kind that belongs to the exit status, with the program's message.
         ProgramMissing: there is no program that runs.
 
-    An interrupt ends the program and goes on.
+    An interrupt ends the program and is raised. On Linux the program also ends when this process
+    does.
     """
-    command = [str(find()), *words]
+    command = [*_guard(), str(find()), *words]
     if isinstance(source, Path):
         name = str(source)
         command.append(f"./{name}" if name.startswith("-") else name)
     process = _started(command, source if isinstance(source, bytes) else b"")
-    with process:
+    with process, endable(process):
         try:
             report, told = _waited(process, " ".join(words), progress)
         except BaseException:
@@ -132,4 +192,6 @@ def _is_watched() -> bool:
     """Whether somebody sees standard error as it is written."""
     stream = sys.stderr
     is_notebook = type(stream).__module__.startswith("ipykernel")
-    return stream is not None and (is_notebook or stream.isatty())
+    with contextlib.suppress(AttributeError, ValueError):
+        return is_notebook or stream.isatty()
+    return False

@@ -13,6 +13,7 @@ import numpy as np
 import pandas as pd
 
 from ._baskets import Array, Baskets, Labels
+from ._errors import DataError
 
 Itemset = frozenset[Any]
 # Numerators and denominators, place by place.
@@ -163,14 +164,14 @@ def _split(items: Array, sizes: Array, labels: Labels | None) -> list[Itemset]:
 
 def _named_sets(report: bytes, separator: str) -> tuple[list[Itemset], Array]:
     """Sets and counts of records as `7,bread,milk`."""
-    rows = list(_records(report, separator))
+    rows = _records(report, separator)
     counts = np.array([int(row[0]) for row in rows], dtype=np.int64)
     return [frozenset(row[1:]) for row in rows], counts
 
 
 def _named_rules(report: bytes, separator: str) -> _Rules:
     """Rules of records as `7,7/10,7/8,1,bread,milk`."""
-    rows = list(_records(report, separator))
+    rows = _records(report, separator)
     lefts = [int(row[3]) for row in rows]
     return _Rules(
         [frozenset(row[4 : 4 + left]) for row, left in zip(rows, lefts)],
@@ -181,9 +182,15 @@ def _named_rules(report: bytes, separator: str) -> _Rules:
     )
 
 
-def _records(report: bytes, separator: str) -> Iterable[list[str]]:
+def _records(report: bytes, separator: str) -> list[list[str]]:
     text = io.StringIO(report.decode(), newline="")
-    return csv.reader(text, delimiter=separator)
+    try:
+        return [*csv.reader(text, delimiter=separator)]
+    except csv.Error as fault:
+        raise DataError(
+            f"a name is too long for Python's csv: {fault}; csv.field_size_limit() sets "
+            "the limit"
+        ) from fault
 
 
 def _parts(texts: Iterable[str]) -> Fractions:

@@ -70,7 +70,9 @@ def count(
     """The supports of given itemsets, frequent or not.
 
     Takes the baskets as `sets` does, and itemsets of their labels, or a frame that has them in
-    its column `itemsets`. A label that no basket has is no error: its count is 0.
+    its column `itemsets`. A label that no basket has is no error: its count is 0. But an item of a
+    FIMI file is a number, and one of a CSV file a text that is not empty and has no space or tab
+    at its ends; what can be none is refused.
 
     Answers the columns of `sets`. The first row is the empty itemset, whose count is the weight
     of all baskets; then comes each other itemset once, in the order given.

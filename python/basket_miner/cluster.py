@@ -17,7 +17,8 @@ parts, whose sum makes a share of the count.
 
 Items of bags and frames are numbered before the passes, from 0, by first appearance over the
 parts in their order. Names of CSV files stay names. A worker that is lost is the engine's to
-handle: it runs the lost steps again.
+handle: it runs the lost steps again. If a question is interrupted or fails, its runs of the
+program end, on all workers.
 """
 
 from collections.abc import Hashable

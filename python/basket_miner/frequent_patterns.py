@@ -12,6 +12,7 @@ Python's scientific computing stack, Journal of Open Source Software 3 (24), 201
 """
 
 import math
+import numbers
 from collections.abc import Iterable, Sequence
 from typing import Any
 
@@ -22,6 +23,7 @@ from ._baskets import Baskets
 from ._calls import Miner
 from ._data import Layout, read
 from ._errors import DataError, InputError
+from ._frames import DROP_HINT, LONG_HINT
 from ._program import run
 from ._report import rules_frame, sets_frame
 
@@ -97,6 +99,11 @@ def association_rules(
     `confidence` and `lift`, or of these figures those in `return_metrics`. Raises `DataError`
     where an argument or the frame does not fit.
     """
+    if not isinstance(num_itemsets, (int, np.integer, type(None))):
+        raise DataError(
+            f"num_itemsets is a number of rows, not {num_itemsets!r}; give metric= and "
+            "min_threshold= by name"
+        )
     _refuse_metrics([metric], _METRICS)
     _refuse_metrics(return_metrics or [], _FIGURES)
     if support_only:
@@ -124,11 +131,12 @@ def _frequent(
     use_colnames: bool,
     verbose: int,
 ) -> pd.DataFrame:
-    if not 0 < min_support <= 1:
-        raise DataError(f"min_support is above 0 and at most 1: {min_support}")
+    is_number = isinstance(min_support, numbers.Real)
+    if not is_number or not 0 < min_support <= 1:
+        raise DataError(f"min_support is above 0 and at most 1: {min_support!r}")
     if not isinstance(df, pd.DataFrame):
         raise DataError(f"a pandas.DataFrame is needed, not {type(df).__name__}")
-    baskets = read(df, Layout())
+    baskets = _baskets(df)
     if not use_colnames:
         places = range(len(df.columns))
         baskets = Baskets(baskets.source, labels=places, weight=baskets.weight)
@@ -137,6 +145,15 @@ def _frequent(
     frame = sets_frame(report, baskets, len(df))[["support", "itemsets"]]
     frame.attrs[_TRANSACTIONS] = len(df)
     return frame
+
+
+def _baskets(df: pd.DataFrame) -> Baskets:
+    try:
+        return read(df, Layout())
+    except DataError as fault:
+        said = str(fault).removesuffix(DROP_HINT).removesuffix(LONG_HINT)
+        hint = "; fill them with False first" if str(fault).endswith(DROP_HINT) else ""
+        raise DataError(f"{said}{hint}") from None
 
 
 def _least(min_support: float, transactions: int) -> int:
@@ -151,11 +168,6 @@ def _transactions_of(df: pd.DataFrame, num_itemsets: int | None) -> int:
     """How many baskets the supports of a frame of itemsets are shares of."""
     if missing := {"support", "itemsets"} - set(df.columns):
         raise DataError(f"the frame of itemsets has no column {missing.pop()!r}")
-    if not isinstance(num_itemsets, (int, np.integer, type(None))):
-        raise DataError(
-            f"num_itemsets is a number of rows, not {num_itemsets!r}; give metric= and "
-            "min_threshold= by name"
-        )
     known = df.attrs.get(_TRANSACTIONS, num_itemsets)
     if known is None:
         raise DataError(
@@ -179,8 +191,8 @@ def _counted(df: pd.DataFrame, transactions: int) -> tuple[Baskets, int]:
     numbering: dict[Any, int] = {}
     lines = [b"(%d)\n" % transactions]
     for itemset, count in zip(itemsets, counts.astype(np.int64).tolist()):
-        numbers = [numbering.setdefault(item, len(numbering)) for item in itemset]
-        lines.append(b"%s (%d)\n" % (" ".join(map(str, numbers)).encode(), count))
+        places = [numbering.setdefault(item, len(numbering)) for item in itemset]
+        lines.append(b"%s (%d)\n" % (" ".join(map(str, places)).encode(), count))
     least = int(counts.min()) if len(df) else 1
     return Baskets(b"".join(lines), labels=[*numbering], weight=transactions), least
 

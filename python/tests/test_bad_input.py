@@ -1,6 +1,6 @@
 """What is refused, with the exception's type and what it says."""
 
-from collections.abc import Callable
+from collections.abc import Callable, Iterator
 from pathlib import Path
 from typing import Any
 
@@ -96,6 +96,18 @@ def test_several_weights_in_one_basket_are_refused() -> None:
     refused("'times' has several weights", weighted(1, 2), weight="times", **LONG)
 
 
+def test_a_column_that_is_given_for_its_name_is_refused() -> None:
+    refused("by its name, not as Series", ROWS, basket=ROWS["receipt"], item="product")
+    refused("by its name, not as list", ROWS, basket="receipt", item=["product"])
+
+
+@pytest.mark.parametrize("label", [pd.NA, pd.NaT, np.nan, None], ids=str)
+def test_another_column_may_have_no_label(label: Any) -> None:
+    rows = pd.DataFrame([[7, 1, "tea"]], columns=pd.Index([label, *ROWS], dtype=object))
+    assert miner.sets(rows, 1, **LONG)["itemsets"].tolist() == [{"tea"}]
+    refused("no column 'times'", rows, weight="times", **LONG)
+
+
 def test_an_empty_frame_has_no_itemset_and_one_without_columns_is_refused() -> None:
     found = miner.sets(ROWS.iloc[:0], 0.5, **LONG)
     assert len(found) == 0
@@ -103,6 +115,27 @@ def test_an_empty_frame_has_no_itemset_and_one_without_columns_is_refused() -> N
     assert len(miner.sets(pd.DataFrame({"tea": []}, dtype=bool), 0.5)) == 0
     assert len(miner.rules([], 0.5, 0.5)) == 0
     refused("no column of an item", pd.DataFrame())
+
+
+class Columns:
+    """What iterates over its columns, as tables do that are no frames of pandas."""
+
+    def __iter__(self) -> Iterator[list[bool]]:
+        return iter([[True, False], [False, True]])
+
+
+class Table(Columns):
+    """A table as those of Arrow and Polars."""
+
+    def to_pandas(self) -> pd.DataFrame:
+        return pd.DataFrame()
+
+
+class Exchanged(Columns):
+    """A table that other packages can read."""
+
+    def __dataframe__(self) -> object:
+        return None
 
 
 @pytest.mark.parametrize(
@@ -114,6 +147,11 @@ def test_an_empty_frame_has_no_itemset_and_one_without_columns_is_refused() -> N
         ("iterables of hashable items", 7),
         ("ndarray is no iterable of baskets", np.eye(2)),
         ("dict is no iterable of baskets", {"r1": ["tea"]}),
+        ("Table is no iterable of baskets: give .* .to_pandas()", Table()),
+        ("Exchanged is no iterable of baskets: give .* .to_pandas()", Exchanged()),
+        ("items of the baskets are true or false: .True, False.; a table", Columns()),
+        ("items of the baskets are true or false: .True.; a table", [[np.bool_(True)]]),
+        ("iterables of hashable items: 'bool'", [True, False]),
     ],
 )
 def test_what_is_no_iterable_of_baskets_is_refused(said: str, data: object) -> None:
@@ -153,12 +191,27 @@ def test_keywords_that_do_not_fit_are_refused(said: str, options: Any) -> None:
         ("header is True or False", "shop.csv", {"form": "single", "header": 0}),
         ("weighted= does not go", "shop.csv", {"form": "single", "weighted": True}),
         ("item= does not go with a path", "shop.dat", {"item": "product"}),
+        ("zero byte", "shop\0.dat", {}),
     ],
 )
 def test_words_of_a_path_that_do_not_fit_are_refused(
     said: str, name: str, options: Any
 ) -> None:
     refused(said, Path(name), **options)
+
+
+@pytest.mark.parametrize(
+    "name", ["s3://shop/receipts.dat", "https://shop.example/receipts.dat", "gs://x"]
+)
+def test_an_address_is_no_path(name: str) -> None:
+    refused(f"{name} is no path of a file: fetch it first", name)
+
+
+def test_a_home_folder_that_nobody_has_is_a_file_that_is_not_there() -> None:
+    with pytest.raises(miner.FileError, match="cannot open ~nobody-has-this/shop"):
+        miner.sets("~nobody-has-this/shop", 1)
+    with pytest.raises(miner.FileError, match="cannot open n+: File name too long"):
+        miner.sets("n" * 5000, 1)
 
 
 @pytest.mark.parametrize(

@@ -203,3 +203,25 @@ def test_a_categorical_column_and_numbers_of_numpy_are_labels() -> None:
     assert [*found["itemsets"]] == [frozenset("b"), frozenset("a")]
     found = miner.items(np.array([[3], [4, 3]], dtype=object), 1)
     assert pairs(found) == [(frozenset([3]), 2), (frozenset([4]), 1)]
+
+
+@pytest.mark.filterwarnings("error")
+@pytest.mark.parametrize(
+    ("items", "labels"),
+    [
+        ([1, 2.5], [1, 2.5]),
+        ([2**53 + 1, 2.5, 2**53], [2**53 + 1, 2.5, 2**53]),
+        ([True, "tea", 2], [True, "tea", 2]),
+        ([1, 1.0, 2.0], [1, 2.0]),
+        ([(float("nan"), 1), (float("nan"), 1)], [(float("nan"), 1)]),
+    ],
+    ids=str,
+)
+def test_values_of_a_column_of_objects_come_back_as_they_were_given(
+    items: list[Any], labels: list[Any]
+) -> None:
+    frame = pd.DataFrame({"receipt": 1, "product": pd.Series(items, dtype=object)})
+    found = miner.items(frame, 1, basket="receipt", item="product")
+    back = [item for itemset in found["itemsets"] for item in itemset]
+    assert list(map(type, back)) == list(map(type, labels))
+    assert list(map(repr, back)) == list(map(repr, labels))

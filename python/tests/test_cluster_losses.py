@@ -91,3 +91,60 @@ def test_a_bag_of_sets_keeps_its_numbers_where_a_worker_is_killed(
     wanted = brute.frequent([list(basket) for basket in baskets], 14)
     assert len(wanted) > 50
     assert dict(zip(found["itemsets"], found["count"])) == dict(wanted)
+
+
+@pytest.fixture
+def interrupts() -> Iterator[None]:
+    """Interrupts are raised, also in tests that a shell started in the background, which ignores them."""
+    before = signal.signal(signal.SIGINT, signal.default_int_handler)
+    yield
+    signal.signal(signal.SIGINT, before)
+
+
+def is_running(process: int) -> bool:
+    """Whether a process is there that has not ended."""
+    try:
+        stat = Path(f"/proc/{process}/stat").read_text()
+    except OSError:
+        return False
+    return stat.rpartition(")")[2].split()[0] not in "ZX"
+
+
+def interrupt_when(log: Path, runs: int) -> None:
+    """Interrupts this process when so many runs have begun."""
+    until = time.monotonic() + SECONDS
+    while len(told(log)) < runs and time.monotonic() < until:
+        time.sleep(0.02)
+    os.kill(os.getpid(), signal.SIGINT)
+
+
+@pytest.mark.usefixtures("interrupts")
+def test_an_interrupted_question_ends_its_runs_and_leaves_the_workers_free(
+    tmp_path: Path,
+) -> None:
+    log, slow = tmp_path / "log", tmp_path / "slow"
+    # The runs of workers tell their own number and take for ever, until a file says otherwise.
+    slow.write_text(
+        f"""#!/bin/sh
+[ "$1" = --version -o $PPID = {os.getpid()} -o -e "{tmp_path}/quick" ] && exec "{find()}" "$@"
+echo $$ "$@" >> "{log}"
+exec sleep 600
+"""
+    )
+    slow.chmod(0o755)
+    files = [tmp_path / f"part {number}" for number in range(4)]
+    for file in files:
+        file.write_bytes(SHOP.read_bytes())
+    with pytest.MonkeyPatch.context() as patch:
+        patch.setenv("BASKET", str(slow))
+        with LocalCluster(
+            n_workers=2, threads_per_worker=1, dashboard_address=None
+        ) as engine, Client(engine) as client:
+            threading.Thread(target=interrupt_when, args=(log, 2)).start()
+            with pytest.raises(KeyboardInterrupt):
+                cluster.report(files, "sets", "--min=20%", client=client)
+            (tmp_path / "quick").touch()
+            # In each part ten of fifteen baskets have item 1 and twelve item 2, as examples/shop.dat shows.
+            report = cluster.report(files, "items", "--min=60%", client=client)
+            assert report == b"1 (40)\n2 (48)\n"
+            assert [is_running(process) for process, _ in told(log)] == [False] * 2

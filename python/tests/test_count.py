@@ -1,5 +1,7 @@
 """`count` tells the supports of given itemsets."""
 
+import csv
+from collections.abc import Callable
 from fractions import Fraction
 from pathlib import Path
 from typing import Any
@@ -45,6 +47,49 @@ def test_names_of_csv_are_counted() -> None:
     frame = miner.count(receipts, [["milk", "tea"], ["gold"]], **options)
     assert frame["itemsets"].tolist() == [set(), {"milk", "tea"}, {"gold"}]
     assert frame["count"].tolist() == [15, 3, 0]
+
+
+def test_a_name_of_csv_may_have_any_letter_also_those_that_end_records(
+    tmp_path: Path,
+) -> None:
+    path = tmp_path / "shop.csv"
+    # Two baskets have milk alone, one has a name that goes on behind a carriage return, and tea.
+    path.write_bytes(b'"milk\r0",tea\nmilk\nmilk\n"say ""a,b""\n"\n')
+    options: Any = {"form": "baskets"}
+    asked: list[list[str]] = [
+        ["milk\r0"],
+        ["tea", "milk\r0"],
+        ["milk"],
+        ['say "a,b"\n'],
+        ["a\rb"],
+        [],
+    ]
+    frame = miner.count(path, asked, **options)
+    assert frame["itemsets"].tolist() == [set(), *({*names} for names in asked[:5])]
+    assert frame["count"].tolist() == [4, 1, 1, 2, 1, 0]
+    found = miner.sets(path, 1, **options)
+    again = miner.count(path, found, **options).iloc[1:].reset_index(drop=True)
+    pd.testing.assert_frame_equal(again, found)
+
+
+@pytest.mark.parametrize("name", ["", " milk", "milk\t", None, 7, ("milk",), "\ud800"])
+def test_what_no_name_of_csv_can_be_is_refused(tmp_path: Path, name: Any) -> None:
+    path = tmp_path / "shop.csv"
+    path.write_text("milk\nmilk,7\n")
+    with pytest.raises(miner.DataError, match="an item of a CSV file is"):
+        miner.count(path, [["milk"], [name, "milk"]], form="baskets")
+
+
+def test_a_name_that_is_too_long_for_pythons_csv_is_told(tmp_path: Path) -> None:
+    path, name = tmp_path / "shop.csv", "n" * (csv.field_size_limit() + 1)
+    path.write_text(f"{name}\n")
+    calls: list[Callable[[], Any]] = [
+        lambda: miner.sets(path, 1, form="baskets"),
+        lambda: miner.count(path, [[name]], form="baskets"),
+    ]
+    for call in calls:
+        with pytest.raises(miner.DataError, match="too long .* csv.field_size_limit"):
+            call()
 
 
 def test_without_baskets_a_support_is_not_a_number() -> None:

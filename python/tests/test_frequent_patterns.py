@@ -7,6 +7,7 @@ what they print.
 
 import itertools
 import random
+from collections.abc import Callable
 from typing import Any
 
 import brute
@@ -178,6 +179,12 @@ def test_rules_at_a_threshold_are_those_of_brute_force(metric: str) -> None:
             "by name",
             lambda: association_rules(apriori(FRAME), "confidence"),  # type: ignore[arg-type]
         ),
+        (
+            "by name",
+            lambda: association_rules(apriori(FRAME), "lift", 1),  # type: ignore[arg-type]
+        ),
+        ("at most 1: '50%'", lambda: apriori(FRAME, "50%")),  # type: ignore[arg-type]
+        ("at most 1: nan", lambda: apriori(FRAME, float("nan"))),
         ("made from 5 rows", lambda: association_rules(apriori(FRAME), 1)),
         ("not of fpmax", lambda: association_rules(fpmax(FRAME))),
     ],
@@ -185,3 +192,21 @@ def test_rules_at_a_threshold_are_those_of_brute_force(metric: str) -> None:
 def test_what_only_mlxtend_has_is_refused_with_what_to_do(said: str, call: Any) -> None:
     with pytest.raises(DataError, match=said):
         call()
+
+
+def test_advice_names_no_argument_that_these_calls_lack() -> None:
+    gap, two = FRAME.astype(object), FRAME.astype(int)
+    gap.iloc[0, 0], two.iloc[0, 0] = None, 2
+    name = FRAME.columns[0]
+    calls: list[Callable[[pd.DataFrame], pd.DataFrame]] = [apriori, fpgrowth, fpmax]
+    for call in calls:
+        with pytest.raises(DataError) as caught:
+            call(gap)
+        assert str(caught.value) == (
+            f"column {name!r} has missing values, 1 of them; fill them with False first"
+        )
+        with pytest.raises(DataError) as caught:
+            call(two)
+        assert str(caught.value) == (
+            f"column {name!r} has values other than 0 and 1, false and true"
+        )

@@ -3,8 +3,10 @@
 import io
 import os
 import signal
+import subprocess
 import sys
 import threading
+import time
 from collections.abc import Iterator
 from pathlib import Path
 
@@ -18,13 +20,21 @@ from basket_miner import (
     ProgramMissing,
     TooManySets,
     UsageError,
+    __version__,
     _program,
+    sets,
 )
 
 
-def script(place: Path, text: str) -> Path:
+MAJOR, MINOR = map(int, __version__.split(".")[:2])
+SECONDS = 60
+
+
+def script(place: Path, text: str, version: str = f"basket {__version__}") -> Path:
+    """A program that tells a version, and does else what a text says."""
     place.parent.mkdir(parents=True, exist_ok=True)
-    place.write_text(f"#!/bin/sh\n{text}\n")
+    told = f'if [ "$1" = --version ]; then echo "{version}"; exit; fi'
+    place.write_text(f"#!/bin/sh\n{told}\n{text}\n")
     place.chmod(0o755)
     return place
 
@@ -65,6 +75,48 @@ def test_a_file_that_does_not_run_is_told(
     (tmp_path / "stand_in").write_bytes(b"\x7fELF of another machine")
     with pytest.raises(ProgramMissing, match="stand_in does not run: .*make wheel"):
         _program.run(["--version"], b"1 2\n")
+
+
+@pytest.mark.parametrize(
+    "version",
+    [
+        "",
+        "basket",
+        "BasKet Note Pads 2.49",
+        "basket 2.49.0",
+        f"basket {MAJOR}.{MINOR - 1}.9",
+        f"basket {MAJOR + 1}.{MINOR}.0",
+        f"basket {__version__} of another",
+    ],
+)
+def test_another_program_of_this_name_is_refused_and_passed_over(
+    monkeypatch: pytest.MonkeyPatch, tmp_path: Path, version: str
+) -> None:
+    other = script(tmp_path / "other", "", version)
+    monkeypatch.setenv("BASKET", str(other))
+    said = f"other is not basket {MAJOR}.{MINOR} or a later .* prints '{version}'; inst"
+    with pytest.raises(ProgramMissing, match=said):
+        sets([["tea"]], 1)
+    monkeypatch.delenv("BASKET")
+    on_path = script(tmp_path / "p/basket", "", version)
+    monkeypatch.setattr(_program, "_PACKAGE", tmp_path)
+    monkeypatch.setattr(_program, "_BUILT", tmp_path / "built")
+    monkeypatch.setenv("PATH", f"{on_path.parent}:{os.environ['PATH']}")
+    with pytest.raises(ProgramMissing, match=f"p/basket is not .*'{version}'; install"):
+        _program.find()
+    assert script(tmp_path / "built", "") == _program.find()
+
+
+def test_a_program_is_asked_for_its_version_once_until_it_is_written_again(
+    monkeypatch: pytest.MonkeyPatch, tmp_path: Path
+) -> None:
+    log = tmp_path / "log"
+    for version in (f"basket {MAJOR}.{MINOR + 1}.0", f"basket {__version__}"):
+        file = script(tmp_path / "stand_in", "", f"$(echo asked >> {log}){version}")
+        monkeypatch.setenv("BASKET", str(file))
+        assert _program.find() == _program.find() == file
+        assert _program.run(["sets"]) == b""
+    assert log.read_text() == "asked\nasked\n"
 
 
 @pytest.mark.parametrize(
@@ -129,6 +181,59 @@ def test_an_interrupt_ends_the_program(
         os.kill(int((tmp_path / "id").read_text()), 0)
 
 
+def is_running(process: int) -> bool:
+    """Whether a process is there that has not ended."""
+    try:
+        stat = Path(f"/proc/{process}/stat").read_text()
+    except OSError:
+        return False
+    return stat.rpartition(")")[2].split()[0] not in "ZX"
+
+
+def told_by(file: Path) -> int:
+    """The number that a process writes to a file sooner or later."""
+    until = time.monotonic() + SECONDS
+    while not (file.exists() and file.read_text().endswith("\n")):
+        assert time.monotonic() < until
+        time.sleep(0.02)
+    return int(file.read_text())
+
+
+@pytest.mark.parametrize("ending", [signal.SIGKILL, signal.SIGTERM])
+def test_the_program_ends_with_the_process_that_began_it(
+    tmp_path: Path, ending: signal.Signals
+) -> None:
+    file = script(tmp_path / "slow", f"echo $$ > {tmp_path}/id; exec sleep 600")
+    text = "from basket_miner import sets; sets([['tea']], 1)"
+    environment = {**os.environ, "BASKET": str(file)}
+    with subprocess.Popen([sys.executable, "-c", text], env=environment) as caller:
+        program = told_by(tmp_path / "id")
+        assert is_running(program)
+        caller.send_signal(ending)
+    until = time.monotonic() + SECONDS
+    while is_running(program):
+        assert time.monotonic() < until
+        time.sleep(0.02)
+
+
+def test_a_program_lives_as_long_as_its_own_thread(
+    monkeypatch: pytest.MonkeyPatch, tmp_path: Path
+) -> None:
+    stand_in(monkeypatch, tmp_path, 'sleep "$1"; echo done')
+    reports: list[bytes] = []
+    threads = [
+        threading.Thread(
+            target=lambda word: reports.append(_program.run([word])), args=(word,)
+        )
+        for word in ("0", "0.1", "0.5", "1")
+    ]
+    for thread in threads:
+        thread.start()
+    for thread in threads:
+        thread.join()
+    assert reports == [b"done\n"] * 4
+
+
 class Terminal(io.StringIO):
     def isatty(self) -> bool:
         return True
@@ -138,6 +243,13 @@ class Notebook(io.StringIO):
     __module__ = "ipykernel.iostream"
 
 
+class Bare:
+    """A stream as some loggers set it as standard error."""
+
+    def getvalue(self) -> str:
+        return ""
+
+
 @pytest.mark.parametrize(
     ("stream", "is_asked", "is_told"),
     [
@@ -145,12 +257,13 @@ class Notebook(io.StringIO):
         (Notebook(), True, True),
         (Terminal(), False, False),
         (io.StringIO(), True, False),
+        (Bare(), True, False),
     ],
 )
 def test_progress_is_told_where_it_is_asked_and_seen(
     monkeypatch: pytest.MonkeyPatch,
     tmp_path: Path,
-    stream: io.StringIO,
+    stream: io.StringIO | Bare,
     is_asked: bool,
     is_told: bool,
 ) -> None:
