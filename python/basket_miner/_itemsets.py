@@ -31,7 +31,7 @@ def items(
 ) -> pd.DataFrame:
     """The items that are in enough baskets, as itemsets of one item each.
 
-    Takes and answers what `sets` does; `miner` and `limit` have no effect.
+    Takes and returns what `sets` does; `miner` and `limit` have no effect.
     """
     layout = Layout(basket, item, weight, names, missing, form, sep, header, weighted)
     work = Work(miner, workers, limit, exact, progress)
@@ -95,7 +95,7 @@ def closed(
 ) -> pd.DataFrame:
     """The closed frequent itemsets: no larger itemset has the same count.
 
-    Takes and answers what `sets` does; each of its itemsets has the count of the smallest
+    Takes and returns what `sets` does; each of its itemsets has the count of the smallest
     closed one around it.
 
     Pasquier, Bastide, Taouil and Lakhal, Discovering frequent closed itemsets for association
@@ -127,7 +127,7 @@ def maximal(
 ) -> pd.DataFrame:
     """The maximal frequent itemsets: no larger itemset is frequent.
 
-    Takes and answers what `sets` does; its itemsets are these and all their parts.
+    Takes and returns what `sets` does; its itemsets are these and all their parts.
 
     Bayardo, Efficiently mining long patterns from databases, 1998.
     """

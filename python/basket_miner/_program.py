@@ -105,7 +105,7 @@ def run(
     *,
     progress: bool = False,
 ) -> bytes:
-    """Runs the program once, without a shell, and answers what it wrote.
+    """Runs the program once, without a shell, and returns what it wrote.
 
     Args:
         words: its command and options, as `["sets", "--min", "20%"]`.

@@ -80,7 +80,7 @@ def report(parts: Any, *words: str, client: Client, progress: bool = False) -> b
     """The report of the program over all parts, in its bytes.
 
     Args:
-        parts: files, a bag, or what `prepare` answers.
+        parts: files, a bag, or what `prepare` returns.
         words: those of the program without a file, as `"rules", "--min", "1%", "--conf", "1/2"`.
             `--form`, `--sep`, `--header` and `--weight` are how files are written; `--miner`,
             `--workers` and `--pieces` how each part is mined; `--limit` bounds the sets of the
@@ -119,7 +119,7 @@ def sets(
     """The frequent itemsets over all parts: the frame that `basket_miner.sets` gives.
 
     Args:
-        parts: as this module says, or what `prepare` answers.
+        parts: as this module says, or what `prepare` returns.
         minimum: a count or a share of all baskets, as `basket_miner.sets` takes it.
         client: of the cluster.
         basket, item, weight, missing, form, sep, header, weighted: as `prepare` takes them.

@@ -59,7 +59,7 @@ def fpgrowth(
     max_len: None = None,
     verbose: int = 0,
 ) -> pd.DataFrame:
-    """The frequent itemsets, as `apriori` answers them, by FP-growth."""
+    """The frequent itemsets, as `apriori` returns them, by FP-growth."""
     _refuse_length(max_len)
     _refuse_nulls(null_values)
     return _frequent("sets", "fpgrowth", df, min_support, use_colnames, verbose)

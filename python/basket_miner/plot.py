@@ -1,6 +1,6 @@
 """Pictures of the package's frames, by matplotlib.
 
-Each call draws on an axis, or on that of a new figure, and answers the axis, where all can be
+Each call draws on an axis, or on that of a new figure, and returns the axis, where all can be
 changed; `axes.figure.savefig` writes it. A lift has the same colour everywhere: red above 1, blue
 below it, pale at 1. Marks and lines differ in their form too, for paper without colour and for those
 who don't tell all colours apart; colours of lines are of the palette of Okabe and Ito.
@@ -45,7 +45,7 @@ def rules(frame: pd.DataFrame, axes: Axes | None = None, most: int = 5) -> Axes:
     triangles, which are smaller, above circles.
 
     Args:
-        frame: rules, as `basket_miner.rules` answers them.
+        frame: rules, as `basket_miner.rules` returns them.
         axes: where to draw; else on a new figure.
         most: how many rules of highest lift are named, as far as their names find a free place.
 
@@ -111,7 +111,7 @@ def minimums(
     """How many frequent itemsets there are at each of some minimums, by size.
 
     Args:
-        data: the frame that `basket_miner.sets` answers at the least of the minimums, or below;
+        data: the frame that `basket_miner.sets` returns at the least of the minimums, or below;
             or what it takes, and then it is asked once, at the least of them.
         minimums: counts alone or shares alone, as `basket_miner.sets` takes them.
         axes: where to draw; else on a new figure.
@@ -160,7 +160,7 @@ def strongest(frame: pd.DataFrame, axes: Axes | None = None, most: int = 15) -> 
     first, then that of higher support. The strongest rule's row and column are the first.
 
     Args:
-        frame: rules, as `basket_miner.rules` answers them.
+        frame: rules, as `basket_miner.rules` returns them.
         axes: where to draw; else on a new figure.
         most: how many rules, from 1 on.
 
@@ -194,7 +194,7 @@ def strongest(frame: pd.DataFrame, axes: Axes | None = None, most: int = 15) -> 
 def _cells(
     chosen: pd.DataFrame, rows: list[Any], columns: list[Any], axes: Axes
 ) -> Any:
-    """Draws the cells of rules, each by its lift, and answers their image."""
+    """Draws the cells of rules, each by its lift, and returns their image."""
     lifts = np.full((len(rows), len(columns)), np.nan)
     scale = scale_of(chosen["lift"])
     for rule in chosen.itertuples():
