@@ -1,5 +1,5 @@
 -- The command line as `clap` sees it, and what words ask for.
-use Rattle.std.specs.Prelude.{◌≡◌, List, [], ◌∷◌, ◌++◌, ℕ, Bool, true, false, map, codes, if◌then◌else◌, option_and_then, option_map, unwrap_or, Option, Some, None}
+use Rattle.std.specs.Prelude.{List, [], ◌∷◌, ◌++◌, ℕ, Bool, true, false, codes, if◌then◌else◌, option_and_then, option_map, unwrap_or, Option, Some, None}
 use Rattle.std.specs.List.{list_any}
 use Rattle.std.specs.Str.{bytes_eq}
 use Rattle.std.specs.Str.Parse.{digits_value, without_leading_plus}
@@ -19,7 +19,6 @@ use Rattle.basket_plan.specs.Plan.{Counting, GREATEST_LIMIT, Planned}
 use Rattle.basket_plan.specs.declared.command.PlanFault.{PlanFault}
 use Rattle.basket_plan.specs.declared.command.PlanFault.TheVariants.{Memory, Usage, Help}
 use Rattle.basket_plan.specs.declared.invocation.Invocation.{Invocation}
-use Rattle.basket_plan.specs.declared.invocation.Task.{Task}
 use Rattle.basket_plan.specs.declared.invocation.Task.TheVariants.{Report, Count}
 use Rattle.basket_plan.specs.declared.plan.TheConstants.{MOST_PIECES, MOST_WORKERS}
 use Rattle.basket_plan.specs.declared.layout.Layout.{Layout}

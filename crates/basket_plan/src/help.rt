@@ -53,8 +53,8 @@ report is CSV as well.
 
 The report is the same for every miner. Time and memory differ:
   apriori     the default: the least memory if few sets are frequent, slow if many are
-  eclat-bits  fast on most data
-  fpgrowth    fast on most data, and the fastest if baskets are long
+  eclat-bits  fast on most data, and often the fastest over few or varied baskets
+  fpgrowth    fast on most data, and often the fastest over very many baskets
   eclat-diff  as fast as eclat-bits on dense data, where most items are in most baskets
   eclat       as fast as eclat-bits on sparse data, where most items are in few baskets";
 
