@@ -45,10 +45,9 @@ module _ {A : Type 0} (say : A → Contents) where
   says (Some bytes) said (Err fault) h = λ other. ap said_with (h other)
 
   -- of a reader that failed
-  pub fails : (left : Option (List ℕ)) (read : Result A ReadFault) → read ≡ Err Read → IfErr (said_with read) (λ fault. IfSome left (λ bytes. fault ≡ Read))
-  fails left (Ok a) h = cc
-  fails None (Err fault) h = tt
-  fails (Some bytes) (Err fault) h = ap (fault_in fault) h
+  pub fails : (read : Result A ReadFault) → read ≡ Err Read → IfErr (said_with read) (λ fault. fault ≡ Read)
+  fails (Ok a) h = cc
+  fails (Err fault) h = ap (fault_in fault) h
 
   pub still_read : (read : Result A ReadFault) → said_with read ≡ Err Read → read ≡ Err Read
   still_read (Ok a) h = cc

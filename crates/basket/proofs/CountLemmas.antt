@@ -1,15 +1,17 @@
 -- The counts of given sets.
-use Rattle.std.proofs.Common.{◌≡◌, ◌≢◌, ◌∙◌, ◌<◌, ◌+◌, ℕ, zero, suc, Bool, true, false, List, [], ◌∷◌, Option, Some, None, Result, Ok, Err, Global, ap, arith, drop, get_or, length, refl, subst}
+use Rattle.std.proofs.Common.{◌≡◌, ◌≢◌, ◌∙◌, ◌<◌, ◌+◌, ℕ, zero, suc, Bool, true, false, List, [], ◌∷◌, Option, Some, None, Result, Ok, Err, Global, ap, arith, drop, get_or, length, map, refl, subst, sym}
 use Rattle.std.specs.Prelude.{IfSome, MatchResult}
 use Rattle.basket_plan.specs.declared.layout.Layout.{Layout}
 use Rattle.basket_read.specs.declared.fault.ReadFault.{ReadFault}
 use Rattle.basket_read.specs.declared.fault.ReadFault.TheVariants.{Memory, Read}
 use Rattle.basket.specs.declared.contents.Contents.{Contents}
+use Rattle.basket.specs.declared.contents.Contents.TheVariants as contents
+use Rattle.basket_sets.specs.declared.counted.Counted.{Counted}
 use Rattle.basket.specs.declared.fault.RunFault.{RunFault}
 use Rattle.basket.specs.declared.fault.RunFault.TheVariants.{Input, Sets, Uncounted, Mine, Write}
 use Rattle.basket.specs.declared.made.Made.{Made}
 use Rattle.basket.specs.Contents.{Answers, AskedAnswers, asked_in, contents_of}
-use Rattle.basket.specs.Count.{IsCountsFault, MakesCounts, OfBoth, count_outcome, counts_in, of_asked, of_contents}
+use Rattle.basket.specs.Count.{AreReadable, AreReadableSets, IsCountsFault, MakesCounts, OfBoth, count_outcome, counted_in, counts_in, counts_over, first_uncounted, of_asked, of_contents, text_of_counts, unless_uncounted}
 use Rattle.basket.specs.Made.{made_text}
 use Rattle.mine_sets.specs.Asked.{asked_of}
 
@@ -43,6 +45,20 @@ fault_is_read fault e = ap (fault_of fault) e
 
 -- ---- both readers
 
+is_read : {X : Type 0} {x : X} {fault : ReadFault} → was_read x ≡ was_refused fault → ⊥
+is_read is = cc
+
+-- what counting comes to is no fault of the sets or of the input
+text_is_readable : (layout : Layout) (names : Option (List (List ℕ))) (list : Result (List Counted) RunFault) (nth : Option ℕ) (sums : List Counted) → list ≡ unless_uncounted nth sums
+    → AreReadable (text_of_counts layout names list)
+text_is_readable layout names list None sums is = subst (λ l. AreReadable (text_of_counts layout names l)) (sym is) (λ fault. (λ e. cc, λ e. cc))
+text_is_readable layout names list (Some nth) sums is = subst (λ l. AreReadable (text_of_counts layout names l)) (sym is) (λ fault. (λ e. cc, λ e. cc))
+
+counts_are_readable : (layout : Layout) (sets : List (List ℕ)) (contents : Contents) → AreReadable (counts_in layout sets contents)
+counts_are_readable layout sets (contents.Baskets baskets names) = λ fault. (λ e. cc, λ e. cc)
+counts_are_readable layout sets (contents.Counts lines names) =
+    text_is_readable layout names (counts_over lines sets) (first_uncounted lines 0 sets) (map (counted_in lines) sets) refl
+
 pub sets_refuse : (layout : Layout) (asked left : Option (List ℕ)) (fault : ReadFault) → IfSome asked (λ bytes. AskedAnswers {A = Global} (Err fault) (asked_in layout bytes))
     → OfBoth asked left (λ sets bytes. fault ≢ Memory → count_outcome layout sets bytes ≡ Err (Sets fault))
 sets_refuse layout None left fault read = tt
@@ -63,6 +79,13 @@ module _ (layout : Layout) (asked : Option (List ℕ)) (sets names : List (List 
       go (Some s) read None refused = tt
       go (Some s) read (Some bytes) refused = λ other. ap (of_asked layout bytes) read ∙ ap (of_contents layout (asked_of sets)) (refused other)
 
+  pub sets_are_readable : AreReadableSets layout asked
+  sets_are_readable = go asked read
+    where
+      go : (asked : Option (List ℕ)) → IfSome asked (λ bytes. asked_in layout bytes ≡ Ok (sets, names)) → AreReadableSets layout asked
+      go None read = tt
+      go (Some bytes) read = λ fault refused. is_read (sym read ∙ refused)
+
   -- what was counted is the outcome
   outcome_is : (left : Option (List ℕ)) (contents : Contents) → IfSome left (λ bytes. Answers (Ok contents) (contents_of layout names bytes)) → OfOutcome left (counts_in layout (asked_of sets) contents)
   outcome_is left contents said = go asked read left said
@@ -78,11 +101,20 @@ module _ (layout : Layout) (asked : Option (List ℕ)) (sets names : List (List 
     told : (answer : Result (List ℕ) RunFault) → counts_in layout (asked_of sets) contents ≡ answer → OfOutcome left answer
     told answer is = subst (OfOutcome left) is (outcome_is left contents said)
 
+    readable : OfBoth asked left (λ s bytes. AreReadable (count_outcome layout s bytes))
+    readable = go asked left (outcome_is left contents said)
+      where
+        go : (asked left : Option (List ℕ)) → OfBoth asked left (λ s bytes. count_outcome layout s bytes ≡ counts_in layout (asked_of sets) contents)
+            → OfBoth asked left (λ s bytes. AreReadable (count_outcome layout s bytes))
+        go None left is = tt
+        go (Some s) None is = tt
+        go (Some s) (Some bytes) is = subst AreReadable (sym is) (counts_are_readable layout (asked_of sets) contents)
+
     pub counts_make : (result : Result Made RunFault) → MatchResult result (λ made. counts_in layout (asked_of sets) contents ≡ Ok (made_text made)) (IsCountsFault (counts_in layout (asked_of sets) contents))
         → MakesCounts layout asked asked_failed left after failed result
     counts_make (Ok made) is = (told (Ok (made_text made)) is, asked_works, works)
     counts_make (Err (Uncounted nth)) is = ((told (Err (Uncounted nth)) is, asked_works, works), λ e. cc)
-    counts_make (Err (Mine fault)) is = ((is, asked_works, works), λ e. cc)
+    counts_make (Err (Mine fault)) is = ((is, asked_works, works, readable), λ e. cc)
     counts_make (Err (Input fault)) is = absurd is
     counts_make (Err (Sets fault)) is = absurd is
     counts_make (Err Write) is = absurd is

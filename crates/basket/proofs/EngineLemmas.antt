@@ -13,7 +13,7 @@ use Rattle.basket.specs.declared.fault.RunFault.{RunFault}
 use Rattle.basket.specs.declared.fault.RunFault.TheVariants.{Input, Sets, Uncounted, Mine, Write}
 use Rattle.basket.specs.Outcome.{outcome, outcome_of, outcome_for, of_mining}
 use Rattle.basket_plan.specs.Plan.{Question}
-use Rattle.basket.specs.Engine.{FailsInput, IsOutcomeFault, MakesReport, RefusesInput, RefusesSets, WritesFront, WritesReport}
+use Rattle.basket.specs.Engine.{FailsInput, IsOutcomeFault, IsReadable, MakesReport, RefusesInput, RefusesSets, WritesFront, WritesReport}
 
 abbrev input_fault : ReadFault → Result Unit RunFault → ReadFault
 input_fault other (Err (Input fault)) = fault
@@ -60,10 +60,17 @@ pub refuses_input : (left : Option (List ℕ)) (question : Question) (fault : Re
 refuses_input None question fault read = tt
 refuses_input (Some bytes) question fault read = λ other. ap (λ a. outcome_of a question) (read other)
 
+-- what mining comes to is no fault of the input
+pub mined_is_readable : (mined : Result (List ℕ) MineFault) → IsReadable (of_mining mined)
+mined_is_readable (Ok text) = λ fault is. cc
+mined_is_readable (Err fault) = λ other is. cc
+
 pub refuses_sets : (left : Option (List ℕ)) (question : Question) (said : Said) (fault : MineFault)
     → IfSome left (λ bytes. Answers (Ok said) (said_of question bytes)) → (fault ≢ Memory → outcome_for said question ≡ Err fault) → RefusesSets left question fault
 refuses_sets None question said fault read refused = tt
-refuses_sets (Some bytes) question said fault read refused = λ other. ap (λ a. outcome_of a question) read ∙ ap of_mining (refused other)
+refuses_sets (Some bytes) question said fault read refused =
+    let mined = ap (λ a. outcome_of a question) read in
+    (subst IsReadable (sym mined) (mined_is_readable (outcome_for said question)), λ other. mined ∙ ap of_mining (refused other))
 
 -- ---- what is written of a report that was made, and what is told where none was
 
@@ -124,8 +131,8 @@ module _ (question : Question) (left after : Option (List ℕ)) (failed : Bool) 
   not_write Write made is = made
 
 told_whole : (question : Question) (bytes : List ℕ) (after : Option (List ℕ)) (fault : RunFault) → MakesReport question (Some bytes) after false (Err fault) → IsOutcomeFault (outcome bytes question) fault
-told_whole question bytes after (Input fault) made = λ readable minable. made.0 refl (λ is. readable (ap Input is))
-told_whole question bytes after (Mine fault) made = λ readable minable. made.1 (λ is. minable (ap Mine is))
+told_whole question bytes after (Input fault) made = made.0 refl
+told_whole question bytes after (Mine fault) made = made.1
 told_whole question bytes after (Sets fault) made = absurd made
 told_whole question bytes after (Uncounted nth) made = absurd made
 told_whole question bytes after Write made = absurd made
@@ -134,8 +141,3 @@ told_whole question bytes after Write made = absurd made
 pub told_outcome : (question : Question) (bytes : List ℕ) (left after : Option (List ℕ)) (fault : RunFault) → left ≡ Some bytes → MakesReport question left after false (Err fault)
     → IsOutcomeFault (outcome bytes question) fault
 told_outcome question bytes left after fault known made = told_whole question bytes after fault (subst (λ l. MakesReport question l after false (Err fault)) known made)
-
--- want of memory refuses nothing
-pub memory_refuses : (left : Option (List ℕ)) (question : Question) → RefusesSets left question Memory
-memory_refuses None question = tt
-memory_refuses (Some bytes) question = λ other. absurd (other refl)

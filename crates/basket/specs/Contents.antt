@@ -52,10 +52,10 @@ contents_in CsvCounts layout known bytes = by_names contents.Counts (where_read 
 abbrev pub contents_of : Layout → List (List ℕ) → List ℕ → Result Contents ReadFault
 contents_of layout known bytes = contents_in layout.form layout known bytes
 
--- what a reader that failed returns: in FIMI the fault in the bytes that it gave, else `Read`; in the other forms `Read`
-abbrev pub FailsIn : Form → List ℕ → Option (List ℕ) → ReadFault → Type 0
-FailsIn Fimi bytes left fault = FailsAfter bytes left (Err fault)
-FailsIn _ bytes left fault = fault ≡ Read
+-- the fault if the reader failed: in FIMI that of the bytes that it gave, if they are known and have one, else `Read`; in the other forms `Read`
+abbrev pub FailsIn : Form → Option (List ℕ) → Option (List ℕ) → ReadFault → Type 0
+FailsIn Fimi left after fault = IfSome left (λ bytes. FailsAfter bytes after (Err fault))
+FailsIn _ left after fault = fault ≡ Read
 
 -- how a report writes items: as the input does
 abbrev pub wording_with : ℕ → Option (List (List ℕ)) → Wording

@@ -77,17 +77,27 @@ abbrev pub WritesCountsFront : Layout → Option (List ℕ) → Option (List ℕ
 WritesCountsFront layout asked left before after =
     OfBoth asked left (λ sets bytes. (text : List ℕ) × (count : ℕ) × (count_outcome layout sets bytes ≡ Ok text) × (count ≤ length text) × Appends before after (take count text))
 
--- the fault is the one of the outcome, except if memory is out; if a reader failed, it is what the form of what it reads says of that
+-- the bytes of the sets have no fault, if they are known
+abbrev pub AreReadableSets : Layout → Option (List ℕ) → Type 0
+AreReadableSets layout asked = IfSome asked (λ bytes. (fault : ReadFault) → asked_in layout bytes ≢ Err fault)
+
+-- the outcome is no fault of the bytes of the sets or of the input
+abbrev pub AreReadable : Result (List ℕ) RunFault → Type 0
+AreReadable outcome = (fault : ReadFault) → (outcome ≢ Err (Sets fault)) × (outcome ≢ Err (Input fault))
+
+-- the fault is the one of the outcome, except if memory is out; if a reader failed, it is what the form of what it reads says of that. The input is read only if the sets have no fault
 abbrev pub IsCountFault : Layout → Option (List ℕ) → Bool → Option (List ℕ) → Option (List ℕ) → Bool → RunFault → Type 0
 IsCountFault layout asked asked_failed left after failed (Sets fault) =
     (asked_failed ≡ false → OfBoth asked left (λ sets bytes. fault ≢ Memory → count_outcome layout sets bytes ≡ Err (Sets fault)))
     × (asked_failed ≡ true → fault ≡ Read) × (fault ≡ Read → asked_failed ≡ true) × (failed ≡ false)
 IsCountFault layout asked asked_failed left after failed (Input fault) =
     (failed ≡ false → OfBoth asked left (λ sets bytes. fault ≢ Memory → count_outcome layout sets bytes ≡ Err (Input fault)))
-    × (failed ≡ true → IfSome left (λ bytes. FailsIn layout.form bytes after fault)) × (fault ≡ Read → failed ≡ true) × (asked_failed ≡ false)
+    × (failed ≡ true → FailsIn layout.form left after fault) × (fault ≡ Read → failed ≡ true) × (asked_failed ≡ false)
+    × AreReadableSets layout asked
 IsCountFault layout asked asked_failed left after failed (Uncounted nth) =
     OfBoth asked left (λ sets bytes. count_outcome layout sets bytes ≡ Err (Uncounted nth)) × (asked_failed ≡ false) × (failed ≡ false)
-IsCountFault layout asked asked_failed left after failed (Mine fault) = (fault ≡ mine.Memory) × (asked_failed ≡ false) × (failed ≡ false)
+IsCountFault layout asked asked_failed left after failed (Mine fault) =
+    (fault ≡ mine.Memory) × (asked_failed ≡ false) × (failed ≡ false) × OfBoth asked left (λ sets bytes. AreReadable (count_outcome layout sets bytes))
 IsCountFault layout asked asked_failed left after failed Write = (asked_failed ≡ false) × (failed ≡ false)
 
 -- what comes of the readers: the counts, or why there are none

@@ -26,13 +26,17 @@ WritesFront left question before after =
 abbrev pub RefusesInput : Option (List ℕ) → Question → ReadFault → Type 0
 RefusesInput left question fault = IfSome left (λ bytes. fault ≢ Memory → outcome bytes question ≡ Err (Input fault))
 
--- except if memory is out, the outcome is that fault of mining
+-- the outcome is no fault of the input
+abbrev pub IsReadable : Result (List ℕ) RunFault → Type 0
+IsReadable outcome = (fault : ReadFault) → outcome ≢ Err (Input fault)
+
+-- the input has no fault, and except if memory is out, the outcome is that fault of mining
 abbrev pub RefusesSets : Option (List ℕ) → Question → MineFault → Type 0
-RefusesSets left question fault = IfSome left (λ bytes. fault ≢ mine.Memory → outcome bytes question ≡ Err (Mine fault))
+RefusesSets left question fault = IfSome left (λ bytes. IsReadable (outcome bytes question) × (fault ≢ mine.Memory → outcome bytes question ≡ Err (Mine fault)))
 
 -- if the reader failed, the fault is what the form of the input says of that
 abbrev pub FailsInput : Option (List ℕ) → Question → Option (List ℕ) → ReadFault → Type 0
-FailsInput left question after fault = IfSome left (λ bytes. FailsIn question.layout.form bytes after fault)
+FailsInput left question after fault = FailsIn question.layout.form left after fault
 
 -- what comes of a reader: the report of what it had left, or why there is none
 abbrev pub MakesReport : Question → Option (List ℕ) → Option (List ℕ) → Bool → Result Made RunFault → Type 0
@@ -44,6 +48,8 @@ MakesReport question left after failed (Err (Sets fault)) = ⊥
 MakesReport question left after failed (Err (Uncounted nth)) = ⊥
 MakesReport question left after failed (Err Write) = ⊥
 
--- the outcome is that fault, except if memory is out
+-- the outcome is that fault, except if memory is out, which is a fault of mining only if the input has none
 abbrev pub IsOutcomeFault : Result (List ℕ) RunFault → RunFault → Type 0
-IsOutcomeFault outcome fault = fault ≢ Input Memory → fault ≢ Mine mine.Memory → outcome ≡ Err fault
+IsOutcomeFault outcome (Input fault) = fault ≢ Memory → outcome ≡ Err (Input fault)
+IsOutcomeFault outcome (Mine fault) = IsReadable outcome × (fault ≢ mine.Memory → outcome ≡ Err (Mine fault))
+IsOutcomeFault outcome fault = outcome ≡ Err fault

@@ -39,7 +39,7 @@ impl Contents {
     ) -> Result<Self, ReadFault>
         requires { S.has_failed reader.old ≡ false }
         ensures exact { S.has_failed reader.new ≡ false → IfSome (S.left reader.old) (λ bytes. Answers result (contents_of layout known bytes)) }
-        ensures failed { S.has_failed reader.new ≡ true → IfErr result (λ fault. IfSome (S.left reader.old) (λ bytes. FailsIn layout.form bytes (S.left reader.new) fault)) }
+        ensures failed { S.has_failed reader.new ≡ true → IfErr result (FailsIn layout.form (S.left reader.old) (S.left reader.new)) }
         ensures failed_is_err { S.has_failed reader.new ≡ true → IsErr result }
         ensures read_is_failed { result ≡ Err ReadFault.Read → S.has_failed reader.new ≡ true }
     {

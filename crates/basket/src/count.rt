@@ -1,6 +1,7 @@
 //! Counting given sets over an input.
 ghost use Rattle.std.specs.Prelude.{◌≡◌, ◌≢◌, ◌↔◌, true, false, Ok, Err, IfErr, IfOk, MatchResult, OnOk};
 ghost use Rattle.std.specs.Io.KnownBytes.{Keeps};
+ghost use Rattle.basket_read.specs.declared.fault.ReadFault.{ReadFault as InputFault};
 ghost use Rattle.basket_report.specs.Report.{report_of};
 ghost use Rattle.basket.specs.Contents.{wording_with};
 ghost use Rattle.basket.specs.Count.{IsCountFault, IsCountsFault, IsSumsFault, MakesCounts, WritesCounts, WritesCountsFront, counts_in, counts_over};
@@ -49,6 +50,8 @@ pub fn run_count<R: RandomSource + Threads + Sync, S: Source, T: Source, W: Sink
 
     // When each fault comes.
     ensures fault { IfErr result (IsCountFault plan.now.layout (S.left sets.old) (S.has_failed sets.new) (T.left reader.old) (T.left reader.new) (T.has_failed reader.new)) }
+    ensures sets_failed { S.has_failed sets.new ≡ true → (fault : InputFault) × (result ≡ Err (RunFault.Sets fault)) }
+    ensures reader_failed { T.has_failed reader.new ≡ true → (fault : InputFault) × (result ≡ Err (RunFault.Input fault)) }
     ensures write { (result ≡ Err RunFault.Write) ↔ (W.has_failed writer.new ≡ true) }
 {
     let made = match counts(rt, alloc, plan, sets, reader) {

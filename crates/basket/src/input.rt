@@ -31,7 +31,7 @@ impl Input {
     ) -> Result<Self, ReadFault>
         requires { S.has_failed reader.old ≡ false }
         ensures exact { S.has_failed reader.new ≡ false → IfSome (S.left reader.old) (λ bytes. Answers (result_said result) (said_of plan.now.question bytes)) }
-        ensures failed { S.has_failed reader.new ≡ true → IfErr (result_said result) (λ fault. IfSome (S.left reader.old) (λ bytes. FailsIn plan.now.question.layout.form bytes (S.left reader.new) fault)) }
+        ensures failed { S.has_failed reader.new ≡ true → IfErr (result_said result) (FailsIn plan.now.question.layout.form (S.left reader.old) (S.left reader.new)) }
         ensures failed_is_err { S.has_failed reader.new ≡ true → IsErr (result_said result) }
         ensures read_is_failed { result_said result ≡ Err ReadFault.Read → S.has_failed reader.new ≡ true }
         ensures whole { IfOk result (IsWholeInput plan.now.question.ask) }

@@ -18,16 +18,17 @@ use Rattle.basket_sets.specs.Share.{share_of}
 use Rattle.basket_sets.specs.declared.minimum.Minimum.{Minimum}
 use Rattle.basket_sets.specs.declared.minimum.Minimum.TheVariants.{Count, Share}
 use Rattle.basket_sets.proofs.theory.Numerals.{count_minimum_read, share_minimum_read, share_read}
-use Rattle.basket_plan.specs.Command.{command_line, form_of, invocation_of_command, invocation_of_plain, miner_of, number_of, plain_words, reporting, separator_of, where_taken}
-use Rattle.basket_plan.specs.Plan.{GREATEST_LIMIT, Planned, is_separator}
+use Rattle.basket_plan.specs.Command.{command_line, counting_from, form_of, invocation_of_command, invocation_of_plain, miner_of, number_of, origin_of, plain_words, reporting, separator_of, where_taken}
+use Rattle.basket_plan.specs.Plan.{Counting, GREATEST_LIMIT, Planned, is_separator}
 use Rattle.basket_plan.specs.declared.layout.Form.{Form}
+use Rattle.basket_plan.specs.declared.layout.Layout.{Layout}
 use Rattle.basket_plan.specs.declared.layout.Form.TheVariants.{Fimi, Baskets, Single, Counts, CsvCounts}
 use Rattle.basket_plan.specs.declared.plan.Ask.{Ask}
 use Rattle.basket_plan.specs.declared.plan.Ask.TheVariants.{Items, Sets, Closed, Maximal, Rules}
 use Rattle.basket_plan.specs.declared.plan.Miner.{Miner}
 use Rattle.basket_plan.specs.declared.plan.Miner.TheVariants.{Apriori, Eclat, EclatDiff, EclatBits, FpGrowth}
 use Rattle.basket_plan.specs.declared.plan.TheConstants.{MOST_PIECES, MOST_WORKERS}
-use Rattle.basket_plan.specs.Written.{IsAskInRange, IsMinimumInRange, PlansAreReadBack, ask_words, form_text, miner_text, minimum_text, separator_text, share_text, words_with}
+use Rattle.basket_plan.specs.Written.{CountsAreReadBack, IsAskInRange, IsMinimumInRange, PlansAreReadBack, ask_words, count_words_with, form_text, miner_text, minimum_text, separator_text, share_text, words_with}
 
 -- what `clap` makes of the fault of one value, and of those of the three numbers, which alone may have one
 abbrev turn : Kinds → Kinds
@@ -36,8 +37,15 @@ turn kinds = or_else (or_else kinds []) []
 abbrev numbers_fault : Kinds → Kinds → Kinds → Kinds
 numbers_fault limit workers pieces = or_else (or_else (or_else (turn limit) (or_else (turn workers) (or_else (turn pieces) []))) []) []
 
+abbrev count_fault : Kinds → Kinds → Kinds
+count_fault workers pieces = or_else (or_else (or_else (turn workers) (or_else (turn pieces) [])) []) []
+
 abbrev number_fault : ℕ → Text → Kinds
 number_fault most text = value_kinds false (parser.Unsigned 1 most) text
+
+abbrev layout_from : Option Form → Option ℕ → Bool → Bool → Option Layout
+layout_from form separator header weighted =
+    option_and_then (λ form. option_map (λ separator. record { form = form; separator = separator; header = header; weighted = weighted }) separator) form
 
 -- the plan of the values that texts say, where all of them say one
 abbrev plan_from : Option Ask → Option Form → Option ℕ → Bool → Bool → Option Miner → Option Minimum → Option ℕ → Option ℕ → Option ℕ → Option Planned
@@ -60,7 +68,16 @@ plan_from ask form separator header weighted miner minimum limit workers pieces 
     ask)
     minimum)
     miner)
-    (option_and_then (λ form. option_map (λ separator. record { form = form; separator = separator; header = header; weighted = weighted }) separator) form)
+    (layout_from form separator header weighted)
+
+abbrev count_plan_from : Option Form → Option ℕ → Bool → Bool → Option ℕ → Option ℕ → Option Counting
+count_plan_from form separator header weighted workers pieces =
+    option_and_then (λ layout.
+    option_and_then (λ workers.
+    option_map (λ pieces. record { layout = layout; workers = workers; pieces = pieces })
+    pieces)
+    workers)
+    (layout_from form separator header weighted)
 
 -- what the words of an ask say, the confidence of rules by its text
 abbrev ask_of_words : Ask → Option Ask
@@ -69,35 +86,74 @@ ask_of_words ask = Some ask
 
 module _ (minimum form separator miner limit workers pieces : Text) where
   -- what `clap` makes of the words
-  record IsTaken (ask : Ask) (header weight : Bool) : Type 0 where
-    fault : fault_of command_line (ask_words ask ++ words_with minimum form separator miner limit workers pieces header weight)
+  record IsTaken (ask : Ask) (header weight : Bool) (file : Option Text) : Type 0 where
+    fault : fault_of command_line (ask_words ask ++ words_with minimum form separator miner limit workers pieces header weight file)
         ≡ numbers_fault (number_fault GREATEST_LIMIT limit) (number_fault MOST_WORKERS workers) (number_fault MOST_PIECES pieces)
-    plan : invocation_of_command (subcommand_of command_line (ask_words ask ++ words_with minimum form separator miner limit workers pieces header weight))
-        ≡ option_and_then (reporting None) (plan_from (ask_of_words ask) (form_of form) (separator_of separator) header weight (miner_of miner) (minimum_of minimum)
+    plan : invocation_of_command (subcommand_of command_line (ask_words ask ++ words_with minimum form separator miner limit workers pieces header weight file))
+        ≡ option_and_then (reporting (option_and_then origin_of file)) (plan_from (ask_of_words ask) (form_of form) (separator_of separator) header weight (miner_of miner) (minimum_of minimum)
         (number_of GREATEST_LIMIT limit) (number_of MOST_WORKERS workers) (number_of MOST_PIECES pieces))
 
-  taken : (ask : Ask) (header weight : Bool) → IsTaken ask header weight
+  taken : (ask : Ask) (header weight : Bool) (file : Option Text) → IsTaken ask header weight file
   unfolding clap_on_literals
-  taken Items false false = record { fault = refl; plan = refl }
-  taken Items false true = record { fault = refl; plan = refl }
-  taken Items true false = record { fault = refl; plan = refl }
-  taken Items true true = record { fault = refl; plan = refl }
-  taken Sets false false = record { fault = refl; plan = refl }
-  taken Sets false true = record { fault = refl; plan = refl }
-  taken Sets true false = record { fault = refl; plan = refl }
-  taken Sets true true = record { fault = refl; plan = refl }
-  taken Closed false false = record { fault = refl; plan = refl }
-  taken Closed false true = record { fault = refl; plan = refl }
-  taken Closed true false = record { fault = refl; plan = refl }
-  taken Closed true true = record { fault = refl; plan = refl }
-  taken Maximal false false = record { fault = refl; plan = refl }
-  taken Maximal false true = record { fault = refl; plan = refl }
-  taken Maximal true false = record { fault = refl; plan = refl }
-  taken Maximal true true = record { fault = refl; plan = refl }
-  taken (Rules confidence) false false = record { fault = refl; plan = refl }
-  taken (Rules confidence) false true = record { fault = refl; plan = refl }
-  taken (Rules confidence) true false = record { fault = refl; plan = refl }
-  taken (Rules confidence) true true = record { fault = refl; plan = refl }
+  taken Items false false None = record { fault = refl; plan = refl }
+  taken Items false false (Some file) = record { fault = refl; plan = refl }
+  taken Items false true None = record { fault = refl; plan = refl }
+  taken Items false true (Some file) = record { fault = refl; plan = refl }
+  taken Items true false None = record { fault = refl; plan = refl }
+  taken Items true false (Some file) = record { fault = refl; plan = refl }
+  taken Items true true None = record { fault = refl; plan = refl }
+  taken Items true true (Some file) = record { fault = refl; plan = refl }
+  taken Sets false false None = record { fault = refl; plan = refl }
+  taken Sets false false (Some file) = record { fault = refl; plan = refl }
+  taken Sets false true None = record { fault = refl; plan = refl }
+  taken Sets false true (Some file) = record { fault = refl; plan = refl }
+  taken Sets true false None = record { fault = refl; plan = refl }
+  taken Sets true false (Some file) = record { fault = refl; plan = refl }
+  taken Sets true true None = record { fault = refl; plan = refl }
+  taken Sets true true (Some file) = record { fault = refl; plan = refl }
+  taken Closed false false None = record { fault = refl; plan = refl }
+  taken Closed false false (Some file) = record { fault = refl; plan = refl }
+  taken Closed false true None = record { fault = refl; plan = refl }
+  taken Closed false true (Some file) = record { fault = refl; plan = refl }
+  taken Closed true false None = record { fault = refl; plan = refl }
+  taken Closed true false (Some file) = record { fault = refl; plan = refl }
+  taken Closed true true None = record { fault = refl; plan = refl }
+  taken Closed true true (Some file) = record { fault = refl; plan = refl }
+  taken Maximal false false None = record { fault = refl; plan = refl }
+  taken Maximal false false (Some file) = record { fault = refl; plan = refl }
+  taken Maximal false true None = record { fault = refl; plan = refl }
+  taken Maximal false true (Some file) = record { fault = refl; plan = refl }
+  taken Maximal true false None = record { fault = refl; plan = refl }
+  taken Maximal true false (Some file) = record { fault = refl; plan = refl }
+  taken Maximal true true None = record { fault = refl; plan = refl }
+  taken Maximal true true (Some file) = record { fault = refl; plan = refl }
+  taken (Rules confidence) false false None = record { fault = refl; plan = refl }
+  taken (Rules confidence) false false (Some file) = record { fault = refl; plan = refl }
+  taken (Rules confidence) false true None = record { fault = refl; plan = refl }
+  taken (Rules confidence) false true (Some file) = record { fault = refl; plan = refl }
+  taken (Rules confidence) true false None = record { fault = refl; plan = refl }
+  taken (Rules confidence) true false (Some file) = record { fault = refl; plan = refl }
+  taken (Rules confidence) true true None = record { fault = refl; plan = refl }
+  taken (Rules confidence) true true (Some file) = record { fault = refl; plan = refl }
+
+module _ (sets form separator workers pieces : Text) where
+  record IsCountTaken (header weight : Bool) (file : Option Text) : Type 0 where
+    fault : fault_of command_line (count_words_with sets form separator workers pieces header weight file)
+        ≡ count_fault (number_fault MOST_WORKERS workers) (number_fault MOST_PIECES pieces)
+    plan : invocation_of_command (subcommand_of command_line (count_words_with sets form separator workers pieces header weight file))
+        ≡ option_and_then (λ plan. counting_from plan (origin_of sets) (option_and_then origin_of file))
+        (count_plan_from (form_of form) (separator_of separator) header weight (number_of MOST_WORKERS workers) (number_of MOST_PIECES pieces))
+
+  count_taken : (header weight : Bool) (file : Option Text) → IsCountTaken header weight file
+  unfolding clap_on_literals
+  count_taken false false None = record { fault = refl; plan = refl }
+  count_taken false false (Some file) = record { fault = refl; plan = refl }
+  count_taken false true None = record { fault = refl; plan = refl }
+  count_taken false true (Some file) = record { fault = refl; plan = refl }
+  count_taken true false None = record { fault = refl; plan = refl }
+  count_taken true false (Some file) = record { fault = refl; plan = refl }
+  count_taken true true None = record { fault = refl; plan = refl }
+  count_taken true true (Some file) = record { fault = refl; plan = refl }
 
 -- ---- numbers
 
@@ -171,17 +227,28 @@ no_help_word Maximal rest = refl
 no_help_word (Rules confidence) rest = refl
 
 pub plans_are_read_back : PlansAreReadBack
-plans_are_read_back plan range =
+plans_are_read_back plan file range =
     let q = plan.question in
     let is = taken (minimum_text q.minimum) (form_text q.layout.form) (separator_text q.layout.separator) (miner_text plan.miner)
-    (decimal q.limit) (decimal plan.workers) (decimal plan.pieces) q.ask q.layout.header q.layout.weighted in
+    (decimal q.limit) (decimal plan.workers) (decimal plan.pieces) q.ask q.layout.header q.layout.weighted file in
     let limit = no_fault GREATEST_LIMIT q.limit range.limit.0 range.limit.1 (omega arith) in
     let workers = no_fault MOST_WORKERS plan.workers range.workers.0 range.workers.1 (omega arith) in
     let pieces = no_fault MOST_PIECES plan.pieces range.pieces.0 range.pieces.1 (omega arith) in
     ap invocation_of_plain (no_help_word q.ask _) ∙ ap₂ where_taken (is.fault ∙ (λ i. numbers_fault (limit i) (workers i) (pieces i)))
-    (is.plan ∙ (λ i. option_and_then (reporting None) (plan_from
+    (is.plan ∙ (λ i. option_and_then (reporting (option_and_then origin_of file)) (plan_from
     (ask_read q.ask range.ask i) (form_read q.layout.form i) (separator_read q.layout.separator range.separator i) q.layout.header q.layout.weighted
     (miner_read plan.miner i) (minimum_read q.minimum range.minimum i)
     (number_read GREATEST_LIMIT q.limit range.limit.0 range.limit.1 (omega arith) i)
+    (number_read MOST_WORKERS plan.workers range.workers.0 range.workers.1 (omega arith) i)
+    (number_read MOST_PIECES plan.pieces range.pieces.0 range.pieces.1 (omega arith) i))))
+
+pub counts_are_read_back : CountsAreReadBack
+counts_are_read_back plan sets file range =
+    let is = count_taken sets (form_text plan.layout.form) (separator_text plan.layout.separator) (decimal plan.workers) (decimal plan.pieces) plan.layout.header plan.layout.weighted file in
+    let workers = no_fault MOST_WORKERS plan.workers range.workers.0 range.workers.1 (omega arith) in
+    let pieces = no_fault MOST_PIECES plan.pieces range.pieces.0 range.pieces.1 (omega arith) in
+    ap₂ where_taken (is.fault ∙ (λ i. count_fault (workers i) (pieces i)))
+    (is.plan ∙ (λ i. option_and_then (λ plan. counting_from plan (origin_of sets) (option_and_then origin_of file)) (count_plan_from
+    (form_read plan.layout.form i) (separator_read plan.layout.separator range.separator i) plan.layout.header plan.layout.weighted
     (number_read MOST_WORKERS plan.workers range.workers.0 range.workers.1 (omega arith) i)
     (number_read MOST_PIECES plan.pieces range.pieces.0 range.pieces.1 (omega arith) i))))

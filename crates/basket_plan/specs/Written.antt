@@ -1,12 +1,12 @@
 -- The words that ask for a plan.
-use Rattle.std.specs.Prelude.{◌≡◌, ◌≤◌, ℕ, Bool, true, List, [], ◌∷◌, ◌++◌, codes, decimal, if◌then◌else◌, nat_eq, None, ⊤}
+use Rattle.std.specs.Prelude.{◌≡◌, ◌≤◌, ℕ, Bool, true, List, [], ◌∷◌, ◌++◌, codes, decimal, if◌then◌else◌, nat_eq, option_and_then, Option, Some, None, ⊤}
 use Rattle.clap.specs.Words.{Text}
 use Rattle.basket_sets.specs.Minimum.{IsMinimum}
 use Rattle.basket_sets.specs.Share.{GREATEST_PART, IsShare}
 use Rattle.basket_sets.specs.declared.minimum.Minimum.{Minimum}
 use Rattle.basket_sets.specs.declared.minimum.Minimum.TheVariants.{Count, Share}
-use Rattle.basket_plan.specs.Command.{invocation_of_words, reporting}
-use Rattle.basket_plan.specs.Plan.{GREATEST_LIMIT, Planned, is_separator}
+use Rattle.basket_plan.specs.Command.{counting_from, invocation_of_words, origin_of, reporting}
+use Rattle.basket_plan.specs.Plan.{Counting, GREATEST_LIMIT, Planned, is_separator}
 use Rattle.basket_plan.specs.declared.layout.Form.{Form}
 use Rattle.basket_plan.specs.declared.layout.Form.TheVariants.{Fimi, Baskets, Single, Counts, CsvCounts}
 use Rattle.basket_plan.specs.declared.plan.Ask.{Ask}
@@ -62,9 +62,18 @@ ask_words Closed = codes "closed" ∷ []
 ask_words Maximal = codes "maximal" ∷ []
 ask_words (Rules confidence) = codes "rules" ∷ option_word (codes "conf") (share_text confidence) ∷ []
 
+-- the name of the input's file, if there is one: after `--` no word is an option
+abbrev pub file_words : Option Text → List Text
+file_words None = []
+file_words (Some file) = codes "--" ∷ file ∷ []
+
+-- the flags, and the input
+abbrev pub last_words : Bool → Bool → Option Text → List Text
+last_words header weight file = flag_words (codes "header") header ++ flag_words (codes "weight") weight ++ file_words file
+
 -- the options with texts for their values
-abbrev pub words_with : Text → Text → Text → Text → Text → Text → Text → Bool → Bool → List Text
-words_with minimum form separator miner limit workers pieces header weight =
+abbrev pub words_with : Text → Text → Text → Text → Text → Text → Text → Bool → Bool → Option Text → List Text
+words_with minimum form separator miner limit workers pieces header weight file =
     option_word (codes "min") minimum
     ∷ option_word (codes "form") form
     ∷ option_word (codes "sep") separator
@@ -72,14 +81,30 @@ words_with minimum form separator miner limit workers pieces header weight =
     ∷ option_word (codes "limit") limit
     ∷ option_word (codes "workers") workers
     ∷ option_word (codes "pieces") pieces
-    ∷ flag_words (codes "header") header ++ flag_words (codes "weight") weight
+    ∷ last_words header weight file
 
--- the words that ask for the plan, over standard input
-abbrev pub words_of : Planned → List Text
-words_of plan =
+-- the words that ask for the plan over the input of a name, or over standard input
+abbrev pub words_of : Planned → Option Text → List Text
+words_of plan file =
     let q = plan.question in
     ask_words q.ask ++ words_with (minimum_text q.minimum) (form_text q.layout.form) (separator_text q.layout.separator) (miner_text plan.miner)
-    (decimal q.limit) (decimal plan.workers) (decimal plan.pieces) q.layout.header q.layout.weighted
+    (decimal q.limit) (decimal plan.workers) (decimal plan.pieces) q.layout.header q.layout.weighted file
+
+-- the words of `count` with texts for its options' values
+abbrev pub count_words_with : Text → Text → Text → Text → Text → Bool → Bool → Option Text → List Text
+count_words_with sets form separator workers pieces header weight file =
+    codes "count"
+    ∷ option_word (codes "sets") sets
+    ∷ option_word (codes "form") form
+    ∷ option_word (codes "sep") separator
+    ∷ option_word (codes "workers") workers
+    ∷ option_word (codes "pieces") pieces
+    ∷ last_words header weight file
+
+-- the words that ask for counts of the sets of a name over the input of a name, or over standard input
+abbrev pub count_words_of : Counting → Text → Option Text → List Text
+count_words_of plan sets file =
+    count_words_with sets (form_text plan.layout.form) (separator_text plan.layout.separator) (decimal plan.workers) (decimal plan.pieces) plan.layout.header plan.layout.weighted file
 
 -- ---- the law
 
@@ -104,6 +129,17 @@ pub record IsInRange (plan : Planned) : Type 0 where
   pub workers : (1 ≤ plan.workers) × (plan.workers ≤ MOST_WORKERS)
   pub pieces : (1 ≤ plan.pieces) × (plan.pieces ≤ MOST_PIECES)
 
--- the words of a plan ask for that plan, over standard input
+-- a plan to count sets with every number in its range
+pub record IsCountingInRange (plan : Counting) : Type 0 where
+  pub separator : is_separator plan.layout.separator ≡ true
+  pub workers : (1 ≤ plan.workers) × (plan.workers ≤ MOST_WORKERS)
+  pub pieces : (1 ≤ plan.pieces) × (plan.pieces ≤ MOST_PIECES)
+
+-- the words of a plan ask for that plan over the input that they name
 abbrev pub PlansAreReadBack : Type 0
-PlansAreReadBack = (plan : Planned) → IsInRange plan → invocation_of_words (words_of plan) ≡ reporting None plan
+PlansAreReadBack = (plan : Planned) (file : Option Text) → IsInRange plan → invocation_of_words (words_of plan file) ≡ reporting (option_and_then origin_of file) plan
+
+-- the words of a plan to count sets ask for that plan over the sets and the input that they name
+abbrev pub CountsAreReadBack : Type 0
+CountsAreReadBack = (plan : Counting) (sets : Text) (file : Option Text) → IsCountingInRange plan
+    → invocation_of_words (count_words_of plan sets file) ≡ counting_from plan (origin_of sets) (option_and_then origin_of file)

@@ -13,10 +13,3 @@ pub struct Open;
 impl Gate for Open {
     fn pass(&self, _phase: u32, _worker: u32, _piece: u32) {}
 }
-
-/// Passes a gate with all pieces, as the only worker of a phase.
-pub fn pass_alone<G: Gate>(gate: &G, phase: u32, pieces: u32) {
-    for piece in 0..pieces {
-        gate.pass(phase, 0, piece);
-    }
-}

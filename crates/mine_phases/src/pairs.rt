@@ -15,7 +15,7 @@ use std::thread::Threads;
 pub const PHASE: u32 = 2;
 
 /// The ranks below a rank that are frequent together with it, rising, each with the support of the pair.
-type Pairs = Vec<(u32, u64)>;
+pub type Pairs = Vec<(u32, u64)>;
 
 /// Runs whose pairs are found, rank by rank.
 #[derive(Drop)]

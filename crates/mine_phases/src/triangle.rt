@@ -3,9 +3,10 @@ ghost use Rattle.std.specs.Prelude.{IfOk};
 ghost use Rattle.mine_classes.specs.Pairs.{ArePairs, lists_of};
 
 use crate::cutting::Cutting;
-use crate::gate::{Gate, pass_alone};
-use crate::pairs::PHASE;
+use crate::gate::Gate;
+use crate::pairs::{PHASE, Pairs};
 use crate::phase::Phase;
+use crate::pieces::{PartWork, by_pieces};
 use crate::supports::{SupportCounter, count_supports};
 use basket_core::{Coded, Weighted};
 use mine_classes::{add_pairs, pair_count, pairs_by_triangle, pairs_of_supports};
@@ -44,6 +45,34 @@ impl SupportCounter for RankPairs {
     }
 }
 
+/// The pairs of all ranks as one part of a phase, for one worker.
+#[derive(Drop)]
+struct AllPairs<'a> {
+    coded: &'a Coded,
+}
+
+impl PartWork<Vec<Pairs>> for AllPairs<'_> {
+    type Tools = ();
+
+    ghost part_count = { λ work. 1 };
+
+    ghost are_tools = { λ work tools. Unit {0} };
+
+    ghost is_value = { λ work part lists. ArePairs work.coded.now (lists_of lists.items) };
+
+    fn parts(&self) -> u32 {
+        1
+    }
+
+    fn tools(&self, _alloc: Global) -> Result<(), AllocError> {
+        Ok(())
+    }
+
+    fn value(&self, alloc: Global, _tools: &mut (), _part: u32) -> Result<Vec<Pairs>, AllocError> {
+        pairs_by_triangle(alloc, self.coded)
+    }
+}
+
 /// How many ranks the baskets have together. It stops counting at `most`.
 fn ranks_among(baskets: &[Weighted], most: usize) -> usize {
     let mut seen = 0usize;
@@ -67,25 +96,28 @@ fn with_triangles(coded: &Coded, cutting: Cutting) -> Cutting {
 }
 
 /// The frequent pairs of each rank, by a count for each pair of ranks, by a number of workers over
-/// parts of the baskets. One worker has all parts, and needs no counts beside its own.
+/// parts of the baskets. One worker has all baskets as one piece, and needs no counts beside its own.
 pub fn triangle_pairs<R: Threads + Sync, G: Gate + Sync>(
     rt: &R,
     alloc: Global,
     coded: &Coded,
     cutting: Cutting,
     gate: &G,
-) -> Result<Vec<Vec<(u32, u64)>>, AllocError>
+) -> Result<Vec<Pairs>, AllocError>
     ensures { IfOk result (λ lists. ArePairs coded.now (lists_of lists.items)) }
 {
     let fewer = with_triangles(coded, cutting);
+    let phase = Phase::new(PHASE, fewer, gate);
     if fewer.workers == 1 {
-        pass_alone(gate, PHASE, cutting.pieces);
-        return pairs_by_triangle(alloc, coded);
+        let mut values = by_pieces(rt, alloc, &AllPairs { coded }, &phase)?;
+        let Some(lists) = values.pop() else {
+            unreachable!()
+        };
+        return Ok(lists);
     }
     let pairs = RankPairs {
         ranks: coded.ranks(),
     };
-    let phase = Phase::new(PHASE, fewer, gate);
     let supports = count_supports(rt, alloc, coded.baskets(), &pairs, &phase)?;
     pairs_of_supports(alloc, coded, &supports)
 }

@@ -151,3 +151,50 @@ fn one_worker_takes_what_is_left(rt: HostRuntime) -> Result<(), Fail> {
     assert!(rt; !gate.is_late(), "the others did not pass");
     Ok(())
 }
+
+/// Notes what is passed in the second phase.
+#[derive(Drop)]
+struct SecondPhase {
+    times: AtomicU64,
+    greatest_piece: AtomicU64,
+}
+
+impl Gate for SecondPhase {
+    fn pass(&self, phase: u32, _worker: u32, piece: u32) {
+        if phase == 2 {
+            self.times.fetch_add(1, Ordering::SeqCst);
+            self.greatest_piece
+                .fetch_max(u64::from(piece), Ordering::SeqCst);
+        }
+    }
+}
+
+/// Three hundred items, each on a line with each of the ten that follow it.
+fn pairs_of_neighbours(alloc: Global) -> Result<Vec<u8>, AllocError> {
+    let mut text = Vec::new(alloc);
+    let mut buffer = Buffer::new();
+    for item in 0..300u32 {
+        for step in 1..11 {
+            text.extend_from_slice(buffer.format(item).as_bytes())?;
+            text.push(b' ')?;
+            text.extend_from_slice(buffer.format((item + step) % 300).as_bytes())?;
+            text.push(b'\n')?;
+        }
+    }
+    Ok(text)
+}
+
+#[test]
+fn one_worker_counts_the_pairs_of_many_items_as_one_piece(rt: HostRuntime) -> Result<(), Fail> {
+    let text = pairs_of_neighbours(rt.alloc())?;
+    let plan = plan("2")?.with_miner(Miner::Apriori).with_pieces(65_536);
+    let gate = SecondPhase {
+        times: AtomicU64::new(0),
+        greatest_piece: AtomicU64::new(0),
+    };
+    let found = found_by_two(&rt, rt.alloc(), &text, &plan, &gate)?;
+    assert_eq!(rt; found, Some(300));
+    assert_eq!(rt; gate.times.load(Ordering::SeqCst), 1);
+    assert_eq!(rt; gate.greatest_piece.load(Ordering::SeqCst), 0);
+    Ok(())
+}

@@ -1,5 +1,7 @@
 //! Readers that give few bytes or fail, and writers that take few or fail.
 use super::*;
+use basket_core::StdSink;
+use std::io::Write;
 
 const THIRTEEN_SETS: &[u8] =
     b"1 (6)\n2 (7)\n3 (6)\n4 (2)\n5 (2)\n1 2 (4)\n1 3 (4)\n1 5 (2)\n2 3 (4)\n2 4 (2)\n2 5 (2)\n1 2 3 (2)\n1 2 5 (2)\n";
@@ -108,6 +110,35 @@ fn a_writer_that_fails_has_taken_a_front_of_the_report(rt: HostRuntime) -> Resul
     let text = RunFault::Write.to_string(rt.alloc())?;
     assert_eq!(rt; text.as_str(), "cannot write the report");
     Ok(())
+}
+
+/// A writer of std that takes all bytes and fails at a flush.
+#[derive(Drop)]
+struct Unflushed;
+
+impl Write for Unflushed {
+    fn write(&mut self, bytes: &[u8]) -> io::Result<usize> {
+        Ok(bytes.len())
+    }
+
+    fn flush(&mut self) -> io::Result<()> {
+        Err(io::Error::from(io::ErrorKind::Unsupported))
+    }
+}
+
+#[test]
+fn a_run_ends_with_a_flush_of_the_writer(rt: HostRuntime) -> Result<(), Fail> {
+    let mut reader = MemSource::new(NINE_BASKETS, 100, None);
+    let mut writer = StdSink::new(Unflushed);
+    match run(&rt, rt.alloc(), &plan("2")?, &mut reader, &mut writer) {
+        Err(RunFault::Input(ReadFault::Memory) | RunFault::Mine(MineFault::Memory)) => {
+            Err(Fail::from(AllocError))
+        }
+        result => {
+            assert_eq!(rt; result, Err(RunFault::Write));
+            Ok(())
+        }
+    }
 }
 
 /// Lines of two numbers, and a sign in one of them.

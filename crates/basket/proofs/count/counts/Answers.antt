@@ -1,5 +1,5 @@
 use Rattle.std.proofs.Common.{Err, ap}
-use Rattle.basket.proofs.CountLemmas.{contents_refuse, counts_make, fault_is_read, not_broken, sets_refuse}
+use Rattle.basket.proofs.CountLemmas.{contents_refuse, counts_make, fault_is_read, not_broken, sets_are_readable, sets_refuse}
 use Rattle.basket.proofs.EngineLemmas.{not_failed}
 use Rattle.basket.proofs.count.counts.Goals as goal
 
@@ -24,6 +24,7 @@ returns-in-Err-read g c =
         (λ failed. rw c.layout-2.ensures at (c.in-Err-read.ensures.failed failed)),
         (λ is. c.in-Err-read.ensures.read_is_failed (ap Err is)),
         asked_works,
+        sets_are_readable c.args.plan.now.layout (g.S.Source.left c.args.sets.now) asked.0.items asked.1 said,
       ),
       λ is. cc,
     )

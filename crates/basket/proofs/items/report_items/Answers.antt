@@ -1,6 +1,6 @@
 use Rattle.std.proofs.Common.{Err, ap}
-use Rattle.basket.proofs.EngineLemmas.{memory_refuses, not_failed}
-use Rattle.basket.proofs.ItemLemmas.{counts_refuse, counts_report}
+use Rattle.basket.proofs.EngineLemmas.{not_failed}
+use Rattle.basket.proofs.ItemLemmas.{counts_refuse, counts_report, memory_refuses}
 use Rattle.basket.proofs.items.report_items.Goals as goal
 
 pub returns-in-Err : goal.returns-in-Err
@@ -16,4 +16,5 @@ returns-in-Ok-report_counts g c =
 pub returns : goal.returns
 returns g c =
     let counts = c.in-Ok.counts in
-    (not_failed _ counts c.in-Ok.ensures.failed_is_err, memory_refuses (g.S.Source.left c.args.reader.now) c.args.plan.now.question)
+    let working = not_failed _ counts c.in-Ok.ensures.failed_is_err in
+    (working, memory_refuses (g.S.Source.left c.args.reader.now) c.args.plan.now.question counts c.requires.lines (c.in-Ok.ensures.exact working))

@@ -49,7 +49,7 @@ pub returns-in-Counts-clause-exact : goal.returns-in-Counts-clause-exact
 returns-in-Counts-clause-exact g c working = rw (c.counted.ensures, c.in-Counts.is) (says (λ a. contents.Counts a None) (g.S.Source.left c.args.reader.now) (λ bytes. where_read together_of (counts_of bytes)) c.read_together.result (c.read_together.ensures.exact working))
 
 pub returns-in-Counts-clause-failed : goal.returns-in-Counts-clause-failed
-returns-in-Counts-clause-failed g c failed = rw (c.counted.ensures, c.in-Counts.is) (fails (λ a. contents.Counts a None) (g.S.Source.left c.args.reader.now) c.read_together.result (c.read_together.ensures.failed failed))
+returns-in-Counts-clause-failed g c failed = rw (c.counted.ensures, c.in-Counts.is) (fails (λ a. contents.Counts a None) c.read_together.result (c.read_together.ensures.failed failed))
 
 pub returns-in-Counts-clause-failed_is_err : goal.returns-in-Counts-clause-failed_is_err
 returns-in-Counts-clause-failed_is_err g c failed = rw c.counted.ensures (is_err (λ a. contents.Counts a None) c.read_together.result (c.read_together.ensures.failed failed))
