@@ -25,7 +25,7 @@ pub returns-in-Baskets-clause-exact : goal.returns-in-Baskets-clause-exact
 returns-in-Baskets-clause-exact g c working = rw (c.named.ensures, c.in-Baskets.is) (says (λ both. contents.Baskets both.0 (Some both.1)) (g.S.Source.left c.args.reader.now) (λ bytes. baskets_of_csv c.args.layout.separator c.args.layout.header c.args.layout.weighted c.args.known bytes) c.read_baskets.result (from_csv (g.S.Source.left c.args.reader.now) (λ bytes. baskets_of_csv c.args.layout.separator c.args.layout.header c.args.layout.weighted c.args.known bytes) c.read_baskets.result (c.read_baskets.ensures.exact working)))
 
 pub returns-in-Baskets-clause-failed : goal.returns-in-Baskets-clause-failed
-returns-in-Baskets-clause-failed g c failed = rw (c.named.ensures, c.in-Baskets.is) (fails (λ both. contents.Baskets both.0 (Some both.1)) (g.S.Source.left c.args.reader.now) c.read_baskets.result (c.read_baskets.ensures.failed failed))
+returns-in-Baskets-clause-failed g c failed = rw (c.named.ensures, c.in-Baskets.is) (fails (λ both. contents.Baskets both.0 (Some both.1)) c.read_baskets.result (c.read_baskets.ensures.failed failed))
 
 pub returns-in-Baskets-clause-failed_is_err : goal.returns-in-Baskets-clause-failed_is_err
 returns-in-Baskets-clause-failed_is_err g c failed = rw c.named.ensures (is_err (λ both. contents.Baskets both.0 (Some both.1)) c.read_baskets.result (c.read_baskets.ensures.failed failed))
@@ -37,7 +37,7 @@ pub returns-in-Single-clause-exact : goal.returns-in-Single-clause-exact
 returns-in-Single-clause-exact g c working = rw (c.named-in-Single.ensures, c.in-Single.is) (says (λ both. contents.Baskets both.0 (Some both.1)) (g.S.Source.left c.args.reader.now) (λ bytes. pairs_of_csv c.args.layout.separator c.args.layout.header c.args.known bytes) c.read_single.result (from_csv (g.S.Source.left c.args.reader.now) (λ bytes. pairs_of_csv c.args.layout.separator c.args.layout.header c.args.known bytes) c.read_single.result (c.read_single.ensures.exact working)))
 
 pub returns-in-Single-clause-failed : goal.returns-in-Single-clause-failed
-returns-in-Single-clause-failed g c failed = rw (c.named-in-Single.ensures, c.in-Single.is) (fails (λ both. contents.Baskets both.0 (Some both.1)) (g.S.Source.left c.args.reader.now) c.read_single.result (c.read_single.ensures.failed failed))
+returns-in-Single-clause-failed g c failed = rw (c.named-in-Single.ensures, c.in-Single.is) (fails (λ both. contents.Baskets both.0 (Some both.1)) c.read_single.result (c.read_single.ensures.failed failed))
 
 pub returns-in-Single-clause-failed_is_err : goal.returns-in-Single-clause-failed_is_err
 returns-in-Single-clause-failed_is_err g c failed = rw c.named-in-Single.ensures (is_err (λ both. contents.Baskets both.0 (Some both.1)) c.read_single.result (c.read_single.ensures.failed failed))
@@ -61,7 +61,7 @@ pub returns-in-CsvCounts-clause-exact : goal.returns-in-CsvCounts-clause-exact
 returns-in-CsvCounts-clause-exact g c working = rw (c.named_counts.ensures, c.in-CsvCounts.is) (says (λ both. contents.Counts both.0 (Some both.1)) (g.S.Source.left c.args.reader.now) (λ bytes. where_read named_together_of (named_counts_of c.args.layout.separator c.args.layout.header c.args.known bytes)) c.read_named_together.result (c.read_named_together.ensures.exact working))
 
 pub returns-in-CsvCounts-clause-failed : goal.returns-in-CsvCounts-clause-failed
-returns-in-CsvCounts-clause-failed g c failed = rw (c.named_counts.ensures, c.in-CsvCounts.is) (fails (λ both. contents.Counts both.0 (Some both.1)) (g.S.Source.left c.args.reader.now) c.read_named_together.result (c.read_named_together.ensures.failed failed))
+returns-in-CsvCounts-clause-failed g c failed = rw (c.named_counts.ensures, c.in-CsvCounts.is) (fails (λ both. contents.Counts both.0 (Some both.1)) c.read_named_together.result (c.read_named_together.ensures.failed failed))
 
 pub returns-in-CsvCounts-clause-failed_is_err : goal.returns-in-CsvCounts-clause-failed_is_err
 returns-in-CsvCounts-clause-failed_is_err g c failed = rw c.named_counts.ensures (is_err (λ both. contents.Counts both.0 (Some both.1)) c.read_named_together.result (c.read_named_together.ensures.failed failed))
