@@ -21,14 +21,17 @@ use std::alloc::{AllocError, Global};
 use std::marker::PhantomData;
 use std::thread::Threads;
 
-/// How much a miner did. The numbers of the miners that weren't asked for are 0.
+/// How much a miner did, as it is defined. The numbers of the miners that weren't asked for are 0.
 #[derive(Clone, Copy, Debug, PartialEq, Eq)]
 pub struct Work {
-    /// The candidates that Apriori counted (Agrawal and Srikant 1994).
+    /// The candidates that Apriori counted (Agrawal and Srikant 1994). Those of two items are added
+    /// as one number, of which no list is made; the others are made and counted one by one.
     pub candidates: u64,
-    /// The joins that Eclat made (Zaki 2000).
+    /// The joins that Eclat made (Zaki 2000). Those of a rank with each rank below it are added as
+    /// one number; the others are made one by one.
     pub joins: u64,
-    /// The conditional trees that FP-growth built (Han, Pei and Yin 2000).
+    /// The conditional trees of FP-growth (Han, Pei and Yin 2000). One that is its root alone is
+    /// counted and not made; of the others the conditional database is made, and no nodes.
     pub trees: u64,
 }
 
