@@ -12,6 +12,7 @@ mod growth;
 mod itemset;
 mod levels;
 mod round;
+mod rows;
 mod rules;
 mod seats;
 mod shard;
