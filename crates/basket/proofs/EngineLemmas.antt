@@ -87,6 +87,10 @@ writes_front (Some bytes) question before after text is (n, small, front) = (tex
 abbrev answer : RunFault → Result Unit RunFault
 answer fault = Err fault
 
+-- that the writer failed is no fault of mining
+pub write_is_no_mining : (fault : RunFault) (other : MineFault) → fault ≡ Write → answer fault ≡ Err (Mine other) → ⊥
+write_is_no_mining fault other is told = let same : answer Write ≡ Err (Mine other) = ap answer (sym is) ∙ told in cc
+
 module _ (question : Question) (left after : Option (List ℕ)) (failed : Bool) where
   pub told_input : (fault : RunFault) → MakesReport question left after failed (Err fault) → (other : ReadFault) → answer fault ≡ Err (Input other) → failed ≡ false → RefusesInput left question other
   told_input (Input fault) made other is = subst (λ f. failed ≡ false → RefusesInput left question f) (same_refusal fault other is) made.0
