@@ -2,24 +2,29 @@
 
 The examples are those of the user guide's pages `apriori`, `fpgrowth`, `fpmax` and
 `association_rules`, https://rasbt.github.io/mlxtend/user_guide/frequent_patterns/, typed here with
-what they print.
+what they print. The measures from leverage on were worked out by hand from their definitions.
 """
 
 import itertools
+import math
 import random
 from collections.abc import Callable
+from fractions import Fraction
 from typing import Any
 
 import brute
+import numpy as np
 import pandas as pd
 import pytest
 
 from basket_miner import DataError
+from basket_miner._measures import measures
 from basket_miner.frequent_patterns import (
     apriori,
     association_rules,
     fpgrowth,
     fpmax,
+    hmine,
 )
 
 DATASET = [
@@ -32,6 +37,8 @@ DATASET = [
 COLUMNS = sorted({*itertools.chain.from_iterable(DATASET)})
 FRAME = pd.DataFrame([[name in row for name in COLUMNS] for row in DATASET])
 FRAME.columns = pd.Index(COLUMNS)
+
+GAPS = FRAME.astype(object).where(FRAME)
 
 # `apriori(df, min_support=0.6)` and the same with `use_colnames=True`.
 BY_PLACE: list[tuple[float, set[Any]]] = [
@@ -66,6 +73,16 @@ RULES: list[tuple[str, str, float, float, float, float, float]] = [
     ("Onion", "Eggs,Kidney Beans", 0.6, 0.8, 0.6, 1.00, 1.25),
 ]
 NAMES = ["antecedent support", "consequent support", "support", "confidence", "lift"]
+MORE = ["representativity", "leverage", "conviction", "zhangs_metric", "jaccard"]
+MORE += ["certainty", "kulczynski"]
+# The further measures of a rule, by the counts of its antecedents, consequents and both of five.
+OTHERS: dict[tuple[int, int, int], tuple[float, ...]] = {
+    (5, 4, 4): (1.0, 0.0, 1.0, 0.0, 0.8, 0.0, 0.9),
+    (4, 5, 4): (1.0, 0.0, math.inf, 0.0, 0.8, 0.0, 0.9),
+    (4, 3, 3): (1.0, 0.12, 1.6, 1.0, 0.75, 0.375, 0.875),
+    (3, 4, 3): (1.0, 0.12, math.inf, 0.5, 0.75, 1.0, 0.875),
+    (3, 5, 3): (1.0, 0.0, math.inf, 0.0, 0.6, 0.0, 0.8),
+}
 
 
 def pairs(frame: pd.DataFrame) -> list[tuple[float, set[Any]]]:
@@ -95,15 +112,118 @@ def test_apriori_answers_the_documented_frame() -> None:
 
 def test_fpgrowth_answers_the_same_itemsets_and_fpmax_the_largest() -> None:
     assert pairs(fpgrowth(FRAME, min_support=0.6, use_colnames=True)) == BY_NAME
+    assert pairs(hmine(FRAME, min_support=0.6, use_colnames=True)) == BY_NAME
     found = fpmax(FRAME, min_support=0.6, use_colnames=True)
     assert pairs(found) == LARGEST
+
+
+@pytest.mark.parametrize("most", [1, 2, 3, 9])
+def test_longer_itemsets_than_max_len_are_left_out(most: int) -> None:
+    wanted = [pair for pair in BY_NAME if len(pair[1]) <= most]
+    calls: list[Callable[..., pd.DataFrame]] = [apriori, fpgrowth, hmine]
+    for call in calls:
+        found = call(FRAME, min_support=0.6, use_colnames=True, max_len=most)
+        assert pairs(found) == wanted
+    found = fpmax(FRAME, min_support=0.6, use_colnames=True, max_len=most)
+    assert pairs(found) == [pair for pair in LARGEST if len(pair[1]) <= most]
+
+
+def by_definition(
+    left: Fraction, right: Fraction, both: Fraction
+) -> dict[str, Fraction | float]:
+    """The measures of a rule by the supports of its sides and of both."""
+    confidence, leverage = both / left, both - left * right
+    larger = max(both * (1 - left), left * (right - both))
+    return {
+        "antecedent support": left,
+        "consequent support": right,
+        "support": both,
+        "confidence": confidence,
+        "lift": confidence / right,
+        "representativity": 1.0,
+        "leverage": leverage,
+        "conviction": (math.inf if confidence == 1 else (1 - right) / (1 - confidence)),
+        "zhangs_metric": leverage / larger if larger else 0.0,
+        "jaccard": both / (left + right - both),
+        "certainty": (confidence - right) / (1 - right) if right < 1 else 0.0,
+        "kulczynski": (confidence + both / right) / 2,
+    }
+
+
+@pytest.mark.parametrize("most", [3, 50, 2**26 - 1, 2**26, 2**40])
+def test_a_measure_is_the_float_nearest_to_its_exact_value(most: int) -> None:
+    chance = random.Random(most)
+    for _ in range(200):
+        total = chance.randint(max(most - 9, 1), most)
+        left, right = chance.randint(1, total), chance.randint(1, total)
+        both = chance.randint(max(left + right - total, 1), min(left, right))
+        found = measures(np.array([both]), np.array([left]), np.array([right]), total)
+        exact = by_definition(*(Fraction(n, total) for n in (left, right, both)))
+        assert {name: values[0] for name, values in found.items()} == {
+            name: float(value) for name, value in exact.items()
+        }
+
+
+@pytest.mark.parametrize("metric", [*NAMES, *MORE])
+def test_each_measure_can_be_the_metric(metric: str) -> None:
+    itemsets = apriori(FRAME, min_support=0.6, use_colnames=True)
+    found = association_rules(itemsets, metric=metric, min_threshold=-9)
+    assert len(found) == 16
+    for threshold in {*found[metric]}:
+        least = association_rules(itemsets, metric=metric, min_threshold=threshold)
+        wanted = found[found[metric] >= threshold].reset_index(drop=True)
+        pd.testing.assert_frame_equal(least, wanted)
+
+
+def test_support_only_needs_no_parts_of_the_itemsets_and_no_number_of_rows() -> None:
+    itemsets = pd.DataFrame(
+        {"itemsets": [["a", "b", "c"], ["c", "d"]], "support": [0.253623, 0.108696]}
+    )
+    found = association_rules(itemsets, support_only=True, min_threshold=0.2)
+    assert list(found.columns) == ["antecedents", "consequents", *NAMES, *MORE]
+    sides = zip(found["antecedents"], found["consequents"])
+    assert {
+        ("".join(sorted(left)), "".join(sorted(right))) for left, right in sides
+    } == {
+        *[("a", "bc"), ("b", "ac"), ("c", "ab"), ("bc", "a"), ("ac", "b"), ("ab", "c")]
+    }
+    assert found["support"].tolist() == [0.253623] * 6
+    assert found.drop(columns="support").iloc[:, 2:].isna().all(axis=None)
+    found = association_rules(
+        itemsets, support_only=True, min_threshold=0.1, return_metrics=["support"]
+    )
+    assert len(found) == 8
+    assert list(found.columns) == ["antecedents", "consequents", "support"]
+    assert association_rules(itemsets, support_only=True).empty
+
+
+def test_null_values_change_nothing_where_no_value_is_missing() -> None:
+    itemsets = fpgrowth(FRAME, min_support=0.6, null_values=True, use_colnames=True)
+    assert pairs(itemsets) == BY_NAME
+    wanted = association_rules(itemsets)
+    for nulls in (False, True):
+        found = association_rules(
+            itemsets, len(FRAME), df_orig=FRAME, null_values=nulls
+        )
+        pd.testing.assert_frame_equal(found, wanted)
+
+
+def test_the_number_of_rows_is_known_to_a_frame_from_here() -> None:
+    itemsets = apriori(FRAME, min_support=0.6)
+    wanted = association_rules(itemsets)
+    for number in (None, 1, len(itemsets)):
+        found = association_rules(itemsets, num_itemsets=number)
+        pd.testing.assert_frame_equal(found, wanted)
 
 
 def test_association_rules_answers_the_documented_frame() -> None:
     itemsets = apriori(FRAME, min_support=0.6, use_colnames=True)
     found = association_rules(itemsets, metric="confidence", min_threshold=0.7)
-    assert list(found.columns) == ["antecedents", "consequents", *NAMES]
+    assert list(found.columns) == ["antecedents", "consequents", *NAMES, *MORE]
     assert sides_and_figures(found) == documented()
+    for rule in found.itertuples(index=False, name=None):
+        left, right, both = (round(5 * support) for support in rule[2:5])
+        assert rule[7:] == OTHERS[left, right, both]
     found = association_rules(itemsets, metric="lift", min_threshold=1.2)
     assert sides_and_figures(found) == documented(1.2)
     found = association_rules(itemsets, metric="support", min_threshold=0.8)
@@ -164,16 +284,30 @@ def test_rules_at_a_threshold_are_those_of_brute_force(metric: str) -> None:
 @pytest.mark.parametrize(
     ("said", "call"),
     [
-        ("max_len is not here", lambda: apriori(FRAME, max_len=2)),  # type: ignore[arg-type]
-        ("null_values and df_orig are not", lambda: fpgrowth(FRAME, null_values=True)),
+        ("from 1 on, not 0", lambda: apriori(FRAME, max_len=0)),
+        ("from 1 on, not '2'", lambda: hmine(FRAME, max_len="2")),  # type: ignore[arg-type]
+        ("without missing values", lambda: fpgrowth(GAPS, null_values=True)),
+        ("without missing values", lambda: fpmax(GAPS, null_values=True)),
+        (
+            "without missing values",
+            lambda: association_rules(apriori(FRAME), 5, GAPS, null_values=True),
+        ),
+        (
+            "without missing values",
+            lambda: association_rules(apriori(FRAME), null_values=True),
+        ),
         ("above 0 and at most 1", lambda: apriori(FRAME, min_support=0.0)),
         ("pandas.DataFrame is needed", lambda: fpmax(DATASET)),
         ("values other than 0 and 1", lambda: apriori(FRAME.astype(int) * 2)),
         (
-            "metric 'leverage' is not here",
-            lambda: association_rules(FRAME, metric="leverage"),
+            "metric 'cosine' is none of",
+            lambda: association_rules(FRAME, metric="cosine"),
         ),
-        ("support_only is not", lambda: association_rules(FRAME, support_only=True)),
+        (
+            "metric 'cosine' is none of",
+            lambda: association_rules(FRAME, return_metrics=["cosine"]),
+        ),
+        ("no column", lambda: association_rules(FRAME, support_only=True)),
         ("no column", lambda: association_rules(FRAME, 5)),
         (
             "by name",
@@ -185,11 +319,10 @@ def test_rules_at_a_threshold_are_those_of_brute_force(metric: str) -> None:
         ),
         ("at most 1: '50%'", lambda: apriori(FRAME, "50%")),  # type: ignore[arg-type]
         ("at most 1: nan", lambda: apriori(FRAME, float("nan"))),
-        ("made from 5 rows", lambda: association_rules(apriori(FRAME), 1)),
         ("not of fpmax", lambda: association_rules(fpmax(FRAME))),
     ],
 )
-def test_what_only_mlxtend_has_is_refused_with_what_to_do(said: str, call: Any) -> None:
+def test_what_does_not_fit_is_refused_with_what_to_do(said: str, call: Any) -> None:
     with pytest.raises(DataError, match=said):
         call()
 

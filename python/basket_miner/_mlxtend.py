@@ -1,0 +1,152 @@
+"""What the calls of mlxtend share: frames of itemsets, by the program and for it."""
+
+import itertools
+import math
+import numbers
+from collections.abc import Iterable
+from typing import Any
+
+import numpy as np
+import pandas as pd
+
+from ._baskets import Baskets
+from ._calls import Miner
+from ._data import Layout, read
+from ._errors import DataError, InputError
+from ._frames import DROP_HINT, LONG_HINT, column_of
+from ._measures import MEASURES
+from ._program import run
+from ._report import sets_frame
+
+# The attribute of a frame that tells how many baskets its supports are shares of.
+TRANSACTIONS = "basket_miner_transactions"
+
+
+def frequent(
+    asked: tuple[str, Miner],
+    df: pd.DataFrame,
+    min_support: float,
+    use_colnames: bool,
+    max_len: int | None,
+    verbose: int,
+) -> pd.DataFrame:
+    """The frame of what a command of the program reports by a miner."""
+    command, miner = asked
+    is_whole = isinstance(max_len, numbers.Integral) and not isinstance(max_len, bool)
+    if max_len is not None and (not is_whole or max_len < 1):
+        raise DataError(f"max_len is a number from 1 on, not {max_len!r}")
+    is_number = isinstance(min_support, numbers.Real)
+    if not is_number or not 0 < min_support <= 1:
+        raise DataError(f"min_support is above 0 and at most 1: {min_support!r}")
+    if not isinstance(df, pd.DataFrame):
+        raise DataError(f"a pandas.DataFrame is needed, not {type(df).__name__}")
+    baskets = _baskets(df)
+    if not use_colnames:
+        places = range(len(df.columns))
+        baskets = Baskets(baskets.source, labels=places, weight=baskets.weight)
+    if max_len == 1 and command == "sets":
+        command = "items"
+    words = [command, f"--min={_least(min_support, len(df))}", f"--miner={miner}"]
+    report = run(words, baskets.source, progress=verbose > 0)
+    if max_len is not None:
+        # A line has a blank behind each item.
+        lines = report.splitlines(keepends=True)
+        report = b"".join(line for line in lines if line.count(b" ") <= max_len)
+    frame = sets_frame(report, baskets, len(df))[["support", "itemsets"]]
+    frame.attrs[TRANSACTIONS] = len(df)
+    return frame
+
+
+def _baskets(df: pd.DataFrame) -> Baskets:
+    try:
+        return read(df, Layout())
+    except DataError as fault:
+        said = str(fault).removesuffix(DROP_HINT).removesuffix(LONG_HINT)
+        hint = "; fill them with False first" if str(fault).endswith(DROP_HINT) else ""
+        raise DataError(f"{said}{hint}") from None
+
+
+def _least(min_support: float, transactions: int) -> int:
+    """The least count whose support, as a float, is at least `min_support`."""
+    count = max(math.floor(min_support * transactions) - 1, 1)
+    while transactions and count / transactions < min_support:
+        count += 1
+    return count
+
+
+def transactions_of(df: pd.DataFrame, num_itemsets: int | None) -> int:
+    """How many baskets the supports of a frame of itemsets are shares of."""
+    if missing := {"support", "itemsets"} - set(df.columns):
+        raise DataError(f"the frame of itemsets has no column {missing.pop()!r}")
+    known = df.attrs.get(TRANSACTIONS, num_itemsets)
+    if known is None:
+        raise DataError(
+            "the frame does not say how many rows it was made from: give num_itemsets="
+        )
+    return int(known)
+
+
+def counted(
+    df: pd.DataFrame, transactions: int
+) -> tuple[Baskets, dict[frozenset[Any], int]]:
+    """The itemsets with their counts, as the program takes them and by themselves."""
+    supports = df["support"].to_numpy(dtype=np.float64)
+    counts = np.rint(supports * transactions)
+    # One rounding of the quotient is all that may lie between a support and its share.
+    if len(df) and not np.allclose(counts / transactions, supports, rtol=1e-12, atol=0):
+        raise DataError(f"the supports are no shares of {transactions} baskets")
+    itemsets = [frozenset(itemset) for itemset in df["itemsets"]]
+    by_itemset = dict(zip(itemsets, counts.astype(np.int64).tolist()))
+    if len(by_itemset) != len(itemsets) or frozenset() in by_itemset:
+        raise DataError("the frame has an itemset twice, or one without an item")
+    numbering: dict[Any, int] = {}
+    lines = [b"(%d)\n" % transactions]
+    for itemset, count in by_itemset.items():
+        places = [numbering.setdefault(item, len(numbering)) for item in itemset]
+        lines.append(b"%s (%d)\n" % (" ".join(map(str, places)).encode(), count))
+    baskets = Baskets(b"".join(lines), labels=[*numbering], weight=transactions)
+    return baskets, by_itemset
+
+
+def rules_report(words: list[str], baskets: Baskets) -> bytes:
+    try:
+        return run(["rules", "--form=counts", *words], baskets.source)
+    except InputError as fault:
+        raise DataError(
+            "the frame lacks parts of its itemsets, or their supports do not agree: it must "
+            "be a whole frame of apriori or fpgrowth, not of fpmax; support_only=True takes "
+            f"such a frame ({fault})"
+        ) from fault
+
+
+def by_support(df: pd.DataFrame, least: float, figures: list[str]) -> pd.DataFrame:
+    """The rules of all itemsets of a support, which is all that is known of them."""
+    rows = [
+        (frozenset(left), frozenset(itemset).difference(left), support)
+        for itemset, support in zip(
+            column_of(df, "itemsets"), column_of(df, "support").astype(float)
+        )
+        if support >= least
+        for size in range(len(itemset) - 1, 0, -1)
+        for left in itertools.combinations(itemset, size)
+    ]
+    rules = pd.DataFrame(rows, columns=["antecedents", "consequents", "support"])
+    names = dict.fromkeys(["antecedents", "consequents", *figures, "support"])
+    return rules.reindex(columns=[*names])
+
+
+def refuse_metrics(metrics: Iterable[str]) -> None:
+    for metric in metrics:
+        if metric not in MEASURES:
+            raise DataError(f"metric {metric!r} is none of {', '.join(MEASURES)}")
+
+
+def refuse_nulls(null_values: bool, df: pd.DataFrame | None) -> None:
+    """`DataError` where missing values shall count as unknown, unless there are none."""
+    if not null_values:
+        return
+    if not isinstance(df, pd.DataFrame) or df.isna().any(axis=None):
+        raise DataError(
+            "null_values=True is here for frames without missing values alone, in df_orig for "
+            "rules: fill them with False first"
+        )
