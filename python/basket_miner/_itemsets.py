@@ -60,7 +60,7 @@ def sets(
     """The frequent itemsets: those that are in enough baskets.
 
     Takes the baskets and the least support of an itemset, as the package's documentation says.
-    Answers a row for each itemset, those of fewer items first: `itemsets` (a `frozenset` of the
+    Returns a row for each itemset, those of fewer items first: `itemsets` (a `frozenset` of the
     caller's labels), `count` (of the baskets that have all its items) and `support` (this count
     as a share of all baskets, from 0 to 1), and with `exact` also `exact_support`.
 

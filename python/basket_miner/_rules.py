@@ -36,7 +36,7 @@ def rules(
     Takes and raises what `sets` does. `confidence` is the least confidence of a rule: a share as
     a `float` (the decimal that it prints), a `Fraction`, or a text as "60%" or "2/3".
 
-    Answers a row for each rule: `antecedents` and `consequents` (each a `frozenset`), `count`
+    Returns a row for each rule: `antecedents` and `consequents` (each a `frozenset`), `count`
     (of the baskets that have both sides), `support` (this count as a share of all baskets),
     `confidence` (as a share of those that have the antecedents) and `lift` (the confidence over
     the share of all baskets that have the consequents), and with `exact` also
@@ -74,7 +74,7 @@ def count(
     FIMI file is a number, and one of a CSV file a text that is not empty and has no space or tab
     at its ends; what can be none is refused.
 
-    Answers the columns of `sets`. The first row is the empty itemset, whose count is the weight
+    Returns the columns of `sets`. The first row is the empty itemset, whose count is the weight
     of all baskets; then comes each other itemset once, in the order given.
 
     Raises `DataError` where the data or the itemsets do not fit, else what the program ends with.

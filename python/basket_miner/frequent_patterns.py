@@ -1,13 +1,13 @@
-"""The calls of `mlxtend.frequent_patterns`, answered by the program basket.
+"""The calls of `mlxtend.frequent_patterns`, carried out by the program basket.
 
-`from basket_miner.frequent_patterns import apriori, association_rules` in the place of
+`from basket_miner.frequent_patterns import apriori, association_rules` instead of
 `from mlxtend.frequent_patterns import ..` is the only change. Names, arguments and columns are
 mlxtend's. As there, each row of the frame is a basket, also one without an item, and a set is
 frequent where the float of its support is at least `min_support`. Not here are missing values,
 which `null_values` is for: they are refused (`DataError`). Without them that argument, `df_orig`
 and `num_itemsets` change nothing.
 
-The rows stand in the program's order, and there is one algorithm's answer for all names:
+The rows stand in the program's order. `apriori`, `fpgrowth` and `hmine` return the same rows, and
 `low_memory` changes nothing. All figures are the floats nearest to the exact values, so a last
 digit may be another than where floats are divided by floats.
 
@@ -48,7 +48,7 @@ def apriori(
 ) -> pd.DataFrame:
     """The frequent itemsets of a frame of true and false (or 1 and 0), a row a basket.
 
-    Answers the columns `support` (`float64`) and `itemsets` (`frozenset` of the columns'
+    Returns the columns `support` (`float64`) and `itemsets` (`frozenset` of the columns'
     places, or with `use_colnames` of their labels). Itemsets of more than `max_len` items are left
     out; above one item they are found all the same, which takes time. `verbose` above 0 tells each
     second what runs. Raises `DataError` where an argument or the frame does not fit.
@@ -120,7 +120,7 @@ def association_rules(
     `num_itemsets` must be the number of rows that it was made from. A frame from here knows that
     number, and `num_itemsets` is not looked at.
 
-    Answers `antecedents`, `consequents` and the figures in `return_metrics`, else all: `antecedent
+    Returns `antecedents`, `consequents` and the figures in `return_metrics`, else all: `antecedent
     support`, `consequent support`, `support`, `confidence`, `lift`, `representativity`, `leverage`,
     `conviction`, `zhangs_metric`, `jaccard`, `certainty` and `kulczynski`. Each may be the `metric`.
 
