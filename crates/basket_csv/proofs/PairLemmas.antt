@@ -1,12 +1,13 @@
 -- Pairs of an id and a name, one after another.
-use Rattle.std.proofs.Common.{◌≡◌, ℕ, zero, suc, ◌+◌, ◌≤◌, ◌<◌, Bool, true, false, cond, not, ◌&&◌, ◌||◌, List, [], ◌∷◌, ◌++◌, length, map, filter, set, get_or, ltb, Some, None, Result, Ok, Err, refl, sym, ap, ◌∙◌, subst, append_assoc, arith}
+use Rattle.std.proofs.Common.{◌≡◌, ℕ, zero, suc, ◌+◌, ◌≤◌, ◌<◌, Bool, true, false, cond, not, ◌&&◌, ◌||◌, List, [], ◌∷◌, ◌++◌, length, map, filter, fold, set, get_or, ltb, Some, None, Result, Ok, Err, refl, sym, ap, ◌∙◌, subst, append_assoc, arith}
 use Rattle.std.specs.List.{flat_map, list_all, list_any}
 use Rattle.std.specs.Result.{OnOk}
 use Rattle.std.specs.Str.{bytes_eq, is_utf8}
 use Rattle.std.proofs.lemmas.Bool.{and_parts, and_from, and_left, and_right}
-use Rattle.std.proofs.lemmas.List.{map-append}
+use Rattle.std.proofs.lemmas.List.{length-map, map-append}
 use Rattle.std.proofs.lemmas.List.Elements.{filter-append}
 use Rattle.std.proofs.lemmas.List.Folds.{list_all-append, flat_map-map}
+use Rattle.std.proofs.lemmas.List.Filters.{length-filter_both}
 use Rattle.std.proofs.lemmas.List.Sums.{fold-append}
 use Rattle.basket_sets.specs.declared.weighted.Weighted.{Weighted}
 use Rattle.basket_read.specs.declared.fault.ReadFault.{ReadFault}
@@ -202,3 +203,34 @@ second_is_no_text nth row e = no_pair nth row (second row e)
     second [] f = absurd (let both : true ≡ false = sym nothing_is_text ∙ f in cc)
     second (field ∷ []) f = absurd (let both : true ≡ false = sym nothing_is_text ∙ f in cc)
     second (field ∷ other ∷ fields) f = and_right (is_utf8 field) (is_text (other ∷ fields)) (and_left (is_utf8 other) (is_text fields) f)
+
+-- ---- how many groups there are
+
+with_pair_few : (groups : List (List ℕ × List (List ℕ))) (pair : List ℕ × List ℕ) → length (with_pair groups pair) ≤ length groups + 1
+with_pair_few [] pair = omega arith
+with_pair_few (group ∷ groups) pair = at (bytes_eq pair.0 group.0) (with_pair_few groups pair)
+  where
+    at : (same : Bool) → length (with_pair groups pair) ≤ length groups + 1
+        → length (cond same ((group.0, group.1 ++ pair.1 ∷ []) ∷ groups) (group ∷ with_pair groups pair)) ≤ length (group ∷ groups) + 1
+    at true later = omega arith
+    at false later = omega (arith, later)
+
+gathered_few : (groups : List (List ℕ × List (List ℕ))) (pairs : List (List ℕ × List ℕ)) → length (fold with_pair groups pairs) ≤ length groups + length pairs
+gathered_few groups [] = omega arith
+gathered_few groups (pair ∷ pairs) = omega (arith, gathered_few (with_pair groups pair) pairs, with_pair_few groups pair)
+
+-- there are no more groups than records
+pub few_groups : {S H : Type 0} (read : Pairs S H) (known : List (List ℕ)) (rows : List (List (List ℕ))) → HasPairs read known (pairs_of rows) → length read.groups.items ≤ length rows
+few_groups read known rows has =
+    let names = names_of_pairs known (pairs_of rows) in
+    let groups = gather (pairs_of rows) in
+    let named : List ℕ × List ℕ → Bool = λ pair. not (is_nil pair.1) in
+    omega (
+      arith,
+      length-map read.groups.items (λ group. group.items),
+      ap length has.groups,
+      length-map groups (λ (group : List ℕ × List (List ℕ)). map (number_in names) group.1),
+      gathered_few [] (pairs_of rows),
+      length-filter_both named (λ pair. not (named pair)) (λ pair. refl) (map pair_of rows),
+      length-map rows pair_of,
+    )

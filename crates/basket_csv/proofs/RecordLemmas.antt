@@ -1,5 +1,5 @@
--- A record takes at least one byte, so that a text has only so many.
-use Rattle.std.proofs.Common.{◌≡◌, ℕ, zero, suc, ◌+◌, ◌-◌, ◌≤◌, ◌<◌, Bool, true, false, cond, eqb, ◌&&◌, List, [], ◌∷◌, ◌++◌, length, Option, Some, None, unwrap_or, Bor, refl, sym, ap, ◌∙◌, subst, arith}
+-- A record takes two bytes, except that the last may take one, so that a text has only so many.
+use Rattle.std.proofs.Common.{◌≡◌, ℕ, zero, suc, ◌+◌, ◌-◌, ◌*◌, ◌≤◌, ◌<◌, Bool, true, false, cond, eqb, ◌&&◌, List, [], ◌∷◌, ◌++◌, length, Option, Some, None, unwrap_or, Bor, refl, sym, ap, ◌∙◌, subst, arith}
 use Rattle.csv.specs.Machine.{Read, next_record, step, in_field, start_field, start_record, after_end, ends_with, is_byte, ends_at_end, is_end, fields_after, field_after}
 use Rattle.csv.specs.Reading.{records_from, records_next, source_of, ReadRecord, Reached, strip_bom, is_bom}
 use Rattle.csv.specs.declared.reader.Reader.{Reader}
@@ -8,8 +8,12 @@ use Rattle.csv.specs.declared.parser.Config.{Config}
 use Rattle.csv.specs.declared.parser.State.{State}
 use Rattle.csv.specs.declared.parser.State.TheVariants as st
 use Rattle.csv.specs.declared.parser.Action.{Action}
+use Rattle.csv.specs.declared.parser.Action.TheVariants as act
 use Rattle.csv.specs.declared.parser.Terminator.{Terminator}
 use Rattle.csv.specs.declared.parser.Terminator.TheVariants as term
+use Rattle.basket_read.specs.Fimi.{MOST_BYTES}
+use Rattle.basket_csv.specs.Csv.{behind_header}
+use Rattle.basket_csv.specs.Records.{MOST_RECORDS, config_of, records_of}
 
 -- a step that ends a record leaves a state at which the end of the text ends none
 abbrev Ends : State × Action → Type 0
@@ -81,6 +85,50 @@ fewer_left cfg s [] read begins e =
     absurd (let both : ◌≡◌ {A = Option Read} None (Some read) = sym none ∙ e in cc)
 fewer_left cfg s (c ∷ bytes) read begins e = let h = (leaves cfg s [] [] (c ∷ bytes) read e).fewer in omega arith
 
+abbrev chosen : Bool → State × Action → State × Action → State × Action
+chosen b x y = cond b x y
+
+-- the first byte of a record does not end it
+first_goes_on : (ends comment quote delimiter : Bool) (after : State)
+    → is_end (chosen ends (st.StartRecord, act.Skip) (chosen comment (st.InComment, act.Skip) (chosen quote (st.InQuoted, act.Skip) (chosen delimiter (st.StartField, act.EndField) (chosen ends (after, act.EndRecord) (st.InField, act.Copy)))))).1 ≡ false
+first_goes_on true comment quote delimiter after = refl
+first_goes_on false true quote delimiter after = refl
+first_goes_on false false true delimiter after = refl
+first_goes_on false false false true after = refl
+first_goes_on false false false false after = refl
+
+record_goes_on : (cfg : Config) (c : ℕ) → is_end (start_record cfg c).1 ≡ false
+record_goes_on cfg c = first_goes_on (ends_with cfg.terminator c) (is_byte cfg.comment c) (cfg.quoting && eqb c cfg.quote) (eqb c cfg.delimiter) (after_end cfg.terminator c)
+
+goes_on : (cfg : Config) (s : State) (c : ℕ) → ends_at_end s ≡ false → is_end (step cfg s c).1 ≡ false
+goes_on cfg st.StartRecord c begins = record_goes_on cfg c
+goes_on cfg st.AfterCr c begins = at (eqb c 10)
+  where
+    at : (b : Bool) → is_end (chosen b (st.StartRecord, act.Skip) (start_record cfg c)).1 ≡ false
+    at true = refl
+    at false = record_goes_on cfg c
+goes_on cfg st.InComment c begins = at (eqb c 10)
+  where
+    at : (b : Bool) → is_end (chosen b (st.StartRecord, act.Skip) (st.InComment, act.Skip)).1 ≡ false
+    at true = refl
+    at false = refl
+goes_on cfg st.StartField c begins = absurd cc
+goes_on cfg st.InField c begins = absurd cc
+goes_on cfg st.InQuoted c begins = absurd cc
+goes_on cfg st.InEscape c begins = absurd cc
+goes_on cfg st.AfterQuote c begins = absurd cc
+
+-- so a record that is followed by bytes took two at least
+two_bytes : (cfg : Config) (s : State) (bytes : List ℕ) (read : Read) → ends_at_end s ≡ false → next_record cfg s [] [] bytes ≡ Some read → length read.2 ≤ length bytes - 2
+unfolding next_record
+two_bytes cfg s [] read begins e = let none = fewer_left cfg s [] read begins e in absurd (omega (arith, none))
+two_bytes cfg s (c ∷ bytes) read begins e =
+    let fields = fields_after (step cfg s c).1 [] [] in
+    let field = field_after (step cfg s c).1 c [] in
+    let later : next_record cfg (step cfg s c).0 fields field bytes ≡ Some read =
+    sym (ap (λ b. cond b (Some (fields, (step cfg s c).0, bytes)) (next_record cfg (step cfg s c).0 fields field bytes)) (goes_on cfg s c begins)) ∙ e in
+    let few = (leaves cfg (step cfg s c).0 fields field bytes read later).fewer in omega (arith, few)
+
 one_more : (cfg : Config) (n : ℕ) (s : State) (bytes : List ℕ) → ends_at_end s ≡ false → length bytes < n → records_from cfg (suc n) s bytes ≡ records_from cfg n s bytes
 unfolding records_from
 one_more cfg zero s bytes begins few = absurd (omega arith)
@@ -118,19 +166,20 @@ records_some cfg s bytes read begins e =
     ∙ ap (λ k. read.0 ∷ records_from cfg k read.1 read.2) whole
     ∙ ap (λ rows. read.0 ∷ rows) (enough cfg (length bytes - (length read.2 + 1)) (length read.2 + 1) read.1 read.2 (leaves cfg s [] [] bytes read e).begins (omega arith))
 
--- there are no more records than bytes
-pub few_records : (cfg : Config) (n : ℕ) (s : State) (bytes : List ℕ) → ends_at_end s ≡ false → length (records_from cfg n s bytes) ≤ length bytes
+-- there are half as many records as bytes at most, rounded up
+pub few_records : (cfg : Config) (n : ℕ) (s : State) (bytes : List ℕ) → ends_at_end s ≡ false → 2 * length (records_from cfg n s bytes) ≤ length bytes + 1
 unfolding records_from
 few_records cfg zero s bytes begins = omega arith
 few_records cfg (suc n) s bytes begins = at (next_record cfg s [] [] bytes) refl (few_records cfg n)
   where
-    at : (o : Option Read) → next_record cfg s [] [] bytes ≡ o → ((t : State) (more : List ℕ) → ends_at_end t ≡ false → length (records_from cfg n t more) ≤ length more)
-        → length (records_next (records_from cfg n) o) ≤ length bytes
+    at : (o : Option Read) → next_record cfg s [] [] bytes ≡ o → ((t : State) (more : List ℕ) → ends_at_end t ≡ false → 2 * length (records_from cfg n t more) ≤ length more + 1)
+        → 2 * length (records_next (records_from cfg n) o) ≤ length bytes + 1
     at None e later = omega arith
     at (Some read) e later =
         let few = later read.1 read.2 (leaves cfg s [] [] bytes read e).begins in
         let fewer = fewer_left cfg s bytes read begins e in
-        omega (arith, few, fewer)
+        let two = two_bytes cfg s bytes read begins e in
+        omega (arith, few, fewer, two)
 
 -- ---- a reader of records
 
@@ -190,10 +239,23 @@ stripped (a ∷ b ∷ c ∷ bytes) = stripped_mark a b c bytes (is_bom a b c)
 pub known_bytes : (o : Option (List ℕ)) (bytes : List ℕ) → o ≡ Some bytes → o ≡ Some (unwrap_or o [])
 known_bytes o bytes e = e ∙ ap (λ p. Some (unwrap_or p [])) (sym e)
 
--- a reader of bytes in memory has no more records left than bytes
+-- a reader of bytes in memory has half as many records left as bytes at most, rounded up
 pub few_left : (r : Reader (Bor (List ℕ))) (bytes : List ℕ) → ends_at_end r.state ≡ false → source_of (λ s. Some s.now) r ≡ Some bytes
-    → length (records_from r.config (length (unwrap_or (source_of (λ s. Some s.now) r) []) + 1) r.state (unwrap_or (source_of (λ s. Some s.now) r) [])) ≤ length bytes
+    → 2 * length (records_from r.config (length (unwrap_or (source_of (λ s. Some s.now) r) []) + 1) r.state (unwrap_or (source_of (λ s. Some s.now) r) [])) ≤ length bytes + 1
 few_left r bytes begins e =
     let few = few_records r.config (length (left r) + 1) r.state (left r) begins in
     let same : length (left r) ≡ length bytes = ap (λ o. length (unwrap_or o [])) e in
     omega (arith, few, same)
+
+-- a text that is not too long has no more records than that
+pub few_of_text : (separator : ℕ) (header : Bool) (bytes : List ℕ) → length bytes ≤ MOST_BYTES → length (behind_header header (records_of separator bytes)) ≤ MOST_RECORDS
+few_of_text separator header bytes short =
+    let few = few_records (config_of separator) (length (strip_bom bytes) + 1) st.StartRecord (strip_bom bytes) refl in
+    let less = stripped bytes in
+    let all : length (records_of separator bytes) ≤ MOST_RECORDS = omega (arith, few, less, short) in
+    at header (records_of separator bytes) all
+  where
+    at : (header : Bool) (rows : List (List (List ℕ))) → length rows ≤ MOST_RECORDS → length (behind_header header rows) ≤ MOST_RECORDS
+    at false rows few = few
+    at true [] few = few
+    at true (row ∷ rows) few = omega (arith, few)

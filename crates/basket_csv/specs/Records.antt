@@ -5,7 +5,6 @@ use Rattle.csv.specs.Reading.{Ready, source_of, default_config, records, records
 use Rattle.csv.specs.Records.{fields_of}
 use Rattle.csv.specs.declared.parser.Config.{Config}
 use Rattle.csv.specs.declared.reader.Trim.TheVariants as trim
-use Rattle.basket_read.specs.Fimi.{MOST_BYTES}
 use Rattle.basket_csv.specs.declared.records.Records.{Records}
 
 -- how `csv` reads with a separator
@@ -33,6 +32,10 @@ records_taken r = r.taken
 abbrev pub record_read : Records → List (List ℕ)
 record_read r = fields_of r.row
 
+-- no text has more records: each takes two bytes, except that the last may take one
+abbrev pub MOST_RECORDS : ℕ
+MOST_RECORDS = 2147483648
+
 -- a reader of records of any lengths that stands between two of them, of a text that is not too long
 pub record IsReading (r : Records) : Type 0 where
   pub flexible : is_flexible r.reader ≡ true
@@ -40,4 +43,4 @@ pub record IsReading (r : Records) : Type 0 where
   pub ready : Ready r.reader
   pub begins : ends_at_end (reader_state r.reader) ≡ false
   pub known : known_left r ≡ Some (bytes_left r)
-  pub few : r.taken + length (records_left r) ≤ MOST_BYTES
+  pub few : r.taken + length (records_left r) ≤ MOST_RECORDS

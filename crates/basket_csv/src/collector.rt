@@ -6,7 +6,7 @@ ghost use Rattle.basket_read.specs.Fimi.{MOST_BYTES};
 ghost use Rattle.basket_read.specs.Text.{Tells};
 ghost use Rattle.basket_csv.specs.Collector.{Start};
 ghost use Rattle.basket_csv.specs.Csv.{fault_from, behind_header, first_number};
-ghost use Rattle.basket_csv.specs.Records.{records_of, records_left, records_taken, IsReading};
+ghost use Rattle.basket_csv.specs.Records.{MOST_RECORDS, records_of, records_left, records_taken, IsReading};
 
 use crate::dialect::Dialect;
 use crate::records::Records;
@@ -25,6 +25,8 @@ pub trait Collector {
 
     /// Adds a record by its number.
     fn add(&mut self, nth: u32, row: &ByteRecord) -> Result<(), ReadFault>
+        requires few { nth ≤ MOST_RECORDS }
+        requires read { (start : Start) × (rows : List (List (List ℕ))) × (start.first + length rows ≡ nth) × has_read self.old start rows }
         ensures fault { (start : Start) (rows : List (List (List ℕ))) → has_read self.old start rows →
             MatchResult result (λ _. fault_of start nth (fields_of row.now) ≡ None) (λ fault. Tells fault (fault_of start nth (fields_of row.now))) }
         ensures read { (start : Start) (rows : List (List (List ℕ))) → start.first + length rows ≡ nth → has_read self.old start rows →
@@ -38,7 +40,8 @@ pub fn add_all<C: Collector>(
     dialect: Dialect,
     collector: &mut C,
 ) -> Result<(), ReadFault>
-    requires { length bytes.now ≤ MOST_BYTES }
+    requires short { length bytes.now ≤ MOST_BYTES }
+    requires read { (start : Start) × (start.first ≡ first_number dialect.header) × C.has_read collector.old start [] }
     ensures fault { (start : Start) → start.first ≡ first_number dialect.header → C.has_read collector.old start [] →
         let found = fault_from (C.fault_of start) (first_number dialect.header) (behind_header dialect.header (records_of dialect.separator bytes.now)) in
         MatchResult result (λ _. found ≡ None) (λ fault. Tells fault found) }
@@ -54,7 +57,8 @@ pub fn add_all<C: Collector>(
 
 /// Adds the records that are left, up to the first with a fault.
 fn add_left<C: Collector>(collector: &mut C, records: &mut Records<'_>) -> Result<(), ReadFault>
-    requires { IsReading records.old }
+    requires reading { IsReading records.old }
+    requires read { (start : Start) × (rows : List (List (List ℕ))) × (start.first + length rows ≡ records_taken records.old + 1) × C.has_read collector.old start rows }
     ensures fault { (start : Start) (rows : List (List (List ℕ))) → start.first + length rows ≡ records_taken records.old + 1 → C.has_read collector.old start rows →
         let found = fault_from (C.fault_of start) (records_taken records.old + 1) (records_left records.old) in
         MatchResult result (λ _. found ≡ None) (λ fault. Tells fault found) }

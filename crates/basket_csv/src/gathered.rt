@@ -1,5 +1,6 @@
 //! Baskets that are gathered one after another.
-ghost use Rattle.std.specs.Prelude.{◌≡◌, ◌≤◌, [], ◌++◌, List, OnOk, IfErr};
+ghost use Rattle.std.specs.Prelude.{◌≡◌, ◌≤◌, ◌<◌, [], ◌++◌, List, OnOk, IfErr, false, length};
+ghost use Rattle.basket_sets.specs.Database.{MOST_BASKETS};
 ghost use Rattle.basket_sets.specs.declared.weighted.Weighted.{Weighted};
 ghost use Rattle.basket_read.specs.Fimi.{basket_of_numbers, if_light};
 ghost use Rattle.basket_read.specs.Text.{Answers};
@@ -31,7 +32,8 @@ impl Gathered {
 
     /// Adds the basket of the numbers, which may come in any order and repeat, unless there is none.
     pub fn add(&mut self, numbers: &[u32], weight: u32) -> Result<(), ReadFault>
-        requires { 1 ≤ weight }
+        requires weighs { 1 ≤ weight }
+        requires few { self.old.heavy ≡ false → length self.old.baskets < MOST_BASKETS }
         ensures baskets { (baskets : List Weighted) → HasGathered self.old baskets → OnOk result (HasGathered self.new (baskets ++ basket_of_numbers numbers.now weight)) }
         ensures err { IfErr result (λ fault. fault ≡ ReadFault.Memory) }
     {
@@ -44,10 +46,6 @@ impl Gathered {
         }
         if self.heavy {
             return Ok(());
-        }
-        // No input is long enough for that many baskets.
-        if self.baskets.len() >= Database::MAX_BASKETS {
-            return Err(ReadFault::Memory);
         }
         let basket = Itemset::from_items(self.alloc, numbers)?;
         match self.baskets.push(basket, weight) {

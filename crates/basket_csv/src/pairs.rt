@@ -3,6 +3,7 @@ ghost use Rattle.std.specs.Prelude.{◌≡◌, ◌≤◌, List, ℕ, [], ◌∷�
 ghost use Rattle.std.specs.List.{flat_map};
 ghost use Rattle.csv.specs.Records.{fields_of};
 ghost use Rattle.basket_read.specs.Fimi.{basket_of_numbers, if_light, MOST_BYTES};
+ghost use Rattle.basket_sets.specs.Database.{MOST_BASKETS};
 ghost use Rattle.basket_csv.specs.Csv.{pair_fault, pairs_of, baskets_of_pairs, names_of_pairs, with_names, say_pairs, behind_header, first_number};
 ghost use Rattle.basket_csv.specs.Gathered.{HasGathered};
 ghost use Rattle.basket_csv.specs.Read.{Answers};
@@ -48,6 +49,7 @@ fn add_number(
 
 /// The baskets of groups of numbers, each of weight 1.
 fn gathered_from(alloc: Global, groups: &[Group]) -> Result<Gathered, ReadFault>
+    requires few { length groups.now ≤ MOST_BASKETS }
     ensures baskets { IfOk result (λ gathered. HasGathered gathered (flat_map (λ group. basket_of_numbers group.items 1) groups.now)) }
     ensures err { IfErr result (λ fault. fault ≡ ReadFault.Memory) }
 {
@@ -144,6 +146,7 @@ impl<S: BuildHasher> Collector for Pairs<S> {
 impl<S: BuildHasher + Drop> Pairs<S> {
     /// A basket for each id, with the names of all its records.
     pub fn finish(self) -> Result<(Database, Names), ReadFault>
+        requires few { length self.groups.items ≤ MOST_BASKETS }
         ensures { (known : List (List ℕ)) (pairs : List (List ℕ × List ℕ)) → HasPairs self known pairs →
             Answers result (with_names (if_light (baskets_of_pairs known pairs)) (names_of_pairs known pairs)) }
     {

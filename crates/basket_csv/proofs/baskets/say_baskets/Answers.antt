@@ -28,3 +28,8 @@ returns g c =
     let rows = behind_header header (records_of c.args.dialect.separator c.args.bytes.now) in
     let has = c.finish.ensures start rows (c.in_ok-add_all.ensures.read start refl fresh) in
     faultless_answer c.finish.result _ (baskets_in weighted known rows) (in_order (known ++ all_names weighted rows)) (c.in_ok-add_all.ensures.fault start refl fresh) has
+
+pub add_all-requires-clause-read : goal.add_all-requires-clause-read
+add_all-requires-clause-read g c =
+    let start : Start = record { first = first_number c.args.dialect.header; weighted = c.args.weighted; known = c.args.known } in
+    (start, refl, c.in_ok-baskets.ensures.read start refl refl)

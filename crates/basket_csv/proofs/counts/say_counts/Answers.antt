@@ -29,3 +29,8 @@ returns g c =
     let names = in_order (known ++ all_names true rows) in
     faultless_counts c.finish.result _ (lines_from names (first_number header) rows) names (c.in_ok-add_all.ensures.fault start refl fresh)
     (c.finish.ensures start rows (c.in_ok-add_all.ensures.read start refl fresh))
+
+pub add_all-requires-clause-read : goal.add_all-requires-clause-read
+add_all-requires-clause-read g c =
+    let start : Start = record { first = first_number c.args.dialect.header; weighted = true; known = c.args.known } in
+    (start, refl, c.in_ok-counts.ensures.read start refl)

@@ -1,9 +1,11 @@
-use Rattle.std.proofs.Common.{false, refl}
+use Rattle.std.proofs.Common.{arith, false, refl}
 use Rattle.std.proofs.lemmas.Result.{err_from_is_err_and}
 use Rattle.basket_csv.specs.Collector.{Start}
 use Rattle.basket_csv.specs.Csv.{behind_header, first_number, pairs_of, baskets_of_pairs, names_of_pairs}
 use Rattle.basket_csv.specs.Records.{records_of}
+use Rattle.basket_csv.proofs.PairLemmas.{few_groups}
 use Rattle.basket_csv.proofs.ReadLemmas.{faultless_answer, faulty_answer}
+use Rattle.basket_csv.proofs.RecordLemmas.{few_of_text}
 use Rattle.basket_csv.proofs.pairs.say_pairs.Goals as goal
 
 pub returns-in_err-add_all : goal.returns-in_err-add_all
@@ -23,3 +25,16 @@ returns g c =
     let start : Start = record { first = first_number header; weighted = false; known = known } in
     let has = c.finish.ensures known pairs (c.in_ok-add_all.ensures.read start refl c.in_ok-pairs.ensures.read) in
     faultless_answer c.finish.result _ (baskets_of_pairs known pairs) (names_of_pairs known pairs) (c.in_ok-add_all.ensures.fault start refl c.in_ok-pairs.ensures.read) has
+
+pub add_all-requires-clause-read : goal.add_all-requires-clause-read
+add_all-requires-clause-read g c =
+    let start : Start = record { first = first_number c.args.dialect.header; weighted = false; known = c.args.known } in
+    (start, refl, c.in_ok-pairs.ensures.read)
+
+pub finish-requires : goal.finish-requires
+finish-requires g c =
+    let header = c.args.dialect.header in
+    let start : Start = record { first = first_number header; weighted = false; known = c.args.known } in
+    let rows = behind_header header (records_of c.args.dialect.separator c.args.bytes.now) in
+    let has = c.in_ok-add_all.ensures.read start refl c.in_ok-pairs.ensures.read in
+    omega (arith, few_groups _ c.args.known rows has, few_of_text c.args.dialect.separator header c.args.bytes.now c.requires)
