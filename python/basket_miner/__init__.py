@@ -34,8 +34,8 @@ does the end of Python, however it comes, on Linux with the tool `setpriv` of ut
 
 The program has the package's version, or a later one of the same major version.
 
-`explore` writes a page that shows rules in a browser, and `basket_miner.frequent_patterns` has the
-calls of mlxtend.
+`recommend` says what to offer to baskets by rules, `explore` writes a page that shows rules in a
+browser, and `basket_miner.frequent_patterns` has the calls of mlxtend.
 
 All errors are of the family `BasketError`. Some have advice as a note, which a traceback shows below the message.
 """
@@ -52,6 +52,7 @@ from ._errors import (
 )
 from ._explore import explore
 from ._itemsets import closed, items, maximal, sets
+from ._recommend import recommend
 from ._rules import count, rules
 from ._version import __version__
 
@@ -70,6 +71,7 @@ __all__ = [
     "explore",
     "items",
     "maximal",
+    "recommend",
     "rules",
     "sets",
 ]
