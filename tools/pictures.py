@@ -4,18 +4,20 @@
 usage: tools/pictures.py [FOLDER]    at the top of the repository; FOLDER is docs/pictures by default
 
 It needs Debian's packages (tools/python-packages) and the program. One version of matplotlib writes the
-same bytes each time.
+same bytes each time; the page of rules is what Chromium shows.
 """
 
 import os
 import sys
+import tempfile
 from pathlib import Path
 
 ROOT = Path(__file__).resolve().parents[1]
-sys.path.insert(0, str(ROOT / "python"))
+sys.path[:0] = [str(ROOT / "python"), str(ROOT / "python/tests")]
 os.environ["MPLBACKEND"] = "agg"
 
-from basket_miner import plot, rules  # noqa: E402
+from basket_miner import explore, plot, rules  # noqa: E402
+from browser import opened  # noqa: E402
 
 RECEIPTS = ROOT / "examples/receipts.csv"
 
@@ -32,6 +34,9 @@ def main(words: list[str]) -> None:
     }
     for name, axes in pictures.items():
         axes.figure.savefig(folder / f"{name}.png", metadata={"Software": None})
+    with tempfile.TemporaryDirectory() as place, opened() as browser:
+        browser.get(explore(found, Path(place, "rules.html")).as_uri())
+        browser.save_screenshot(str(folder / "explore.png"))
 
 
 if __name__ == "__main__":

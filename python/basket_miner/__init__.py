@@ -34,7 +34,8 @@ does the end of Python, however it comes, on Linux with the tool `setpriv` of ut
 
 The program has the package's version, or a later one of the same major version.
 
-`basket_miner.frequent_patterns` has the calls of mlxtend.
+`recommend` says what to offer to baskets by rules, `explore` writes a page that shows rules in a
+browser, and `basket_miner.frequent_patterns` has the calls of mlxtend.
 
 All errors are of the family `BasketError`. Some have advice as a note, which a traceback shows below the message.
 """
@@ -49,7 +50,9 @@ from ._errors import (
     TooManySets,
     UsageError,
 )
+from ._explore import explore
 from ._itemsets import closed, items, maximal, sets
+from ._recommend import recommend
 from ._rules import count, rules
 from ._version import __version__
 
@@ -65,8 +68,10 @@ __all__ = [
     "__version__",
     "closed",
     "count",
+    "explore",
     "items",
     "maximal",
+    "recommend",
     "rules",
     "sets",
 ]

@@ -10,6 +10,7 @@ import os
 import re
 import shutil
 import subprocess
+import sys
 from collections.abc import Callable, Iterator
 from dataclasses import dataclass
 from fractions import Fraction
@@ -59,13 +60,15 @@ def section_at(found: re.Match[str]) -> str:
 
 @pytest.fixture(scope="module")
 def place(tmp_path_factory: pytest.TempPathFactory) -> Iterator[Path]:
-    """A folder with the examples, and the program on the path."""
+    """A folder with the examples, where a shell finds the program and the package."""
     folder = tmp_path_factory.mktemp("guide")
     (folder / "examples").symlink_to(ROOT / "examples")
     (folder / "basket").symlink_to(find().resolve())
+    (folder / "python3").symlink_to(sys.executable)
     with pytest.MonkeyPatch.context() as patch:
         patch.chdir(folder)
         patch.setenv("PATH", f"{folder}:{os.environ['PATH']}")
+        patch.setenv("PYTHONPATH", str(ROOT / "python"))
         yield folder
 
 
@@ -105,7 +108,7 @@ def test_a_block_prints_what_the_guide_shows(
 
 def test_the_pictures_that_the_guide_shows_are_there() -> None:
     shown = re.findall(r"!\[[^]]+\]\(([^)]+)\)", GUIDE)
-    assert len(shown) == 3
+    assert len(shown) == 4
     assert [name for name in shown if not (ROOT / "docs" / name).is_file()] == []
 
 

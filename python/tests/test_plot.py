@@ -192,8 +192,9 @@ def test_the_pictures_of_the_documents_are_those_that_the_script_makes(
     subprocess.run([sys.executable, ROOT / "tools/pictures.py", tmp_path], check=True)
     made = sorted(tmp_path.iterdir())
     assert [file.name for file in made] == [
-        *("minimums.png", "rules.png", "strongest.png")
+        *("explore.png", "minimums.png", "rules.png", "strongest.png")
     ]
-    for file in made:
+    # Each version of Chromium draws a page in its own way.
+    for file in made[1:]:
         shown = matplotlib.image.imread(ROOT / "docs/pictures" / file.name)
         assert np.array_equal(matplotlib.image.imread(file), shown), file.name

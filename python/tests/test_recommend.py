@@ -1,0 +1,134 @@
+"""Offers are those of the definition: rules whose antecedents a basket has and whose consequents it lacks."""
+
+import random
+from collections.abc import Callable
+from fractions import Fraction
+from pathlib import Path
+from typing import Any
+
+import pandas as pd
+import pytest
+
+import brute
+from basket_miner import DataError, recommend, rules
+from basket_miner.frequent_patterns import apriori, association_rules
+
+RECEIPTS = Path(__file__).parents[2] / "examples/receipts.csv"
+SHOP = rules(RECEIPTS, 2, "1/4", form="single", header=True)
+COLUMNS = ["basket", "item", "rule", "count", "confidence", "lift"]
+
+
+def test_a_basket_gets_what_its_rules_have_and_it_lacks() -> None:
+    found = recommend(SHOP, [["tea"], ["jam"], ["milk", "tea"], []], by="confidence")
+    assert list(found.columns) == COLUMNS
+    rows = [
+        *found[["basket", "item", "count", "confidence", "lift"]].to_numpy().tolist()
+    ]
+    # Of jam's rules that always hold the one with both is of the highest lift, 15/7.
+    assert rows[:3] == [
+        [0, "milk", 3, 1.0, 1.25],
+        [1, "bread", 2, 1.0, 15 / 7],
+        [1, "milk", 2, 1.0, 15 / 7],
+    ]
+    assert {(basket, item) for basket, item, *_ in rows[3:]} == {
+        *[(2, "bread"), (2, "butter")]
+    }
+    for row in found.itertuples():
+        rule = SHOP.loc[row.rule]
+        assert row.item in rule["consequents"]
+        assert (row.count, row.lift) == (rule["count"], rule["lift"])
+
+
+@pytest.mark.parametrize("by", ["lift", "confidence", "count"])
+@pytest.mark.parametrize("top", [1, 2, 9])
+def test_offers_are_those_of_brute_force(by: Any, top: int) -> None:
+    chance = random.Random(top)
+    baskets = [chance.sample("abcdef", chance.randint(1, 5)) for _ in range(40)]
+    found = rules(baskets[:20], 2, "1/4", exact=True)
+    offers = recommend(found, baskets[20:], top, by, exact=True)
+    known = brute.rules(baskets[:20], 2, Fraction(1, 4))
+    wanted = []
+    for place, basket in enumerate(baskets[20:]):
+        best: dict[Any, tuple[Any, ...]] = {}
+        for label, left, right in found[["antecedents", "consequents"]].itertuples():
+            if left <= {*basket} and not right & {*basket}:
+                count, confidence, lift = known[left, right]
+                figures = {"lift": lift, "confidence": confidence, "count": count}
+                key = (figures[by], lift, confidence, count, -label)
+                for item in right:
+                    best[item] = max(best.get(item, key), key)
+        ranked = sorted(best, key=str)
+        ranked.sort(key=best.__getitem__, reverse=True)
+        wanted += [
+            (place, item, -best[item][4], best[item][3], *best[item][2:0:-1])
+            for item in ranked[:top]
+        ]
+    exact = [*COLUMNS[:4], "exact_confidence", "exact_lift"]
+    assert len(wanted) > 15
+    assert [*offers[exact].itertuples(index=False, name=None)] == wanted
+    for name in ("confidence", "lift"):
+        assert offers[name].tolist() == [*map(float, offers[f"exact_{name}"])]
+
+
+def test_all_forms_of_baskets_get_the_same_offers() -> None:
+    receipts = pd.read_csv(RECEIPTS)
+    mixed = receipts.sample(frac=1, random_state=3)
+    wide = pd.crosstab(receipts["receipt"], receipts["product"]) > 0
+    lists = receipts.groupby("receipt")["product"].agg(list)
+    wanted = recommend(SHOP, lists.tolist())
+    wanted["basket"] = wanted["basket"].map(dict(enumerate(lists.index)))
+    assert len(wanted) > 30
+    for given, options in (
+        *[(wide, {}), (wide.astype(int), {}), (wide.astype("boolean"), {})],
+        (receipts, {"basket": "receipt", "item": "product"}),
+        (mixed, {"basket": "receipt", "item": "product"}),
+    ):
+        found = recommend(SHOP, given, **options)  # type: ignore[arg-type]
+        found = found.sort_values("basket", kind="stable").reset_index(drop=True)
+        pd.testing.assert_frame_equal(found, wanted)
+
+
+def test_rules_of_mlxtends_calls_make_offers() -> None:
+    wide = pd.DataFrame({"a": [1, 1, 0], "b": [1, 0, 1]})
+    found = association_rules(
+        apriori(wide, 0.3, use_colnames=True), metric="lift", min_threshold=0
+    )
+    offers = recommend(found, wide)
+    assert offers[["basket", "item", "count"]].to_numpy().tolist() == [
+        [1, "b", 1],
+        [2, "a", 1],
+    ]
+
+
+def test_no_rule_and_no_basket_make_no_offer() -> None:
+    none: list[list[str]] = []
+    for found, baskets in ((SHOP.head(0), [["tea"]]), (SHOP, none), (SHOP, [["figs"]])):
+        offers = recommend(found, baskets)
+        assert list(offers.columns) == COLUMNS and offers.empty
+
+
+@pytest.mark.parametrize(
+    ("said", "call"),
+    [
+        ("by is one of lift", lambda: recommend(SHOP, [["tea"]], by="support")),  # type: ignore[arg-type]
+        ("at least 1, not 0", lambda: recommend(SHOP, [["tea"]], 0)),
+        ("iterable of items, not 'tea'", lambda: recommend(SHOP, ["tea"])),
+        ("data frame or an iterable", lambda: recommend(SHOP, RECEIPTS)),
+        ("go with a data frame", lambda: recommend(SHOP, [["tea"]], item="product")),
+        ("needs both", lambda: recommend(SHOP, SHOP, item="product")),
+        ("no column 'r'", lambda: recommend(SHOP, SHOP, basket="r", item="p")),
+        (
+            "missing values",
+            lambda: recommend(
+                SHOP,
+                pd.DataFrame({"r": [1, 2], "p": ["a", None]}),
+                basket="r",
+                item="p",
+            ),
+        ),
+        ("no column 'lift'", lambda: recommend(SHOP.drop(columns="lift"), [["tea"]])),
+    ],
+)
+def test_what_does_not_fit_is_refused(said: str, call: Callable[[], Any]) -> None:
+    with pytest.raises(DataError, match=said):
+        call()
