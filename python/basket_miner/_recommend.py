@@ -54,7 +54,7 @@ def recommend(
         by: the figure that makes a rule better.
         exact: adds `exact_confidence` and `exact_lift`, of `Fraction`.
 
-    Answers a row for each offer, in the order of the baskets: `basket` (its id, the label of its row, or
+    Returns a row for each offer, in the order of the baskets: `basket` (its id, the label of its row, or
     its place in the iterable), `item`, `rule` (the label of the rule's row), `count`, `confidence` and
     `lift`. Raises `DataError` where the rules, the baskets or an argument do not fit.
     """
