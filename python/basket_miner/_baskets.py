@@ -1,7 +1,7 @@
 """Baskets as the program reads them, and the labels that its numbers stand for."""
 
 from collections.abc import Hashable, Sequence
-from dataclasses import dataclass
+from dataclasses import dataclass, field
 from pathlib import Path
 from typing import Any
 
@@ -18,7 +18,7 @@ _TOKENS_AT_ONCE = 1 << 22
 
 @dataclass(frozen=True)
 class Baskets:
-    """An input of the program.
+    """An input of the program, as `basket_miner.baskets` returns it.
 
     Args:
         source: its bytes, or its file.
@@ -29,9 +29,9 @@ class Baskets:
         separator: of a report that is CSV, else nothing.
     """
 
-    source: bytes | Path
+    source: bytes | Path = field(repr=False)
     words: tuple[str, ...] = ()
-    labels: Labels | None = None
+    labels: Labels | None = field(default=None, repr=False)
     weight: int | None = None
     separator: str | None = None
 

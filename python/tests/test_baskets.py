@@ -225,3 +225,24 @@ def test_values_of_a_column_of_objects_come_back_as_they_were_given(
     back = [item for itemset in found["itemsets"] for item in itemset]
     assert list(map(type, back)) == list(map(type, labels))
     assert list(map(repr, back)) == list(map(repr, labels))
+
+
+def test_prepared_baskets_answer_as_what_they_were_made_of(tmp_path: Path) -> None:
+    path = tmp_path / "baskets.csv"
+    with path.open("w", newline="") as file:
+        csv.writer(file, lineterminator="\n").writerows(BASKETS)
+    rows = {"basket": "receipt", "item": "product", "weight": "times"}
+    forms: list[tuple[Any, dict[str, Any]]] = [(long_frame(), rows), (BASKETS, {})]
+    for data, options in [*forms, (path, {"form": "baskets"})]:
+        prepared = miner.baskets(data, **options)
+        assert len(repr(prepared)) < 200
+        for question, words in (
+            (miner.sets, (LEAST,)),
+            (miner.rules, ("10%", 0.5)),
+            (miner.count, ([["tea"], ["figs"]],)),
+        ):
+            wanted = question(data, *words, **options)  # type: ignore[operator]
+            found = question(prepared, *words)  # type: ignore[operator]
+            pd.testing.assert_frame_equal(found, wanted)
+        with pytest.raises(miner.DataError, match="item= does not go with prepared"):
+            miner.sets(prepared, 1, item="product")
