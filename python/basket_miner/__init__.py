@@ -18,7 +18,7 @@ in the order of its report. All take the baskets as one of these:
 Labels come back as they were given; those of a FIMI file are `int`, those of CSV `str`. A weight
 is a whole number from 1 to 4,294,967,295, and stands for that many equal baskets. Missing values
 are refused (`DataError`), and with `missing="drop"` left out. A basket without an item is none:
-it counts in no support and no share. Rows of an answer stand in the order of the program's
+it counts in no support and no share, unless `baskets` is told the `total`. Rows of an answer stand in the order of the program's
 report, where items are numbered by their first appearance, or by the places of their columns.
 
 `minimum`, the least support, is a count of baskets as an `int` from 1 on, or a share of all
@@ -40,7 +40,8 @@ The program has the package's version, or a later one of the same major version.
 `tidy` makes a row an item, `recommend` says what to offer to baskets by rules, `explore` writes a
 page that shows rules in a browser, and `basket_miner.frequent_patterns` has the calls of mlxtend.
 
-All errors are of the family `BasketError`. Some have advice as a note, which a traceback shows below the message.
+All errors are of the family `BasketError`. Some have advice as a note, which a traceback shows below the message;
+`TooManySets.limit` and `InputError.line` are the numbers that the message has.
 """
 
 from ._baskets import Baskets

@@ -146,3 +146,20 @@ def test_what_no_advice_fits_has_no_note() -> None:
     for status, said in ((2, "error: x"), (3, "basket: record 1: bad weight"), (9, "")):
         assert notes_of(error_of(status, said)) == []
     assert notes_of(error_of(-9, "")) == []
+
+
+def test_exceptions_have_what_a_caller_acts_on(tmp_path: Path) -> None:
+    with pytest.raises(miner.TooManySets) as many:
+        miner.sets(BASKETS, 1, limit=1)
+    assert (many.value.limit, many.value.status) == (1, 5)
+    path = tmp_path / "shop.dat"
+    path.write_text("1 2\n1 -2\n")
+    with pytest.raises(miner.InputError) as line:
+        miner.sets(path, 1)
+    assert (line.value.line, line.value.status) == (2, 3)
+    path.write_text("a,b\nc\n")
+    with pytest.raises(miner.InputError) as record:
+        miner.sets(path, 1, form="single")
+    assert record.value.line == 2
+    assert pickle.loads(pickle.dumps(line.value)).line == 2
+    assert miner.DataError("no").status is None
