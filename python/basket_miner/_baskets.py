@@ -27,6 +27,7 @@ class Baskets:
             numbers or names, are the labels.
         weight: what all baskets weigh together, where it is known without the program.
         separator: of a report that is CSV, else nothing.
+        total: how many baskets there are, if those without an item count too.
     """
 
     source: bytes | Path = field(repr=False)
@@ -34,6 +35,7 @@ class Baskets:
     labels: Labels | None = field(default=None, repr=False)
     weight: int | None = None
     separator: str | None = None
+    total: int | None = None
 
 
 def baskets_of(

@@ -1,10 +1,11 @@
 """What a caller may give as baskets."""
 
 import itertools
+import numbers
 import os
 import re
 from collections.abc import Hashable, Mapping
-from dataclasses import dataclass, fields
+from dataclasses import dataclass, fields, replace
 from pathlib import Path
 from typing import Any, Literal
 
@@ -84,15 +85,23 @@ def baskets(
     sep: str | None = None,
     header: bool = False,
     weighted: bool = False,
+    total: int | None = None,
 ) -> Baskets:
     """Baskets that many questions are asked of, made for the program once.
 
     Takes the baskets as the package's documentation says, and returns what each question takes in
     their place, without a keyword that says how they lie. A path is kept as it is: each question
     reads the file.
+
+    `total` is what all baskets weigh together, also those without an item and those that were
+    left out before: supports, minimums and lifts are then shares of it. A question raises
+    `DataError` if the baskets that it sees weigh more.
     """
+    is_whole = isinstance(total, numbers.Integral) and not isinstance(total, bool)
+    if total is not None and (not is_whole or total < 1):
+        raise DataError(f"total is a number from 1 on, not {total!r}")
     layout = Layout(basket, item, weight, names, missing, form, sep, header, weighted)
-    return read(data, layout)
+    return replace(read(data, layout), total=total)
 
 
 def _refuse_others(layout: Layout, allowed: str, what: str) -> None:

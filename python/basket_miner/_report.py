@@ -88,18 +88,32 @@ def rules_frame(
         found = _numbered_rules(report, baskets.labels, weight)
     else:
         found = _named_rules(report, baskets.separator)
+    whole, lifts = whole_of(baskets, weight), found.lifts
+    if whole != weight:
+        lifts = lifts[0].astype(object) * whole, lifts[1].astype(object) * weight
     columns = {
         "antecedents": _objects(found.antecedents),
         "consequents": _objects(found.consequents),
-        **_supports(found.counts, weight),
+        **_supports(found.counts, whole),
         "confidence": _quotients(found.confidences),
-        "lift": _quotients(found.lifts),
+        "lift": _quotients(lifts),
     }
     if exact:
-        columns["exact_support"] = _exact(found.counts, weight)
+        columns["exact_support"] = _exact(found.counts, whole)
         columns["exact_confidence"] = _fractions(found.confidences)
-        columns["exact_lift"] = _fractions(found.lifts)
+        columns["exact_lift"] = _fractions(lifts)
     return pd.DataFrame(columns)
+
+
+def whole_of(baskets: Baskets, weight: int) -> int:
+    """What supports are shares of: the total that the caller told, or the weight of the baskets."""
+    if baskets.total is None:
+        return weight
+    if weight > baskets.total:
+        raise DataError(
+            f"the total is {baskets.total}, but the baskets with an item weigh {weight}"
+        )
+    return baskets.total
 
 
 def _numbered_sets(report: bytes, labels: Labels | None) -> tuple[list[Itemset], Array]:
