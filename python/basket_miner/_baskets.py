@@ -37,6 +37,16 @@ class Baskets:
     separator: str | None = None
     total: int | None = None
 
+    def whole(self, weight: int) -> int:
+        """What supports are shares of: the total, or where there is none the weight of the baskets."""
+        if self.total is None:
+            return weight
+        if weight > self.total:
+            raise DataError(
+                f"the total is {self.total}, but the baskets with an item weigh {weight}"
+            )
+        return self.total
+
 
 def baskets_of(
     places: Array, numbers: Array, labels: Labels, weights: Array | None = None

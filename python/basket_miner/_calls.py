@@ -18,7 +18,7 @@ from ._errors import DataError, FileError
 from ._files import kept, state_of
 from ._minimum import exact_minimum, least_count
 from ._program import run
-from ._report import rules_frame, sets_frame, whole_of
+from ._report import rules_frame, sets_frame
 
 Miner = Literal["apriori", "eclat", "eclat-diff", "eclat-bits", "fpgrowth"]
 
@@ -48,9 +48,8 @@ def asked(
 ) -> pd.DataFrame:
     """The frame of the report of a command over the caller's data."""
     baskets = read(data, layout)
-    minimum = exact_minimum(words[0].removeprefix("--min="))
     if baskets.total is not None:
-        words = [f"--min={least_count(minimum, baskets.total)}", *words[1:]]
+        words = [f"--min={_least(words[0], baskets.total)}", *words[1:]]
     command_line = [command, *words, *work.words(), *baskets.words]
     with kept(baskets.source) as source:
         before = state_of(source)
@@ -61,11 +60,16 @@ def asked(
     if command == "rules":
         frame = rules_frame(report, baskets, weight, exact=work.exact)
     else:
-        whole = whole_of(baskets, weight)
+        whole = baskets.whole(weight)
         frame = sets_frame(report, baskets, whole, exact=work.exact)
     # Whoever draws the frame sees below which count it has nothing.
-    frame.attrs["minimum"] = least_count(minimum, baskets.total or weight)
+    frame.attrs["minimum"] = _least(words[0], weight)
     return frame
+
+
+def _least(word: str, weight: int) -> int:
+    """The least count that meets the minimum of a word of the program in baskets of a weight."""
+    return least_count(exact_minimum(word.removeprefix("--min=")), weight)
 
 
 def _weight_of(baskets: Baskets, source: bytes | Path) -> int:
@@ -98,7 +102,7 @@ def counted(
     if baskets.total is not None:
         # The first line is the empty set.
         first, _, others = report.partition(b"\n")
-        whole = whole_of(baskets, int(first.strip(b"()")))
+        whole = baskets.whole(int(first.strip(b"()")))
         line = b"(%d)\n" if baskets.separator is None else b"%d\n"
         report = line % whole + others
     return sets_frame(report, baskets, exact=work.exact)

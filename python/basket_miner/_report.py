@@ -88,7 +88,7 @@ def rules_frame(
         found = _numbered_rules(report, baskets.labels, weight)
     else:
         found = _named_rules(report, baskets.separator)
-    whole, lifts = whole_of(baskets, weight), found.lifts
+    whole, lifts = baskets.whole(weight), found.lifts
     if whole != weight:
         lifts = lifts[0].astype(object) * whole, lifts[1].astype(object) * weight
     columns = {
@@ -103,17 +103,6 @@ def rules_frame(
         columns["exact_confidence"] = _fractions(found.confidences)
         columns["exact_lift"] = _fractions(lifts)
     return pd.DataFrame(columns)
-
-
-def whole_of(baskets: Baskets, weight: int) -> int:
-    """What supports are shares of: the total that the caller told, or the weight of the baskets."""
-    if baskets.total is None:
-        return weight
-    if weight > baskets.total:
-        raise DataError(
-            f"the total is {baskets.total}, but the baskets with an item weigh {weight}"
-        )
-    return baskets.total
 
 
 def _numbered_sets(report: bytes, labels: Labels | None) -> tuple[list[Itemset], Array]:
