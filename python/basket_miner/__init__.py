@@ -12,18 +12,21 @@ in the order of its report. All take the baskets as one of these:
 - a matrix of `scipy.sparse` with a row for each basket; `names=` are the labels of its columns;
 - the path of a file: `form=` "fimi", or of CSV "baskets" (a basket a record) or "single" (a
   basket's id and an item a record), with `sep=`, `header=` and `weighted=` (a record begins
-  with its weight) as the program has them. A pipe or `/dev/stdin` is copied into a temporary file.
+  with its weight) as the program has them. A pipe or `/dev/stdin` is copied into a temporary file;
+- what `baskets` returns of one of these, for many questions.
 
 Labels come back as they were given; those of a FIMI file are `int`, those of CSV `str`. A weight
 is a whole number from 1 to 4,294,967,295, and stands for that many equal baskets. Missing values
 are refused (`DataError`), and with `missing="drop"` left out. A basket without an item is none:
-it counts in no support and no share. Rows of an answer stand in the order of the program's
+it counts in no support and no share, unless `baskets` is told the `total`. Rows of an answer stand in the order of the program's
 report, where items are numbered by their first appearance, or by the places of their columns.
 
 `minimum`, the least support, is a count of baskets as an `int` from 1 on, or a share of all
 baskets: a `float` from 0 to 1, which means the decimal that it prints (0.005 is 1/200 exactly), a
-`fractions.Fraction`, or a text as the program takes it: "20", "5%", "1/200". So 1 is one basket,
-and 1.0 is all of them. A share that is no fraction of numbers up to 4,294,967,295 is refused.
+`decimal.Decimal`, a `fractions.Fraction`, or a text as the program takes it: "20", "5%", "1/200".
+So 1 is one basket, and 1.0 is all of them. A computed float, as 50 / 300 or one of `numpy.arange`,
+means the nearest fraction of numbers up to 67,108,864. A `Fraction` of numbers above 4,294,967,295
+is refused.
 
 More keywords: `miner` ("apriori", the program's default, "eclat", "eclat-diff", "eclat-bits",
 "fpgrowth") and `workers` (threads, from 1 to 64) change time and memory, and no answer; `limit`
@@ -34,12 +37,15 @@ does the end of Python, however it comes, on Linux with the tool `setpriv` of ut
 
 The program has the package's version, or a later one of the same major version.
 
-`recommend` says what to offer to baskets by rules, `explore` writes a page that shows rules in a
-browser, and `basket_miner.frequent_patterns` has the calls of mlxtend.
+`tidy` makes a row an item, `recommend` says what to offer to baskets by rules, `explore` writes a
+page that shows rules in a browser, and `basket_miner.frequent_patterns` has the calls of mlxtend.
 
-All errors are of the family `BasketError`. Some have advice as a note, which a traceback shows below the message.
+All errors are of the family `BasketError`. Some have advice as a note, which a traceback shows below the message;
+`TooManySets.limit` and `InputError.line` are the numbers that the message has.
 """
 
+from ._baskets import Baskets
+from ._data import baskets
 from ._errors import (
     BasketError,
     DataError,
@@ -54,10 +60,12 @@ from ._explore import explore
 from ._itemsets import closed, items, maximal, sets
 from ._recommend import recommend
 from ._rules import count, rules
+from ._tidy import tidy
 from ._version import __version__
 
 __all__ = [
     "BasketError",
+    "Baskets",
     "DataError",
     "FileError",
     "InputError",
@@ -66,6 +74,7 @@ __all__ = [
     "TooManySets",
     "UsageError",
     "__version__",
+    "baskets",
     "closed",
     "count",
     "explore",
@@ -74,4 +83,5 @@ __all__ = [
     "recommend",
     "rules",
     "sets",
+    "tidy",
 ]

@@ -1,7 +1,7 @@
 """Baskets as the program reads them, and the labels that its numbers stand for."""
 
 from collections.abc import Hashable, Sequence
-from dataclasses import dataclass
+from dataclasses import dataclass, field
 from pathlib import Path
 from typing import Any
 
@@ -18,7 +18,7 @@ _TOKENS_AT_ONCE = 1 << 22
 
 @dataclass(frozen=True)
 class Baskets:
-    """An input of the program.
+    """An input of the program, as `basket_miner.baskets` returns it.
 
     Args:
         source: its bytes, or its file.
@@ -27,13 +27,25 @@ class Baskets:
             numbers or names, are the labels.
         weight: what all baskets weigh together, where it is known without the program.
         separator: of a report that is CSV, else nothing.
+        total: how many baskets there are, if those without an item count too.
     """
 
-    source: bytes | Path
+    source: bytes | Path = field(repr=False)
     words: tuple[str, ...] = ()
-    labels: Labels | None = None
+    labels: Labels | None = field(default=None, repr=False)
     weight: int | None = None
     separator: str | None = None
+    total: int | None = None
+
+    def whole(self, weight: int) -> int:
+        """What supports are shares of: the total, or where there is none the weight of the baskets."""
+        if self.total is None:
+            return weight
+        if weight > self.total:
+            raise DataError(
+                f"the total is {self.total}, but the baskets with an item weigh {weight}"
+            )
+        return self.total
 
 
 def baskets_of(

@@ -6,7 +6,7 @@ import numbers
 import os
 import tempfile
 from collections.abc import Hashable, Iterable
-from dataclasses import dataclass
+from dataclasses import dataclass, replace
 from pathlib import Path
 from typing import Any, Literal
 
@@ -48,6 +48,8 @@ def asked(
 ) -> pd.DataFrame:
     """The frame of the report of a command over the caller's data."""
     baskets = read(data, layout)
+    if baskets.total is not None:
+        words = [f"--min={_least(words[0], baskets.total)}", *words[1:]]
     command_line = [command, *words, *work.words(), *baskets.words]
     with kept(baskets.source) as source:
         before = state_of(source)
@@ -58,11 +60,16 @@ def asked(
     if command == "rules":
         frame = rules_frame(report, baskets, weight, exact=work.exact)
     else:
-        frame = sets_frame(report, baskets, weight, exact=work.exact)
-    minimum = exact_minimum(words[0].removeprefix("--min="))
+        whole = baskets.whole(weight)
+        frame = sets_frame(report, baskets, whole, exact=work.exact)
     # Whoever draws the frame sees below which count it has nothing.
-    frame.attrs["minimum"] = least_count(minimum, weight)
+    frame.attrs["minimum"] = _least(words[0], weight)
     return frame
+
+
+def _least(word: str, weight: int) -> int:
+    """The least count that meets the minimum of a word of the program in baskets of a weight."""
+    return least_count(exact_minimum(word.removeprefix("--min=")), weight)
 
 
 def _weight_of(baskets: Baskets, source: bytes | Path) -> int:
@@ -92,6 +99,12 @@ def counted(
         words = ["count", f"--sets={file.name}", *work.words(), *baskets.words]
         with kept(baskets.source) as source:
             report = run(words, source, progress=work.progress)
+    if baskets.total is not None:
+        # The first line is the empty set.
+        first, _, others = report.partition(b"\n")
+        whole = baskets.whole(int(first.strip(b"()")))
+        line = b"(%d)\n" if baskets.separator is None else b"%d\n"
+        report = line % whole + others
     return sets_frame(report, baskets, exact=work.exact)
 
 
@@ -122,8 +135,7 @@ def _as_numbers(baskets: Baskets, sets: list[list[Hashable]]) -> tuple[Baskets, 
         % _joined(numbering.setdefault(item, len(numbering)) for item in itemset)
         for itemset in sets
     ]
-    known = Baskets(baskets.source, baskets.words, [*numbering], baskets.weight)
-    return known, b"".join(lines)
+    return replace(baskets, labels=[*numbering]), b"".join(lines)
 
 
 def _joined(items: Iterable[object]) -> bytes:

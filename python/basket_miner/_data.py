@@ -1,10 +1,11 @@
 """What a caller may give as baskets."""
 
 import itertools
+import numbers
 import os
 import re
 from collections.abc import Hashable, Mapping
-from dataclasses import dataclass, fields
+from dataclasses import dataclass, fields, replace
 from pathlib import Path
 from typing import Any, Literal
 
@@ -15,7 +16,7 @@ from ._baskets import Baskets, Labels, baskets_of
 from ._errors import DataError
 from ._frames import is_missing, long_frame, matrix, wide_frame
 
-# A data frame, a sparse matrix, an iterable of iterables of labels, or a path.
+# A data frame, a sparse matrix, an iterable of iterables of labels, a path, or `Baskets`.
 Data = Any
 Missing = Literal["refuse", "drop"]
 Form = Literal["fimi", "baskets", "single"]
@@ -50,6 +51,9 @@ def read(data: Data, layout: Layout) -> Baskets:
     if layout.missing not in ("refuse", "drop"):
         raise DataError(f'missing is "refuse" or "drop", not {layout.missing!r}')
     drop = layout.missing == "drop"
+    if isinstance(data, Baskets):
+        _refuse_others(layout, "", "prepared baskets")
+        return data
     if isinstance(data, (str, os.PathLike)):
         _refuse_others(layout, "form sep header weighted", "a path")
         _refuse_no_path(data)
@@ -67,6 +71,37 @@ def read(data: Data, layout: Layout) -> Baskets:
         return matrix(data, layout.names)
     _refuse_others(layout, "missing", "an iterable of baskets")
     return _iterable(data, drop)
+
+
+def baskets(
+    data: Data,
+    *,
+    basket: Hashable | None = None,
+    item: Hashable | None = None,
+    weight: Hashable | None = None,
+    names: Labels | None = None,
+    missing: Missing = "refuse",
+    form: Form | None = None,
+    sep: str | None = None,
+    header: bool = False,
+    weighted: bool = False,
+    total: int | None = None,
+) -> Baskets:
+    """Baskets that many questions are asked of, made for the program once.
+
+    Takes the baskets as the package's documentation says, and returns what each question takes in
+    their place, without a keyword that says how they lie. A path is kept as it is: each question
+    reads the file.
+
+    `total` is what all baskets weigh together, also those without an item and those that were
+    left out before: supports, minimums and lifts are then shares of it. A question raises
+    `DataError` if the baskets that it sees weigh more.
+    """
+    is_whole = isinstance(total, numbers.Integral) and not isinstance(total, bool)
+    if total is not None and (not is_whole or total < 1):
+        raise DataError(f"total is a number from 1 on, not {total!r}")
+    layout = Layout(basket, item, weight, names, missing, form, sep, header, weighted)
+    return replace(read(data, layout), total=total)
 
 
 def _refuse_others(layout: Layout, allowed: str, what: str) -> None:

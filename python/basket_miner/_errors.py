@@ -11,6 +11,9 @@ from typing import NamedTuple
 class BasketError(Exception):
     """Whatever goes wrong here. The message is the program's, where it has one."""
 
+    # The program's exit status, where this exception stands for one.
+    status: int | None = None
+
     def __init__(self, *told: object) -> None:
         super().__init__(*told)
         for advice in _ADVICE:
@@ -22,21 +25,43 @@ class BasketError(Exception):
 class UsageError(BasketError):
     """The program does not take the words of its command line (status 2)."""
 
+    status = 2
+
 
 class InputError(BasketError):
     """The program refuses the input, and tells the line or the record (status 3)."""
+
+    status = 3
+
+    @property
+    def line(self) -> int | None:
+        """The number of the line or the record that is refused, from 1 on, if the message has one."""
+        found = re.search(r"(line|record) (\d+):", str(self))
+        return int(found[2]) if found else None
 
 
 class FileError(BasketError):
     """A file could not be opened, read or written (status 4)."""
 
+    status = 4
+
 
 class TooManySets(BasketError):
     """There are more frequent itemsets than the limit (status 5)."""
 
+    status = 5
+
+    @property
+    def limit(self) -> int | None:
+        """How many frequent itemsets there may be at most, if the message says so."""
+        found = re.search(r"more than (\d+) ", str(self))
+        return int(found[1]) if found else None
+
 
 class OutOfMemory(BasketError):
     """The program had too little memory (status 6)."""
+
+    status = 6
 
 
 class ProgramMissing(BasketError):
@@ -47,12 +72,9 @@ class DataError(BasketError, ValueError):
     """This package refuses the data, a minimum or an argument before the program runs."""
 
 
-_BY_STATUS: dict[int, type[BasketError]] = {
-    2: UsageError,
-    3: InputError,
-    4: FileError,
-    5: TooManySets,
-    6: OutOfMemory,
+_BY_STATUS = {
+    kind.status: kind
+    for kind in (UsageError, InputError, FileError, TooManySets, OutOfMemory)
 }
 
 

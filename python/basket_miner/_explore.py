@@ -60,7 +60,7 @@ def _names(side: Iterable[Any]) -> list[str]:
 
 
 def _page(data: dict[str, Any]) -> str:
-    script = _text("page.js") + _text("plot.js")
+    script = "".join(map(_text, ("page.js", "axes.js", "plot.js")))
     digest = base64.b64encode(hashlib.sha256(script.encode()).digest()).decode()
     parts = {
         # Names are data: no name can end the element that holds them, and no other script runs.

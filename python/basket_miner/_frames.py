@@ -56,10 +56,32 @@ def wide_frame(frame: pd.DataFrame, weight: Hashable | None, drop: bool) -> Bask
     labels = distinct(frame.columns.tolist(), "column")
     if not labels:
         raise DataError("the frame has no column of an item")
+    if (table := _table(frame, drop)) is not None:
+        rows, columns = np.nonzero(table)
+        return baskets_of(rows, columns, labels, weights)
     trues = [_trues(frame.iloc[:, at], drop) for at in range(len(labels))]
     numbers = np.repeat(np.arange(len(labels)), [len(places) for places in trues])
     places, numbers = grouped(np.concatenate(trues), numbers)
     return baskets_of(places, numbers, labels, weights)
+
+
+def _table(frame: pd.DataFrame, drop: bool) -> Array | None:
+    """For each row and column whether it is true, or 1; nothing where this takes a look at each
+    column by itself.
+    """
+    kinds = {
+        dtype.kind if isinstance(dtype, np.dtype) else str(dtype)
+        for dtype in frame.dtypes
+    }
+    if kinds == {"b"}:
+        return np.asarray(frame.to_numpy())
+    if kinds == {"boolean"} and (drop or not frame.isna().any(axis=None)):
+        return np.asarray(frame.to_numpy(dtype=bool, na_value=False))
+    if kinds <= {"i", "u"}:
+        values = frame.to_numpy()
+        is_one = values == 1
+        return is_one if (is_one | (values == 0)).all() else None
+    return None
 
 
 def matrix(values: Any, names: Labels | None) -> Baskets:

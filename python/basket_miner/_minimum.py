@@ -2,15 +2,18 @@
 
 import math
 import numbers
+from decimal import Decimal
 from fractions import Fraction
 
 from ._errors import DataError
 
-Minimum = int | float | Fraction | str
-Confidence = float | Fraction | str
+Minimum = int | float | Fraction | Decimal | str
+Confidence = float | Fraction | Decimal | str
 
 MOST_COUNT = 2**40 - 1
 MOST_PART = 2**32 - 1
+# Two different fractions of numbers up to this are more than the rounding of a float apart.
+_MOST_PART_OF_FLOATS = 2**26
 
 
 def minimum_word(minimum: Minimum) -> str:
@@ -19,12 +22,15 @@ def minimum_word(minimum: Minimum) -> str:
     Args:
         minimum: an `int` is a count of baskets, from 1 to 1,099,511,627,775. A `float` is a
             share of all baskets, from 0 to 1, and means the decimal that it prints: 0.005 is
-            1/200 exactly. A `Fraction` is a share too, and so 1.0 is all baskets where 1 is
-            one of them. A text is taken as the program takes it: "20", "5%", "1/200".
+            1/200 exactly. If that has too many digits for the program, as that of 50 / 300, the
+            float means the nearest fraction of numbers up to 67,108,864: it is 1/6, of which it
+            was computed. So does a `Decimal`. A `Fraction` is a share too, and so 1.0 is all
+            baskets where 1 is one of them. A text is taken as the program takes it: "20", "5%",
+            "1/200".
 
     Raises:
-        DataError: it is none of these, out of its range, or a share that has no fraction of
-            numbers up to 4,294,967,295.
+        DataError: it is none of these, out of its range, or a `Fraction` of a number above
+            4,294,967,295.
     """
     count = _whole(minimum)
     if count is None:
@@ -59,16 +65,25 @@ def least_count(minimum: int | Fraction, total: int) -> int:
 
 
 def share_of(value: object) -> Fraction | None:
-    """The share that a `Fraction` is or a float prints, or nothing."""
+    """The share that a `Fraction` is, or that a float or a `Decimal` means, or nothing."""
     if isinstance(value, Fraction):
         return value
+    if isinstance(value, Decimal) and value.is_finite():
+        return _nearest(Fraction(value))
     # Of the floats of numpy only `float64` is a `float`; each prints its decimal by `str`.
     is_float = isinstance(value, numbers.Real) and not isinstance(
         value, numbers.Rational
     )
     if is_float and math.isfinite(value):  # type: ignore[arg-type]
-        return Fraction(str(value))
+        return _nearest(Fraction(str(value)))
     return None
+
+
+def _nearest(decimal: Fraction) -> Fraction:
+    """A decimal, or where that has too many digits for the program the fraction that it rounds."""
+    if decimal.denominator <= MOST_PART:
+        return decimal
+    return decimal.limit_denominator(_MOST_PART_OF_FLOATS)
 
 
 def _whole(value: object) -> int | None:

@@ -10,6 +10,7 @@ from typing import Any, Literal
 import numpy as np
 import pandas as pd
 
+from ._baskets import Baskets
 from ._data import Data
 from ._errors import DataError
 from ._frames import column_of, numbered
@@ -155,7 +156,7 @@ def _baskets(
         return
     if basket is not None or item is not None:
         raise DataError("basket= and item= go with a data frame")
-    if isinstance(data, (str, os.PathLike)) or hasattr(data, "tocsr"):
+    if isinstance(data, (str, os.PathLike, Baskets)) or hasattr(data, "tocsr"):
         raise DataError("baskets are a data frame or an iterable of baskets")
     for place, labels in enumerate(data):
         if isinstance(labels, (str, bytes, Mapping)):

@@ -88,17 +88,20 @@ def rules_frame(
         found = _numbered_rules(report, baskets.labels, weight)
     else:
         found = _named_rules(report, baskets.separator)
+    whole, lifts = baskets.whole(weight), found.lifts
+    if whole != weight:
+        lifts = lifts[0].astype(object) * whole, lifts[1].astype(object) * weight
     columns = {
         "antecedents": _objects(found.antecedents),
         "consequents": _objects(found.consequents),
-        **_supports(found.counts, weight),
+        **_supports(found.counts, whole),
         "confidence": _quotients(found.confidences),
-        "lift": _quotients(found.lifts),
+        "lift": _quotients(lifts),
     }
     if exact:
-        columns["exact_support"] = _exact(found.counts, weight)
+        columns["exact_support"] = _exact(found.counts, whole)
         columns["exact_confidence"] = _fractions(found.confidences)
-        columns["exact_lift"] = _fractions(found.lifts)
+        columns["exact_lift"] = _fractions(lifts)
     return pd.DataFrame(columns)
 
 
@@ -125,7 +128,7 @@ def _numbered_rules(report: bytes, labels: Labels | None, weight: int) -> _Rules
     figures = [numbers[stops - back] for back in (5, 4, 3, 2, 1)]
     figures_at = (stops[:, None] - np.arange(5, 0, -1)).ravel()
     items = np.delete(numbers, figures_at)
-    sides = _split(items, np.column_stack((left, right)).ravel(), labels)
+    sides = _sides(items, np.column_stack((left, right)).ravel(), labels)
     return _Rules(
         sides[0::2],
         sides[1::2],
@@ -160,6 +163,21 @@ def _split(items: Array, sizes: Array, labels: Labels | None) -> list[Itemset]:
         frozenset(values[start:stop])
         for start, stop in zip(starts.tolist(), stops.tolist())
     ]
+
+
+def _sides(items: Array, sizes: Array, labels: Labels | None) -> list[Itemset]:
+    """As `_split`, but each different set is made once: rules have few beside their number."""
+    whole = items.astype(np.int64)
+    content, width = whole.tobytes(), whole.itemsize
+    stops = (width * np.cumsum(sizes)).tolist()
+    keys = [content[start:stop] for start, stop in zip([0, *stops], stops)]
+    made: dict[bytes, Itemset] = {}
+    for key in {*keys}:
+        numbers = np.frombuffer(key, dtype=np.int64).tolist()
+        made[key] = frozenset(
+            numbers if labels is None else map(labels.__getitem__, numbers)
+        )
+    return [*map(made.__getitem__, keys)]
 
 
 def _named_sets(report: bytes, separator: str) -> tuple[list[Itemset], Array]:

@@ -140,6 +140,13 @@ def test_a_click_on_a_mark_shows_its_rules(shop: webdriver.Chrome) -> None:
     assert not at(shop, "unselect").is_enabled()
 
 
+def test_the_middle_of_the_colours_is_a_lift_of_1(shop: webdriver.Chrome) -> None:
+    lifts = [0.01, 0.25, 0.5, 0.999, 1, 1.001, 2, 4, 99]
+    shades = shop.execute_script("return arguments[0].map(shadeOf)", lifts)
+    # Shades below the middle are triangles.
+    assert shades == [0, 0, 16, 31, 32, 32, 48, 64, 64]
+
+
 def test_a_rectangle_selects_the_rules_in_it(shop: webdriver.Chrome) -> None:
     canvas = at(shop, "marks")
     low, high = shop.execute_script("return [placeOf(.4, .5), placeOf(.48, .8)]")

@@ -1,6 +1,7 @@
 """The advice that an exception has as a note, beside its message, which stays the program's."""
 
 import pickle
+from fractions import Fraction
 from pathlib import Path
 from typing import Any
 
@@ -48,7 +49,7 @@ def refused(call: Any, *words: Any, **options: Any) -> tuple[str, str, list[str]
         (20.0, "DataError", "a minimum as a share is from 0 to 1: 20.0; a count is an"),
         (0, "DataError", "a minimum as a count is from 1 to 1099511627775: 0"),
         (None, "DataError", "a minimum is a number, a Fraction or a text as '1/200', "),
-        (1 / 3, "DataError", "minimum 0.3333333333333333 is "),
+        (Fraction(1, 2**32), "DataError", "minimum 1/4294967296 is "),
     ],
 )
 def test_a_bad_minimum_says_which_are_good(minimum: Any, kind: str, said: str) -> None:
@@ -56,7 +57,9 @@ def test_a_bad_minimum_says_which_are_good(minimum: Any, kind: str, said: str) -
     assert (found[0], found[1][: len(said)], found[2]) == (kind, said, [MINIMUM])
 
 
-@pytest.mark.parametrize("confidence", ["0.6", 60.0, None, 1 / 3], ids=str)
+@pytest.mark.parametrize(
+    "confidence", ["0.6", 60.0, None, Fraction(1, 2**32)], ids=str
+)
 def test_a_bad_confidence_says_which_are_good(confidence: Any) -> None:
     assert refused(miner.rules, BASKETS, 1, confidence)[2] == [CONFIDENCE]
 
@@ -143,3 +146,20 @@ def test_what_no_advice_fits_has_no_note() -> None:
     for status, said in ((2, "error: x"), (3, "basket: record 1: bad weight"), (9, "")):
         assert notes_of(error_of(status, said)) == []
     assert notes_of(error_of(-9, "")) == []
+
+
+def test_exceptions_have_what_a_caller_acts_on(tmp_path: Path) -> None:
+    with pytest.raises(miner.TooManySets) as many:
+        miner.sets(BASKETS, 1, limit=1)
+    assert (many.value.limit, many.value.status) == (1, 5)
+    path = tmp_path / "shop.dat"
+    path.write_text("1 2\n1 -2\n")
+    with pytest.raises(miner.InputError) as line:
+        miner.sets(path, 1)
+    assert (line.value.line, line.value.status) == (2, 3)
+    path.write_text("a,b\nc\n")
+    with pytest.raises(miner.InputError) as record:
+        miner.sets(path, 1, form="single")
+    assert record.value.line == 2
+    assert pickle.loads(pickle.dumps(line.value)).line == 2
+    assert miner.DataError("no").status is None

@@ -1,5 +1,7 @@
 """Minimums and confidences become the program's words."""
 
+import random
+from decimal import Decimal
 from fractions import Fraction
 from typing import Any
 
@@ -43,7 +45,14 @@ def test_zero_and_one_are_shares_as_a_confidence() -> None:
     "given",
     [
         *(True, np.True_, 0, -3, 2**40, 1.5, -0.1, float("nan"), float("inf")),
-        *(1 / 3, Fraction(5, 4), Fraction(1, 2**32), None, [1]),
+        *(
+            Fraction(5, 4),
+            Fraction(1, 2**32),
+            Decimal("1.5"),
+            Decimal("nan"),
+            None,
+            [1],
+        ),
     ],
 )
 def test_other_minimums_are_refused(given: float) -> None:
@@ -57,6 +66,28 @@ def test_other_confidences_are_refused(given: float) -> None:
         confidence_word(given)
 
 
-def test_a_float_of_too_many_digits_is_refused_with_what_to_write() -> None:
+def test_a_fraction_of_large_numbers_is_refused_with_what_to_write() -> None:
     with pytest.raises(DataError, match=r"fractions\.Fraction\(1, 3\)"):
-        minimum_word(1 / 3)
+        minimum_word(Fraction(1, 2**32))
+
+
+def test_a_computed_float_is_the_fraction_that_it_rounds() -> None:
+    chance = random.Random(7)
+    for most in (10, 1000, 10**6, 2**26):
+        for _ in range(300):
+            total = chance.randint(1, most)
+            share = Fraction(chance.randint(0, total), total)
+            wanted = f"{share.numerator}/{share.denominator}"
+            assert minimum_word(share.numerator / share.denominator) == wanted
+    steps = [minimum_word(float(step)) for step in np.arange(0.01, 0.1, 0.01)]
+    assert [Fraction(step) for step in steps] == [
+        Fraction(n, 100) for n in range(1, 10)
+    ]
+
+
+def test_a_decimal_is_a_share() -> None:
+    assert (
+        minimum_word(Decimal("0.005")) == confidence_word(Decimal("0.005")) == "1/200"
+    )
+    assert minimum_word(Decimal(1)) == "1/1"
+    assert minimum_word(Decimal(1) / Decimal(3)) == "1/3"

@@ -10,7 +10,7 @@ import pandas as pd
 import pytest
 
 import brute
-from basket_miner import DataError, recommend, rules
+from basket_miner import DataError, baskets, recommend, rules
 from basket_miner.frequent_patterns import apriori, association_rules
 
 RECEIPTS = Path(__file__).parents[2] / "examples/receipts.csv"
@@ -43,12 +43,12 @@ def test_a_basket_gets_what_its_rules_have_and_it_lacks() -> None:
 @pytest.mark.parametrize("top", [1, 2, 9])
 def test_offers_are_those_of_brute_force(by: Any, top: int) -> None:
     chance = random.Random(top)
-    baskets = [chance.sample("abcdef", chance.randint(1, 5)) for _ in range(40)]
-    found = rules(baskets[:20], 2, "1/4", exact=True)
-    offers = recommend(found, baskets[20:], top, by, exact=True)
-    known = brute.rules(baskets[:20], 2, Fraction(1, 4))
+    shop = [chance.sample("abcdef", chance.randint(1, 5)) for _ in range(40)]
+    found = rules(shop[:20], 2, "1/4", exact=True)
+    offers = recommend(found, shop[20:], top, by, exact=True)
+    known = brute.rules(shop[:20], 2, Fraction(1, 4))
     wanted = []
-    for place, basket in enumerate(baskets[20:]):
+    for place, basket in enumerate(shop[20:]):
         best: dict[Any, tuple[Any, ...]] = {}
         for label, left, right in found[["antecedents", "consequents"]].itertuples():
             if left <= {*basket} and not right & {*basket}:
@@ -102,8 +102,8 @@ def test_rules_of_mlxtends_calls_make_offers() -> None:
 
 def test_no_rule_and_no_basket_make_no_offer() -> None:
     none: list[list[str]] = []
-    for found, baskets in ((SHOP.head(0), [["tea"]]), (SHOP, none), (SHOP, [["figs"]])):
-        offers = recommend(found, baskets)
+    for found, shop in ((SHOP.head(0), [["tea"]]), (SHOP, none), (SHOP, [["figs"]])):
+        offers = recommend(found, shop)
         assert list(offers.columns) == COLUMNS and offers.empty
 
 
@@ -114,6 +114,7 @@ def test_no_rule_and_no_basket_make_no_offer() -> None:
         ("at least 1, not 0", lambda: recommend(SHOP, [["tea"]], 0)),
         ("iterable of items, not 'tea'", lambda: recommend(SHOP, ["tea"])),
         ("data frame or an iterable", lambda: recommend(SHOP, RECEIPTS)),
+        ("data frame or an iterable", lambda: recommend(SHOP, baskets([["tea"]]))),
         ("go with a data frame", lambda: recommend(SHOP, [["tea"]], item="product")),
         ("needs both", lambda: recommend(SHOP, SHOP, item="product")),
         ("no column 'r'", lambda: recommend(SHOP, SHOP, basket="r", item="p")),

@@ -1,0 +1,34 @@
+"""Frames with a row for each item."""
+
+import pandas as pd
+
+from ._frames import column_of
+
+_SIDES = {"antecedents": "antecedent", "consequents": "consequent"}
+
+
+def tidy(frame: pd.DataFrame) -> pd.DataFrame:
+    """A frame of itemsets or of rules with a row for each item, as CSV, SQL and Arrow can have it.
+
+    Of itemsets the columns are `set` (the label of the itemset's row) and `item`, of rules `rule`,
+    `side` ("antecedent" or "consequent") and `item`; then come the figures of the frame, again for
+    each item. The items of a set stand together, in the order of their texts. Raises `DataError`
+    where the frame has no itemsets and no sides.
+    """
+    is_sets = "itemsets" in frame.columns
+    sides = {"itemsets": ""} if is_sets else _SIDES
+    columns = [column_of(frame, name) for name in sides]
+    rows = [
+        (row, side, item)
+        for row, *itemsets in zip(range(len(frame)), *columns)
+        for side, itemset in zip(sides.values(), itemsets)
+        for item in sorted(itemset, key=str)
+    ]
+    places = [row for row, _, _ in rows]
+    items = [item for _, _, item in rows]
+    found = frame.drop(columns=[*sides]).iloc[places].reset_index(drop=True)
+    found.insert(0, "item", pd.Series(items, dtype=None if items else object))
+    if not is_sets:
+        found.insert(0, "side", [side for _, side, _ in rows])
+    found.insert(0, "set" if is_sets else "rule", frame.index[places])
+    return found
