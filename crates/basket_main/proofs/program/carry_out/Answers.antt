@@ -1,4 +1,4 @@
-use Rattle.std.proofs.Common.{rules, [], ◌∷◌, ap}
+use Rattle.std.proofs.Common.{[], ◌∷◌, ap}
 use Rattle.basket_main.specs.Program.{origins_for}
 use Rattle.basket_main.proofs.ProgramLemmas.{first_origin, grows_on, has_fault, others_of}
 use Rattle.basket_main.proofs.program.carry_out.Goals as goal
