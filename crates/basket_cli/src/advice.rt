@@ -3,64 +3,59 @@ use crate::again::{asked_at, baskets_in, gap_at, may_be_header};
 use crate::fault_advice::input_advice;
 use crate::place::{Place, Places};
 use crate::words_advice::words_advice;
-use basket::{Ask, Form, MineFault, Plan, ReadFault, RunFault};
+use basket::{Ask, Form, MineFault, PlanFault, ReadFault, RunFault, Task};
+use basket_main::Ending;
 use std::alloc::{AllocError, Global};
 use std::io::{Error, IsTerminal};
 use std::random::RandomSource;
 use std::thread::Threads;
 
-/// The system's reasons for which a run's streams failed.
-#[derive(Debug, Drop)]
-pub struct Ends {
-    pub input: Option<Error>,
-    pub sets: Option<Error>,
-    pub output: Option<Error>,
+/// What is known of a program that ends, beside how it ends.
+#[derive(Clone, Copy, Debug)]
+pub struct Seen<'a> {
+    pub words: &'a [&'a str],
+    /// The system's code for the last error of a stream.
+    pub code: Option<i32>,
+    /// Whether a byte was written to standard output.
+    pub has_lines: bool,
+}
+
+/// Prints advice on how the program ends, if there is any and standard error is a terminal.
+pub fn advise<R: RandomSource + Threads + Sync>(
+    rt: &HostRuntime,
+    threads: &R,
+    ending: &Ending,
+    seen: &Seen<'_>,
+) {
+    if !rt.stderr().is_terminal() {
+        return;
+    }
+    match ending {
+        Ending::Refused(PlanFault::Usage(text)) => {
+            say(rt, words_advice(rt.alloc(), text.as_str(), seen.words));
+        }
+        Ending::Ran(invocation, Ok(())) => {
+            let place = Places::of(invocation).input;
+            if let Task::Report(plan) = &invocation.task
+                && !seen.has_lines
+            {
+                let baskets = baskets_in(rt, threads, place);
+                say(rt, empty_advice(rt.alloc(), plan.ask(), place, baskets));
+            }
+            advise_on_input(rt, threads, place);
+        }
+        Ending::Ran(invocation, Err(fault)) => {
+            let places = Places::of(invocation);
+            say(rt, fault_advice(rt, threads, fault, places, seen.code));
+        }
+        _ => {}
+    }
 }
 
 /// Prints advice, if there is any. If standard error takes nothing, nobody misses it.
 fn say(rt: &HostRuntime, advice: Result<Option<String>, AllocError>) {
     if let Ok(Some(text)) = advice {
         let _ = eprintln!(rt; "hint: {text}");
-    }
-}
-
-fn is_watched(rt: &HostRuntime) -> bool {
-    rt.stderr().is_terminal()
-}
-
-/// Advice on words that were refused with a text.
-pub fn advise_on_words(rt: &HostRuntime, text: &str, words: &[&str]) {
-    if is_watched(rt) {
-        say(rt, words_advice(rt.alloc(), text, words));
-    }
-}
-
-/// Advice after a report was written, which `has_lines` or is empty.
-pub fn advise_on_report<R: RandomSource + Threads + Sync>(
-    rt: &HostRuntime,
-    threads: &R,
-    plan: &Plan,
-    place: Place<'_>,
-    has_lines: bool,
-) {
-    if !is_watched(rt) {
-        return;
-    }
-    if !has_lines {
-        let baskets = baskets_in(rt, threads, place);
-        say(rt, empty_advice(rt.alloc(), plan.ask(), place, baskets));
-    }
-    advise_on_input(rt, threads, place);
-}
-
-/// Advice after counts were written.
-pub fn advise_on_count<R: RandomSource + Threads + Sync>(
-    rt: &HostRuntime,
-    threads: &R,
-    place: Place<'_>,
-) {
-    if is_watched(rt) {
-        advise_on_input(rt, threads, place);
     }
 }
 
@@ -111,31 +106,19 @@ fn empty_advice(
 }
 
 /// Advice on the fault of a run.
-pub fn advise_on_fault<R: RandomSource + Threads + Sync>(
-    rt: &HostRuntime,
-    threads: &R,
-    fault: &RunFault,
-    places: Places<'_>,
-    ends: &Ends,
-) {
-    if is_watched(rt) {
-        say(rt, fault_advice(rt, threads, fault, places, ends));
-    }
-}
-
 fn fault_advice<R: RandomSource + Threads + Sync>(
     rt: &HostRuntime,
     threads: &R,
     fault: &RunFault,
     places: Places<'_>,
-    ends: &Ends,
+    code: Option<i32>,
 ) -> Result<Option<String>, AllocError> {
     let alloc = rt.alloc();
     let (input, sets) = (places.input, places.sets);
     match *fault {
-        RunFault::Input(ReadFault::Read) => reason(alloc, input.name(), &ends.input),
-        RunFault::Sets(ReadFault::Read) => reason(alloc, sets.name(), &ends.sets),
-        RunFault::Write => reason(alloc, "standard output", &ends.output),
+        RunFault::Input(ReadFault::Read) => reason(alloc, input.name(), code),
+        RunFault::Sets(ReadFault::Read) => reason(alloc, sets.name(), code),
+        RunFault::Write => reason(alloc, "standard output", code),
         RunFault::Input(ReadFault::Memory)
         | RunFault::Sets(ReadFault::Memory)
         | RunFault::Mine(MineFault::Memory) => Ok(None),
@@ -163,8 +146,8 @@ fn fault_advice<R: RandomSource + Threads + Sync>(
 }
 
 /// Why a stream failed, if the system said so.
-fn reason(alloc: Global, name: &str, error: &Option<Error>) -> Result<Option<String>, AllocError> {
-    match error {
+fn reason(alloc: Global, name: &str, code: Option<i32>) -> Result<Option<String>, AllocError> {
+    match code.map(Error::from_raw_os_error) {
         Some(error) => format!(in alloc; "{name}: {error}").map(Some),
         None => Ok(None),
     }

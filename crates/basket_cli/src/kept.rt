@@ -1,50 +1,44 @@
 //! Readers and writers that keep what a person wants to know after they failed.
-use std::io::{self, Error, Read, Write};
+use std::cell::Cell;
+use std::io::{self, Read, Write};
 
-/// A reader or writer, the system's code for its last error, and whether a byte went through it.
-#[derive(Debug, Drop)]
-pub struct Kept<T> {
+/// A reader or writer, where the system's code for its last error is put, and whether a byte was
+/// written.
+#[derive(Drop)]
+pub struct Kept<'a, T> {
     stream: T,
-    code: Option<i32>,
+    code: &'a Cell<Option<i32>>,
     is_used: bool,
 }
 
-impl<T> Kept<T> {
-    pub fn new(stream: T) -> Self {
+impl<'a, T> Kept<'a, T> {
+    pub fn new(stream: T, code: &'a Cell<Option<i32>>) -> Self {
         Kept {
             stream,
-            code: None,
+            code,
             is_used: false,
         }
     }
 
-    /// The system's reason for the last error, if it gave one.
-    pub fn reason(&self) -> Option<Error> {
-        self.code.map(Error::from_raw_os_error)
-    }
-
-    /// Whether a byte was read or written.
+    /// Whether a byte was written.
     pub fn is_used(&self) -> bool {
         self.is_used
     }
 }
 
-impl<R: Read> Read for Kept<R> {
+impl<R: Read> Read for Kept<'_, R> {
     fn read(&mut self, buf: &mut [u8]) -> io::Result<usize> {
         match self.stream.read(buf) {
-            Ok(count) => {
-                self.is_used |= count > 0;
-                Ok(count)
-            }
+            Ok(count) => Ok(count),
             Err(error) => {
-                self.code = error.raw_os_error();
+                self.code.set(error.raw_os_error());
                 Err(error)
             }
         }
     }
 }
 
-impl<W: Write> Write for Kept<W> {
+impl<W: Write> Write for Kept<'_, W> {
     fn write(&mut self, buf: &[u8]) -> io::Result<usize> {
         match self.stream.write(buf) {
             Ok(count) => {
@@ -52,7 +46,7 @@ impl<W: Write> Write for Kept<W> {
                 Ok(count)
             }
             Err(error) => {
-                self.code = error.raw_os_error();
+                self.code.set(error.raw_os_error());
                 Err(error)
             }
         }
@@ -62,7 +56,7 @@ impl<W: Write> Write for Kept<W> {
         match self.stream.flush() {
             Ok(()) => Ok(()),
             Err(error) => {
-                self.code = error.raw_os_error();
+                self.code.set(error.raw_os_error());
                 Err(error)
             }
         }

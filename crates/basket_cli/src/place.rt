@@ -1,5 +1,5 @@
 //! The inputs of a run, as advice speaks of them.
-use basket::{Form, Layout};
+use basket::{Form, Invocation, Layout, Task};
 
 /// An input: its file, if it isn't standard input, and how it is written.
 #[derive(Clone, Copy, Debug)]
@@ -29,4 +29,33 @@ impl<'a> Place<'a> {
 pub struct Places<'a> {
     pub input: Place<'a>,
     pub sets: Place<'a>,
+}
+
+impl<'a> Places<'a> {
+    pub fn of(invocation: &'a Invocation) -> Self {
+        let path = invocation.input.path();
+        match &invocation.task {
+            Task::Report(plan) => {
+                let input = Place {
+                    path,
+                    layout: plan.layout(),
+                };
+                Places { input, sets: input }
+            }
+            Task::Count(plan, sets) => Places {
+                input: Place {
+                    path,
+                    layout: plan.layout(),
+                },
+                sets: Place {
+                    path: sets.path(),
+                    // The sets have no header.
+                    layout: Layout {
+                        header: true,
+                        ..plan.layout()
+                    },
+                },
+            },
+        }
+    }
 }

@@ -18,6 +18,7 @@ mod counts;
 mod gates;
 mod limits;
 mod mined;
+mod programs;
 mod streams;
 
 /// A runtime that has threads and no random bytes.

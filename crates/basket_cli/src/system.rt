@@ -1,0 +1,62 @@
+//! The system's files and streams, as the program opens and writes them.
+use crate::kept::Kept;
+use basket::{Origin, StdSource};
+use basket_main::{Ending, ErrorStream, Inputs};
+use std::cell::Cell;
+use std::fs::File;
+use std::io::{self, Read, Stdin};
+
+/// The system's files and its standard input.
+#[derive(Drop)]
+pub struct SystemInputs<'a> {
+    pub rt: &'a HostRuntime,
+    /// Where the system's code for the last error of a read is put.
+    pub code: &'a Cell<Option<i32>>,
+}
+
+/// A file or standard input.
+#[derive(Drop)]
+pub enum Opened {
+    File(File),
+    Standard(Stdin),
+}
+
+impl Read for Opened {
+    fn read(&mut self, buf: &mut [u8]) -> io::Result<usize> {
+        match self {
+            Opened::File(file) => file.read(buf),
+            Opened::Standard(stdin) => stdin.read(buf),
+        }
+    }
+}
+
+impl<'a> Inputs for SystemInputs<'a> {
+    type Input = StdSource<Kept<'a, Opened>>;
+
+    ghost bytes = { λ _ _. None };
+
+    ghost opened = { λ _. None };
+
+    fn open(&mut self, origin: &Origin) -> io::Result<StdSource<Kept<'a, Opened>>> {
+        let opened = match origin.path() {
+            Some(path) => Opened::File(File::open(self.rt, path)?),
+            None => Opened::Standard(self.rt.stdin()),
+        };
+        Ok(StdSource::new(Kept::new(opened, self.code)))
+    }
+}
+
+/// The system's standard error.
+#[derive(Drop)]
+pub struct StandardError<'a> {
+    pub rt: &'a HostRuntime,
+}
+
+impl ErrorStream for StandardError<'_> {
+    ghost explained = { λ _. None };
+
+    fn explain(&mut self, ending: &Ending) {
+        // If standard error takes nothing, the status still tells the fault.
+        let _ = eprint!(self.rt; "{ending}");
+    }
+}

@@ -1,0 +1,89 @@
+-- What a program does with the words of its command line.
+use Rattle.std.specs.Prelude.{◌≡◌, ◌≢◌, ℕ, Bool, true, false, List, [], ◌∷◌, ◌++◌, Option, Some, None, Ok, Err, string_bytes, ⊤}
+use Rattle.std.specs.Io.KnownBytes.{Appends, Keeps}
+use Rattle.basket.specs.Count.{IsCountFault, WritesCounts, WritesCountsFront}
+use Rattle.basket.specs.Engine.{FailsInput, RefusesInput, RefusesSets, WritesFront, WritesReport}
+use Rattle.basket.specs.declared.fault.RunFault.{RunFault}
+use Rattle.basket.specs.declared.fault.RunFault.TheVariants.{Input, Mine, Write}
+use Rattle.basket_plan.specs.Command.{asks_help, invocation_of_words, is_help}
+use Rattle.basket_plan.specs.Plan.{Question}
+use Rattle.basket_plan.specs.declared.command.PlanFault.{PlanFault}
+use Rattle.basket_plan.specs.declared.command.PlanFault.TheVariants.{Memory, Help}
+use Rattle.basket_plan.specs.declared.invocation.Invocation.{Invocation}
+use Rattle.basket_plan.specs.declared.invocation.Task.{Task}
+use Rattle.basket_plan.specs.declared.invocation.Task.TheVariants.{Report, Count}
+use Rattle.basket_read.specs.declared.fault.ReadFault.TheVariants.{Read}
+use Rattle.basket_report.specs.Bytes.{TakesFront}
+use Rattle.basket_main.specs.Log.{Grows}
+use Rattle.basket_main.specs.declared.ending.Ending.{Ending}
+use Rattle.basket_main.specs.declared.ending.Ending.TheVariants.{Refused, Unanswered, NotOpened, Ran}
+
+-- where bytes come from: the path of a file, or none for standard input
+abbrev pub Origin : Type 0
+Origin = Option (List ℕ)
+
+-- ---- what is opened
+
+-- the inputs of a task, in the order in which they are opened
+abbrev pub origins_for : Task → Origin → List Origin
+origins_for (Report plan) input = input ∷ []
+origins_for (Count plan sets) input = input ∷ sets ∷ []
+
+abbrev pub origins_of : Invocation → List Origin
+origins_of invocation = origins_for invocation.task invocation.input
+
+-- what the words ask for was run, and its inputs were opened; or these were opened up to one that can't be; or the words ask for nothing that can be run, and nothing was opened
+abbrev pub Follows : List (List ℕ) → Ending → Option (List Origin) → Option (List Origin) → Type 0
+Follows words (Ran invocation ran) before after = (invocation_of_words words ≡ Some invocation) × Grows before after (origins_of invocation)
+Follows words (NotOpened origin error) before after =
+    (invocation : Invocation) × (first others : List Origin)
+    × (invocation_of_words words ≡ Some invocation) × (origins_of invocation ≡ first ++ origin ∷ others) × Grows before after (first ++ origin ∷ [])
+Follows words (Refused fault) before after =
+    (fault ≢ Memory → (invocation_of_words words ≡ None) × (asks_help words ≡ is_help fault)) × Grows before after []
+Follows words (Unanswered text) before after = (invocation_of_words words ≡ None) × (asks_help words ≡ true) × Grows before after []
+
+-- the program ends for this fault of the words
+abbrev pub IsRefusal : PlanFault → Ending → Type 0
+IsRefusal fault (Refused other) = other ≡ fault
+IsRefusal fault (Unanswered text) = fault ≡ Help text
+IsRefusal fault _ = ⊥
+
+-- ---- what is written to standard output
+
+-- the report of a task over inputs with these bytes, and a prefix of it
+abbrev pub WritesAll : (Origin → Option (List ℕ)) → Task → Origin → Option (List ℕ) → Option (List ℕ) → Type 0
+WritesAll bytes (Report plan) input before after = WritesReport (bytes input) plan.question before after
+WritesAll bytes (Count plan sets) input before after = WritesCounts plan.layout (bytes sets) (bytes input) before after
+
+abbrev pub WritesSome : (Origin → Option (List ℕ)) → Task → Origin → Option (List ℕ) → Option (List ℕ) → Type 0
+WritesSome bytes (Report plan) input before after = WritesFront (bytes input) plan.question before after
+WritesSome bytes (Count plan sets) input before after = WritesCountsFront plan.layout (bytes sets) (bytes input) before after
+
+-- the text of help if that was asked for, or the report of what was run, then flushed; a prefix of these if the output failed, and all of a report if only the flush failed; else nothing
+abbrev pub Writes : (Origin → Option (List ℕ)) → Ending → Bool → Option (List ℕ) → Option (List ℕ) → Type 0
+Writes bytes (Ran invocation (Ok x)) flushed before after = WritesAll bytes invocation.task invocation.input before after × (flushed ≡ true)
+Writes bytes (Ran invocation (Err Write)) flushed before after =
+    WritesSome bytes invocation.task invocation.input before after × (flushed ≡ true → WritesAll bytes invocation.task invocation.input before after)
+Writes bytes (Refused (Help text)) flushed before after = Appends before after (string_bytes text)
+Writes bytes (Unanswered text) flushed before after = TakesFront before after (string_bytes text)
+Writes bytes _ flushed before after = Keeps before after
+
+-- ---- the fault of a run
+
+-- the fault is the one of the outcome, except if memory is out; if the reader failed, it is what the form of the input says of that
+abbrev pub IsReportFault : Question → Option (List ℕ) → Option (List ℕ) → Bool → RunFault → Type 0
+IsReportFault question left after failed (Input fault) =
+    (failed ≡ false → RefusesInput left question fault) × (failed ≡ true → FailsInput left question after fault) × (fault ≡ Read → failed ≡ true)
+IsReportFault question left after failed (Mine fault) = (failed ≡ false) × RefusesSets left question fault
+IsReportFault question left after failed _ = failed ≡ false
+
+-- the same of a task, where `left` and `has_failed` tell of a reader what it has left and whether it failed
+abbrev pub IsTaskFault : {S : Type 0} → (S → Option (List ℕ)) → (S → Bool) → (Origin → Option (List ℕ)) → Task → Origin → RunFault → Type 0
+IsTaskFault {S} left has_failed bytes (Report plan) input fault = (reader : S) × IsReportFault plan.question (bytes input) (left reader) (has_failed reader) fault
+IsTaskFault {S} left has_failed bytes (Count plan sets) input fault =
+    (lists reader : S) × IsCountFault plan.layout (bytes sets) (has_failed lists) (bytes input) (left reader) (has_failed reader) fault
+
+-- what was run has its fault
+abbrev pub HasFault : {S : Type 0} → (S → Option (List ℕ)) → (S → Bool) → (Origin → Option (List ℕ)) → Ending → Type 0
+HasFault left has_failed bytes (Ran invocation (Err fault)) = IsTaskFault left has_failed bytes invocation.task invocation.input fault
+HasFault left has_failed bytes _ = ⊤

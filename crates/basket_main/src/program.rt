@@ -1,0 +1,147 @@
+ghost use Rattle.std.specs.Prelude.{◌≡◌, false, List, map, Option, Some, ℕ};
+ghost use Rattle.basket_main.specs.Ending.{explanation_of, is_cut_off};
+ghost use Rattle.basket_main.specs.Log.{Grows};
+ghost use Rattle.basket_main.specs.Program.{Follows, HasFault, IsRefusal, Writes};
+ghost use Rattle.basket_plan.specs.Command.{invocation_of_words};
+
+use crate::ending::Ending;
+use crate::streams::{ErrorStream, Inputs};
+use basket::{Invocation, PlanFault, Sink, Task, invocation_of, run, run_count};
+use basket_report::write_bytes;
+use std::alloc::Global;
+use std::random::RandomSource;
+use std::thread::Threads;
+
+/// Does what the words of a command line ask for, the program's name not among them, and returns
+/// how the program ends.
+pub fn perform<R: RandomSource + Threads + Sync, I: Inputs, W: Sink, E: ErrorStream>(
+    rt: &R,
+    alloc: Global,
+    words: &[&str],
+    inputs: &mut I,
+    output: &mut W,
+    errors: &mut E,
+) -> Ending
+    requires { W.has_failed output.old ≡ false }
+    ensures asked { Follows (map (λ word. word.now) words.now) result (I.opened inputs.old) (I.opened inputs.new) }
+    ensures written { Writes (I.bytes inputs.old) result (W.ends_in_flush output.new) (W.taken output.old) (W.taken output.new) }
+    ensures failed { W.has_failed output.new ≡ is_cut_off result }
+    ensures fault { HasFault I.Input.left I.Input.has_failed (I.bytes inputs.old) result }
+    ensures explained { Grows (E.explained errors.old) (E.explained errors.new) (explanation_of result) }
+{
+    let ending = obey(rt, alloc, words, inputs, output);
+    explain(&ending, errors);
+    ending
+}
+
+/// Ends a program whose words ask for nothing that can be run: writes help or the version to the
+/// output if it was asked for, else says why.
+pub fn refuse<W: Sink, E: ErrorStream>(fault: PlanFault, output: &mut W, errors: &mut E) -> Ending
+    requires { W.has_failed output.old ≡ false }
+    ensures refused { IsRefusal fault result }
+    ensures written { (bytes : Option (List ℕ) → Option (List ℕ)) → Writes bytes result (W.ends_in_flush output.new) (W.taken output.old) (W.taken output.new) }
+    ensures failed { W.has_failed output.new ≡ is_cut_off result }
+    ensures explained { Grows (E.explained errors.old) (E.explained errors.new) (explanation_of result) }
+{
+    let ending = answer(fault, output);
+    explain(&ending, errors);
+    ending
+}
+
+/// Says on standard error why the program ends, if there is something to say.
+fn explain<E: ErrorStream>(ending: &Ending, errors: &mut E)
+    ensures { Grows (E.explained errors.old) (E.explained errors.new) (explanation_of ending.now) }
+{
+    if ending.is_explained() {
+        errors.explain(ending);
+    }
+}
+
+/// Does what the words ask for, and explains nothing.
+fn obey<R: RandomSource + Threads + Sync, I: Inputs, W: Sink>(
+    rt: &R,
+    alloc: Global,
+    words: &[&str],
+    inputs: &mut I,
+    output: &mut W,
+) -> Ending
+    requires { W.has_failed output.old ≡ false }
+    ensures asked { Follows (map (λ word. word.now) words.now) result (I.opened inputs.old) (I.opened inputs.new) }
+    ensures written { Writes (I.bytes inputs.old) result (W.ends_in_flush output.new) (W.taken output.old) (W.taken output.new) }
+    ensures failed { W.has_failed output.new ≡ is_cut_off result }
+    ensures fault { HasFault I.Input.left I.Input.has_failed (I.bytes inputs.old) result }
+{
+    match invocation_of(alloc, words) {
+        Ok(invocation) => carry_out(rt, alloc, invocation, inputs, output),
+        Err(fault) => answer(fault, output),
+    }
+}
+
+/// Writes help or the version, if the fault is that it was asked for.
+fn answer<W: Sink>(fault: PlanFault, output: &mut W) -> Ending
+    requires { W.has_failed output.old ≡ false }
+    ensures refused { IsRefusal fault result }
+    ensures written { (bytes : Option (List ℕ) → Option (List ℕ)) → Writes bytes result (W.ends_in_flush output.new) (W.taken output.old) (W.taken output.new) }
+    ensures failed { W.has_failed output.new ≡ is_cut_off result }
+{
+    match fault {
+        PlanFault::Help(text) => match write_bytes(output, text.as_bytes()) {
+            Ok(()) => Ending::Refused(PlanFault::Help(text)),
+            Err(_) => Ending::Unanswered(text),
+        },
+        PlanFault::Usage(text) => Ending::Refused(PlanFault::Usage(text)),
+        PlanFault::Memory => Ending::Refused(PlanFault::Memory),
+    }
+}
+
+/// Opens the inputs of what is asked for, and runs it over them.
+fn carry_out<R: RandomSource + Threads + Sync, I: Inputs, W: Sink>(
+    rt: &R,
+    alloc: Global,
+    invocation: Invocation,
+    inputs: &mut I,
+    output: &mut W,
+) -> Ending
+    requires { W.has_failed output.old ≡ false }
+    ensures asked { (words : List (List ℕ)) → invocation_of_words words ≡ Some invocation → Follows words result (I.opened inputs.old) (I.opened inputs.new) }
+    ensures written { Writes (I.bytes inputs.old) result (W.ends_in_flush output.new) (W.taken output.old) (W.taken output.new) }
+    ensures failed { W.has_failed output.new ≡ is_cut_off result }
+    ensures fault { HasFault I.Input.left I.Input.has_failed (I.bytes inputs.old) result }
+{
+    let Invocation {
+        task,
+        input: origin,
+    } = invocation;
+    let mut input = match inputs.open(&origin) {
+        Ok(input) => input,
+        Err(error) => return Ending::NotOpened(origin, error),
+    };
+    match task {
+        Task::Report(plan) => {
+            let ran = run(rt, alloc, &plan, &mut input, output);
+            let task = Task::Report(plan);
+            Ending::Ran(
+                Invocation {
+                    task,
+                    input: origin,
+                },
+                ran,
+            )
+        }
+        Task::Count(plan, sets) => {
+            let mut lists = match inputs.open(&sets) {
+                Ok(lists) => lists,
+                Err(error) => return Ending::NotOpened(sets, error),
+            };
+            let ran = run_count(rt, alloc, &plan, &mut lists, &mut input, output);
+            let task = Task::Count(plan, sets);
+            Ending::Ran(
+                Invocation {
+                    task,
+                    input: origin,
+                },
+                ran,
+            )
+        }
+    }
+}

@@ -1,0 +1,169 @@
+//! Programs over memory: which inputs are opened, what goes to which stream, and the status.
+ghost use Rattle.std.specs.Prelude.{◌≡◌, codes, false, None, Some, if◌then◌else◌};
+ghost use Rattle.std.specs.Option.{option_map_or};
+ghost use Rattle.std.specs.Str.{bytes_eq};
+
+use super::*;
+use basket::{Origin, SliceSource};
+use basket_main::{Ending, ErrorStream, Inputs, perform};
+
+/// Standard input and two files with these bytes, and the names of what was opened.
+#[derive(Drop)]
+struct Shelf<'a> {
+    standard: &'a [u8],
+    baskets: &'a [u8],
+    sets: &'a [u8],
+    opened: String,
+}
+
+impl<'a> Inputs for Shelf<'a> {
+    type Input = SliceSource<'a>;
+
+    ghost bytes = { λ s origin. Some (option_map_or (λ path. if bytes_eq path (codes "sets") then s.sets.now else s.baskets.now) origin s.standard.now) };
+
+    ghost opened = { λ _. None };
+
+    fn open(&mut self, origin: &Origin) -> io::Result<SliceSource<'a>> {
+        let name = origin.path().unwrap_or("standard input");
+        let _ = write!(self.opened, "{name};");
+        match origin.path() {
+            None => Ok(SliceSource::new(self.standard)),
+            Some("sets") => Ok(SliceSource::new(self.sets)),
+            Some("baskets") => Ok(SliceSource::new(self.baskets)),
+            Some("too large") => Err(io::Error::from(io::ErrorKind::OutOfMemory)),
+            Some(_) => Err(io::Error::new(io::ErrorKind::NotFound, "no such file")),
+        }
+    }
+}
+
+/// Standard error.
+#[derive(Drop)]
+struct Said(String);
+
+impl ErrorStream for Said {
+    ghost explained = { λ _. None };
+
+    fn explain(&mut self, ending: &Ending) {
+        let _ = write!(self.0, "{ending}");
+    }
+}
+
+/// What a program opened, wrote and said, and its status.
+type Run = (&'static str, &'static [u8], &'static str, u8);
+
+/// Has a program do what the words ask for, with this room for its output.
+fn expect<R: Threads + Sync + Abort>(
+    rt: &R,
+    alloc: Global,
+    words: &[&str],
+    room: usize,
+    want: Run,
+) -> Result<(), Fail> {
+    let mut inputs = Shelf {
+        standard: b"1 2\n1 x\n",
+        baskets: NINE_BASKETS,
+        sets: b"2 1\n9\n",
+        opened: String::new(alloc),
+    };
+    let mut output = MemSink::new(alloc, room, room, false)?;
+    let mut errors = Said(String::new(alloc));
+    let ending = perform(
+        &NoRandomBytes(rt),
+        alloc,
+        words,
+        &mut inputs,
+        &mut output,
+        &mut errors,
+    );
+    let (opened, out, said, status) = want;
+    if ending.status() == 6 && status != 6 {
+        assert_eq!(rt; output.bytes(), b"".as_slice(), "{words:?}");
+        return Err(Fail::from(AllocError));
+    }
+    assert_eq!(rt; inputs.opened.as_str(), opened, "{words:?}");
+    assert_eq!(rt; output.bytes(), out, "{words:?}");
+    assert_eq!(rt; errors.0.as_str(), said, "{words:?}");
+    assert_eq!(rt; ending.status(), status, "{words:?}");
+    Ok(())
+}
+
+#[test]
+fn a_report_of_the_file_that_is_named_goes_to_the_output(rt: HostRuntime) -> Result<(), Fail> {
+    let words = ["items", "--min", "2", "baskets"];
+    expect(
+        &rt,
+        rt.alloc(),
+        &words,
+        100,
+        ("baskets;", NINE_ITEMS, "", 0),
+    )
+}
+
+#[test]
+fn counts_are_those_of_the_sets_that_are_named(rt: HostRuntime) -> Result<(), Fail> {
+    let words = ["count", "--sets", "sets", "baskets"];
+    let want = ("baskets;sets;", b"(9)\n1 2 (4)\n9 (0)\n".as_slice(), "", 0);
+    expect(&rt, rt.alloc(), &words, 100, want)
+}
+
+#[test]
+fn each_fault_is_said_on_standard_error_with_its_status(rt: HostRuntime) -> Result<(), Fail> {
+    let cases: &[(&[&str], Run)] = &[
+        (
+            &["items", "--min", "0", "baskets"],
+            ("", b"", "basket: bad value for --min\n", 2),
+        ),
+        (
+            &["items", "--min", "2"],
+            (
+                "standard input;",
+                b"",
+                "basket: line 2: byte 0x78 is no digit or blank\n",
+                3,
+            ),
+        ),
+        (
+            &["items", "--min", "2", "none"],
+            ("none;", b"", "basket: cannot open none: no such file\n", 4),
+        ),
+        (
+            &["count", "--sets", "none", "baskets"],
+            (
+                "baskets;none;",
+                b"",
+                "basket: cannot open none: no such file\n",
+                4,
+            ),
+        ),
+        (
+            &["sets", "--min", "2", "--limit", "3", "baskets"],
+            (
+                "baskets;",
+                b"",
+                "basket: more than 3 frequent itemsets\n",
+                5,
+            ),
+        ),
+        (
+            &["items", "--min", "2", "too large"],
+            ("too large;", b"", "basket: out of memory\n", 6),
+        ),
+    ];
+    for &(words, want) in cases {
+        expect(&rt, rt.alloc(), words, 100, want)?;
+    }
+    Ok(())
+}
+
+#[test]
+fn an_output_that_is_full_ends_with_4(rt: HostRuntime) -> Result<(), Fail> {
+    let words = ["items", "--min", "2", "baskets"];
+    let want = (
+        "baskets;",
+        b"1 (6)\n2 (7".as_slice(),
+        "basket: cannot write the report\n",
+        4,
+    );
+    expect(&rt, rt.alloc(), &words, 10, want)?;
+    expect(&rt, rt.alloc(), &["--version"], 3, ("", b"bas", "", 4))
+}
