@@ -4,13 +4,13 @@ use Rattle.mine_rows.specs.Cover.{all_places, common}
 use Rattle.basket_checks.proofs.tests.rows.joined_supports.Goals as goal
 
 -- the covers of 1, 2 and 3
-one : List ℕ
+abbrev one : List ℕ
 one = 0 ∷ 3 ∷ 4 ∷ 6 ∷ 7 ∷ 8 ∷ []
 
-two : List ℕ
+abbrev two : List ℕ
 two = 0 ∷ 1 ∷ 2 ∷ 3 ∷ 5 ∷ 7 ∷ 8 ∷ []
 
-three : List ℕ
+abbrev three : List ℕ
 three = 2 ∷ 4 ∷ 5 ∷ 6 ∷ 7 ∷ 8 ∷ []
 
 pub first-requires-clause-rises : goal.first-requires-clause-rises
