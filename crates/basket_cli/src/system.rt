@@ -1,4 +1,6 @@
 //! The system's files and streams, as the program opens and writes them.
+ghost use Rattle.std.specs.Prelude.{None};
+
 use crate::kept::Kept;
 use basket::{Origin, StdSource};
 use basket_main::{Ending, ErrorStream, Inputs};
