@@ -118,6 +118,19 @@ def test_frames_that_are_no_rules_are_refused(
         explore(change(found), tmp_path / "rules.html")
 
 
+def test_a_rule_of_just_the_least_support_stays(
+    browser: webdriver.Chrome, tmp_path: Path
+) -> None:
+    found = rules([["a", "b"]] * 29 + [["c"]] * 71, 1, 0.5)
+    browser.get(explore(found, tmp_path / "rules.html").as_uri())
+    at(browser, "support").send_keys("29")
+    at(browser, "confidence").send_keys("101")
+    until(browser, "0 rules of 2, page 1 of 1")
+    at(browser, "confidence").clear()
+    at(browser, "confidence").send_keys("100")
+    until(browser, "2 rules of 2, page 1 of 1")
+
+
 def test_no_rule_is_a_page_too(browser: webdriver.Chrome, tmp_path: Path) -> None:
     found = rules([["a"], ["b"]], 1, 0.5)
     browser.get(explore(found, tmp_path / "rules.html").as_uri())
