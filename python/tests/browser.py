@@ -1,13 +1,16 @@
 # mypy: allow-untyped-calls
-"""A browser without a window, for the tests of pages and for their pictures."""
+"""A browser without a window, and what it shows of a page of rules: for tests and pictures."""
 
 import contextlib
 import shutil
 import tempfile
+import time
 from collections.abc import Iterator
+from typing import Any
 
 from selenium import webdriver
 from selenium.webdriver.chrome.service import Service
+from selenium.webdriver.common.by import By
 
 
 @contextlib.contextmanager
@@ -31,3 +34,22 @@ def opened() -> Iterator[webdriver.Chrome]:
             yield browser
         finally:
             browser.quit()
+
+
+def rows(browser: webdriver.Chrome) -> list[list[str]]:
+    """The texts of the table's cells."""
+    script = "return [...document.querySelectorAll('tbody tr')].map(r => [...r.cells].map(c => c.textContent))"
+    found: list[list[str]] = browser.execute_script(script)
+    return found
+
+
+def at(browser: webdriver.Chrome, name: str) -> Any:
+    return browser.find_element(By.ID, name)
+
+
+def until(browser: webdriver.Chrome, status: str) -> None:
+    """Waits until the live region says a text."""
+    stop = time.monotonic() + 120
+    while (said := at(browser, "status").text) != status:
+        assert time.monotonic() < stop, said
+        time.sleep(0.02)

@@ -1,10 +1,17 @@
 # mypy: allow-untyped-calls
-"""A cluster for all tests of parts."""
+"""A cluster for all tests of parts, and a browser for those of the page of rules."""
 
 from collections.abc import Iterator
+from pathlib import Path
 
 import pytest
 from distributed import Client, LocalCluster
+from selenium import webdriver
+
+from basket_miner import explore, rules
+from browser import opened
+
+RECEIPTS = Path(__file__).parents[2] / "examples/receipts.csv"
 
 
 @pytest.fixture(scope="session")
@@ -13,3 +20,17 @@ def client() -> Iterator[Client]:
     engine = LocalCluster(n_workers=3, threads_per_worker=1, dashboard_address=None)
     with engine, Client(engine) as found:
         yield found
+
+
+@pytest.fixture(scope="session")
+def browser() -> Iterator[webdriver.Chrome]:
+    with opened() as found:
+        yield found
+
+
+@pytest.fixture
+def shop(browser: webdriver.Chrome, tmp_path: Path) -> webdriver.Chrome:
+    """The page of the 27 rules of the small shop."""
+    found = rules(RECEIPTS, 2, "1/4", form="single", header=True)
+    browser.get(explore(found, tmp_path / "rules.html").as_uri())
+    return browser

@@ -1,66 +1,19 @@
 # mypy: allow-untyped-calls
-"""The page of rules, as a browser shows it."""
+"""The page of the small shop's rules, as a browser shows it."""
 
-import json
-import re
-import subprocess
-import sys
-import time
-from collections.abc import Callable, Iterator
-from pathlib import Path
 from typing import Any
 
-import pandas as pd
 import pytest
 from selenium import webdriver
 from selenium.webdriver.common.action_chains import ActionChains
 from selenium.webdriver.common.by import By
 from selenium.webdriver.common.keys import Keys
 
-from basket_miner import DataError, explore, rules
-from basket_miner.frequent_patterns import apriori, association_rules
-from browser import opened
-
-ROOT = Path(__file__).parents[2]
-RECEIPTS = ROOT / "examples/receipts.csv"
-HOSTILE = "</script><script>document.title='run'</script><img src=x onerror=\"document.title='run'\">"
-
-
-@pytest.fixture(scope="module")
-def browser() -> Iterator[webdriver.Chrome]:
-    with opened() as found:
-        yield found
-
-
-@pytest.fixture
-def shop(browser: webdriver.Chrome, tmp_path: Path) -> webdriver.Chrome:
-    """The page of the 27 rules of the small shop."""
-    found = rules(RECEIPTS, 2, "1/4", form="single", header=True)
-    browser.get(explore(found, tmp_path / "rules.html").as_uri())
-    return browser
-
-
-def rows(browser: webdriver.Chrome) -> list[list[str]]:
-    """The texts of the table's cells."""
-    script = "return [...document.querySelectorAll('tbody tr')].map(r => [...r.cells].map(c => c.textContent))"
-    found: list[list[str]] = browser.execute_script(script)
-    return found
-
-
-def at(browser: webdriver.Chrome, name: str) -> Any:
-    return browser.find_element(By.ID, name)
+from browser import at, rows, until
 
 
 def header(browser: webdriver.Chrome, name: str) -> Any:
     return browser.find_element(By.XPATH, f"//th[button='{name}']")
-
-
-def until(browser: webdriver.Chrome, status: str) -> None:
-    """Waits until the live region says a text."""
-    stop = time.monotonic() + 120
-    while (said := at(browser, "status").text) != status:
-        assert time.monotonic() < stop, said
-        time.sleep(0.02)
 
 
 def click_mark(browser: webdriver.Chrome, support: float, confidence: float) -> None:
@@ -205,118 +158,3 @@ def test_everything_that_is_used_has_a_name(shop: webdriver.Chrome) -> None:
     assert [
         one.get_attribute("outerHTML") for one in used if not one.accessible_name
     ] == []
-
-
-def test_names_are_text(browser: webdriver.Chrome, tmp_path: Path) -> None:
-    found = rules([[HOSTILE, "{{data}}"], [HOSTILE], ["tea"]], 1, 0.0)
-    path = explore(found, tmp_path / "rules.html")
-    browser.get(path.as_uri())
-    assert [row[:2] for row in rows(browser)] == [
-        ["{{data}}", HOSTILE],
-        [HOSTILE, "{{data}}"],
-    ]
-    ActionChains(browser).move_to_element(at(browser, "marks")).perform()
-    assert browser.title == "Association rules"
-    assert browser.find_elements(By.TAG_NAME, "img") == []
-    assert re.search(r"(?i)https?:|src=(?!x)|@import|url\(", path.read_text()) is None
-    assert browser.get_log("browser") == []
-
-
-@pytest.mark.parametrize("scheme", ["light", "dark"])
-def test_the_page_follows_the_scheme_of_colours(
-    shop: webdriver.Chrome, scheme: str
-) -> None:
-    media = {"features": [{"name": "prefers-color-scheme", "value": scheme}]}
-    shop.execute_cdp_cmd("Emulation.setEmulatedMedia", media)
-    body = shop.find_element(By.TAG_NAME, "body")
-    levels = [
-        [*map(int, re.findall(r"\d+", body.value_of_css_property(name))[:3])]
-        for name in ("background-color", "color")
-    ]
-    is_light = sum(levels[0]) > sum(levels[1])
-    assert is_light == (scheme == "light")
-
-
-def test_a_hundred_thousand_rules_are_paged(
-    browser: webdriver.Chrome, tmp_path: Path, capsys: pytest.CaptureFixture[str]
-) -> None:
-    total, size = 10**6, 100_000
-    counts = pd.Series(range(1, size + 1))
-    frame = pd.DataFrame(
-        {
-            "antecedents": [
-                frozenset([f"item {n % 500}", f"other {n // 500}"]) for n in counts
-            ],
-            "consequents": [frozenset([f"item {n % 77}"]) for n in counts],
-            "count": counts,
-            "support": counts / total,
-            "confidence": counts / 200_000,
-            "lift": counts * total / (200_000 * 250_000),
-        }
-    )
-    start = time.monotonic()
-    path = explore(frame, tmp_path / "rules.html")
-    written = time.monotonic()
-    browser.get(path.as_uri())
-    until(browser, "100,000 rules of 100,000, page 1 of 2,000")
-    loaded = time.monotonic()
-    with capsys.disabled():
-        seconds = f"{written - start:.1f} s to write, {loaded - written:.1f} s to load"
-        print(f"\n100,000 rules: {seconds}")
-    at(browser, "last").click()
-    until(browser, "100,000 rules of 100,000, page 2,000 of 2,000")
-    assert [row[2] for row in rows(browser)] == [str(n) for n in range(50, 0, -1)]
-    at(browser, "support").send_keys("9.9991")
-    until(browser, "10 rules of 100,000, page 1 of 1")
-
-
-def test_rules_of_mlxtends_calls_are_shown_with_their_counts(tmp_path: Path) -> None:
-    table = pd.DataFrame({"a": [1, 1, 0], "b": [1, 0, 1]})
-    found = association_rules(apriori(table, 0.3), metric="lift", min_threshold=0)
-    text = explore(found, tmp_path / "rules.html").read_text()
-    shown = re.search(r'id="data">(.*)</script>', text)
-    assert shown
-    data = json.loads(shown[1])
-    assert data["sides"] == [["0"], ["1"]]
-    assert {*zip(data["left"], data["right"])} == {(0, 1), (1, 0)}
-    assert (data["both"], data["total"]) == ([1, 1], 3)
-    assert data["withLeft"] == data["withRight"] == [2, 2]
-
-
-@pytest.mark.parametrize(
-    ("said", "change"),
-    [
-        ("no column 'count'", lambda frame: frame.drop(columns="count")),
-        ("no column 'lift'", lambda frame: frame.drop(columns="lift")),
-        ("not those of one number", lambda frame: frame.assign(lift=0.3)),
-        ("not those of one number", lambda frame: frame.assign(support=0.0)),
-        ("not those of one number", lambda frame: frame.round(2)),
-    ],
-)
-def test_frames_that_are_no_rules_are_refused(
-    said: str, change: Callable[[pd.DataFrame], pd.DataFrame], tmp_path: Path
-) -> None:
-    found = rules(RECEIPTS, 2, "1/4", form="single", header=True)
-    with pytest.raises(DataError, match=said):
-        explore(change(found), tmp_path / "rules.html")
-
-
-def test_no_rule_is_a_page_too(browser: webdriver.Chrome, tmp_path: Path) -> None:
-    found = rules([["a"], ["b"]], 1, 0.5)
-    browser.get(explore(found, tmp_path / "rules.html").as_uri())
-    assert at(browser, "summary").text == "There is no rule."
-    assert browser.get_log("browser") == []
-
-
-def test_the_shell_writes_the_page(tmp_path: Path) -> None:
-    words = [sys.executable, "-m", "basket_miner", "explore", str(RECEIPTS)]
-    words += ["--form=single", "--header", "--min=20%", "--conf=2/3", "-o"]
-    run = {"cwd": ROOT / "python", "capture_output": True, "text": True}
-    page = tmp_path / "rules.html"
-    ended = subprocess.run([*words, str(page)], check=True, **run)  # type: ignore[call-overload]
-    assert ended.stderr == f"3 rules in {page}\n"
-    assert '"both":[7,3,5]' in page.read_text()
-    words[words.index("--min=20%")] = "--min=x%"
-    ended = subprocess.run([*words, str(page)], check=False, **run)  # type: ignore[call-overload]
-    assert ended.returncode == 1
-    assert "bad value for --min" in ended.stderr and "Traceback" not in ended.stderr

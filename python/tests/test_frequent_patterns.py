@@ -9,16 +9,13 @@ import itertools
 import math
 import random
 from collections.abc import Callable
-from fractions import Fraction
 from typing import Any
 
 import brute
-import numpy as np
 import pandas as pd
 import pytest
 
 from basket_miner import DataError
-from basket_miner._measures import measures
 from basket_miner.frequent_patterns import (
     apriori,
     association_rules,
@@ -126,42 +123,6 @@ def test_longer_itemsets_than_max_len_are_left_out(most: int) -> None:
         assert pairs(found) == wanted
     found = fpmax(FRAME, min_support=0.6, use_colnames=True, max_len=most)
     assert pairs(found) == [pair for pair in LARGEST if len(pair[1]) <= most]
-
-
-def by_definition(
-    left: Fraction, right: Fraction, both: Fraction
-) -> dict[str, Fraction | float]:
-    """The measures of a rule by the supports of its sides and of both."""
-    confidence, leverage = both / left, both - left * right
-    larger = max(both * (1 - left), left * (right - both))
-    return {
-        "antecedent support": left,
-        "consequent support": right,
-        "support": both,
-        "confidence": confidence,
-        "lift": confidence / right,
-        "representativity": 1.0,
-        "leverage": leverage,
-        "conviction": (math.inf if confidence == 1 else (1 - right) / (1 - confidence)),
-        "zhangs_metric": leverage / larger if larger else 0.0,
-        "jaccard": both / (left + right - both),
-        "certainty": (confidence - right) / (1 - right) if right < 1 else 0.0,
-        "kulczynski": (confidence + both / right) / 2,
-    }
-
-
-@pytest.mark.parametrize("most", [3, 50, 2**26 - 1, 2**26, 2**40])
-def test_a_measure_is_the_float_nearest_to_its_exact_value(most: int) -> None:
-    chance = random.Random(most)
-    for _ in range(200):
-        total = chance.randint(max(most - 9, 1), most)
-        left, right = chance.randint(1, total), chance.randint(1, total)
-        both = chance.randint(max(left + right - total, 1), min(left, right))
-        found = measures(np.array([both]), np.array([left]), np.array([right]), total)
-        exact = by_definition(*(Fraction(n, total) for n in (left, right, both)))
-        assert {name: values[0] for name, values in found.items()} == {
-            name: float(value) for name, value in exact.items()
-        }
 
 
 @pytest.mark.parametrize("metric", [*NAMES, *MORE])

@@ -75,7 +75,8 @@ function isSelected(rule) {
 
 function update() {
   const [left, right] = ["left", "right"].map((id) => sidesWith(element(id).value));
-  const least = ["support", "confidence", "lift"].map((id) => Number(element(id).value) || 0);
+  // A product of floats may lie just below the decimal that was typed.
+  const least = ["support", "confidence", "lift"].map((id) => (Number(element(id).value) || 0) * (1 - 1e-12));
   passing = order.filter((rule) =>
     left[data.left[rule]] && right[data.right[rule]] && 100 * supports[rule] >= least[0] &&
     100 * confidences[rule] >= least[1] && lifts[rule] >= least[2]);
