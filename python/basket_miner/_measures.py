@@ -33,8 +33,8 @@ def measures(both: Array, left: Array, right: Array, total: int) -> dict[str, Ar
         right: how many have the consequents.
         total: how many baskets there are.
 
-    Where a measure divides by zero, it is what mlxtend says: the conviction of a rule that always
-    holds is infinite, and Zhang's metric and the certainty of one that tells nothing are 0.
+    Where a measure divides by zero, the conviction of a rule that always holds is infinite, and
+    Zhang's metric and the certainty of one that tells nothing are 0.
     """
     if total >= MOST_TOTAL_OF_FLOATS:
         both, left, right = (part.astype(object) for part in (both, left, right))
