@@ -14,3 +14,5 @@ mod OnesLemmas
 mod PlaceLemmas
 mod RowLemmas
 mod BlockLemmas
+mod CounterLemmas
+mod UsedItemLemmas

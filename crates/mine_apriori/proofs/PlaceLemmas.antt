@@ -1,19 +1,22 @@
 -- Places of a block of baskets as bits, and what rows have of them.
-use Rattle.std.proofs.Common.{◌≡◌, ℕ, zero, suc, ◌+◌, ◌*◌, ◌/◌, ◌%◌, ◌<◌, ◌≤◌, ◌^◌, Bool, true, false, ◌&&◌, List, [], ◌∷◌, ◌++◌, length, take, get_or, map, cond, eqb, refl, sym, ap, ◌∙◌, subst, arith, min}
+use Rattle.std.proofs.Common.{◌≡◌, ℕ, zero, suc, ◌+◌, ◌*◌, ◌/◌, ◌%◌, ◌<◌, ◌≤◌, ◌^◌, Bool, true, false, ◌&&◌, List, [], ◌∷◌, ◌++◌, length, take, drop, get_or, map, ◌-◌, cond, eqb, refl, sym, ap, ◌∙◌, subst, arith, min}
 use Rattle.std.specs.Prelude.{bit_and, bit_or, count_ones}
 use Rattle.std.specs.Int.{bit_at}
 use Rattle.std.specs.Int.Bits.{and_zero_l}
 use Rattle.std.specs.List.{sum_by}
 use Rattle.std.proofs.Math.ListN.{set}
 use Rattle.std.proofs.Math.Nat.{add-mul, zero-mul, one-mul}
-use Rattle.std.proofs.lemmas.List.{length-take-le, take_more}
+use Rattle.std.proofs.Math.Seq.{take-add}
+use Rattle.std.proofs.lemmas.List.{length-take-le, take-append-drop, take_all, take_more}
 use Rattle.std.proofs.lemmas.List.Sums.{sum_by_more, sum_by-set}
 use Rattle.std.proofs.lemmas.Nat.{and_assoc}
 use Rattle.std.proofs.lemmas.Nat.Bits.{bit_at_and, bit_at_ones, bit_at-lt}
 use Rattle.basket_sets.specs.declared.weighted.Weighted.{Weighted}
 use Rattle.basket_sets.specs.Itemset.{contains, has}
 use Rattle.basket_sets.specs.Support.{support_of, weight_at}
-use Rattle.basket_sets.proofs.theory.Support.{support-cons}
+use Rattle.basket_sets.proofs.theory.Members.{Member, Member-append_left, Member-append_right}
+use Rattle.basket_sets.proofs.theory.Rising.{contains_each, has_each}
+use Rattle.basket_sets.proofs.theory.Support.{support-cons, support_falls}
 use Rattle.mine_apriori.specs.declared.places.Places.{Places}
 use Rattle.mine_apriori.specs.Places.{AreKept, ArePlacesOf, IsJoinable, IsRowOf, basket_at, has_place, part_weight, shared_weight, weight_from}
 use Rattle.mine_apriori.proofs.OnesLemmas.{one_shared, ones_shared}
@@ -134,8 +137,7 @@ one_cond false true weight = refl
 one_cond false false weight = refl
 
 -- a row has the places, from one on, of the baskets that have an item
-HasRow : ℕ → (ℕ → ℕ) → ℕ → List Weighted → Type 0
-abbrev HasRow
+abbrev HasRow : ℕ → (ℕ → ℕ) → ℕ → List Weighted → Type 0
 HasRow at r item baskets = (k : ℕ) → k < length baskets → has_place r (at + k) ≡ has (basket_at baskets k) item
 
 first_in : (at : ℕ) (r : ℕ → ℕ) (item : ℕ) (first : Weighted) (baskets : List Weighted) → HasRow at r item (first ∷ baskets) → has_place r at ≡ has first.basket item
@@ -165,8 +167,7 @@ from_row at r items item (first ∷ baskets) each =
     omega (arith, rest, one, support-cons first baskets (items ++ item ∷ []))
 
 -- a row that has every place
-ones : ℕ → ℕ
-abbrev ones
+abbrev ones : ℕ → ℕ
 ones word = 2 ^ 64 - 1
 
 from_ones : (at : ℕ) (items : List ℕ) (baskets : List Weighted) → weight_from at ones items baskets ≡ support_of baskets items
@@ -212,3 +213,27 @@ all_more baskets i basket places new below is added before = record {
   where
     zero-sum : (n : ℕ) → n ≡ 0 + n
     zero-sum n = omega arith
+
+-- a set has no support where a prefix has no places
+pub none_with_prefix : (baskets : List Weighted) (items : List ℕ) (depth : ℕ) → ArePlacesOf baskets (take depth items) [] → support_of baskets items ≡ 0
+none_with_prefix baskets items depth are =
+    let none = none_support baskets (take depth items) are in
+    let falls = support_falls baskets items (take depth items) (contains_each items (take depth items) (λ item m. taken_member depth items item m)) in
+    omega arith
+  where
+    taken_member : (n : ℕ) (l : List ℕ) (x : ℕ) → Member x (take n l) → Member x l
+    taken_member n l x m = subst (Member x) (take-append-drop n l) (Member-append_left x (take n l) (drop n l) m)
+
+-- some items of a set are used where all are
+pub part_used : (used items : List ℕ) (start size : ℕ) → contains used items ≡ true → contains used (take size (drop start items)) ≡ true
+part_used used items start size all = contains_each used (take size (drop start items)) (λ item m.
+    has_each used items all item
+    (subst (Member item) (take-append-drop start items) (Member-append_right item (take start items) (drop start items)
+    (subst (Member item) (take-append-drop size (drop start items)) (Member-append_left item (take size (drop start items)) (drop size (drop start items)) m)))))
+
+-- a prefix, what comes behind it, and the last item are the set
+pub parts_joined : (items : List ℕ) (depth last : ℕ) → depth ≤ last → length items ≡ last + 1 → (take depth items ++ take (last - depth) (drop depth items)) ++ get_or items last 0 ∷ [] ≡ items
+parts_joined items depth last le long =
+    let e : depth + (last - depth) ≡ last = omega arith in
+    ap (λ l. l ++ get_or items last 0 ∷ []) (sym (take-add depth (last - depth) items) ∙ ap (λ n. take n items) e)
+    ∙ sym (take_more items last 0 (omega arith)) ∙ take_all (last + 1) items (omega arith)

@@ -83,7 +83,8 @@ impl<'a> Block<'a> {
         let last = items.len() - 1;
         self.add_prefixes(alloc, items, prefixes)?;
         let depth = prefixes.len() - 1;
-        self.shared(alloc, &prefixes[depth], &items[depth..last], items[last])
+        let support = self.shared(alloc, &prefixes[depth], &items[depth..last], items[last])?;
+        Ok(support)
     }
 
     /// Adds the places of more prefixes of a set, until there are none or as many as are kept.
@@ -171,13 +172,12 @@ fn weight_of(baskets: &[Weighted]) -> u64
     weight
 }
 
-/// Whether the places of the last prefix that has some are none, so that no basket contains the set.
+/// Whether the last prefix has no places, so that no basket contains the set.
 #[inline]
 pub fn are_none(prefixes: &[Vec<Places>]) -> bool
+    requires { 1 ≤ length prefixes.now }
     ensures { IsTrue result → (baskets : List Place) (items : List ℕ) → ArePrefixes baskets items prefixes.now → support_of baskets items ≡ 0 }
 {
-    match prefixes.last() {
-        Some(places) => places.is_empty(),
-        None => false,
-    }
+    let last = &prefixes[prefixes.len() - 1];
+    last.is_empty()
 }

@@ -1,9 +1,10 @@
 //! Sets that are counted by rows of bits.
-ghost use Rattle.std.specs.Prelude.{◌≡◌, ◌<◌, ◌≤◌, ◌+◌, ◌-◌, ℕ, IfOk, OnOk, length, slice_index, slice_index_or, take};
+ghost use Rattle.std.specs.Prelude.{◌≡◌, ◌<◌, ◌≤◌, ◌+◌, ◌-◌, ℕ, [], IfOk, OnOk, length, slice_index, slice_index_or};
 ghost use Rattle.basket_sets.specs.Database.{MOST_WEIGHT};
 ghost use Rattle.basket_sets.specs.Support.{support_of, total_of};
 ghost use Rattle.mine_apriori.specs.Block.{ArePrefixes};
 ghost use Rattle.mine_apriori.specs.Counter.{AreShared, IsShared};
+ghost use Rattle.mine_apriori.specs.UsedItems.{AreUsed};
 ghost use Rattle.mine_classes.specs.Triangle.{WithSupports};
 
 use crate::block::{Block, MOST_PREFIXES, are_none};
@@ -117,7 +118,7 @@ impl<'a> RowCounter<'a> {
         prefixes: &mut Vec<Vec<Places>>,
     ) -> Result<u64, AllocError>
         requires within { number < length self.now }
-        requires used { block.now.used.now ≡ self.now.used }
+        requires used { AreUsed self.now block.now.used.now }
         requires prefixes { ArePrefixes block.now.baskets.now (slice_index_or self.now (number - 1) []) prefixes.old.items }
         ensures support { IfOk result (λ support. support ≡ support_of block.now.baskets.now (slice_index_or self.now number [])) }
         ensures prefixes { OnOk result (ArePrefixes block.now.baskets.now (slice_index_or self.now number []) prefixes.new.items) }
@@ -126,7 +127,8 @@ impl<'a> RowCounter<'a> {
         if are_none(prefixes) {
             return Ok(0);
         }
-        block.support(alloc, self.sets[number].items(), prefixes)
+        let support = block.support(alloc, self.sets[number].items(), prefixes)?;
+        Ok(support)
     }
 }
 

@@ -3,7 +3,7 @@ ghost use Rattle.std.specs.Prelude.{◌≡◌, ◌≤◌, ◌<◌, ◌+◌, ◌*
 ghost use Rattle.basket_sets.specs.Itemset.{has};
 ghost use Rattle.basket_sets.specs.declared.weighted.Weighted.{Weighted as Place};
 ghost use Rattle.mine_apriori.specs.Places.{IsRowOf};
-ghost use Rattle.mine_apriori.specs.Rows.{AreRows, bit_in, has_bit};
+ghost use Rattle.mine_apriori.specs.Rows.{AreRows, bit_in};
 
 use crate::places::WORD;
 use crate::used_items::UsedItems;
@@ -22,11 +22,13 @@ pub struct Rows {
 impl Rows {
     /// The rows of the baskets.
     pub fn of(alloc: Global, used: &UsedItems, baskets: &[Weighted]) -> Result<Self, AllocError>
-        requires { length used.now * length baskets.now < 2 ^ 63 }
         ensures { IfOk result (AreRows used.now baskets.now) }
     {
         let words = baskets.len().div_ceil(WORD);
-        let mut bits = vec![in alloc; 0; used.items().len() * words]?;
+        let Some(len) = used.items().len().checked_mul(words) else {
+            return Err(AllocError);
+        };
+        let mut bits = vec![in alloc; 0; len]?;
         for (place, basket) in baskets.iter().enumerate() {
             mark(&mut bits, words, used, place, basket.basket.items());
         }
@@ -39,7 +41,8 @@ impl Rows {
         requires { (items : List ℕ) × (baskets : List Place) × (number < length items) × AreRows items baskets self.now }
         ensures { (items : List ℕ) (baskets : List Place) → number < length items → AreRows items baskets self.now → IsRowOf baskets (slice_index items number) result.now }
     {
-        &self.bits[number * self.words..(number + 1) * self.words]
+        let start = number * self.words;
+        &self.bits[start..start + self.words]
     }
 }
 
@@ -51,8 +54,19 @@ fn mark(bits: &mut [u64], words: usize, used: &UsedItems, place: usize, items: &
         → bit_in bits.new words number other ≡ (bit_in bits.old words number other || (other == place) && has items.now (slice_index used.now number)) }
 {
     for item in items {
-        if let Some(number) = used.number(*item) {
-            bits[number * words + place / WORD] |= 1 << (place % WORD);
-        }
+        set_bit(bits, words, used, place, *item);
+    }
+}
+
+/// Sets the bit of a place in the row of an item, if it is used.
+fn set_bit(bits: &mut [u64], words: usize, used: &UsedItems, place: usize, item: u32)
+    requires long { length bits.old ≡ length used.now * words }
+    requires within { place < words * 64 }
+    ensures { (number other : ℕ) → number < length used.now → other < words * 64
+        → bit_in bits.new words number other ≡ (bit_in bits.old words number other || (other == place) && (item == slice_index used.now number)) }
+{
+    let _rises = used.items();
+    if let Some(number) = used.number(item) {
+        bits[number * words + place / WORD] |= 1 << (place % WORD);
     }
 }

@@ -1,5 +1,5 @@
 //! The items that sets have, each with a number.
-ghost use Rattle.std.specs.Prelude.{◌≡◌, ◌<◌, ℕ, false, IfOk, IsTrue, MatchOption, OnOk, length, slice_index};
+ghost use Rattle.std.specs.Prelude.{◌≡◌, ◌<◌, ◌≤◌, ℕ, false, IfOk, IsTrue, MatchOption, OnOk, length, slice_index};
 ghost use Rattle.basket_sets.specs.Itemset.{IsRising, has};
 ghost use Rattle.mine_apriori.specs.UsedItems.{AreUsed};
 
@@ -61,7 +61,10 @@ impl UsedItems {
         if is_missing(items, item, hint) {
             return None;
         }
-        items.binary_search(&item).ok()
+        match items.binary_search(&item) {
+            Ok(number) => Some(number),
+            Err(_) => None,
+        }
     }
 }
 
@@ -71,9 +74,37 @@ fn is_missing(items: &[u32], item: u32, place: usize) -> bool
     requires { IsRising items.now }
     ensures { IsTrue result → has items.now item ≡ false }
 {
-    let is_above = place == 0 || place <= items.len() && items[place - 1] < item;
-    let is_below = place >= items.len() || item < items[place];
-    is_above && is_below
+    if !are_below(items, item, place) {
+        return false;
+    }
+    are_above(items, item, place)
+}
+
+/// Whether all items before a place are below an item.
+#[inline]
+fn are_below(items: &[u32], item: u32, place: usize) -> bool
+    requires { IsRising items.now }
+    ensures { IsTrue result → (k : ℕ) → k < place → k < length items.now → slice_index items.now k < item }
+{
+    if place == 0 {
+        return true;
+    }
+    if place > items.len() {
+        return false;
+    }
+    items[place - 1] < item
+}
+
+/// Whether all items from a place on are above an item.
+#[inline]
+fn are_above(items: &[u32], item: u32, place: usize) -> bool
+    requires { IsRising items.now }
+    ensures { IsTrue result → (k : ℕ) → place ≤ k → k < length items.now → item < slice_index items.now k }
+{
+    if place >= items.len() {
+        return true;
+    }
+    item < items[place]
 }
 
 /// The hint for an item, or else a given number.
@@ -95,7 +126,8 @@ fn items_in(alloc: Global, sets: &[Itemset]) -> Result<Itemset, AllocError>
         items.extend_from_slice(set.items())?;
         most = keep_distinct(alloc, &mut items, most)?;
     }
-    Itemset::from_items(alloc, &items)
+    let used = Itemset::from_items(alloc, &items)?;
+    Ok(used)
 }
 
 /// Leaves repeated items out if there are more items than this. Returns how many there may be before the next time.
@@ -106,9 +138,17 @@ fn keep_distinct(alloc: Global, items: &mut Vec<u32>, most: usize) -> Result<usi
         return Ok(most);
     }
     let distinct = Itemset::from_items(alloc, items)?;
-    items.clear();
-    items.extend_from_slice(distinct.items())?;
+    replace(items, distinct.items())?;
     Ok(items.len().saturating_mul(2).saturating_add(FEW_ITEMS))
+}
+
+/// Puts other items in the place of some.
+fn replace(items: &mut Vec<u32>, others: &[u32]) -> Result<(), AllocError>
+    ensures { OnOk result (items.new.items ≡ others.now) }
+{
+    items.clear();
+    items.extend_from_slice(others)?;
+    Ok(())
 }
 
 /// For each item up to the greatest how many are below it, as far as hints go.

@@ -8,5 +8,5 @@ invariant-loop-start l = record {
   added : WithSupports l.self (take l.start l.baskets) l.initial.counts l.counts;
 }
 
-abbrev pub measure-loop-start : goal.measure-loop-start
-measure-loop-start l = length l.baskets - l.start
+abbrev pub decreases-loop-start : goal.decreases-loop-start
+decreases-loop-start l = length l.baskets - l.start
