@@ -70,11 +70,16 @@ apart a b x none = same_from_bits (bit_and (bit_and a x) (bit_and b x)) 0 (λ i.
     none_of : (p q r : ℕ) → min p q ≡ 0 → min (min p r) (min q r) ≡ 0
     none_of p q r e = omega arith
 
--- what a word shares with the ones of two words that share none
-pub ones_shared : (a b x : ℕ) → a < 2 ^ 64 → b < 2 ^ 64 → bit_and a b ≡ 0 → count_ones (bit_and (bit_or a b) x) ≡ count_ones (bit_and a x) + count_ones (bit_and b x)
-ones_shared a b x below under none =
+below_power : (n : ℕ) → n < 2 ^ n
+below_power zero = omega arith
+below_power (suc n) = let rest = below_power n in let e : suc n ≡ n + 1 = omega arith in let double : 2 ^ suc n ≡ 2 ^ n * 2 = ap (λ m. 2 ^ m) e ∙ pow-add 2 n 1 in omega arith
+
+-- what a word shares with two words that share none
+pub ones_shared : (a b x : ℕ) → bit_and a b ≡ 0 → count_ones (bit_and (bit_or a b) x) ≡ count_ones (bit_and a x) + count_ones (bit_and b x)
+ones_shared a b x none =
+    let fits = below_power (a + b) in
     ap count_ones (and_or a b x)
-    ∙ ones_or 64 (bit_and a x) (bit_and b x) (omega (arith, and_le_l a x)) (omega (arith, and_le_l b x)) (apart a b x none)
+    ∙ ones_or (a + b) (bit_and a x) (bit_and b x) (omega (arith, and_le_l a x)) (omega (arith, and_le_l b x)) (apart a b x none)
 
 -- what a word shares with the word of one place
 pub one_shared : (j x : ℕ) → count_ones (bit_and (2 ^ j) x) ≡ bit_at x j

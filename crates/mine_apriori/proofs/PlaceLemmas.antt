@@ -1,7 +1,7 @@
 -- Places of a block of baskets as bits, and what rows have of them.
-use Rattle.std.proofs.Common.{◌≡◌, ℕ, zero, suc, ◌+◌, ◌*◌, ◌/◌, ◌%◌, ◌<◌, ◌≤◌, ◌^◌, Bool, true, false, ◌&&◌, List, [], ◌∷◌, ◌++◌, length, take, drop, get_or, map, ◌-◌, cond, eqb, refl, sym, ap, ◌∙◌, subst, arith, min}
+use Rattle.std.proofs.Common.{◌≡◌, ℕ, zero, suc, ◌+◌, ◌*◌, ◌/◌, ◌%◌, ◌<◌, ◌≤◌, ◌^◌, Bool, true, false, ◌&&◌, List, [], ◌∷◌, ◌++◌, length, take, drop, get_or, map, ◌-◌, cond, eqb, refl, sym, ap, ◌∙◌, subst, inl, inr, arith, min, w64}
 use Rattle.std.specs.Prelude.{bit_and, bit_or, count_ones}
-use Rattle.std.specs.Int.{bit_at}
+use Rattle.std.specs.Int.{bit_at, trailing_zeros}
 use Rattle.std.specs.Int.Bits.{and_zero_l}
 use Rattle.std.specs.List.{sum_by}
 use Rattle.std.proofs.Math.ListN.{set}
@@ -10,15 +10,18 @@ use Rattle.std.proofs.Math.Seq.{take-add}
 use Rattle.std.proofs.lemmas.List.{length-take-le, take-append-drop, take_all, take_more}
 use Rattle.std.proofs.lemmas.List.Sums.{sum_by_more, sum_by-set}
 use Rattle.std.proofs.lemmas.Nat.{and_assoc}
-use Rattle.std.proofs.lemmas.Nat.Bits.{bit_at_and, bit_at_ones, bit_at-lt}
+use Rattle.std.proofs.lemmas.Nat.Bits.{bit_at_above, bit_at_and, bit_at_ones, bit_at-lt, bit_at-trailing_zeros}
+use Rattle.std.proofs.Math.Pow.{pow-lt}
+use Rattle.std.proofs.lemmas.Bool.{cases_lt}
 use Rattle.basket_sets.specs.declared.weighted.Weighted.{Weighted}
 use Rattle.basket_sets.specs.Itemset.{contains, has}
 use Rattle.basket_sets.specs.Support.{support_of, weight_at}
 use Rattle.basket_sets.proofs.theory.Members.{Member, Member-append_left, Member-append_right}
-use Rattle.basket_sets.proofs.theory.Rising.{contains_each, has_each}
+use Rattle.basket_sets.proofs.theory.Rising.{Member-from_has, contains_each, has-from_Member, has_each}
 use Rattle.basket_sets.proofs.theory.Support.{support-cons, support_falls}
 use Rattle.mine_apriori.specs.declared.places.Places.{Places}
 use Rattle.mine_apriori.specs.Places.{AreKept, ArePlacesOf, IsJoinable, IsRowOf, basket_at, has_place, part_weight, shared_weight, weight_from}
+use Rattle.mine_apriori.specs.UsedItems.{AreUsed}
 use Rattle.mine_apriori.proofs.OnesLemmas.{one_shared, ones_shared}
 
 abbrev pub places_at : ℕ → ℕ → ℕ → Places
@@ -35,16 +38,16 @@ both r row word = bit_and (r word) (row word)
 -- ---- places that are added
 
 -- some places more, at those of their word and weight
-pub added_part : (row : ℕ → ℕ) (places : List Places) (at : ℕ) (part more : Places) → at < length places → part ≡ get_or places at more → part.bits < 2 ^ 64 → more.bits < 2 ^ 64
+pub added_part : (row : ℕ → ℕ) (places : List Places) (at : ℕ) (part more : Places) → at < length places → part ≡ get_or places at more
     → IsJoinable part more → shared_weight row (set places at (places_at part.word (bit_or part.bits more.bits) part.weight)) ≡ shared_weight row places + part_weight row more
-added_part row places at part more below is low high join =
+added_part row places at part more below is join =
     let new : Places = places_at part.word (bit_or part.bits more.bits) part.weight in
     let step = sum_by-set (part_weight row) places at new more below in
     let old : part_weight row (get_or places at more) ≡ part_weight row part = ap (part_weight row) (sym is) in
     let there : part_weight row more ≡ count_ones (bit_and more.bits (row part.word)) * part.weight =
     ap (λ w. count_ones (bit_and more.bits (row w)) * more.weight) (sym join.word) ∙ ap (λ w. count_ones (bit_and more.bits (row part.word)) * w) (sym join.weight) in
     let joined : part_weight row new ≡ part_weight row part + part_weight row more =
-    ap (λ n. n * part.weight) (ones_shared part.bits more.bits (row part.word) low high join.apart)
+    ap (λ n. n * part.weight) (ones_shared part.bits more.bits (row part.word) join.apart)
     ∙ add-mul (count_ones (bit_and part.bits (row part.word))) (count_ones (bit_and more.bits (row part.word))) part.weight ∙ ap (λ n. part_weight row part + n) (sym there) in
     omega arith
 
@@ -62,6 +65,31 @@ bit_times (suc (suc b)) weight low = absurd (omega arith)
 pub place_weight : (row : ℕ → ℕ) (place weight : ℕ) → part_weight row (places_at (place / 64) (2 ^ (place % 64)) weight) ≡ cond (has_place row place) weight 0
 place_weight row place weight =
     ap (λ n. n * weight) (one_shared (place % 64) (row (place / 64))) ∙ bit_times (bit_at (row (place / 64)) (place % 64)) weight (bit_at-lt (row (place / 64)) (place % 64))
+
+power_fits : (place : ℕ) → 1 * 2 ^ (place % 64) % 2 ^ 64 ≡ 2 ^ (place % 64)
+power_fits place = let low : place % 64 < 64 = omega arith in let small = pow-lt {i = place % 64} {j = 64} low in omega arith
+
+-- the same with the word of the place as it is made
+pub made_weight : (row : ℕ → ℕ) (place weight : ℕ) → part_weight row (places_at (place / 64) (1 * 2 ^ (place % 64) % 2 ^ 64) weight) ≡ cond (has_place row place) weight 0
+made_weight row place weight = ap (λ b. part_weight row (places_at (place / 64) b weight)) (power_fits place) ∙ place_weight row place weight
+
+-- the lowest bit of a number is no greater than the number
+pub lowest_bit : (rest : ℕ) → 0 < rest → rest < 2 ^ 64 → 1 * 2 ^ (trailing_zeros w64 rest) % 2 ^ 64 ≤ rest
+lowest_bit rest some fits =
+    let bit = bit_at-trailing_zeros w64 rest some fits in
+    elim (cases_lt rest (2 ^ (trailing_zeros w64 rest))) [
+      | inl less ↦ absurd (let none = bit_at_above rest (trailing_zeros w64 rest) (trailing_zeros w64 rest) less (omega arith) in omega (arith, none, bit.1.0))
+      | inr le ↦ omega arith
+    ]
+
+cond_parts : (b : Bool) (weight part : ℕ) → part ≤ weight → cond b part 0 + cond b (weight - part) 0 ≡ cond b weight 0
+cond_parts true weight part le = omega arith
+cond_parts false weight part le = refl
+
+-- a part of a weight more
+pub rest_more : (row : ℕ → ℕ) (place rest part start now new : ℕ) → part ≤ rest → new ≡ now + cond (has_place row place) part 0 → now + cond (has_place row place) rest 0 ≡ start
+    → new + cond (has_place row place) (rest - part) 0 ≡ start
+rest_more row place rest part start now new le added before = let parts = cond_parts (has_place row place) rest part le in omega arith
 
 -- ---- places that are kept
 
@@ -213,6 +241,10 @@ all_more baskets i basket places new below is added before = record {
   where
     zero-sum : (n : ℕ) → n ≡ 0 + n
     zero-sum n = omega arith
+
+-- all items of a set are used
+pub set_used : (sets : List (List ℕ)) (used : List ℕ) (k : ℕ) → AreUsed sets used → k < length sets → contains used (get_or sets k []) ≡ true
+set_used sets used k all within = contains_each used (get_or sets k []) (λ item m. Member-from_has used item (all k item within (has-from_Member (get_or sets k []) item m)))
 
 -- a set has no support where a prefix has no places
 pub none_with_prefix : (baskets : List Weighted) (items : List ℕ) (depth : ℕ) → ArePlacesOf baskets (take depth items) [] → support_of baskets items ≡ 0

@@ -15,9 +15,9 @@ use std::alloc::{AllocError, Global};
 use std::thread::Threads;
 
 impl SupportCounter for RowCounter<'_> {
-    ghost sets_of = { λ tree. tree };
+    ghost sets_of = { λ counter. counter };
 
-    ghost can_count = { λ tree basket. Unit {0} };
+    ghost can_count = { λ counter basket. Unit {0} };
 
     fn len(&self) -> usize {
         self.sets().len()
@@ -50,12 +50,12 @@ pub fn count_level<R: Threads + Sync, G: Gate + Sync>(
 {
     let size = sets.first().map_or(0, |set| set.len());
     let number = u32::try_from(size).unwrap_or(u32::MAX);
-    let tree = RowCounter::of(alloc, sets)?;
+    let counter = RowCounter::of(alloc, sets)?;
     count_supports(
         rt,
         alloc,
         baskets,
-        &tree,
+        &counter,
         &Phase::new(number, cutting, gate),
     )
 }
