@@ -78,7 +78,7 @@ pub lowest_bit : (rest : ℕ) → 0 < rest → rest < 2 ^ 64 → 1 * 2 ^ (traili
 lowest_bit rest some fits =
     let bit = bit_at-trailing_zeros w64 rest some fits in
     elim (cases_lt rest (2 ^ (trailing_zeros w64 rest))) [
-      | inl less ↦ absurd (let none = bit_at_above rest (trailing_zeros w64 rest) (trailing_zeros w64 rest) less (omega arith) in omega (arith, none, bit.1.0))
+      | inl less ↦ absurd (let none = bit_at_above rest (trailing_zeros w64 rest) (trailing_zeros w64 rest) less (omega arith) in omega (arith, none, bit.1))
       | inr le ↦ omega arith
     ]
 
