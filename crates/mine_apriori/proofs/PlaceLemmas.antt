@@ -182,7 +182,7 @@ from_both at r row items item (first ∷ baskets) each =
     let rest = from_both (at + 1) r row items item baskets (others_in at r item first baskets each) in
     let here = has_both r row at ∙ ap (λ b. b && has_place row at) (first_in at r item first baskets each) in
     let one = ap (λ b. cond b (weight_at items first) 0) here ∙ both_conds (contains first.basket items) (has first.basket item) (has_place row at) first.weight
-        ∙ ap (λ b. cond (has_place row at) (cond b first.weight 0) 0) (sym (contains_push first.basket items item)) in
+    ∙ ap (λ b. cond (has_place row at) (cond b first.weight 0) 0) (sym (contains_push first.basket items item)) in
     omega (arith, rest, one)
 
 -- the row of an item
@@ -191,7 +191,7 @@ from_row at r items item [] each = refl
 from_row at r items item (first ∷ baskets) each =
     let rest = from_row (at + 1) r items item baskets (others_in at r item first baskets each) in
     let one = ap (λ b. cond b (weight_at items first) 0) (first_in at r item first baskets each) ∙ one_cond (contains first.basket items) (has first.basket item) first.weight
-        ∙ ap (λ b. cond b first.weight 0) (sym (contains_push first.basket items item)) in
+    ∙ ap (λ b. cond b first.weight 0) (sym (contains_push first.basket items item)) in
     omega (arith, rest, one, support-cons first baskets (items ++ item ∷ []))
 
 -- a row that has every place

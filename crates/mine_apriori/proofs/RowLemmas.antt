@@ -78,7 +78,7 @@ set_used used words place item k at v bits here is up low long stands value numb
               | inl low_bits ↦
                   (let whole : other ≡ place = omega arith in
                   let one : eqb (bit_at v (other % 64)) 1 ≡ true = ap (λ n. eqb (bit_at v n) 1) low_bits ∙ ap (λ n. eqb (bit_at n (place % 64)) 1) value
-                      ∙ ap (λ n. eqb n 1) (bit_at_set_same w64 (get_or bits at 0) (place % 64) (omega arith)) in
+                  ∙ ap (λ n. eqb n 1) (bit_at_set_same w64 (get_or bits at 0) (place % 64) (omega arith)) in
                   let item_is : eqb item u ≡ true = eq-eqb item u (sym is ∙ ap (λ n. get_or used n 0) (sym same)) in
                   now ∙ one ∙ sym (ap (λ b. bit_in bits words number other || (b && eqb item u)) (eq-eqb other place whole) ∙ ap (λ b. bit_in bits words number other || b) item_is ∙ or_true (bit_in bits words number other)))
               | inr differ ↦

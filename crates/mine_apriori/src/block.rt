@@ -30,7 +30,11 @@ pub struct Block<'a> {
 
 impl<'a> Block<'a> {
     /// The block of the baskets.
-    pub fn of(alloc: Global, used: &'a UsedItems, baskets: &'a [Weighted]) -> Result<Self, AllocError>
+    pub fn of(
+        alloc: Global,
+        used: &'a UsedItems,
+        baskets: &'a [Weighted],
+    ) -> Result<Self, AllocError>
         requires { total_of baskets.now ≤ MOST_WEIGHT }
         ensures baskets { IfOk result (λ block. block.baskets.now ≡ baskets.now) }
         ensures used { IfOk result (λ block. block.used.now ≡ used.now) }

@@ -148,7 +148,10 @@ fn shared_items(alloc: Global, sets: &[Itemset]) -> Result<Vec<u8>, AllocError>
 fn shared_by(before: &[u32], items: &[u32]) -> u8
     ensures { IsShared before.now items.now result }
 {
-    let most = before.len().min(items.len().saturating_sub(1)).min(MOST_PREFIXES);
+    let most = before
+        .len()
+        .min(items.len().saturating_sub(1))
+        .min(MOST_PREFIXES);
     for at in 0..most {
         if before[at] != items[at] {
             return at as u8;

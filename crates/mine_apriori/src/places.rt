@@ -48,7 +48,12 @@ fn add_part(places: &mut Vec<Places>, start: usize, more: Places) -> Result<(), 
 }
 
 /// Adds a place of a weight, bit by bit of the weight, so that most weights have their places together.
-fn add_place(places: &mut Vec<Places>, start: usize, place: usize, weight: u64) -> Result<(), AllocError>
+fn add_place(
+    places: &mut Vec<Places>,
+    start: usize,
+    place: usize,
+    weight: u64,
+) -> Result<(), AllocError>
     ensures { OnOk result ((row : ℕ → ℕ) → shared_weight row places.new.items ≡ shared_weight row places.old.items + (if has_place row place then weight else 0)) }
 {
     let (word, bits) = (place / WORD, 1 << (place % WORD));

@@ -24,7 +24,7 @@ loop-depth-preserved c =
     let at = subst (λ (v : Vec Places Global). ArePlacesOf baskets (take depth items) v.items) (sym c.index-in-loop-depth.ensures) (inv.prefixes.each depth prefix (omega arith)) in
     let keeps = subst (λ l. AreKept row l places.items) c.deref.ensures.value c.in_ok-places.ensures in
     let next = subst (λ l. ArePlacesOf baskets l places.items) (sym (take_more items depth 0 (omega arith)))
-        (are_kept baskets (take depth items) (get_or items depth 0) row prefix.items places.items at c.row.ensures keeps) in
+    (are_kept baskets (take depth items) (get_or items depth 0) row prefix.items places.items at c.row.ensures keeps) in
     let more = ap length c.in_ok-push.ensures.items in
     record {
       long = omega (arith, more, length_push old places, long);

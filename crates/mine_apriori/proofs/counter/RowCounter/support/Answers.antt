@@ -17,7 +17,7 @@ returns-then-are_none-clause-support c =
     let baskets = c.args.block.now.baskets.now in
     let items = get_or c.args.self.now c.args.number [] in
     let are = prefixes_kept c.args.self.now c.self.inside.sets.now c.self.inside.shared.items c.args.number c.index.result.now baskets _ _
-        c.self.view_is c.requires.within c.self.invariant.1 c.index.ensures c.truncate.ensures.items c.requires.prefixes in
+    c.self.view_is c.requires.within c.self.invariant.1 c.index.ensures c.truncate.ensures.items c.requires.prefixes in
     sym (c.are_none.ensures c.if-are_none.true baskets items (subst (ArePrefixes baskets items) (sym c.deref.ensures.value) are))
 
 pub support-requires-clause-used : goal.support-requires-clause-used
@@ -28,7 +28,7 @@ pub support-requires-clause-prefixes : goal.support-requires-clause-prefixes
 support-requires-clause-prefixes c =
     let baskets = c.args.block.now.baskets.now in
     let are = prefixes_kept c.args.self.now c.self.inside.sets.now c.self.inside.shared.items c.args.number c.index.result.now baskets _ _
-        c.self.view_is c.requires.within c.self.invariant.1 c.index.ensures c.truncate.ensures.items c.requires.prefixes in
+    c.self.view_is c.requires.within c.self.invariant.1 c.index.ensures c.truncate.ensures.items c.requires.prefixes in
     subst (λ l. ArePrefixes baskets l c.truncate.new.self.items) (sym (set_read c.args.self.now c.self.inside.sets.now c.args.number c.items.result.now _ c.self.view_is c.requires.within c.items.ensures.items)) are
 
 pub returns-clause-support : goal.returns-clause-support
