@@ -2,12 +2,14 @@ pub mod Sizes
 pub mod Candidates
 pub mod Join
 pub mod Search
-pub mod Nodes
-pub mod Run
 pub mod Used
 pub mod Endings
-pub mod Tree
 pub mod Shard
 pub mod Partners
 pub mod Work
 pub mod Levels
+pub mod Places
+pub mod UsedItems
+pub mod Rows
+pub mod Block
+pub mod Counter

@@ -6,10 +6,6 @@ use Rattle.basket_sets.specs.Itemset.{has}
 abbrev pub may_be_used : List Bool → ℕ → Bool
 may_be_used table item = slice_index_or table item true
 
--- each item of the sets may be used
-abbrev pub AreMarked : List (List ℕ) → List Bool → Type 0
-AreMarked sets table = (k item : ℕ) → k < length sets → IsTrue (has (slice_index_or sets k []) item) → IsTrue (may_be_used table item)
-
 -- whether the table knows the item, and it is marked
 abbrev pub is_marked : List Bool → ℕ → Bool
 is_marked table item = slice_index_or table item false
@@ -17,7 +13,3 @@ is_marked table item = slice_index_or table item false
 -- no item is marked
 abbrev pub IsClear : List Bool → Type 0
 IsClear table = (item : ℕ) → is_marked table item ≡ false
-
--- if the table knows the item, it is marked where it is among the items
-abbrev pub Tells : List Bool → List ℕ → ℕ → Type 0
-Tells table items item = item < length table → is_marked table item ≡ has items item

@@ -10,14 +10,14 @@ use crate::gate::Gate;
 use crate::phase::Phase;
 use crate::supports::{SupportCounter, count_supports};
 use basket_core::{Itemset, Weighted};
-use mine_apriori::CandidateTree;
+use mine_apriori::RowCounter;
 use std::alloc::{AllocError, Global};
 use std::thread::Threads;
 
-impl SupportCounter for CandidateTree<'_> {
-    ghost sets_of = { λ tree. tree };
+impl SupportCounter for RowCounter<'_> {
+    ghost sets_of = { λ counter. counter };
 
-    ghost can_count = { λ tree basket. Unit {0} };
+    ghost can_count = { λ counter basket. Unit {0} };
 
     fn len(&self) -> usize {
         self.sets().len()
@@ -29,7 +29,7 @@ impl SupportCounter for CandidateTree<'_> {
         baskets: &[Weighted],
         counts: &mut [u64],
     ) -> Result<(), AllocError> {
-        CandidateTree::add(self, alloc, baskets, counts)
+        RowCounter::add(self, alloc, baskets, counts)
     }
 }
 
@@ -50,12 +50,12 @@ pub fn count_level<R: Threads + Sync, G: Gate + Sync>(
 {
     let size = sets.first().map_or(0, |set| set.len());
     let number = u32::try_from(size).unwrap_or(u32::MAX);
-    let tree = CandidateTree::of(alloc, sets)?;
+    let counter = RowCounter::of(alloc, sets)?;
     count_supports(
         rt,
         alloc,
         baskets,
-        &tree,
+        &counter,
         &Phase::new(number, cutting, gate),
     )
 }

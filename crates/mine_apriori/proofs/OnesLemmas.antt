@@ -1,0 +1,95 @@
+-- The ones of words.
+use Rattle.std.proofs.Common.{◌≡◌, ℕ, zero, suc, ◌+◌, ◌*◌, ◌/◌, ◌%◌, ◌<◌, ◌≤◌, ◌^◌, Bool, true, false, refl, sym, ap, ◌∙◌, subst, arith, min, max}
+use Rattle.std.specs.Prelude.{bit_and, bit_or, count_ones}
+use Rattle.std.specs.Int.{bit_at}
+use Rattle.std.specs.Int.Bits.{or_add_and}
+use Rattle.std.proofs.lemmas.Nat.{and_block, or_block, ones_cat, and_le_l, and_assoc, and_comm, pow-add, pow_pos}
+use Rattle.std.proofs.lemmas.Nat.Bits.{bit_at_and, bit_at_or, bit_at-zero, bit_at-lt, same_from_bits, and_pow}
+
+low_ones : (r s : ℕ) → r < 2 → s < 2 → bit_and r s ≡ 0 → count_ones (bit_or r s) ≡ count_ones r + count_ones s
+unfolding lib.Count.ones
+low_ones zero zero a b e = refl
+low_ones zero (suc zero) a b e = refl
+low_ones (suc zero) zero a b e = refl
+low_ones (suc zero) (suc zero) a b e = absurd (omega (arith, e))
+low_ones (suc (suc r)) s a b e = absurd (omega arith)
+low_ones zero (suc (suc s)) a b e = absurd (omega arith)
+low_ones (suc zero) (suc (suc s)) a b e = absurd (omega arith)
+
+-- the ones of two words that share none
+pub ones_or : (n a b : ℕ) → a < 2 ^ n → b < 2 ^ n → bit_and a b ≡ 0 → count_ones (bit_or a b) ≡ count_ones a + count_ones b
+unfolding lib.Count.ones
+ones_or zero a b below under none =
+    let x : a ≡ 0 = omega arith in let y : b ≡ 0 = omega arith in
+    subst (λ p. count_ones (bit_or p b) ≡ count_ones p + count_ones b) (sym x) (subst (λ q. count_ones (bit_or 0 q) ≡ count_ones 0 + count_ones q) (sym y) refl)
+ones_or (suc n) a b below under none =
+    let P : ℕ = a / 2 in let Q : ℕ = b / 2 in let r : ℕ = a % 2 in let s : ℕ = b % 2 in
+    let ea : a ≡ P * 2 ^ 1 + r = omega arith in
+    let eb : b ≡ Q * 2 ^ 1 + s = omega arith in
+    let power : 2 ^ suc n ≡ 2 ^ n * 2 = let e : suc n ≡ n + 1 = omega arith in ap (λ m. 2 ^ m) e ∙ pow-add 2 n 1 in
+    let lr : r < 2 ^ 1 = omega arith in let ls : s < 2 ^ 1 = omega arith in
+    let ands : bit_and P Q * 2 ^ 1 + bit_and r s ≡ 0 = sym (and_block 1 P Q r s lr ls) ∙ ap (λ x. bit_and x (Q * 2 ^ 1 + s)) (sym ea) ∙ ap (bit_and a) (sym eb) ∙ none in
+    let high : bit_and P Q ≡ 0 = omega arith in
+    let low : bit_and r s ≡ 0 = omega arith in
+    let rest = ones_or n P Q (omega arith) (omega arith) high in
+    let small = or_add_and r s in
+    let or_low : bit_or r s < 2 ^ 1 = or_below r s lr ls in
+    ap (λ x. count_ones (bit_or x b)) ea ∙ ap (λ x. count_ones (bit_or (P * 2 ^ 1 + r) x)) eb ∙ ap count_ones (or_block 1 P Q r s lr ls)
+    ∙ ones_cat 1 (bit_or P Q) (bit_or r s) or_low ∙ ap (λ m. m + count_ones (bit_or r s)) rest ∙ ap (λ m. count_ones P + count_ones Q + m) (low_ones r s lr ls low)
+    ∙ joined (count_ones P) (count_ones Q) (count_ones r) (count_ones s)
+    ∙ ap (λ m. m + (count_ones Q + count_ones s)) (sym (ones_cat 1 P r lr)) ∙ ap (λ m. count_ones (P * 2 ^ 1 + r) + m) (sym (ones_cat 1 Q s ls))
+    ∙ ap (λ x. count_ones x + count_ones (Q * 2 ^ 1 + s)) (sym ea) ∙ ap (λ x. count_ones a + count_ones x) (sym eb)
+  where
+    joined : (p q r s : ℕ) → p + q + (r + s) ≡ (p + r) + (q + s)
+    joined p q r s = omega arith
+
+    or_below : (r s : ℕ) → r < 2 ^ 1 → s < 2 ^ 1 → bit_or r s < 2 ^ 1
+    or_below zero zero a b = omega arith
+    or_below zero (suc zero) a b = omega arith
+    or_below (suc zero) zero a b = omega arith
+    or_below (suc zero) (suc zero) a b = omega arith
+    or_below (suc (suc r)) s a b = absurd (omega arith)
+    or_below zero (suc (suc s)) a b = absurd (omega arith)
+    or_below (suc zero) (suc (suc s)) a b = absurd (omega arith)
+
+max_min : (p q r : ℕ) → min (max p q) r ≡ max (min p r) (min q r)
+max_min p q r = omega arith
+
+-- a word shares with two words what it shares with each
+and_or : (a b x : ℕ) → bit_and (bit_or a b) x ≡ bit_or (bit_and a x) (bit_and b x)
+and_or a b x = same_from_bits (bit_and (bit_or a b) x) (bit_or (bit_and a x) (bit_and b x)) (λ i.
+    bit_at_and (bit_or a b) x i ∙ ap (λ m. min m (bit_at x i)) (bit_at_or a b i) ∙ max_min (bit_at a i) (bit_at b i) (bit_at x i)
+    ∙ ap (λ m. max m (min (bit_at b i) (bit_at x i))) (sym (bit_at_and a x i)) ∙ ap (max (bit_at (bit_and a x) i)) (sym (bit_at_and b x i)) ∙ sym (bit_at_or (bit_and a x) (bit_and b x) i))
+
+apart : (a b x : ℕ) → bit_and a b ≡ 0 → bit_and (bit_and a x) (bit_and b x) ≡ 0
+apart a b x none = same_from_bits (bit_and (bit_and a x) (bit_and b x)) 0 (λ i.
+    let both : min (bit_at a i) (bit_at b i) ≡ 0 = sym (bit_at_and a b i) ∙ ap (λ m. bit_at m i) none ∙ bit_at-zero i in
+    bit_at_and (bit_and a x) (bit_and b x) i ∙ ap (λ m. min m (bit_at (bit_and b x) i)) (bit_at_and a x i) ∙ ap (min (min (bit_at a i) (bit_at x i))) (bit_at_and b x i)
+    ∙ none_of (bit_at a i) (bit_at b i) (bit_at x i) both ∙ sym (bit_at-zero i))
+  where
+    none_of : (p q r : ℕ) → min p q ≡ 0 → min (min p r) (min q r) ≡ 0
+    none_of p q r e = omega arith
+
+below_power : (n : ℕ) → n < 2 ^ n
+below_power zero = omega arith
+below_power (suc n) = let rest = below_power n in let e : suc n ≡ n + 1 = omega arith in let double : 2 ^ suc n ≡ 2 ^ n * 2 = ap (λ m. 2 ^ m) e ∙ pow-add 2 n 1 in omega arith
+
+-- what a word shares with two words that share none
+pub ones_shared : (a b x : ℕ) → bit_and a b ≡ 0 → count_ones (bit_and (bit_or a b) x) ≡ count_ones (bit_and a x) + count_ones (bit_and b x)
+ones_shared a b x none =
+    let fits = below_power (a + b) in
+    ap count_ones (and_or a b x)
+    ∙ ones_or (a + b) (bit_and a x) (bit_and b x) (omega (arith, and_le_l a x)) (omega (arith, and_le_l b x)) (apart a b x none)
+
+-- what a word shares with the word of one place
+pub one_shared : (j x : ℕ) → count_ones (bit_and (2 ^ j) x) ≡ bit_at x j
+unfolding lib.Count.ones
+one_shared j x = ap count_ones (and_comm (2 ^ j) x ∙ and_pow x j) ∙ one (bit_at x j) (bit_at-lt x j)
+  where
+    one : (b : ℕ) → b < 2 → count_ones (b * 2 ^ j) ≡ b
+    one b low = let e : b * 2 ^ j ≡ b * 2 ^ j + 0 = omega arith in ap count_ones e ∙ ones_cat j b 0 (pow_pos j) ∙ small b low
+      where
+        small : (b : ℕ) → b < 2 → count_ones b + count_ones 0 ≡ b
+        small zero low = refl
+        small (suc zero) low = refl
+        small (suc (suc b)) low = absurd (omega arith)

@@ -1,0 +1,11 @@
+use Rattle.std.specs.Prelude.{◌≡◌, ◌<◌, ◌≤◌, ℕ, List, length, slice_index_or, take}
+use Rattle.std.specs.declared.alloc.Global.{Global}
+use Rattle.std.specs.declared.vec.Vec.{Vec}
+use Rattle.basket_sets.specs.declared.weighted.Weighted.{Weighted}
+use Rattle.mine_apriori.specs.declared.places.Places.{Places}
+use Rattle.mine_apriori.specs.Places.{ArePlacesOf}
+
+-- for each number of first items of a set, as far as they go, the places of the baskets that contain those items
+pub record ArePrefixes (baskets : List Weighted) (items : List ℕ) (prefixes : List (Vec Places Global)) : Type 0 where
+  pub some : 1 ≤ length prefixes
+  pub each : (depth : ℕ) (d : Vec Places Global) → depth < length prefixes → ArePlacesOf baskets (take depth items) (slice_index_or prefixes depth d).items

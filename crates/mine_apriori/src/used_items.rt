@@ -1,0 +1,164 @@
+//! The items that sets have, each with a number.
+ghost use Rattle.std.specs.Prelude.{◌≡◌, ◌<◌, ◌≤◌, ℕ, false, IfOk, IsTrue, MatchOption, OnOk, length, slice_index};
+ghost use Rattle.basket_sets.specs.Itemset.{IsRising, has};
+ghost use Rattle.mine_apriori.specs.UsedItems.{AreUsed};
+
+use basket_core::Itemset;
+use std::alloc::{AllocError, Global};
+use std::marker::Model;
+
+/// There is a hint for each item below this at most.
+const MOST_HINTS: usize = 65_536;
+
+/// This many items may wait before repeated ones are left out.
+const FEW_ITEMS: usize = 4_096;
+
+/// The items that some sets have. An item's number is its place among them.
+#[derive(Debug, Drop)]
+pub struct UsedItems {
+    items: Itemset,
+    /// For each item how many used ones are below it, as far as hints go. Hints are compared with what
+    /// stands there, so that no contract tells what they say.
+    hints: Vec<u32>,
+}
+
+impl Model for UsedItems {
+    ghost use Rattle.std.specs.Prelude.{ℕ, List};
+
+    ghost Value = { List ℕ };
+
+    ghost view = { λ used. used.items };
+}
+
+impl UsedItems {
+    /// The items of the sets.
+    pub fn of(alloc: Global, sets: &[Itemset]) -> Result<Self, AllocError>
+        ensures { IfOk result (λ items. AreUsed sets.now items) }
+    {
+        let items = items_in(alloc, sets)?;
+        let hints = hints_for(alloc, items.items())?;
+        Ok(UsedItems { items, hints })
+    }
+
+    /// The items, rising.
+    pub fn items(&self) -> &[u32]
+        ensures items { result.now ≡ self.now }
+        ensures rising { IsRising self.now }
+    {
+        self.items.items()
+    }
+
+    /// The number of an item, if it is used.
+    #[inline]
+    pub fn number(&self, item: u32) -> Option<usize>
+        ensures { MatchOption result (has self.now item ≡ false) (λ number. (number < length self.now) × (slice_index self.now number ≡ item)) }
+    {
+        let items = self.items.items();
+        let hint = hint_for(&self.hints, item, items.len());
+        if hint < items.len() && items[hint] == item {
+            return Some(hint);
+        }
+        if is_missing(items, item, hint) {
+            return None;
+        }
+        match items.binary_search(&item) {
+            Ok(number) => Some(number),
+            Err(_) => None,
+        }
+    }
+}
+
+/// Whether what stands before a place and at it shows that an item is missing.
+#[inline]
+fn is_missing(items: &[u32], item: u32, place: usize) -> bool
+    requires { IsRising items.now }
+    ensures { IsTrue result → has items.now item ≡ false }
+{
+    if !are_below(items, item, place) {
+        return false;
+    }
+    are_above(items, item, place)
+}
+
+/// Whether all items before a place are below an item.
+#[inline]
+fn are_below(items: &[u32], item: u32, place: usize) -> bool
+    requires { IsRising items.now }
+    ensures { IsTrue result → (k : ℕ) → k < place → k < length items.now → slice_index items.now k < item }
+{
+    if place == 0 {
+        return true;
+    }
+    if place > items.len() {
+        return false;
+    }
+    items[place - 1] < item
+}
+
+/// Whether all items from a place on are above an item.
+#[inline]
+fn are_above(items: &[u32], item: u32, place: usize) -> bool
+    requires { IsRising items.now }
+    ensures { IsTrue result → (k : ℕ) → place ≤ k → k < length items.now → item < slice_index items.now k }
+{
+    if place >= items.len() {
+        return true;
+    }
+    item < items[place]
+}
+
+/// The hint for an item, or else a given number.
+#[inline]
+fn hint_for(hints: &[u32], item: u32, otherwise: usize) -> usize {
+    match hints.get(item as usize) {
+        Some(hint) => *hint as usize,
+        None => otherwise,
+    }
+}
+
+/// The items of the sets.
+fn items_in(alloc: Global, sets: &[Itemset]) -> Result<Itemset, AllocError>
+    ensures { IfOk result (λ items. AreUsed sets.now items) }
+{
+    let mut items = Vec::new(alloc);
+    let mut most = FEW_ITEMS;
+    for set in sets {
+        items.extend_from_slice(set.items())?;
+        most = keep_distinct(alloc, &mut items, most)?;
+    }
+    let used = Itemset::from_items(alloc, &items)?;
+    Ok(used)
+}
+
+/// Leaves repeated items out if there are more items than this. Returns how many there may be before the next time.
+fn keep_distinct(alloc: Global, items: &mut Vec<u32>, most: usize) -> Result<usize, AllocError>
+    ensures { OnOk result ((item : ℕ) → has items.new.items item ≡ has items.old.items item) }
+{
+    if items.len() <= most {
+        return Ok(most);
+    }
+    let distinct = Itemset::from_items(alloc, items)?;
+    replace(items, distinct.items())?;
+    Ok(items.len().saturating_mul(2).saturating_add(FEW_ITEMS))
+}
+
+/// Puts other items in the place of some.
+fn replace(items: &mut Vec<u32>, others: &[u32]) -> Result<(), AllocError>
+    ensures { OnOk result (items.new.items ≡ others.now) }
+{
+    items.clear();
+    items.extend_from_slice(others)?;
+    Ok(())
+}
+
+/// For each item up to the greatest how many are below it, as far as hints go.
+fn hints_for(alloc: Global, items: &[u32]) -> Result<Vec<u32>, AllocError> {
+    let mut hints = Vec::new(alloc);
+    let mut below = 0u32;
+    for item in items {
+        let len = (*item as usize + 1).min(MOST_HINTS);
+        hints.resize(len, below)?;
+        below = below.saturating_add(1);
+    }
+    Ok(hints)
+}
