@@ -1,3 +1,5 @@
 mod HelpLemmas
 mod CommandLemmas
+mod OptionLemmas
+mod EntryLemmas
 mod WrittenLemmas

@@ -1,5 +1,5 @@
 -- The words that ask for a plan.
-use Rattle.std.specs.Prelude.{◌≡◌, ◌≤◌, ℕ, Bool, true, List, [], ◌∷◌, ◌++◌, codes, decimal, if◌then◌else◌, nat_eq, option_and_then, Option, Some, None, ⊤}
+use Rattle.std.specs.Prelude.{◌≡◌, ◌≤◌, ◌==◌, ◌||◌, ℕ, Bool, true, not, List, [], ◌∷◌, ◌++◌, codes, decimal, if◌then◌else◌, nat_eq, option_and_then, Option, Some, None, ⊤}
 use Rattle.clap.specs.Words.{Text}
 use Rattle.basket_sets.specs.Minimum.{IsMinimum}
 use Rattle.basket_sets.specs.Share.{GREATEST_PART, IsShare}
@@ -50,17 +50,27 @@ miner_text FpGrowth = codes "fpgrowth"
 abbrev pub option_word : Text → Text → Text
 option_word name value = codes "--" ++ name ++ 61 ∷ value
 
--- a flag, where it is given
+-- an option in one word if its name is among the joined ones, and else in two, `--name` and the value
+abbrev pub option_words : (Text → Bool) → Text → Text → List Text
+option_words joined name value = if joined name then option_word name value ∷ [] else (codes "--" ++ name) ∷ value ∷ []
+
+-- a text that stands as a word for an option's value: it is `-`, or it doesn't begin with a hyphen
+abbrev pub stands_alone : Text → Bool
+stands_alone [] = true
+stands_alone (first ∷ []) = true
+stands_alone (first ∷ second ∷ rest) = not (first == 45)
+
+-- a flag, if it is given
 abbrev pub flag_words : Text → Bool → List Text
 flag_words name given = if given then (codes "--" ++ name) ∷ [] else []
 
 -- the command, and the confidence of rules
-abbrev pub ask_words : Ask → List Text
-ask_words Items = codes "items" ∷ []
-ask_words Sets = codes "sets" ∷ []
-ask_words Closed = codes "closed" ∷ []
-ask_words Maximal = codes "maximal" ∷ []
-ask_words (Rules confidence) = codes "rules" ∷ option_word (codes "conf") (share_text confidence) ∷ []
+abbrev pub ask_words : (Text → Bool) → Ask → List Text
+ask_words joined Items = codes "items" ∷ []
+ask_words joined Sets = codes "sets" ∷ []
+ask_words joined Closed = codes "closed" ∷ []
+ask_words joined Maximal = codes "maximal" ∷ []
+ask_words joined (Rules confidence) = codes "rules" ∷ option_words joined (codes "conf") (share_text confidence)
 
 -- the name of the input's file, if there is one: after `--` no word is an option
 abbrev pub file_words : Option Text → List Text
@@ -69,42 +79,42 @@ file_words (Some file) = codes "--" ∷ file ∷ []
 
 -- the flags, and the input
 abbrev pub last_words : Bool → Bool → Option Text → List Text
-last_words header weight file = flag_words (codes "header") header ++ flag_words (codes "weight") weight ++ file_words file
+last_words header weight file = flag_words (codes "header") header ++ (flag_words (codes "weight") weight ++ file_words file)
 
 -- the options with texts for their values
-abbrev pub words_with : Text → Text → Text → Text → Text → Text → Text → Bool → Bool → Option Text → List Text
-words_with minimum form separator miner limit workers pieces header weight file =
-    option_word (codes "min") minimum
-    ∷ option_word (codes "form") form
-    ∷ option_word (codes "sep") separator
-    ∷ option_word (codes "miner") miner
-    ∷ option_word (codes "limit") limit
-    ∷ option_word (codes "workers") workers
-    ∷ option_word (codes "pieces") pieces
-    ∷ last_words header weight file
+abbrev pub words_with : (Text → Bool) → Text → Text → Text → Text → Text → Text → Text → Bool → Bool → Option Text → List Text
+words_with joined minimum form separator miner limit workers pieces header weight file =
+    option_words joined (codes "min") minimum
+    ++ (option_words joined (codes "form") form
+    ++ (option_words joined (codes "sep") separator
+    ++ (option_words joined (codes "miner") miner
+    ++ (option_words joined (codes "limit") limit
+    ++ (option_words joined (codes "workers") workers
+    ++ (option_words joined (codes "pieces") pieces
+    ++ last_words header weight file))))))
 
 -- the words that ask for the plan over the input of a name, or over standard input
-abbrev pub words_of : Planned → Option Text → List Text
-words_of plan file =
+abbrev pub words_of : (Text → Bool) → Planned → Option Text → List Text
+words_of joined plan file =
     let q = plan.question in
-    ask_words q.ask ++ words_with (minimum_text q.minimum) (form_text q.layout.form) (separator_text q.layout.separator) (miner_text plan.miner)
+    ask_words joined q.ask ++ words_with joined (minimum_text q.minimum) (form_text q.layout.form) (separator_text q.layout.separator) (miner_text plan.miner)
     (decimal q.limit) (decimal plan.workers) (decimal plan.pieces) q.layout.header q.layout.weighted file
 
 -- the words of `count` with texts for its options' values
-abbrev pub count_words_with : Text → Text → Text → Text → Text → Bool → Bool → Option Text → List Text
-count_words_with sets form separator workers pieces header weight file =
+abbrev pub count_words_with : (Text → Bool) → Text → Text → Text → Text → Text → Bool → Bool → Option Text → List Text
+count_words_with joined sets form separator workers pieces header weight file =
     codes "count"
-    ∷ option_word (codes "sets") sets
-    ∷ option_word (codes "form") form
-    ∷ option_word (codes "sep") separator
-    ∷ option_word (codes "workers") workers
-    ∷ option_word (codes "pieces") pieces
-    ∷ last_words header weight file
+    ∷ option_words joined (codes "sets") sets
+    ++ (option_words joined (codes "form") form
+    ++ (option_words joined (codes "sep") separator
+    ++ (option_words joined (codes "workers") workers
+    ++ (option_words joined (codes "pieces") pieces
+    ++ last_words header weight file))))
 
 -- the words that ask for counts of the sets of a name over the input of a name, or over standard input
-abbrev pub count_words_of : Counting → Text → Option Text → List Text
-count_words_of plan sets file =
-    count_words_with sets (form_text plan.layout.form) (separator_text plan.layout.separator) (decimal plan.workers) (decimal plan.pieces) plan.layout.header plan.layout.weighted file
+abbrev pub count_words_of : (Text → Bool) → Counting → Text → Option Text → List Text
+count_words_of joined plan sets file =
+    count_words_with joined sets (form_text plan.layout.form) (separator_text plan.layout.separator) (decimal plan.workers) (decimal plan.pieces) plan.layout.header plan.layout.weighted file
 
 -- ---- the law
 
@@ -135,11 +145,12 @@ pub record IsCountingInRange (plan : Counting) : Type 0 where
   pub workers : (1 ≤ plan.workers) × (plan.workers ≤ MOST_WORKERS)
   pub pieces : (1 ≤ plan.pieces) × (plan.pieces ≤ MOST_PIECES)
 
--- the words of a plan ask for that plan over the input that they name
+-- whichever options have their values in the same word, the words of a plan ask for that plan over the input that they name
 abbrev pub PlansAreReadBack : Type 0
-PlansAreReadBack = (plan : Planned) (file : Option Text) → IsInRange plan → invocation_of_words (words_of plan file) ≡ reporting (option_and_then origin_of file) plan
+PlansAreReadBack = (joined : Text → Bool) (plan : Planned) (file : Option Text) → IsInRange plan
+    → invocation_of_words (words_of joined plan file) ≡ reporting (option_and_then origin_of file) plan
 
--- the words of a plan to count sets ask for that plan over the sets and the input that they name
+-- the words of a plan to count sets ask for that plan over the sets and the input that they name, if the name of the file of sets stands as a word, or is joined to its option
 abbrev pub CountsAreReadBack : Type 0
-CountsAreReadBack = (plan : Counting) (sets : Text) (file : Option Text) → IsCountingInRange plan
-    → invocation_of_words (count_words_of plan sets file) ≡ counting_from plan (origin_of sets) (option_and_then origin_of file)
+CountsAreReadBack = (joined : Text → Bool) (plan : Counting) (sets : Text) (file : Option Text) → IsCountingInRange plan → (joined (codes "sets") || stands_alone sets) ≡ true
+    → invocation_of_words (count_words_of joined plan sets file) ≡ counting_from plan (origin_of sets) (option_and_then origin_of file)
