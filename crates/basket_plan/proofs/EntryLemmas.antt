@@ -9,7 +9,8 @@ use Rattle.clap.specs.Walk.{Row, Text, Walk, answers_to, finished, nothing_held,
 use Rattle.clap.proofs.FaultLemmas.{stopped_fault}
 use Rattle.clap.proofs.OnLiterals.{clap_on_literals}
 use Rattle.clap.proofs.WalkLemmas.{walk_stopped}
-use Rattle.basket_plan.proofs.OptionLemmas.{Outcome, Same, outcome}
+use Rattle.basket_plan.proofs.OptionLemmas.{Same}
+use Rattle.basket_plan.proofs.OutcomeLemmas.{Outcome, outcome}
 use Rattle.basket_plan.specs.Command.{command_line, invocation_of_command, invocation_of_plain, where_taken}
 
 abbrev pub tree : App

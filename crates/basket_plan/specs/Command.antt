@@ -55,20 +55,21 @@ number name most default = record (option name) { parser = Some (parser.Unsigned
 abbrev pub positional : Text → Rule
 positional name = record (new_rule name) { value_names = 1; action = Some action.Set }
 
+-- the options that say how the input is written
+abbrev pub layout_options : List Rule
+layout_options = choice (codes "form") (codes "fimi") ∷ choice (codes "sep") (codes "comma") ∷ flag (codes "header") ∷ flag (codes "weight") ∷ []
+
+-- the options that say how frequent sets are found
+abbrev pub mining_options : List Rule
+mining_options = choice (codes "miner") (codes "apriori") ∷ number (codes "limit") GREATEST_LIMIT (codes "4294967295") ∷ []
+
+-- the options that say how the work is shared, and the name of the input
+abbrev pub work_options : List Rule
+work_options = number (codes "workers") MOST_WORKERS (codes "1") ∷ number (codes "pieces") MOST_PIECES (codes "16") ∷ positional (codes "file") ∷ []
+
 -- the options that all commands but `count` have
 abbrev pub options : List Rule
-options =
-    required (codes "min")
-    ∷ choice (codes "form") (codes "fimi")
-    ∷ choice (codes "sep") (codes "comma")
-    ∷ flag (codes "header")
-    ∷ flag (codes "weight")
-    ∷ choice (codes "miner") (codes "apriori")
-    ∷ number (codes "limit") GREATEST_LIMIT (codes "4294967295")
-    ∷ number (codes "workers") MOST_WORKERS (codes "1")
-    ∷ number (codes "pieces") MOST_PIECES (codes "16")
-    ∷ positional (codes "file")
-    ∷ []
+options = required (codes "min") ∷ layout_options ++ mining_options ++ work_options
 
 -- a command of a name with these options, and that of the rules, which has one more
 abbrev pub command_app : Text → App
@@ -78,21 +79,7 @@ abbrev pub rules_app : App
 rules_app = with_rule (command_app (codes "rules")) (required (codes "conf"))
 
 abbrev pub count_app : App
-count_app = record {
-  top = record (new_shape (codes "count")) {
-    rules =
-        required (codes "sets")
-        ∷ choice (codes "form") (codes "fimi")
-        ∷ choice (codes "sep") (codes "comma")
-        ∷ flag (codes "header")
-        ∷ flag (codes "weight")
-        ∷ number (codes "workers") MOST_WORKERS (codes "1")
-        ∷ number (codes "pieces") MOST_PIECES (codes "16")
-        ∷ positional (codes "file")
-        ∷ [];
-  };
-  subs = [];
-}
+count_app = record { top = record (new_shape (codes "count")) { rules = required (codes "sets") ∷ layout_options ++ work_options }; subs = [] }
 
 -- the line without commands
 abbrev pub bare_line : App
@@ -101,19 +88,16 @@ bare_line = record {
   subs = [];
 }
 
+-- the line with the commands whose options are all the same
+abbrev pub report_line : App
+report_line = record {
+  top = record bare_line.top { is_leaf = false };
+  subs = (command_app (codes "items")).top ∷ (command_app (codes "sets")).top ∷ (command_app (codes "closed")).top ∷ (command_app (codes "maximal")).top ∷ [];
+}
+
 -- all commands
 abbrev pub command_line : App
-command_line = record {
-  top = record bare_line.top { is_leaf = false };
-  subs =
-      (command_app (codes "items")).top
-      ∷ (command_app (codes "sets")).top
-      ∷ (command_app (codes "closed")).top
-      ∷ (command_app (codes "maximal")).top
-      ∷ rules_app.top
-      ∷ count_app.top
-      ∷ [];
-}
+command_line = record report_line { subs = report_line.subs ++ rules_app.top ∷ count_app.top ∷ [] }
 
 -- ---- what the values say
 

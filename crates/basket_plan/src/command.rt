@@ -1,15 +1,14 @@
 //! The command line.
 ghost use Rattle.std.specs.Prelude.{◌≡◌, ◌≢◌, IfErr, IfOk, codes, false, map};
-ghost use Rattle.clap.specs.Words.{app_of, kind_of};
+ghost use Rattle.clap.specs.Words.{app_of, kind_of, with_subcommand};
 ghost use Rattle.clap.specs.declared.builder.command.Command.TheViews.{out-Command as fields_of};
 ghost use Rattle.basket_plan.specs.declared.command.PlanFault.TheVariants.{Memory};
-ghost use Rattle.basket_plan.specs.Command.{asks_help, bare_line, command_app, command_line, count_app, invocation_of_plain, invocation_of_words, is_answer, is_help, plain_asks_help, plain_words, rules_app};
+ghost use Rattle.basket_plan.specs.Command.{asks_help, bare_line, command_app, command_line, count_app, invocation_of_plain, invocation_of_words, is_answer, is_help, plain_asks_help, plain_words, report_line, rules_app};
 ghost use Rattle.basket_plan.specs.Status.{plan_status_of};
 
 use crate::help;
 use crate::invocation::{Invocation, invocation_from};
-use crate::options::{choice, flag, number, positional, required};
-use crate::plan::{MOST_PIECES, MOST_WORKERS};
+use crate::options::{required, with_layout, with_mining, with_work};
 use clap::error::ErrorKind;
 use clap::{Command, Error};
 use std::alloc::{AllocError, Global};
@@ -82,13 +81,31 @@ fn invocation_of_plain<'a>(alloc: Global, words: &'a [&'a str]) -> Result<Invoca
 fn command_line<'a>(alloc: Global) -> Result<Command<'a>, AllocError>
     ensures { IfOk result (λ command. app_of command ≡ command_line) }
 {
-    bare_line(alloc)?
-        .subcommand(command(alloc, "items", help::ITEMS)?)?
-        .subcommand(command(alloc, "sets", help::SETS)?)?
-        .subcommand(command(alloc, "closed", help::CLOSED)?)?
-        .subcommand(command(alloc, "maximal", help::MAXIMAL)?)?
+    report_line(alloc)?
         .subcommand(rules_command(alloc)?)?
         .subcommand(count_command(alloc)?)
+}
+
+/// The command line with the commands whose options are all the same.
+fn report_line<'a>(alloc: Global) -> Result<Command<'a>, AllocError>
+    ensures { IfOk result (λ command. app_of command ≡ report_line) }
+{
+    let line = bare_line(alloc)?;
+    let line = with_command(alloc, line, "items", help::ITEMS)?;
+    let line = with_command(alloc, line, "sets", help::SETS)?;
+    let line = with_command(alloc, line, "closed", help::CLOSED)?;
+    with_command(alloc, line, "maximal", help::MAXIMAL)
+}
+
+fn with_command<'a>(
+    alloc: Global,
+    line: Command<'a>,
+    name: &'a str,
+    help: &'a str,
+) -> Result<Command<'a>, AllocError>
+    ensures { IfOk result (λ command. app_of command ≡ with_subcommand (app_of line.entry) (command_app name.now).top) }
+{
+    line.subcommand(command(alloc, name, help)?)
 }
 
 /// The command line without its commands.
@@ -111,18 +128,12 @@ fn command<'a>(alloc: Global, name: &'a str, help: &'a str) -> Result<Command<'a
     ensures options { IfOk result (λ command. app_of command ≡ command_app name.now) }
     ensures local { IfOk result (λ command. (fields_of command).has_globals ≡ false) }
 {
-    Command::new(alloc, name)
+    let command = Command::new(alloc, name)
         .override_help(help)
-        .arg(required(alloc, "min", "M"))?
-        .arg(choice(alloc, "form", "F", "fimi"))?
-        .arg(choice(alloc, "sep", "S", "comma"))?
-        .arg(flag(alloc, "header"))?
-        .arg(flag(alloc, "weight"))?
-        .arg(choice(alloc, "miner", "A", "apriori"))?
-        .arg(number(alloc, "limit", "L", u32::MAX, "4294967295"))?
-        .arg(number(alloc, "workers", "W", MOST_WORKERS, "1"))?
-        .arg(number(alloc, "pieces", "P", MOST_PIECES, "16"))?
-        .arg(positional(alloc, "file", "FILE"))
+        .arg(required(alloc, "min", "M"))?;
+    let command = with_layout(alloc, command)?;
+    let command = with_mining(alloc, command)?;
+    with_work(alloc, command)
 }
 
 fn rules_command<'a>(alloc: Global) -> Result<Command<'a>, AllocError>
@@ -137,16 +148,11 @@ fn count_command<'a>(alloc: Global) -> Result<Command<'a>, AllocError>
     ensures options { IfOk result (λ command. app_of command ≡ count_app) }
     ensures local { IfOk result (λ command. (fields_of command).has_globals ≡ false) }
 {
-    Command::new(alloc, "count")
+    let command = Command::new(alloc, "count")
         .override_help(help::COUNT)
-        .arg(required(alloc, "sets", "FILE"))?
-        .arg(choice(alloc, "form", "F", "fimi"))?
-        .arg(choice(alloc, "sep", "S", "comma"))?
-        .arg(flag(alloc, "header"))?
-        .arg(flag(alloc, "weight"))?
-        .arg(number(alloc, "workers", "W", MOST_WORKERS, "1"))?
-        .arg(number(alloc, "pieces", "P", MOST_PIECES, "16"))?
-        .arg(positional(alloc, "file", "FILE"))
+        .arg(required(alloc, "sets", "FILE"))?;
+    let command = with_layout(alloc, command)?;
+    with_work(alloc, command)
 }
 
 fn fault_of(alloc: Global, error: &Error) -> Result<PlanFault, AllocError>

@@ -1,11 +1,46 @@
 //! The options of the command line.
-ghost use Rattle.std.specs.Prelude.{◌≡◌, false};
-ghost use Rattle.clap.specs.Words.{rule_of};
-ghost use Rattle.basket_plan.specs.Command.{choice, flag, number, positional, required};
+ghost use Rattle.std.specs.Prelude.{◌≡◌, IfOk, false, fold};
+ghost use Rattle.clap.specs.Words.{app_of, rule_of, with_rule};
+ghost use Rattle.clap.specs.declared.builder.command.Command.TheViews.{out-Command as fields_of};
+ghost use Rattle.basket_plan.specs.Command.{choice, flag, layout_options, mining_options, number, positional, required, work_options};
 
+use crate::plan::{MOST_PIECES, MOST_WORKERS};
 use clap::builder::ValueParser;
-use clap::{Arg, ArgAction};
-use std::alloc::Global;
+use clap::{Arg, ArgAction, Command};
+use std::alloc::{AllocError, Global};
+
+/// The command with the options that say how the input is written.
+pub fn with_layout<'a>(alloc: Global, command: Command<'a>) -> Result<Command<'a>, AllocError>
+    ensures options { IfOk result (λ added. app_of added ≡ fold with_rule (app_of command.entry) layout_options) }
+    ensures local { IfOk result (λ added. (fields_of command.entry).has_globals ≡ false → (fields_of added).has_globals ≡ false) }
+{
+    command
+        .arg(choice(alloc, "form", "F", "fimi"))?
+        .arg(choice(alloc, "sep", "S", "comma"))?
+        .arg(flag(alloc, "header"))?
+        .arg(flag(alloc, "weight"))
+}
+
+/// The command with the options that say how frequent sets are found.
+pub fn with_mining<'a>(alloc: Global, command: Command<'a>) -> Result<Command<'a>, AllocError>
+    ensures options { IfOk result (λ added. app_of added ≡ fold with_rule (app_of command.entry) mining_options) }
+    ensures local { IfOk result (λ added. (fields_of command.entry).has_globals ≡ false → (fields_of added).has_globals ≡ false) }
+{
+    command
+        .arg(choice(alloc, "miner", "A", "apriori"))?
+        .arg(number(alloc, "limit", "L", u32::MAX, "4294967295"))
+}
+
+/// The command with the options that say how the work is shared, and the name of the input.
+pub fn with_work<'a>(alloc: Global, command: Command<'a>) -> Result<Command<'a>, AllocError>
+    ensures options { IfOk result (λ added. app_of added ≡ fold with_rule (app_of command.entry) work_options) }
+    ensures local { IfOk result (λ added. (fields_of command.entry).has_globals ≡ false → (fields_of added).has_globals ≡ false) }
+{
+    command
+        .arg(number(alloc, "workers", "W", MOST_WORKERS, "1"))?
+        .arg(number(alloc, "pieces", "P", MOST_PIECES, "16"))?
+        .arg(positional(alloc, "file", "FILE"))
+}
 
 /// An option that has to be given.
 pub fn required<'a>(alloc: Global, name: &'a str, value: &'a str) -> Arg<'a>

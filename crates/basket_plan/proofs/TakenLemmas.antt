@@ -1,0 +1,163 @@
+-- What `clap` makes of the words of a plan, each option with its value in the same word.
+use Rattle.std.proofs.Common.{◌≡◌, ◌∙◌, ◌<◌, ◌≤◌, ◌||◌, ◌^◌, ℕ, zero, suc, List, [], ◌∷◌, ◌++◌, Bool, true, false, not, decimal, get_or, option_map, Option, Some, None, refl, sym, subst, ap, ap₂, arith}
+use Rattle.std.specs.Prelude.{◌==◌, codes, option_and_then, if◌then◌else◌, nat_eq, slice_index_or}
+use Rattle.std.specs.Str.Parse.{IsNumeral, digits_value, without_leading_plus}
+use Rattle.std.proofs.lemmas.Bool.{eqb-true}
+use Rattle.std.proofs.lemmas.Fmt.{decimal_digit, decimal_is_IsNumeral, first_decimal}
+use Rattle.std.proofs.lemmas.Str.Parse.{without_leading_plus_none}
+use Rattle.clap.specs.Simple.{Shape, filled, filled_from, help_rule}
+use Rattle.clap.specs.Walk.{Rule, nothing_held}
+use Rattle.clap.specs.Words.{Text, subcommand_of}
+use Rattle.clap.specs.Kinds.{Kinds, or_else, value_kinds}
+use Rattle.clap.specs.Faults.{fault_of}
+use Rattle.clap.specs.Values.{refused_kind}
+use Rattle.clap.specs.ValueTests.{is_unsigned_in}
+use Rattle.clap.specs.declared.builder.value_parser.ValueParser.TheVariants as parser
+use Rattle.clap.proofs.OnLiterals.{clap_on_literals}
+use Rattle.clap.proofs.ValueTestLemmas.{Accepts-accepts}
+use Rattle.basket_sets.specs.Minimum.{minimum_of}
+use Rattle.basket_sets.specs.Share.{share_of}
+use Rattle.basket_sets.specs.declared.minimum.Minimum.{Minimum}
+use Rattle.basket_sets.specs.declared.minimum.Minimum.TheVariants.{Count, Share}
+use Rattle.basket_sets.proofs.theory.Numerals.{count_minimum_read, share_minimum_read, share_read}
+use Rattle.basket_plan.proofs.EntryLemmas.{IsCommand, command_same, tree}
+use Rattle.basket_plan.specs.Command.{command_line, counting_from, form_of, invocation_of_command, invocation_of_plain, miner_of, number_of, options, origin_of, plain_words, reporting, required, separator_of, where_taken}
+use Rattle.basket_plan.specs.Plan.{Counting, GREATEST_LIMIT, Planned, is_separator}
+use Rattle.basket_plan.specs.declared.layout.Form.{Form}
+use Rattle.basket_plan.specs.declared.layout.Layout.{Layout}
+use Rattle.basket_plan.specs.declared.layout.Form.TheVariants.{Fimi, Baskets, Single, Counts, CsvCounts}
+use Rattle.basket_plan.specs.declared.plan.Ask.{Ask}
+use Rattle.basket_plan.specs.declared.plan.Ask.TheVariants.{Items, Sets, Closed, Maximal, Rules}
+use Rattle.basket_plan.specs.declared.plan.Miner.{Miner}
+use Rattle.basket_plan.specs.declared.plan.Miner.TheVariants.{Apriori, Eclat, EclatDiff, EclatBits, FpGrowth}
+use Rattle.basket_plan.specs.declared.plan.TheConstants.{MOST_PIECES, MOST_WORKERS}
+use Rattle.basket_plan.specs.Written.{CountsAreReadBack, IsAskInRange, IsCountingInRange, IsInRange, IsMinimumInRange, IsShareInRange, PlansAreReadBack, ask_words, count_words_of, count_words_with, form_text, last_words, miner_text, minimum_text, separator_text, share_text, stands_alone, words_with}
+
+-- what `clap` makes of the fault of one value, and of those of the three numbers, which alone may have one
+abbrev pub turn : Kinds → Kinds
+turn kinds = or_else (or_else kinds []) []
+
+abbrev pub numbers_fault : Kinds → Kinds → Kinds → Kinds
+numbers_fault limit workers pieces = or_else (or_else (or_else (turn limit) (or_else (turn workers) (or_else (turn pieces) []))) []) []
+
+abbrev pub count_fault : Kinds → Kinds → Kinds
+count_fault workers pieces = or_else (or_else (or_else (turn workers) (or_else (turn pieces) [])) []) []
+
+abbrev pub number_fault : ℕ → Text → Kinds
+number_fault most text = value_kinds false (parser.Unsigned 1 most) text
+
+abbrev pub layout_from : Option Form → Option ℕ → Bool → Bool → Option Layout
+layout_from form separator header weighted =
+    option_and_then (λ form. option_map (λ separator. record { form = form; separator = separator; header = header; weighted = weighted }) separator) form
+
+-- the plan of the values that texts say, where all of them say one
+abbrev pub plan_from : Option Ask → Option Form → Option ℕ → Bool → Bool → Option Miner → Option Minimum → Option ℕ → Option ℕ → Option ℕ → Option Planned
+plan_from ask form separator header weighted miner minimum limit workers pieces =
+    option_and_then (λ layout.
+    option_and_then (λ miner.
+    option_and_then (λ minimum.
+    option_and_then (λ ask.
+    option_and_then (λ limit.
+    option_and_then (λ workers.
+    option_map (λ pieces. record {
+      question = record { ask = ask; minimum = minimum; limit = limit; layout = layout };
+      miner = miner;
+      workers = workers;
+      pieces = pieces;
+    })
+    pieces)
+    workers)
+    limit)
+    ask)
+    minimum)
+    miner)
+    (layout_from form separator header weighted)
+
+abbrev pub count_plan_from : Option Form → Option ℕ → Bool → Bool → Option ℕ → Option ℕ → Option Counting
+count_plan_from form separator header weighted workers pieces =
+    option_and_then (λ layout.
+    option_and_then (λ workers.
+    option_map (λ pieces. record { layout = layout; workers = workers; pieces = pieces })
+    pieces)
+    workers)
+    (layout_from form separator header weighted)
+
+-- each option has its value in the same word
+abbrev pub all_joined : Text → Bool
+all_joined name = true
+
+-- what the words of an ask say, the confidence of rules by its text
+abbrev pub ask_of_words : Ask → Option Ask
+ask_of_words (Rules confidence) = option_map Rules (share_of (share_text confidence))
+ask_of_words ask = Some ask
+
+module _ (minimum form separator miner limit workers pieces : Text) where
+  -- what `clap` makes of the words
+  pub record IsTaken (ask : Ask) (header weight : Bool) (file : Option Text) : Type 0 where
+    pub fault : fault_of command_line (ask_words all_joined ask ++ words_with all_joined minimum form separator miner limit workers pieces header weight file)
+        ≡ numbers_fault (number_fault GREATEST_LIMIT limit) (number_fault MOST_WORKERS workers) (number_fault MOST_PIECES pieces)
+    pub plan : invocation_of_command (subcommand_of command_line (ask_words all_joined ask ++ words_with all_joined minimum form separator miner limit workers pieces header weight file))
+        ≡ option_and_then (reporting (option_and_then origin_of file)) (plan_from (ask_of_words ask) (form_of form) (separator_of separator) header weight (miner_of miner) (minimum_of minimum)
+        (number_of GREATEST_LIMIT limit) (number_of MOST_WORKERS workers) (number_of MOST_PIECES pieces))
+
+  pub taken : (ask : Ask) (header weight : Bool) (file : Option Text) → IsTaken ask header weight file
+  unfolding clap_on_literals
+  taken Items false false None = record { fault = refl; plan = refl }
+  taken Items false false (Some file) = record { fault = refl; plan = refl }
+  taken Items false true None = record { fault = refl; plan = refl }
+  taken Items false true (Some file) = record { fault = refl; plan = refl }
+  taken Items true false None = record { fault = refl; plan = refl }
+  taken Items true false (Some file) = record { fault = refl; plan = refl }
+  taken Items true true None = record { fault = refl; plan = refl }
+  taken Items true true (Some file) = record { fault = refl; plan = refl }
+  taken Sets false false None = record { fault = refl; plan = refl }
+  taken Sets false false (Some file) = record { fault = refl; plan = refl }
+  taken Sets false true None = record { fault = refl; plan = refl }
+  taken Sets false true (Some file) = record { fault = refl; plan = refl }
+  taken Sets true false None = record { fault = refl; plan = refl }
+  taken Sets true false (Some file) = record { fault = refl; plan = refl }
+  taken Sets true true None = record { fault = refl; plan = refl }
+  taken Sets true true (Some file) = record { fault = refl; plan = refl }
+  taken Closed false false None = record { fault = refl; plan = refl }
+  taken Closed false false (Some file) = record { fault = refl; plan = refl }
+  taken Closed false true None = record { fault = refl; plan = refl }
+  taken Closed false true (Some file) = record { fault = refl; plan = refl }
+  taken Closed true false None = record { fault = refl; plan = refl }
+  taken Closed true false (Some file) = record { fault = refl; plan = refl }
+  taken Closed true true None = record { fault = refl; plan = refl }
+  taken Closed true true (Some file) = record { fault = refl; plan = refl }
+  taken Maximal false false None = record { fault = refl; plan = refl }
+  taken Maximal false false (Some file) = record { fault = refl; plan = refl }
+  taken Maximal false true None = record { fault = refl; plan = refl }
+  taken Maximal false true (Some file) = record { fault = refl; plan = refl }
+  taken Maximal true false None = record { fault = refl; plan = refl }
+  taken Maximal true false (Some file) = record { fault = refl; plan = refl }
+  taken Maximal true true None = record { fault = refl; plan = refl }
+  taken Maximal true true (Some file) = record { fault = refl; plan = refl }
+  taken (Rules confidence) false false None = record { fault = refl; plan = refl }
+  taken (Rules confidence) false false (Some file) = record { fault = refl; plan = refl }
+  taken (Rules confidence) false true None = record { fault = refl; plan = refl }
+  taken (Rules confidence) false true (Some file) = record { fault = refl; plan = refl }
+  taken (Rules confidence) true false None = record { fault = refl; plan = refl }
+  taken (Rules confidence) true false (Some file) = record { fault = refl; plan = refl }
+  taken (Rules confidence) true true None = record { fault = refl; plan = refl }
+  taken (Rules confidence) true true (Some file) = record { fault = refl; plan = refl }
+
+module _ (sets form separator workers pieces : Text) where
+  pub record IsCountTaken (header weight : Bool) (file : Option Text) : Type 0 where
+    pub fault : fault_of command_line (count_words_with all_joined sets form separator workers pieces header weight file)
+        ≡ count_fault (number_fault MOST_WORKERS workers) (number_fault MOST_PIECES pieces)
+    pub plan : invocation_of_command (subcommand_of command_line (count_words_with all_joined sets form separator workers pieces header weight file))
+        ≡ option_and_then (λ plan. counting_from plan (origin_of sets) (option_and_then origin_of file))
+        (count_plan_from (form_of form) (separator_of separator) header weight (number_of MOST_WORKERS workers) (number_of MOST_PIECES pieces))
+
+  pub count_taken : (header weight : Bool) (file : Option Text) → IsCountTaken header weight file
+  unfolding clap_on_literals
+  count_taken false false None = record { fault = refl; plan = refl }
+  count_taken false false (Some file) = record { fault = refl; plan = refl }
+  count_taken false true None = record { fault = refl; plan = refl }
+  count_taken false true (Some file) = record { fault = refl; plan = refl }
+  count_taken true false None = record { fault = refl; plan = refl }
+  count_taken true false (Some file) = record { fault = refl; plan = refl }
+  count_taken true true None = record { fault = refl; plan = refl }
+  count_taken true true (Some file) = record { fault = refl; plan = refl }

@@ -1,0 +1,16 @@
+use Rattle.std.proofs.Common.{◌∙◌, ap, ap₂}
+use Rattle.std.proofs.lemmas.Result.{IfOk-weaker}
+use Rattle.clap.specs.Words.{with_rule}
+use Rattle.basket_plan.proofs.CommandLemmas.{stays_local}
+use Rattle.basket_plan.proofs.options.with_layout.Goals as goal
+
+pub returns-clause-options : goal.returns-clause-options
+returns-clause-options c =
+    let first = c.in_ok-arg.ensures.shape c.choice.ensures.local ∙ ap (with_rule _) c.choice.ensures.rule in
+    let second = c.in_ok-arg-2.ensures.shape c.choice-2.ensures.local ∙ ap₂ with_rule first c.choice-2.ensures.rule in
+    let third = c.in_ok-arg-3.ensures.shape c.flag.ensures.local ∙ ap₂ with_rule second c.flag.ensures.rule in
+    IfOk-weaker c.arg-4.result _ _ (λ command added. added.shape c.flag-2.ensures.local ∙ ap₂ with_rule third c.flag-2.ensures.rule) c.arg-4.ensures
+
+pub returns-clause-local : goal.returns-clause-local
+returns-clause-local c =
+    IfOk-weaker c.arg-4.result _ _ (λ command added none. stays_local _ _ _ added.globals c.flag-2.ensures.local (stays_local _ _ _ c.in_ok-arg-3.ensures.globals c.flag.ensures.local (stays_local _ _ _ c.in_ok-arg-2.ensures.globals c.choice-2.ensures.local (stays_local _ _ _ c.in_ok-arg.ensures.globals c.choice.ensures.local none)))) c.arg-4.ensures

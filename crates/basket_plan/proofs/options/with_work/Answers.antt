@@ -1,0 +1,15 @@
+use Rattle.std.proofs.Common.{◌∙◌, ap, ap₂}
+use Rattle.std.proofs.lemmas.Result.{IfOk-weaker}
+use Rattle.clap.specs.Words.{with_rule}
+use Rattle.basket_plan.proofs.CommandLemmas.{stays_local}
+use Rattle.basket_plan.proofs.options.with_work.Goals as goal
+
+pub returns-clause-options : goal.returns-clause-options
+returns-clause-options c =
+    let first = c.in_ok-arg.ensures.shape c.number.ensures.local ∙ ap (with_rule _) c.number.ensures.rule in
+    let second = c.in_ok-arg-2.ensures.shape c.number-2.ensures.local ∙ ap₂ with_rule first c.number-2.ensures.rule in
+    IfOk-weaker c.arg-3.result _ _ (λ command added. added.shape c.positional.ensures.local ∙ ap₂ with_rule second c.positional.ensures.rule) c.arg-3.ensures
+
+pub returns-clause-local : goal.returns-clause-local
+returns-clause-local c =
+    IfOk-weaker c.arg-3.result _ _ (λ command added none. stays_local _ _ _ added.globals c.positional.ensures.local (stays_local _ _ _ c.in_ok-arg-2.ensures.globals c.number-2.ensures.local (stays_local _ _ _ c.in_ok-arg.ensures.globals c.number.ensures.local none))) c.arg-3.ensures
