@@ -22,7 +22,7 @@ use Rattle.basket_sets.specs.declared.minimum.Minimum.TheVariants.{Count, Share}
 use Rattle.basket_sets.proofs.theory.Numerals.{count_minimum_read, share_minimum_read, share_read}
 use Rattle.basket_plan.proofs.EntryLemmas.{IsCommand, command_same, tree}
 use Rattle.basket_plan.specs.Command.{command_line, counting_from, form_of, invocation_of_command, invocation_of_plain, miner_of, number_of, options, origin_of, plain_words, reporting, required, separator_of, where_taken}
-use Rattle.basket_plan.specs.Plan.{Counting, GREATEST_LIMIT, Planned, is_separator}
+use Rattle.basket_plan.specs.Plan.{Counting, GREATEST_LIMIT, Planned, Question, is_separator}
 use Rattle.basket_plan.specs.declared.layout.Form.{Form}
 use Rattle.basket_plan.specs.declared.layout.Layout.{Layout}
 use Rattle.basket_plan.specs.declared.layout.Form.TheVariants.{Fimi, Baskets, Single, Counts, CsvCounts}
@@ -50,36 +50,35 @@ abbrev pub layout_from : Option Form → Option ℕ → Bool → Bool → Option
 layout_from form separator header weighted =
     option_and_then (λ form. option_map (λ separator. record { form = form; separator = separator; header = header; weighted = weighted }) separator) form
 
+abbrev question_from : Layout → Option Ask → Option Minimum → Option ℕ → Option Question
+question_from layout ask minimum limit =
+    option_and_then (λ minimum.
+    option_and_then (λ ask.
+    option_map (λ limit. record { ask = ask; minimum = minimum; limit = limit; layout = layout })
+    limit)
+    ask)
+    minimum
+
+abbrev work_from : Option ℕ → Option ℕ → Option (ℕ × ℕ)
+work_from workers pieces = option_and_then (λ workers. option_map (λ pieces. (workers, pieces)) pieces) workers
+
 -- the plan of the values that texts say, where all of them say one
 abbrev pub plan_from : Option Ask → Option Form → Option ℕ → Bool → Bool → Option Miner → Option Minimum → Option ℕ → Option ℕ → Option ℕ → Option Planned
 plan_from ask form separator header weighted miner minimum limit workers pieces =
     option_and_then (λ layout.
     option_and_then (λ miner.
-    option_and_then (λ minimum.
-    option_and_then (λ ask.
-    option_and_then (λ limit.
-    option_and_then (λ workers.
-    option_map (λ pieces. record {
-      question = record { ask = ask; minimum = minimum; limit = limit; layout = layout };
-      miner = miner;
-      workers = workers;
-      pieces = pieces;
-    })
-    pieces)
-    workers)
-    limit)
-    ask)
-    minimum)
+    option_and_then (λ question.
+    option_map (λ work. record { question = question; miner = miner; workers = work.0; pieces = work.1 })
+    (work_from workers pieces))
+    (question_from layout ask minimum limit))
     miner)
     (layout_from form separator header weighted)
 
 abbrev pub count_plan_from : Option Form → Option ℕ → Bool → Bool → Option ℕ → Option ℕ → Option Counting
 count_plan_from form separator header weighted workers pieces =
     option_and_then (λ layout.
-    option_and_then (λ workers.
-    option_map (λ pieces. record { layout = layout; workers = workers; pieces = pieces })
-    pieces)
-    workers)
+    option_map (λ work. record { layout = layout; workers = work.0; pieces = work.1 })
+    (work_from workers pieces))
     (layout_from form separator header weighted)
 
 -- each option has its value in the same word

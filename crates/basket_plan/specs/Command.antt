@@ -15,7 +15,7 @@ use Rattle.clap.specs.declared.error.kind.ErrorKind.TheVariants as kind
 use Rattle.basket_sets.specs.Minimum.{minimum_of}
 use Rattle.basket_sets.specs.Share.{share_of}
 use Rattle.basket_sets.specs.declared.minimum.Minimum.{Minimum}
-use Rattle.basket_plan.specs.Plan.{Counting, GREATEST_LIMIT, Planned}
+use Rattle.basket_plan.specs.Plan.{Counting, GREATEST_LIMIT, Planned, Question}
 use Rattle.basket_plan.specs.declared.command.PlanFault.{PlanFault}
 use Rattle.basket_plan.specs.declared.command.PlanFault.TheVariants.{Memory, Usage, Help}
 use Rattle.basket_plan.specs.declared.invocation.Invocation.{Invocation}
@@ -188,26 +188,29 @@ layout_of_rows rows =
     (sep_in rows))
     (form_in rows)
 
--- the plan of a command with the matches of its options: none where an option's value says nothing
+-- what a command with the matches of its options asks of an input
+abbrev pub question_of_rows : Layout → Text → List Row → Option Question
+question_of_rows layout name rows =
+    option_and_then (λ minimum.
+    option_and_then (λ ask.
+    option_map (λ limit. record { ask = ask; minimum = minimum; limit = limit; layout = layout })
+    (limit_in rows))
+    (ask_in name rows))
+    (min_in rows)
+
+-- how many workers share the work, and how many pieces it is cut into
+abbrev pub work_of_rows : List Row → Option (ℕ × ℕ)
+work_of_rows rows = option_and_then (λ workers. option_map (λ pieces. (workers, pieces)) (pieces_in rows)) (workers_in rows)
+
+-- the plan of a command with the matches of its options: none if an option's value says nothing
 abbrev pub plan_of_rows : Text → List Row → Option Planned
 plan_of_rows name rows =
     option_and_then (λ layout.
     option_and_then (λ miner.
-    option_and_then (λ minimum.
-    option_and_then (λ ask.
-    option_and_then (λ limit.
-    option_and_then (λ workers.
-    option_map (λ pieces. record {
-      question = record { ask = ask; minimum = minimum; limit = limit; layout = layout };
-      miner = miner;
-      workers = workers;
-      pieces = pieces;
-    })
-    (pieces_in rows))
-    (workers_in rows))
-    (limit_in rows))
-    (ask_in name rows))
-    (min_in rows))
+    option_and_then (λ question.
+    option_map (λ work. record { question = question; miner = miner; workers = work.0; pieces = work.1 })
+    (work_of_rows rows))
+    (question_of_rows layout name rows))
     (miner_in rows))
     (layout_of_rows rows)
 
@@ -215,10 +218,8 @@ plan_of_rows name rows =
 abbrev pub count_plan_of_rows : List Row → Option Counting
 count_plan_of_rows rows =
     option_and_then (λ layout.
-    option_and_then (λ workers.
-    option_map (λ pieces. record { layout = layout; workers = workers; pieces = pieces })
-    (pieces_in rows))
-    (workers_in rows))
+    option_map (λ work. record { layout = layout; workers = work.0; pieces = work.1 })
+    (work_of_rows rows))
     (layout_of_rows rows)
 
 -- what is asked for where the sets and the input come from there: not both from standard input

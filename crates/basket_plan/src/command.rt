@@ -74,7 +74,7 @@ fn invocation_of_plain<'a>(alloc: Global, words: &'a [&'a str]) -> Result<Invoca
 {
     match command_line(alloc)?.try_get_matches_from(words) {
         Ok(matches) => invocation_from(alloc, &matches),
-        Err(error) => Err(fault_of(alloc, &error)?),
+        Err(error) => Err(fault_of(alloc, &error)),
     }
 }
 
@@ -155,17 +155,16 @@ fn count_command<'a>(alloc: Global) -> Result<Command<'a>, AllocError>
     with_work(alloc, command)
 }
 
-fn fault_of(alloc: Global, error: &Error) -> Result<PlanFault, AllocError>
-    ensures memory { IfOk result (λ fault. fault ≢ PlanFault.Memory → kind_of error.now ≢ ErrorKind.OutOfMemory) }
-    ensures help { IfOk result (λ fault. fault ≢ PlanFault.Memory → is_answer (kind_of error.now) ≡ is_help fault) }
+fn fault_of(alloc: Global, error: &Error) -> PlanFault
+    ensures memory { result ≢ PlanFault.Memory → kind_of error.now ≢ ErrorKind.OutOfMemory }
+    ensures help { result ≢ PlanFault.Memory → is_answer (kind_of error.now) ≡ is_help result }
 {
     if let ErrorKind::OutOfMemory = error.kind() {
-        return Ok(PlanFault::Memory);
+        return PlanFault::Memory;
     }
-    let text = error.to_string(alloc)?;
-    if error.use_stderr() {
-        Ok(PlanFault::Usage(text))
-    } else {
-        Ok(PlanFault::Help(text))
+    match error.to_string(alloc) {
+        Ok(text) if error.use_stderr() => PlanFault::Usage(text),
+        Ok(text) => PlanFault::Help(text),
+        Err(_) => PlanFault::Memory,
     }
 }

@@ -76,7 +76,7 @@ pub fn invocation_from(alloc: Global, matches: &ArgMatches<'_>) -> Result<Invoca
     ensures help { IfErr result (λ fault. is_help fault ≡ false) }
 {
     let Some((name, options)) = matches.subcommand() else {
-        return Err(usage(alloc, "basket: no command\n")?);
+        return Err(usage(alloc, "basket: no command\n"));
     };
     invocation_in(alloc, name, options)
 }
@@ -105,7 +105,7 @@ fn reporting(alloc: Global, name: &str, options: &ArgMatches<'_>) -> Result<Invo
 {
     let plan = match plan_in(name, options) {
         Ok(plan) => plan,
-        Err(text) => return Err(usage(alloc, text)?),
+        Err(text) => return Err(usage(alloc, text)),
     };
     let input = origin_in(alloc, "file", options)?;
     Ok(Invocation {
@@ -122,12 +122,12 @@ fn counting(alloc: Global, options: &ArgMatches<'_>) -> Result<Invocation, PlanF
 {
     let plan = match count_plan_in(options) {
         Ok(plan) => plan,
-        Err(text) => return Err(usage(alloc, text)?),
+        Err(text) => return Err(usage(alloc, text)),
     };
     let sets = origin_in(alloc, "sets", options)?;
     let input = origin_in(alloc, "file", options)?;
     if sets.path().is_none() && input.path().is_none() {
-        return Err(usage(alloc, BOTH_STANDARD)?);
+        return Err(usage(alloc, BOTH_STANDARD));
     }
     Ok(Invocation {
         task: Task::Count(plan, sets),
@@ -135,8 +135,11 @@ fn counting(alloc: Global, options: &ArgMatches<'_>) -> Result<Invocation, PlanF
     })
 }
 
-fn usage(alloc: Global, text: &str) -> Result<PlanFault, AllocError>
-    ensures { IfOk result (λ fault. is_help fault ≡ false) }
+fn usage(alloc: Global, text: &str) -> PlanFault
+    ensures { is_help result ≡ false }
 {
-    Ok(PlanFault::Usage(String::from_str(alloc, text)?))
+    match String::from_str(alloc, text) {
+        Ok(text) => PlanFault::Usage(text),
+        Err(_) => PlanFault::Memory,
+    }
 }

@@ -1,8 +1,9 @@
 //! What the values of the options say.
 ghost use Rattle.std.specs.Prelude.{◌≡◌, ◌≤◌, IfErr, IfOk, IfSome, IsTrue};
 ghost use Rattle.clap.specs.Words.{found_of, rows_of};
-ghost use Rattle.basket_plan.specs.Command.{ask_in, conf_in, count_plan_of_rows, flag_in, form_in, layout_of_rows, min_in, miner_in, number_in, origin_in, plan_of_rows, sep_in};
+ghost use Rattle.basket_plan.specs.Command.{ask_in, conf_in, count_plan_of_rows, flag_in, form_in, layout_of_rows, min_in, miner_in, number_in, origin_in, plan_of_rows, question_of_rows, sep_in, work_of_rows};
 ghost use Rattle.basket_plan.specs.Plan.{is_separator};
+ghost use Rattle.basket_plan.specs.declared.plan.TheConstants.{MOST_PIECES, MOST_WORKERS};
 ghost use Rattle.basket_sets.specs.Minimum.{IsMinimum};
 
 use crate::count_plan::CountPlan;
@@ -31,19 +32,25 @@ pub fn plan_in(name: &str, options: &ArgMatches<'_>) -> Result<Plan, &'static st
 {
     let layout = layout_in(options)?;
     let miner = miner_in(options).ok_or(BAD_MINER)?;
+    let plan = asked_in(name, layout, options)?;
+    let (workers, pieces) = work_in(options)?;
+    Ok(
+        plan.with_miner(miner)
+            .with_workers(workers)
+            .with_pieces(pieces),
+    )
+}
+
+/// A plan of the question of a command with its options, or the text to print of a value that says nothing.
+fn asked_in(name: &str, layout: Layout, options: &ArgMatches<'_>) -> Result<Plan, &'static str>
+    requires { IsTrue (is_separator layout.separator) }
+    ensures made { IfOk result (λ plan. question_of_rows layout name.now (rows_of (found_of options.now)) ≡ Some plan.question) }
+    ensures refused { IfErr result (λ _. question_of_rows layout name.now (rows_of (found_of options.now)) ≡ None) }
+{
     let minimum = min_in(options).ok_or("basket: bad value for --min\n")?;
     let ask = ask_in(name, options).ok_or("basket: bad value for --conf\n")?;
     let limit = number_in("limit", u32::MAX, options).ok_or("basket: bad value for --limit\n")?;
-    let workers = number_in("workers", MOST_WORKERS, options).ok_or(BAD_WORKERS)?;
-    let pieces = number_in("pieces", MOST_PIECES, options).ok_or(BAD_PIECES)?;
-    Ok(
-        Plan::of(ask, minimum)
-            .with_layout(layout)
-            .with_miner(miner)
-            .with_workers(workers)
-            .with_pieces(pieces)
-            .with_limit(limit),
-    )
+    Ok(Plan::of(ask, minimum).with_layout(layout).with_limit(limit))
 }
 
 /// The plan of `count` with its options, or the text to print of a value that says nothing.
@@ -52,13 +59,24 @@ pub fn count_plan_in(options: &ArgMatches<'_>) -> Result<CountPlan, &'static str
     ensures refused { IfErr result (λ _. count_plan_of_rows (rows_of (found_of options.now)) ≡ None) }
 {
     let layout = layout_in(options)?;
-    let workers = number_in("workers", MOST_WORKERS, options).ok_or(BAD_WORKERS)?;
-    let pieces = number_in("pieces", MOST_PIECES, options).ok_or(BAD_PIECES)?;
+    let (workers, pieces) = work_in(options)?;
     Ok(
         CountPlan::of(layout)
             .with_workers(workers)
             .with_pieces(pieces),
     )
+}
+
+/// How many workers share the work, and into how many pieces it is cut, or the text to print of a
+/// value that says nothing.
+fn work_in(options: &ArgMatches<'_>) -> Result<(u32, u32), &'static str>
+    ensures made { IfOk result (λ work. work_of_rows (rows_of (found_of options.now)) ≡ Some work) }
+    ensures in_range { IfOk result (λ work. (1 ≤ work.0) × (work.0 ≤ MOST_WORKERS) × (1 ≤ work.1) × (work.1 ≤ MOST_PIECES)) }
+    ensures refused { IfErr result (λ _. work_of_rows (rows_of (found_of options.now)) ≡ None) }
+{
+    let workers = number_in("workers", MOST_WORKERS, options).ok_or(BAD_WORKERS)?;
+    let pieces = number_in("pieces", MOST_PIECES, options).ok_or(BAD_PIECES)?;
+    Ok((workers, pieces))
 }
 
 /// How the input is written, or the text to print of a value that says nothing.

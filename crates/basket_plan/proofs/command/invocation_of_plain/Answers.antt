@@ -16,17 +16,17 @@ returns-in-Ok-clause-refused c =
     (subcommand_rows_of c.in-Ok.matches) c.in-Ok.ensures.kinds (λ simple. (c.in-Ok.ensures.matches simple).1) in
     IfErr-weaker c.invocation_from.result _ _ (λ fault refused has_memory. taken ∙ refused has_memory) c.invocation_from.ensures.refused
 
-pub returns-in_ok-fault_of-in-Err-clause-refused : goal.returns-in_ok-fault_of-in-Err-clause-refused
-returns-in_ok-fault_of-in-Err-clause-refused c other =
+pub returns-in-Err-clause-refused : goal.returns-in-Err-clause-refused
+returns-in-Err-clause-refused c other =
     plan_refused _ c.in_ok-command_line.ensures (map (λ word. word.now) c.args.words.now)
-    c.in-Err.error c.in-Err.ensures.kinds (c.in_ok-fault_of-in-Err.ensures.memory other)
+    c.in-Err.error c.in-Err.ensures.kinds (c.fault_of.ensures.memory other)
 
 pub returns-in-Ok-clause-help : goal.returns-in-Ok-clause-help
 returns-in-Ok-clause-help c =
     let none = no_help _ c.in_ok-command_line.ensures (map (λ word. word.now) c.args.words.now) c.in-Ok.ensures.kinds in
     IfErr-weaker c.invocation_from.result _ _ (λ fault is _. none ∙ sym is) c.invocation_from.ensures.help
 
-pub returns-in_ok-fault_of-in-Err-clause-help : goal.returns-in_ok-fault_of-in-Err-clause-help
-returns-in_ok-fault_of-in-Err-clause-help c other =
+pub returns-in-Err-clause-help : goal.returns-in-Err-clause-help
+returns-in-Err-clause-help c other =
     help_refused _ c.in_ok-command_line.ensures (map (λ word. word.now) c.args.words.now)
-    c.in-Err.error c.in-Err.ensures.kinds (c.in_ok-fault_of-in-Err.ensures.memory other) ∙ c.in_ok-fault_of-in-Err.ensures.help other
+    c.in-Err.error c.in-Err.ensures.kinds (c.fault_of.ensures.memory other) ∙ c.fault_of.ensures.help other
