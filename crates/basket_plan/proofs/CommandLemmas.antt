@@ -1,6 +1,6 @@
 -- What the options' values say, as `clap` gives them, and the plan that they make.
 use Rattle.std.proofs.Common.{◌≡◌, ◌∙◌, ◌<◌, ◌≤◌, ◌||◌, inl, inr, ℕ, List, [], ◌∷◌, Bool, true, false, option_map, Option, Some, None, refl, sym, subst, ap, ap₂, arith}
-use Rattle.std.specs.Prelude.{option_and_then, codes, if◌then◌else◌, unwrap_or}
+use Rattle.std.specs.Prelude.{fold, option_and_then, codes, if◌then◌else◌, unwrap_or}
 use Rattle.std.specs.Borrow.{Bor}
 use Rattle.std.specs.List.{list_any}
 use Rattle.std.specs.Str.{bytes_eq}
@@ -20,7 +20,8 @@ use Rattle.clap.proofs.OnLiterals.{clap_on_literals}
 use Rattle.clap.proofs.ValueTestLemmas.{Accepts-accepts, accepts-Accepts}
 use Rattle.clap.proofs.WalkLemmas.{first_value-rows, one_text-rows}
 use Rattle.basket_plan.proofs.HelpLemmas.{help_told}
-use Rattle.basket_plan.specs.Command.{plain_asks_help, is_answer, command_line, flag_in, number_in, number_of, invocation_of_command, invocation_of_rows, invocation_of_plain, where_taken}
+use Rattle.basket_plan.specs.Command.{TakesMore, plain_asks_help, is_answer, command_line, flag_in, number_in, number_of, invocation_of_command, invocation_of_rows, invocation_of_plain, where_taken, with_taken}
+use Rattle.basket_plan.specs.declared.options.Taken.{Taken}
 
 -- ---- values
 
@@ -122,6 +123,10 @@ entered m name rows named listed = go (subcommand_rows_of m) (named ∙ map_twic
 
 pub stays_local : (old new global : Bool) → new ≡ (old || global) → global ≡ false → old ≡ false → new ≡ false
 stays_local old new global e g o = e ∙ ap₂ (λ a b. a || b) o g
+
+-- what a command takes more than one that is known
+pub taken_more : {old known new : App} {more : List Taken} → old ≡ known → TakesMore old more new → new ≡ fold with_taken known more
+taken_more {old} {known} {new} {more} is takes = takes.shape ∙ ap (λ (app : App). fold with_taken app more) is
 
 simple_line : is_simple_and_free command_line ≡ true
 unfolding clap_on_literals

@@ -1,5 +1,5 @@
 -- The command line as `clap` sees it, and what words ask for.
-use Rattle.std.specs.Prelude.{List, [], ◌∷◌, ◌++◌, ℕ, Bool, true, false, codes, if◌then◌else◌, option_and_then, option_map, unwrap_or, Option, Some, None}
+use Rattle.std.specs.Prelude.{◌≡◌, List, [], ◌∷◌, ◌++◌, ℕ, Bool, true, false, codes, fold, if◌then◌else◌, option_and_then, option_map, unwrap_or, Option, Some, None}
 use Rattle.std.specs.List.{list_any}
 use Rattle.std.specs.Str.{bytes_eq}
 use Rattle.std.specs.Str.Parse.{digits_value, without_leading_plus}
@@ -20,6 +20,8 @@ use Rattle.basket_plan.specs.declared.command.PlanFault.{PlanFault}
 use Rattle.basket_plan.specs.declared.command.PlanFault.TheVariants.{Memory, Usage, Help}
 use Rattle.basket_plan.specs.declared.invocation.Invocation.{Invocation}
 use Rattle.basket_plan.specs.declared.invocation.Task.TheVariants.{Report, Count}
+use Rattle.basket_plan.specs.declared.options.Taken.{Taken}
+use Rattle.basket_plan.specs.declared.options.Taken.TheVariants as taken
 use Rattle.basket_plan.specs.declared.plan.TheConstants.{MOST_PIECES, MOST_WORKERS}
 use Rattle.basket_plan.specs.declared.layout.Layout.{Layout}
 use Rattle.basket_plan.specs.declared.plan.Ask.{Ask}
@@ -55,21 +57,48 @@ number name most default = record (option name) { parser = Some (parser.Unsigned
 abbrev pub positional : Text → Rule
 positional name = record (new_rule name) { value_names = 1; action = Some action.Set }
 
--- the options that say how the input is written
-abbrev pub layout_options : List Rule
-layout_options = choice (codes "form") (codes "fimi") ∷ choice (codes "sep") (codes "comma") ∷ flag (codes "header") ∷ flag (codes "weight") ∷ []
+-- the rule of what a command takes
+abbrev pub rule_of_taken : Taken → Rule
+rule_of_taken (taken.Required name value) = required name.now
+rule_of_taken (taken.Choice name value default) = choice name.now default.now
+rule_of_taken (taken.Flag name) = flag name.now
+rule_of_taken (taken.Number name value most default) = number name.now most default.now
+rule_of_taken (taken.Positional name value) = positional name.now
 
--- the options that say how frequent sets are found
-abbrev pub mining_options : List Rule
-mining_options = choice (codes "miner") (codes "apriori") ∷ number (codes "limit") GREATEST_LIMIT (codes "4294967295") ∷ []
+abbrev pub with_taken : App → Taken → App
+with_taken app taken = with_rule app (rule_of_taken taken)
 
--- the options that say how the work is shared, and the name of the input
-abbrev pub work_options : List Rule
-work_options = number (codes "workers") MOST_WORKERS (codes "1") ∷ number (codes "pieces") MOST_PIECES (codes "16") ∷ positional (codes "file") ∷ []
+-- a command that takes all that another one takes, and these after it
+pub record TakesMore (old : App) (more : List Taken) (new : App) : Type 0 where
+  pub shape : new ≡ fold with_taken old more
 
--- the options that all commands but `count` have
+-- the options of all commands except `count`
 abbrev pub options : List Rule
-options = required (codes "min") ∷ layout_options ++ mining_options ++ work_options
+options =
+    required (codes "min")
+    ∷ choice (codes "form") (codes "fimi")
+    ∷ choice (codes "sep") (codes "comma")
+    ∷ flag (codes "header")
+    ∷ flag (codes "weight")
+    ∷ choice (codes "miner") (codes "apriori")
+    ∷ number (codes "limit") GREATEST_LIMIT (codes "4294967295")
+    ∷ number (codes "workers") MOST_WORKERS (codes "1")
+    ∷ number (codes "pieces") MOST_PIECES (codes "16")
+    ∷ positional (codes "file")
+    ∷ []
+
+-- the options of `count`
+abbrev pub count_options : List Rule
+count_options =
+    required (codes "sets")
+    ∷ choice (codes "form") (codes "fimi")
+    ∷ choice (codes "sep") (codes "comma")
+    ∷ flag (codes "header")
+    ∷ flag (codes "weight")
+    ∷ number (codes "workers") MOST_WORKERS (codes "1")
+    ∷ number (codes "pieces") MOST_PIECES (codes "16")
+    ∷ positional (codes "file")
+    ∷ []
 
 -- a command of a name with these options, and that of the rules, which has one more
 abbrev pub command_app : Text → App
@@ -79,7 +108,7 @@ abbrev pub rules_app : App
 rules_app = with_rule (command_app (codes "rules")) (required (codes "conf"))
 
 abbrev pub count_app : App
-count_app = record { top = record (new_shape (codes "count")) { rules = required (codes "sets") ∷ layout_options ++ work_options }; subs = [] }
+count_app = record { top = record (new_shape (codes "count")) { rules = count_options }; subs = [] }
 
 -- the line without commands
 abbrev pub bare_line : App

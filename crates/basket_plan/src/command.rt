@@ -8,7 +8,7 @@ ghost use Rattle.basket_plan.specs.Status.{plan_status_of};
 
 use crate::help;
 use crate::invocation::{Invocation, invocation_from};
-use crate::options::{required, with_layout, with_mining, with_work};
+use crate::options::{COUNT, REPORT, required, with_options};
 use clap::error::ErrorKind;
 use clap::{Command, Error};
 use std::alloc::{AllocError, Global};
@@ -128,12 +128,8 @@ fn command<'a>(alloc: Global, name: &'a str, help: &'a str) -> Result<Command<'a
     ensures options { IfOk result (λ command. app_of command ≡ command_app name.now) }
     ensures local { IfOk result (λ command. (fields_of command).has_globals ≡ false) }
 {
-    let command = Command::new(alloc, name)
-        .override_help(help)
-        .arg(required(alloc, "min", "M"))?;
-    let command = with_layout(alloc, command)?;
-    let command = with_mining(alloc, command)?;
-    with_work(alloc, command)
+    let command = Command::new(alloc, name).override_help(help);
+    with_options(alloc, command, &REPORT)
 }
 
 fn rules_command<'a>(alloc: Global) -> Result<Command<'a>, AllocError>
@@ -148,11 +144,8 @@ fn count_command<'a>(alloc: Global) -> Result<Command<'a>, AllocError>
     ensures options { IfOk result (λ command. app_of command ≡ count_app) }
     ensures local { IfOk result (λ command. (fields_of command).has_globals ≡ false) }
 {
-    let command = Command::new(alloc, "count")
-        .override_help(help::COUNT)
-        .arg(required(alloc, "sets", "FILE"))?;
-    let command = with_layout(alloc, command)?;
-    with_work(alloc, command)
+    let command = Command::new(alloc, "count").override_help(help::COUNT);
+    with_options(alloc, command, &COUNT)
 }
 
 fn fault_of(alloc: Global, error: &Error) -> PlanFault

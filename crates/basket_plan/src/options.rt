@@ -1,45 +1,78 @@
 //! The options of the command line.
-ghost use Rattle.std.specs.Prelude.{◌≡◌, IfOk, false, fold};
-ghost use Rattle.clap.specs.Words.{app_of, rule_of, with_rule};
+ghost use Rattle.std.specs.Prelude.{◌≡◌, IfOk, false};
+ghost use Rattle.clap.specs.Words.{app_of, rule_of};
 ghost use Rattle.clap.specs.declared.builder.command.Command.TheViews.{out-Command as fields_of};
-ghost use Rattle.basket_plan.specs.Command.{choice, flag, layout_options, mining_options, number, positional, required, work_options};
+ghost use Rattle.basket_plan.specs.Command.{TakesMore, choice, flag, number, positional, required, rule_of_taken};
 
 use crate::plan::{MOST_PIECES, MOST_WORKERS};
 use clap::builder::ValueParser;
 use clap::{Arg, ArgAction, Command};
 use std::alloc::{AllocError, Global};
 
-/// The command with the options that say how the input is written.
-pub fn with_layout<'a>(alloc: Global, command: Command<'a>) -> Result<Command<'a>, AllocError>
-    ensures options { IfOk result (λ added. app_of added ≡ fold with_rule (app_of command.entry) layout_options) }
-    ensures local { IfOk result (λ added. (fields_of command.entry).has_globals ≡ false → (fields_of added).has_globals ≡ false) }
-{
-    command
-        .arg(choice(alloc, "form", "F", "fimi"))?
-        .arg(choice(alloc, "sep", "S", "comma"))?
-        .arg(flag(alloc, "header"))?
-        .arg(flag(alloc, "weight"))
+/// What a command takes of the words: its name, what its value is called in the usage of mistakes,
+/// and which it is if it isn't given.
+#[derive(Clone, Copy)]
+pub enum Taken {
+    Required(&'static str, &'static str),
+    Choice(&'static str, &'static str, &'static str),
+    Flag(&'static str),
+    Number(&'static str, &'static str, u32, &'static str),
+    Positional(&'static str, &'static str),
 }
 
-/// The command with the options that say how frequent sets are found.
-pub fn with_mining<'a>(alloc: Global, command: Command<'a>) -> Result<Command<'a>, AllocError>
-    ensures options { IfOk result (λ added. app_of added ≡ fold with_rule (app_of command.entry) mining_options) }
+/// What all commands except `count` take.
+pub const REPORT: [Taken; 10] = [
+    Taken::Required("min", "M"),
+    Taken::Choice("form", "F", "fimi"),
+    Taken::Choice("sep", "S", "comma"),
+    Taken::Flag("header"),
+    Taken::Flag("weight"),
+    Taken::Choice("miner", "A", "apriori"),
+    Taken::Number("limit", "L", u32::MAX, "4294967295"),
+    Taken::Number("workers", "W", MOST_WORKERS, "1"),
+    Taken::Number("pieces", "P", MOST_PIECES, "16"),
+    Taken::Positional("file", "FILE"),
+];
+
+/// What `count` takes.
+pub const COUNT: [Taken; 8] = [
+    Taken::Required("sets", "FILE"),
+    Taken::Choice("form", "F", "fimi"),
+    Taken::Choice("sep", "S", "comma"),
+    Taken::Flag("header"),
+    Taken::Flag("weight"),
+    Taken::Number("workers", "W", MOST_WORKERS, "1"),
+    Taken::Number("pieces", "P", MOST_PIECES, "16"),
+    Taken::Positional("file", "FILE"),
+];
+
+/// The command with all that it takes.
+pub fn with_options<'a>(
+    alloc: Global,
+    command: Command<'a>,
+    options: &[Taken],
+) -> Result<Command<'a>, AllocError>
+    ensures options { IfOk result (λ added. TakesMore (app_of command.entry) options.now (app_of added)) }
     ensures local { IfOk result (λ added. (fields_of command.entry).has_globals ≡ false → (fields_of added).has_globals ≡ false) }
 {
-    command
-        .arg(choice(alloc, "miner", "A", "apriori"))?
-        .arg(number(alloc, "limit", "L", u32::MAX, "4294967295"))
+    let mut command = command;
+    for taken in options {
+        command = command.arg(arg_of(alloc, *taken))?;
+    }
+    Ok(command)
 }
 
-/// The command with the options that say how the work is shared, and the name of the input.
-pub fn with_work<'a>(alloc: Global, command: Command<'a>) -> Result<Command<'a>, AllocError>
-    ensures options { IfOk result (λ added. app_of added ≡ fold with_rule (app_of command.entry) work_options) }
-    ensures local { IfOk result (λ added. (fields_of command.entry).has_globals ≡ false → (fields_of added).has_globals ≡ false) }
+fn arg_of<'a>(alloc: Global, taken: Taken) -> Arg<'a>
+    ensures rule { rule_of result ≡ rule_of_taken taken }
+    ensures local { result.global ≡ false }
 {
-    command
-        .arg(number(alloc, "workers", "W", MOST_WORKERS, "1"))?
-        .arg(number(alloc, "pieces", "P", MOST_PIECES, "16"))?
-        .arg(positional(alloc, "file", "FILE"))
+    match taken {
+        Taken::Required(name, value) => required(alloc, name, value),
+        Taken::Choice(name, value, default) => choice(alloc, name, value, default),
+        Taken::Flag(name) => flag(alloc, name),
+        Taken::Number(name, value, most, default) => number(alloc, name, value, most, default),
+        Taken::Positional(name, value) => positional(alloc, name, value),
+    }
 }
 
 /// An option that has to be given.
@@ -56,7 +89,7 @@ pub fn required<'a>(alloc: Global, name: &'a str, value: &'a str) -> Arg<'a>
 
 /// An option whose value is one of some names. Which these are is judged with the other values:
 /// `clap`'s own list of names would have the plan depend on where they lie.
-pub fn choice<'a>(alloc: Global, name: &'a str, value: &'a str, default: &'a str) -> Arg<'a>
+fn choice<'a>(alloc: Global, name: &'a str, value: &'a str, default: &'a str) -> Arg<'a>
     ensures rule { rule_of result ≡ choice name.now default.now }
     ensures local { result.global ≡ false }
 {
@@ -67,7 +100,7 @@ pub fn choice<'a>(alloc: Global, name: &'a str, value: &'a str, default: &'a str
         .action(ArgAction::Set)
 }
 
-pub fn flag<'a>(alloc: Global, name: &'a str) -> Arg<'a>
+fn flag<'a>(alloc: Global, name: &'a str) -> Arg<'a>
     ensures rule { rule_of result ≡ flag name.now }
     ensures local { result.global ≡ false }
 {
@@ -75,13 +108,7 @@ pub fn flag<'a>(alloc: Global, name: &'a str) -> Arg<'a>
 }
 
 /// An option whose value is a whole number from 1 to the greatest.
-pub fn number<'a>(
-    alloc: Global,
-    name: &'a str,
-    value: &'a str,
-    most: u32,
-    default: &'a str,
-) -> Arg<'a>
+fn number<'a>(alloc: Global, name: &'a str, value: &'a str, most: u32, default: &'a str) -> Arg<'a>
     ensures rule { rule_of result ≡ number name.now most default.now }
     ensures local { result.global ≡ false }
 {
@@ -94,7 +121,7 @@ pub fn number<'a>(
 }
 
 /// A value without the name of an option, which may be left out.
-pub fn positional<'a>(alloc: Global, name: &'a str, value: &'a str) -> Arg<'a>
+fn positional<'a>(alloc: Global, name: &'a str, value: &'a str) -> Arg<'a>
     ensures rule { rule_of result ≡ positional name.now }
     ensures local { result.global ≡ false }
 {
