@@ -1,11 +1,11 @@
 -- What `clap` makes of a command and its words, by what that command makes of the words.
-use Rattle.std.proofs.Common.{◌≡◌, ◌∙◌, ℕ, List, [], ◌∷◌, Bool, false, Option, Some, None, is_some, option_map, refl, sym, ap, ap₂}
-use Rattle.std.specs.Prelude.{codes, find, fold, slice_index_or}
+use Rattle.std.proofs.Common.{◌≡◌, ◌∙◌, List, [], ◌∷◌, false, Some, is_some, option_map, sym, ap, ap₂}
+use Rattle.std.specs.Prelude.{find, fold}
 use Rattle.std.specs.Option.{option_map_or}
 use Rattle.clap.specs.Kinds.{Kinds, or_else}
 use Rattle.clap.specs.Faults.{check_fault, defaults_fault, entered_fault, fault_of, level_fault, settle_fault, turn_fault, walk_fault}
 use Rattle.clap.specs.Simple.{App, Shape, built, entered, label_of, names_of, rows_at, subcommand_of}
-use Rattle.clap.specs.Walk.{Row, Text, Walk, answers_to, finished, nothing_held, settled, walk_from, walked}
+use Rattle.clap.specs.Walk.{Text, Walk, answers_to, finished, nothing_held, settled, walk_from, walked}
 use Rattle.clap.proofs.FaultLemmas.{stopped_fault}
 use Rattle.clap.proofs.OnLiterals.{clap_on_literals}
 use Rattle.clap.proofs.WalkLemmas.{walk_stopped}

@@ -1,39 +1,17 @@
 -- The words of a plan ask for the same, whichever options have their values in the same word.
-use Rattle.std.proofs.Common.{◌≡◌, ◌∙◌, ◌<◌, ◌≤◌, ◌||◌, ◌^◌, ℕ, zero, suc, List, [], ◌∷◌, ◌++◌, Bool, true, false, not, decimal, get_or, option_map, Option, Some, None, refl, sym, subst, ap, ap₂, arith}
-use Rattle.std.specs.Prelude.{◌==◌, codes, option_and_then, if◌then◌else◌, nat_eq, slice_index_or}
-use Rattle.std.specs.Str.Parse.{IsNumeral, digits_value, without_leading_plus}
-use Rattle.std.proofs.lemmas.Bool.{eqb-true}
-use Rattle.std.proofs.lemmas.Fmt.{decimal_digit, decimal_is_IsNumeral, first_decimal}
-use Rattle.std.proofs.lemmas.Str.Parse.{without_leading_plus_none}
-use Rattle.clap.specs.Simple.{Shape, filled, filled_from, help_rule}
-use Rattle.clap.specs.Walk.{Rule, nothing_held}
-use Rattle.clap.specs.Words.{Text, subcommand_of}
-use Rattle.clap.specs.Kinds.{Kinds, or_else, value_kinds}
-use Rattle.clap.specs.Faults.{fault_of}
-use Rattle.clap.specs.Values.{refused_kind}
-use Rattle.clap.specs.ValueTests.{is_unsigned_in}
-use Rattle.clap.specs.declared.builder.value_parser.ValueParser.TheVariants as parser
-use Rattle.clap.proofs.OnLiterals.{clap_on_literals}
-use Rattle.clap.proofs.ValueTestLemmas.{Accepts-accepts}
-use Rattle.basket_sets.specs.Minimum.{minimum_of}
-use Rattle.basket_sets.specs.Share.{share_of}
-use Rattle.basket_sets.specs.declared.minimum.Minimum.{Minimum}
-use Rattle.basket_sets.specs.declared.minimum.Minimum.TheVariants.{Count, Share}
-use Rattle.basket_sets.proofs.theory.Numerals.{count_minimum_read, share_minimum_read, share_read}
-use Rattle.basket_plan.proofs.EntryLemmas.{IsCommand, command_same, tree}
-use Rattle.basket_plan.specs.Command.{command_line, counting_from, form_of, invocation_of_command, invocation_of_plain, miner_of, number_of, options, origin_of, plain_words, reporting, required, separator_of, where_taken}
-use Rattle.basket_plan.specs.Plan.{Counting, GREATEST_LIMIT, Planned, is_separator}
-use Rattle.basket_plan.specs.declared.layout.Form.{Form}
-use Rattle.basket_plan.specs.declared.layout.Layout.{Layout}
-use Rattle.basket_plan.specs.declared.layout.Form.TheVariants.{Fimi, Baskets, Single, Counts, CsvCounts}
+use Rattle.std.proofs.Common.{◌≡◌, ◌||◌, List, ◌++◌, Bool, true, false, decimal, Option, refl, arith}
+use Rattle.std.specs.Prelude.{codes}
+use Rattle.clap.specs.Simple.{Shape}
+use Rattle.clap.specs.Walk.{Rule}
+use Rattle.clap.specs.Words.{Text}
+use Rattle.basket_plan.proofs.EntryLemmas.{command_same}
+use Rattle.basket_plan.specs.Command.{invocation_of_plain}
+use Rattle.basket_plan.specs.Plan.{Counting, Planned}
 use Rattle.basket_plan.specs.declared.plan.Ask.{Ask}
 use Rattle.basket_plan.specs.declared.plan.Ask.TheVariants.{Items, Sets, Closed, Maximal, Rules}
-use Rattle.basket_plan.specs.declared.plan.Miner.{Miner}
-use Rattle.basket_plan.specs.declared.plan.Miner.TheVariants.{Apriori, Eclat, EclatDiff, EclatBits, FpGrowth}
-use Rattle.basket_plan.specs.declared.plan.TheConstants.{MOST_PIECES, MOST_WORKERS}
-use Rattle.basket_plan.specs.Written.{CountsAreReadBack, IsAskInRange, IsCountingInRange, IsInRange, IsMinimumInRange, IsShareInRange, PlansAreReadBack, ask_words, count_words_of, count_words_with, form_text, last_words, miner_text, minimum_text, separator_text, share_text, stands_alone, words_with}
-use Rattle.basket_plan.proofs.InputLemmas.{IsFlag, IsPositional, flag_of, settles_file, settles_flag}
-use Rattle.basket_plan.proofs.OptionLemmas.{IsName, IsOption, Same, option_of, same_option}
+use Rattle.basket_plan.specs.Written.{IsAskInRange, IsCountingInRange, IsInRange, ask_words, count_words_of, form_text, last_words, miner_text, minimum_text, separator_text, stands_alone, words_with}
+use Rattle.basket_plan.proofs.InputLemmas.{settles_file, settles_flag}
+use Rattle.basket_plan.proofs.OptionLemmas.{Same, option_of, same_option}
 use Rattle.basket_plan.proofs.ShapeLemmas.{TakesInput, closed_command, conf_name, count_command, count_shape, count_takes, items_command, limit_name, maximal_command, min_name, miner_name, report_shape, report_takes, rules_command, rules_shape, sets_command, sets_name}
 use Rattle.basket_plan.proofs.TakenLemmas.{all_joined}
 use Rattle.basket_plan.proofs.ValueLemmas.{form_stands, miner_stands, minimum_stands, number_stands, separator_stands, share_stands}

@@ -1,37 +1,23 @@
 -- What `clap` makes of the words of a plan, each option with its value in the same word.
-use Rattle.std.proofs.Common.{◌≡◌, ◌∙◌, ◌<◌, ◌≤◌, ◌||◌, ◌^◌, ℕ, zero, suc, List, [], ◌∷◌, ◌++◌, Bool, true, false, not, decimal, get_or, option_map, Option, Some, None, refl, sym, subst, ap, ap₂, arith}
-use Rattle.std.specs.Prelude.{◌==◌, codes, option_and_then, if◌then◌else◌, nat_eq, slice_index_or}
-use Rattle.std.specs.Str.Parse.{IsNumeral, digits_value, without_leading_plus}
-use Rattle.std.proofs.lemmas.Bool.{eqb-true}
-use Rattle.std.proofs.lemmas.Fmt.{decimal_digit, decimal_is_IsNumeral, first_decimal}
-use Rattle.std.proofs.lemmas.Str.Parse.{without_leading_plus_none}
-use Rattle.clap.specs.Simple.{Shape, filled, filled_from, help_rule}
-use Rattle.clap.specs.Walk.{Rule, nothing_held}
+use Rattle.std.proofs.Common.{◌≡◌, ℕ, [], ◌++◌, Bool, true, false, option_map, Option, Some, None, refl}
+use Rattle.std.specs.Prelude.{option_and_then}
 use Rattle.clap.specs.Words.{Text, subcommand_of}
 use Rattle.clap.specs.Kinds.{Kinds, or_else, value_kinds}
 use Rattle.clap.specs.Faults.{fault_of}
-use Rattle.clap.specs.Values.{refused_kind}
-use Rattle.clap.specs.ValueTests.{is_unsigned_in}
 use Rattle.clap.specs.declared.builder.value_parser.ValueParser.TheVariants as parser
 use Rattle.clap.proofs.OnLiterals.{clap_on_literals}
-use Rattle.clap.proofs.ValueTestLemmas.{Accepts-accepts}
 use Rattle.basket_sets.specs.Minimum.{minimum_of}
 use Rattle.basket_sets.specs.Share.{share_of}
 use Rattle.basket_sets.specs.declared.minimum.Minimum.{Minimum}
-use Rattle.basket_sets.specs.declared.minimum.Minimum.TheVariants.{Count, Share}
-use Rattle.basket_sets.proofs.theory.Numerals.{count_minimum_read, share_minimum_read, share_read}
-use Rattle.basket_plan.proofs.EntryLemmas.{IsCommand, command_same, tree}
-use Rattle.basket_plan.specs.Command.{command_line, counting_from, form_of, invocation_of_command, invocation_of_plain, miner_of, number_of, options, origin_of, plain_words, reporting, required, separator_of, where_taken}
-use Rattle.basket_plan.specs.Plan.{Counting, GREATEST_LIMIT, Planned, Question, is_separator}
+use Rattle.basket_plan.specs.Command.{command_line, counting_from, form_of, invocation_of_command, miner_of, number_of, origin_of, reporting, separator_of}
+use Rattle.basket_plan.specs.Plan.{Counting, GREATEST_LIMIT, Planned, Question}
 use Rattle.basket_plan.specs.declared.layout.Form.{Form}
 use Rattle.basket_plan.specs.declared.layout.Layout.{Layout}
-use Rattle.basket_plan.specs.declared.layout.Form.TheVariants.{Fimi, Baskets, Single, Counts, CsvCounts}
 use Rattle.basket_plan.specs.declared.plan.Ask.{Ask}
 use Rattle.basket_plan.specs.declared.plan.Ask.TheVariants.{Items, Sets, Closed, Maximal, Rules}
 use Rattle.basket_plan.specs.declared.plan.Miner.{Miner}
-use Rattle.basket_plan.specs.declared.plan.Miner.TheVariants.{Apriori, Eclat, EclatDiff, EclatBits, FpGrowth}
 use Rattle.basket_plan.specs.declared.plan.TheConstants.{MOST_PIECES, MOST_WORKERS}
-use Rattle.basket_plan.specs.Written.{CountsAreReadBack, IsAskInRange, IsCountingInRange, IsInRange, IsMinimumInRange, IsShareInRange, PlansAreReadBack, ask_words, count_words_of, count_words_with, form_text, last_words, miner_text, minimum_text, separator_text, share_text, stands_alone, words_with}
+use Rattle.basket_plan.specs.Written.{ask_words, count_words_with, share_text, words_with}
 
 -- what `clap` makes of the fault of one value, and of those of the three numbers, which alone may have one
 abbrev pub turn : Kinds → Kinds
