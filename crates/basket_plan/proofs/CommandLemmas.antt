@@ -19,8 +19,10 @@ use Rattle.clap.specs.declared.parser.matches.Found.{Found}
 use Rattle.clap.proofs.OnLiterals.{clap_on_literals}
 use Rattle.clap.proofs.ValueTestLemmas.{Accepts-accepts, accepts-Accepts}
 use Rattle.clap.proofs.WalkLemmas.{first_value-rows, one_text-rows}
-use Rattle.basket_plan.proofs.HelpLemmas.{help_told}
-use Rattle.basket_plan.specs.Command.{TakesMore, plain_asks_help, is_answer, command_line, flag_in, number_in, number_of, invocation_of_command, invocation_of_rows, invocation_of_plain, where_taken, with_taken}
+use Rattle.basket_plan.proofs.HelpLemmas.{help_by_kind}
+use Rattle.basket_plan.specs.Options.{TakesMore, command_line, with_taken}
+use Rattle.basket_plan.specs.Values.{flag_in, number_in, number_of}
+use Rattle.basket_plan.specs.Command.{plain_asks_help, is_help_kind, invocation_of_command, invocation_of_rows, invocation_of_plain, if_taken}
 use Rattle.basket_plan.specs.declared.options.Taken.{Taken}
 
 -- ---- values
@@ -148,21 +150,21 @@ module _ (app : App) (is : app ≡ command_line) (words : List Text) where
   plan_taken entered takes enters =
       let faults : fault_of command_line words ≡ [] = sym same_faults ∙ takes simple in
       let found : subcommand_of command_line words ≡ entered = ap (λ a. subcommand_of a words) (sym is) ∙ sym (enters (ap is_simple is ∙ simple_app)) in
-      ap₂ (λ (kinds : Kinds) (e : Option (Text × List Row)). where_taken kinds (invocation_of_command e)) faults found
+      ap₂ (λ (kinds : Kinds) (e : Option (Text × List Row)). if_taken kinds (invocation_of_command e)) faults found
 
   pub plan_refused : (e : Error) → (is_simple_and_free app ≡ true → HasKind (fault_of app words) e) → (kind_of e ≡ OutOfMemory → ⊥) → invocation_of_plain words ≡ None
   plan_refused e fails has_memory = go (fault_of command_line words) (subst (λ (kinds : Kinds). HasKind kinds e) same_faults (fails simple))
     where
-      go : (kinds : Kinds) → HasKind kinds e → where_taken kinds (invocation_of_command (subcommand_of command_line words)) ≡ None
+      go : (kinds : Kinds) → HasKind kinds e → if_taken kinds (invocation_of_command (subcommand_of command_line words)) ≡ None
       go [] (inl memory) = absurd (has_memory memory)
       go [] (inr among) = absurd among
       go (k ∷ ks) h = refl
 
   pub no_help : (is_simple_and_free app ≡ true → fault_of app words ≡ []) → plain_asks_help words ≡ false
-  no_help takes = ap (list_any is_answer) (sym same_faults ∙ takes simple)
+  no_help takes = ap (list_any is_help_kind) (sym same_faults ∙ takes simple)
 
-  pub help_refused : (e : Error) → (is_simple_and_free app ≡ true → HasKind (fault_of app words) e) → (kind_of e ≡ OutOfMemory → ⊥) → plain_asks_help words ≡ is_answer (kind_of e)
+  pub help_refused : (e : Error) → (is_simple_and_free app ≡ true → HasKind (fault_of app words) e) → (kind_of e ≡ OutOfMemory → ⊥) → plain_asks_help words ≡ is_help_kind (kind_of e)
   help_refused e fails has_memory = elim (subst (λ (kinds : Kinds). HasKind kinds e) same_faults (fails simple)) [
     | inl memory ↦ absurd (has_memory memory)
-    | inr among ↦ help_told (kind_of e) words among
+    | inr among ↦ help_by_kind (kind_of e) words among
   ]

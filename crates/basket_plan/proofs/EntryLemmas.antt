@@ -11,12 +11,13 @@ use Rattle.clap.proofs.OnLiterals.{clap_on_literals}
 use Rattle.clap.proofs.WalkLemmas.{walk_stopped}
 use Rattle.basket_plan.proofs.OptionLemmas.{Same}
 use Rattle.basket_plan.proofs.OutcomeLemmas.{Outcome, outcome}
-use Rattle.basket_plan.specs.Command.{command_line, invocation_of_command, invocation_of_plain, where_taken}
+use Rattle.basket_plan.specs.Options.{command_line}
+use Rattle.basket_plan.specs.Command.{invocation_of_command, invocation_of_plain, if_taken}
 
 abbrev pub tree : App
 tree = built command_line
 
--- where the walk stands after the name of a command
+-- the walk after the name of a command
 abbrev pub stopped_at : Text → List Text → Walk
 stopped_at name words = record (walk_from nothing_held) { stopped = Some (name, words) }
 
@@ -26,7 +27,7 @@ pub record IsCommand (name : Text) (s : Shape) : Type 0 where
   pub walk : walked tree.top.rules (names_of tree) (walk_from nothing_held) name ≡ stopped_at name []
   pub found : find (λ s. answers_to name (label_of s)) tree.subs ≡ Some s
 
--- the kinds of error of the line, by those of the walk over its words and where that ends
+-- the kinds of error of the line, by those of the walk over its words and by its end
 abbrev line_fault : Kinds → Walk → Kinds
 line_fault kinds w =
     or_else kinds
@@ -54,6 +55,6 @@ module _ (name : Text) (s : Shape) (is : IsCommand name s) (words : List Text) w
 -- words that come to the same for the command ask for the same
 pub command_same : {name : Text} {s : Shape} {mixed joined : List Text} → IsCommand name s → Same s mixed joined → invocation_of_plain (name ∷ mixed) ≡ invocation_of_plain (name ∷ joined)
 command_same {name} {s} {mixed} {joined} is equal =
-    ap₂ where_taken
+    ap₂ if_taken
     (command_fault name s is mixed ∙ ap (λ (o : Outcome). or_else o.0 []) (equal.same nothing_held) ∙ sym (command_fault name s is joined))
     (ap invocation_of_command (command_entered name s is mixed ∙ ap (λ (o : Outcome). Some (s.name, o.1)) (equal.same nothing_held) ∙ sym (command_entered name s is joined)))

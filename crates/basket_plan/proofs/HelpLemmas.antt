@@ -21,14 +21,15 @@ use Rattle.clap.specs.declared.builder.action.ArgAction.TheVariants.{Set, Append
 use Rattle.clap.specs.declared.error.kind.ErrorKind.{ErrorKind}
 use Rattle.clap.specs.declared.error.kind.ErrorKind.TheVariants as kind
 use Rattle.clap.proofs.OnLiterals.{clap_on_literals}
-use Rattle.basket_plan.specs.Command.{plain_asks_help, command_line, is_answer}
+use Rattle.basket_plan.specs.Options.{command_line}
+use Rattle.basket_plan.specs.Command.{plain_asks_help, is_help_kind}
 
--- the kinds are all answers, or none is
+-- the kinds are all of help, or none is
 record IsUniform (kinds : Kinds) : Type 0 where
-  same : list_any is_answer kinds ≡ true → list_all is_answer kinds ≡ true
+  same : list_any is_help_kind kinds ≡ true → list_all is_help_kind kinds ≡ true
 
 one : (k : ErrorKind) → IsUniform (k ∷ [])
-one k = record { same = go (is_answer k) }
+one k = record { same = go (is_help_kind k) }
   where
     go : (b : Bool) → (b || false) ≡ true → (b && true) ≡ true
     go true e = refl
@@ -153,7 +154,7 @@ module _ (c : List Rule) (again : Bool) where
   positional_even stray p None h = p
   positional_even stray p (Some a) h = choice (is_pending a h.pending && takes_several a) _ _ none (settle_even h)
 
--- ---- a level, where `help` is no subcommand
+-- ---- a level, if `help` is no subcommand
 
 stray_even : (s : Shape) → IsUniform (stray_fault s)
 stray_even s = choice s.is_leaf _ _ (one kind.UnknownArgument) (record { same = λ e. e })
@@ -224,35 +225,35 @@ line_even words =
     let stop = (walk tree.top.rules (names_of tree) nothing_held words).stopped in
     level_even tree.top refl (names_of tree) nothing_held words (is_some (entered tree stop)) (entered_fault tree stop) (entered_even tree (refl, (refl, (refl, (refl, (refl, (refl, tt)))))) stop)
 
-any_among : (k : ErrorKind) (kinds : Kinds) → IsAmong k kinds → is_answer k ≡ true → list_any is_answer kinds ≡ true
+any_among : (k : ErrorKind) (kinds : Kinds) → IsAmong k kinds → is_help_kind k ≡ true → list_any is_help_kind kinds ≡ true
 any_among k [] among e = absurd among
 any_among k (x ∷ xs) (inl same) e = rw (← same, e) refl
-any_among k (x ∷ xs) (inr among) e = go (is_answer x) (any_among k xs among e)
+any_among k (x ∷ xs) (inr among) e = go (is_help_kind x) (any_among k xs among e)
   where
-    go : (b : Bool) → list_any is_answer xs ≡ true → (b || list_any is_answer xs) ≡ true
+    go : (b : Bool) → list_any is_help_kind xs ≡ true → (b || list_any is_help_kind xs) ≡ true
     go true h = refl
     go false h = h
 
-all_among : (k : ErrorKind) (kinds : Kinds) → IsAmong k kinds → list_all is_answer kinds ≡ true → is_answer k ≡ true
+all_among : (k : ErrorKind) (kinds : Kinds) → IsAmong k kinds → list_all is_help_kind kinds ≡ true → is_help_kind k ≡ true
 all_among k [] among e = absurd among
-all_among k (x ∷ xs) (inl same) e = go (is_answer x) (ap is_answer same) e
+all_among k (x ∷ xs) (inl same) e = go (is_help_kind x) (ap is_help_kind same) e
   where
-    go : (b : Bool) → is_answer k ≡ b → (b && list_all is_answer xs) ≡ true → is_answer k ≡ true
+    go : (b : Bool) → is_help_kind k ≡ b → (b && list_all is_help_kind xs) ≡ true → is_help_kind k ≡ true
     go true is h = is
     go false is h = is ∙ h
-all_among k (x ∷ xs) (inr among) e = all_among k xs among (go (is_answer x) e)
+all_among k (x ∷ xs) (inr among) e = all_among k xs among (go (is_help_kind x) e)
   where
-    go : (b : Bool) → (b && list_all is_answer xs) ≡ true → list_all is_answer xs ≡ true
+    go : (b : Bool) → (b && list_all is_help_kind xs) ≡ true → list_all is_help_kind xs ≡ true
     go true h = h
     go false h =
         let bad : false ≡ true = h in
         cc
 
 -- the kind of an error that the words make says whether they ask for help
-pub help_told : (k : ErrorKind) (words : List Text) → IsAmong k (fault_of command_line words) → plain_asks_help words ≡ is_answer k
-help_told k words among = go (is_answer k) refl (list_any is_answer (fault_of command_line words)) refl
+pub help_by_kind : (k : ErrorKind) (words : List Text) → IsAmong k (fault_of command_line words) → plain_asks_help words ≡ is_help_kind k
+help_by_kind k words among = go (is_help_kind k) refl (list_any is_help_kind (fault_of command_line words)) refl
   where
-    go : (b : Bool) → is_answer k ≡ b → (any : Bool) → list_any is_answer (fault_of command_line words) ≡ any → any ≡ b
+    go : (b : Bool) → is_help_kind k ≡ b → (any : Bool) → list_any is_help_kind (fault_of command_line words) ≡ any → any ≡ b
     go true is true asks = refl
     go true is false asks = sym asks ∙ any_among k (fault_of command_line words) among is
     go false is true asks = sym (all_among k (fault_of command_line words) among ((line_even words).same asks)) ∙ is

@@ -6,7 +6,7 @@ use Rattle.clap.specs.Walk.{Rule}
 use Rattle.clap.specs.Words.{Text}
 use Rattle.clap.proofs.OnLiterals.{clap_on_literals}
 use Rattle.basket_plan.proofs.EntryLemmas.{IsCommand, tree}
-use Rattle.basket_plan.specs.Command.{options, required}
+use Rattle.basket_plan.specs.Options.{options, required}
 use Rattle.basket_plan.proofs.InputLemmas.{IsFlag, IsPositional, flag_of}
 use Rattle.basket_plan.proofs.OptionLemmas.{IsName, IsOption, option_of}
 
@@ -43,7 +43,7 @@ header_name = record { dashes = refl; long = refl; joined_dashes = λ _. refl; j
 weight_name : IsName (codes "weight")
 weight_name = record { dashes = refl; long = refl; joined_dashes = λ _. refl; joined_long = λ _. refl }
 
--- a command of a name that has the options of all commands but `count`, and more rules
+-- a command of a name that has the options of all commands except `count`, and more rules
 abbrev pub report_shape : Text → List Rule → Shape
 report_shape name more = record (slice_index_or tree.subs 0 tree.top) { name = name; rules = filled_from 1 options ++ more }
 

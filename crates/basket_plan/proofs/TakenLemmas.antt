@@ -9,7 +9,9 @@ use Rattle.clap.proofs.OnLiterals.{clap_on_literals}
 use Rattle.basket_sets.specs.Minimum.{minimum_of}
 use Rattle.basket_sets.specs.Share.{share_of}
 use Rattle.basket_sets.specs.declared.minimum.Minimum.{Minimum}
-use Rattle.basket_plan.specs.Command.{command_line, counting_from, form_of, invocation_of_command, miner_of, number_of, origin_of, reporting, separator_of}
+use Rattle.basket_plan.specs.Options.{command_line}
+use Rattle.basket_plan.specs.Values.{form_of, miner_of, number_of, origin_of, separator_of}
+use Rattle.basket_plan.specs.Command.{counting_from, invocation_of_command, reporting}
 use Rattle.basket_plan.specs.Plan.{Counting, GREATEST_LIMIT, Planned, Question}
 use Rattle.basket_plan.specs.declared.layout.Form.{Form}
 use Rattle.basket_plan.specs.declared.layout.Layout.{Layout}
@@ -48,7 +50,7 @@ question_from layout ask minimum limit =
 abbrev work_from : Option ℕ → Option ℕ → Option (ℕ × ℕ)
 work_from workers pieces = option_and_then (λ workers. option_map (λ pieces. (workers, pieces)) pieces) workers
 
--- the plan of the values that texts say, where all of them say one
+-- the plan of the values that texts mean, if each means one
 abbrev pub plan_from : Option Ask → Option Form → Option ℕ → Bool → Bool → Option Miner → Option Minimum → Option ℕ → Option ℕ → Option ℕ → Option Planned
 plan_from ask form separator header weighted miner minimum limit workers pieces =
     option_and_then (λ layout.

@@ -14,7 +14,7 @@ use Rattle.basket_sets.specs.Minimum.{minimum_of}
 use Rattle.basket_sets.specs.declared.minimum.Minimum.{Minimum}
 use Rattle.basket_sets.specs.declared.minimum.Minimum.TheVariants.{Count, Share}
 use Rattle.basket_sets.proofs.theory.Numerals.{count_minimum_read, share_minimum_read, share_read}
-use Rattle.basket_plan.specs.Command.{form_of, miner_of, number_of, separator_of}
+use Rattle.basket_plan.specs.Values.{form_of, miner_of, number_of, separator_of}
 use Rattle.basket_plan.specs.Plan.{is_separator}
 use Rattle.basket_plan.specs.declared.layout.Form.{Form}
 use Rattle.basket_plan.specs.declared.layout.Form.TheVariants.{Fimi, Baskets, Single, Counts, CsvCounts}

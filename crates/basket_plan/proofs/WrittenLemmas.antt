@@ -2,7 +2,8 @@
 use Rattle.std.proofs.Common.{◌≡◌, ◌∙◌, List, ◌++◌, Bool, decimal, refl, ap, ap₂, arith}
 use Rattle.std.specs.Prelude.{option_and_then}
 use Rattle.clap.specs.Words.{Text}
-use Rattle.basket_plan.specs.Command.{counting_from, invocation_of_plain, origin_of, plain_words, reporting, where_taken}
+use Rattle.basket_plan.specs.Values.{origin_of}
+use Rattle.basket_plan.specs.Command.{counting_from, invocation_of_plain, plain_words, reporting, if_taken}
 use Rattle.basket_plan.specs.Plan.{GREATEST_LIMIT}
 use Rattle.basket_plan.specs.declared.plan.Ask.{Ask}
 use Rattle.basket_plan.specs.declared.plan.Ask.TheVariants.{Items, Sets, Closed, Maximal, Rules}
@@ -28,7 +29,7 @@ plans_are_read_back joined plan file range =
     let limit = no_fault GREATEST_LIMIT q.limit range.limit.0 range.limit.1 (omega arith) in
     let workers = no_fault MOST_WORKERS plan.workers range.workers.0 range.workers.1 (omega arith) in
     let pieces = no_fault MOST_PIECES plan.pieces range.pieces.0 range.pieces.1 (omega arith) in
-    ap invocation_of_plain (no_help_word joined q.ask _) ∙ plan_same joined plan range file q.ask range.ask ∙ ap₂ where_taken (is.fault ∙ (λ i. numbers_fault (limit i) (workers i) (pieces i)))
+    ap invocation_of_plain (no_help_word joined q.ask _) ∙ plan_same joined plan range file q.ask range.ask ∙ ap₂ if_taken (is.fault ∙ (λ i. numbers_fault (limit i) (workers i) (pieces i)))
     (is.plan ∙ (λ i. option_and_then (reporting (option_and_then origin_of file)) (plan_from
     (ask_read q.ask range.ask i) (form_read q.layout.form i) (separator_read q.layout.separator range.separator i) q.layout.header q.layout.weighted
     (miner_read plan.miner i) (minimum_read q.minimum range.minimum i)
@@ -41,7 +42,7 @@ counts_are_read_back joined plan sets file range stands =
     let is = count_taken sets (form_text plan.layout.form) (separator_text plan.layout.separator) (decimal plan.workers) (decimal plan.pieces) plan.layout.header plan.layout.weighted file in
     let workers = no_fault MOST_WORKERS plan.workers range.workers.0 range.workers.1 (omega arith) in
     let pieces = no_fault MOST_PIECES plan.pieces range.pieces.0 range.pieces.1 (omega arith) in
-    counts_same joined plan sets file range stands ∙ ap₂ where_taken (is.fault ∙ (λ i. count_fault (workers i) (pieces i)))
+    counts_same joined plan sets file range stands ∙ ap₂ if_taken (is.fault ∙ (λ i. count_fault (workers i) (pieces i)))
     (is.plan ∙ (λ i. option_and_then (λ plan. counting_from plan (origin_of sets) (option_and_then origin_of file)) (count_plan_from
     (form_read plan.layout.form i) (separator_read plan.layout.separator range.separator i) plan.layout.header plan.layout.weighted
     (number_read MOST_WORKERS plan.workers range.workers.0 range.workers.1 (omega arith) i)

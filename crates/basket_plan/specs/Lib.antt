@@ -1,4 +1,6 @@
 pub mod Plan
 pub mod Status
+pub mod Options
+pub mod Values
 pub mod Command
 pub mod Written

@@ -21,7 +21,7 @@ pub record Question : Type 0 where
   pub limit : ℕ
   pub layout : Layout
 
--- a question, the miner that is to answer it, how many workers share the mining, and how many pieces it is cut into
+-- a question, the miner, how many workers share the mining, and into how many pieces it is cut
 pub record Planned : Type 0 where
   pub question : Question
   pub miner : Miner

@@ -5,7 +5,8 @@ use Rattle.basket_sets.specs.Minimum.{IsMinimum}
 use Rattle.basket_sets.specs.Share.{GREATEST_PART, IsShare}
 use Rattle.basket_sets.specs.declared.minimum.Minimum.{Minimum}
 use Rattle.basket_sets.specs.declared.minimum.Minimum.TheVariants.{Count, Share}
-use Rattle.basket_plan.specs.Command.{counting_from, invocation_of_words, origin_of, reporting}
+use Rattle.basket_plan.specs.Values.{origin_of}
+use Rattle.basket_plan.specs.Command.{counting_from, invocation_of_words, reporting}
 use Rattle.basket_plan.specs.Plan.{Counting, GREATEST_LIMIT, Planned, is_separator}
 use Rattle.basket_plan.specs.declared.layout.Form.{Form}
 use Rattle.basket_plan.specs.declared.layout.Form.TheVariants.{Fimi, Baskets, Single, Counts, CsvCounts}

@@ -3,7 +3,8 @@ ghost use Rattle.std.specs.Prelude.{◌≡◌, ◌≢◌, IfErr, IfOk, codes, fa
 ghost use Rattle.clap.specs.Words.{app_of, kind_of, with_subcommand};
 ghost use Rattle.clap.specs.declared.builder.command.Command.TheViews.{out-Command as fields_of};
 ghost use Rattle.basket_plan.specs.declared.command.PlanFault.TheVariants.{Memory};
-ghost use Rattle.basket_plan.specs.Command.{asks_help, bare_line, command_app, command_line, count_app, invocation_of_plain, invocation_of_words, is_answer, is_help, plain_asks_help, plain_words, report_line, rules_app};
+ghost use Rattle.basket_plan.specs.Options.{bare_line, command_app, command_line, count_app, report_line, rules_app};
+ghost use Rattle.basket_plan.specs.Command.{asks_help, invocation_of_plain, invocation_of_words, is_help_kind, is_help, plain_asks_help, plain_words};
 ghost use Rattle.basket_plan.specs.Status.{plan_status_of};
 
 use crate::help;
@@ -150,7 +151,7 @@ fn count_command<'a>(alloc: Global) -> Result<Command<'a>, AllocError>
 
 fn fault_of(alloc: Global, error: &Error) -> PlanFault
     ensures memory { result ≢ PlanFault.Memory → kind_of error.now ≢ ErrorKind.OutOfMemory }
-    ensures help { result ≢ PlanFault.Memory → is_answer (kind_of error.now) ≡ is_help result }
+    ensures help { result ≢ PlanFault.Memory → is_help_kind (kind_of error.now) ≡ is_help result }
 {
     if let ErrorKind::OutOfMemory = error.kind() {
         return PlanFault::Memory;

@@ -42,7 +42,7 @@ impl CountPlan {
         }
     }
 
-    /// How the input is written. The sets are written in numbers where it is, else in CSV.
+    /// How the input is written. The sets are written in numbers if it is, else in CSV.
     pub fn layout(&self) -> Layout
         ensures { result ≡ self.now.layout }
     {

@@ -58,7 +58,7 @@ The report is the same for every miner. Time and memory differ:
   eclat-diff  as fast as eclat-bits on dense data, where most items are in most baskets
   eclat       as fast as eclat-bits on sparse data, where most items are in few baskets";
 
-/// The help of a command but `count`: what it does, the usage, the options of its own, what it writes.
+/// The help of a command except `count`: what it does, the usage, the options of its own, what it writes.
 macro_rules! help {
     ($about:literal, $usage:literal, $own:literal, $report:literal) => {
         concat!(

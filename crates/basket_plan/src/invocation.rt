@@ -42,7 +42,7 @@ impl Origin {
         Origin { path: Some(path) }
     }
 
-    /// The path of the file, where it is one.
+    /// The path of the file, if it is one.
     pub fn path(&self) -> Option<&str>
         ensures { option_map (λ path. path.now) result ≡ self.now }
     {

@@ -2,7 +2,7 @@
 ghost use Rattle.std.specs.Prelude.{◌≡◌, IfOk, false};
 ghost use Rattle.clap.specs.Words.{app_of, rule_of};
 ghost use Rattle.clap.specs.declared.builder.command.Command.TheViews.{out-Command as fields_of};
-ghost use Rattle.basket_plan.specs.Command.{TakesMore, choice, flag, number, positional, required, rule_of_taken};
+ghost use Rattle.basket_plan.specs.Options.{TakesMore, choice, flag, number, positional, required, rule_of_taken};
 
 use crate::plan::{MOST_PIECES, MOST_WORKERS};
 use clap::builder::ValueParser;
@@ -87,8 +87,8 @@ pub fn required<'a>(alloc: Global, name: &'a str, value: &'a str) -> Arg<'a>
         .action(ArgAction::Set)
 }
 
-/// An option whose value is one of some names. Which these are is judged with the other values:
-/// `clap`'s own list of names would have the plan depend on where they lie.
+/// An option whose value is one of some names. Which these are is checked with the other values: with
+/// `clap`'s own list of names the plan would depend on their addresses.
 fn choice<'a>(alloc: Global, name: &'a str, value: &'a str, default: &'a str) -> Arg<'a>
     ensures rule { rule_of result ≡ choice name.now default.now }
     ensures local { result.global ≡ false }

@@ -119,7 +119,7 @@ impl Plan {
         self.minimum
     }
 
-    /// How many frequent sets there may be. It doesn't count where items are asked for.
+    /// How many frequent sets there may be. It has no effect if items are asked for.
     pub fn limit(&self) -> u32
         ensures { result ≡ self.now.question.limit }
     {

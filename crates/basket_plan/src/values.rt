@@ -1,7 +1,7 @@
 //! What the values of the options say.
 ghost use Rattle.std.specs.Prelude.{◌≡◌, ◌≤◌, IfErr, IfOk, IfSome, IsTrue};
 ghost use Rattle.clap.specs.Words.{found_of, rows_of};
-ghost use Rattle.basket_plan.specs.Command.{ask_in, conf_in, count_plan_of_rows, flag_in, form_in, layout_of_rows, min_in, miner_in, number_in, origin_in, plan_of_rows, question_of_rows, sep_in, work_of_rows};
+ghost use Rattle.basket_plan.specs.Values.{ask_in, conf_in, count_plan_of_rows, flag_in, form_in, layout_of_rows, min_in, miner_in, number_in, origin_in, plan_of_rows, question_of_rows, sep_in, work_of_rows};
 ghost use Rattle.basket_plan.specs.Plan.{is_separator};
 ghost use Rattle.basket_plan.specs.declared.plan.TheConstants.{MOST_PIECES, MOST_WORKERS};
 ghost use Rattle.basket_sets.specs.Minimum.{IsMinimum};
@@ -25,7 +25,7 @@ const BAD_SEP: &str = "basket: bad value for --sep (comma, semicolon, tab, pipe)
 const BAD_MINER: &str =
     "basket: bad value for --miner (apriori, eclat, eclat-diff, eclat-bits, fpgrowth)\n";
 
-/// The plan of a command with its options, or the text to print of a value that says nothing.
+/// The plan of a command with its options, or the text to print of a value that can't be read.
 pub fn plan_in(name: &str, options: &ArgMatches<'_>) -> Result<Plan, &'static str>
     ensures made { IfOk result (λ plan. plan_of_rows name.now (rows_of (found_of options.now)) ≡ Some plan) }
     ensures refused { IfErr result (λ _. plan_of_rows name.now (rows_of (found_of options.now)) ≡ None) }
@@ -41,7 +41,7 @@ pub fn plan_in(name: &str, options: &ArgMatches<'_>) -> Result<Plan, &'static st
     )
 }
 
-/// A plan of the question of a command with its options, or the text to print of a value that says nothing.
+/// A plan of the question of a command with its options, or the text to print of a value that can't be read.
 fn asked_in(name: &str, layout: Layout, options: &ArgMatches<'_>) -> Result<Plan, &'static str>
     requires { IsTrue (is_separator layout.separator) }
     ensures made { IfOk result (λ plan. question_of_rows layout name.now (rows_of (found_of options.now)) ≡ Some plan.question) }
@@ -53,7 +53,7 @@ fn asked_in(name: &str, layout: Layout, options: &ArgMatches<'_>) -> Result<Plan
     Ok(Plan::of(ask, minimum).with_layout(layout).with_limit(limit))
 }
 
-/// The plan of `count` with its options, or the text to print of a value that says nothing.
+/// The plan of `count` with its options, or the text to print of a value that can't be read.
 pub fn count_plan_in(options: &ArgMatches<'_>) -> Result<CountPlan, &'static str>
     ensures made { IfOk result (λ plan. count_plan_of_rows (rows_of (found_of options.now)) ≡ Some plan) }
     ensures refused { IfErr result (λ _. count_plan_of_rows (rows_of (found_of options.now)) ≡ None) }
@@ -68,7 +68,7 @@ pub fn count_plan_in(options: &ArgMatches<'_>) -> Result<CountPlan, &'static str
 }
 
 /// How many workers share the work, and into how many pieces it is cut, or the text to print of a
-/// value that says nothing.
+/// value that can't be read.
 fn work_in(options: &ArgMatches<'_>) -> Result<(u32, u32), &'static str>
     ensures made { IfOk result (λ work. work_of_rows (rows_of (found_of options.now)) ≡ Some work) }
     ensures in_range { IfOk result (λ work. (1 ≤ work.0) × (work.0 ≤ MOST_WORKERS) × (1 ≤ work.1) × (work.1 ≤ MOST_PIECES)) }
@@ -79,7 +79,7 @@ fn work_in(options: &ArgMatches<'_>) -> Result<(u32, u32), &'static str>
     Ok((workers, pieces))
 }
 
-/// How the input is written, or the text to print of a value that says nothing.
+/// How the input is written, or the text to print of a value that can't be read.
 fn layout_in(options: &ArgMatches<'_>) -> Result<Layout, &'static str>
     ensures made { IfOk result (λ layout. layout_of_rows (rows_of (found_of options.now)) ≡ Some layout) }
     ensures in_range { IfOk result (λ layout. IsTrue (is_separator layout.separator)) }

@@ -3,7 +3,7 @@ use Rattle.std.specs.Prelude.{codes}
 use Rattle.std.proofs.lemmas.Result.{IfOk-weaker}
 use Rattle.clap.specs.Simple.{App}
 use Rattle.clap.specs.Words.{with_subcommand}
-use Rattle.basket_plan.specs.Command.{command_app}
+use Rattle.basket_plan.specs.Options.{command_app}
 use Rattle.basket_plan.proofs.command.report_line.Goals as goal
 
 pub returns : goal.returns

@@ -3,7 +3,7 @@ use Rattle.std.specs.Prelude.{fold}
 use Rattle.std.proofs.lemmas.List.{take_all}
 use Rattle.std.proofs.lemmas.List.Sums.{fold_more}
 use Rattle.clap.specs.Words.{with_rule}
-use Rattle.basket_plan.specs.Command.{with_taken}
+use Rattle.basket_plan.specs.Options.{with_taken}
 use Rattle.basket_plan.proofs.CommandLemmas.{stays_local}
 use Rattle.basket_plan.proofs.options.with_options.Goals as goal
 

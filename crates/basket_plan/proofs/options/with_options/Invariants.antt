@@ -2,7 +2,7 @@ use Rattle.std.proofs.Common.{◌≡◌, false, take}
 use Rattle.std.specs.Prelude.{fold}
 use Rattle.clap.specs.Words.{app_of}
 use Rattle.clap.specs.declared.builder.command.Command.TheViews.{out-Command as fields_of}
-use Rattle.basket_plan.specs.Command.{with_taken}
+use Rattle.basket_plan.specs.Options.{with_taken}
 use Rattle.basket_plan.proofs.options.with_options.Given as goal
 
 abbrev pub invariant-loop-taken : goal.invariant-loop-taken

@@ -1,7 +1,7 @@
 use Rattle.std.specs.Prelude.{codes}
 use Rattle.std.proofs.Common.{◌∙◌, ap, sym}
 use Rattle.clap.specs.Words.{found_of}
-use Rattle.basket_plan.specs.Command.{miner_of}
+use Rattle.basket_plan.specs.Values.{miner_of}
 use Rattle.basket_plan.proofs.CommandLemmas.{read_none, read_some, skips}
 use Rattle.basket_plan.proofs.values.miner_in.Goals as goal
 
