@@ -26,16 +26,18 @@ fn rank_counts(alloc: Global, count: usize, ranks: &[u32]) -> Result<Vec<usize>,
 
 /// How often each rank below a number occurs in words.
 fn word_counts(alloc: Global, count: u32, words: &[Word]) -> Result<Vec<usize>, AllocError>
-    requires { count ≤ WORD_RANKS }
     ensures { IfOk result (λ counts. length counts.items ≡ count) }
 {
-    let mut counts = Vec::with_capacity(alloc, count as usize)?;
-    for rank in 0..count {
-        let mut times = 0;
-        for word in words {
-            times += usize::from(word.has(rank));
+    let mut counts = vec![in alloc; 0usize; count as usize]?;
+    for word in words {
+        let mut rest = word.bits;
+        while rest != 0 {
+            let rank = 63 - rest.trailing_zeros();
+            if let Some(times) = counts.get_mut(rank as usize) {
+                *times = times.saturating_add(1);
+            }
+            rest &= rest - 1;
         }
-        counts.push(times)?;
     }
     Ok(counts)
 }

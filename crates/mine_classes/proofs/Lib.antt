@@ -17,3 +17,4 @@ mod MinedLemmas
 mod BranchLemmas
 mod ShiftLemmas
 mod WordPathLemmas
+mod RankSumLemmas

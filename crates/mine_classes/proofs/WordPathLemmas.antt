@@ -68,13 +68,6 @@ pair_weight_le rank other word = at_most (has_rank word.bits rank)
 abbrev pub none : Word
 none = record { bits = 0; weight = 0 }
 
--- ---- the sums of pairs
-
--- the sums with the weight of a word at its ranks below a number
-pub record HasSums (at : ℕ) (word : Word) (old new : List ℕ) : Type 0 where
-  pub done : (rank : ℕ) → rank < at → get_or new rank 0 ≡ get_or old rank 0 + rank_weight rank word
-  pub rest : (rank : ℕ) → at ≤ rank → get_or new rank 0 ≡ get_or old rank 0
-
 -- ---- words with all ranks below their own
 
 abbrev pub fills : ℕ → ℕ → Bool

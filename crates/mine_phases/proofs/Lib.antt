@@ -4,4 +4,5 @@ mod Parts
 mod Shares
 mod SupportLemmas
 mod Numbers
+mod Ranks
 mod Sharing

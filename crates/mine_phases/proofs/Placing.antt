@@ -56,6 +56,9 @@ times-range low (suc n) x h = elim (cases_eq low x) [
   | inr apart ↦ times_other x low (range_with_len (low + 1) n) apart ∙ times-range (low + 1) n x (omega arith) ∙ ap (λ k. once_below k x) (let e : (low + 1) + n ≡ low + suc n = omega arith in e)
 ]
 
+pub times_all : (n x : ℕ) → times x (range_with_len 0 n) ≡ once_below n x
+times_all n x = times-range 0 n x (omega arith) ∙ ap (λ k. once_below k x) (zero-add n)
+
 -- ---- the parts of all pieces
 
 pub sum_by-map : {X Y : Type 0} (f : Y → ℕ) (g : X → Y) (xs : List X) → sum_by f (map g xs) ≡ sum_by (λ x. f (g x)) xs
@@ -67,7 +70,7 @@ sum_by-flat_map f g [] = refl
 sum_by-flat_map f g (x ∷ xs) = sum_by-append f (g x) (flat_map g xs) ∙ ap (λ n. sum_by f (g x) + n) (sum_by-flat_map f g xs) ∙ sym (sum_by-cons (λ y. sum_by f (g y)) x xs)
 
 -- where each piece is claimed once, a sum over their parts is the sum over all parts
-pub sum_of_parts : (f : ℕ → ℕ) (parts pieces : ℕ) (claimed : List ℕ) → 1 ≤ pieces → IsPermutation claimed (range_with_len 0 pieces)
+sum_of_parts : (f : ℕ → ℕ) (parts pieces : ℕ) (claimed : List ℕ) → 1 ≤ pieces → IsPermutation claimed (range_with_len 0 pieces)
     → sum_by f (flat_map (parts_of parts pieces) claimed) ≡ sum_by f (range_with_len 0 parts)
 sum_of_parts f parts pieces claimed some same =
     sum_by-flat_map f (parts_of parts pieces) claimed
@@ -77,8 +80,7 @@ sum_of_parts f parts pieces claimed some same =
 
 -- so their parts are all parts, each once
 pub parts_once : (parts pieces : ℕ) → 1 ≤ pieces → (claimed : List ℕ) → IsPermutation claimed (range_with_len 0 pieces) → HoldsNumbersBelow parts (flat_map (parts_of parts pieces) claimed)
-parts_once parts pieces some claimed same x =
-    sum_of_parts (λ z. cond (z == x) 1 0) parts pieces claimed some same ∙ times-range 0 parts x (omega arith) ∙ ap (λ k. once_below k x) (zero-add parts)
+parts_once parts pieces some claimed same x = sum_of_parts (λ z. cond (z == x) 1 0) parts pieces claimed some same ∙ times_all parts x
 
 module _ {X : Type 0} where
   -- ---- places

@@ -1,14 +1,12 @@
 -- What all workers of a phase of classes have told and mined together.
-use Rattle.std.proofs.Common.{◌≡◌, ◌≤◌, ◌<◌, ◌+◌, ◌-◌, ◌*◌, ◌^◌, ◌++◌, ◌⊎◌, ℕ, suc, zero, List, [], ◌∷◌, map, fold, get_or, length, Option, Some, None, Ok, Err, Result, refl, reverse, ap, sym, ◌∙◌, subst, inl, inr, arith, zero-add}
-use Rattle.std.specs.Prelude.{All, IsPermutation, Vec, slice_index}
+use Rattle.std.proofs.Common.{◌≡◌, ◌≤◌, ◌<◌, ◌+◌, ◌-◌, ◌*◌, ◌^◌, ◌++◌, ◌⊎◌, ℕ, suc, zero, List, [], ◌∷◌, map, fold, get_or, length, Option, Some, None, Ok, Err, Result, refl, cond, ap, sym, ◌∙◌, subst, inl, inr, arith, zero-add}
+use Rattle.std.specs.Prelude.{◌==◌, All, IsPermutation, Vec, slice_index}
 use Rattle.std.specs.Global.{Global}
 use Rattle.std.specs.List.{flat_map, range_with_len, sum, sum_by}
-use Rattle.std.proofs.lemmas.List.{get_or-map, length-map, map-append, reverse-append}
+use Rattle.std.proofs.lemmas.List.{get_or-map, length-map}
 use Rattle.std.proofs.lemmas.List.Elements.{All-head, All-map, All-same, All-tail}
-use Rattle.std.proofs.lemmas.List.Folds.{flat_map-map}
-use Rattle.std.proofs.lemmas.List.Sorted.{IsPermutation-map, IsPermutation-refl, IsPermutation-reverse, IsPermutation-sym, IsPermutation-trans, sum_by-IsPermutation}
+use Rattle.std.proofs.lemmas.List.Sorted.{IsPermutation-refl, sum_by-IsPermutation}
 use Rattle.std.proofs.lemmas.List.Sums.{sum_by-cons}
-use Rattle.basket_sets.proofs.theory.Ranges.{range_more}
 use Rattle.basket_ranks.specs.Codes.{Coding, IsCoding, baskets_of, frequent_of_coding}
 use Rattle.basket_core.specs.declared.fault.MineFault.{MineFault}
 use Rattle.basket_core.specs.declared.fault.MineFault.TheVariants.{Memory, TooMany}
@@ -19,11 +17,12 @@ use Rattle.mine_round.specs.RoundView.{RoundView}
 use Rattle.mine_round.specs.SeatView.{SeatView}
 use Rattle.mine_round.specs.Totals.{HoldsNumbersBelow, added_by, claimed_by, seen_by}
 use Rattle.mine_phases.specs.declared.share.Share.{Share}
-use Rattle.mine_phases.specs.Classes.{HasLargeClass, IsClassShare, IsMined, IsWorkOfAll, ToldAll, claimed_size, piece_from_end, ranks_of}
-use Rattle.mine_phases.specs.Pieces.{HasEach, parts_of}
+use Rattle.mine_phases.specs.Classes.{HasLargeClass, IsClassShare, IsMined, IsWorkOfAll, ToldAll, claimed_size, ranks_of}
+use Rattle.mine_phases.specs.Pieces.{HasEach}
 use Rattle.mine_phases.specs.Share.{fault_after, fault_of}
 use Rattle.mine_phases.proofs.Numbers.{sum_fits, sum_more}
-use Rattle.mine_phases.proofs.Placing.{parts_once, sum_by-flat_map, sum_of_parts}
+use Rattle.mine_phases.proofs.Placing.{sum_by-flat_map, times_all}
+use Rattle.mine_phases.proofs.Ranks.{sum_of_ranks}
 use Rattle.mine_phases.proofs.Shares.{sums_at_most}
 
 -- ---- the fault to tell
@@ -57,43 +56,16 @@ seen_at_most [] k d below = absurd (omega arith)
 seen_at_most (share ∷ shares) zero d below = omega arith
 seen_at_most (share ∷ shares) (suc k) d below = let rest = seen_at_most shares k d (omega arith) in omega (arith, rest)
 
--- ---- pieces from the last to the first
-
--- the first pieces, counted from the last, are the last ones reversed
-from_end_reversed : (pieces first count : ℕ) → first + count ≡ pieces → map (piece_from_end pieces) (range_with_len 0 count) ≡ reverse (range_with_len first count)
-from_end_reversed pieces first zero all = refl
-from_end_reversed pieces first (suc count) all =
-    let least : piece_from_end pieces (0 + count) ≡ first = omega (arith, all) in
-    ap (map (piece_from_end pieces)) (range_more 0 count)
-    ∙ map-append (piece_from_end pieces) (range_with_len 0 count) ((0 + count) ∷ [])
-    ∙ ap (λ n. map (piece_from_end pieces) (range_with_len 0 count) ++ n ∷ []) least
-    ∙ ap (λ l. l ++ first ∷ []) (from_end_reversed pieces (first + 1) count (omega (arith, all)))
-    ∙ sym (reverse-append (first ∷ []) (range_with_len (first + 1) count))
-
--- where all numbers are claimed, each piece is mined once
-all_from_end : (pieces : ℕ) (claimed : List ℕ) → IsPermutation claimed (range_with_len 0 pieces) → IsPermutation (map (piece_from_end pieces) claimed) (range_with_len 0 pieces)
-all_from_end pieces claimed same =
-    let range = range_with_len 0 pieces in
-    IsPermutation-trans (map (piece_from_end pieces) claimed) (map (piece_from_end pieces) range) range
-    (IsPermutation-map (piece_from_end pieces) claimed range same)
-    (subst (λ l. IsPermutation l range) (sym (from_end_reversed pieces 0 pieces (zero-add pieces))) (IsPermutation-sym range (reverse range) (IsPermutation-reverse range)))
-
 -- ---- the sizes of pieces
 
 module _ (coding : Coding) (pieces : ℕ) (some : 1 ≤ pieces) where
   -- so the numbers that are claimed have each rank once
   pub ranks_once : (claimed : List ℕ) → IsPermutation claimed (range_with_len 0 pieces) → HoldsNumbersBelow (length coding.items) (flat_map (ranks_of coding pieces) claimed)
-  ranks_once claimed same =
-      subst (HoldsNumbersBelow (length coding.items)) (flat_map-map (parts_of (length coding.items) pieces) (piece_from_end pieces) claimed)
-      (parts_once (length coding.items) pieces some (map (piece_from_end pieces) claimed) (all_from_end pieces claimed same))
+  ranks_once claimed same x = sum_of_ranks (λ rank. cond (rank == x) 1 0) coding pieces claimed some same ∙ times_all (length coding.items) x
 
   module _ (is : IsCoding coding) (sizes : ClassSizesAddUp) where
     all_claimed_have : (claimed : List ℕ) → IsPermutation claimed (range_with_len 0 pieces) → sum_by (claimed_size coding pieces) claimed ≡ length (frequent_of_coding coding)
-    all_claimed_have claimed same =
-        sym (sum_by-flat_map (class_size coding) (ranks_of coding pieces) claimed)
-        ∙ sym (ap (sum_by (class_size coding)) (flat_map-map (parts_of (length coding.items) pieces) (piece_from_end pieces) claimed))
-        ∙ sum_of_parts (class_size coding) (length coding.items) pieces (map (piece_from_end pieces) claimed) some (all_from_end pieces claimed same)
-        ∙ sizes coding is
+    all_claimed_have claimed same = sym (sum_by-flat_map (class_size coding) (ranks_of coding pieces) claimed) ∙ sum_of_ranks (class_size coding) coding pieces claimed some same ∙ sizes coding is
 
     -- the pieces that are claimed have no more sets than there are
     claimed_have_at_most : (claimed : List ℕ) (count : ℕ) → IsPermutation claimed (range_with_len 0 count) → count ≤ pieces

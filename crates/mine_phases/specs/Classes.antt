@@ -1,7 +1,7 @@
 -- Mining class by class, shared by workers.
-use Rattle.std.specs.Prelude.{◌≡◌, ◌≤◌, ◌<◌, ◌-◌, ◌*◌, ◌⊎◌, ℕ, List, Err, IfOk, Vec, length, slice_index, sum}
+use Rattle.std.specs.Prelude.{◌≡◌, ◌≤◌, ◌<◌, ◌-◌, ◌*◌, ◌%◌, ◌==◌, ◌⊎◌, ℕ, List, Err, IfOk, Vec, filter, length, map, slice_index, sum}
 use Rattle.std.specs.Global.{Global}
-use Rattle.std.specs.List.{sum_by}
+use Rattle.std.specs.List.{range_with_len, sum_by}
 use Rattle.basket_ranks.specs.Codes.{Coding}
 use Rattle.basket_core.specs.declared.fault.MineFault.TheVariants.{TooMany}
 use Rattle.basket_sets.specs.declared.counted.Counted.{Counted}
@@ -9,7 +9,7 @@ use Rattle.mine_classes.specs.Mined.{ListsClassItems, MOST_SET_WORK, class_size}
 use Rattle.mine_round.specs.RoundView.{RoundView}
 use Rattle.mine_round.specs.SeatView.{SeatView}
 use Rattle.mine_phases.specs.declared.share.Share.{Share}
-use Rattle.mine_phases.specs.Pieces.{IsPieceShare, parts_of}
+use Rattle.mine_phases.specs.Pieces.{IsPieceShare}
 
 -- the work of the classes of the ranks below a number, added up
 pub record IsWorkOfAll (is_work : ℕ → ℕ → Type 0) (ranks total : ℕ) : Type 0 where
@@ -18,13 +18,17 @@ pub record IsWorkOfAll (is_work : ℕ → ℕ → Type 0) (ranks total : ℕ) : 
   pub works : (rank : ℕ) → rank < ranks → is_work rank (slice_index each rank)
   pub added : total ≡ sum each
 
--- the piece that is mined for a claimed number: pieces are mined from the last to the first
-abbrev pub piece_from_end : ℕ → ℕ → ℕ
-piece_from_end pieces claimed = pieces - 1 - claimed
+-- the rank that has so many ranks after it
+abbrev pub rank_from_end : ℕ → ℕ → ℕ
+rank_from_end ranks place = ranks - 1 - place
 
--- the ranks of the piece that is mined for a claimed number
+-- the numbers below a count that are a claimed number modulo the number of pieces
+abbrev pub places_of : ℕ → ℕ → ℕ → List ℕ
+places_of pieces claimed count = filter (λ place. place % pieces == claimed) (range_with_len 0 count)
+
+-- the ranks that are mined for a claimed number: from the greatest on, the pieces have them in turn
 abbrev pub ranks_of : Coding → ℕ → ℕ → List ℕ
-ranks_of coding pieces claimed = parts_of (length coding.items) pieces (piece_from_end pieces claimed)
+ranks_of coding pieces claimed = map (rank_from_end (length coding.items)) (places_of pieces claimed (length coding.items))
 
 -- how many sets the classes of these ranks have
 abbrev pub claimed_size : Coding → ℕ → ℕ → ℕ

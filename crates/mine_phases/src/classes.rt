@@ -17,7 +17,7 @@ use crate::phase::Phase;
 use crate::placed::collected;
 use crate::round_tally::{RoundTally, Start, are_over};
 use crate::share::{Share, by_workers, claim_piece};
-use basket_core::{Coded, Frequent, MineFault, Tally, shard};
+use basket_core::{Coded, Frequent, MineFault, Tally};
 use mine_classes::Tables;
 use mine_classes::laws::{class_items_are_all, class_sizes_add_up, lists_have_class_size};
 use mine_round::{Round, RoundSeat};
@@ -146,16 +146,18 @@ impl<M: ClassMiner, G: Gate> Classes<'_, '_, M, G> {
         ensures places { OnOk result (tables.new.places ≡ tables.old.places) }
     {
         lists_have_class_size();
-        // The classes of the greatest ranks are the largest, so they are mined first.
-        let piece = self.pieces - 1 - claimed;
-        let (start, end) = shard(piece, self.pieces, self.ranks as usize);
-        for rank in start..end {
-            let class = self.miner.class(alloc, tables, rank as u32, tally)?;
-            values.push((rank as u32, class))?;
+        // The classes of the greatest ranks are the largest. So they are mined first, and each piece
+        // has some of them.
+        let mut place = claimed as usize;
+        while place < self.ranks as usize {
+            let rank = self.ranks - 1 - place as u32;
+            let class = self.miner.class(alloc, tables, rank, tally)?;
+            values.push((rank, class))?;
             if !tally.look() {
                 let limit = tally.limit();
                 return Err(MineFault::TooMany { limit });
             }
+            place += self.pieces as usize;
         }
         Ok(())
     }

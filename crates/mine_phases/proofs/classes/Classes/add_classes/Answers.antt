@@ -1,47 +1,63 @@
-use Rattle.std.proofs.Common.{◌≡◌, ◌+◌, ◌-◌, ◌<◌, ◌≤◌, ◌++◌, ℕ, Bool, true, false, not, List, Err, refl, ap, sym, ◌∙◌, inl, inr, arith, length}
-use Rattle.std.specs.List.{range_with_len, sum_by}
+use Rattle.std.proofs.Common.{◌≡◌, ◌+◌, ◌-◌, ◌%◌, ◌<◌, ◌≤◌, ◌++◌, ◌∷◌, [], ℕ, Bool, true, false, not, List, Err, refl, ap, sym, ◌∙◌, append-nil, append_assoc, inl, inr, arith, length}
+use Rattle.std.specs.List.{sum_by}
+use Rattle.std.proofs.Math.Nat.{add-mod_right, mod-eq_of_lt}
+use Rattle.std.proofs.lemmas.List.{map-append}
 use Rattle.std.proofs.lemmas.List.Elements.{All-push, All-same}
+use Rattle.std.proofs.lemmas.List.Sums.{sum_by_push}
 use Rattle.std.proofs.lemmas.Result.{err_from_is_err_and}
 use Rattle.basket_ranks.specs.Codes.{Coding}
 use Rattle.basket_core.specs.declared.fault.MineFault.TheVariants.{TooMany}
 use Rattle.basket_sets.specs.declared.counted.Counted.{Counted}
-use Rattle.basket_ranks.specs.Shards.{shard_start}
 use Rattle.mine_classes.specs.Mined.{class_size}
-use Rattle.mine_phases.specs.Classes.{IsMined, claimed_size, piece_from_end}
+use Rattle.mine_phases.specs.Classes.{IsMined, claimed_size, rank_from_end}
 use Rattle.mine_phases.specs.Share.{numbers_of}
-use Rattle.mine_phases.proofs.Numbers.{numbers_are, numbers_next, sum_fits, sum_next}
+use Rattle.mine_phases.proofs.Ranks.{all_ranks, first_ranks, next_rank, ranks_before, ranks_fit}
 use Rattle.mine_phases.proofs.classes.Classes.add_classes.Goals as goal
 
--- with the class of a rank, the classes before it in a claimed piece have no more sets than the piece
-class_fits : (coding : Coding) (pieces claimed count start end rank : ℕ) → count ≡ length coding.items → start ≡ shard_start (piece_from_end pieces claimed) pieces count
-    → end ≡ shard_start (piece_from_end pieces claimed + 1) pieces count → start ≤ end → end ≤ count → start ≤ rank → rank < end
-    → sum_by (class_size coding) (range_with_len start (rank - start)) + class_size coding rank ≤ claimed_size coding pieces claimed
-class_fits coding pieces claimed count start end rank all begins ends rises within low below =
-    let ranks = ap (sum_by (class_size coding)) (numbers_are (length coding.items) pieces (piece_from_end pieces claimed) start end count all begins ends rises within) in
-    let fits = sum_fits (class_size coding) start rank end low below in
-    omega (arith, ranks, fits)
+-- the rank at a place counted from the end
+rank_is : (ranks place : ℕ) (coding : Coding) → ranks ≡ length coding.items → ranks - 1 - place ≡ rank_from_end (length coding.items) place
+rank_is ranks place coding all = ap (λ n. rank_from_end n place) all
+
+-- with the class of a rank, the classes before it of a claimed number have no more sets than all of that number
+class_fits : (coding : Coding) (pieces claimed place ranks : ℕ) → place % pieces ≡ claimed → claimed < pieces → ranks ≡ length coding.items → place < ranks
+    → sum_by (class_size coding) (ranks_before coding pieces claimed place) + class_size coding (ranks - 1 - place) ≤ claimed_size coding pieces claimed
+class_fits coding pieces claimed place ranks turn some all inside =
+    ranks_fit coding pieces claimed place (ranks - 1 - place) turn (omega (arith, inside, all)) (rank_is ranks place coding all) (omega (arith, some)) (class_size coding)
+
+pub loop-place-init : goal.loop-place-init
+loop-place-init g c =
+    let coding : Coding = g.M.ClassMiner.coding_of c.args.self.now.miner.now in
+    let none = first_ranks coding c.args.self.now.pieces c.args.claimed c.args.claimed c.requires.claimed refl in
+    record {
+      sums = c.requires.sums;
+      places = c.requires.places;
+      going = c.requires.going;
+      limit = refl;
+      turn = mod-eq_of_lt c.requires.claimed;
+      numbers = sym (ap (λ l. numbers_of c.args.values.now.items ++ l) none ∙ append-nil (numbers_of c.args.values.now.items));
+      each = c.requires.each;
+      told = omega (arith, ap (sum_by (class_size coding)) none);
+    }
 
 pub returns-in_err-class-clause-too_many : goal.returns-in_err-class-clause-too_many
 returns-in_err-class-clause-too_many g c = λ most e.
-    let coding : Coding = g.M.ClassMiner.coding_of c.args.self.now.miner.now in
     let p = err_from_is_err_and c.from_residual.result c.from_residual.ensures.1 in
     let fault : c.in_err-class.field-0.0 ≡ TooMany most = cc in
     let (same, why) = c.in_err-class.ensures.too_many most (ap Err fault) in
-    let below : c.loop-rank.rank < length coding.items = omega (arith, c.loop-rank-test.true, c.shard-start.ensures.within.1, c.requires.ranks) in
-    (same ∙ c.loop-rank.invariant.limit, elim why [ inl over ↦ inl over | inr less ↦ inr (record { rank = c.loop-rank.rank; within = below; large = less }) ])
+    let rank = c.args.self.now.ranks - 1 - c.loop-place.place in
+    let below : rank < length (g.M.ClassMiner.coding_of c.args.self.now.miner.now).items = omega (arith, c.loop-place-test.true, c.requires.ranks) in
+    (same ∙ c.loop-place.invariant.limit, elim why [ inl over ↦ inl over | inr less ↦ inr (record { rank = rank; within = below; large = less }) ])
 
 pub returns-in_err-class-clause-at_most : goal.returns-in_err-class-clause-at_most
 returns-in_err-class-clause-at_most g c =
-    let was = c.loop-rank.invariant in
-    let fits = class_fits (g.M.ClassMiner.coding_of c.args.self.now.miner.now) c.args.self.now.pieces c.args.claimed c.args.self.now.ranks c.shard-start.result.0 c.shard-start.result.1 c.loop-rank.rank
-    c.requires.ranks c.shard-start.ensures.start c.shard-start.ensures.end c.shard-start.ensures.within.0 c.shard-start.ensures.within.1 was.within.0 (omega (arith, c.loop-rank-test.true)) in
+    let was = c.loop-place.invariant in
+    let fits = class_fits (g.M.ClassMiner.coding_of c.args.self.now.miner.now) c.args.self.now.pieces c.args.claimed c.loop-place.place c.args.self.now.ranks was.turn c.requires.claimed c.requires.ranks c.loop-place-test.true in
     omega (arith, fits, was.told, c.class.ensures.at_most)
 
 pub returns-in_err-push-clause-at_most : goal.returns-in_err-push-clause-at_most
 returns-in_err-push-clause-at_most g c =
-    let was = c.loop-rank.invariant in
-    let fits = class_fits (g.M.ClassMiner.coding_of c.args.self.now.miner.now) c.args.self.now.pieces c.args.claimed c.args.self.now.ranks c.shard-start.result.0 c.shard-start.result.1 c.loop-rank.rank
-    c.requires.ranks c.shard-start.ensures.start c.shard-start.ensures.end c.shard-start.ensures.within.0 c.shard-start.ensures.within.1 was.within.0 (omega (arith, c.loop-rank-test.true)) in
+    let was = c.loop-place.invariant in
+    let fits = class_fits (g.M.ClassMiner.coding_of c.args.self.now.miner.now) c.args.self.now.pieces c.args.claimed c.loop-place.place c.args.self.now.ranks was.turn c.requires.claimed c.requires.ranks c.loop-place-test.true in
     omega (arith, fits, was.told, c.class.ensures.at_most)
 
 not_true : (b : Bool) → not b ≡ true → b ≡ false
@@ -50,49 +66,48 @@ not_true false h = refl
 
 pub returns-then-not-look-clause-at_most : goal.returns-then-not-look-clause-at_most
 returns-then-not-look-clause-at_most g c =
-    let was = c.loop-rank.invariant in
-    let fits = class_fits (g.M.ClassMiner.coding_of c.args.self.now.miner.now) c.args.self.now.pieces c.args.claimed c.args.self.now.ranks c.shard-start.result.0 c.shard-start.result.1 c.loop-rank.rank
-    c.requires.ranks c.shard-start.ensures.start c.shard-start.ensures.end c.shard-start.ensures.within.0 c.shard-start.ensures.within.1 was.within.0 (omega (arith, c.loop-rank-test.true)) in
+    let was = c.loop-place.invariant in
+    let fits = class_fits (g.M.ClassMiner.coding_of c.args.self.now.miner.now) c.args.self.now.pieces c.args.claimed c.loop-place.place c.args.self.now.ranks was.turn c.requires.claimed c.requires.ranks c.loop-place-test.true in
     omega (arith, fits, was.told, c.class.ensures.at_most, c.look.ensures.told)
 
-pub loop-rank-preserved : goal.loop-rank-preserved
-loop-rank-preserved g c =
+pub loop-place-preserved : goal.loop-place-preserved
+loop-place-preserved g c =
     let coding : Coding = g.M.ClassMiner.coding_of c.args.self.now.miner.now in
     let Mined : ℕ × (List Counted × ℕ) → Type 0 = λ value. IsMined coding (g.M.ClassMiner.is_work c.args.self.now.miner.now) value.0 value.1 in
-    let was = c.loop-rank.invariant in
+    let pieces = c.args.self.now.pieces in
+    let place = c.loop-place.place in
+    let rank = c.args.self.now.ranks - 1 - place in
+    let was = c.loop-place.invariant in
     let class = c.in_ok-class.ensures in
     let pushed = c.in_ok-push.ensures.items in
-    let size = c.lists_have_class_size.ensures coding c.loop-rank.rank c.in_ok-class.class.0 class.listed in
-    let next = sum_next (class_size coding) c.shard-start.result.0 c.loop-rank.rank was.within.0 in
+    let size = c.lists_have_class_size.ensures coding rank c.in_ok-class.class.0 class.listed in
+    let before = numbers_of c.args.values.now.items in
+    let ranks = ranks_before coding pieces c.args.claimed place in
+    let next = next_rank coding pieces c.args.claimed place rank was.turn (omega (arith, c.loop-place-test.true, c.requires.ranks)) (rank_is c.args.self.now.ranks place coding c.requires.ranks) (omega (arith, c.requires.claimed)) in
+    let sum = ap (sum_by (class_size coding)) next ∙ sum_by_push (class_size coding) ranks rank in
     record {
       sums = class.sums ∙ was.sums;
       places = class.places ∙ was.places;
       going = not_true _ (sym c.look.ensures.over ∙ c.if-not-look.false);
       limit = c.look.ensures.limit ∙ class.limit ∙ was.limit;
-      within = (omega (arith, was.within.0), omega (arith, c.loop-rank-test.true));
-      numbers = numbers_next (numbers_of c.args.values.now.items) c.loop-rank.values.items _ c.shard-start.result.0 c.loop-rank.rank _ was.within.0 pushed was.numbers;
-      each = All-same Mined _ _ pushed (All-push Mined c.loop-rank.values.items _ was.each (record { listed = class.listed; work = class.work; few = class.few }));
-      told = omega (arith, next, size, was.told, class.told, c.look.ensures.told);
+      turn = add-mod_right place pieces ∙ was.turn;
+      numbers = ap numbers_of pushed ∙ map-append (λ (value : ℕ × (List Counted × ℕ)). value.0) c.loop-place.values.items _ ∙ ap (λ l. l ++ rank ∷ []) was.numbers
+          ∙ append_assoc before ranks (rank ∷ []) ∙ ap (λ l. before ++ l) (sym next);
+      each = All-same Mined _ _ pushed (All-push Mined c.loop-place.values.items _ was.each (record { listed = class.listed; work = class.work; few = class.few }));
+      told = omega (arith, sum, size, was.told, class.told, c.look.ensures.told);
     }
 
 pub returns-clause-numbers : goal.returns-clause-numbers
 returns-clause-numbers g c =
     let coding : Coding = g.M.ClassMiner.coding_of c.args.self.now.miner.now in
-    let was = c.loop-rank.invariant in
-    let pieces = c.args.self.now.pieces in
-    let at : c.loop-rank.rank ≡ c.shard-start.result.1 = omega (arith, c.loop-rank-test.false, was.within.1) in
-    was.numbers ∙ ap (λ l. numbers_of c.args.values.now.items ++ l) (sym (numbers_are (length coding.items) pieces (piece_from_end pieces c.args.claimed) c.shard-start.result.0 c.loop-rank.rank c.args.self.now.ranks
-    c.requires.ranks c.shard-start.ensures.start (at ∙ c.shard-start.ensures.end) was.within.0 (omega (arith, at, c.shard-start.ensures.within.1))))
+    c.loop-place.invariant.numbers
+    ∙ ap (λ l. numbers_of c.args.values.now.items ++ l) (all_ranks coding c.args.self.now.pieces c.args.claimed c.loop-place.place (omega (arith, c.loop-place-test.false, c.requires.ranks)))
 
 pub returns-clause-told : goal.returns-clause-told
 returns-clause-told g c =
     let coding : Coding = g.M.ClassMiner.coding_of c.args.self.now.miner.now in
-    let was = c.loop-rank.invariant in
-    let pieces = c.args.self.now.pieces in
-    let at : c.loop-rank.rank ≡ c.shard-start.result.1 = omega (arith, c.loop-rank-test.false, was.within.1) in
-    let ranks = ap (sum_by (class_size coding)) (numbers_are (length coding.items) pieces (piece_from_end pieces c.args.claimed) c.shard-start.result.0 c.loop-rank.rank c.args.self.now.ranks
-    c.requires.ranks c.shard-start.ensures.start (at ∙ c.shard-start.ensures.end) was.within.0 (omega (arith, at, c.shard-start.ensures.within.1))) in
-    omega (arith, ranks, was.told)
+    let all = ap (sum_by (class_size coding)) (all_ranks coding c.args.self.now.pieces c.args.claimed c.loop-place.place (omega (arith, c.loop-place-test.false, c.requires.ranks))) in
+    omega (arith, all, c.loop-place.invariant.told)
 
 pub returns-clause-at_most : goal.returns-clause-at_most
 returns-clause-at_most g c = let told = returns-clause-told g c in omega (arith, told)
