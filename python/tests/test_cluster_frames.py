@@ -17,7 +17,7 @@ from distributed import Client
 
 import basket_miner
 from basket_miner import cluster
-from basket_miner._cluster_keys import keys_of
+from basket_miner.cluster._keys import keys_of
 
 COLUMNS: dict[str, Any] = {"basket": "receipt", "item": "product"}
 PAIR = [[{"tea"}, 40, 1.0], [{"jam"}, 40, 1.0], [{"tea", "jam"}, 40, 1.0]]

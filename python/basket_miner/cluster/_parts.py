@@ -16,12 +16,13 @@ from dask.base import is_dask_collection
 from dask.delayed import delayed
 from distributed import Client, Future
 
-from ._baskets import baskets_of, checked_weights, grouped
-from ._cluster_keys import keys_of
-from ._cluster_tasks import awaited, tree
-from ._data import SEPARATOR_WORDS, Layout, read
-from ._errors import DataError
-from ._frames import numbered, place_of, refuse_zero_bytes
+from .._baskets import baskets_of, checked_weights, grouped
+from .._data import SEPARATOR_WORDS, read
+from .._errors import DataError
+from .._frames import numbered, place_of, refuse_zero_bytes
+from .._keywords import Layout, PartLayout, changed, filled
+from ._keys import keys_of
+from ._tasks import awaited, tree
 
 Labels = list[Hashable]
 
@@ -55,7 +56,7 @@ class Parts:
 
 
 def prepared(
-    parts: Any, client: Client, layout: Layout, progress: bool = False
+    parts: Any, client: Client, keywords: PartLayout, progress: bool = False
 ) -> Parts:
     """The parts of whatever a public call takes.
 
@@ -67,8 +68,9 @@ def prepared(
         raise DataError(
             "client= is a distributed.Client, and none that is asynchronous"
         )
+    layout = filled(Layout, keywords)
     if isinstance(parts, Parts):
-        if layout != Layout():
+        if changed(Layout, layout):
             raise DataError("the parts are prepared: how they lie was said before")
         return parts
     if isinstance(parts, Bag):
@@ -90,7 +92,7 @@ def _files(names: list[Any], layout: Layout) -> Parts:
     for name in names:
         if not isinstance(name, (str, os.PathLike)):
             raise DataError(f"a part is the name of a file, not {type(name).__name__}")
-    if layout.form == "single":
+    if layout["form"] == "single":
         raise DataError(
             "files of a row an item may cut a basket: read them as a Dask data frame "
             "(dask.dataframe.read_csv), which brings the rows of a basket together"
@@ -113,10 +115,10 @@ def _bag(bag: Any, client: Client, layout: Layout, progress: bool) -> Parts:
 
 
 def _frame(frame: Any, client: Client, layout: Layout, progress: bool) -> Parts:
-    if layout.basket is None or layout.item is None:
+    if layout["basket"] is None or layout["item"] is None:
         raise DataError("a Dask data frame needs both basket= and item=")
-    names = [layout.basket, layout.item]
-    names += [] if layout.weight is None else [layout.weight]
+    names = [layout["basket"], layout["item"]]
+    names += [] if layout["weight"] is None else [layout["weight"]]
     for name in names:
         place_of(frame.columns, name)
     kept = client.persist(frame[names])
@@ -172,14 +174,14 @@ def _numbered(part: pd.DataFrame, labels: Labels, layout: Layout) -> pd.DataFram
     """The rows of a part, without those of missing values: a number that equal ids of baskets share,
     the id, and the number of the item."""
     part = part.dropna()
-    codes, values = numbered(part[layout.item], layout.item)
+    codes, values = numbered(part[layout["item"]], layout["item"])
     numbers = {label: number for number, label in enumerate(labels)}
     table = np.array([numbers[value] for value in values.tolist()], dtype=np.int64)
-    places, ids = numbered(part[layout.basket], layout.basket)
-    columns = {KEY: keys_of(ids)[places], BASKET: part[layout.basket]}
+    places, ids = numbered(part[layout["basket"]], layout["basket"])
+    columns = {KEY: keys_of(ids)[places], BASKET: part[layout["basket"]]}
     columns[ITEM] = table[codes]
-    if layout.weight is not None:
-        columns[WEIGHT] = part[layout.weight]
+    if layout["weight"] is not None:
+        columns[WEIGHT] = part[layout["weight"]]
     return pd.DataFrame(columns)
 
 
