@@ -27,8 +27,10 @@ def rules(
     Returns a row for each rule: `antecedents` and `consequents` (each a `frozenset`), `count`
     (of the baskets that have both sides), `support` (this count as a share of all baskets),
     `confidence` (as a share of those that have the antecedents) and `lift` (the confidence over
-    the share of all baskets that have the consequents), and with `exact` also
-    `exact_support`, `exact_confidence` and `exact_lift`.
+    the share of all baskets that have the consequents), with `exact` also `exact_support`,
+    `exact_confidence` and `exact_lift`; then `antecedent support` and `consequent support` (the
+    shares of all baskets that have each side), with `exact` also `exact_antecedent_support` and
+    `exact_consequent_support`.
 
     Agrawal and Srikant, 1994; the lift is the interest of Brin, Motwani, Ullman and Tsur, 1997.
     """

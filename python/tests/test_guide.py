@@ -122,7 +122,7 @@ def test_the_first_block_gives_the_rules_that_readme_shows(place: Path) -> None:
         count, confidence, lift, _, left, right = line.split(",")
         figures = int(count), float(Fraction(confidence)), float(Fraction(lift))
         wanted.append((frozenset({left}), frozenset({right}), *figures))
-    found = names["found"].drop(columns="support")
+    found = names["found"].drop(columns="support").iloc[:, :5]
     assert list(found.itertuples(index=False, name=None)) == wanted
 
 
