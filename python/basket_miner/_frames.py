@@ -1,6 +1,7 @@
 """Baskets from data frames and sparse matrices."""
 
 from collections.abc import Hashable, Iterable
+from types import SimpleNamespace
 from typing import Any
 
 import numpy as np
@@ -67,21 +68,60 @@ def wide_frame(frame: pd.DataFrame, weight: Hashable | None, drop: bool) -> Bask
 
 def _table(frame: pd.DataFrame, drop: bool) -> Array | None:
     """For each row and column whether it is true, or 1; nothing where this takes a look at each
-    column by itself.
+    column by itself, as at a sparse one, or to say what is refused.
     """
-    kinds = {
-        dtype.kind if isinstance(dtype, np.dtype) else str(dtype)
-        for dtype in frame.dtypes
-    }
-    if kinds == {"b"}:
-        return np.asarray(frame.to_numpy())
-    if kinds == {"boolean"} and (drop or not frame.isna().any(axis=None)):
-        return np.asarray(frame.to_numpy(dtype=bool, na_value=False))
-    if kinds <= {"i", "u"}:
+    kinds: dict[Any, list[int]] = {}
+    for at, dtype in enumerate(frame.dtypes):
+        kinds.setdefault(dtype, []).append(at)
+    if len(kinds) == 1:
+        return _table_of_one_type(frame, drop)
+    table = np.empty(frame.shape, dtype=bool, order="F")
+    for places in kinds.values():
+        part = _table_of_one_type(frame.iloc[:, places], drop)
+        if part is None:
+            return None
+        table[:, places] = part
+    return table
+
+
+def _table_of_one_type(frame: pd.DataFrame, drop: bool) -> Array | None:
+    dtype = frame.dtypes.iloc[0]
+    if isinstance(dtype, pd.SparseDtype) or dtype.kind not in "biufO":
+        return None
+    if dtype == object:
+        return _truths_of_objects(frame.to_numpy(), drop)
+    if isinstance(dtype, np.dtype):
         values = frame.to_numpy()
-        is_one = values == 1
-        return is_one if (is_one | (values == 0)).all() else None
-    return None
+    elif not hasattr(dtype, "numpy_dtype") or (
+        not drop and frame.isna().any(axis=None)
+    ):
+        return None
+    else:
+        values = frame.to_numpy(dtype=dtype.numpy_dtype, na_value=0)
+    if dtype.kind == "b":
+        return np.asarray(values)
+    is_one = values == 1
+    is_good = is_one | (values == 0)
+    if drop and dtype.kind == "f":
+        is_good |= np.isnan(values)
+    return is_one if is_good.all() else None
+
+
+def _truths_of_objects(values: Array, drop: bool) -> Array | None:
+    """For each object whether it is true, or 1; nothing where one is no usual one.
+
+    Each of the usual objects has one address in memory, and addresses are compared as numbers are,
+    which takes a small part of the time.
+    """
+    addresses = {**values.__array_interface__, "typestr": np.dtype(np.intp).str}
+    del addresses["descr"]
+    at = np.asarray(SimpleNamespace(__array_interface__=addresses))
+    is_one = (at == id(True)) | (at == id(1))
+    is_good = is_one | (at == id(False)) | (at == id(0))
+    if drop:
+        for gap in (None, np.nan, pd.NA):
+            is_good |= at == id(gap)
+    return is_one if is_good.all() else None
 
 
 def matrix(values: Any, names: Labels | None) -> Baskets:
