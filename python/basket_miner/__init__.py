@@ -8,6 +8,8 @@ in the order of its report. All take the baskets as one of these:
   any order, and repeated rows count once;
 - a data frame with a row for each basket and a column of true and false (or 1 and 0, also
   sparse) for each item; `weight=` names a column that is no item;
+- a table of another package as one of these frames: what has `to_pandas` (Polars, Arrow), `to_df`
+  (DuckDB) or `__dataframe__`;
 - an iterable of baskets, each an iterable of hashable labels;
 - a matrix of `scipy.sparse` with a row for each basket; `names=` are the labels of its columns;
 - the path of a file: `form=` "fimi", or of CSV "baskets" (a basket a record) or "single" (a

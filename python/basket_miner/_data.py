@@ -16,8 +16,9 @@ from ._baskets import Baskets, baskets_of
 from ._errors import DataError
 from ._frames import is_missing, long_frame, matrix, wide_frame
 from ._keywords import BasketsOptions, Layout, changed, filled, with_keywords
+from ._tables import frame_of, is_table
 
-# A data frame, a sparse matrix, an iterable of iterables of labels, a path, or `Baskets`.
+# A data frame or another table, a sparse matrix, an iterable of iterables of labels, a path, or `Baskets`.
 Data = Any
 
 _SEPARATORS = {"comma": ",", "semicolon": ";", "tab": "\t", "pipe": "|"}
@@ -53,6 +54,8 @@ def read(data: Data, keywords: Layout) -> Baskets:
         return long_frame(
             data, layout["basket"], layout["item"], layout["weight"], drop
         )
+    if is_table(data):
+        return read(frame_of(data), keywords)
     if hasattr(data, "tocsr"):
         _refuse_others(layout, "names", "a sparse matrix")
         return matrix(data, layout["names"])
@@ -153,14 +156,9 @@ def _iterable(baskets: Any, drop: bool) -> Baskets:
 
 def _refuse_tables(baskets: Any) -> None:
     """Raises `DataError` if what something iterates over are columns, keys or bytes, and no baskets."""
-    name = type(baskets).__name__
-    if hasattr(baskets, "__dataframe__") or hasattr(baskets, "to_pandas"):
-        raise DataError(
-            f"{name} is no iterable of baskets: give a table as its .to_pandas(), and a "
-            "column of lists as a list of them"
-        )
-    is_table = isinstance(baskets, np.ndarray) and baskets.ndim > 1
-    if is_table or isinstance(baskets, (Mapping, bytes)):
+    is_matrix = isinstance(baskets, np.ndarray) and baskets.ndim > 1
+    if is_matrix or isinstance(baskets, (Mapping, bytes)):
+        name = type(baskets).__name__
         raise DataError(f"{name} is no iterable of baskets{_TABLE_HINT}")
 
 
