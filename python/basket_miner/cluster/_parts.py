@@ -2,31 +2,38 @@
 """Parts of the baskets where the workers of a cluster can read them."""
 
 import os
-from collections.abc import Hashable, Iterable, Sequence
+from collections.abc import Iterable, Sequence
 from dataclasses import dataclass
 from functools import partial
 from pathlib import Path
 from typing import Any
 
 import dask.config
-import numpy as np
-import pandas as pd
 from dask.bag.core import Bag
 from dask.base import is_dask_collection
-from dask.delayed import delayed
+from dask.delayed import Delayed, delayed
 from distributed import Client, Future
 
-from .._baskets import baskets_of, checked_weights, grouped
 from .._data import SEPARATOR_WORDS, read
 from .._errors import DataError
-from .._frames import numbered, place_of, refuse_zero_bytes
+from .._frames import place_of
 from .._keywords import Layout, PartLayout, changed, filled
-from ._keys import keys_of
 from ._tasks import awaited, tree
-
-Labels = list[Hashable]
-
-KEY, BASKET, ITEM, WEIGHT = "key", "basket", "item", "weight"
+from ._texts import (
+    KEY,
+    Labels,
+    joined,
+    labels_of,
+    labels_of_rows,
+    no_rows,
+    numbered_rows,
+    read_part,
+    rows_of,
+    same,
+    text_of,
+    text_of_rows,
+)
+from ._workers import demand_program
 
 
 @dataclass(frozen=True)
@@ -63,27 +70,29 @@ def prepared(
     Raises:
         DataError: they are none of these, there is none, they have bad values, or a keyword does
             not go with them.
+        ProgramMissing: a worker lacks something, which is named.
     """
-    if not isinstance(client, Client) or client.asynchronous:
-        raise DataError(
-            "client= is a distributed.Client, and none that is asynchronous"
-        )
     layout = filled(Layout, keywords)
+    demand_program(client)
     if isinstance(parts, Parts):
         if changed(Layout, layout):
             raise DataError("the parts are prepared: how they lie was said before")
         return parts
     if isinstance(parts, Bag):
-        return _bag(parts, client, layout, progress)
+        lists = [delayed(list)(part) for part in parts.to_delayed()]
+        return _baskets(lists, client, layout, progress)
     if is_dask_collection(parts) and type(parts).__name__ == "DataFrame":
         return _frame(parts, client, layout, progress)
     is_one = isinstance(parts, (str, bytes, os.PathLike)) or is_dask_collection(parts)
     if is_one or not isinstance(parts, Iterable):
         raise DataError(
-            "parts are a list of files, a dask.bag of baskets or a Dask data frame, not "
-            f"{type(parts).__name__}"
+            "parts are a list of files, of delayed parts or of futures, a dask.bag of baskets or "
+            f"a Dask data frame, not {type(parts).__name__}"
         )
-    return _files(list(parts), layout)
+    listed = list(parts)
+    if listed and all(isinstance(part, (Delayed, Future)) for part in listed):
+        return _listed(listed, client, layout, progress)
+    return _files(listed, layout)
 
 
 def _files(names: list[Any], layout: Layout) -> Parts:
@@ -91,7 +100,10 @@ def _files(names: list[Any], layout: Layout) -> Parts:
         raise DataError("there is no part")
     for name in names:
         if not isinstance(name, (str, os.PathLike)):
-            raise DataError(f"a part is the name of a file, not {type(name).__name__}")
+            raise DataError(
+                "parts are names of files alone, or delayed parts and futures alone, and one is "
+                f"of the type {type(name).__name__}"
+            )
     if layout["form"] == "single":
         raise DataError(
             "files of a row an item may cut a basket: read them as a Dask data frame "
@@ -106,98 +118,74 @@ def _files(names: list[Any], layout: Layout) -> Parts:
     return Parts(files, words=read_so[0].words, separator=read_so[0].separator)
 
 
-def _bag(bag: Any, client: Client, layout: Layout, progress: bool) -> Parts:
-    lists = client.compute([delayed(list)(part) for part in bag.to_delayed()])
-    labels = _all_labels(lists, client, layout, progress)
-    numbering = client.submit(_same, labels, pure=False)
-    texts = [client.submit(_list_text, part, numbering, pure=False) for part in lists]
+def _listed(
+    parts: list[Delayed | Future], client: Client, layout: Layout, progress: bool
+) -> Parts:
+    """Delayed parts and futures: frames with a row an item, which may cut baskets, or whole baskets."""
+    if layout["basket"] is None and layout["item"] is None:
+        return _baskets(parts, client, layout, progress)
+    # Here, since it takes a second.
+    from dask.dataframe import from_delayed  # type: ignore[attr-defined]
+
+    frames = [client.submit(rows_of, part) for part in _futures(parts, client)]
+    meta = awaited(client.submit(no_rows, frames[0]), progress)
+    frame = from_delayed(frames, meta=meta, verify_meta=False)
+    return _frame(frame, client, layout, progress)
+
+
+def _futures(parts: Iterable[Delayed | Future], client: Client) -> list[Future]:
+    return [
+        part if isinstance(part, Future) else client.compute(part) for part in parts
+    ]
+
+
+def _baskets(
+    parts: Iterable[Delayed | Future], client: Client, layout: Layout, progress: bool
+) -> Parts:
+    """Parts that have whole baskets each: iterables of them, frames with a column an item, matrices."""
+    read_so = [
+        client.submit(read_part, part, layout, pure=False)
+        for part in _futures(parts, client)
+    ]
+    found = [client.submit(labels_of, part, pure=False) for part in read_so]
+    labels = _all_labels(found, client, progress)
+    numbering = client.submit(same, labels, pure=False)
+    texts = [client.submit(text_of, part, numbering, pure=False) for part in read_so]
     return Parts(texts, labels)
 
 
 def _frame(frame: Any, client: Client, layout: Layout, progress: bool) -> Parts:
+    if layout["basket"] is None and layout["item"] is None:
+        return _baskets(frame.to_delayed(), client, layout, progress)
     if layout["basket"] is None or layout["item"] is None:
-        raise DataError("a Dask data frame needs both basket= and item=")
+        raise DataError("a frame with a row an item needs both basket= and item=")
     names = [layout["basket"], layout["item"]]
     names += [] if layout["weight"] is None else [layout["weight"]]
     for name in names:
         place_of(frame.columns, name)
     kept = client.persist(frame[names])
-    rows = client.compute(kept.to_delayed())
-    labels = _all_labels(rows, client, layout, progress)
-    numbering = client.submit(_same, labels, pure=False)
-    meta = _numbered(frame._meta, [], layout)
+    found = [
+        client.submit(labels_of_rows, part, layout, pure=False)
+        for part in client.compute(kept.to_delayed())
+    ]
+    labels = _all_labels(found, client, progress)
+    numbering = client.submit(same, labels, pure=False)
+    meta = numbered_rows(frame._meta, [], layout)
     # The shuffle for several machines, by tasks, which the engine can repeat.
     with client.as_current(), dask.config.set(shuffle="tasks"):
-        rows_of = kept.map_partitions(_numbered, numbering, layout, meta=meta)
-        whole = rows_of.shuffle(KEY).to_delayed()
-    return Parts(client.compute([delayed(_rows_text)(part) for part in whole]), labels)
+        rows = kept.map_partitions(numbered_rows, numbering, layout, meta=meta)
+        whole = rows.shuffle(KEY).to_delayed()
+    return Parts(
+        client.compute([delayed(text_of_rows)(part) for part in whole]), labels
+    )
 
 
-def _all_labels(
-    parts: list[Future], client: Client, layout: Layout, progress: bool
-) -> Labels:
-    """All labels, by first appearance over the parts in their order.
+def _all_labels(parts: list[Future], client: Client, progress: bool) -> Labels:
+    """All of the labels of parts, by first appearance over the parts in their order.
 
     The client has them, and a task whose words they are gives them to the workers. So they stay
     the same whatever is lost: the order of a set differs from process to process.
     """
-    futures = [client.submit(_labels, part, layout, pure=False) for part in parts]
     submit = partial(client.submit, pure=False)
-    labels: Labels = awaited(tree(submit, _joined, futures), progress)
+    labels: Labels = awaited(tree(submit, joined, parts), progress)
     return labels
-
-
-def _same(labels: Labels) -> Labels:
-    return labels
-
-
-def _labels(part: Any, layout: Layout) -> Labels:
-    """The labels of a part, which is refused where its baskets are."""
-    return list(read(part, layout).labels or ())
-
-
-def _joined(*labels: Labels) -> Labels:
-    return list(dict.fromkeys(label for part in labels for label in part))
-
-
-def _list_text(baskets: Iterable[Iterable[Hashable]], labels: Labels) -> bytes:
-    """The lines of baskets, without items that have no number: those that are missing."""
-    numbers = {label: str(number) for number, label in enumerate(labels)}
-    lines = (
-        " ".join(numbers[item] for item in basket if item in numbers)
-        for basket in baskets
-    )
-    return "".join(f"{line}\n" for line in lines).encode()
-
-
-def _numbered(part: pd.DataFrame, labels: Labels, layout: Layout) -> pd.DataFrame:
-    """The rows of a part, without those of missing values: a number that equal ids of baskets share,
-    the id, and the number of the item."""
-    part = part.dropna()
-    codes, values = numbered(part[layout["item"]], layout["item"])
-    numbers = {label: number for number, label in enumerate(labels)}
-    table = np.array([numbers[value] for value in values.tolist()], dtype=np.int64)
-    places, ids = numbered(part[layout["basket"]], layout["basket"])
-    columns = {KEY: keys_of(ids)[places], BASKET: part[layout["basket"]]}
-    columns[ITEM] = table[codes]
-    if layout["weight"] is not None:
-        columns[WEIGHT] = part[layout["weight"]]
-    return pd.DataFrame(columns)
-
-
-def _rows_text(part: pd.DataFrame) -> bytes:
-    """The lines of the baskets of a part that has all rows of each."""
-    places, ids = numbered(part[BASKET], BASKET)
-    refuse_zero_bytes(part[BASKET], places, ids)
-    weights = None
-    if WEIGHT in part:
-        values = checked_weights(part[WEIGHT].to_numpy())
-        weights = np.zeros(places.max(initial=-1) + 1, dtype=np.int64)
-        weights[places] = values
-        if (weights[places] != values).any():
-            raise DataError("a basket has several weights")
-    places, numbers = grouped(places, part[ITEM].to_numpy())
-    labels = range(numbers.max(initial=-1) + 1)
-    made = baskets_of(places, numbers, labels, weights)
-    assert isinstance(made.source, bytes)
-    return made.source
