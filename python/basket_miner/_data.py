@@ -14,8 +14,9 @@ import pandas as pd
 
 from ._baskets import Baskets, baskets_of
 from ._errors import DataError
-from ._frames import is_missing, long_frame, matrix, wide_frame
+from ._frames import long_frame, matrix, wide_frame
 from ._keywords import BasketsOptions, Layout, changed, filled, with_keywords
+from ._numbering import is_missing
 from ._tables import frame_of, is_table
 
 # A data frame or another table, a sparse matrix, an iterable of iterables of labels, a path, or `Baskets`.

@@ -1,7 +1,6 @@
 """Baskets from data frames and sparse matrices."""
 
 from collections.abc import Hashable, Iterable
-from types import SimpleNamespace
 from typing import Any
 
 import numpy as np
@@ -9,6 +8,7 @@ import pandas as pd
 
 from ._baskets import Array, Baskets, Labels, baskets_of, checked_weights, grouped
 from ._errors import DataError
+from ._numbering import addresses, is_missing, numbered
 
 # What may help, behind a fault. The calls of mlxtend have no such keywords.
 DROP_HINT = '; missing="drop" leaves them out'
@@ -28,7 +28,7 @@ def long_frame(
     """
     names = [basket, item] if weight is None else [basket, item, weight]
     columns = [column_of(frame, name) for name in names]
-    places, ids = numbered(columns[0], basket)
+    places, _ = numbered(columns[0], basket)
     numbers, items = numbered(columns[1], item)
     are_there = [places >= 0, numbers >= 0]
     are_there += [_there(column) for column in columns[2:]]
@@ -36,8 +36,6 @@ def long_frame(
     if not all(is_there.all() for is_there in are_there):
         kept = frame[np.logical_and.reduce(are_there)]
         return long_frame(kept, basket, item, weight, drop)
-    refuse_zero_bytes(columns[0], places, ids)
-    refuse_zero_bytes(columns[1], numbers, items)
     weights = None
     if weight is not None:
         weights = _weights_by_place(places, checked_weights(_plain(columns[2])), weight)
@@ -113,9 +111,7 @@ def _truths_of_objects(values: Array, drop: bool) -> Array | None:
     Each of the usual objects has one address in memory, and addresses are compared as numbers are,
     which takes a small part of the time.
     """
-    addresses = {**values.__array_interface__, "typestr": np.dtype(np.intp).str}
-    del addresses["descr"]
-    at = np.asarray(SimpleNamespace(__array_interface__=addresses))
+    at = addresses(values)
     is_one = (at == id(True)) | (at == id(1))
     is_good = is_one | (at == id(False)) | (at == id(0))
     if drop:
@@ -176,11 +172,6 @@ def distinct(labels: list[Hashable], what: str) -> list[Hashable]:
     return labels
 
 
-def is_missing(label: object) -> bool:
-    """Whether a label is what pandas takes for missing: `None`, `NaN`, `NaT`, `NA`."""
-    return pd.api.types.is_scalar(label) and bool(pd.isna(label))
-
-
 def _there(column: pd.Series) -> Array:
     """For each row whether the column has a value."""
     return np.asarray(column.notna())
@@ -196,40 +187,6 @@ def _refuse_gaps(
                 f"column {name!r} has missing values, {(~is_there).sum()} of them"
                 f"{DROP_HINT}"
             )
-
-
-def numbered(column: pd.Series, name: Hashable) -> tuple[Array, pd.Index | Array]:
-    """For each row the number of its value by first appearance, below 0 where it is missing,
-    and the values by number.
-
-    A column of objects keeps its values. An index would make its numbers floats.
-    """
-    is_object = column.dtype == object
-    try:
-        numbers, values = pd.factorize(column.to_numpy() if is_object else column)
-    except TypeError as fault:
-        raise DataError(
-            f"column {name!r} has values without a hash: {fault}"
-        ) from fault
-    return numbers, values
-
-
-def refuse_zero_bytes(
-    column: pd.Series, numbers: Array, values: pd.Index | Array
-) -> None:
-    """`DataError` where two texts got one number.
-
-    pandas numbers texts by what stands before a zero byte: "a" and "a\\0b" alike.
-    """
-    if not len(values) or not (
-        column.dtype == object or isinstance(column.dtype, pd.StringDtype)
-    ):
-        return
-    given = np.asarray(column, dtype=object)
-    is_other = np.asarray(values, dtype=object)[numbers] != given
-    # Values that are no texts may differ and rightly be one value for pandas, as tuples with NaN.
-    if any(isinstance(value, str) for value in given[is_other.astype(bool)]):
-        raise DataError(f"column {column.name!r} has texts with a zero byte")
 
 
 def _plain(column: pd.Series) -> Array:

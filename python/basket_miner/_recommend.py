@@ -13,7 +13,8 @@ import pandas as pd
 from ._baskets import Baskets
 from ._data import Data
 from ._errors import DataError
-from ._frames import column_of, numbered
+from ._frames import column_of
+from ._numbering import numbered
 from ._rule_counts import RuleCounts, counts_of
 from ._tables import frame_of, is_table
 

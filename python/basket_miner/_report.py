@@ -4,6 +4,7 @@ import contextlib
 import csv
 import gc
 import io
+import itertools
 from collections.abc import Iterable, Iterator, Sequence
 from dataclasses import dataclass
 from fractions import Fraction
@@ -176,15 +177,11 @@ def _numbers(report: bytes, is_large: bool = False) -> Array:
 
 def _split(items: Array, sizes: Array, labels: Labels | None) -> list[Itemset]:
     """The labels of items, cut into sets of these sizes."""
-    values = items.tolist()
+    values = iter(items.tolist())
     if labels is not None:
-        values = [*map(labels.__getitem__, values)]
-    stops = np.cumsum(sizes)
-    starts = stops - sizes
-    return [
-        frozenset(values[start:stop])
-        for start, stop in zip(starts.tolist(), stops.tolist())
-    ]
+        values = map(labels.__getitem__, values)
+    parts = map(itertools.islice, itertools.repeat(values), sizes.tolist())
+    return [frozenset(part) for part in parts]
 
 
 def _sides(items: Array, sizes: Array, labels: Labels | None) -> list[Itemset]:

@@ -10,8 +10,8 @@ import pandas as pd
 from .._baskets import Baskets, baskets_of, checked_weights, grouped
 from .._data import read
 from .._errors import DataError
-from .._frames import numbered, refuse_zero_bytes
 from .._keywords import Layout
+from .._numbering import numbered
 from .._tables import frame_of, is_table
 from ._keys import keys_of
 
@@ -88,8 +88,7 @@ def numbered_rows(part: pd.DataFrame, labels: Labels, layout: Layout) -> pd.Data
 
 def text_of_rows(part: pd.DataFrame) -> bytes:
     """The lines of the baskets of a part that has all rows of each."""
-    places, ids = numbered(part[BASKET], BASKET)
-    refuse_zero_bytes(part[BASKET], places, ids)
+    places, _ = numbered(part[BASKET], BASKET)
     weights = None
     if WEIGHT in part:
         values = checked_weights(part[WEIGHT].to_numpy())
