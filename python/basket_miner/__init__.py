@@ -39,10 +39,12 @@ of util-linux.
 The program has the package's version, or a later one of the same major version.
 
 `tidy` makes a row an item, `recommend` says what to offer to baskets by rules, `explore` writes a
-page that shows rules in a browser, and `basket_miner.frequent_patterns` has the calls of mlxtend.
+page that shows rules in a browser, `basket_miner.frequent_patterns` has the calls of mlxtend, and
+`basket_miner.cluster` asks parts of the baskets on a Dask cluster.
 
-All errors are of the family `BasketError`. Some have advice as a note, which a traceback shows below the message;
-`TooManySets.limit` and `InputError.line` are the numbers that the message has.
+All errors are of the family `BasketError`, except that a keyword that a call doesn't take is a
+`TypeError`, as in all of Python. Some have advice as a note, which a traceback shows below the
+message; `TooManySets.limit` and `InputError.line` are the numbers that the message has.
 """
 
 from ._baskets import Baskets
