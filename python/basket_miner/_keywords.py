@@ -104,9 +104,7 @@ class Run(TypedDict, total=False):
     ]
     progress: Annotated[
         bool,
-        Keyword(
-            False, "says what runs, where standard error is a terminal or a notebook."
-        ),
+        Keyword(False, "shows what runs, in a terminal or a notebook."),
     ]
 
 

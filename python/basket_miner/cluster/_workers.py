@@ -44,7 +44,8 @@ def demand_program(client: Client) -> None:
     _refuse(client, {address: _package_fault(told) for address, told in looked.items()})
     if any(_program_fault(told) for told in looked.values()):
         # A plugin, which the engine also gives to workers that come later.
-        register = getattr(client, "register_plugin", client.register_worker_plugin)
+        own = getattr(client, "register_plugin", None)
+        register = own or client.register_worker_plugin
         register(_sent(find().read_bytes()), name=_NAME)
         looked = client.run(_look(), on_error="return")
     _refuse(client, {address: _program_fault(told) for address, told in looked.items()})
