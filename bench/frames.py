@@ -1,12 +1,15 @@
 #!/usr/bin/python3
-"""Prints what a long frame and a large report cost the Python package, in seconds of processors.
+"""Prints what frames and a large report cost the Python package, in seconds of processors, beside the program.
 
 usage: bench/frames.py    with the program that is built or that `BASKET` names, and Debian's packages
+
+Memory is what the package holds at most beside the frame, or for a report in all.
 """
 
+import itertools
 import resource
 import sys
-import tempfile
+import tracemalloc
 from collections.abc import Callable
 from pathlib import Path
 from typing import Any
@@ -22,6 +25,9 @@ from basket_miner._baskets import Baskets  # noqa: E402
 from basket_miner._report import sets_frame  # noqa: E402
 
 BASKETS, SIZE, GOODS = 1_000_000, 10, 2_000
+LONG: Any = {"basket": "receipt", "item": "product"}
+# The rows and columns of a wide frame.
+WIDE = 200_000, 400
 
 
 def seconds(work: Callable[[], object], runs: int = 2) -> float:
@@ -39,34 +45,73 @@ def seconds(work: Callable[[], object], runs: int = 2) -> float:
     return best
 
 
-def long_frame(path: Path) -> None:
-    """A million baskets as a file and as a frame with a row for each item."""
+def megabytes(work: Callable[[], object]) -> float:
+    """What is held at most meanwhile."""
+    tracemalloc.start()
+    work()
+    _, most = tracemalloc.get_traced_memory()
+    tracemalloc.stop()
+    return most / 1e6
+
+
+def long_frames() -> None:
+    """A million baskets as frames with a row for each item."""
     chance = np.random.default_rng(46)
     drawn = (chance.pareto(1.0, BASKETS * SIZE) * 20).astype(np.int64) % GOODS
-    table = pd.DataFrame(drawn.reshape(BASKETS, SIZE))
-    table.to_csv(path, sep=" ", header=False, index=False)
     names = np.array([f"product {number}" for number in range(GOODS)], dtype=object)
     receipts = np.repeat(np.arange(BASKETS), SIZE)
+    texts = np.array([f"r{number:07}" for number in range(BASKETS)], dtype=object)
     frame = pd.DataFrame({"receipt": receipts, "product": names[drawn]})
-    columns: dict[str, Any] = {"basket": "receipt", "item": "product"}
-    own = seconds(lambda: _program.run(["sets", "--min=1%", "--workers=1"], path))
-    ours = seconds(lambda: miner.sets(frame, 0.01, workers=1, **columns))
-    print(f"file {own:.2f} s, frame {ours:.2f} s, {ours / own:.2f} times")
+    kinds = {
+        "ids of whole numbers, items of texts": frame,
+        "the same with items of the type string": frame.astype({"product": "string"}),
+        "the same with categories": frame.astype({"product": "category"}),
+        "the same with ids of texts": frame.assign(receipt=np.repeat(texts, SIZE)),
+        "the first with its rows in any order": frame.sample(frac=1, random_state=46),
+    }
+    source = miner.baskets(frame, **LONG).source
+    own = seconds(lambda: _program.run(["sets", "--min=1%", "--workers=1"], source))
+    print(f"{len(frame)} rows of {BASKETS} baskets: the program {own:.2f} s")
+    for name, kind in kinds.items():
+        taken = seconds(lambda: miner.baskets(kind, **LONG))
+        most = megabytes(lambda: miner.baskets(kind, **LONG))
+        size = kind.memory_usage().sum() / 1e6
+        print(f"  {name}: {taken:.2f} s, {most:.0f} MB; the frame {size:.0f} MB")
+
+
+def wide_frames() -> None:
+    """Frames with a row for each basket and a column for each item."""
+    rows, columns = WIDE
+    truths = pd.DataFrame(np.random.default_rng(46).random(WIDE) < 0.05)
+    print(f"{rows} rows of {columns} columns of")
+    for kind in ("bool", "int64", "float64", "boolean", "Int64", "object"):
+        frame = truths.astype(kind)
+        print(f"  {kind}: {seconds(lambda: miner.baskets(frame)):.2f} s")
 
 
 def large_report() -> None:
-    """The frame of a report of more than 300,000 sets."""
-    # Two baskets of 18 and of 16 items: all their subsets are frequent.
-    lines = (" ".join(map(str, items)) for items in (range(18), range(18, 34)))
-    report = _program.run(["sets", "--min=1"], "\n".join(lines).encode())
-    baskets = Baskets(b"", labels=[f"product {number}" for number in range(34)])
-    taken = seconds(lambda: sets_frame(report, baskets, 2))
-    print(f"{report.count(10)} sets: {taken:.2f} s")
+    """The frame of a report of 524,287 sets."""
+    # All subsets of a basket of 19 items are frequent.
+    line = " ".join(map(str, range(19))).encode()
+    words = ["sets", "--min=1", "--workers=1"]
+    own = seconds(lambda: _program.run(words, line))
+    report = _program.run(words, line)
+    baskets = Baskets(b"", labels=[f"product {number}" for number in range(19)])
+    taken = seconds(lambda: sets_frame(report, baskets, 1))
+    most = megabytes(lambda: sets_frame(report, baskets, 1))
+    sets = itertools.chain.from_iterable(
+        itertools.combinations(range(19), size) for size in range(1, 20)
+    )
+    size = megabytes(lambda: [frozenset(items) for items in sets])
+    print(
+        f"{report.count(10)} sets: the program {own:.2f} s, the frame {taken:.2f} s, "
+        f"{most:.0f} MB, of which {size:.0f} MB are the sets"
+    )
 
 
 def main() -> None:
-    with tempfile.TemporaryDirectory() as folder:
-        long_frame(Path(folder, "million.dat"))
+    long_frames()
+    wide_frames()
     large_report()
 
 

@@ -1,6 +1,6 @@
 """Frequent itemsets and association rules, exactly counted by the program basket.
 
-`items`, `sets`, `closed`, `maximal`, `rules` and `count` run the program and answer data frames
+`items`, `sets`, `closed`, `maximal`, `rules` and `count` run the program and return data frames
 in the order of its report. All take the baskets as one of these:
 
 - a data frame with a row for each item of a basket: `basket=` and `item=` name its columns,
@@ -8,6 +8,8 @@ in the order of its report. All take the baskets as one of these:
   any order, and repeated rows count once;
 - a data frame with a row for each basket and a column of true and false (or 1 and 0, also
   sparse) for each item; `weight=` names a column that is no item;
+- a table of another package as one of these frames: what has `to_pandas` (Polars, Arrow), `to_df`
+  (DuckDB) or `__dataframe__`;
 - an iterable of baskets, each an iterable of hashable labels;
 - a matrix of `scipy.sparse` with a row for each basket; `names=` are the labels of its columns;
 - the path of a file: `form=` "fimi", or of CSV "baskets" (a basket a record) or "single" (a
@@ -17,9 +19,10 @@ in the order of its report. All take the baskets as one of these:
 
 Labels come back as they were given; those of a FIMI file are `int`, those of CSV `str`. A weight
 is a whole number from 1 to 4,294,967,295, and stands for that many equal baskets. Missing values
-are refused (`DataError`), and with `missing="drop"` left out. A basket without an item is none:
-it counts in no support and no share, unless `baskets` is told the `total`. Rows of an answer stand in the order of the program's
-report, where items are numbered by their first appearance, or by the places of their columns.
+are refused (`DataError`), and with `missing="drop"` left out. A basket without an item counts in no
+support and no share; `baskets(data, total=..)` counts such baskets too. Rows of an answer stand in
+the order of the program's report, where items are numbered by their first appearance, or by the
+places of their columns.
 
 `minimum`, the least support, is a count of baskets as an `int` from 1 on, or a share of all
 baskets: a `float` from 0 to 1, which means the decimal that it prints (0.005 is 1/200 exactly), a
@@ -28,20 +31,20 @@ So 1 is one basket, and 1.0 is all of them. A computed float, as 50 / 300 or one
 means the nearest fraction of numbers up to 67,108,864. A `Fraction` of numbers above 4,294,967,295
 is refused.
 
-More keywords: `miner` ("apriori", the program's default, "eclat", "eclat-diff", "eclat-bits",
-"fpgrowth") and `workers` (threads, from 1 to 64) change time and memory, and no answer; `limit`
-is how many itemsets there may be at most; `exact` adds columns of `fractions.Fraction` beside
-the floats, which are those nearest to the exact values; `progress` tells each second on standard
-error what runs, where that is a terminal or a notebook. An interrupt ends the program, and so
-does the end of Python, however it comes, on Linux with the tool `setpriv` of util-linux.
+`help(sets)` has all keywords. Those of the program's work, as `miner` and `workers`, change time and
+memory, and no answer. The floats of a frame are those nearest to the exact values. An interrupt
+ends the program, and so does the end of Python, however it comes, on Linux with the tool `setpriv`
+of util-linux.
 
 The program has the package's version, or a later one of the same major version.
 
 `tidy` makes a row an item, `recommend` says what to offer to baskets by rules, `explore` writes a
-page that shows rules in a browser, and `basket_miner.frequent_patterns` has the calls of mlxtend.
+page that shows rules in a browser, `basket_miner.frequent_patterns` has the calls of mlxtend, and
+`basket_miner.cluster` asks parts of the baskets on a Dask cluster.
 
-All errors are of the family `BasketError`. Some have advice as a note, which a traceback shows below the message;
-`TooManySets.limit` and `InputError.line` are the numbers that the message has.
+All errors are of the family `BasketError`, except that a keyword that a call doesn't take is a
+`TypeError`, as in all of Python. Some have advice as a note, which a traceback shows below the
+message; `TooManySets.limit` and `InputError.line` are the numbers that the message has.
 """
 
 from ._baskets import Baskets

@@ -13,7 +13,7 @@ Labels = Sequence[Hashable]
 Array = np.ndarray[Any, np.dtype[Any]]
 
 MOST_WEIGHT = 2**32 - 1
-_TOKENS_AT_ONCE = 1 << 22
+_TOKENS_AT_ONCE = 1 << 20
 
 
 @dataclass(frozen=True)
@@ -74,18 +74,20 @@ def _fimi(numbers: Array, ends: Array, size: int, weights: Array | None) -> byte
     """
     texts = [b"%d " % number for number in range(size)]
     texts += [b"%d\n" % number for number in range(size)]
-    tokens = numbers + size * ends
     if weights is not None:
         distinct, places = np.unique(weights, return_inverse=True)
         starts = np.flatnonzero(np.r_[True, ends][:-1])
-        tokens = np.insert(tokens, starts, len(texts) + places)
+        numbers = np.insert(numbers + size * ends, starts, len(texts) + places)
+        ends = np.zeros(len(numbers), dtype=bool)
         texts += [b"%dx " % weight for weight in distinct]
     table = np.array(texts, dtype=bytes)
-    portions = (
-        table[tokens[start : start + _TOKENS_AT_ONCE]].tobytes().translate(None, b"\0")
-        for start in range(0, len(tokens), _TOKENS_AT_ONCE)
-    )
-    return b"".join(portions)
+
+    def portion(start: int) -> bytes:
+        part = slice(start, start + _TOKENS_AT_ONCE)
+        content: bytes = table[numbers[part] + size * ends[part]].tobytes()
+        return content.translate(None, b"\0")
+
+    return b"".join(map(portion, range(0, len(numbers), _TOKENS_AT_ONCE)))
 
 
 def grouped(places: Array, numbers: Array) -> tuple[Array, Array]:
@@ -93,9 +95,12 @@ def grouped(places: Array, numbers: Array) -> tuple[Array, Array]:
 
     A pair is sorted as one number, which takes a third of the time of an order by places.
     """
-    pairs = (places.astype(np.int64, copy=False) << 32) | numbers
+    pairs = places.astype(np.int64) << 32
+    pairs |= numbers
     pairs.sort()
-    return pairs >> 32, pairs & (2**32 - 1)
+    sorted_places = pairs >> 32
+    pairs &= 2**32 - 1
+    return sorted_places, pairs
 
 
 def checked_weights(values: Array) -> Array:

@@ -5,63 +5,54 @@ import io
 import numbers
 import os
 import tempfile
-from collections.abc import Hashable, Iterable
-from dataclasses import dataclass, replace
+from collections.abc import Hashable, Iterable, Mapping
+from dataclasses import replace
 from pathlib import Path
-from typing import Any, Literal
+from typing import Any
 
 import pandas as pd
 
 from ._baskets import Baskets
-from ._data import Data, Layout, read
+from ._data import Data, read
 from ._errors import DataError, FileError
 from ._files import kept, state_of
+from ._keywords import CountOptions, Run, SetsOptions, Work, filled
 from ._minimum import exact_minimum, least_count
 from ._program import run
 from ._report import rules_frame, sets_frame
 
-Miner = Literal["apriori", "eclat", "eclat-diff", "eclat-bits", "fpgrowth"]
-
 _ITEMS = range(2**32)
 
 
-@dataclass(frozen=True)
-class Work:
-    """How the program shall work, and what the answer shall have beside it."""
-
-    miner: Miner | None = None
-    workers: int = 1
-    limit: int | None = None
-    exact: bool = False
-    progress: bool = False
-
-    def words(self) -> list[str]:
-        """The options of the program."""
-        words = [f"--workers={self.workers}"]
-        words += [] if self.miner is None else [f"--miner={self.miner}"]
-        words += [] if self.limit is None else [f"--limit={self.limit}"]
-        return words
+def words_of(options: Mapping[str, object]) -> list[str]:
+    """The options of the program that say how it works."""
+    work = filled(Work, options)
+    words = [f"--workers={work['workers']}"]
+    words += [] if work["miner"] is None else [f"--miner={work['miner']}"]
+    words += [] if work["limit"] is None else [f"--limit={work['limit']}"]
+    return words
 
 
 def asked(
-    command: str, data: Data, words: list[str], layout: Layout, work: Work
+    command: str, data: Data, words: list[str], options: SetsOptions
 ) -> pd.DataFrame:
     """The frame of the report of a command over the caller's data."""
-    baskets = read(data, layout)
+    baskets = read(data, options)
+    run_so = filled(Run, options)
     if baskets.total is not None:
         words = [f"--min={_least(words[0], baskets.total)}", *words[1:]]
-    command_line = [command, *words, *work.words(), *baskets.words]
+    command_line = [command, *words, *words_of(options), *baskets.words]
     with kept(baskets.source) as source:
         before = state_of(source)
-        report = run(command_line, source, progress=work.progress)
+        report = run(command_line, source, progress=run_so["progress"])
         weight = _weight_of(baskets, source)
         if state_of(source) != before:
             raise FileError(f"{source!s} was changed while it was read")
     if command == "rules":
-        frame = rules_frame(report, baskets, weight, exact=work.exact)
+        frame = rules_frame(report, baskets, weight, exact=run_so["exact"])
     else:
         whole = baskets.whole(weight)
-        frame = sets_frame(report, baskets, whole, exact=work.exact)
+        frame = sets_frame(report, baskets, whole, exact=run_so["exact"])
     # Whoever draws the frame sees below which count it has nothing.
     frame.attrs["minimum"] = _least(words[0], weight)
     return frame
@@ -84,10 +75,11 @@ def _weight_of(baskets: Baskets, source: bytes | Path) -> int:
 
 
 def counted(
-    data: Data, sets: Iterable[Iterable[Hashable]], layout: Layout, work: Work
+    data: Data, sets: Iterable[Iterable[Hashable]], options: CountOptions
 ) -> pd.DataFrame:
     """The frame of what the program counts of some sets over the caller's data."""
-    baskets = read(data, layout)
+    baskets = read(data, options)
+    run_so = filled(Run, options)
     given = [_itemset(itemset) for itemset in sets]
     if baskets.separator is None:
         baskets, text = _as_numbers(baskets, given)
@@ -96,16 +88,16 @@ def counted(
     with tempfile.NamedTemporaryFile(prefix="basket-sets-") as file:
         file.write(text)
         file.flush()
-        words = ["count", f"--sets={file.name}", *work.words(), *baskets.words]
+        words = ["count", f"--sets={file.name}", *words_of(options), *baskets.words]
         with kept(baskets.source) as source:
-            report = run(words, source, progress=work.progress)
+            report = run(words, source, progress=run_so["progress"])
     if baskets.total is not None:
         # The first line is the empty set.
         first, _, others = report.partition(b"\n")
         whole = baskets.whole(int(first.strip(b"()")))
         line = b"(%d)\n" if baskets.separator is None else b"%d\n"
         report = line % whole + others
-    return sets_frame(report, baskets, exact=work.exact)
+    return sets_frame(report, baskets, exact=run_so["exact"])
 
 
 def _itemset(itemset: Any) -> list[Hashable]:

@@ -5,21 +5,22 @@ import numbers
 import os
 import re
 from collections.abc import Hashable, Mapping
-from dataclasses import dataclass, fields, replace
+from dataclasses import replace
 from pathlib import Path
-from typing import Any, Literal
+from typing import Any, Unpack
 
 import numpy as np
 import pandas as pd
 
-from ._baskets import Baskets, Labels, baskets_of
+from ._baskets import Baskets, baskets_of
 from ._errors import DataError
-from ._frames import is_missing, long_frame, matrix, wide_frame
+from ._frames import long_frame, matrix, wide_frame
+from ._keywords import BasketsOptions, Layout, changed, filled, with_keywords
+from ._numbering import is_missing
+from ._tables import frame_of, is_table
 
-# A data frame, a sparse matrix, an iterable of iterables of labels, a path, or `Baskets`.
+# A data frame or another table, a sparse matrix, an iterable of iterables of labels, a path, or `Baskets`.
 Data = Any
-Missing = Literal["refuse", "drop"]
-Form = Literal["fimi", "baskets", "single"]
 
 _SEPARATORS = {"comma": ",", "semicolon": ";", "tab": "\t", "pipe": "|"}
 SEPARATOR_WORDS = {character: word for word, character in _SEPARATORS.items()}
@@ -27,30 +28,16 @@ _TABLE_HINT = "; a table is given as a pandas.DataFrame"
 _CSV_ENDINGS = (".csv", ".tsv")
 
 
-@dataclass(frozen=True)
-class Layout:
-    """How the baskets lie in what the caller gave: the keywords of the public calls."""
-
-    basket: Hashable | None = None
-    item: Hashable | None = None
-    weight: Hashable | None = None
-    names: Labels | None = None
-    missing: Missing = "refuse"
-    form: Form | None = None
-    sep: str | None = None
-    header: bool = False
-    weighted: bool = False
-
-
-def read(data: Data, layout: Layout) -> Baskets:
+def read(data: Data, keywords: Layout) -> Baskets:
     """The baskets of whatever a public call takes.
 
     Raises:
         DataError: the data are none of these, or a keyword does not go with them.
     """
-    if layout.missing not in ("refuse", "drop"):
-        raise DataError(f'missing is "refuse" or "drop", not {layout.missing!r}')
-    drop = layout.missing == "drop"
+    layout = filled(Layout, keywords)
+    if layout["missing"] not in ("refuse", "drop"):
+        raise DataError(f'missing is "refuse" or "drop", not {layout["missing"]!r}')
+    drop = layout["missing"] == "drop"
     if isinstance(data, Baskets):
         _refuse_others(layout, "", "prepared baskets")
         return data
@@ -59,34 +46,26 @@ def read(data: Data, layout: Layout) -> Baskets:
         _refuse_no_path(data)
         return _file(Path(os.path.expanduser(data)), layout)
     if isinstance(data, pd.DataFrame):
-        if layout.basket is None and layout.item is None:
+        if layout["basket"] is None and layout["item"] is None:
             _refuse_others(layout, "weight missing", "a frame with a column an item")
-            return wide_frame(data, layout.weight, drop)
+            return wide_frame(data, layout["weight"], drop)
         _refuse_others(layout, "basket item weight missing", "a frame")
-        if layout.basket is None or layout.item is None:
+        if layout["basket"] is None or layout["item"] is None:
             raise DataError("a frame with a row an item needs both basket= and item=")
-        return long_frame(data, layout.basket, layout.item, layout.weight, drop)
+        return long_frame(
+            data, layout["basket"], layout["item"], layout["weight"], drop
+        )
+    if is_table(data):
+        return read(frame_of(data), keywords)
     if hasattr(data, "tocsr"):
         _refuse_others(layout, "names", "a sparse matrix")
-        return matrix(data, layout.names)
+        return matrix(data, layout["names"])
     _refuse_others(layout, "missing", "an iterable of baskets")
     return _iterable(data, drop)
 
 
-def baskets(
-    data: Data,
-    *,
-    basket: Hashable | None = None,
-    item: Hashable | None = None,
-    weight: Hashable | None = None,
-    names: Labels | None = None,
-    missing: Missing = "refuse",
-    form: Form | None = None,
-    sep: str | None = None,
-    header: bool = False,
-    weighted: bool = False,
-    total: int | None = None,
-) -> Baskets:
+@with_keywords
+def baskets(data: Data, **keywords: Unpack[BasketsOptions]) -> Baskets:
     """Baskets that many questions are asked of, made for the program once.
 
     Takes the baskets as the package's documentation says, and returns what each question takes in
@@ -97,21 +76,17 @@ def baskets(
     left out before: supports, minimums and lifts are then shares of it. A question raises
     `DataError` if the baskets that it sees weigh more.
     """
+    total = keywords.get("total")
     is_whole = isinstance(total, numbers.Integral) and not isinstance(total, bool)
     if total is not None and (not is_whole or total < 1):
         raise DataError(f"total is a number from 1 on, not {total!r}")
-    layout = Layout(basket, item, weight, names, missing, form, sep, header, weighted)
-    return replace(read(data, layout), total=total)
+    return replace(read(data, keywords), total=total)
 
 
 def _refuse_others(layout: Layout, allowed: str, what: str) -> None:
-    for field in fields(Layout):
-        given = getattr(layout, field.name)
-        is_default = given is None or (
-            isinstance(given, (bool, str)) and given == field.default
-        )
-        if not is_default and field.name not in allowed.split():
-            raise DataError(f"{field.name}= does not go with {what}")
+    for name in changed(Layout, layout):
+        if name not in allowed.split():
+            raise DataError(f"{name}= does not go with {what}")
 
 
 def _refuse_no_path(path: str | os.PathLike[str]) -> None:
@@ -126,7 +101,7 @@ def _refuse_no_path(path: str | os.PathLike[str]) -> None:
 
 
 def _file(path: Path, layout: Layout) -> Baskets:
-    form = layout.form
+    form = layout["form"]
     if form is None:
         if path.suffix.lower() in _CSV_ENDINGS:
             raise DataError(
@@ -139,16 +114,17 @@ def _file(path: Path, layout: Layout) -> Baskets:
     if form == "fimi":
         _refuse_others(layout, "form", "a FIMI file")
         return Baskets(path)
-    sep = SEPARATOR_WORDS.get(layout.sep or ",", layout.sep)
+    sep = SEPARATOR_WORDS.get(layout["sep"] or ",", layout["sep"])
     if sep not in _SEPARATORS:
         raise DataError(f"sep is one of {', '.join(_SEPARATORS)}, not {sep!r}")
-    for name in ("header", "weighted"):
-        if not isinstance(getattr(layout, name), bool):
-            raise DataError(f"{name} is True or False, not {getattr(layout, name)!r}")
-    if layout.weighted and form == "single":
+    flags = {"header": layout["header"], "weighted": layout["weighted"]}
+    for name, flag in flags.items():
+        if not isinstance(flag, bool):
+            raise DataError(f"{name} is True or False, not {flag!r}")
+    if layout["weighted"] and form == "single":
         raise DataError('weighted= does not go with form="single"')
     words = [f"--form={form}", f"--sep={sep}"]
-    words += ["--header"] * layout.header + ["--weight"] * layout.weighted
+    words += ["--header"] * layout["header"] + ["--weight"] * layout["weighted"]
     return Baskets(path, tuple(words), separator=_SEPARATORS[sep])
 
 
@@ -181,14 +157,9 @@ def _iterable(baskets: Any, drop: bool) -> Baskets:
 
 def _refuse_tables(baskets: Any) -> None:
     """Raises `DataError` if what something iterates over are columns, keys or bytes, and no baskets."""
-    name = type(baskets).__name__
-    if hasattr(baskets, "__dataframe__") or hasattr(baskets, "to_pandas"):
-        raise DataError(
-            f"{name} is no iterable of baskets: give a table as its .to_pandas(), and a "
-            "column of lists as a list of them"
-        )
-    is_table = isinstance(baskets, np.ndarray) and baskets.ndim > 1
-    if is_table or isinstance(baskets, (Mapping, bytes)):
+    is_matrix = isinstance(baskets, np.ndarray) and baskets.ndim > 1
+    if is_matrix or isinstance(baskets, (Mapping, bytes)):
+        name = type(baskets).__name__
         raise DataError(f"{name} is no iterable of baskets{_TABLE_HINT}")
 
 

@@ -8,6 +8,7 @@ import pandas as pd
 
 from ._baskets import Array, Baskets, Labels, baskets_of, checked_weights, grouped
 from ._errors import DataError
+from ._numbering import addresses, is_missing, numbered
 
 # What may help, behind a fault. The calls of mlxtend have no such keywords.
 DROP_HINT = '; missing="drop" leaves them out'
@@ -27,7 +28,7 @@ def long_frame(
     """
     names = [basket, item] if weight is None else [basket, item, weight]
     columns = [column_of(frame, name) for name in names]
-    places, ids = numbered(columns[0], basket)
+    places, _ = numbered(columns[0], basket)
     numbers, items = numbered(columns[1], item)
     are_there = [places >= 0, numbers >= 0]
     are_there += [_there(column) for column in columns[2:]]
@@ -35,8 +36,6 @@ def long_frame(
     if not all(is_there.all() for is_there in are_there):
         kept = frame[np.logical_and.reduce(are_there)]
         return long_frame(kept, basket, item, weight, drop)
-    refuse_zero_bytes(columns[0], places, ids)
-    refuse_zero_bytes(columns[1], numbers, items)
     weights = None
     if weight is not None:
         weights = _weights_by_place(places, checked_weights(_plain(columns[2])), weight)
@@ -67,21 +66,58 @@ def wide_frame(frame: pd.DataFrame, weight: Hashable | None, drop: bool) -> Bask
 
 def _table(frame: pd.DataFrame, drop: bool) -> Array | None:
     """For each row and column whether it is true, or 1; nothing where this takes a look at each
-    column by itself.
+    column by itself, as at a sparse one, or to say what is refused.
     """
-    kinds = {
-        dtype.kind if isinstance(dtype, np.dtype) else str(dtype)
-        for dtype in frame.dtypes
-    }
-    if kinds == {"b"}:
-        return np.asarray(frame.to_numpy())
-    if kinds == {"boolean"} and (drop or not frame.isna().any(axis=None)):
-        return np.asarray(frame.to_numpy(dtype=bool, na_value=False))
-    if kinds <= {"i", "u"}:
+    kinds: dict[Any, list[int]] = {}
+    for at, dtype in enumerate(frame.dtypes):
+        kinds.setdefault(dtype, []).append(at)
+    if len(kinds) == 1:
+        return _table_of_one_type(frame, drop)
+    table = np.empty(frame.shape, dtype=bool, order="F")
+    for places in kinds.values():
+        part = _table_of_one_type(frame.iloc[:, places], drop)
+        if part is None:
+            return None
+        table[:, places] = part
+    return table
+
+
+def _table_of_one_type(frame: pd.DataFrame, drop: bool) -> Array | None:
+    dtype = frame.dtypes.iloc[0]
+    if isinstance(dtype, pd.SparseDtype) or dtype.kind not in "biufO":
+        return None
+    if dtype == object:
+        return _truths_of_objects(frame.to_numpy(), drop)
+    if isinstance(dtype, np.dtype):
         values = frame.to_numpy()
-        is_one = values == 1
-        return is_one if (is_one | (values == 0)).all() else None
-    return None
+    elif not hasattr(dtype, "numpy_dtype") or (
+        not drop and frame.isna().any(axis=None)
+    ):
+        return None
+    else:
+        values = frame.to_numpy(dtype=dtype.numpy_dtype, na_value=0)
+    if dtype.kind == "b":
+        return np.asarray(values)
+    is_one = values == 1
+    is_good = is_one | (values == 0)
+    if drop and dtype.kind == "f":
+        is_good |= np.isnan(values)
+    return is_one if is_good.all() else None
+
+
+def _truths_of_objects(values: Array, drop: bool) -> Array | None:
+    """For each object whether it is true, or 1; nothing where one is no usual one.
+
+    Each of the usual objects has one address in memory, and addresses are compared as numbers are,
+    which takes a small part of the time.
+    """
+    at = addresses(values)
+    is_one = (at == id(True)) | (at == id(1))
+    is_good = is_one | (at == id(False)) | (at == id(0))
+    if drop:
+        for gap in (None, np.nan, pd.NA):
+            is_good |= at == id(gap)
+    return is_one if is_good.all() else None
 
 
 def matrix(values: Any, names: Labels | None) -> Baskets:
@@ -136,11 +172,6 @@ def distinct(labels: list[Hashable], what: str) -> list[Hashable]:
     return labels
 
 
-def is_missing(label: object) -> bool:
-    """Whether a label is what pandas takes for missing: `None`, `NaN`, `NaT`, `NA`."""
-    return pd.api.types.is_scalar(label) and bool(pd.isna(label))
-
-
 def _there(column: pd.Series) -> Array:
     """For each row whether the column has a value."""
     return np.asarray(column.notna())
@@ -156,40 +187,6 @@ def _refuse_gaps(
                 f"column {name!r} has missing values, {(~is_there).sum()} of them"
                 f"{DROP_HINT}"
             )
-
-
-def numbered(column: pd.Series, name: Hashable) -> tuple[Array, pd.Index | Array]:
-    """For each row the number of its value by first appearance, below 0 where it is missing,
-    and the values by number.
-
-    A column of objects keeps its values. An index would make its numbers floats.
-    """
-    is_object = column.dtype == object
-    try:
-        numbers, values = pd.factorize(column.to_numpy() if is_object else column)
-    except TypeError as fault:
-        raise DataError(
-            f"column {name!r} has values without a hash: {fault}"
-        ) from fault
-    return numbers, values
-
-
-def refuse_zero_bytes(
-    column: pd.Series, numbers: Array, values: pd.Index | Array
-) -> None:
-    """`DataError` where two texts got one number.
-
-    pandas numbers texts by what stands before a zero byte: "a" and "a\\0b" alike.
-    """
-    if not len(values) or not (
-        column.dtype == object or isinstance(column.dtype, pd.StringDtype)
-    ):
-        return
-    given = np.asarray(column, dtype=object)
-    is_other = np.asarray(values, dtype=object)[numbers] != given
-    # Values that are no texts may differ and rightly be one value for pandas, as tuples with NaN.
-    if any(isinstance(value, str) for value in given[is_other.astype(bool)]):
-        raise DataError(f"column {column.name!r} has texts with a zero byte")
 
 
 def _plain(column: pd.Series) -> Array:

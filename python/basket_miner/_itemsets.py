@@ -1,62 +1,28 @@
 """The calls that list items and itemsets."""
 
-from collections.abc import Hashable
+from typing import Unpack
 
 import pandas as pd
 
-from ._baskets import Labels
-from ._calls import Miner, Work, asked
-from ._data import Data, Form, Layout, Missing
+from ._calls import asked
+from ._data import Data
+from ._keywords import SetsOptions, with_keywords
 from ._minimum import Minimum, minimum_word
 
 
+@with_keywords
 def items(
-    data: Data,
-    minimum: Minimum,
-    *,
-    basket: Hashable | None = None,
-    item: Hashable | None = None,
-    weight: Hashable | None = None,
-    names: Labels | None = None,
-    missing: Missing = "refuse",
-    form: Form | None = None,
-    sep: str | None = None,
-    header: bool = False,
-    weighted: bool = False,
-    miner: Miner | None = None,
-    workers: int = 1,
-    limit: int | None = None,
-    exact: bool = False,
-    progress: bool = False,
+    data: Data, minimum: Minimum, **keywords: Unpack[SetsOptions]
 ) -> pd.DataFrame:
     """The items that are in enough baskets, as itemsets of one item each.
 
     Takes and returns what `sets` does; `miner` and `limit` have no effect.
     """
-    layout = Layout(basket, item, weight, names, missing, form, sep, header, weighted)
-    work = Work(miner, workers, limit, exact, progress)
-    return asked("items", data, ["--min=" + minimum_word(minimum)], layout, work)
+    return asked("items", data, ["--min=" + minimum_word(minimum)], keywords)
 
 
-def sets(
-    data: Data,
-    minimum: Minimum,
-    *,
-    basket: Hashable | None = None,
-    item: Hashable | None = None,
-    weight: Hashable | None = None,
-    names: Labels | None = None,
-    missing: Missing = "refuse",
-    form: Form | None = None,
-    sep: str | None = None,
-    header: bool = False,
-    weighted: bool = False,
-    miner: Miner | None = None,
-    workers: int = 1,
-    limit: int | None = None,
-    exact: bool = False,
-    progress: bool = False,
-) -> pd.DataFrame:
+@with_keywords
+def sets(data: Data, minimum: Minimum, **keywords: Unpack[SetsOptions]) -> pd.DataFrame:
     """The frequent itemsets: those that are in enough baskets.
 
     Takes the baskets and the least support of an itemset, as the package's documentation says.
@@ -69,29 +35,12 @@ def sets(
 
     Agrawal and Srikant, Fast algorithms for mining association rules, 1994.
     """
-    layout = Layout(basket, item, weight, names, missing, form, sep, header, weighted)
-    work = Work(miner, workers, limit, exact, progress)
-    return asked("sets", data, ["--min=" + minimum_word(minimum)], layout, work)
+    return asked("sets", data, ["--min=" + minimum_word(minimum)], keywords)
 
 
+@with_keywords
 def closed(
-    data: Data,
-    minimum: Minimum,
-    *,
-    basket: Hashable | None = None,
-    item: Hashable | None = None,
-    weight: Hashable | None = None,
-    names: Labels | None = None,
-    missing: Missing = "refuse",
-    form: Form | None = None,
-    sep: str | None = None,
-    header: bool = False,
-    weighted: bool = False,
-    miner: Miner | None = None,
-    workers: int = 1,
-    limit: int | None = None,
-    exact: bool = False,
-    progress: bool = False,
+    data: Data, minimum: Minimum, **keywords: Unpack[SetsOptions]
 ) -> pd.DataFrame:
     """The closed frequent itemsets: no larger itemset has the same count.
 
@@ -101,29 +50,12 @@ def closed(
     Pasquier, Bastide, Taouil and Lakhal, Discovering frequent closed itemsets for association
     rules, 1999.
     """
-    layout = Layout(basket, item, weight, names, missing, form, sep, header, weighted)
-    work = Work(miner, workers, limit, exact, progress)
-    return asked("closed", data, ["--min=" + minimum_word(minimum)], layout, work)
+    return asked("closed", data, ["--min=" + minimum_word(minimum)], keywords)
 
 
+@with_keywords
 def maximal(
-    data: Data,
-    minimum: Minimum,
-    *,
-    basket: Hashable | None = None,
-    item: Hashable | None = None,
-    weight: Hashable | None = None,
-    names: Labels | None = None,
-    missing: Missing = "refuse",
-    form: Form | None = None,
-    sep: str | None = None,
-    header: bool = False,
-    weighted: bool = False,
-    miner: Miner | None = None,
-    workers: int = 1,
-    limit: int | None = None,
-    exact: bool = False,
-    progress: bool = False,
+    data: Data, minimum: Minimum, **keywords: Unpack[SetsOptions]
 ) -> pd.DataFrame:
     """The maximal frequent itemsets: no larger itemset is frequent.
 
@@ -131,6 +63,4 @@ def maximal(
 
     Bayardo, Efficiently mining long patterns from databases, 1998.
     """
-    layout = Layout(basket, item, weight, names, missing, form, sep, header, weighted)
-    work = Work(miner, workers, limit, exact, progress)
-    return asked("maximal", data, ["--min=" + minimum_word(minimum)], layout, work)
+    return asked("maximal", data, ["--min=" + minimum_word(minimum)], keywords)

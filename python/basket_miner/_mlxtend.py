@@ -10,10 +10,10 @@ import numpy as np
 import pandas as pd
 
 from ._baskets import Baskets
-from ._calls import Miner
-from ._data import Layout, read
+from ._data import read
 from ._errors import DataError, InputError
 from ._frames import DROP_HINT, LONG_HINT, column_of
+from ._keywords import Miner
 from ._measures import MEASURES
 from ._program import run
 from ._report import sets_frame
@@ -59,7 +59,7 @@ def frequent(
 
 def _baskets(df: pd.DataFrame) -> Baskets:
     try:
-        return read(df, Layout())
+        return read(df, {})
     except DataError as fault:
         said = str(fault).removesuffix(DROP_HINT).removesuffix(LONG_HINT)
         hint = "; fill them with False first" if str(fault).endswith(DROP_HINT) else ""

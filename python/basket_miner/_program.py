@@ -27,6 +27,8 @@ _HOW_TO_GET_IT = (
 # Files of the program that told a version that fits, with what changes when they are written again.
 _FITTING: set[tuple[str, int, int, int]] = set()
 _SECONDS = 30
+# The file of the program that another process sent, if there is one.
+_KEPT: list[str] = []
 
 
 def find() -> Path:
@@ -34,7 +36,8 @@ def find() -> Path:
 
     The first of these that is there: what the environment variable `BASKET` names, the copy
     that a wheel brought inside this package, `basket` on the path, and the program as this
-    repository builds it. Other programs have the name too, so each is asked for its version.
+    repository builds it, and what `keep` kept. Other programs have the name too, so each is asked
+    for its version.
 
     Raises:
         ProgramMissing: there is none of a version that fits, or `BASKET` names none.
@@ -46,13 +49,21 @@ def find() -> Path:
             raise ProgramMissing(f"{fault}; {_HOW_TO_GET_IT}")
         return Path(found)
     faults = []
-    for place in (str(_PACKAGE / "bin/basket"), "basket", str(_BUILT)):
+    for place in (str(_PACKAGE / "bin/basket"), "basket", str(_BUILT), *_KEPT):
         if found := shutil.which(place):
             if not (fault := _fault_of(found)):
                 return Path(found)
             faults.append(fault)
     said = "; ".join(faults) or "the program basket is not here"
     raise ProgramMissing(f"{said}; {_HOW_TO_GET_IT}")
+
+
+def keep(content: bytes, folder: str) -> None:
+    """Writes the program into a folder, for this process where it finds no other."""
+    file = Path(folder, "basket")
+    file.write_bytes(content)
+    file.chmod(0o700)
+    _KEPT[:] = [str(file)]
 
 
 def _fault_of(file: str) -> str | None:

@@ -13,8 +13,10 @@ import pandas as pd
 from ._baskets import Baskets
 from ._data import Data
 from ._errors import DataError
-from ._frames import column_of, numbered
+from ._frames import column_of
+from ._numbering import numbered
 from ._rule_counts import RuleCounts, counts_of
+from ._tables import frame_of, is_table
 
 _FIGURES = ("lift", "confidence", "count")
 
@@ -149,6 +151,8 @@ def _baskets(
     data: Data, basket: Hashable | None, item: Hashable | None
 ) -> Iterator[tuple[Hashable, frozenset[Any]]]:
     """The baskets with their names."""
+    if is_table(data):
+        data = frame_of(data)
     if isinstance(data, pd.DataFrame):
         if (basket is None) != (item is None):
             raise DataError("a frame with a row an item needs both basket= and item=")

@@ -4,6 +4,7 @@ import contextlib
 import csv
 import gc
 import io
+import itertools
 from collections.abc import Iterable, Iterator, Sequence
 from dataclasses import dataclass
 from fractions import Fraction
@@ -82,7 +83,8 @@ def rules_frame(
 
     The columns are `antecedents` and `consequents` (`frozenset`), `count` (`int64`) and
     `support`, `confidence` and `lift` (`float64`, the floats nearest to the exact values); with
-    `exact` also `exact_support`, `exact_confidence` and `exact_lift`, of `Fraction`.
+    `exact` also `exact_support`, `exact_confidence` and `exact_lift`, of `Fraction`. Behind these
+    are `antecedent support` and `consequent support`, and with `exact` the same as `Fraction`.
     """
     if baskets.separator is None:
         found = _numbered_rules(report, baskets.labels, weight)
@@ -102,7 +104,28 @@ def rules_frame(
         columns["exact_support"] = _exact(found.counts, whole)
         columns["exact_confidence"] = _fractions(found.confidences)
         columns["exact_lift"] = _fractions(lifts)
+    sides = dict(zip(("antecedent", "consequent"), _side_counts(found, weight)))
+    columns |= {f"{side} support": counts / whole for side, counts in sides.items()}
+    if exact:
+        for side, counts in sides.items():
+            columns[f"exact_{side}_support"] = _exact(counts, whole)
     return pd.DataFrame(columns)
+
+
+def _side_counts(found: _Rules, weight: int) -> tuple[Array, Array]:
+    """What the baskets weigh that have the antecedents of each rule, and those with its consequents.
+
+    The confidence and the lift are quotients of these weights and the count, which give them back.
+    """
+    (sure, of_sure), (lift, of_lift) = found.confidences, found.lifts
+    both = found.counts.astype(sure.dtype)
+    left = both * of_sure // sure
+    if both.dtype == object:
+        right = both * weight * of_lift // (left * lift)
+    else:
+        # Floats, since the product above may have more than 64 bits; the weights are small here.
+        right = np.rint(both / left * weight / (lift / of_lift))
+    return left.astype(np.int64), right.astype(np.int64)
 
 
 def _numbered_sets(report: bytes, labels: Labels | None) -> tuple[list[Itemset], Array]:
@@ -154,15 +177,11 @@ def _numbers(report: bytes, is_large: bool = False) -> Array:
 
 def _split(items: Array, sizes: Array, labels: Labels | None) -> list[Itemset]:
     """The labels of items, cut into sets of these sizes."""
-    values = items.tolist()
+    values = iter(items.tolist())
     if labels is not None:
-        values = [*map(labels.__getitem__, values)]
-    stops = np.cumsum(sizes)
-    starts = stops - sizes
-    return [
-        frozenset(values[start:stop])
-        for start, stop in zip(starts.tolist(), stops.tolist())
-    ]
+        values = map(labels.__getitem__, values)
+    parts = map(itertools.islice, itertools.repeat(values), sizes.tolist())
+    return [frozenset(part) for part in parts]
 
 
 def _sides(items: Array, sizes: Array, labels: Labels | None) -> list[Itemset]:

@@ -1,35 +1,23 @@
 """The calls that list rules, and that count given itemsets."""
 
 from collections.abc import Hashable, Iterable
+from typing import Unpack
 
 import pandas as pd
 
-from ._baskets import Labels
-from ._calls import Miner, Work, asked, counted
-from ._data import Data, Form, Layout, Missing
+from ._calls import asked, counted
+from ._data import Data
 from ._frames import column_of
+from ._keywords import CountOptions, SetsOptions, with_keywords
 from ._minimum import Confidence, Minimum, confidence_word, minimum_word
 
 
+@with_keywords
 def rules(
     data: Data,
     minimum: Minimum,
     confidence: Confidence,
-    *,
-    basket: Hashable | None = None,
-    item: Hashable | None = None,
-    weight: Hashable | None = None,
-    names: Labels | None = None,
-    missing: Missing = "refuse",
-    form: Form | None = None,
-    sep: str | None = None,
-    header: bool = False,
-    weighted: bool = False,
-    miner: Miner | None = None,
-    workers: int = 1,
-    limit: int | None = None,
-    exact: bool = False,
-    progress: bool = False,
+    **keywords: Unpack[SetsOptions],
 ) -> pd.DataFrame:
     """The association rules between the two sides of frequent itemsets.
 
@@ -39,33 +27,22 @@ def rules(
     Returns a row for each rule: `antecedents` and `consequents` (each a `frozenset`), `count`
     (of the baskets that have both sides), `support` (this count as a share of all baskets),
     `confidence` (as a share of those that have the antecedents) and `lift` (the confidence over
-    the share of all baskets that have the consequents), and with `exact` also
-    `exact_support`, `exact_confidence` and `exact_lift`.
+    the share of all baskets that have the consequents), with `exact` also `exact_support`,
+    `exact_confidence` and `exact_lift`; then `antecedent support` and `consequent support` (the
+    shares of all baskets that have each side), with `exact` also `exact_antecedent_support` and
+    `exact_consequent_support`.
 
     Agrawal and Srikant, 1994; the lift is the interest of Brin, Motwani, Ullman and Tsur, 1997.
     """
-    layout = Layout(basket, item, weight, names, missing, form, sep, header, weighted)
-    work = Work(miner, workers, limit, exact, progress)
     words = ["--min=" + minimum_word(minimum), "--conf=" + confidence_word(confidence)]
-    return asked("rules", data, words, layout, work)
+    return asked("rules", data, words, keywords)
 
 
+@with_keywords
 def count(
     data: Data,
     sets: pd.DataFrame | Iterable[Iterable[Hashable]],
-    *,
-    basket: Hashable | None = None,
-    item: Hashable | None = None,
-    weight: Hashable | None = None,
-    names: Labels | None = None,
-    missing: Missing = "refuse",
-    form: Form | None = None,
-    sep: str | None = None,
-    header: bool = False,
-    weighted: bool = False,
-    workers: int = 1,
-    exact: bool = False,
-    progress: bool = False,
+    **keywords: Unpack[CountOptions],
 ) -> pd.DataFrame:
     """The supports of given itemsets, frequent or not.
 
@@ -79,7 +56,5 @@ def count(
 
     Raises `DataError` where the data or the itemsets do not fit, else what the program ends with.
     """
-    layout = Layout(basket, item, weight, names, missing, form, sep, header, weighted)
     given = column_of(sets, "itemsets") if isinstance(sets, pd.DataFrame) else sets
-    work = Work(workers=workers, exact=exact, progress=progress)
-    return counted(data, given, layout, work)
+    return counted(data, given, keywords)

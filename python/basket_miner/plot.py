@@ -8,7 +8,7 @@ who don't tell all colours apart; colours of lines are of the palette of Okabe a
 
 from collections.abc import Iterable
 from fractions import Fraction
-from typing import Any
+from typing import Any, Unpack
 
 import numpy as np
 import pandas as pd
@@ -17,6 +17,7 @@ from matplotlib.lines import Line2D
 
 from ._errors import DataError
 from ._itemsets import sets
+from ._keywords import SetsOptions, with_keywords
 from ._minimum import Minimum, exact_minimum, least_count
 from ._picture import (
     COLOURS,
@@ -105,8 +106,12 @@ def _name_strongest(frame: pd.DataFrame, axes: Axes, most: int) -> None:
     put_labels(axes, names, marks)
 
 
+@with_keywords
 def minimums(
-    data: Any, minimums: Iterable[Minimum], axes: Axes | None = None, **options: Any
+    data: Any,
+    minimums: Iterable[Minimum],
+    axes: Axes | None = None,
+    **keywords: Unpack[SetsOptions],
 ) -> Axes:
     """How many frequent itemsets there are at each of some minimums, by size.
 
@@ -115,7 +120,6 @@ def minimums(
             or what it takes, and then it is asked once, at the least of them.
         minimums: counts alone or shares alone, as `basket_miner.sets` takes them.
         axes: where to draw; else on a new figure.
-        options: of `basket_miner.sets`, as `basket=` and `item=`.
 
     Raises:
         DataError: there is no minimum, one doesn't fit, counts and shares are mixed, or the frame
@@ -127,7 +131,7 @@ def minimums(
         raise DataError("minimums are counts alone or shares alone, and at least one")
     is_count = isinstance(asked[0], int)
     if not {"itemsets", "count", "support"} <= set(getattr(data, "columns", ())):
-        data = sets(data, asked[0], **options)
+        data = sets(data, asked[0], **keywords)
     places = [float(minimum if is_count else 100 * minimum) for minimum in asked]
     axes = axes_of(axes, 7.0, 4.5)
     *sizes, (name, counts) = _sizes(data, asked).items()

@@ -1,5 +1,5 @@
 # mypy: allow-untyped-calls
-"""A cluster for all tests of parts, and a browser for those of the page of rules."""
+"""A cluster for all tests of parts, a browser for those of the page of rules, and a database."""
 
 from collections.abc import Iterator
 from pathlib import Path
@@ -10,6 +10,7 @@ from selenium import webdriver
 
 from basket_miner import explore, rules
 from browser import opened
+from database import served, server_folder
 
 RECEIPTS = Path(__file__).parents[2] / "examples/receipts.csv"
 
@@ -25,6 +26,17 @@ def client() -> Iterator[Client]:
 @pytest.fixture(scope="session")
 def browser() -> Iterator[webdriver.Chrome]:
     with opened() as found:
+        yield found
+
+
+@pytest.fixture(scope="session")
+def database() -> Iterator[dict[str, str]]:
+    """The environment in which psql finds a server that is the tests' own."""
+    if (programs := server_folder()) is None:
+        pytest.skip(
+            "Debian's postgresql is not here: tools/python-packages installs it"
+        )
+    with served(programs) as found:
         yield found
 
 

@@ -17,7 +17,7 @@ from distributed import Client
 
 import basket_miner
 from basket_miner import cluster
-from basket_miner._cluster_keys import keys_of
+from basket_miner.cluster._keys import keys_of
 
 COLUMNS: dict[str, Any] = {"basket": "receipt", "item": "product"}
 PAIR = [[{"tea"}, 40, 1.0], [{"jam"}, 40, 1.0], [{"tea", "jam"}, 40, 1.0]]
@@ -125,9 +125,9 @@ def test_a_client_that_cannot_be_asked_is_refused(client: Client) -> None:
                 cluster.sets(["part"], 2, client=other)
 
     client.sync(asked)
-    nobody: Any = None
+    other: Any = address
     for call in (cluster.sets, cluster.closed):
         with pytest.raises(basket_miner.DataError, match="client= is a"):
-            call(["part"], 2, client=nobody)
+            call(["part"], 2, client=other)
     with pytest.raises(basket_miner.DataError, match="client= is a"):
-        cluster.report(["part"], "sets", "--min=2", client=nobody)
+        cluster.report(["part"], "sets", "--min=2", client=other)

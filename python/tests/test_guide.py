@@ -97,9 +97,17 @@ def printed_by(block: Block, names: dict[str, Any]) -> str:
 
 @pytest.mark.parametrize("block", blocks(), ids=lambda block: f"line {block.line}")
 def test_a_block_prints_what_the_guide_shows(
-    block: Block, place: Path, names_in: Callable[[str], dict[str, Any]]
+    block: Block,
+    place: Path,
+    names_in: Callable[[str], dict[str, Any]],
+    request: pytest.FixtureRequest,
+    monkeypatch: pytest.MonkeyPatch,
 ) -> None:
-    if block.needed and importlib.util.find_spec(block.needed) is None:
+    if block.needed == "psql":
+        # The blocks share one database, as they share a folder.
+        for name, value in request.getfixturevalue("database").items():
+            monkeypatch.setenv(name, value)
+    elif block.needed and importlib.util.find_spec(block.needed) is None:
         pytest.skip(f"{block.needed} is not here")
     if block.language == "r" and shutil.which("Rscript") is None:
         pytest.skip("R is not here")
@@ -122,7 +130,7 @@ def test_the_first_block_gives_the_rules_that_readme_shows(place: Path) -> None:
         count, confidence, lift, _, left, right = line.split(",")
         figures = int(count), float(Fraction(confidence)), float(Fraction(lift))
         wanted.append((frozenset({left}), frozenset({right}), *figures))
-    found = names["found"].drop(columns="support")
+    found = names["found"].drop(columns="support").iloc[:, :5]
     assert list(found.itertuples(index=False, name=None)) == wanted
 
 

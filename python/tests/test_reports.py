@@ -2,11 +2,13 @@
 
 import itertools
 import random
+from dataclasses import replace
 from fractions import Fraction
 from pathlib import Path
 from typing import Any
 
 import brute
+import pandas as pd
 import pytest
 
 import basket_miner as miner
@@ -33,7 +35,15 @@ def test_the_rules_of_the_small_shop_are_those_of_the_readme() -> None:
         "exact_support": [Fraction(7, 15), Fraction(1, 3), Fraction(1, 5)],
         "exact_confidence": [Fraction(7, 10), Fraction(5, 7), Fraction(1)],
         "exact_lift": [Fraction(7, 8), Fraction(25, 28), Fraction(5, 4)],
+        "antecedent support": [10 / 15, 7 / 15, 3 / 15],
+        "consequent support": [12 / 15, 12 / 15, 12 / 15],
+        "exact_antecedent_support": [Fraction(2, 3), Fraction(7, 15), Fraction(1, 5)],
+        "exact_consequent_support": [Fraction(4, 5)] * 3,
     }
+    columns = [*frame]
+    assert columns[:6] == [
+        *("antecedents", "consequents", "count", "support", "confidence", "lift")
+    ]
 
 
 def test_closed_and_maximal_sets_are_those_of_the_readme() -> None:
@@ -54,6 +64,8 @@ def test_names_from_csv_are_labels() -> None:
         "support": [7 / 15, 3 / 15, 5 / 15],
         "confidence": [7 / 10, 1.0, 5 / 7],
         "lift": [7 / 8, 5 / 4, 25 / 28],
+        "antecedent support": [10 / 15, 3 / 15, 7 / 15],
+        "consequent support": [12 / 15, 12 / 15, 12 / 15],
     }
 
 
@@ -68,6 +80,39 @@ def test_each_miner_gives_the_rules_of_brute_force(name: Any, workers: int) -> N
     for name in ("support", "confidence", "lift"):
         exact = frame[f"exact_{name}"]
         assert frame[name].tolist() == [top / down for top, down in map(parts, exact)]
+
+
+@pytest.mark.parametrize("most", [1, 3, 2**24, 2**32 - 1])
+@pytest.mark.parametrize("total", [None, 2**39])
+def test_the_supports_of_the_sides_are_those_of_brute_force(
+    most: int, total: int | None, tmp_path: Path
+) -> None:
+    chance = random.Random(most)
+    baskets = [chance.sample("abcdef", chance.randint(1, 5)) for _ in range(40)]
+    weights = [chance.randint(max(most - 5, 1), most) for _ in baskets]
+    path = tmp_path / "baskets.csv"
+    lines = zip(weights, baskets)
+    path.write_text("".join(f"{n},{','.join(names)}\n" for n, names in lines))
+    rows = pd.DataFrame(
+        [
+            (place, weight, name)
+            for place, (weight, names) in enumerate(zip(weights, baskets))
+            for name in names
+        ],
+        columns=["receipt", "times", "product"],
+    )
+    supports = brute.supports(baskets, weights)
+    whole = total or supports[frozenset()]
+    for data in (
+        miner.baskets(rows, basket="receipt", item="product", weight="times"),
+        miner.baskets(path, form="baskets", weighted=True),
+    ):
+        found = miner.rules(replace(data, total=total), 3 * most, 0.5, exact=True)
+        assert len(found) > 9
+        for side in ("antecedent", "consequent"):
+            shares = [Fraction(supports[names], whole) for names in found[f"{side}s"]]
+            assert found[f"exact_{side}_support"].tolist() == shares
+            assert found[f"{side} support"].tolist() == [*map(float, shares)]
 
 
 def parts(share: Fraction) -> tuple[int, int]:

@@ -24,11 +24,12 @@ def test_itemsets_become_a_row_for_each_item() -> None:
 def test_rules_become_a_row_for_each_item_of_a_side() -> None:
     found = tidy(rules(BASKETS, 2, 0.9))
     assert list(found.columns) == [
-        *("rule", "side", "item", "count", "support", "confidence", "lift")
+        *("rule", "side", "item", "count", "support", "confidence", "lift"),
+        *("antecedent support", "consequent support"),
     ]
     assert found.to_numpy().tolist() == [
-        [0, "antecedent", "tea", 2, 2 / 3, 1.0, 1.0],
-        [0, "consequent", "milk", 2, 2 / 3, 1.0, 1.0],
+        [0, "antecedent", "tea", 2, 2 / 3, 1.0, 1.0, 2 / 3, 1.0],
+        [0, "consequent", "milk", 2, 2 / 3, 1.0, 1.0, 2 / 3, 1.0],
     ]
 
 

@@ -21,6 +21,8 @@ print(basket_miner.sets([["tea", "jam"], ["tea"]], 0.6)["support"].tolist())
 print(basket_miner.__version__)
 found = basket_miner.rules([["tea", "jam"]], 1, 0.5)
 print(basket_miner.explore(found, "rules.html").stat().st_size > 10_000)
+from basket_miner import cluster
+print(cluster.sets.__name__)
 """
 
 
@@ -61,7 +63,7 @@ def test_a_wheel_has_the_program_and_needs_nothing_of_the_repository(
     python = fresh(tmp_path / "fresh")
     output_of(python, *PIP, wheel, folder=tmp_path)
     said = output_of(python, "-c", SCRIPT, folder=tmp_path)
-    assert said.splitlines() == ["bin/basket", "[1.0]", __version__, "True"]
+    assert said.splitlines() == ["bin/basket", "[1.0]", __version__, "True", "sets"]
 
 
 def test_the_tag_of_a_wheel_is_that_of_the_oldest_c_library(wheel: Path) -> None:
@@ -86,7 +88,7 @@ def test_pip_installs_the_package_beside_a_program(tmp_path: Path) -> None:
     script = SCRIPT.replace(".relative_to(Path(basket_miner.__file__).parent)", "")
     program = str(_program.find().resolve())
     said = output_of(python, "-c", script, folder=tmp_path, program=program)
-    assert said.splitlines() == [program, "[1.0]", __version__, "True"]
+    assert said.splitlines() == [program, "[1.0]", __version__, "True", "sets"]
 
 
 def test_the_package_has_the_version_of_the_program(wheel: Path) -> None:

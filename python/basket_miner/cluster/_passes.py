@@ -17,11 +17,11 @@ from typing import Any
 
 from distributed import Client, Future
 
-from ._cluster_parts import Parts
-from ._cluster_question import Question
-from ._cluster_tasks import Tasks, awaited, tree
-from ._errors import BasketError
-from ._program import run
+from .._errors import BasketError
+from .._program import run
+from ._parts import Parts
+from ._question import Question
+from ._tasks import Tasks, awaited, tree
 
 # The greatest denominator of a share that the program reads.
 MOST = 4_294_967_295

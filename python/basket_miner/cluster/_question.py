@@ -6,9 +6,9 @@ from collections.abc import Sequence
 from dataclasses import dataclass
 from typing import NoReturn
 
-from ._data import Layout
-from ._errors import UsageError
-from ._program import run
+from .._errors import UsageError
+from .._keywords import PartLayout
+from .._program import run
 
 _COMMANDS = ("items", "sets", "closed", "maximal", "rules")
 _OPTIONS = ("min", "conf", "limit", "miner", "workers", "pieces")
@@ -32,7 +32,7 @@ class Question:
     deciding: tuple[str, ...]
     mining: tuple[str, ...]
     counting: tuple[str, ...]
-    layout: Layout
+    layout: PartLayout
 
     @property
     def first(self) -> str:
@@ -73,7 +73,7 @@ def question_of(words: Sequence[str]) -> Question:
         kept("min", "conf", "limit"),
         kept("miner", "workers", "pieces"),
         kept("workers", "pieces"),
-        Layout(
+        PartLayout(
             form=given["form"],
             sep=given["sep"],
             header=given["header"],

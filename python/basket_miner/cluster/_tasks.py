@@ -11,7 +11,7 @@ from typing import Any
 from distributed import Client, Future
 from distributed import progress as engine_bar
 
-from ._ending import end, working_for
+from .._ending import end, working_for
 
 # How many results one task puts together.
 WIDTH = 8

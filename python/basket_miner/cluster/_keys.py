@@ -9,8 +9,8 @@ from typing import Any
 import numpy as np
 import pandas as pd
 
-from ._baskets import Array
-from ._frames import is_missing
+from .._baskets import Array
+from .._numbering import is_missing
 
 _SECOND = datetime.timedelta(seconds=1)
 

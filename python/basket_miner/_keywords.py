@@ -1,0 +1,225 @@
+"""The keywords that the public calls share: the type, the default and the meaning of each, once."""
+
+import difflib
+import functools
+import inspect
+import textwrap
+from collections.abc import Callable, Hashable, Mapping
+from typing import (
+    Annotated,
+    Any,
+    Literal,
+    NamedTuple,
+    TypedDict,
+    TypeVar,
+    cast,
+    get_args,
+    get_type_hints,
+)
+
+from ._baskets import Labels
+
+Missing = Literal["refuse", "drop"]
+Form = Literal["fimi", "baskets", "single"]
+Miner = Literal["apriori", "eclat", "eclat-diff", "eclat-bits", "fpgrowth"]
+
+# What other packages call a keyword.
+_ELSEWHERE = {
+    "algorithm": "miner",
+    "format": "form",
+    "min_confidence": "confidence",
+    "min_support": "minimum",
+    "n_jobs": "workers",
+    "separator": "sep",
+}
+
+Call = TypeVar("Call", bound=Callable[..., Any])
+Options = TypeVar("Options")
+
+
+class Keyword(NamedTuple):
+    """What is beside the type of a keyword: its default, and what help says of it."""
+
+    default: Any
+    said: str
+
+
+class PartLayout(TypedDict, total=False):
+    """How the baskets lie in a frame, in a file, or in parts of these."""
+
+    basket: Annotated[
+        Hashable | None,
+        Keyword(None, "of a frame with a row an item: the column of the basket's id."),
+    ]
+    item: Annotated[Hashable | None, Keyword(None, "the column of the item.")]
+    weight: Annotated[
+        Hashable | None,
+        Keyword(
+            None,
+            "the column of the basket's weight, a whole number from 1 to 4,294,967,295.",
+        ),
+    ]
+    missing: Annotated[
+        Missing,
+        Keyword(
+            "refuse", 'missing values are an error ("refuse") or left out ("drop").'
+        ),
+    ]
+    form: Annotated[
+        Form | None,
+        Keyword(
+            None,
+            'of a file: "fimi", or of CSV "baskets" (a basket a record) or "single" (a basket\'s '
+            "id and an item a record).",
+        ),
+    ]
+    sep: Annotated[
+        str | None,
+        Keyword(
+            None,
+            'of CSV: "comma", "semicolon", "tab" or "pipe", or that character; without it a comma.',
+        ),
+    ]
+    header: Annotated[bool, Keyword(False, "of CSV: the first record is a header.")]
+    weighted: Annotated[
+        bool, Keyword(False, 'of CSV "baskets": a record begins with its weight.')
+    ]
+
+
+class Layout(PartLayout, total=False):
+    """How the baskets lie in what is given."""
+
+    names: Annotated[
+        Labels | None,
+        Keyword(None, "of a sparse matrix: the labels of its columns."),
+    ]
+
+
+class Run(TypedDict, total=False):
+    """How the program runs, and what the frame has."""
+
+    workers: Annotated[int, Keyword(1, "how many threads there are, from 1 to 64.")]
+    exact: Annotated[
+        bool, Keyword(False, "adds columns of fractions.Fraction beside the floats.")
+    ]
+    progress: Annotated[
+        bool,
+        Keyword(False, "shows what runs, in a terminal or a notebook."),
+    ]
+
+
+class Work(Run, total=False):
+    """How the program mines, and what the frame has."""
+
+    miner: Annotated[
+        Miner | None,
+        Keyword(
+            None,
+            '"apriori" (the default), "eclat", "eclat-diff", "eclat-bits" or "fpgrowth"; only time '
+            "and memory differ.",
+        ),
+    ]
+    limit: Annotated[
+        int | None,
+        Keyword(
+            None, "how many itemsets there may be; with more, TooManySets is raised."
+        ),
+    ]
+
+
+class SetsOptions(Layout, Work):
+    """The keywords of the calls that list itemsets and rules."""
+
+
+class CountOptions(Layout, Run):
+    """The keywords of `count`."""
+
+
+class BasketsOptions(Layout, total=False):
+    """The keywords of `baskets`."""
+
+    total: Annotated[
+        int | None,
+        Keyword(None, "how many baskets there are, those without an item included."),
+    ]
+
+
+class PartOptions(PartLayout, Work):
+    """The keywords of the calls that ask parts."""
+
+
+class PrepareOptions(PartLayout, total=False):
+    """The keywords of `cluster.prepare`."""
+
+    progress: Annotated[
+        bool, Keyword(False, "shows the engine's bar while a bag or a frame is read.")
+    ]
+
+
+def keywords_of(kind: type) -> Mapping[str, tuple[Any, Keyword]]:
+    """The type of each keyword of a kind, and what is beside it."""
+    hints = get_type_hints(kind, include_extras=True)
+    return {name: get_args(hint) for name, hint in hints.items()}  # type: ignore[misc]
+
+
+def filled(kind: type[Options], given: Mapping[str, object]) -> Options:
+    """All keywords of a kind: those that are given, and the defaults of the others."""
+    known = keywords_of(kind)
+    values = {name: given.get(name, word.default) for name, (_, word) in known.items()}
+    return cast(Options, values)
+
+
+def changed(kind: type, given: Mapping[str, object]) -> list[str]:
+    """The names of the keywords of a kind that are given and don't have their defaults."""
+    return [
+        name
+        for name, (_, word) in keywords_of(kind).items()
+        if not _is_default(given.get(name), word.default)
+    ]
+
+
+def _is_default(value: Any, default: Any) -> bool:
+    # A column's label or the names of columns may be equal to nothing, or to an array.
+    return value is None or (isinstance(value, (bool, str)) and value == default)
+
+
+def with_keywords(call: Call) -> Call:
+    """Lets a call with `**keywords` of a kind show each of them, and refuse others by name."""
+    signature = inspect.signature(call)
+    own = [*signature.parameters.values()][:-1]
+    (kind,) = get_args(call.__annotations__["keywords"])
+    known = keywords_of(kind)
+    names = [parameter.name for parameter in own] + [*known]
+
+    @functools.wraps(call)
+    def checked(*given: Any, **keywords: Any) -> Any:
+        for name in keywords:
+            if name not in names:
+                raise TypeError(_refusal(call.__name__, name, names))
+        return call(*given, **keywords)
+
+    added = [
+        inspect.Parameter(
+            name, inspect.Parameter.KEYWORD_ONLY, default=word.default, annotation=hint
+        )
+        for name, (hint, word) in known.items()
+    ]
+    checked.__signature__ = signature.replace(parameters=own + added)  # type: ignore[attr-defined]
+    lines = [_wrapped(f"{name}: {word.said}") for name, (_, word) in known.items()]
+    told = inspect.cleandoc(call.__doc__ or "")
+    checked.__doc__ = "\n".join([told, "", "Keywords:", *lines])
+    return cast(Call, checked)
+
+
+def _refusal(call: str, name: str, names: list[str]) -> str:
+    near = difflib.get_close_matches(name, names, n=1)
+    near = near or [own for own in [_ELSEWHERE.get(name)] if own in names]
+    hint = f"; did you mean {near[0]!r}?" if near else "."
+    return (
+        f"{call}() got an unexpected keyword argument {name!r}{hint} It takes "
+        f"{', '.join(names)}."
+    )
+
+
+def _wrapped(text: str) -> str:
+    return textwrap.fill(text, 88, initial_indent="    ", subsequent_indent="        ")

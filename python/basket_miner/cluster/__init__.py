@@ -1,0 +1,169 @@
+# mypy: allow-untyped-calls
+"""The package's questions over parts of the baskets, on a cluster of Dask's distributed engine.
+
+Parts are one of these:
+
+- a list of files, FIMI or CSV, that all workers can read by these names;
+- a Dask data frame with a row for each item of a basket, of which `basket=` and `item=` name the
+  columns: it is shuffled by its baskets first, so that no basket is cut;
+- a list of delayed parts or of futures, each a data frame of such rows;
+- without `basket=` and `item=` whole baskets: a `dask.bag` of them, a Dask data frame with a column
+  of true and false for each item, or a list of delayed parts or of futures, each of which is what
+  `basket_miner.sets` takes, but no file.
+
+Without `client=` the client is the current one, as Dask finds it. The workers need this package, in
+one version everywhere. Those that have no program get that of this machine. What is missing is said
+with the worker's name (`ProgramMissing`).
+
+Two passes go over the parts. First each part is asked for the sets that are frequent in it at
+the share; then the sets that some part has are counted in each. The counts are added up, a few
+parts at a time, and the question is asked of the sums. Each step is a run of the program. The
+answer is, byte for byte, that of one run over all parts one behind another: the law of parts,
+which is proved of the program, says so of everything but the engine's moving of the bytes from
+one run to the next, and of CSV files, that counts by names are read back as they were written,
+which is tested. A minimum that is a count takes a pass more, in front: the weights of the
+parts, whose sum makes a share of the count.
+
+Items of bags and frames are numbered before the passes, from 0, by first appearance over the
+parts in their order. Names of CSV files stay names. A worker that is lost is the engine's to
+handle: it runs the lost steps again. If a question is interrupted or fails, its runs of the
+program end, on all workers.
+"""
+
+from typing import Any, Unpack
+
+import pandas as pd
+from distributed import Client
+
+from .._baskets import Baskets
+from .._calls import words_of
+from .._keywords import PartOptions, PrepareOptions, Run, filled, with_keywords
+from .._minimum import Confidence, Minimum, confidence_word, minimum_word
+from .._report import rules_frame, sets_frame
+from ._parts import Parts, prepared
+from ._passes import answered
+from ._question import question_of
+from ._workers import client_of
+
+__all__ = ["Parts", "closed", "maximal", "prepare", "report", "rules", "sets"]
+
+
+@with_keywords
+def prepare(
+    parts: Any, *, client: Client | None = None, **keywords: Unpack[PrepareOptions]
+) -> Parts:
+    """Parts that several questions can be asked of, without being read and shuffled again.
+
+    Args:
+        parts: as this module says. Files are all alike, each with its own header; those of
+            `form="single"` may cut a basket, and are refused.
+        client: of the cluster; without it the current one, as Dask finds it.
+
+    Returns:
+        The parts, for the first argument of the other calls. Their `labels` say what the numbers
+        in `report` stand for; of files, which have numbers themselves, they are `None`.
+
+    Raises:
+        DataError: the parts are none of these, there is none, they have bad values, or a keyword
+            does not go with them.
+    """
+    asked = client_of(client)
+    return prepared(parts, asked, keywords, keywords.get("progress", False))
+
+
+def report(
+    parts: Any, *words: str, client: Client | None = None, progress: bool = False
+) -> bytes:
+    """The report of the program over all parts, in its bytes.
+
+    Args:
+        parts: as this module says, or what `prepare` returns.
+        words: those of the program without a file, as `"rules", "--min", "1%", "--conf", "1/2"`.
+            `--form`, `--sep`, `--header` and `--weight` are how files are written; `--miner`,
+            `--workers` and `--pieces` how each part is mined; `--limit` bounds the sets of the
+            whole.
+        client: of the cluster; without it the current one, as Dask finds it.
+        progress: shows the engine's bar.
+
+    Raises:
+        UsageError: the words are no such question, or the program refuses them.
+        BasketError: as the program ends over a part, which is named, or over the counts.
+    """
+    asked, question = client_of(client), question_of(words)
+    ready = prepared(parts, asked, question.layout, progress)
+    return answered(asked, ready, question, progress).report
+
+
+@with_keywords
+def sets(
+    parts: Any,
+    minimum: Minimum,
+    *,
+    client: Client | None = None,
+    **keywords: Unpack[PartOptions],
+) -> pd.DataFrame:
+    """The frequent itemsets over all parts: the frame that `basket_miner.sets` gives.
+
+    Args:
+        parts: as this module says, or what `prepare` returns.
+        minimum: a count or a share of all baskets, as `basket_miner.sets` takes it.
+        client: of the cluster; without it the current one, as Dask finds it.
+
+    Raises:
+        BasketError: as `prepare` and `report` do; `TooManySets` above the limit, which is that of
+            the whole.
+    """
+    return _frame(["sets", "--min=" + minimum_word(minimum)], parts, client, keywords)
+
+
+@with_keywords
+def closed(
+    parts: Any,
+    minimum: Minimum,
+    *,
+    client: Client | None = None,
+    **keywords: Unpack[PartOptions],
+) -> pd.DataFrame:
+    """The closed itemsets over all parts, as `basket_miner.closed`; arguments as in `sets`."""
+    return _frame(["closed", "--min=" + minimum_word(minimum)], parts, client, keywords)
+
+
+@with_keywords
+def maximal(
+    parts: Any,
+    minimum: Minimum,
+    *,
+    client: Client | None = None,
+    **keywords: Unpack[PartOptions],
+) -> pd.DataFrame:
+    """The maximal itemsets over all parts, as `basket_miner.maximal`; arguments as in `sets`."""
+    words = ["maximal", "--min=" + minimum_word(minimum)]
+    return _frame(words, parts, client, keywords)
+
+
+@with_keywords
+def rules(
+    parts: Any,
+    minimum: Minimum,
+    confidence: Confidence,
+    *,
+    client: Client | None = None,
+    **keywords: Unpack[PartOptions],
+) -> pd.DataFrame:
+    """The rules over all parts, as `basket_miner.rules`; other arguments as in `sets`."""
+    words = ["rules", "--min=" + minimum_word(minimum)]
+    words += ["--conf=" + confidence_word(confidence)]
+    return _frame(words, parts, client, keywords)
+
+
+def _frame(
+    words: list[str], parts: Any, client: Client | None, options: PartOptions
+) -> pd.DataFrame:
+    asked, run_so = client_of(client), filled(Run, options)
+    ready = prepared(parts, asked, options, run_so["progress"])
+    question = question_of([*words, *words_of(options)])
+    answer = answered(asked, ready, question, run_so["progress"])
+    baskets = Baskets(b"", labels=ready.labels, separator=ready.separator)
+    if question.command == "rules":
+        return rules_frame(answer.report, baskets, answer.total, exact=run_so["exact"])
+    return sets_frame(answer.report, baskets, answer.total, exact=run_so["exact"])

@@ -1,0 +1,191 @@
+# mypy: allow-untyped-calls
+"""Parts of the baskets where the workers of a cluster can read them."""
+
+import os
+from collections.abc import Iterable, Sequence
+from dataclasses import dataclass
+from functools import partial
+from pathlib import Path
+from typing import Any
+
+import dask.config
+from dask.bag.core import Bag
+from dask.base import is_dask_collection
+from dask.delayed import Delayed, delayed
+from distributed import Client, Future
+
+from .._data import SEPARATOR_WORDS, read
+from .._errors import DataError
+from .._frames import place_of
+from .._keywords import Layout, PartLayout, changed, filled
+from ._tasks import awaited, tree
+from ._texts import (
+    KEY,
+    Labels,
+    joined,
+    labels_of,
+    labels_of_rows,
+    no_rows,
+    numbered_rows,
+    read_part,
+    rows_of,
+    same,
+    text_of,
+    text_of_rows,
+)
+from ._workers import demand_program
+
+
+@dataclass(frozen=True)
+class Parts:
+    """Parts that can be asked several questions.
+
+    The engine keeps the text of each part of a bag or a frame until this is dropped.
+
+    Args:
+        texts: for each part its file, or the future of its FIMI text.
+        labels: the label of each number in a report, from 0 on; nothing where parts are files.
+        words: the options of the program that say how files are written.
+        separator: of a report that is CSV, else nothing.
+    """
+
+    texts: Sequence[Path | Future]
+    labels: Labels | None = None
+    words: tuple[str, ...] = ()
+    separator: str | None = None
+
+    @property
+    def counts(self) -> tuple[str, ...]:
+        """The options that say how the counts of parts are written."""
+        if self.separator is None:
+            return ("--form=counts",)
+        return "--form=csv-counts", f"--sep={SEPARATOR_WORDS[self.separator]}"
+
+
+def prepared(
+    parts: Any, client: Client, keywords: PartLayout, progress: bool = False
+) -> Parts:
+    """The parts of whatever a public call takes.
+
+    Raises:
+        DataError: they are none of these, there is none, they have bad values, or a keyword does
+            not go with them.
+        ProgramMissing: a worker lacks something, which is named.
+    """
+    layout = filled(Layout, keywords)
+    demand_program(client)
+    if isinstance(parts, Parts):
+        if changed(Layout, layout):
+            raise DataError("the parts are prepared: how they lie was said before")
+        return parts
+    if isinstance(parts, Bag):
+        lists = [delayed(list)(part) for part in parts.to_delayed()]
+        return _baskets(lists, client, layout, progress)
+    if is_dask_collection(parts) and type(parts).__name__ == "DataFrame":
+        return _frame(parts, client, layout, progress)
+    is_one = isinstance(parts, (str, bytes, os.PathLike)) or is_dask_collection(parts)
+    if is_one or not isinstance(parts, Iterable):
+        raise DataError(
+            "parts are a list of files, of delayed parts or of futures, a dask.bag of baskets or "
+            f"a Dask data frame, not {type(parts).__name__}"
+        )
+    listed = list(parts)
+    if listed and all(isinstance(part, (Delayed, Future)) for part in listed):
+        return _listed(listed, client, layout, progress)
+    return _files(listed, layout)
+
+
+def _files(names: list[Any], layout: Layout) -> Parts:
+    if not names:
+        raise DataError("there is no part")
+    for name in names:
+        if not isinstance(name, (str, os.PathLike)):
+            raise DataError(
+                "parts are names of files alone, or delayed parts and futures alone, and one is "
+                f"of the type {type(name).__name__}"
+            )
+    if layout["form"] == "single":
+        raise DataError(
+            "files of a row an item may cut a basket: read them as a Dask data frame "
+            "(dask.dataframe.read_csv), which brings the rows of a basket together"
+        )
+    read_so = [read(name, layout) for name in names]
+    files = [Path(os.path.abspath(os.path.expanduser(name))) for name in names]
+    for file in files:
+        is_plain = os.path.isfile(file) or os.path.isdir(file)
+        if os.path.exists(file) and not is_plain:
+            raise DataError(f"{file} is no file that can be read several times")
+    return Parts(files, words=read_so[0].words, separator=read_so[0].separator)
+
+
+def _listed(
+    parts: list[Delayed | Future], client: Client, layout: Layout, progress: bool
+) -> Parts:
+    """Delayed parts and futures: frames with a row an item, which may cut baskets, or whole baskets."""
+    if layout["basket"] is None and layout["item"] is None:
+        return _baskets(parts, client, layout, progress)
+    # Here, since it takes a second.
+    from dask.dataframe import from_delayed  # type: ignore[attr-defined]
+
+    frames = [client.submit(rows_of, part) for part in _futures(parts, client)]
+    meta = awaited(client.submit(no_rows, frames[0]), progress)
+    frame = from_delayed(frames, meta=meta, verify_meta=False)
+    return _frame(frame, client, layout, progress)
+
+
+def _futures(parts: Iterable[Delayed | Future], client: Client) -> list[Future]:
+    return [
+        part if isinstance(part, Future) else client.compute(part) for part in parts
+    ]
+
+
+def _baskets(
+    parts: Iterable[Delayed | Future], client: Client, layout: Layout, progress: bool
+) -> Parts:
+    """Parts that have whole baskets each: iterables of them, frames with a column an item, matrices."""
+    read_so = [
+        client.submit(read_part, part, layout, pure=False)
+        for part in _futures(parts, client)
+    ]
+    found = [client.submit(labels_of, part, pure=False) for part in read_so]
+    labels = _all_labels(found, client, progress)
+    numbering = client.submit(same, labels, pure=False)
+    texts = [client.submit(text_of, part, numbering, pure=False) for part in read_so]
+    return Parts(texts, labels)
+
+
+def _frame(frame: Any, client: Client, layout: Layout, progress: bool) -> Parts:
+    if layout["basket"] is None and layout["item"] is None:
+        return _baskets(frame.to_delayed(), client, layout, progress)
+    if layout["basket"] is None or layout["item"] is None:
+        raise DataError("a frame with a row an item needs both basket= and item=")
+    names = [layout["basket"], layout["item"]]
+    names += [] if layout["weight"] is None else [layout["weight"]]
+    for name in names:
+        place_of(frame.columns, name)
+    kept = client.persist(frame[names])
+    found = [
+        client.submit(labels_of_rows, part, layout, pure=False)
+        for part in client.compute(kept.to_delayed())
+    ]
+    labels = _all_labels(found, client, progress)
+    numbering = client.submit(same, labels, pure=False)
+    meta = numbered_rows(frame._meta, [], layout)
+    # The shuffle for several machines, by tasks, which the engine can repeat.
+    with client.as_current(), dask.config.set(shuffle="tasks"):
+        rows = kept.map_partitions(numbered_rows, numbering, layout, meta=meta)
+        whole = rows.shuffle(KEY).to_delayed()
+    return Parts(
+        client.compute([delayed(text_of_rows)(part) for part in whole]), labels
+    )
+
+
+def _all_labels(parts: list[Future], client: Client, progress: bool) -> Labels:
+    """All of the labels of parts, by first appearance over the parts in their order.
+
+    The client has them, and a task whose words they are gives them to the workers. So they stay
+    the same whatever is lost: the order of a set differs from process to process.
+    """
+    submit = partial(client.submit, pure=False)
+    labels: Labels = awaited(tree(submit, joined, parts), progress)
+    return labels

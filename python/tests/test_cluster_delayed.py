@@ -1,0 +1,129 @@
+# mypy: allow-untyped-calls
+"""Parts that are delayed or futures, and clients as Dask finds them."""
+
+import subprocess
+import sys
+from pathlib import Path
+from typing import Any
+
+import pandas as pd
+import pytest
+import scipy.sparse
+from dask.dataframe.io.io import from_pandas
+from dask.delayed import delayed
+from distributed import Client, worker_client
+
+import basket_miner
+from basket_miner import DataError, cluster
+from cut_files import cut, written
+
+ROOT = Path(__file__).parents[2]
+SHOP = ROOT / "examples/shop.dat"
+RECEIPTS = pd.read_csv(ROOT / "examples/receipts.csv")
+COLUMNS: Any = {"basket": "receipt", "item": "product"}
+# Cut in the midst of receipts 1003 and 1009.
+ROWS = [RECEIPTS[:8], RECEIPTS[8:8], RECEIPTS[8:30], RECEIPTS[30:]]
+RULES = basket_miner.rules(RECEIPTS, 2, "1/2", **COLUMNS)
+TRUTHS = pd.crosstab(RECEIPTS["receipt"], RECEIPTS["product"]) > 0
+WIDE = [TRUTHS[:4], TRUTHS[4:11], TRUTHS[11:]]
+
+
+class Polars:
+    """A table of another package."""
+
+    def __init__(self, frame: pd.DataFrame) -> None:
+        self.frame = frame
+
+    def to_pandas(self) -> pd.DataFrame:
+        return self.frame
+
+
+def same(found: pd.DataFrame, wanted: pd.DataFrame) -> None:
+    pd.testing.assert_frame_equal(found, wanted)
+    assert len(found) > 8
+
+
+@pytest.mark.parametrize("kind", [pd.DataFrame, Polars])
+def test_delayed_parts_and_futures_of_rows_are_put_together_by_basket(
+    client: Client, kind: Any
+) -> None:
+    lists: list[list[Any]] = [
+        [delayed(kind)(rows) for rows in ROWS],
+        client.map(kind, ROWS, pure=False),
+        client.scatter([kind(rows) for rows in ROWS]),
+        [client.submit(kind, ROWS[0]), *(delayed(kind)(rows) for rows in ROWS[1:])],
+    ]
+    for parts in lists:
+        same(cluster.rules(parts, 2, "1/2", **COLUMNS), RULES)
+
+
+def test_delayed_parts_and_futures_of_whole_baskets_are_taken_as_they_are(
+    client: Client,
+) -> None:
+    named = [
+        [[*table.columns[truths]] for truths in table.to_numpy()] for table in WIDE
+    ]
+    wanted = basket_miner.rules(sum(named, []), 2, "1/2")
+    for parts in (client.scatter(named), [delayed(iter)(part) for part in named]):
+        same(cluster.rules(parts, 2, "1/2"), wanted)
+    wanted = basket_miner.rules(TRUTHS, 2, "1/2")
+    for kind in (pd.DataFrame, Polars):
+        same(cluster.rules(client.map(kind, WIDE), 2, "1/2"), wanted)
+    same(cluster.rules(from_pandas(TRUTHS, npartitions=3), 2, "1/2"), wanted)
+    wanted = basket_miner.sets(scipy.sparse.csr_matrix(TRUTHS), "1/5")
+    matrices = client.scatter([scipy.sparse.csr_matrix(table) for table in WIDE])
+    same(cluster.sets(matrices, "1/5"), wanted)
+
+
+def test_whole_baskets_have_weights(client: Client) -> None:
+    tables = [table.assign(times=range(1, len(table) + 1)) for table in WIDE]
+    wanted = basket_miner.sets(pd.concat(tables), 4, weight="times")
+    same(cluster.sets(client.scatter(tables), 4, weight="times"), wanted)
+
+
+def test_parts_that_do_not_go_together_are_refused(
+    client: Client, tmp_path: Path
+) -> None:
+    (file,) = written(tmp_path, cut(SHOP.read_bytes()))
+    for parts, options, said in (
+        ([file, delayed(list)()], {}, "and one is of the type Delayed"),
+        ([delayed(str)(file)], {}, "no name of a file"),
+        ([delayed([["tea"]])], COLUMNS, "is a data frame, not list"),
+        (client.scatter(ROWS), {}, "basket= and item="),
+        (client.scatter(ROWS), {"basket": "receipt"}, "both basket= and item="),
+        (client.scatter(ROWS), COLUMNS | {"item": "good"}, "no column 'good'"),
+        (client.scatter([[["tea", None]]]), {}, "missing item"),
+    ):
+        with pytest.raises(DataError, match=said):
+            cluster.sets(parts, 2, **options)
+
+
+def test_the_current_client_is_asked(client: Client, tmp_path: Path) -> None:
+    files = written(tmp_path, cut(SHOP.read_bytes(), 4, 9))
+    wanted = basket_miner.sets(SHOP, "20%")
+    same(cluster.sets(files, "20%"), wanted)
+    same(cluster.sets(cluster.prepare(files), "20%"), wanted)
+    with Client(client.cluster, set_as_default=False) as other, other.as_current():
+        same(cluster.sets(files, "20%"), wanted)
+
+    def in_a_task() -> bytes:
+        with worker_client():
+            return cluster.report(files, "sets", "--min=20%")
+
+    report = client.submit(in_a_task, pure=False).result()
+    assert report == cluster.report(files, "sets", "--min=20%", client=client)
+
+
+def test_without_a_client_the_question_says_how_to_make_one() -> None:
+    script = """
+from basket_miner import DataError, cluster
+try:
+    cluster.sets(["part"], 2)
+except DataError as fault:
+    print(fault)
+"""
+    words = [sys.executable, "-c", script]
+    done = subprocess.run(words, cwd=ROOT / "python", stdout=subprocess.PIPE, text=True)
+    assert done.stdout == (
+        "there is no client: make a distributed.Client, or give client=\n"
+    )
