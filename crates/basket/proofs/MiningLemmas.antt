@@ -38,19 +38,23 @@ module _ (database : List Weighted) (minimum : Minimum) (coding : Coding) (made 
 
 -- ---- equal baskets merged
 
-module _ (coding merged : Coding) (is : merged ≡ merged_coding coding) where
-  pub merged_list : frequent_of_coding merged ≡ frequent_of_coding coding
-  merged_list = ap frequent_of_coding is ∙ (merging_keeps_coded coding).0
+pub merged_list : (coding merged : Coding) → merged ≡ merged_coding coding → frequent_of_coding merged ≡ frequent_of_coding coding
+merged_list coding merged is = ap frequent_of_coding is ∙ (merging_keeps_coded coding).0
 
+pub merged_total : (coding merged : Coding) → merged ≡ merged_coding coding → total_of merged.baskets ≡ total_of coding.baskets
+merged_total coding merged is = ap (λ c. total_of c.baskets) is ∙ (merging_keeps_coded coding).1
+
+-- a coding with the frequent sets of another one
+module _ (coding merged : Coding) (list : frequent_of_coding merged ≡ frequent_of_coding coding) (total : total_of merged.baskets ≡ total_of coding.baskets) (least : merged.minimum ≡ coding.minimum) where
   pub merged_listing : listing_of merged ≡ listing_of coding
-  merged_listing = λ i. record { sets = merged_list i; total = (ap (λ c. total_of c.baskets) is ∙ (merging_keeps_coded coding).1) i }
+  merged_listing = λ i. record { sets = list i; total = total i }
 
   -- there are as many candidates
   pub count_is : CandidatesBySets → (database : List Weighted) (minimum : Minimum) → coding ≡ coding_of database minimum
       → candidate_count (baskets_of merged) merged.minimum ≡ candidate_count database minimum
   count_is law database minimum made =
-      let one : merged.minimum ≡ minimum = ap (λ c. c.minimum) is ∙ ap (λ c. c.minimum) made in
-      let same = merged_list ∙ list_is database minimum coding made in
+      let one : merged.minimum ≡ minimum = least ∙ ap (λ c. c.minimum) made in
+      let same = list ∙ list_is database minimum coding made in
       ap (candidate_count (baskets_of merged)) one
       ∙ ap length (law (baskets_of merged) database minimum (subst (λ m. frequent_of (baskets_of merged) m ≡ frequent_of database minimum) one same))
 

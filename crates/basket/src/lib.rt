@@ -12,6 +12,7 @@ mod input;
 mod items;
 mod made;
 mod memory;
+mod merging;
 mod mining;
 pub mod worked;
 

@@ -8,6 +8,7 @@ ghost use Rattle.basket_sets.specs.Frequent.{frequent_of};
 ghost use Rattle.basket_sets.specs.Support.{total_of};
 
 use crate::class_miner::{Growth, Joining};
+use crate::merging::merged_if_it_pays;
 use basket_core::{Coded, Codes, Database, Frequent, MineFault, Minimum, deep};
 use basket_plan::{Miner, Plan};
 use mine_apriori::laws::candidates_by_sets;
@@ -158,8 +159,7 @@ fn coded<R: Threads + Sync, G: Gate + Sync>(
     Ok(codes.code_shared(rt, database, cutting.workers))
 }
 
-/// The list of the frequent sets by Apriori, and how many candidates it counted. Equal baskets are
-/// merged first.
+/// The list of the frequent sets by Apriori, and how many candidates it counted.
 fn by_apriori<R: Threads + Sync, G: Gate + Sync>(
     rt: &R,
     alloc: Global,
@@ -173,7 +173,7 @@ fn by_apriori<R: Threads + Sync, G: Gate + Sync>(
     ensures work { IfOk result (λ mined. IsWorkOver coded candidate_work mined.1) }
     ensures too_many { (most : ℕ) → result ≡ Err (TooMany most) → (most ≡ limit) × (limit < length (frequent_of_coding coded)) }
 {
-    let merged = coded.merged(alloc)?;
+    let merged = merged_if_it_pays(alloc, coded)?;
     let (frequent, candidates) = apriori_shared(rt, alloc, &merged, limit, cutting, gate)?;
     candidates_by_sets();
     Ok((frequent, Work::of_candidates(candidates)))

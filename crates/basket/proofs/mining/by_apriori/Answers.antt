@@ -1,12 +1,12 @@
 use Rattle.std.proofs.Common.{◌≡◌, ◌∙◌, Err, ap, arith, length, sym}
 use Rattle.std.proofs.lemmas.Result.{err_from_is_err_and}
 use Rattle.basket_core.specs.declared.fault.MineFault.TheVariants.{TooMany}
-use Rattle.basket.proofs.MiningLemmas.{count_is, merged_list, merged_listing}
+use Rattle.basket.proofs.MiningLemmas.{count_is, merged_listing}
 use Rattle.basket.proofs.mining.by_apriori.Goals as goal
 
 pub returns-in_err-frequent-clause-too_many : goal.returns-in_err-frequent-clause-too_many
 returns-in_err-frequent-clause-too_many g c most e =
-    let same = ap length (merged_list c.args.coded c.in_ok-merged.merged c.in_ok-merged.ensures) in
+    let same = ap length c.in_ok-merged.ensures.list in
     let p = err_from_is_err_and c.from_residual-in_err-frequent.result c.from_residual-in_err-frequent.ensures.1 in
     let both = sym p.1 ∙ e in
     let fault : p.0 ≡ TooMany most = cc in
@@ -14,9 +14,9 @@ returns-in_err-frequent-clause-too_many g c most e =
     (limit, omega (arith, more, same))
 
 pub returns-clause-list : goal.returns-clause-list
-returns-clause-list g c = c.in_ok-frequent.ensures.ok ∙ merged_listing c.args.coded c.in_ok-merged.merged c.in_ok-merged.ensures
+returns-clause-list g c = c.in_ok-frequent.ensures.ok ∙ merged_listing c.args.coded c.in_ok-merged.merged c.in_ok-merged.ensures.list c.in_ok-merged.ensures.total c.in_ok-merged.ensures.minimum
 
 pub returns-clause-work : goal.returns-clause-work
 returns-clause-work g c database minimum made =
-    let count = c.in_ok-frequent.ensures.candidates ∙ count_is c.args.coded c.in_ok-merged.merged c.in_ok-merged.ensures c.candidates_by_sets.ensures database minimum made in
+    let count = c.in_ok-frequent.ensures.candidates ∙ count_is c.args.coded c.in_ok-merged.merged c.in_ok-merged.ensures.list c.in_ok-merged.ensures.total c.in_ok-merged.ensures.minimum c.candidates_by_sets.ensures database minimum made in
     c.of_candidates.ensures ∙ (λ i. record { candidates = count i; joins = 0; trees = 0 })
