@@ -56,7 +56,7 @@ none_added baskets prefix items start counts prefixes short are none = record {
   added = λ k inside.
       let below : k < length items = omega (arith, inside, length-map items (λ item. prefix ++ item ∷ [])) in
       let zero = ap (support_of baskets) (get_or-map (λ item. prefix ++ item ∷ []) items k 0 [] below)
-          ∙ none (prefix ++ get_or items k 0 ∷ []) (prefixes_longer baskets prefix (get_or items k 0) prefixes short are) in
+      ∙ none (prefix ++ get_or items k 0 ∷ []) (prefixes_longer baskets prefix (get_or items k 0) prefixes short are) in
       omega (arith, zero);
   before = λ k below. refl;
   behind = λ k from. refl;

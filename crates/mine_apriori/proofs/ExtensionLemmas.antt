@@ -51,8 +51,8 @@ pub long_push : (prefixes lists : List (List ℕ)) (prefix items : List ℕ) (le
     → len + length items ≡ length (sets_of (groups_of (prefixes ++ prefix ∷ []) (lists ++ items ∷ [])))
 long_push prefixes lists prefix items len e is =
     let all = ap (λ g. length (sets_of g)) (groups_push prefixes lists prefix items e)
-        ∙ ap length (sets_push (groups_of prefixes lists) prefix items)
-        ∙ length-append (sets_of (groups_of prefixes lists)) (extend prefix items) in
+    ∙ ap length (sets_push (groups_of prefixes lists) prefix items)
+    ∙ length-append (sets_of (groups_of prefixes lists)) (extend prefix items) in
     let more = length-map items (λ item. prefix ++ item ∷ []) in
     omega (arith, all, more, is)
 
@@ -159,7 +159,7 @@ looked_up (group ∷ groups) zero prefix item up below is =
 looked_up (group ∷ groups) (suc at) prefix item up below is =
     list_any-append _ (extend group.prefix group.items) (sets_of groups)
     ∙ (λ i. not_among group.prefix group.items prefix item (λ e. other_prefix group.prefix (prefixes_of groups) prefix up there (sym e)) i
-        || looked_up groups at prefix item (rest_is_sorted nat_list_cmp_total group.prefix (prefixes_of groups) up) (omega arith) is i)
+    || looked_up groups at prefix item (rest_is_sorted nat_list_cmp_total group.prefix (prefixes_of groups) up) (omega arith) is i)
   where
     at_place : (list : List (List ℕ)) (k : ℕ) → k < length list → Member (get_or list k []) list
     at_place [] k h = absurd (omega arith)

@@ -144,13 +144,6 @@ module _ (coding : Coding) where
   pub too_many : IsCoding coding → (size limit : ℕ) → limit < length (levels_up_to coding size) → AreTooMany coding limit
   too_many is size limit more = let most = found_at_most is size in omega arith
 
-  -- the sets are ranks of items
-  pub found_below : IsCoding coding → (size : ℕ) → All (AllBelow (length coding.items)) (levels_up_to coding size)
-  found_below is size k d below =
-      let list = levels_up_to coding size in
-      let m = Member-from_Contains (get_or list k d) list (k, below, get_or_default list k (get_or list k d) d below) in
-      ranks_below coding is (get_or list k d) (Member-filter passes (get_or list k d) (subsets_up_to size items) m).1
-
   -- all of them, as items, are each frequent set once
   pub found_once : IsCoding coding → (size : ℕ) → 1 ≤ size → asked_of coding size ≡ [] →
       ListsOnce (baskets_of coding) coding.minimum (map (λ set. decoded_set coding.items (counted coding.baskets set)) (levels_up_to coding size))

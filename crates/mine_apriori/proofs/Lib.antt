@@ -3,6 +3,7 @@ mod ExtensionLemmas
 mod IntersectionLemmas
 mod FrequentLemmas
 mod JoinedLemmas
+mod JoinStepLemmas
 mod PruneLemmas
 mod CandidateLemmas
 mod LawLemmas

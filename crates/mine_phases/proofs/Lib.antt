@@ -5,3 +5,4 @@ mod Shares
 mod SupportLemmas
 mod Numbers
 mod Sharing
+mod LevelLemmas

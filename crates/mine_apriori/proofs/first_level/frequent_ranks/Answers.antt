@@ -10,7 +10,8 @@ use Rattle.mine_apriori.specs.Extensions.{AreGrouped, sets_of}
 use Rattle.mine_apriori.specs.Levels.{decoded_sets}
 use Rattle.mine_apriori.proofs.ExtensionLemmas.{kept_sets}
 use Rattle.mine_apriori.proofs.FrequentLemmas.{singles_rise}
-use Rattle.mine_apriori.proofs.JoinedLemmas.{kept_grouped, one_grouped}
+use Rattle.mine_apriori.proofs.JoinedLemmas.{kept_grouped}
+use Rattle.mine_apriori.proofs.JoinStepLemmas.{one_grouped}
 use Rattle.mine_apriori.proofs.LevelsLemmas.{first_asked, first_level, first_ranks, items_rise}
 use Rattle.mine_apriori.proofs.first_level.frequent_ranks.Goals as goal
 use Rattle.mine_apriori.proofs.first_level.frequent_ranks.Goals.{After-deref, After-found-2-1}

@@ -12,7 +12,7 @@ use Rattle.mine_apriori.specs.Extensions.{prefixes_of, sets_of}
 use Rattle.mine_apriori.specs.Partners.{AreBelow, all_lesser, pairs_by_lesser, pairs_with, partners}
 use Rattle.mine_classes.specs.Pairs.{lists_of, pairs_by_greater}
 use Rattle.mine_apriori.proofs.ExtensionLemmas.{sets_push}
-use Rattle.mine_apriori.proofs.JoinedLemmas.{singles_grouped}
+use Rattle.mine_apriori.proofs.JoinStepLemmas.{singles_grouped}
 use Rattle.mine_apriori.proofs.PairLemmas.{counts_of_first, first_of_pairs, lesser_all, list_at, lists_long, pairs_as_sets, pairs_below, pairs_long, pairs_from, pairs_of_first, partners_rise, second_level}
 use Rattle.mine_apriori.proofs.first_level.pair_sets.Goals as goal
 use Rattle.mine_apriori.proofs.first_level.pair_sets.Goals.{After-deref, After-deref-pairs-items}

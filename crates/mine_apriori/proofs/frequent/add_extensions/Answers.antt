@@ -59,7 +59,7 @@ loop-place-preserved c =
                 ∙ found_more decode passes prefix items i true c.args.found.now c.loop-place.found here (is ∙ w.if-met.true) inv.found;
           })
       | else-met w ↦ record {
-          items = ap (λ v. v.items) w.kept-is ∙ inv.items ∙ sym (append-nil _) ∙ kept_more (λ item. passes (prefix ++ item ∷ [])) items i false here (is ∙ w.if-met.false);
-          found = w.found-is ∙ sym (append-nil c.loop-place.found) ∙ found_more decode passes prefix items i false c.args.found.now c.loop-place.found here (is ∙ w.if-met.false) inv.found;
-        }
+        items = ap (λ v. v.items) w.kept-is ∙ inv.items ∙ sym (append-nil _) ∙ kept_more (λ item. passes (prefix ++ item ∷ [])) items i false here (is ∙ w.if-met.false);
+        found = w.found-is ∙ sym (append-nil c.loop-place.found) ∙ found_more decode passes prefix items i false c.args.found.now c.loop-place.found here (is ∙ w.if-met.false) inv.found;
+      }
     ]

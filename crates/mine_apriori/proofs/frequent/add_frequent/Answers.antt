@@ -9,7 +9,7 @@ use Rattle.mine_apriori.specs.Extensions.{extend}
 use Rattle.mine_apriori.specs.Levels.{decoded_sets}
 use Rattle.mine_apriori.proofs.ExtensionLemmas.{items_read, lists_long, no_group, prefix_read}
 use Rattle.mine_apriori.proofs.FrequentLemmas.{counts_first, counts_rest, counts_within, found_next, group_rises, kept_none, kept_some}
-use Rattle.mine_apriori.proofs.JoinedLemmas.{none_if, some_if}
+use Rattle.mine_apriori.proofs.JoinStepLemmas.{none_if, some_if}
 use Rattle.mine_apriori.proofs.frequent.add_frequent.Goals as goal
 use Rattle.mine_apriori.proofs.frequent.add_frequent.Goals.{After-len, After-add_extensions-arg-1, then-not-is_empty+in_ok-level, else-not-is_empty}
 

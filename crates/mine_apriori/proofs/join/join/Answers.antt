@@ -6,7 +6,7 @@ use Rattle.mine_apriori.specs.Extensions.{has_items, is_some, sets_of}
 use Rattle.mine_apriori.specs.Join.{has_parts, joined_group}
 use Rattle.mine_apriori.proofs.CandidateLemmas.{length_behind}
 use Rattle.mine_apriori.proofs.IntersectionLemmas.{drop_rises}
-use Rattle.mine_apriori.proofs.JoinedLemmas.{joined_none, joined_some, none_if, some_if}
+use Rattle.mine_apriori.proofs.JoinStepLemmas.{joined_none, joined_some, none_if, some_if}
 use Rattle.mine_apriori.proofs.join.join.Goals as goal
 use Rattle.mine_apriori.proofs.join.join.Goals.{After-room-1, After-is_empty, then-not-is_empty+in_ok-found, else-not-is_empty}
 

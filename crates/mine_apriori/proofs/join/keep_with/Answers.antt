@@ -5,7 +5,7 @@ use Rattle.basket_sets.proofs.theory.Without.{around_is}
 use Rattle.mine_apriori.specs.Candidates.{is_one_of}
 use Rattle.mine_apriori.specs.Extensions.{lists_of, prefixes_of}
 use Rattle.mine_apriori.proofs.ExtensionLemmas.{groups_long, lists_long}
-use Rattle.mine_apriori.proofs.JoinedLemmas.{kept_found, kept_missing}
+use Rattle.mine_apriori.proofs.JoinStepLemmas.{kept_found, kept_missing}
 use Rattle.mine_apriori.proofs.join.keep_with.Goals as goal
 use Rattle.mine_apriori.proofs.join.keep_with.Goals.{in-Ok+in_ok-push_shared-in-Ok, in-Err}
 
@@ -24,7 +24,7 @@ returns c =
           let below : at < length groups = omega (arith, within, long, groups_long groups) in
           let is : get_or (prefixes_of groups) at [] ≡ key = ap (λ l. get_or l at []) (sym c.prefixes.ensures) ∙ w.in-Ok.ensures.place ∙ around in
           let read = w.items.ensures.items ∙ w.index-lists-at.is ∙ ap (λ l. get_or l at w.index-lists-at.result) w.lists.ensures
-              ∙ get_or_default (lists_of groups) at w.index-lists-at.result [] (omega (arith, below, lists_long groups)) in
+          ∙ get_or_default (lists_of groups) at w.index-lists-at.result [] (omega (arith, below, lists_long groups)) in
           ap (λ v. v.items) w.room-is ∙ w.in_ok-push_shared-in-Ok.ensures
           ∙ (λ i. c.clear.ensures.items i ++ filter (has (read i)) (w.deref.ensures.value i))
           ∙ kept_found groups at key items c.requires.sorted below is)

@@ -45,7 +45,7 @@ loop-set-preserved c =
           let below = next_below sets i set here some in
           let inside : c.loop-set.next < length c.in_ok-counted.counted.items = omega (arith, below, ap length listed, length-map (filter is_some sets) support, c.loop-set.invariant.next) in
           let read = w.index.ensures ∙ get_or_default c.in_ok-counted.counted.items c.loop-set.next w.index.result.now 0 inside ∙ (λ k. get_or (listed k) (c.loop-set.invariant.next k) 0)
-              ∙ next_is support sets i set here some ∙ ap support (sym c.set-item.is) in
+          ∙ next_is support sets i set here some ∙ ap support (sym c.set-item.is) in
           record {
             counts = ap (λ v. v.items) w.counts-is ∙ w.in_ok-push-2.ensures.items ∙ (λ k. c.loop-set.invariant.counts k ++ read k ∷ []) ∙ more;
             next = omega (arith, w.next-is, c.loop-set.invariant.next, next_more sets i set true here some);

@@ -39,7 +39,7 @@ returns-in_ok-places-clause-supports c =
     let some = c.in_ok-add_prefixes.ensures.prefixes.some in
     let long : length prefixes.items ≡ depth + 1 = omega (arith, c.len-depth.ensures, prefixes.ok, some) in
     let at = subst (λ (v : Vec Places Global). ArePlacesOf baskets (take depth prefix) v.items) (sym c.index-else-depth-prefix.ensures)
-        (c.in_ok-add_prefixes.ensures.prefixes.each depth c.index-else-depth-prefix.result.now (omega arith)) in
+    (c.in_ok-add_prefixes.ensures.prefixes.each depth c.index-else-depth-prefix.result.now (omega arith)) in
     let kept = c.in_ok-places.ensures (take depth prefix) (subst (ArePlacesOf baskets (take depth prefix)) (sym c.deref-else-depth-prefix.ensures.value) at) in
     let whole = subst (λ l. ArePlacesOf baskets l c.in_ok-places.places.items) (rest_joined prefix depth) kept in
     c.add_weights-else-depth-prefix.ensures prefix (subst (ArePlacesOf baskets prefix) (sym c.deref-else-depth-prefix-2.ensures.value) whole)

@@ -70,7 +70,7 @@ add-requires-clause-prefixes c =
     let old = c.loop-number.stack.items in
     let within : number - 1 < length prefixes = omega (arith, below c, ap length c.prefixes-prefixes.ensures, groups_long c.self.inside.sets.now) in
     let before = c.items.ensures.items ∙ c.index-prefixes-saturating_sub.is ∙ ap (λ n. get_or prefixes n c.index-prefixes-saturating_sub.result) c.saturating_sub.ensures
-        ∙ get_or_default prefixes (number - 1) c.index-prefixes-saturating_sub.result [] within in
+    ∙ get_or_default prefixes (number - 1) c.index-prefixes-saturating_sub.result [] within in
     let prefix = c.items-in-loop-number.ensures.items ∙ sym c.items-in-loop-number-2.ensures.items in
     let shared = subst (λ l. IsShared l c.items-in-loop-number-2.result.now count) before (subst (λ l. IsShared c.items.result.now l count) prefix c.shared_items.ensures) in
     subst (λ b. ArePrefixes b c.items-in-loop-number-2.result.now c.truncate.new.self.items) (sym c.in_ok-block.ensures.baskets)
@@ -114,7 +114,7 @@ loop-number-preserved c =
     let long : start + c.len-start.result ≡ start + length (get_or groups number no_group).items = ap (λ n. start + n) (c.len-start.ensures ∙ ap length (list_is before)) in
     let same = (λ i. groups_of (c.prefixes-prefixes.ensures i) (c.lists-items-items.ensures i)) ∙ groups_back groups in
     let now = subst (λ b. AreAdded (extended (get_or groups number no_group)) b start counts new) c.in_ok-block.ensures.baskets
-        (subst (λ s. AreAdded s c.in_ok-block.block.baskets.now start counts new) (λ i. extend (prefix i) (items i)) c.in_ok-add.ensures.supports) in
+    (subst (λ s. AreAdded s c.in_ok-block.block.baskets.now start counts new) (λ i. extend (prefix i) (items i)) c.in_ok-add.ensures.supports) in
     let added = subst (λ (sets : List (List ℕ)). (k : ℕ) → k < start → get_or counts k 0 ≡ get_or old k 0 + support_of baskets (get_or sets k [])) (sym c.self.view_is) c.loop-number.invariant.added in
     record {
       starts = long ∙ next_start groups number start no_group here (starts before) ∙ ap (λ l. length (sets_of (take (number + 1) l))) (sym same);

@@ -10,8 +10,7 @@ invariant_of-result c =
     let lists = c.self.inside.lists.items in
     let same = c.self.invariant.0 in
     let pushed = c.in_ok-push.ensures.items in
-    let listed = c.in_ok-push-2.ensures.items in
-    (
+    let listed = c.in_ok-push-2.ensures.items in (
       omega (arith, ap length pushed, ap length listed, length_push prefixes c.args.prefix, length_push lists c.args.items, same),
       omega (arith, c.in-Some.ensures, c.len.ensures, long_push prefixes lists c.args.prefix c.args.items c.self.inside.len same c.self.invariant.1, ap length ((λ i. sets_of (groups_of (pushed i) (listed i))))),
     )
