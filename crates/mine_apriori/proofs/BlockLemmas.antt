@@ -1,18 +1,16 @@
 -- The places of the prefixes of sets.
 use Rattle.std.specs.declared.alloc.Global.{Global}
 use Rattle.std.specs.declared.vec.Vec.{Vec}
-use Rattle.std.proofs.Common.{◌≡◌, ℕ, ◌+◌, ◌-◌, ◌<◌, ◌≤◌, List, [], ◌∷◌, ◌++◌, length, take, get_or, refl, sym, ap, ◌∙◌, subst, inl, inr, arith}
+use Rattle.std.proofs.Common.{◌≡◌, ℕ, ◌+◌, ◌-◌, ◌<◌, ◌≤◌, List, [], ◌∷◌, ◌++◌, length, drop, take, get_or, refl, sym, ap, ◌∙◌, subst, inl, inr, arith}
 use Rattle.std.proofs.lemmas.Bool.{cases_lt}
-use Rattle.std.proofs.lemmas.List.{get_or-take, get_or_append_left, get_or_default, get_or_push, length-take, length_push, take-take, take_all}
+use Rattle.std.proofs.lemmas.List.{get_or-map, length-map, take-append-drop, take-append-le, take_rest, get_or-take, get_or_append_left, get_or_push, length-take, length_push, take-take}
 use Rattle.basket_sets.specs.declared.weighted.Weighted.{Weighted}
-use Rattle.basket_sets.specs.Itemset.{contains}
 use Rattle.basket_sets.specs.Support.{support_of}
-use Rattle.basket_sets.proofs.theory.Support.{support_falls}
 use Rattle.mine_apriori.specs.declared.places.Places.{Places}
 use Rattle.mine_apriori.specs.Block.{ArePrefixes}
-use Rattle.mine_apriori.specs.Counter.{IsShared}
+use Rattle.mine_apriori.specs.Counter.{AreAdded, IsShared}
+use Rattle.mine_apriori.specs.Extensions.{extend}
 use Rattle.mine_apriori.specs.Places.{ArePlacesOf}
-use Rattle.mine_apriori.proofs.PlaceLemmas.{none_support}
 
 -- the places of one more prefix
 pub prefix_added : (baskets : List Weighted) (items : List ℕ) (prefixes : List (Vec Places Global)) (new : Vec Places Global) (depth : ℕ) → length prefixes ≡ depth → ArePlacesOf baskets (take depth items) new.items
@@ -42,3 +40,28 @@ prefixes_shared baskets before items count prefixes shared are = record {
       subst (λ (v : Vec Places Global). ArePlacesOf baskets (take k items) v.items) (sym (get_or-take (1 + count) prefixes k d low))
       (subst (λ l. ArePlacesOf baskets l (get_or prefixes k d).items) same (are.each k d less));
 }
+
+-- the places of a set's prefixes are those of a longer set's
+prefixes_longer : (baskets : List Weighted) (items : List ℕ) (item : ℕ) (prefixes : List (Vec Places Global)) → length prefixes ≤ 1 + length items → ArePrefixes baskets items prefixes → ArePrefixes baskets (items ++ item ∷ []) prefixes
+prefixes_longer baskets items item prefixes short are = record {
+  some = are.some;
+  each = λ depth d below.
+      subst (λ l. ArePlacesOf baskets l (get_or prefixes depth d).items) (sym (take-append-le depth items (item ∷ []) (omega arith))) (are.each depth d below);
+}
+
+-- if no basket contains a prefix, none contains the sets that extend it
+pub none_added : (baskets : List Weighted) (prefix items : List ℕ) (start : ℕ) (counts : List ℕ) (prefixes : List (Vec Places Global)) → length prefixes ≤ 1 + length prefix → ArePrefixes baskets prefix prefixes
+    → ((set : List ℕ) → ArePrefixes baskets set prefixes → support_of baskets set ≡ 0) → AreAdded (extend prefix items) baskets start counts counts
+none_added baskets prefix items start counts prefixes short are none = record {
+  added = λ k inside.
+      let below : k < length items = omega (arith, inside, length-map items (λ item. prefix ++ item ∷ [])) in
+      let zero = ap (support_of baskets) (get_or-map (λ item. prefix ++ item ∷ []) items k 0 [] below)
+      ∙ none (prefix ++ get_or items k 0 ∷ []) (prefixes_longer baskets prefix (get_or items k 0) prefixes short are) in
+      omega (arith, zero);
+  before = λ k below. refl;
+  behind = λ k from. refl;
+}
+
+-- the rest of a set behind some of its items
+pub rest_joined : (items : List ℕ) (depth : ℕ) → take depth items ++ take (length items - depth) (drop depth items) ≡ items
+rest_joined items depth = ap (λ l. take depth items ++ l) (take_rest items depth) ∙ take-append-drop depth items

@@ -1,21 +1,20 @@
 -- Counts with the supports of sets in one block after another added.
-use Rattle.std.specs.declared.alloc.Global.{Global}
-use Rattle.std.specs.declared.vec.Vec.{Vec}
-use Rattle.std.proofs.Common.{◌≡◌, ◌≢◌, ℕ, zero, suc, ◌+◌, ◌-◌, ◌<◌, ◌≤◌, false, eqb, List, [], ◌++◌, length, take, drop, get_or, refl, sym, ap, ◌∙◌, subst, inl, inr, arith}
+use Rattle.std.proofs.Common.{◌≡◌, ◌≢◌, ℕ, ◌+◌, ◌-◌, ◌<◌, ◌≤◌, List, [], ◌∷◌, ◌++◌, length, take, drop, get_or, refl, sym, ap, ◌∙◌, subst, inl, inr, arith}
 use Rattle.std.proofs.Math.ListN.{set}
-use Rattle.std.proofs.lemmas.Bool.{cases_eq, false≢true}
-use Rattle.std.proofs.lemmas.List.{get_or_default, get_or-set_other, get_or-set_same}
-use Rattle.std.proofs.Math.Seq.{take-add}
+use Rattle.std.proofs.lemmas.Bool.{cases_eq, cases_lt}
+use Rattle.std.proofs.lemmas.List.{get_or-set_other, get_or-set_same, length-append, length-map, take_more}
+use Rattle.std.proofs.lemmas.List.Concat.{get_or-flat_map}
+use Rattle.std.proofs.lemmas.List.Folds.{length-flat_map-take}
 use Rattle.std.proofs.lemmas.List.Sums.{sum_by-take-le}
+use Rattle.std.proofs.Math.Seq.{take-add}
 use Rattle.basket_sets.specs.declared.weighted.Weighted.{Weighted}
 use Rattle.basket_sets.specs.Database.{MOST_WEIGHT}
 use Rattle.basket_sets.specs.Support.{support_of, total_of, weight_at}
 use Rattle.basket_sets.proofs.theory.Support.{support-append, support_falls}
 use Rattle.mine_classes.specs.Triangle.{WithSupports}
-use Rattle.mine_apriori.specs.declared.places.Places.{Places}
-use Rattle.mine_apriori.specs.Block.{ArePrefixes}
-use Rattle.mine_apriori.specs.Counter.{AreShared, IsShared}
-use Rattle.mine_apriori.proofs.BlockLemmas.{prefixes_shared}
+use Rattle.mine_apriori.specs.Counter.{AreAdded}
+use Rattle.mine_apriori.specs.Extensions.{Group, extend, sets_of}
+use Rattle.mine_apriori.proofs.ExtensionLemmas.{sets_push}
 
 module _ (sets : List (List ℕ)) (baskets part : List Weighted) (start size : ℕ) (is : part ≡ take size (drop start baskets)) (old counts : List ℕ) (long : length counts ≡ length old)
     (before : WithSupports sets (take start baskets) old counts) where
@@ -39,38 +38,69 @@ module _ (sets : List (List ℕ)) (baskets part : List Weighted) (start size : �
       let most = light k (omega arith) in
       omega arith
 
--- ---- a set more
+-- ---- the sets of a prefix more
 
-module _ (sets : List (List ℕ)) (baskets : List Weighted) (initial counts : List ℕ) (number support : ℕ) (within : number < length counts) (is : support ≡ support_of baskets (get_or sets number [])) where
-  pub added_more : ((k : ℕ) → k < number → get_or counts k 0 ≡ get_or initial k 0 + support_of baskets (get_or sets k [])) → get_or counts number 0 ≡ get_or initial number 0
-      → (k : ℕ) → k < number + 1 → get_or (set counts number (get_or counts number 0 + support)) k 0 ≡ get_or initial k 0 + support_of baskets (get_or sets k [])
-  added_more added rest k below = elim (cases_eq k number) [
+abbrev pub extended : Group → List (List ℕ)
+extended group = extend group.prefix group.items
+
+module _ (groups : List Group) (number start : ℕ) (d : Group) (below : number < length groups) (starts : start ≡ length (sets_of (take number groups))) where
+  abbrev group : Group
+  group = get_or groups number d
+
+  pub next_start : start + length group.items ≡ length (sets_of (take (number + 1) groups))
+  next_start =
+      let all = ap (λ l. length (sets_of l)) (take_more groups number d below)
+      ∙ ap length (sets_push (take number groups) group.prefix group.items) ∙ length-append (sets_of (take number groups)) (extended group) in
+      let more = length-map group.items (λ item. group.prefix ++ item ∷ []) in
+      omega (arith, all, more, starts)
+
+  pub next_within : start + length group.items ≤ length (sets_of groups)
+  next_within =
+      let all = length-flat_map-take extended groups number d below in
+      let more = length-map group.items (λ item. group.prefix ++ item ∷ []) in
+      omega (arith, all, more, starts)
+
+  set_at : (k : ℕ) → k < length group.items → get_or (sets_of groups) (start + k) [] ≡ get_or (extended group) k []
+  set_at k less =
+      ap (λ n. get_or (sets_of groups) (n + k) []) starts
+      ∙ get_or-flat_map extended groups number k d [] below (let more = length-map group.items (λ item. group.prefix ++ item ∷ []) in omega (arith, more, less))
+
+  module _ (baskets : List Weighted) (initial counts new : List ℕ) (now : AreAdded (extended group) baskets start counts new)
+      (rest : (k : ℕ) → start ≤ k → get_or counts k 0 ≡ get_or initial k 0) where
+    pub rest_more : (k : ℕ) → start + length group.items ≤ k → get_or new k 0 ≡ get_or initial k 0
+    rest_more k from = now.behind k (let more = length-map group.items (λ item. group.prefix ++ item ∷ []) in omega (arith, more, from)) ∙ rest k (omega arith)
+
+    pub added_more : ((k : ℕ) → k < start → get_or counts k 0 ≡ get_or initial k 0 + support_of baskets (get_or (sets_of groups) k []))
+        → (k : ℕ) → k < start + length group.items → get_or new k 0 ≡ get_or initial k 0 + support_of baskets (get_or (sets_of groups) k [])
+    added_more added k less = elim (cases_lt k start) [
+      | inl before ↦ now.before k before ∙ added k before
+      | inr from ↦ (let e : start + (k - start) ≡ k = omega arith in
+          subst (λ n. get_or new n 0 ≡ get_or initial n 0 + support_of baskets (get_or (sets_of groups) n [])) e (here (k - start) (omega arith)))
+    ]
+      where
+        here : (n : ℕ) → n < length group.items → get_or new (start + n) 0 ≡ get_or initial (start + n) 0 + support_of baskets (get_or (sets_of groups) (start + n) [])
+        here n below' =
+            now.added n (let more = length-map group.items (λ item. group.prefix ++ item ∷ []) in omega (arith, more, below'))
+            ∙ ap (λ v. v + support_of baskets (get_or (extended group) n [])) (rest (start + n) (omega arith))
+            ∙ ap (λ s. get_or initial (start + n) 0 + support_of baskets s) (sym (set_at n below'))
+
+-- ---- one item more
+
+module _ (baskets : List Weighted) (prefix items : List ℕ) (start : ℕ) (initial counts : List ℕ) (number weight : ℕ) (within : start + number < length counts)
+    (is : weight ≡ support_of baskets (prefix ++ get_or items number 0 ∷ [])) where
+  pub one_added : ((k : ℕ) → k < number → get_or counts (start + k) 0 ≡ get_or initial (start + k) 0 + support_of baskets (prefix ++ get_or items k 0 ∷ []))
+      → get_or counts (start + number) 0 ≡ get_or initial (start + number) 0
+      → (k : ℕ) → k < number + 1 → get_or (set counts (start + number) (get_or counts (start + number) 0 + weight)) (start + k) 0 ≡ get_or initial (start + k) 0 + support_of baskets (prefix ++ get_or items k 0 ∷ [])
+  one_added added rest k below = elim (cases_eq k number) [
     | inl same ↦
-        subst (λ n. get_or (set counts number (get_or counts number 0 + support)) n 0 ≡ get_or initial n 0 + support_of baskets (get_or sets n [])) (sym same)
-        (get_or-set_same counts number (get_or counts number 0 + support) 0 within ∙ ap (λ n. n + support) rest ∙ ap (λ n. get_or initial number 0 + n) is)
-    | inr differ ↦ get_or-set_other counts number k (get_or counts number 0 + support) 0 differ ∙ added k (omega arith)
+        subst (λ n. get_or (set counts (start + number) (get_or counts (start + number) 0 + weight)) (start + n) 0 ≡ get_or initial (start + n) 0 + support_of baskets (prefix ++ get_or items n 0 ∷ [])) (sym same)
+        (get_or-set_same counts (start + number) (get_or counts (start + number) 0 + weight) 0 within ∙ ap (λ n. n + weight) rest ∙ ap (λ n. get_or initial (start + number) 0 + n) is)
+    | inr differ ↦ get_or-set_other counts (start + number) (start + k) (get_or counts (start + number) 0 + weight) 0 (λ e. absurd (differ (omega (arith, e)))) ∙ added k (omega arith)
   ]
 
-  pub rest_same : ((k : ℕ) → number ≤ k → get_or counts k 0 ≡ get_or initial k 0)
-      → (k : ℕ) → number + 1 ≤ k → get_or (set counts number (get_or counts number 0 + support)) k 0 ≡ get_or initial k 0
-  rest_same rest k from = let differ : k ≢ number = λ e. absurd (omega arith) in get_or-set_other counts number k (get_or counts number 0 + support) 0 differ ∙ rest k (omega arith)
+pub others_stay : (initial counts : List ℕ) (at value k : ℕ) → k ≢ at → get_or counts k 0 ≡ get_or initial k 0 → get_or (set counts at value) k 0 ≡ get_or initial k 0
+others_stay initial counts at value k differ same = get_or-set_other counts at k value 0 differ ∙ same
 
--- what the test of no sets says
-pub some_sets : (n : ℕ) → eqb n 0 ≡ false → 1 ≤ n
-some_sets zero e = absurd (false≢true (sym e))
-some_sets (suc n) e = omega arith
-
--- the places of the prefixes that a set shares with the one before it
-pub prefixes_kept : (sets inside : List (List ℕ)) (shared : List ℕ) (number count : ℕ) (baskets : List Weighted) (old new : List (Vec Places Global)) → inside ≡ sets → number < length sets
-    → AreShared inside shared → count ≡ get_or shared number count → new ≡ take (1 + count) old → ArePrefixes baskets (get_or sets (number - 1) []) old → ArePrefixes baskets (get_or sets number []) new
-prefixes_kept sets inside shared number count baskets old new same within are is taken before =
-    let long = are.long in
-    let inner : number < length inside = omega (arith, ap length same) in
-    let read : get_or shared number 0 ≡ count = get_or_default shared number 0 count (omega arith) ∙ sym is in
-    let one : IsShared (get_or inside (number - 1) []) (get_or inside number []) count = subst (IsShared (get_or inside (number - 1) []) (get_or inside number [])) read (are.each number inner) in
-    let shares = subst (λ s. IsShared (get_or s (number - 1) []) (get_or s number []) count) same one in
-    subst (ArePrefixes baskets (get_or sets number [])) (sym taken) (prefixes_shared baskets (get_or sets (number - 1) []) (get_or sets number []) count old shares before)
-
--- a set that is read where a counter has its sets
-pub set_read : (sets inside : List (List ℕ)) (number : ℕ) (items d : List ℕ) → inside ≡ sets → number < length sets → items ≡ get_or inside number d → items ≡ get_or sets number []
-set_read sets inside number items d same within is = is ∙ get_or_default inside number d [] (omega (arith, ap length same)) ∙ ap (λ l. get_or l number []) same
+pub some_list : (l : List (List ℕ)) → (l ≡ [] → ⊥) → 1 ≤ length l
+some_list [] none = absurd (none refl)
+some_list (x ∷ l) none = omega arith

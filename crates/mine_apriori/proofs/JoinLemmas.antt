@@ -51,7 +51,7 @@ pub without_first : (front : List ℕ) (x y : ℕ) → without (length front) ((
 without_first [] x y = refl
 without_first (z ∷ front) x y = ap (λ l. z ∷ l) (without_first front x y)
 
-take_front : (front rest : List ℕ) → take (length front) (front ++ rest) ≡ front
+pub take_front : (front rest : List ℕ) → take (length front) (front ++ rest) ≡ front
 take_front [] rest = refl
 take_front (z ∷ front) rest = ap (λ l. z ∷ l) (take_front front rest)
 

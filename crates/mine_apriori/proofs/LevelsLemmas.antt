@@ -1,34 +1,33 @@
 -- The frequent sets by levels: each level is what is frequent among the candidates of the one before.
-use Rattle.std.proofs.Common.{◌≡◌, ◌≢◌, ℕ, ◌+◌, ◌<◌, ◌≤◌, Bool, true, List, [], ◌∷◌, ◌++◌, Some, length, drop, get_or, map, refl, sym, ap, ◌∙◌, subst, inl, inr, arith, zero, suc}
+use Rattle.std.proofs.Common.{◌≡◌, ◌≢◌, ℕ, ◌+◌, ◌<◌, ◌≤◌, Bool, true, false, List, [], ◌∷◌, ◌++◌, cond, length, get_or, map, refl, sym, ap, ◌∙◌, subst, inl, inr, arith, zero, suc}
 use Rattle.std.specs.Cmp.Lexicographic.{slice_cmp}
 use Rattle.std.specs.Ordering.{nat_cmp}
-use Rattle.std.specs.List.{All, Contains, filter, flat_map, slice_get}
-use Rattle.std.proofs.Math.Seq.{drop-append_seam}
+use Rattle.std.specs.List.{All, filter, flat_map, range_with_len}
 use Rattle.std.proofs.lemmas.List.{append-nil, length-append, length-map, map-append, get_or_default}
-use Rattle.std.proofs.lemmas.Option.{slice_get_within, get_or_from_slice_get}
 use Rattle.std.proofs.lemmas.List.Elements.{filter-append}
+use Rattle.std.proofs.lemmas.List.FromFn.{length-range_with_len}
 use Rattle.std.proofs.lemmas.List.Kept.{IsStrictlySortedBy-filter}
 use Rattle.basket_ranks.specs.Codes.{Coding, IsCoding, baskets_of, frequent_of_coding, decoded_set}
 use Rattle.basket_sets.specs.Counts.{item_supports, AllBelow}
 use Rattle.basket_sets.specs.Frequent.{is_frequent, counted, frequent_of, ListsOnce}
 use Rattle.basket_sets.specs.Itemset.{IsRising}
-use Rattle.basket_sets.specs.Minimum.{meets}
 use Rattle.basket_sets.specs.Order.{report_order, report_order_total, IsInReportOrder}
 use Rattle.basket_sets.specs.Subsets.{subsets_of_size, subsets_up_to}
-use Rattle.basket_sets.specs.Support.{support_of, total_of, items_of, all_items}
+use Rattle.basket_sets.specs.Support.{support_of, items_of, all_items}
+use Rattle.basket_sets.specs.declared.counted.Counted.{Counted}
 use Rattle.basket_ranks.proofs.theory.Decoding.{decoding_keeps_frequent, ranks_below, as_many}
 use Rattle.basket_sets.proofs.theory.Frequent.{frequent_once}
 use Rattle.std.proofs.lemmas.Simd.{map-map}
-use Rattle.basket_sets.proofs.theory.Items.{filter-map, one_item}
+use Rattle.basket_sets.proofs.theory.Items.{one_item}
+use Rattle.basket_sets.proofs.theory.Ranges.{Member-into_range, range_rises}
 use Rattle.basket_sets.proofs.theory.Members.{Member, Member-append, Member-filter, Member-from_filter, Member-from_Contains, Contains-from_Member, sorted_along, same_members}
-use Rattle.basket_sets.proofs.theory.Rising.{rising-rises, Member-rising, length-le-contains}
+use Rattle.basket_sets.proofs.theory.Rising.{has-from_Member, rising-rises, Member-rising, length-le-contains}
 use Rattle.basket_sets.proofs.theory.Subsets.{IsSubset, IsSubset-from_Member, Member-from_IsSubset, of_size_sorted, same_length}
 use Rattle.basket_sets.proofs.theory.Support.{frequent_items, subsets_are_frequent}
-use Rattle.mine_apriori.specs.declared.rank_sets.RankSets.{RankSets}
 use Rattle.mine_apriori.specs.Candidates.{candidates_of}
-use Rattle.mine_apriori.specs.Levels.{level_of, levels_up_to, asked_of, AreFound, AreTooMany}
+use Rattle.mine_apriori.specs.Levels.{level_of, levels_up_to, asked_of, decoded_sets, AreFound, AreTooMany}
 use Rattle.mine_apriori.specs.Sizes.{AreOfSize}
-use Rattle.mine_apriori.proofs.LawLemmas.{subset_of_size, candidates_are_exact, candidates_are_in_report_order, candidates_are_one_larger}
+use Rattle.mine_apriori.proofs.LawLemmas.{subset_of_size, candidates_are_exact, candidates_are_in_report_order}
 
 -- what is larger than a list has no subset of it
 pub none_larger : (size : ℕ) (items : List ℕ) → length items < size → subsets_of_size size items ≡ []
@@ -145,13 +144,6 @@ module _ (coding : Coding) where
   pub too_many : IsCoding coding → (size limit : ℕ) → limit < length (levels_up_to coding size) → AreTooMany coding limit
   too_many is size limit more = let most = found_at_most is size in omega arith
 
-  -- the sets are ranks of items
-  pub found_below : IsCoding coding → (size : ℕ) → All (AllBelow (length coding.items)) (levels_up_to coding size)
-  found_below is size k d below =
-      let list = levels_up_to coding size in
-      let m = Member-from_Contains (get_or list k d) list (k, below, get_or_default list k (get_or list k d) d below) in
-      ranks_below coding is (get_or list k d) (Member-filter passes (get_or list k d) (subsets_up_to size items) m).1
-
   -- all of them, as items, are each frequent set once
   pub found_once : IsCoding coding → (size : ℕ) → 1 ≤ size → asked_of coding size ≡ [] →
       ListsOnce (baskets_of coding) coding.minimum (map (λ set. decoded_set coding.items (counted coding.baskets set)) (levels_up_to coding size))
@@ -165,24 +157,53 @@ module _ (coding : Coding) where
   found_is_all is size some none =
       as_many coding is ∙ length-map (levels_up_to coding (length items)) (counted coding.baskets) ∙ ap length (sym (all_found size some none))
 
-  from_sets : (sets : List (List ℕ)) (item : ℕ) → ((set : List ℕ) → Member set sets → Member item set → Member item items) → Member item (flat_map (λ set. set) sets) → Member item items
-  from_sets [] item h m = absurd m
-  from_sets (set ∷ sets) item h m = elim (Member-append item set (flat_map (λ s. s) sets) m) [
+  from_sets : (into : List ℕ) (sets : List (List ℕ)) (item : ℕ) → ((set : List ℕ) → Member set sets → Member item set → Member item into) → Member item (flat_map (λ set. set) sets) → Member item into
+  from_sets into [] item h m = absurd m
+  from_sets into (set ∷ sets) item h m = elim (Member-append item set (flat_map (λ s. s) sets) m) [
     | inl here ↦ h set (inl refl) here
-    | inr there ↦ from_sets sets item (λ s n k. h s (inr n) k) there
+    | inr there ↦ from_sets into sets item (λ s n k. h s (inr n) k) there
   ]
 
   -- a candidate has items of the baskets
   pub candidate_items : (size : ℕ) (set : List ℕ) → Member set (asked_of coding size) → (item : ℕ) → Member item set → Member item items
   candidate_items size set m item n =
       let s = subset_of_size size (level_of coding size) set (level_sized size) m in
-      from_sets (level_of coding size) item (λ other k j. (from_level size other k).0.within item j) (Member-rising (flat_map (λ set. set) (level_of coding size)) item (s.0.within item n))
+      from_sets items (level_of coding size) item (λ other k j. (from_level size other k).0.within item j) (Member-rising (flat_map (λ set. set) (level_of coding size)) item (s.0.within item n))
 
   candidate_within : (size : ℕ) (set : List ℕ) → Member set (asked_of coding size) → size + 1 ≤ length items
   candidate_within size set m =
       let s = subset_of_size size (level_of coding size) set (level_sized size) m in
       let le = length-le-contains set items s.0.rises items_rise (candidate_items size set m) in
       omega (arith, le, s.0.sized)
+
+  -- and ranks of the coding
+  candidate_few : IsCoding coding → (size : ℕ) (set : List ℕ) → Member set (asked_of coding size) → size + 1 ≤ length coding.items
+  candidate_few is size set m =
+      let s = subset_of_size size (level_of coding size) set (level_sized size) m in
+      let count = length coding.items in
+      let le = length-le-contains set (range_with_len 0 count) s.0.rises (range_rises 0 count) (λ item n.
+      from_sets (range_with_len 0 count) (level_of coding size) item
+      (λ other k j. Member-into_range 0 count item (omega arith) (let below = ranks_below coding is other (from_level size other k).1 item (has-from_Member other item j) in omega arith))
+      (Member-rising (flat_map (λ set. set) (level_of coding size)) item (s.0.within item n))) in
+      omega (arith, le, s.0.sized, length-range_with_len 0 count)
+
+  pub asked_few : IsCoding coding → (size : ℕ) → asked_of coding size ≢ [] → size + 1 ≤ length coding.items
+  asked_few is size asks = at (asked_of coding size) refl
+    where
+      at : (list : List (List ℕ)) → asked_of coding size ≡ list → size + 1 ≤ length coding.items
+      at [] e = absurd (asks e)
+      at (set ∷ sets) e = candidate_few is size set (subst (Member set) (sym e) (inl refl))
+
+  -- the sets of a level rise, and so do those that are asked for
+  pub level_rises : (size : ℕ) → All IsRising (level_of coding size)
+  level_rises size k d below =
+      let list = level_of coding size in
+      (from_level size (get_or list k d) (Member-from_Contains (get_or list k d) list (k, below, get_or_default list k (get_or list k d) d below))).0.rises
+
+  pub asked_rise : (size : ℕ) → 1 ≤ size → All IsRising (asked_of coding size)
+  asked_rise size some k d below =
+      let list = asked_of coding size in
+      ((candidates_are_exact size (level_of coding size) (get_or list k d) some (level_sized size)).0 (k, below, get_or_default list k (get_or list k d) d below)).rises
 
   -- a level that asks is not yet that of all items
   pub asks_more : (size : ℕ) → 1 ≤ size → asked_of coding size ≢ [] → size + 1 ≤ length items
@@ -194,53 +215,41 @@ module _ (coding : Coding) where
 
   -- ---- the first level
 
-  abbrev pub met : ℕ × ℕ → Bool
-  met entry = meets coding.minimum entry.1 (total_of coding.baskets)
+  -- one rank each, with its support
+  pub first_asked : map (support_of coding.baskets) (map (λ rank. rank ∷ []) items) ≡ map (λ entry. entry.1) (item_supports coding.baskets)
+  first_asked =
+      map-map (support_of coding.baskets) (λ x. x ∷ []) items ∙ sym (map-map (λ (entry : ℕ × ℕ). entry.1) (λ x. (x, support_of coding.baskets (x ∷ []))) items)
 
-  pub first_sets : map (λ entry. entry.0 ∷ []) (filter met (item_supports coding.baskets)) ≡ level_of coding 1
-  first_sets =
-      ap (map (λ (entry : ℕ × ℕ). entry.0 ∷ [])) (filter-map (λ x. (x, support_of coding.baskets (x ∷ []))) met items)
-      ∙ map-map (λ (entry : ℕ × ℕ). entry.0 ∷ []) (λ x. (x, support_of coding.baskets (x ∷ []))) (filter (λ x. passes (x ∷ [])) items)
-      ∙ sym (ap (filter passes) (one_item items) ∙ filter-map (λ x. x ∷ []) passes items)
+  pub first_ranks : map (λ entry. entry.0) (item_supports coding.baskets) ≡ items
+  first_ranks = map-map (λ (entry : ℕ × ℕ). entry.0) (λ x. (x, support_of coding.baskets (x ∷ []))) items ∙ map-id items
+    where
+      map-id : (l : List ℕ) → map (λ x. x) l ≡ l
+      map-id [] = refl
+      map-id (x ∷ l) = ap (λ r. x ∷ r) (map-id l)
 
-  pub first_counts : map (λ entry. entry.1) (filter met (item_supports coding.baskets)) ≡ map (support_of coding.baskets) (level_of coding 1)
-  first_counts =
-      ap (map (λ (entry : ℕ × ℕ). entry.1)) (filter-map (λ x. (x, support_of coding.baskets (x ∷ []))) met items)
-      ∙ map-map (λ (entry : ℕ × ℕ). entry.1) (λ x. (x, support_of coding.baskets (x ∷ []))) (filter (λ x. passes (x ∷ [])) items)
-      ∙ sym (ap (map (support_of coding.baskets)) (ap (filter passes) (one_item items) ∙ filter-map (λ x. x ∷ []) passes items)
-      ∙ map-map (support_of coding.baskets) (λ x. x ∷ []) (filter (λ x. passes (x ∷ [])) items))
+  pub first_level : filter passes (map (λ rank. rank ∷ []) items) ≡ level_of coding 1
+  first_level = ap (filter passes) (sym (one_item items))
 
--- ---- an answer
+  -- the frequent ones of a level are the level
+  pub level_again : (size : ℕ) → filter passes (level_of coding size) ≡ level_of coding size
+  level_again size = again (subsets_of_size size items)
+    where
+      step : (set : List ℕ) (rest : List (List ℕ)) (b : Bool) → passes set ≡ b → filter passes rest ≡ rest → filter passes (cond b (set ∷ rest) rest) ≡ cond b (set ∷ rest) rest
+      step set rest false e f = f
+      step set rest true e f = (λ i. cond (e i) (set ∷ f i) (f i))
 
--- the first of a list is in it
-first_is_there : (list other : List (List ℕ)) (set : List ℕ) → Some set ≡ slice_get list 0 → list ≡ other → Contains other set
-first_is_there list other set is same = subst (λ l. Contains l set) same (0, slice_get_within list 0 set (sym is), get_or_from_slice_get list 0 set set (sym is))
+      again : (sets : List (List ℕ)) → filter passes (filter passes sets) ≡ filter passes sets
+      again [] = refl
+      again (set ∷ sets) = step set (filter passes sets) (passes set) refl (again sets)
 
 -- `asked` are the candidates of a level
 module _ (coding : Coding) (size : ℕ) (some : 1 ≤ size) (asked : List (List ℕ)) (is_asked : asked ≡ asked_of coding size) where
-  -- the first of them has one rank more
-  pub asked_size : (set : List ℕ) → Some set ≡ slice_get asked 0 → length set ≡ size + 1
-  asked_size set first =
-      let c = first_is_there asked (asked_of coding size) set first is_asked in
-      ap length (sym c.2) ∙ candidates_are_one_larger size (level_of coding size) (level_sized coding size) c.0 set c.1
-
-  next : filter (is_frequent coding.baskets coding.minimum) asked ≡ level_of coding (size + 1)
+  pub next : filter (is_frequent coding.baskets coding.minimum) asked ≡ level_of coding (size + 1)
   next = ap (filter (is_frequent coding.baskets coding.minimum)) is_asked ∙ next_level coding size some
 
-  -- what is frequent of them is the next level
-  pub found_next : (old new : RankSets) → AreFound coding size old
-      → new.sets.items ≡ old.sets.items ++ filter (is_frequent coding.baskets coding.minimum) asked
-      → new.counts.items ≡ old.counts.items ++ map (support_of coding.baskets) (filter (is_frequent coding.baskets coding.minimum) asked)
-      → AreFound coding (size + 1) new
-  found_next old new is sets counts = record {
-    sets = sets ∙ ap (λ l. l ++ filter (is_frequent coding.baskets coding.minimum) asked) is.sets
-        ∙ ap (λ l. levels_up_to coding size ++ l) next ∙ sym (up_to_next coding size);
-    counts = counts ∙ ap (λ l. l ++ map (support_of coding.baskets) (filter (is_frequent coding.baskets coding.minimum) asked)) is.counts
-        ∙ sym (map-append (support_of coding.baskets) old.sets.items (filter (is_frequent coding.baskets coding.minimum) asked))
-        ∙ ap (map (support_of coding.baskets)) (sym sets);
-  }
-
-  -- and stands behind what was found before
-  pub last_next : (old new : RankSets) → new.sets.items ≡ old.sets.items ++ filter (is_frequent coding.baskets coding.minimum) asked
-      → drop (length old.sets.items) new.sets.items ≡ level_of coding (size + 1)
-  last_next old new sets = ap (drop (length old.sets.items)) sets ∙ drop-append_seam old.sets.items (filter (is_frequent coding.baskets coding.minimum) asked) ∙ next
+-- one level more is found
+pub found_next : (coding : Coding) (size : ℕ) (old new : List Counted) (sets : List (List ℕ)) → AreFound coding size old → sets ≡ level_of coding (size + 1) → new ≡ old ++ decoded_sets coding sets → AreFound coding (size + 1) new
+found_next coding size old new sets is level added =
+    added ∙ (λ i. is i ++ decoded_sets coding (level i))
+    ∙ sym (map-append (λ set. decoded_set coding.items (counted coding.baskets set)) (levels_up_to coding size) (level_of coding (size + 1)))
+    ∙ ap (decoded_sets coding) (sym (up_to_next coding size))

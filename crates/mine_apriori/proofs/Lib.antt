@@ -1,11 +1,14 @@
 mod JoinLemmas
-mod FrontLemmas
+mod ExtensionLemmas
+mod IntersectionLemmas
+mod FrequentLemmas
+mod JoinedLemmas
+mod JoinStepLemmas
 mod PruneLemmas
 mod CandidateLemmas
 mod LawLemmas
 mod LookUpLemmas
 mod SearchLemmas
-mod EndingLemmas
 mod LevelsLemmas
 mod PairLemmas
 mod WorkLemmas

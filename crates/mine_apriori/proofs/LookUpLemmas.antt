@@ -15,7 +15,7 @@ use Rattle.basket_sets.proofs.theory.Sorting.{at_most_greater}
 
 -- ---- the search
 
-equal_sets : (a b : List ℕ) → slice_cmp nat_cmp a b ≡ Equal → a ≡ b
+pub equal_sets : (a b : List ℕ) → slice_cmp nat_cmp a b ≡ Equal → a ≡ b
 equal_sets a b e = (bytes_decides a b).0 (texts_ties a b ∙ ap is_eq e)
 
 -- of a smaller set no greater answer

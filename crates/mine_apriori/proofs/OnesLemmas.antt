@@ -1,9 +1,9 @@
 -- The ones of words.
-use Rattle.std.proofs.Common.{◌≡◌, ℕ, zero, suc, ◌+◌, ◌*◌, ◌/◌, ◌%◌, ◌<◌, ◌≤◌, ◌^◌, Bool, true, false, refl, sym, ap, ◌∙◌, subst, arith, min, max}
+use Rattle.std.proofs.Common.{◌≡◌, ℕ, zero, suc, ◌+◌, ◌*◌, ◌/◌, ◌%◌, ◌<◌, ◌^◌, refl, sym, ap, ◌∙◌, subst, arith, min, max}
 use Rattle.std.specs.Prelude.{bit_and, bit_or, count_ones}
 use Rattle.std.specs.Int.{bit_at}
 use Rattle.std.specs.Int.Bits.{or_add_and}
-use Rattle.std.proofs.lemmas.Nat.{and_block, or_block, ones_cat, and_le_l, and_assoc, and_comm, pow-add, pow_pos}
+use Rattle.std.proofs.lemmas.Nat.{and_block, or_block, ones_cat, and_le_l, and_comm, pow-add, pow_pos}
 use Rattle.std.proofs.lemmas.Nat.Bits.{bit_at_and, bit_at_or, bit_at-zero, bit_at-lt, same_from_bits, and_pow}
 
 low_ones : (r s : ℕ) → r < 2 → s < 2 → bit_and r s ≡ 0 → count_ones (bit_or r s) ≡ count_ones r + count_ones s

@@ -7,7 +7,7 @@ use Rattle.std.proofs.lemmas.Bool.{cases_eq, cases_lt, eq-eqb, ne_eqb, lt-ltb, l
 use Rattle.std.specs.declared.vec.Vec.{Vec}
 use Rattle.std.specs.declared.alloc.Global.{Global}
 use Rattle.std.proofs.lemmas.List.{map-append, map-set, length-map, get_or-map, get_or-set_same, get_or-set_other, take_more}
-use Rattle.std.proofs.lemmas.List.Elements.{All-from_recursion, filter-append}
+use Rattle.std.proofs.lemmas.List.Elements.{filter-append}
 use Rattle.std.proofs.lemmas.List.Kept.{IsStrictlySortedBy-filter}
 use Rattle.std.proofs.lemmas.List.FromFn.{map-range_with_len_more, length-range_with_len, length-map-range_with_len, get_or-map-range_with_len}
 use Rattle.std.proofs.lemmas.Simd.{map-map}
@@ -16,17 +16,17 @@ use Rattle.basket_ranks.proofs.theory.Decoding.{ranks_below}
 use Rattle.basket_sets.specs.declared.weighted.Weighted.{Weighted}
 use Rattle.basket_sets.specs.declared.minimum.Minimum.TheVariants.{Count}
 use Rattle.basket_sets.specs.Frequent.{is_frequent}
-use Rattle.basket_sets.specs.Itemset.{has}
+use Rattle.basket_sets.specs.Itemset.{IsRising, has}
 use Rattle.basket_sets.specs.Order.{report_order, report_order_total}
 use Rattle.basket_sets.specs.Subsets.{subsets_of_size}
 use Rattle.basket_sets.specs.Minimum.{IsLeastSupport}
 use Rattle.basket_sets.specs.Support.{support_of, total_of}
 use Rattle.basket_sets.proofs.theory.Items.{filter-map, one_item}
-use Rattle.basket_sets.proofs.theory.Members.{Member, All-from_Member, Member-filter, Member-from_filter, Member-from_map, same_members, sorted_along}
+use Rattle.basket_sets.proofs.theory.Members.{Member, Member-filter, Member-from_filter, Member-from_map, same_members, sorted_along}
 use Rattle.basket_sets.proofs.theory.Rising.{Member-from_has, has-from_Member}
 use Rattle.basket_sets.proofs.theory.Subsets.{IsSubset-from_Member, Member-from_IsSubset, of_size_sorted, same_length}
 use Rattle.basket_sets.proofs.theory.Support.{support_falls}
-use Rattle.basket_sets.proofs.theory.Ranges.{Member-into_range, Member-range, range_more, range_rises}
+use Rattle.basket_sets.proofs.theory.Ranges.{Member-into_range, Member-range, filtered_range_rises, range_more, range_rises}
 use Rattle.mine_classes.specs.Conditional.{is_kept}
 use Rattle.mine_classes.specs.Pairs.{pairs_of, pairs_by_greater, lists_of}
 use Rattle.mine_apriori.specs.Partners.{partners, pairs_with, pairs_by_lesser, pairs_at, lesser_from, all_lesser, AreBelow}
@@ -262,9 +262,16 @@ counts_of_first coding rank count =
     ∙ sym (map-map (support_of coding.baskets) (λ (pair : ℕ × ℕ). rank ∷ pair.0 ∷ []) (pairs_with coding count rank)
     ∙ map-map (λ (pair : ℕ × ℕ). support_of coding.baskets (rank ∷ pair.0 ∷ [])) (λ other. (other, support_of coding.baskets (rank ∷ other ∷ []))) (partners coding count rank))
 
-pub pairs_above : (coding : Coding) (count rank : ℕ) → All (λ (pair : ℕ × ℕ). rank < pair.0) (pairs_with coding count rank)
-pairs_above coding count rank =
-    All-from_recursion (λ (pair : ℕ × ℕ). rank < pair.0) (pairs_with coding count rank) (All-from_Member (λ (pair : ℕ × ℕ). rank < pair.0) (pairs_with coding count rank) (λ pair m.
-    let o = Member-from_map (λ other. (other, support_of coding.baskets (rank ∷ other ∷ []))) pair (partners coding count rank) m in
-    let r = Member-range (rank + 1) (count - (rank + 1)) o.0 (Member-filter (λ other. is_frequent coding.baskets coding.minimum (rank ∷ other ∷ [])) o.0 (range_with_len (rank + 1) (count - (rank + 1))) o.1).0 in
-    let same = ap (λ (p : ℕ × ℕ). p.0) o.2 in let low = r.0 in omega arith))
+-- the ranks of the pairs of a rank
+pub first_of_pairs : (coding : Coding) (count rank : ℕ) → map (λ (pair : ℕ × ℕ). pair.0) (pairs_with coding count rank) ≡ partners coding count rank
+first_of_pairs coding count rank = map-map (λ (pair : ℕ × ℕ). pair.0) (λ other. (other, support_of coding.baskets (rank ∷ other ∷ []))) (partners coding count rank) ∙ each (partners coding count rank)
+  where
+    each : (l : List ℕ) → map (λ x. x) l ≡ l
+    each [] = refl
+    each (x ∷ l) = ap (λ r. x ∷ r) (each l)
+
+pub partners_rise : (coding : Coding) (count rank : ℕ) → IsRising (partners coding count rank)
+partners_rise coding count rank = filtered_range_rises (λ other. is_frequent coding.baskets coding.minimum (rank ∷ other ∷ [])) (rank + 1) (count - (rank + 1))
+
+pub pairs_as_sets : (coding : Coding) (count rank : ℕ) → map (λ item. rank ∷ item ∷ []) (partners coding count rank) ≡ map (λ (pair : ℕ × ℕ). rank ∷ pair.0 ∷ []) (pairs_with coding count rank)
+pairs_as_sets coding count rank = sym (map-map (λ (pair : ℕ × ℕ). rank ∷ pair.0 ∷ []) (λ other. (other, support_of coding.baskets (rank ∷ other ∷ []))) (partners coding count rank))

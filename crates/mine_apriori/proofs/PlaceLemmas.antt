@@ -1,9 +1,8 @@
 -- Places of a block of baskets as bits, and what rows have of them.
-use Rattle.std.proofs.Common.{◌≡◌, ℕ, zero, suc, ◌+◌, ◌*◌, ◌/◌, ◌%◌, ◌<◌, ◌≤◌, ◌^◌, Bool, true, false, ◌&&◌, List, [], ◌∷◌, ◌++◌, length, take, drop, get_or, map, ◌-◌, cond, eqb, refl, sym, ap, ◌∙◌, subst, inl, inr, arith, min, w64}
+use Rattle.std.proofs.Common.{◌≡◌, ℕ, zero, suc, ◌+◌, ◌*◌, ◌/◌, ◌%◌, ◌<◌, ◌≤◌, ◌^◌, Bool, true, false, ◌&&◌, List, [], ◌∷◌, ◌++◌, length, take, drop, get_or, ◌-◌, cond, eqb, refl, sym, ap, ◌∙◌, subst, inl, inr, arith, min, w64}
 use Rattle.std.specs.Prelude.{bit_and, bit_or, count_ones}
 use Rattle.std.specs.Int.{bit_at, trailing_zeros}
 use Rattle.std.specs.Int.Bits.{and_zero_l}
-use Rattle.std.specs.List.{sum_by}
 use Rattle.std.proofs.Math.ListN.{set}
 use Rattle.std.proofs.Math.Nat.{add-mul, zero-mul, one-mul}
 use Rattle.std.proofs.Math.Seq.{take-add}
@@ -50,11 +49,6 @@ added_part row places at part more below is join =
     ap (λ n. n * part.weight) (ones_shared part.bits more.bits (row part.word) join.apart)
     ∙ add-mul (count_ones (bit_and part.bits (row part.word))) (count_ones (bit_and more.bits (row part.word))) part.weight ∙ ap (λ n. part_weight row part + n) (sym there) in
     omega arith
-
--- no places weigh nothing
-pub no_weight : (row : ℕ → ℕ) (part : Places) → part.bits ≡ 0 → part_weight row part ≡ 0
-unfolding lib.Count.ones
-no_weight row part none = ap (λ n. count_ones n * part.weight) (ap (λ b. bit_and b (row part.word)) none ∙ and_zero_l (row part.word)) ∙ zero-mul part.weight
 
 bit_times : (b weight : ℕ) → b < 2 → b * weight ≡ cond (eqb b 1) weight 0
 bit_times zero weight low = zero-mul weight
@@ -262,10 +256,3 @@ part_used used items start size all = contains_each used (take size (drop start 
     has_each used items all item
     (subst (Member item) (take-append-drop start items) (Member-append_right item (take start items) (drop start items)
     (subst (Member item) (take-append-drop size (drop start items)) (Member-append_left item (take size (drop start items)) (drop size (drop start items)) m)))))
-
--- a prefix, what comes behind it, and the last item are the set
-pub parts_joined : (items : List ℕ) (depth last : ℕ) → depth ≤ last → length items ≡ last + 1 → (take depth items ++ take (last - depth) (drop depth items)) ++ get_or items last 0 ∷ [] ≡ items
-parts_joined items depth last le long =
-    let e : depth + (last - depth) ≡ last = omega arith in
-    ap (λ l. l ++ get_or items last 0 ∷ []) (sym (take-add depth (last - depth) items) ∙ ap (λ n. take n items) e)
-    ∙ sym (take_more items last 0 (omega arith)) ∙ take_all (last + 1) items (omega arith)

@@ -92,11 +92,3 @@ has_all last sets set is each = all_pass (is_one_of sets) (subsets_of_size (suc 
         | inr most ↦ (let e : suc last ≡ place = omega arith in subst (λ p. is_one_of sets (without p set) ≡ true) e is.first)
       ]
     ]
-
--- one that is missing settles it
-pub lacks_one : (size place : ℕ) (sets : List (List ℕ)) (set : List ℕ) → length set ≡ suc size → place < suc size
-    → is_one_of sets (without place set) ≡ false → has_subsets size sets set ≡ false
-lacks_one size place sets set long below missing = elim (cases_Bool (has_subsets size sets set)) [
-  | inl e ↦ absurd (true≢false (sym (each_passes (is_one_of sets) (subsets_of_size size set) e (without place set) (Member-without size place set long below)) ∙ missing))
-  | inr e ↦ e
-]

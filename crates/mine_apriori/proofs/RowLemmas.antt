@@ -1,5 +1,5 @@
 -- Rows of bits, one behind the other, whose bits are set one by one.
-use Rattle.std.proofs.Common.{◌≡◌, ◌≢◌, ℕ, zero, suc, ◌+◌, ◌*◌, ◌/◌, ◌%◌, ◌<◌, ◌≤◌, ◌^◌, Bool, true, false, ◌&&◌, ◌||◌, List, [], ◌∷◌, length, take, drop, get_or, map, cond, eqb, refl, sym, ap, ◌∙◌, subst, inl, inr, arith, w64}
+use Rattle.std.proofs.Common.{◌≡◌, ◌≢◌, ℕ, ◌+◌, ◌*◌, ◌/◌, ◌%◌, ◌<◌, ◌≤◌, ◌^◌, Bool, true, false, ◌&&◌, ◌||◌, List, [], length, take, drop, get_or, map, eqb, refl, sym, ap, ◌∙◌, inl, inr, arith, w64}
 use Rattle.std.specs.Prelude.{bit_or}
 use Rattle.std.specs.Int.{bit_at}
 use Rattle.std.proofs.Math.ListN.{set}
@@ -13,7 +13,7 @@ use Rattle.basket_sets.specs.Itemset.{IsRising, has}
 use Rattle.basket_sets.proofs.theory.Rising.{has_more, has_place}
 use Rattle.basket_sets.proofs.theory.Tests.{apart_eqb, or_false, or_true, rising_at}
 use Rattle.mine_apriori.specs.declared.rows.Rows.{Rows}
-use Rattle.mine_apriori.specs.Places.{IsRowOf, basket_at, has_place as has_bit_of}
+use Rattle.mine_apriori.specs.Places.{IsRowOf, basket_at}
 use Rattle.mine_apriori.specs.Rows.{AreRows, bit_in}
 
 -- the bits of the rows of some items once those of a place are set whose items are in a list

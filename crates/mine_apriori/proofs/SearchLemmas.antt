@@ -1,5 +1,5 @@
 -- What one comparison in a sorted list of sets says of the sets beside it, and when a search is over.
-use Rattle.std.proofs.Common.{◌≡◌, ℕ, ◌<◌, ◌≤◌, ◌+◌, ◌-◌, true, false, List, length, take, drop, get_or, get_or-drop, Ok, Err, sym, ap, ◌∙◌, inl, inr, arith}
+use Rattle.std.proofs.Common.{◌≡◌, ℕ, ◌<◌, ◌≤◌, ◌+◌, ◌-◌, true, false, List, [], length, take, drop, get_or, get_or-drop, Ok, Err, sym, ap, ◌∙◌, inl, inr, arith}
 use Rattle.std.specs.declared.cmp.Ordering.{Ordering}
 use Rattle.std.specs.declared.cmp.Ordering.TheVariants.{Less, Equal, Greater}
 use Rattle.std.specs.Ordering.{nat_cmp, ordering_index}
@@ -10,7 +10,7 @@ use Rattle.std.proofs.lemmas.Bool.{cases_lt}
 use Rattle.std.proofs.lemmas.List.{get_or-take, get_or_default, length-drop, length-take-le}
 use Rattle.mine_apriori.specs.Candidates.{is_one_of}
 use Rattle.mine_apriori.specs.Search.{IsBetween}
-use Rattle.mine_apriori.proofs.LookUpLemmas.{searched, answers_rise}
+use Rattle.mine_apriori.proofs.LookUpLemmas.{answers_rise, equal_sets, searched}
 use Rattle.basket_sets.proofs.theory.Sorting.{only_greater, only_less}
 
 -- the sets up to a smaller one are smaller
@@ -118,3 +118,14 @@ missing_between sets set start end place up b below found = is_missing sets set 
     moved k d from less =
         let e : k ≡ start + (k - start) = omega (arith, from) in
         ap (λ n. slice_cmp nat_cmp (get_or sets n d) set) e ∙ ap (λ y. slice_cmp nat_cmp y set) (sym (at_between sets start end (k - start) d (omega (arith, from, less))))
+
+-- ---- what is found
+
+pub stands_there : (sets : List (List ℕ)) (set other : List ℕ) (i : ℕ) → i < length sets → other ≡ get_or sets i other → slice_cmp nat_cmp other set ≡ Equal → get_or sets i [] ≡ set
+stands_there sets set other i below is e = get_or_default sets i [] other below ∙ sym is ∙ equal_sets other set e
+
+pub found_there : (sets : List (List ℕ)) (set : List ℕ) (start end place : ℕ) → IsBetween start end sets set
+    → place < length (take (end - start) (drop start sets)) → HoldsAt (λ y. slice_cmp nat_cmp y set ≡ Equal) (take (end - start) (drop start sets)) place → get_or sets (start + place) [] ≡ set
+found_there sets set start end place b below same =
+    let long = length_between sets start end b.ordered b.within in
+    sym (at_between sets start end place [] (omega (arith, long, below))) ∙ equal_sets (get_or (take (end - start) (drop start sets)) place []) set (same [])

@@ -1,11 +1,14 @@
-use Rattle.std.specs.Prelude.{◌≡◌, ◌<◌, ◌≤◌, ◌-◌, ℕ, List, [], length, slice_index, slice_index_or, take}
+use Rattle.std.specs.Prelude.{◌≡◌, ◌<◌, ◌≤◌, ◌+◌, ℕ, List, [], length, slice_index, slice_index_or, take}
+use Rattle.basket_sets.specs.declared.weighted.Weighted.{Weighted}
+use Rattle.basket_sets.specs.Support.{support_of}
 
--- a set shares so many first items, but not its last, with another
+-- a set shares so many first items with another
 pub record IsShared (before items : List ℕ) (count : ℕ) : Type 0 where
-  pub short : count ≤ length items - 1
+  pub short : count ≤ length items
   pub same : take count before ≡ take count items
 
--- each set shares so many first items with the one before it
-pub record AreShared (sets : List (List ℕ)) (shared : List ℕ) : Type 0 where
-  pub long : length shared ≡ length sets
-  pub each : (k : ℕ) → k < length sets → IsShared (slice_index_or sets (k - 1) []) (slice_index_or sets k []) (slice_index shared k)
+-- the supports of some sets in some baskets are added to the counts from a place on, and the other counts stay
+pub record AreAdded (sets : List (List ℕ)) (baskets : List Weighted) (start : ℕ) (old new : List ℕ) : Type 0 where
+  pub added : (k : ℕ) → k < length sets → slice_index new (start + k) ≡ slice_index old (start + k) + support_of baskets (slice_index_or sets k [])
+  pub before : (k : ℕ) → k < start → slice_index new k ≡ slice_index old k
+  pub behind : (k : ℕ) → start + length sets ≤ k → slice_index new k ≡ slice_index old k

@@ -1,10 +1,11 @@
 -- The frequent sets by levels: those of one item, those of two, and so on.
 use Rattle.std.specs.Prelude.{◌≡◌, ◌<◌, ◌≤◌, ◌+◌, ℕ, List, length, filter, map}
-use Rattle.basket_ranks.specs.Codes.{Coding, frequent_of_coding}
-use Rattle.basket_sets.specs.Frequent.{is_frequent}
+use Rattle.basket_ranks.specs.Codes.{Coding, decoded_set, frequent_of_coding}
+use Rattle.basket_sets.specs.declared.counted.Counted.{Counted}
+use Rattle.basket_sets.specs.Frequent.{counted, is_frequent}
 use Rattle.basket_sets.specs.Subsets.{subsets_of_size, subsets_up_to}
 use Rattle.basket_sets.specs.Support.{support_of, items_of}
-use Rattle.mine_apriori.specs.declared.rank_sets.RankSets.{RankSets}
+use Rattle.mine_apriori.specs.Extensions.{AreGrouped, Group, sets_of}
 use Rattle.mine_apriori.specs.Candidates.{candidates_of}
 use Rattle.mine_apriori.specs.Work.{candidates_up_to}
 
@@ -34,15 +35,19 @@ wanted search = map (support_of search.coding.baskets) (asked_of search.coding s
 abbrev pub AreTooMany : Coding → ℕ → Type 0
 AreTooMany coding limit = limit < length (frequent_of_coding coding)
 
--- the frequent sets of at most so many ranks, smaller sets first, and their supports
-pub record AreFound (coding : Coding) (size : ℕ) (found : RankSets) : Type 0 where
-  pub sets : found.sets.items ≡ levels_up_to coding size
-  pub counts : found.counts.items ≡ map (support_of coding.baskets) found.sets.items
+-- sets of ranks as items, with their supports
+abbrev pub decoded_sets : Coding → List (List ℕ) → List Counted
+decoded_sets coding sets = map (λ set. decoded_set coding.items (counted coding.baskets set)) sets
+
+-- the frequent sets of at most so many ranks as items, smaller sets first
+abbrev pub AreFound : Coding → ℕ → List Counted → Type 0
+AreFound coding size found = found ≡ decoded_sets coding (levels_up_to coding size)
 
 -- what a search has found, what it asks, and how many sets it has asked
-pub record Knows (search : Search) (found : RankSets) (candidates : List (List ℕ)) (counted : ℕ) : Type 0 where
+pub record Knows (search : Search) (found : List Counted) (candidates : List Group) (counted : ℕ) : Type 0 where
   pub some : 1 ≤ search.size
   pub found_all : AreFound search.coding search.size found
-  pub few : length found.sets.items ≤ search.limit
-  pub asked : candidates ≡ asked_of search.coding search.size
+  pub few : length found ≤ search.limit
+  pub asked : sets_of candidates ≡ asked_of search.coding search.size
+  pub grouped : AreGrouped candidates
   pub number : counted ≡ length (candidates_up_to search.coding.baskets search.coding.minimum (search.size + 1))

@@ -1,9 +1,8 @@
 pub mod Sizes
 pub mod Candidates
+pub mod Extensions
 pub mod Join
 pub mod Search
-pub mod Used
-pub mod Endings
 pub mod Shard
 pub mod Partners
 pub mod Work

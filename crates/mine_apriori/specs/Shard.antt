@@ -2,6 +2,6 @@ use Rattle.std.specs.Prelude.{ℕ, List}
 use Rattle.basket_sets.specs.Order.{IsInReportOrder}
 use Rattle.mine_apriori.specs.Sizes.{AreOfOneSize}
 
--- a list of sets of which a tree can be made: they have one size, which is at least 1, and are in report order
+-- sets of one size, which is at least 1, in report order
 abbrev pub IsRegular : List (List ℕ) → Type 0
 IsRegular sets = AreOfOneSize sets × IsInReportOrder sets

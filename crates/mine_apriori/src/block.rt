@@ -1,10 +1,12 @@
 //! A block of baskets in which sets are counted by the places of their prefixes.
-ghost use Rattle.std.specs.Prelude.{◌≡◌, ◌≤◌, ◌+◌, ◌-◌, ◌++◌, ◌∷◌, [], ℕ, List, IfOk, IsTrue, OnOk, length};
+ghost use Rattle.std.specs.Prelude.{◌≡◌, ◌≤◌, ◌<◌, ◌+◌, ◌++◌, ◌∷◌, [], ℕ, List, IfOk, IsTrue, OnOk, length, slice_index};
 ghost use Rattle.basket_sets.specs.Database.{MOST_WEIGHT};
 ghost use Rattle.basket_sets.specs.Itemset.{contains, has};
 ghost use Rattle.basket_sets.specs.Support.{support_of, total_of};
 ghost use Rattle.basket_sets.specs.declared.weighted.Weighted.{Weighted as Place};
 ghost use Rattle.mine_apriori.specs.Block.{ArePrefixes};
+ghost use Rattle.mine_apriori.specs.Counter.{AreAdded};
+ghost use Rattle.mine_apriori.specs.Extensions.{extend};
 ghost use Rattle.mine_apriori.specs.Places.{ArePlacesOf, IsRowOf};
 ghost use Rattle.mine_apriori.specs.Rows.{AreRows};
 
@@ -21,6 +23,7 @@ pub const MOST_PREFIXES: usize = 32;
 /// Baskets, and the row of each item that is used.
 #[derive(Drop)]
 pub struct Block<'a> {
+    alloc: Global,
     baskets: &'a [Weighted],
     used: &'a UsedItems,
     rows: Rows,
@@ -41,6 +44,7 @@ impl<'a> Block<'a> {
     {
         let rows = Rows::of(alloc, used, baskets)?;
         Ok(Block {
+            alloc,
             baskets,
             used,
             rows,
@@ -48,11 +52,11 @@ impl<'a> Block<'a> {
     }
 
     /// The places of all baskets, from which the places of sets are found.
-    pub fn prefixes(&self, alloc: Global) -> Result<Vec<Vec<Places>>, AllocError>
+    pub fn prefixes(&self) -> Result<Vec<Vec<Places>>, AllocError>
         ensures prefixes { IfOk result (λ prefixes. (items : List ℕ) → ArePrefixes self.now.baskets.now items prefixes.items) }
     {
-        let mut prefixes = Vec::with_capacity(alloc, 1 + MOST_PREFIXES)?;
-        prefixes.push(places_of(alloc, self.baskets)?)?;
+        let mut prefixes = Vec::with_capacity(self.alloc, 1 + MOST_PREFIXES)?;
+        prefixes.push(places_of(self.alloc, self.baskets)?)?;
         Ok(prefixes)
     }
 
@@ -68,89 +72,82 @@ impl<'a> Block<'a> {
         self.rows.row(number)
     }
 
-    /// The support of a set, from the places of some of its prefixes. Those of more of them are added.
-    pub fn support(
+    /// Adds the supports of the sets that extend a prefix by one item each to the counts from a place on. They are found
+    /// from the places of some of the prefix's own prefixes; those of more of them are added.
+    pub fn add(
         &self,
-        alloc: Global,
+        prefix: &[u32],
         items: &[u32],
-        prefixes: &mut Vec<Vec<Places>>,
-    ) -> Result<u64, AllocError>
-        requires used { IsTrue (contains self.now.used.now items.now) }
-        requires prefixes { ArePrefixes self.now.baskets.now items.now prefixes.old.items }
-        requires short { length prefixes.old.items ≤ 1 + (length items.now - 1) }
-        ensures support { IfOk result (λ support. support ≡ support_of self.now.baskets.now items.now) }
-        ensures prefixes { OnOk result (ArePrefixes self.now.baskets.now items.now prefixes.new.items) }
+        stack: &mut Vec<Vec<Places>>,
+        start: usize,
+        counts: &mut [u64],
+    ) -> Result<(), AllocError>
+        requires used { IsTrue (contains self.now.used.now prefix.now) }
+        requires items_used { IsTrue (contains self.now.used.now items.now) }
+        requires prefixes { ArePrefixes self.now.baskets.now prefix.now stack.old.items }
+        requires short { length stack.old.items ≤ 1 + length prefix.now }
+        requires within { start + length items.now ≤ length counts.old }
+        requires light { (k : ℕ) → k < length items.now → slice_index counts.old (start + k) + total_of self.now.baskets.now ≤ MOST_WEIGHT }
+        ensures supports { OnOk result (AreAdded (extend prefix.now items.now) self.now.baskets.now start counts.old counts.new) }
+        ensures prefixes { OnOk result (ArePrefixes self.now.baskets.now prefix.now stack.new.items) }
     {
-        if items.is_empty() {
-            return Ok(weight_of(self.baskets));
+        self.add_prefixes(prefix, stack)?;
+        if are_none(stack) {
+            return Ok(());
         }
-        let last = items.len() - 1;
-        self.add_prefixes(alloc, items, prefixes)?;
-        let depth = prefixes.len() - 1;
-        let support = self.shared(alloc, &prefixes[depth], &items[depth..last], items[last])?;
-        Ok(support)
+        let depth = stack.len() - 1;
+        if depth == prefix.len() {
+            self.add_weights(&stack[depth], items, start, counts);
+        } else {
+            let places = self.kept_by_all(&stack[depth], &prefix[depth..])?;
+            self.add_weights(&places, items, start, counts);
+        }
+        Ok(())
     }
 
     /// Adds the places of more prefixes of a set, until there are none or as many as are kept.
-    fn add_prefixes(
-        &self,
-        alloc: Global,
-        items: &[u32],
-        prefixes: &mut Vec<Vec<Places>>,
-    ) -> Result<(), AllocError>
+    fn add_prefixes(&self, items: &[u32], prefixes: &mut Vec<Vec<Places>>) -> Result<(), AllocError>
         requires used { IsTrue (contains self.now.used.now items.now) }
         requires prefixes { ArePrefixes self.now.baskets.now items.now prefixes.old.items }
-        requires short { length prefixes.old.items ≤ length items.now }
+        requires short { length prefixes.old.items ≤ 1 + length items.now }
         ensures prefixes { OnOk result (ArePrefixes self.now.baskets.now items.now prefixes.new.items) }
-        ensures short { OnOk result (length prefixes.new.items ≤ length items.now) }
+        ensures short { OnOk result (length prefixes.new.items ≤ 1 + length items.now) }
     {
-        for depth in prefixes.len() - 1..MOST_PREFIXES.min(items.len() - 1) {
+        for depth in prefixes.len() - 1..MOST_PREFIXES.min(items.len()) {
             if prefixes[depth].is_empty() {
                 return Ok(());
             }
-            let places = kept(alloc, &prefixes[depth], self.row(items[depth]))?;
+            let places = kept(self.alloc, &prefixes[depth], self.row(items[depth]))?;
             prefixes.push(places)?;
         }
         Ok(())
     }
 
-    /// The support of the set that has the items of a set whose places are given, then some more, and a last one.
-    fn shared(
-        &self,
-        alloc: Global,
-        places: &[Places],
-        items: &[u32],
-        last: u32,
-    ) -> Result<u64, AllocError>
-        requires used { IsTrue (contains self.now.used.now items.now) }
-        requires last { IsTrue (has self.now.used.now last) }
-        requires places { (set : List ℕ) × ArePlacesOf self.now.baskets.now set places.now }
-        ensures { IfOk result (λ support. (set : List ℕ) → ArePlacesOf self.now.baskets.now set places.now
-            → support ≡ support_of self.now.baskets.now ((set ++ items.now) ++ last ∷ [])) }
-    {
-        if items.is_empty() {
-            return Ok(self.weight(places, last));
-        }
-        let kept = self.kept_by_all(alloc, places, items)?;
-        Ok(self.weight(&kept, last))
-    }
-
     /// Those of the places of a set whose baskets have all of the items.
-    fn kept_by_all(
-        &self,
-        alloc: Global,
-        places: &[Places],
-        items: &[u32],
-    ) -> Result<Vec<Places>, AllocError>
+    fn kept_by_all(&self, places: &[Places], items: &[u32]) -> Result<Vec<Places>, AllocError>
         requires used { IsTrue (contains self.now.used.now items.now) }
         ensures { IfOk result (λ kept. (set : List ℕ) → ArePlacesOf self.now.baskets.now set places.now
             → ArePlacesOf self.now.baskets.now (set ++ items.now) kept.items) }
     {
-        let mut shared = places.to_vec(alloc)?;
+        let mut shared = places.to_vec(self.alloc)?;
         for item in items {
-            shared = kept(alloc, &shared, self.row(*item))?;
+            shared = kept(self.alloc, &shared, self.row(*item))?;
         }
         Ok(shared)
+    }
+
+    /// Adds the supports of the sets that have the items of a set whose places are given, and one more each, to the counts
+    /// from a place on.
+    fn add_weights(&self, places: &[Places], items: &[u32], start: usize, counts: &mut [u64])
+        requires used { IsTrue (contains self.now.used.now items.now) }
+        requires places { (set : List ℕ) × ArePlacesOf self.now.baskets.now set places.now }
+        requires within { start + length items.now ≤ length counts.old }
+        requires light { (k : ℕ) → k < length items.now → slice_index counts.old (start + k) + total_of self.now.baskets.now ≤ MOST_WEIGHT }
+        ensures { (set : List ℕ) → ArePlacesOf self.now.baskets.now set places.now → AreAdded (extend set items.now) self.now.baskets.now start counts.old counts.new }
+    {
+        for (number, item) in items.iter().enumerate() {
+            counts[start + number] += self.weight(places, *item);
+        }
     }
 
     /// The support of the set that has the items of a set whose places are given, and one more.
@@ -162,18 +159,6 @@ impl<'a> Block<'a> {
     {
         shared_weight(places, self.row(item))
     }
-}
-
-/// What the baskets weigh together.
-fn weight_of(baskets: &[Weighted]) -> u64
-    requires { total_of baskets.now ≤ MOST_WEIGHT }
-    ensures { result ≡ total_of baskets.now }
-{
-    let mut weight = 0;
-    for basket in baskets {
-        weight += basket.weight;
-    }
-    weight
 }
 
 /// Whether the last prefix has no places, so that no basket contains the set.

@@ -1,16 +1,16 @@
 //! Sets that are counted by rows of bits.
-ghost use Rattle.std.specs.Prelude.{◌≡◌, ◌<◌, ◌≤◌, ◌+◌, ◌-◌, ℕ, [], IfOk, OnOk, length, slice_index, slice_index_or};
+ghost use Rattle.std.specs.Prelude.{◌≡◌, ◌<◌, ◌≤◌, ◌+◌, ℕ, IfOk, OnOk, length, slice_index};
 ghost use Rattle.basket_sets.specs.Database.{MOST_WEIGHT};
-ghost use Rattle.basket_sets.specs.Support.{support_of, total_of};
-ghost use Rattle.mine_apriori.specs.Block.{ArePrefixes};
-ghost use Rattle.mine_apriori.specs.Counter.{AreShared, IsShared};
-ghost use Rattle.mine_apriori.specs.UsedItems.{AreUsed};
+ghost use Rattle.basket_sets.specs.Support.{total_of};
+ghost use Rattle.mine_apriori.specs.Counter.{IsShared};
+ghost use Rattle.mine_apriori.specs.Extensions.{sets_of};
 ghost use Rattle.mine_classes.specs.Triangle.{WithSupports};
 
-use crate::block::{Block, MOST_PREFIXES, are_none};
-use crate::places::{Places, WORD};
+use crate::block::Block;
+use crate::extensions::Extensions;
+use crate::places::WORD;
 use crate::used_items::UsedItems;
-use basket_core::{Itemset, Weighted};
+use basket_core::Weighted;
 use std::alloc::{AllocError, Global};
 use std::marker::Model;
 
@@ -21,40 +21,36 @@ const BLOCK_WORDS: usize = 32_768;
 /// once.
 #[derive(Debug, Drop)]
 pub struct RowCounter<'a> {
-    sets: &'a [Itemset],
+    sets: &'a Extensions,
     used: UsedItems,
-    /// How many first items each set shares with the one before it, as far as the places of prefixes are kept.
-    shared: Vec<u8>,
 }
 
 impl<'a> Model for RowCounter<'a> {
     ghost use Rattle.std.specs.Prelude.{ℕ, List};
-    ghost use Rattle.mine_apriori.specs.Counter.{AreShared};
+    ghost use Rattle.mine_apriori.specs.Extensions.{lists_of, prefixes_of, sets_of};
     ghost use Rattle.mine_apriori.specs.UsedItems.{AreUsed};
 
     ghost Value = { List (List ℕ) };
 
-    ghost view = { λ counter. counter.sets.now };
+    ghost view = { λ counter. sets_of counter.sets.now };
 
-    ghost invariant = { λ counter. AreUsed counter.sets.now counter.used × AreShared counter.sets.now counter.shared.items };
+    ghost invariant = { λ counter. AreUsed (prefixes_of counter.sets.now) counter.used × AreUsed (lists_of counter.sets.now) counter.used };
 }
 
 impl<'a> RowCounter<'a> {
-    /// The counter of the sets, which may be any sets in any order. Sets that share first items are best counted one
-    /// after another, as in report order.
-    pub fn of(alloc: Global, sets: &'a [Itemset]) -> Result<Self, AllocError>
-        ensures { IfOk result (λ counter. counter ≡ sets.now) }
+    /// The counter of the sets.
+    pub fn of(alloc: Global, sets: &'a Extensions) -> Result<Self, AllocError>
+        ensures { IfOk result (λ counter. counter ≡ sets_of sets.now) }
     {
-        let used = UsedItems::of(alloc, sets)?;
-        let shared = shared_items(alloc, sets)?;
-        Ok(RowCounter { sets, used, shared })
+        let used = UsedItems::of(alloc, sets.prefixes(), sets.lists())?;
+        Ok(RowCounter { sets, used })
     }
 
-    /// The sets.
-    pub fn sets(&self) -> &[Itemset]
-        ensures { result.now ≡ self.now }
+    /// The number of sets.
+    pub fn len(&self) -> usize
+        ensures { result ≡ length self.now }
     {
-        self.sets
+        self.sets.len()
     }
 
     /// How many baskets a block has at most.
@@ -86,7 +82,8 @@ impl<'a> RowCounter<'a> {
         Ok(())
     }
 
-    /// Adds the support of each set in the baskets of a block to its count.
+    /// Adds the support of each set in the baskets of a block to its count. The places of the prefixes that two sets
+    /// in a row share are found once.
     fn add_block(
         &self,
         alloc: Global,
@@ -101,61 +98,28 @@ impl<'a> RowCounter<'a> {
             return Ok(());
         }
         let block = Block::of(alloc, &self.used, baskets)?;
-        let mut prefixes = block.prefixes(alloc)?;
-        for number in 0..self.sets.len() {
-            counts[number] += self.support(alloc, &block, number, &mut prefixes)?;
+        let mut stack = block.prefixes()?;
+        let prefixes = self.sets.prefixes();
+        let mut start = 0;
+        for (number, items) in self.sets.lists().iter().enumerate() {
+            let (before, prefix) = (&prefixes[number.saturating_sub(1)], &prefixes[number]);
+            stack.truncate(1 + shared_items(before.items(), prefix.items()));
+            block.add(prefix.items(), items.items(), &mut stack, start, counts)?;
+            start += items.len();
         }
         Ok(())
     }
-
-    /// The support of a set in a block, from the places of the prefixes of the set before it, which become those of its
-    /// own.
-    fn support(
-        &self,
-        alloc: Global,
-        block: &Block<'_>,
-        number: usize,
-        prefixes: &mut Vec<Vec<Places>>,
-    ) -> Result<u64, AllocError>
-        requires within { number < length self.now }
-        requires used { AreUsed self.now block.now.used.now }
-        requires prefixes { ArePrefixes block.now.baskets.now (slice_index_or self.now (number - 1) []) prefixes.old.items }
-        ensures support { IfOk result (λ support. support ≡ support_of block.now.baskets.now (slice_index_or self.now number [])) }
-        ensures prefixes { OnOk result (ArePrefixes block.now.baskets.now (slice_index_or self.now number []) prefixes.new.items) }
-    {
-        prefixes.truncate(1 + self.shared[number] as usize);
-        if are_none(prefixes) {
-            return Ok(0);
-        }
-        let support = block.support(alloc, self.sets[number].items(), prefixes)?;
-        Ok(support)
-    }
 }
 
-/// For each set how many first items it shares with the one before it.
-fn shared_items(alloc: Global, sets: &[Itemset]) -> Result<Vec<u8>, AllocError>
-    ensures { IfOk result (λ shared. AreShared sets.now shared.items) }
-{
-    let mut shared = Vec::with_capacity(alloc, sets.len())?;
-    for number in 0..sets.len() {
-        let before = &sets[number.saturating_sub(1)];
-        shared.push(shared_by(before.items(), sets[number].items()))?;
-    }
-    Ok(shared)
-}
-
-/// How many of the first items of a set, except the last, another one shares, as far as the places of prefixes are kept.
-fn shared_by(before: &[u32], items: &[u32]) -> u8
+/// How many first items two sets share.
+fn shared_items(before: &[u32], items: &[u32]) -> usize
     ensures { IsShared before.now items.now result }
 {
-    let most = before
-        .len()
-        .min(items.len().saturating_sub(1))
-        .min(MOST_PREFIXES);
-    for at in 0..most {
-        if before[at] != items[at] {
-            return at as u8;
+    let most = before.len().min(items.len());
+    for place in 0..most {
+        if before[place] != items[place] {
+            return place;
         }
     }
-    most as u8
+    most
 }

@@ -1,57 +1,63 @@
 //! The first level of Apriori, and the second, which is made of pairs.
-ghost use Rattle.std.specs.Prelude.{◌≡◌, ◌≤◌, ◌++◌, ℕ, Err, IfOk, OnOk, length, map};
+ghost use Rattle.std.specs.Prelude.{◌≡◌, ◌≤◌, ℕ, Err, IfOk, OnOk, length, map};
 ghost use Rattle.basket_core.specs.declared.fault.MineFault.TheVariants.{TooMany};
 ghost use Rattle.basket_ranks.specs.Codes.{IsCoding};
 ghost use Rattle.basket_sets.specs.Support.{support_of};
+ghost use Rattle.mine_apriori.specs.Extensions.{AreGrouped, sets_of};
 ghost use Rattle.mine_apriori.specs.Levels.{AreFound, AreTooMany, level_of};
 ghost use Rattle.mine_classes.specs.Pairs.{ArePairs, lists_of};
 
+use crate::extensions::Extensions;
+use crate::frequent::add_frequent;
 use crate::levels::{Known, Levels};
 use crate::partners::by_lesser;
-use crate::rank_sets::RankSets;
-use basket_core::{Coded, Itemset, MineFault, count_items};
+use basket_core::{Coded, CountedSets, MineFault, count_items};
 use mine_classes::pair_count;
 use std::alloc::{AllocError, Global};
 use std::marker::Model;
 
-/// The frequent sets of one rank.
-pub fn frequent_ranks(alloc: Global, coded: &Coded) -> Result<RankSets, AllocError>
-    ensures sets { IfOk result (λ found. found.sets.items ≡ level_of coded.now 1) }
-    ensures counts { IfOk result (λ found. found.counts.items ≡ map (support_of coded.now.baskets) (level_of coded.now 1)) }
+/// The frequent sets of one rank, as items with their supports and as ranks.
+pub fn frequent_ranks(alloc: Global, coded: &Coded) -> Result<(CountedSets, Extensions), AllocError>
+    ensures found { IfOk result (λ first. AreFound coded.now 1 first.0) }
+    ensures level { IfOk result (λ first. sets_of first.1 ≡ level_of coded.now 1) }
+    ensures grouped { IfOk result (λ first. AreGrouped first.1) }
     ensures coding { OnOk result (IsCoding coded.now) }
 {
-    let minimum = coded.minimum();
-    let total = coded.total();
-    let mut found = RankSets {
-        sets: Vec::new(alloc),
-        counts: Vec::new(alloc),
-    };
+    let mut ranks = Vec::new(alloc);
+    let mut counts = Vec::new(alloc);
     for (rank, count) in &count_items(alloc, coded.baskets())? {
-        if minimum.met(*count, total) {
-            found.push(Itemset::from_items(alloc, &[*rank])?, *count)?;
-        }
+        ranks.push(*rank)?;
+        counts.push(*count)?;
     }
-    Ok(found)
+    let sets = Extensions::new(alloc).with_items(alloc, &[], &ranks)?;
+    let mut found = CountedSets::new(alloc, coded.items(), coded.total())?;
+    let level = add_frequent(alloc, coded, &sets, &counts, &mut found)?;
+    Ok((found, level))
 }
 
-/// Adds the frequent sets of two ranks, from the pairs of each rank with lesser ones.
-fn add_second_level(
+/// The pairs of each rank with greater ones, and their supports.
+fn pair_sets(
     alloc: Global,
     coded: &Coded,
     pairs: &[Vec<(u32, u64)>],
-    found: &mut RankSets,
-) -> Result<(), AllocError>
+) -> Result<(Extensions, Vec<u64>), AllocError>
     requires coding { IsCoding coded.now }
     requires pairs { ArePairs coded.now (lists_of pairs.now) }
-    requires found { AreFound coded.now 1 found.old }
-    ensures sets { OnOk result (found.new.sets.items ≡ found.old.sets.items ++ level_of coded.now 2) }
-    ensures found { OnOk result (AreFound coded.now 2 found.new) }
+    ensures sets { IfOk result (λ sets. sets_of sets.0 ≡ level_of coded.now 2) }
+    ensures grouped { IfOk result (λ sets. AreGrouped sets.0) }
+    ensures counts { IfOk result (λ sets. sets.1.items ≡ map (support_of coded.now.baskets) (level_of coded.now 2)) }
 {
-    let lists = by_lesser(alloc, pairs)?;
-    for (rank, pairs) in lists.iter().enumerate() {
-        found.add_pairs(alloc, rank as u32, pairs)?;
+    let mut sets = Extensions::new(alloc);
+    let mut counts = Vec::new(alloc);
+    for (rank, pairs) in by_lesser(alloc, pairs)?.iter().enumerate() {
+        let mut greater = Vec::with_capacity(alloc, pairs.len())?;
+        for (other, count) in pairs {
+            greater.push(*other)?;
+            counts.push(*count)?;
+        }
+        sets = sets.with_items(alloc, &[rank as u32], &greater)?;
     }
-    Ok(())
+    Ok((sets, counts))
 }
 
 /// The frequent items, from which a search goes on once the frequent pairs are known.
@@ -59,19 +65,20 @@ fn add_second_level(
 pub struct FirstLevel<'a> {
     coded: &'a Coded,
     limit: u32,
-    found: RankSets,
+    found: CountedSets,
 }
 
 impl<'a> Model for FirstLevel<'a> {
     ghost use Rattle.std.specs.Prelude.{◌≤◌, length};
     ghost use Rattle.basket_ranks.specs.Codes.{IsCoding};
+    ghost use Rattle.mine_apriori.specs.Extensions.{AreGrouped, sets_of};
     ghost use Rattle.mine_apriori.specs.Levels.{AreFound, Search};
 
     ghost Value = { Search };
 
     ghost view = { λ first. record { coding = first.coded.now; limit = first.limit; size = 1 } };
 
-    ghost invariant = { λ first. IsCoding first.coded.now × AreFound first.coded.now 1 first.found × (length first.found.sets.items ≤ first.limit) };
+    ghost invariant = { λ first. IsCoding first.coded.now × AreFound first.coded.now 1 first.found × (length first.found ≤ first.limit) };
 }
 
 impl<'a> FirstLevel<'a> {
@@ -80,8 +87,8 @@ impl<'a> FirstLevel<'a> {
         ensures ok { IfOk result (λ first. first ≡ record { coding = coded.now; limit = limit; size = 1 }) }
         ensures too_many { (most : ℕ) → result ≡ Err (TooMany most) → (most ≡ limit) × AreTooMany coded.now limit }
     {
-        let found = frequent_ranks(alloc, coded)?;
-        if found.sets.len() > limit as usize {
+        let (found, _level) = frequent_ranks(alloc, coded)?;
+        if found.len() > limit as usize {
             return Err(MineFault::TooMany { limit });
         }
         Ok(FirstLevel {
@@ -107,14 +114,15 @@ impl<'a> FirstLevel<'a> {
             limit,
             mut found,
         } = self;
-        let last = found.sets.len();
-        add_second_level(alloc, coded, pairs, &mut found)?;
+        let counted = pair_count(found.len() as u32) as u64;
+        let (sets, counts) = pair_sets(alloc, coded, pairs)?;
+        let level = add_frequent(alloc, coded, &sets, &counts, &mut found)?;
         let known = Known {
             coded,
             size: 2,
             found,
-            counted: pair_count(last as u32) as u64,
+            counted,
         };
-        known.ask(alloc, limit, last)
+        known.ask(alloc, limit, &level)
     }
 }

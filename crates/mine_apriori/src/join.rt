@@ -1,129 +1,122 @@
 //! Apriori's candidates, made by join and prune.
-ghost use Rattle.std.specs.Prelude.{◌≡◌, ◌<◌, ◌≤◌, ◌+◌, ◌-◌, ◌++◌, ◌∷◌, [], IfOk, OnOk, drop, length, slice_index_or};
-ghost use Rattle.basket_sets.specs.Itemset.{IsRising, without};
+ghost use Rattle.std.specs.Prelude.{◌≡◌, ◌<◌, ◌≤◌, ◌+◌, ◌-◌, ◌++◌, ◌∷◌, [], ℕ, suc, All, IfOk, IsTrue, OnOk, filter, length};
+ghost use Rattle.std.specs.Cmp.Lexicographic.{slice_cmp};
+ghost use Rattle.std.specs.List.Sorted.{IsStrictlySortedBy};
+ghost use Rattle.std.specs.Ordering.{nat_cmp};
+ghost use Rattle.basket_sets.specs.Itemset.{IsRising, has, without};
 ghost use Rattle.basket_sets.specs.Order.{IsInReportOrder};
-ghost use Rattle.mine_apriori.specs.Candidates.{is_one_of, has_subsets, candidates_of};
-ghost use Rattle.mine_apriori.specs.Endings.{AreEndings};
-ghost use Rattle.mine_apriori.specs.Join.{AreJoinable, IsJoin, joined_with};
-ghost use Rattle.mine_apriori.specs.Sizes.{AreOfOneSize};
+ghost use Rattle.mine_apriori.specs.Candidates.{is_one_of, candidates_of};
+ghost use Rattle.mine_apriori.specs.Extensions.{AreGrouped, has_items, prefixes_of, sets_of};
+ghost use Rattle.mine_apriori.specs.Join.{AreParts, has_parts, joined_group};
+ghost use Rattle.mine_apriori.specs.Sizes.{AreOfSize};
 
-use crate::endings::{ending_with, endings};
+use crate::extensions::{Extensions, put_extended};
+use crate::intersection::push_shared;
 use crate::search::find_near;
-use crate::used::may_be_used;
-use basket_core::Itemset;
 use std::alloc::{AllocError, Global};
+use std::mem::swap;
 
-/// Sets of one size, and the table of their endings.
-#[derive(Clone, Copy)]
-struct Level<'a> {
-    sets: &'a [Itemset],
-    endings: &'a [bool],
-}
-
-/// The sets of one more item all of whose subsets of the sets' size are in the list, in report
+/// The sets of one more item all of whose subsets of the level's size are in the level, in report
 /// order (Agrawal and Srikant 1994).
-pub fn candidates(alloc: Global, sets: &[Itemset]) -> Result<Vec<Itemset>, AllocError>
-    requires sized { AreOfOneSize sets.now }
-    requires in_order { IsInReportOrder sets.now }
-    ensures { IfOk result (λ found. found.items ≡ candidates_of sets.now) }
+pub fn candidates(alloc: Global, level: &Extensions) -> Result<Extensions, AllocError>
+    requires grouped { AreGrouped level.now }
+    requires in_order { IsInReportOrder (sets_of level.now) }
+    requires rising { All IsRising (sets_of level.now) }
+    ensures candidates { IfOk result (λ found. sets_of found ≡ candidates_of (sets_of level.now)) }
+    ensures grouped { IfOk result AreGrouped }
 {
-    let mut found = Vec::new(alloc);
-    let mut joined = Vec::new(alloc);
-    let size = match sets.first() {
-        Some(set) => set.len(),
+    let mut found = Extensions::new(alloc);
+    let size = match level.prefixes().first() {
+        Some(prefix) => prefix.len(),
         None => 0,
     };
     let mut hints = vec![in alloc; 0; size]?;
-    let endings = endings(alloc, sets)?;
-    let level = Level {
-        sets,
-        endings: &endings,
-    };
-    for place in 0..sets.len() {
-        join_later(alloc, level, place, &mut joined, &mut hints, &mut found)?;
+    for place in 0..level.prefixes().len() {
+        let prefix = level.prefixes()[place].items();
+        let items = level.lists()[place].items();
+        found = join(alloc, level, prefix, items, &mut hints, found)?;
     }
     Ok(found)
 }
 
-/// Adds the candidates that are joins of the set at the place with a later one. The sets that it
-/// can be joined to have the same items before the last, so they come right after it. The hints for
-/// `has_all_subsets` stay from set to set, since the sets that are looked up mostly rise. Most
-/// joins lack the subset without the first item, which the endings show without a search.
-fn join_later(
+/// Adds the candidates whose first two subsets are sets of a prefix: each of them is joined to the later ones.
+fn join(
     alloc: Global,
-    level: Level<'_>,
-    place: usize,
-    joined: &mut Vec<u32>,
+    level: &Extensions,
+    prefix: &[u32],
+    items: &[u32],
     hints: &mut [usize],
-    found: &mut Vec<Itemset>,
+    found: Extensions,
+) -> Result<Extensions, AllocError>
+    requires parts { AreParts level.now prefix.now items.now }
+    requires hinted { length prefix.now ≤ length hints.old }
+    ensures { IfOk result (λ more. more ≡ found ++ filter has_items (joined_group (suc (length prefix.now)) (sets_of level.now) prefix.now items.now)) }
+{
+    let mut found = found;
+    let mut joined = Vec::new(alloc);
+    let mut later = Vec::new(alloc);
+    let mut room = Vec::new(alloc);
+    for place in 0..items.len() {
+        put_extended(&mut joined, prefix, items[place])?;
+        later.clear();
+        later.extend_from_slice(&items[place + 1..])?;
+        keep_extensions(level, &joined, hints, &mut later, &mut room)?;
+        if !later.is_empty() {
+            found = found.with_items(alloc, &joined, &later)?;
+        }
+    }
+    Ok(found)
+}
+
+/// Keeps those items with which a set has all subsets of its size that lack one of its items except the last. From one
+/// set to the next the prefix without the item at a place mostly moves on a little, so each place has a hint of its own.
+fn keep_extensions(
+    level: &Extensions,
+    set: &[u32],
+    hints: &mut [usize],
+    items: &mut Vec<u32>,
+    room: &mut Vec<u32>,
 ) -> Result<(), AllocError>
-    requires within { place < length level.sets.now }
-    requires endings { AreEndings level.sets.now level.endings.now }
-    requires hinted { length (slice_index_or level.sets.now place []) ≤ length hints.old }
-    requires joinable { AreJoinable (length (slice_index_or level.sets.now place []) - 1) level.sets.now }
-    ensures joins { let set = slice_index_or level.entry.sets.now place [] in
-        OnOk result (found.new.items ≡ found.old.items ++ joined_with (length set - 1) level.entry.sets.now set (drop (place + 1) level.entry.sets.now)) }
-    ensures rises { IsRising (slice_index_or level.entry.sets.now place []) }
+    requires some { 1 ≤ length set.now }
+    requires hinted { length set.now ≤ length hints.old + 1 }
+    requires sized { AreOfSize (length set.now - 1) (prefixes_of level.now) }
+    requires sorted { IsStrictlySortedBy (slice_cmp nat_cmp) (prefixes_of level.now) }
+    requires rising { IsRising items.old.items }
+    ensures { OnOk result (items.new.items ≡ filter (has_parts (length set.now - 1) (sets_of level.now) set.now) items.old.items) }
 {
-    let sets = level.sets;
-    let set = sets[place].items();
-    let later = &sets[place + 1..];
-    let last = set.len() - 1;
-    for other in later {
-        let other = other.items();
-        if other[..last] != set[..last] {
-            return Ok(());
-        }
-        if may_be_used(level.endings, ending_with(set, other[last])) {
-            fill(joined, set, other[last])?;
-            if has_all_subsets(sets, joined, hints) {
-                found.push(Itemset::from_items(alloc, joined)?)?;
-            }
-        }
+    for place in 0..set.len() - 1 {
+        keep_with(level, set, place, &mut hints[place], items, room)?;
     }
     Ok(())
 }
 
-/// Makes `joined` the items of a set with one more at its end. Its room is used again.
-fn fill(joined: &mut Vec<u32>, set: &[u32], item: u32) -> Result<(), AllocError>
-    ensures { OnOk result (joined.new.items ≡ set.now ++ item ∷ []) }
+/// Keeps those items with which the set without the item at a place is in the level. The search for that prefix begins at the
+/// hint, which then becomes the place where it was found.
+fn keep_with(
+    level: &Extensions,
+    set: &[u32],
+    place: usize,
+    hint: &mut usize,
+    items: &mut Vec<u32>,
+    room: &mut Vec<u32>,
+) -> Result<(), AllocError>
+    requires within { place < length set.now }
+    requires sized { AreOfSize (length set.now - 1) (prefixes_of level.now) }
+    requires sorted { IsStrictlySortedBy (slice_cmp nat_cmp) (prefixes_of level.now) }
+    requires rising { IsRising items.old.items }
+    ensures { OnOk result (items.new.items ≡ filter (λ item. is_one_of (sets_of level.now) (without place set.now ++ item ∷ [])) items.old.items) }
 {
-    joined.clear();
-    joined.extend_from_slice(set)?;
-    joined.push(item)?;
-    Ok(())
-}
-
-/// Whether all subsets of a joined set that lack one item are in the list. Those that lack one of
-/// the last two items are the sets that were joined. From one joined set to the next the subset
-/// without the item at a place mostly moves on a little, so each place has a hint of its own.
-fn has_all_subsets(sets: &[Itemset], joined: &[u32], hints: &mut [usize]) -> bool
-    requires hinted { length joined.now ≤ length hints.old + 2 }
-    requires joinable { AreJoinable (length joined.now - 2) sets.now }
-    requires is_join { IsJoin (length joined.now - 2) sets.now joined.now }
-    ensures { result ≡ has_subsets (length joined.now - 1) sets.now joined.now }
-{
-    for place in 0..joined.len() - 2 {
-        if !has_without(sets, joined, place, &mut hints[place]) {
-            return false;
-        }
+    if items.is_empty() {
+        return Ok(());
     }
-    true
-}
-
-/// Whether the items without the one at the place are a set of the list. The search begins at the
-/// hint, which then becomes the place where the next greater set may be.
-fn has_without(sets: &[Itemset], items: &[u32], place: usize, hint: &mut usize) -> bool
-    requires within { place < length items.now }
-    requires joinable { AreJoinable (length items.now - 2) sets.now }
-    ensures { result ≡ is_one_of sets.now (without place items.now) }
-{
-    let front = &items[..place];
-    let rest = &items[place + 1..];
-    let found = find_near(sets, front, rest, *hint);
-    *hint = match found {
-        Ok(at) => at + 1,
-        Err(at) => at,
-    };
-    found.is_ok()
+    room.clear();
+    match find_near(level.prefixes(), &set[..place], &set[place + 1..], *hint) {
+        Ok(at) => {
+            *hint = at;
+            push_shared(items, level.lists()[at].items(), room)?;
+        }
+        Err(at) => *hint = at,
+    }
+    swap(items, room);
+    Ok(())
 }

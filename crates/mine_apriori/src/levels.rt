@@ -1,18 +1,20 @@
 //! Apriori, level by level.
-ghost use Rattle.std.specs.Prelude.{◌≡◌, ◌≢◌, ◌<◌, ◌≤◌, ◌+◌, [], ℕ, Err, IfOk, IfErr, drop, length};
+ghost use Rattle.std.specs.Prelude.{◌≡◌, ◌≢◌, ◌<◌, ◌≤◌, ◌+◌, [], ℕ, Err, IfOk, IfErr, length};
 ghost use Rattle.basket_core.specs.declared.fault.MineFault.TheVariants.{Memory, TooMany};
 ghost use Rattle.basket_ranks.specs.Codes.{IsCoding, baskets_of};
 ghost use Rattle.basket_core.specs.Listing.{listing_of};
 ghost use Rattle.basket_sets.specs.Support.{items_of};
+ghost use Rattle.mine_apriori.specs.Extensions.{AreGrouped, sets_of};
 ghost use Rattle.mine_apriori.specs.Levels.{AreFound, AreTooMany, asked_of, level_of, wanted};
 ghost use Rattle.mine_apriori.specs.Shard.{IsRegular};
 ghost use Rattle.mine_apriori.specs.Work.{candidate_count, candidates_of_size, candidates_up_to};
 
+use crate::extensions::Extensions;
 use crate::first_level::{FirstLevel, frequent_ranks};
+use crate::frequent::add_frequent;
 use crate::join::candidates;
-use crate::rank_sets::RankSets;
-use crate::shard::count_shard;
-use basket_core::{Coded, Frequent, Itemset, MineFault};
+use crate::shard::count_extensions;
+use basket_core::{Coded, CountedSets, Frequent, MineFault};
 use mine_classes::frequent_pairs;
 use std::alloc::Global;
 use std::marker::Model;
@@ -25,8 +27,8 @@ pub struct Levels<'a> {
     coded: &'a Coded,
     limit: u32,
     size: usize,
-    found: RankSets,
-    asked: Vec<Itemset>,
+    found: CountedSets,
+    asked: Extensions,
     counted: u64,
 }
 
@@ -39,7 +41,7 @@ impl<'a> Model for Levels<'a> {
     ghost view = { λ levels. record { coding = levels.coded.now; limit = levels.limit; size = levels.size } };
 
     ghost invariant = { λ levels. IsCoding levels.coded.now
-        × Knows (record { coding = levels.coded.now; limit = levels.limit; size = levels.size }) levels.found levels.asked.items levels.counted };
+        × Knows (record { coding = levels.coded.now; limit = levels.limit; size = levels.size }) levels.found levels.asked levels.counted };
 }
 
 impl<'a> Levels<'a> {
@@ -49,14 +51,14 @@ impl<'a> Levels<'a> {
         ensures ok { IfOk result (λ levels. levels ≡ record { coding = coded.now; limit = limit; size = 1 }) }
         ensures too_many { (most : ℕ) → result ≡ Err (TooMany most) → (most ≡ limit) × AreTooMany coded.now limit }
     {
-        let found = frequent_ranks(alloc, coded)?;
+        let (found, level) = frequent_ranks(alloc, coded)?;
         let known = Known {
             coded,
             size: 1,
             found,
             counted: 0,
         };
-        known.ask(alloc, limit, 0)
+        known.ask(alloc, limit, &level)
     }
 
     /// The search at its end, which asks for nothing more.
@@ -68,7 +70,7 @@ impl<'a> Levels<'a> {
         let first = FirstLevel::of(alloc, coded, limit)?;
         let mut levels = first.with_pairs(alloc, &frequent_pairs(alloc, coded)?)?;
         while !levels.asked().is_empty() {
-            let counts = count_shard(alloc, coded.baskets(), levels.asked())?;
+            let counts = count_extensions(alloc, coded.baskets(), levels.asked())?;
             levels = levels.answer(alloc, &counts)?;
         }
         Ok(levels)
@@ -76,10 +78,10 @@ impl<'a> Levels<'a> {
 
     /// The candidates whose supports are asked for, as ranks. If there are none, all frequent sets
     /// are found.
-    pub fn asked(&self) -> &[Itemset]
-        ensures asked { result.now ≡ asked_of self.now.coding self.now.size }
-        ensures candidates { result.now ≡ candidates_of_size self.now.coding.baskets self.now.coding.minimum (self.now.size + 1) }
-        ensures regular { IsRegular result.now }
+    pub fn asked(&self) -> &Extensions
+        ensures asked { sets_of result.now ≡ asked_of self.now.coding self.now.size }
+        ensures candidates { sets_of result.now ≡ candidates_of_size self.now.coding.baskets self.now.coding.minimum (self.now.size + 1) }
+        ensures regular { IsRegular (sets_of result.now) }
         ensures more { asked_of self.now.coding self.now.size ≢ [] → self.now.size < length (items_of self.now.coding.baskets) }
     {
         &self.asked
@@ -100,27 +102,25 @@ impl<'a> Levels<'a> {
         ensures done { asked_of self.entry.coding self.entry.size ≡ [] → IfOk result (λ levels. levels ≡ self.entry) }
         ensures too_many { (most : ℕ) → result ≡ Err (TooMany most) → (most ≡ self.entry.limit) × AreTooMany self.entry.coding self.entry.limit }
     {
-        let size = match self.asked.first() {
-            Some(set) => set.len(),
-            None => return Ok(self),
-        };
+        if self.asked.is_empty() {
+            return Ok(self);
+        }
         let Levels {
             coded,
             limit,
+            size,
             mut found,
             asked,
             counted,
-            ..
         } = self;
-        let last = found.sets.len();
-        found.add_frequent(alloc, coded, &asked, counts)?;
+        let level = add_frequent(alloc, coded, &asked, counts, &mut found)?;
         let known = Known {
             coded,
-            size,
+            size: size + 1,
             found,
             counted,
         };
-        known.ask(alloc, limit, last)
+        known.ask(alloc, limit, &level)
     }
 
     /// The list of all frequent sets. There are at most as many as the limit.
@@ -132,7 +132,7 @@ impl<'a> Levels<'a> {
     {
         let Levels { coded, found, .. } = self;
         let mut classes = Vec::with_capacity(alloc, 1)?;
-        classes.push(found.decoded(alloc, coded)?)?;
+        classes.push(found)?;
         Ok(Frequent::of_classes(alloc, coded, classes)?)
     }
 }
@@ -142,19 +142,24 @@ impl<'a> Levels<'a> {
 pub(crate) struct Known<'a> {
     pub coded: &'a Coded,
     pub size: usize,
-    pub found: RankSets,
+    pub found: CountedSets,
     /// How many sets of at most the size were asked for.
     pub counted: u64,
 }
 
 impl<'a> Known<'a> {
-    /// The search that goes on from there. The sets from `last` on are those of the size.
-    pub(crate) fn ask(self, alloc: Global, limit: u32, last: usize) -> Result<Levels<'a>, MineFault>
+    /// The search that goes on from there, from the frequent sets of the size.
+    pub(crate) fn ask(
+        self,
+        alloc: Global,
+        limit: u32,
+        level: &Extensions,
+    ) -> Result<Levels<'a>, MineFault>
         requires coding { IsCoding self.coded.now }
         requires some { 1 ≤ self.size }
         requires found { AreFound self.coded.now self.size self.found }
-        requires within { last ≤ length self.found.sets.items }
-        requires last { drop last self.found.sets.items ≡ level_of self.coded.now self.size }
+        requires level { sets_of level.now ≡ level_of self.coded.now self.size }
+        requires grouped { AreGrouped level.now }
         requires counted { self.counted ≡ length (candidates_up_to self.coded.now.baskets self.coded.now.minimum self.size) }
         ensures ok { IfOk result (λ levels. levels ≡ record { coding = self.entry.coded.now; limit = limit; size = self.entry.size }) }
         ensures too_many { (most : ℕ) → result ≡ Err (TooMany most) → (most ≡ limit) × AreTooMany self.entry.coded.now limit }
@@ -165,10 +170,10 @@ impl<'a> Known<'a> {
             found,
             counted,
         } = self;
-        if found.sets.len() > limit as usize {
+        if found.len() > limit as usize {
             return Err(MineFault::TooMany { limit });
         }
-        let asked = candidates(alloc, &found.sets[last..])?;
+        let asked = candidates(alloc, level)?;
         Ok(Levels {
             coded,
             limit,

@@ -3,7 +3,7 @@
 //!
 //! The set comes in two parts, the items of `front` and then those of `rest`, so that a set without
 //! one of its items need not be copied.
-ghost use Rattle.std.specs.Prelude.{◌≡◌, ◌≤◌, ◌++◌, is_ok, length};
+ghost use Rattle.std.specs.Prelude.{◌≡◌, ◌≤◌, ◌++◌, [], IfOk, is_ok, length, slice_index_or};
 ghost use Rattle.std.specs.Cmp.Lexicographic.{slice_cmp};
 ghost use Rattle.std.specs.List.Sorted.{IsSearchInRange, IsStrictlySortedBy};
 ghost use Rattle.std.specs.Ordering.{nat_cmp};
@@ -19,6 +19,7 @@ pub fn find_near(sets: &[Itemset], front: &[u32], rest: &[u32], near: usize) -> 
     requires sorted { IsStrictlySortedBy (slice_cmp nat_cmp) sets.now }
     ensures bound { IsSearchInRange result (length sets.now) }
     ensures found { is_ok result ≡ is_one_of sets.now (front.now ++ rest.now) }
+    ensures place { IfOk result (λ at. slice_index_or sets.now at [] ≡ front.now ++ rest.now) }
 {
     let mut start = 0;
     let mut next = near;
@@ -48,6 +49,7 @@ fn find_between(
     requires between { IsBetween start end sets.now (front.now ++ rest.now) }
     ensures bound { IsSearchInRange result (length sets.now) }
     ensures found { is_ok result ≡ is_one_of sets.now (front.now ++ rest.now) }
+    ensures place { IfOk result (λ at. slice_index_or sets.now at [] ≡ front.now ++ rest.now) }
 {
     if start == end {
         return Err(end);

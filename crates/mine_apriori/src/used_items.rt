@@ -31,11 +31,15 @@ impl Model for UsedItems {
 }
 
 impl UsedItems {
-    /// The items of the sets.
-    pub fn of(alloc: Global, sets: &[Itemset]) -> Result<Self, AllocError>
-        ensures { IfOk result (λ items. AreUsed sets.now items) }
+    /// The items of some sets and of some others.
+    pub fn of(alloc: Global, sets: &[Itemset], others: &[Itemset]) -> Result<Self, AllocError>
+        ensures sets { IfOk result (AreUsed sets.now) }
+        ensures others { IfOk result (AreUsed others.now) }
     {
-        let items = items_in(alloc, sets)?;
+        let mut numbers = Vec::new(alloc);
+        add_items(alloc, sets, &mut numbers)?;
+        add_items(alloc, others, &mut numbers)?;
+        let items = Itemset::from_items(alloc, &numbers)?;
         let hints = hints_for(alloc, items.items())?;
         Ok(UsedItems { items, hints })
     }
@@ -116,18 +120,17 @@ fn hint_for(hints: &[u32], item: u32, otherwise: usize) -> usize {
     }
 }
 
-/// The items of the sets.
-fn items_in(alloc: Global, sets: &[Itemset]) -> Result<Itemset, AllocError>
-    ensures { IfOk result (λ items. AreUsed sets.now items) }
+/// Adds the items of the sets.
+fn add_items(alloc: Global, sets: &[Itemset], items: &mut Vec<u32>) -> Result<(), AllocError>
+    ensures sets { OnOk result (AreUsed sets.now items.new.items) }
+    ensures more { OnOk result ((item : ℕ) → IsTrue (has items.old.items item) → IsTrue (has items.new.items item)) }
 {
-    let mut items = Vec::new(alloc);
     let mut most = FEW_ITEMS;
     for set in sets {
         items.extend_from_slice(set.items())?;
-        most = keep_distinct(alloc, &mut items, most)?;
+        most = keep_distinct(alloc, items, most)?;
     }
-    let used = Itemset::from_items(alloc, &items)?;
-    Ok(used)
+    Ok(())
 }
 
 /// Leaves repeated items out if there are more items than this. Returns how many there may be before the next time.
@@ -138,17 +141,9 @@ fn keep_distinct(alloc: Global, items: &mut Vec<u32>, most: usize) -> Result<usi
         return Ok(most);
     }
     let distinct = Itemset::from_items(alloc, items)?;
-    replace(items, distinct.items())?;
-    Ok(items.len().saturating_mul(2).saturating_add(FEW_ITEMS))
-}
-
-/// Puts other items in the place of some.
-fn replace(items: &mut Vec<u32>, others: &[u32]) -> Result<(), AllocError>
-    ensures { OnOk result (items.new.items ≡ others.now) }
-{
     items.clear();
-    items.extend_from_slice(others)?;
-    Ok(())
+    items.extend_from_slice(distinct.items())?;
+    Ok(items.len().saturating_mul(2).saturating_add(FEW_ITEMS))
 }
 
 /// For each item up to the greatest how many are below it, as far as hints go.

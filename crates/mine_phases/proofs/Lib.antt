@@ -6,3 +6,4 @@ mod SupportLemmas
 mod Numbers
 mod Ranks
 mod Sharing
+mod LevelLemmas

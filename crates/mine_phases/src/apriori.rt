@@ -9,7 +9,7 @@ ghost use Rattle.mine_apriori.specs.Work.{candidate_count};
 
 use crate::cutting::Cutting;
 use crate::gate::Gate;
-use crate::level::count_level;
+use crate::level::count_candidates;
 use crate::pairs::count_pairs;
 use crate::triangle::triangle_pairs;
 use basket_core::{Coded, Frequent, MineFault};
@@ -56,7 +56,7 @@ pub fn apriori_shared<R: Threads + Sync, G: Gate + Sync>(
     let pairs = pairs(rt, alloc, coded, cutting, gate)?;
     let mut levels = first.with_pairs(alloc, &pairs)?;
     while !levels.asked().is_empty() {
-        let counts = count_level(rt, alloc, coded.baskets(), levels.asked(), cutting, gate)?;
+        let counts = count_candidates(rt, alloc, coded.baskets(), levels.asked(), cutting, gate)?;
         levels = levels.answer(alloc, &counts)?;
     }
     let candidates = levels.counted();

@@ -1,8 +1,8 @@
 //! A level of Apriori.
 ghost use Rattle.std.specs.Prelude.{◌≡◌, ◌≤◌, IfOk, map};
 ghost use Rattle.basket_sets.specs.Database.{MOST_WEIGHT};
-ghost use Rattle.basket_sets.specs.Order.{IsInReportOrder};
 ghost use Rattle.basket_sets.specs.Support.{support_of, total_of};
+ghost use Rattle.mine_apriori.specs.Extensions.{sets_of};
 ghost use Rattle.mine_apriori.specs.Sizes.{AreOfOneSize};
 
 use crate::cutting::Cutting;
@@ -10,7 +10,7 @@ use crate::gate::Gate;
 use crate::phase::Phase;
 use crate::supports::{SupportCounter, count_supports};
 use basket_core::{Itemset, Weighted};
-use mine_apriori::RowCounter;
+use mine_apriori::{Extensions, RowCounter};
 use std::alloc::{AllocError, Global};
 use std::thread::Threads;
 
@@ -20,7 +20,7 @@ impl SupportCounter for RowCounter<'_> {
     ghost can_count = { λ counter basket. Unit {0} };
 
     fn len(&self) -> usize {
-        self.sets().len()
+        RowCounter::len(self)
     }
 
     fn add(
@@ -44,11 +44,29 @@ pub fn count_level<R: Threads + Sync, G: Gate + Sync>(
     gate: &G,
 ) -> Result<Vec<u64>, AllocError>
     requires sized { AreOfOneSize sets.now }
-    requires in_order { IsInReportOrder sets.now }
     requires light { total_of baskets.now ≤ MOST_WEIGHT }
     ensures { IfOk result (λ counts. counts.items ≡ map (support_of baskets.now) sets.now) }
 {
-    let size = sets.first().map_or(0, |set| set.len());
+    let sets = Extensions::of_sets(alloc, sets)?;
+    count_candidates(rt, alloc, baskets, &sets, cutting, gate)
+}
+
+/// The support of each set in the baskets, as `count_level` counts them.
+pub fn count_candidates<R: Threads + Sync, G: Gate + Sync>(
+    rt: &R,
+    alloc: Global,
+    baskets: &[Weighted],
+    sets: &Extensions,
+    cutting: Cutting,
+    gate: &G,
+) -> Result<Vec<u64>, AllocError>
+    requires light { total_of baskets.now ≤ MOST_WEIGHT }
+    ensures { IfOk result (λ counts. counts.items ≡ map (support_of baskets.now) (sets_of sets.now)) }
+{
+    let size = match sets.prefixes().first() {
+        Some(prefix) => prefix.len().saturating_add(1),
+        None => 0,
+    };
     let number = u32::try_from(size).unwrap_or(u32::MAX);
     let counter = RowCounter::of(alloc, sets)?;
     count_supports(

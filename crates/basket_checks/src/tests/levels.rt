@@ -1,8 +1,8 @@
 ghost use Rattle.std.specs.Prelude.{◌≡◌, IfOk};
 
 use super::{NINE_BASKETS, database};
-use basket_core::{Coded, Frequent, Itemset, MineFault, Minimum};
-use mine_apriori::{Levels, apriori, count_shard};
+use basket_core::{Coded, Frequent, MineFault, Minimum};
+use mine_apriori::{Extensions, Levels, apriori, count_extensions};
 use std::alloc::Global;
 use std::process::Abort;
 use std::test::Fail;
@@ -14,11 +14,13 @@ fn coded(alloc: Global, baskets: &[(&[u32], u64)], minimum: Minimum) -> Result<C
 }
 
 /// The sets as text.
-fn listed(alloc: Global, sets: &[Itemset]) -> Result<String, Fail> {
+fn listed(alloc: Global, sets: &Extensions) -> Result<String, Fail> {
     let mut text = String::new(alloc);
-    for set in sets {
-        text.push_str(set.to_string(alloc)?.as_str())?;
-        text.push_str("|")?;
+    for (prefix, items) in sets.prefixes().iter().zip(sets.lists()) {
+        for item in items.items() {
+            text.push_str(prefix.with(alloc, *item)?.to_string(alloc)?.as_str())?;
+            text.push_str("|")?;
+        }
     }
     Ok(text)
 }
@@ -31,7 +33,7 @@ fn answered<'a>(alloc: Global, coded: &Coded, levels: Levels<'a>) -> Result<Leve
     if levels.asked().is_empty() {
         return Err(Fail::new("no set is asked"));
     }
-    let counts = count_shard(alloc, coded.baskets(), levels.asked())?;
+    let counts = count_extensions(alloc, coded.baskets(), levels.asked())?;
     Ok(levels.answer(alloc, &counts)?)
 }
 

@@ -1,26 +1,68 @@
-use Rattle.std.proofs.Common.{ℕ, ◌∷◌, [], map, filter, take, ap, ◌∙◌}
+use Rattle.std.proofs.Common.{◌≡◌, ℕ, ◌∷◌, ◌++◌, [], append-nil, filter, map, take, sym, ap, subst, ◌∙◌}
+use Rattle.std.specs.List.{All}
 use Rattle.std.proofs.lemmas.List.{take_all}
 use Rattle.basket_sets.specs.Counts.{item_supports}
-use Rattle.basket_sets.specs.Minimum.{meets}
-use Rattle.mine_apriori.proofs.LevelsLemmas.{first_sets, first_counts, met}
+use Rattle.basket_sets.specs.Frequent.{is_frequent}
+use Rattle.basket_sets.specs.Itemset.{IsRising}
+use Rattle.basket_sets.specs.Support.{items_of, support_of}
+use Rattle.basket_sets.proofs.theory.Rising.{nil_rises}
+use Rattle.mine_apriori.specs.Extensions.{AreGrouped, sets_of}
+use Rattle.mine_apriori.specs.Levels.{decoded_sets}
+use Rattle.mine_apriori.proofs.ExtensionLemmas.{kept_sets}
+use Rattle.mine_apriori.proofs.FrequentLemmas.{singles_rise}
+use Rattle.mine_apriori.proofs.JoinedLemmas.{kept_grouped}
+use Rattle.mine_apriori.proofs.JoinStepLemmas.{one_grouped}
+use Rattle.mine_apriori.proofs.LevelsLemmas.{first_asked, first_level, first_ranks, items_rise}
 use Rattle.mine_apriori.proofs.first_level.frequent_ranks.Goals as goal
+use Rattle.mine_apriori.proofs.first_level.frequent_ranks.Goals.{After-deref, After-found-2-1}
 
-pub returns-clause-sets : goal.returns-clause-sets
-returns-clause-sets c =
-    let coding = c.args.coded.now in
-    let all = take_all c.loop-rank.rank-index c.deref-rank-items.result.now c.loop-rank-test.false
-    ∙ c.deref-rank-items.ensures.value ∙ c.in_ok-count_items.ensures.counts ∙ ap item_supports c.baskets.ensures.baskets in
-    c.loop-rank.invariant.sets
-    ∙ ap (λ m. map (λ (entry : ℕ × ℕ). entry.0 ∷ []) (filter (λ (entry : ℕ × ℕ). meets m entry.1 c.total-total.result) (take c.loop-rank.rank-index c.deref-rank-items.result.now))) c.minimum-minimum.ensures
-    ∙ ap (λ t. map (λ (entry : ℕ × ℕ). entry.0 ∷ []) (filter (λ (entry : ℕ × ℕ). meets coding.minimum entry.1 t) (take c.loop-rank.rank-index c.deref-rank-items.result.now))) c.total-total.ensures
-    ∙ ap (λ l. map (λ (entry : ℕ × ℕ). entry.0 ∷ []) (filter (met coding) l)) all ∙ first_sets coding
+all : (c : After-deref) → take c.loop-rank.rank-index c.deref-rank-items.result.now ≡ item_supports c.args.coded.now.baskets
+all c = take_all c.loop-rank.rank-index c.deref-rank-items.result.now c.loop-rank-test.false ∙ c.deref-rank-items.ensures.value ∙ c.in_ok-count_items.ensures.counts ∙ ap item_supports c.baskets.ensures.baskets
 
-pub returns-clause-counts : goal.returns-clause-counts
-returns-clause-counts c =
+ranks_are : (c : After-deref) → c.deref.result.now ≡ items_of c.args.coded.now.baskets
+ranks_are c = c.deref.ensures.value ∙ c.loop-rank.invariant.ranks ∙ ap (map (λ (entry : ℕ × ℕ). entry.0)) (all c) ∙ first_ranks c.args.coded.now
+
+pub with_items-requires-clause-prefix : goal.with_items-requires-clause-prefix
+with_items-requires-clause-prefix c = nil_rises
+
+pub with_items-requires-clause-items : goal.with_items-requires-clause-items
+with_items-requires-clause-items c = subst IsRising (sym (ranks_are c)) (items_rise c.args.coded.now)
+
+sets_are : (c : After-found-2-1) → c.in_ok-sets.sets ≡ record { prefix = []; items = c.deref.result.now } ∷ []
+sets_are c = c.in_ok-sets.ensures ∙ ap (λ l. l ++ record { prefix = []; items = c.deref.result.now } ∷ []) c.new.ensures
+
+listed : (c : After-found-2-1) → c.deref.result.now ≡ items_of c.args.coded.now.baskets → sets_of c.in_ok-sets.sets ≡ map (λ rank. rank ∷ []) (items_of c.args.coded.now.baskets)
+listed c ranks = ap sets_of (sets_are c) ∙ append-nil (map (λ rank. rank ∷ []) c.deref.result.now) ∙ ap (map (λ rank. rank ∷ [])) ranks
+
+pub add_frequent-requires-clause-coding : goal.add_frequent-requires-clause-coding
+add_frequent-requires-clause-coding c = c.baskets.ensures.coding
+
+pub add_frequent-requires-clause-rising : goal.add_frequent-requires-clause-rising
+add_frequent-requires-clause-rising c =
+    subst (All IsRising) (sym (listed c (ranks_are (goal.at.add_frequent-requires-clause-rising c).After-deref))) (singles_rise (items_of c.args.coded.now.baskets))
+
+pub add_frequent-requires-clause-counts : goal.add_frequent-requires-clause-counts
+add_frequent-requires-clause-counts c =
+    let before = (goal.at.add_frequent-requires-clause-counts c).After-deref in
+    c.deref-2.ensures.value ∙ c.loop-rank.invariant.counts ∙ ap (map (λ (entry : ℕ × ℕ). entry.1)) (all before) ∙ sym (first_asked c.args.coded.now)
+    ∙ ap (map (support_of c.args.coded.now.baskets)) (sym (listed c (ranks_are before)))
+
+pub returns-clause-found : goal.returns-clause-found
+returns-clause-found c =
     let coding = c.args.coded.now in
-    let all = take_all c.loop-rank.rank-index c.deref-rank-items.result.now c.loop-rank-test.false
-    ∙ c.deref-rank-items.ensures.value ∙ c.in_ok-count_items.ensures.counts ∙ ap item_supports c.baskets.ensures.baskets in
-    c.loop-rank.invariant.counts
-    ∙ ap (λ m. map (λ (entry : ℕ × ℕ). entry.1) (filter (λ (entry : ℕ × ℕ). meets m entry.1 c.total-total.result) (take c.loop-rank.rank-index c.deref-rank-items.result.now))) c.minimum-minimum.ensures
-    ∙ ap (λ t. map (λ (entry : ℕ × ℕ). entry.1) (filter (λ (entry : ℕ × ℕ). meets coding.minimum entry.1 t) (take c.loop-rank.rank-index c.deref-rank-items.result.now))) c.total-total.ensures
-    ∙ ap (λ l. map (λ (entry : ℕ × ℕ). entry.1) (filter (met coding) l)) all ∙ first_counts coding
+    let passes = is_frequent coding.baskets coding.minimum in
+    let level = ap (filter passes) (listed (goal.at.returns-clause-found c).After-found-2-1 (ranks_are (goal.at.returns-clause-found c).After-deref)) ∙ first_level coding in
+    c.in_ok-level.ensures.found ∙ (λ i. c.in_ok-found.ensures i ++ decoded_sets coding (level i))
+
+pub returns-clause-level : goal.returns-clause-level
+returns-clause-level c =
+    let coding = c.args.coded.now in
+    let passes = is_frequent coding.baskets coding.minimum in
+    ap sets_of c.in_ok-level.ensures.level ∙ kept_sets passes c.in_ok-sets.sets
+    ∙ ap (filter passes) (listed (goal.at.returns-clause-level c).After-found-2-1 (ranks_are (goal.at.returns-clause-level c).After-deref)) ∙ first_level coding
+
+pub returns-clause-grouped : goal.returns-clause-grouped
+returns-clause-grouped c =
+    let coding = c.args.coded.now in
+    subst AreGrouped (sym c.in_ok-level.ensures.level) (kept_grouped (is_frequent coding.baskets coding.minimum) c.in_ok-sets.sets
+    (subst AreGrouped (sym (sets_are (goal.at.returns-clause-grouped c).After-found-2-1)) (one_grouped c.deref.result.now)))

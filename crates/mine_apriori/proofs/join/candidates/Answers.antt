@@ -1,31 +1,53 @@
-use Rattle.std.proofs.Common.{◌≡◌, ◌-◌, [], suc, length, get_or, subst, ◌∙◌, arith}
-use Rattle.mine_apriori.specs.Sizes.{AreOfSize}
-use Rattle.mine_apriori.proofs.FrontLemmas.{are_joinable, set_more, rises_more, whole_list}
+use Rattle.std.proofs.Common.{◌≡◌, ◌<◌, ◌≤◌, ◌++◌, filter, get_or, length, suc, subst, sym, ap, ◌∙◌, arith}
+use Rattle.std.proofs.lemmas.List.{take_all}
+use Rattle.basket_sets.specs.Itemset.{IsRising}
+use Rattle.mine_apriori.specs.Extensions.{AreGrouped, has_items, sets_of}
+use Rattle.mine_apriori.specs.Join.{AreParts, joined_group, joined_groups}
+use Rattle.mine_apriori.proofs.ExtensionLemmas.{groups_long, items_read, no_group, prefix_read}
+use Rattle.mine_apriori.proofs.JoinedLemmas.{candidates_grouped}
+use Rattle.mine_apriori.proofs.JoinStepLemmas.{group_more, group_parts, level_candidates}
 use Rattle.mine_apriori.proofs.join.candidates.Goals as goal
+use Rattle.mine_apriori.proofs.join.candidates.Goals.{After-deref_mut, After-loop-place}
 
-pub join_later-requires-clause-joinable : goal.join_later-requires-clause-joinable
-join_later-requires-clause-joinable c =
-    let sets = c.args.sets.now in
-    let sized = c.requires.sized in
-    let last = length (get_or sets c.loop-place.place []) - 1 in
-    let n : sized.0 ≡ suc last = omega (arith, sized.1, sized.2 c.loop-place.place [] c.loop-place-test.true) in
-    are_joinable last sets (subst (λ k. AreOfSize k sets) n sized.2) c.requires.in_order
+below : (c : After-deref_mut) → c.loop-place.place < length c.args.level.now
+below c = omega (arith, c.loop-place-test.true, ap length c.prefixes-place-end.ensures, groups_long c.args.level.now)
+
+prefix_is : (c : After-deref_mut) → c.items-prefix.result.now ≡ (get_or c.args.level.now c.loop-place.place no_group).prefix
+prefix_is c = c.items-prefix.ensures.items ∙ prefix_read c.args.level.now c.prefixes-in-loop-place.result.now c.loop-place.place c.index-prefixes-place.result c.prefixes-in-loop-place.ensures (below c) c.index-prefixes-place.is
+
+list_is : (c : After-deref_mut) → c.index-lists-place.result ≡ (get_or c.args.level.now c.loop-place.place no_group).items
+list_is c = items_read c.args.level.now c.lists.result.now c.loop-place.place c.index-lists-place.result c.lists.ensures (below c) c.index-lists-place.is
+
+pub join-requires-clause-parts : goal.join-requires-clause-parts
+join-requires-clause-parts c =
+    let groups = c.args.level.now in
+    let place = c.loop-place.place in
+    let group = get_or groups place no_group in
+    let up = subst IsRising (list_is c) c.items-items.ensures.rising in
+    subst (λ prefix. AreParts groups prefix c.items-items.result.now) (sym (prefix_is c))
+    (subst (λ items. AreParts groups group.prefix items) (sym (c.items-items.ensures.items ∙ list_is c))
+    (group_parts groups place no_group c.requires.grouped c.requires.rising (below c) up))
 
 pub loop-place-preserved : goal.loop-place-preserved
 loop-place-preserved c =
-    let sets = c.args.sets.now in
-    let place = c.loop-place.place in
-    record {
-      made = λ last sized. set_more last sets place c.loop-place.found.items c.join_later.new.found.items sized c.loop-place-test.true c.in_ok-join_later.ensures.joins
-          ∙ c.loop-place.invariant.made last sized;
-      rises = rises_more sets place c.loop-place.invariant.rises c.in_ok-join_later.ensures.rises;
-    }
+    let before = (goal.at.loop-place-preserved c).After-deref_mut in
+    let groups = c.args.level.now in
+    let prefix = prefix_is before in
+    let items = c.items-items.ensures.items ∙ list_is before in
+    group_more (sets_of groups) groups c.loop-place.found c.in_ok-found.found c.loop-place.place no_group (below before) c.loop-place.invariant
+    (c.in_ok-found.ensures ∙ (λ i. c.loop-place.found ++ filter has_items (joined_group (suc (length (prefix i))) (sets_of groups) (prefix i) (items i))))
 
-pub returns : goal.returns
-returns c =
-    let sets = c.args.sets.now in
-    let sized = c.requires.sized in
-    let last = sized.0 - 1 in
-    let n : sized.0 ≡ suc last = omega (arith, sized.1) in
-    let of_size = subst (λ k. AreOfSize k sets) n sized.2 in
-    whole_list last sets c.loop-place.place c.loop-place.found.items of_size c.requires.in_order c.loop-place-test.false c.loop-place.invariant.rises (c.loop-place.invariant.made last of_size)
+all_taken : (c : After-loop-place) → length c.prefixes-place-end.result.now ≤ c.loop-place.place → c.loop-place.found ≡ joined_groups (sets_of c.args.level.now) c.args.level.now
+all_taken c end =
+    let groups = c.args.level.now in
+    c.loop-place.invariant ∙ ap (joined_groups (sets_of groups)) (take_all c.loop-place.place groups (omega (arith, end, ap length c.prefixes-place-end.ensures, groups_long groups)))
+
+pub returns-clause-candidates : goal.returns-clause-candidates
+returns-clause-candidates c =
+    let groups = c.args.level.now in
+    ap sets_of (all_taken (goal.at.returns-clause-candidates c).After-loop-place c.loop-place-test.false) ∙ level_candidates groups c.requires.grouped c.requires.in_order c.requires.rising
+
+pub returns-clause-grouped : goal.returns-clause-grouped
+returns-clause-grouped c =
+    let groups = c.args.level.now in
+    subst AreGrouped (sym (all_taken (goal.at.returns-clause-grouped c).After-loop-place c.loop-place-test.false)) (candidates_grouped groups c.requires.grouped c.requires.in_order)

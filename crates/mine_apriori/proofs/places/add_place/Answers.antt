@@ -1,6 +1,6 @@
 use Rattle.std.specs.Int.{trailing_zeros}
-use Rattle.std.proofs.Common.{w64, ◌+◌, ◌*◌, ◌%◌, ◌^◌, cond, ap, ◌∙◌, arith}
-use Rattle.mine_apriori.specs.Places.{has_place, shared_weight}
+use Rattle.std.proofs.Common.{w64, ◌+◌, ◌*◌, ◌%◌, ◌^◌, ap, ◌∙◌, arith}
+use Rattle.mine_apriori.specs.Places.{shared_weight}
 use Rattle.mine_apriori.proofs.PlaceLemmas.{lowest_bit, made_weight, rest_more}
 use Rattle.mine_apriori.proofs.places.add_place.Goals as goal
 

@@ -1,4 +1,4 @@
-use Rattle.std.proofs.Common.{◌≡◌, ℕ, ◌+◌, ◌≤◌, cond}
+use Rattle.std.proofs.Common.{◌≡◌, ℕ, ◌+◌, cond}
 use Rattle.mine_apriori.specs.Places.{has_place, shared_weight}
 use Rattle.mine_apriori.proofs.places.add_place.Given as goal
 

@@ -1,55 +1,139 @@
-use Rattle.std.proofs.Common.{◌≡◌, ◌<◌, ◌≤◌, ◌+◌, ◌-◌, [], ℕ, get_or, length, refl, subst, sym, ap, ◌∙◌, arith}
+use Rattle.std.proofs.Common.{◌≡◌, ◌<◌, ◌+◌, ◌-◌, [], ℕ, List, true, get_or, length, take, refl, subst, sym, ap, ◌∙◌, arith}
+use Rattle.std.proofs.lemmas.Bool.{true≢false}
+use Rattle.std.proofs.lemmas.List.{get_or-map, get_or_default, take_all}
+use Rattle.basket_sets.specs.Itemset.{contains}
 use Rattle.basket_sets.specs.Support.{support_of}
-use Rattle.basket_sets.proofs.theory.Support.{support_falls}
 use Rattle.mine_apriori.specs.Block.{ArePrefixes}
+use Rattle.mine_apriori.specs.Counter.{AreAdded, IsShared}
+use Rattle.mine_apriori.specs.Extensions.{extend, groups_of, lists_of, prefixes_of, sets_of}
 use Rattle.mine_apriori.specs.UsedItems.{AreUsed}
-use Rattle.mine_apriori.proofs.CounterLemmas.{added_more, rest_same, some_sets}
+use Rattle.mine_apriori.proofs.BlockLemmas.{prefixes_shared}
+use Rattle.mine_apriori.proofs.CounterLemmas.{added_more, extended, next_start, next_within, rest_more, some_list}
+use Rattle.mine_apriori.proofs.ExtensionLemmas.{groups_back, groups_long, items_read, lists_long, no_group, prefix_read}
+use Rattle.mine_apriori.proofs.PlaceLemmas.{set_used}
 use Rattle.mine_apriori.proofs.counter.RowCounter.add_block.Goals as goal
+use Rattle.mine_apriori.proofs.counter.RowCounter.add_block.Goals.{After-add-arg-1}
 
 pub of-requires : goal.of-requires
 of-requires c =
-    let some = some_sets (length c.self.inside.sets.now) (sym c.is_empty.ensures ∙ c.if-is_empty.false) in
+    let some = some_list (sets_of c.self.inside.sets.now) (λ none. true≢false (sym (c.is_empty.ensures.1 none) ∙ c.if-is_empty.false)) in
     let light = c.requires.light 0 (omega (arith, c.requires.long, ap length c.self.view_is, some)) in
     omega arith
 
 pub loop-number-init : goal.loop-number-init
-loop-number-init c = record {
-  added = λ k below. absurd (omega arith);
-  rest = λ k from. refl;
-  prefixes = subst (λ b. ArePrefixes b (get_or c.args.self.now 0 []) c.in_ok-prefixes.prefixes.items) c.in_ok-block.ensures.baskets (c.in_ok-prefixes.ensures.prefixes (get_or c.args.self.now 0 []));
-}
+loop-number-init c =
+    let first = get_or c.prefixes-prefixes.result.now 0 [] in
+    record {
+      starts = refl;
+      added = λ k below. absurd (omega (arith, below));
+      rest = λ k from. refl;
+      prefixes = subst (λ b. ArePrefixes b first c.in_ok-stack.stack.items) c.in_ok-block.ensures.baskets (c.in_ok-stack.ensures.prefixes first);
+    }
 
-pub support-requires-clause-used : goal.support-requires-clause-used
-support-requires-clause-used c =
-    subst (AreUsed c.args.self.now) (sym c.in_ok-block.ensures.used) (subst (λ s. AreUsed s c.self.inside.used) c.self.view_is c.self.invariant.0)
+below : (c : After-add-arg-1) → c.loop-number.number < length c.self.inside.sets.now
+below c = omega (arith, c.loop-number-test.true, ap length c.lists-items-items.ensures, lists_long c.self.inside.sets.now)
 
-pub overflow_add-counts : goal.overflow_add-counts
-overflow_add-counts c =
-    let baskets = c.args.baskets.now in
+starts : (c : After-add-arg-1) → c.loop-number.start ≡ length (sets_of (take c.loop-number.number c.self.inside.sets.now))
+starts c =
+    c.loop-number.invariant.starts
+    ∙ ap (λ l. length (sets_of (take c.loop-number.number l))) ((λ i. groups_of (c.prefixes-prefixes.ensures i) (c.lists-items-items.ensures i)) ∙ groups_back c.self.inside.sets.now)
+
+list_is : (c : After-add-arg-1) → c.items-item.result ≡ (get_or c.self.inside.sets.now c.loop-number.number no_group).items
+list_is c = items_read c.self.inside.sets.now c.lists-items-items.result.now c.loop-number.number c.items-item.result c.lists-items-items.ensures (below c) c.items-item.is
+
+prefix_is : (c : After-add-arg-1) → c.index-prefixes-number.result ≡ (get_or c.self.inside.sets.now c.loop-number.number no_group).prefix
+prefix_is c = prefix_read c.self.inside.sets.now c.prefixes-prefixes.result.now c.loop-number.number c.index-prefixes-number.result c.prefixes-prefixes.ensures (below c) c.index-prefixes-number.is
+
+pub add-requires-clause-used : goal.add-requires-clause-used
+add-requires-clause-used c =
+    let groups = c.self.inside.sets.now in
     let number = c.loop-number.number in
-    let set = get_or c.args.self.now number [] in
-    let within : number < length c.args.counts.now = omega (arith, c.loop-number-test.true, c.requires.long, ap length c.self.view_is) in
-    let rest = c.loop-number.invariant.rest number (omega arith) in
-    let is = c.in_ok-counts.ensures.support ∙ ap (λ b. support_of b set) c.in_ok-block.ensures.baskets in
-    let falls = support_falls baskets set [] refl in
-    let light = c.requires.light number within in
-    record { fits = omega arith }
+    let used = subst (AreUsed (prefixes_of groups)) (sym c.in_ok-block.ensures.used) c.self.invariant.0 in
+    let at = get_or-map (λ group. group.prefix) groups number no_group [] (below c) in
+    subst (λ l. contains c.in_ok-block.block.used.now l ≡ true) (sym (c.items-in-loop-number-2.ensures.items ∙ prefix_is c ∙ sym at))
+    (set_used (prefixes_of groups) c.in_ok-block.block.used.now number used (omega (arith, below c, groups_long groups)))
+
+pub add-requires-clause-items_used : goal.add-requires-clause-items_used
+add-requires-clause-items_used c =
+    let groups = c.self.inside.sets.now in
+    let number = c.loop-number.number in
+    let used = subst (AreUsed (lists_of groups)) (sym c.in_ok-block.ensures.used) c.self.invariant.1 in
+    let at = get_or-map (λ group. group.items) groups number no_group [] (below c) in
+    subst (λ l. contains c.in_ok-block.block.used.now l ≡ true) (sym (c.items-in-loop-number-3.ensures.items ∙ list_is c ∙ sym at))
+    (set_used (lists_of groups) c.in_ok-block.block.used.now number used (omega (arith, below c, lists_long groups)))
+
+pub add-requires-clause-prefixes : goal.add-requires-clause-prefixes
+add-requires-clause-prefixes c =
+    let prefixes = c.prefixes-prefixes.result.now in
+    let number = c.loop-number.number in
+    let count = c.shared_items.result in
+    let old = c.loop-number.stack.items in
+    let within : number - 1 < length prefixes = omega (arith, below c, ap length c.prefixes-prefixes.ensures, groups_long c.self.inside.sets.now) in
+    let before = c.items.ensures.items ∙ c.index-prefixes-saturating_sub.is ∙ ap (λ n. get_or prefixes n c.index-prefixes-saturating_sub.result) c.saturating_sub.ensures
+    ∙ get_or_default prefixes (number - 1) c.index-prefixes-saturating_sub.result [] within in
+    let prefix = c.items-in-loop-number.ensures.items ∙ sym c.items-in-loop-number-2.ensures.items in
+    let shared = subst (λ l. IsShared l c.items-in-loop-number-2.result.now count) before (subst (λ l. IsShared c.items.result.now l count) prefix c.shared_items.ensures) in
+    subst (λ b. ArePrefixes b c.items-in-loop-number-2.result.now c.truncate.new.self.items) (sym c.in_ok-block.ensures.baskets)
+    (subst (ArePrefixes c.args.baskets.now c.items-in-loop-number-2.result.now) (sym c.truncate.ensures.items)
+    (prefixes_shared c.args.baskets.now (get_or prefixes (number - 1) []) c.items-in-loop-number-2.result.now count old shared c.loop-number.invariant.prefixes))
+
+pub add-requires-clause-within : goal.add-requires-clause-within
+add-requires-clause-within c =
+    let within = next_within c.self.inside.sets.now c.loop-number.number c.loop-number.start no_group (below c) (starts c) in
+    omega (arith, within, ap length (c.items-in-loop-number-3.ensures.items ∙ list_is c), c.requires.long, ap length c.self.view_is, c.loop-number.auto.counts)
+
+pub add-requires-clause-light : goal.add-requires-clause-light
+add-requires-clause-light c = λ k inside.
+    let within = next_within c.self.inside.sets.now c.loop-number.number c.loop-number.start no_group (below c) (starts c) in
+    let at : ℕ = c.loop-number.start + k in
+    let long = ap length (c.items-in-loop-number-3.ensures.items ∙ list_is c) in
+    let light = c.requires.light at (omega (arith, within, inside, long, c.requires.long, ap length c.self.view_is)) in
+    let same = c.loop-number.invariant.rest at (omega arith) in
+    let total = ap Rattle.basket_sets.specs.Support.total_of c.in_ok-block.ensures.baskets in
+    omega (arith, light, same, total)
+
+pub overflow_add-start : goal.overflow_add-start
+overflow_add-start c =
+    let before = (goal.at.overflow_add-start c).After-add-arg-1 in
+    let within = next_within c.self.inside.sets.now c.loop-number.number c.loop-number.start no_group (below before) (starts before) in
+    record { fits = omega (arith, within, c.len-start.ensures, ap length (list_is before), c.requires.long, ap length c.self.view_is, c.loop-number.auto.counts) }
 
 pub loop-number-preserved : goal.loop-number-preserved
 loop-number-preserved c =
-    let sets = c.args.self.now in
-    let baskets = c.args.baskets.now in
+    let before = (goal.at.loop-number-preserved c).After-add-arg-1 in
+    let groups = c.self.inside.sets.now in
     let number = c.loop-number.number in
-    let inv = c.loop-number.invariant in
-    let within : number < length c.loop-number.counts = omega (arith, c.loop-number-test.true, c.requires.long, c.loop-number.auto.counts, ap length c.self.view_is) in
-    let is = c.in_ok-counts.ensures.support ∙ ap (λ b. support_of b (get_or sets number [])) c.in_ok-block.ensures.baskets in
-    let e : number ≡ number + 1 - 1 = omega arith in
+    let start = c.loop-number.start in
+    let baskets = c.args.baskets.now in
+    let old = c.args.counts.now in
+    let counts = c.loop-number.counts in
+    let new = c.add.new.counts in
+    let here = below before in
+    let prefix = c.items-in-loop-number-2.ensures.items ∙ prefix_is before in
+    let items = c.items-in-loop-number-3.ensures.items ∙ list_is before in
+    let long : start + c.len-start.result ≡ start + length (get_or groups number no_group).items = ap (λ n. start + n) (c.len-start.ensures ∙ ap length (list_is before)) in
+    let same = (λ i. groups_of (c.prefixes-prefixes.ensures i) (c.lists-items-items.ensures i)) ∙ groups_back groups in
+    let now = subst (λ b. AreAdded (extended (get_or groups number no_group)) b start counts new) c.in_ok-block.ensures.baskets
+    (subst (λ s. AreAdded s c.in_ok-block.block.baskets.now start counts new) (λ i. extend (prefix i) (items i)) c.in_ok-add.ensures.supports) in
+    let added = subst (λ (sets : List (List ℕ)). (k : ℕ) → k < start → get_or counts k 0 ≡ get_or old k 0 + support_of baskets (get_or sets k [])) (sym c.self.view_is) c.loop-number.invariant.added in
     record {
-      added = added_more sets baskets c.args.counts.now c.loop-number.counts number c.in_ok-counts.field-0 within is inv.added (inv.rest number (omega arith));
-      rest = rest_same sets baskets c.args.counts.now c.loop-number.counts number c.in_ok-counts.field-0 within is inv.rest;
-      prefixes = subst (λ n. ArePrefixes baskets (get_or sets n []) c.support.new.prefixes.items) e
-          (subst (λ b. ArePrefixes b (get_or sets number []) c.support.new.prefixes.items) c.in_ok-block.ensures.baskets c.in_ok-counts.ensures.prefixes);
+      starts = long ∙ next_start groups number start no_group here (starts before) ∙ ap (λ l. length (sets_of (take (number + 1) l))) (sym same);
+      added = subst (λ (sets : List (List ℕ)). (k : ℕ) → k < start + c.len-start.result → get_or new k 0 ≡ get_or old k 0 + support_of baskets (get_or sets k [])) c.self.view_is
+          (λ k less. added_more groups number start no_group here (starts before) baskets old counts new now c.loop-number.invariant.rest added k (omega (arith, less, long)));
+      rest = λ k from. rest_more groups number start no_group here (starts before) baskets old counts new now c.loop-number.invariant.rest k (omega (arith, from, long));
+      prefixes =
+          let one : number ≡ number + 1 - 1 = omega arith in
+          let at = get_or_default c.prefixes-prefixes.result.now number c.index-prefixes-number.result [] (omega (arith, here, ap length c.prefixes-prefixes.ensures, groups_long groups)) in
+          let read = c.items-in-loop-number-2.ensures.items ∙ c.index-prefixes-number.is ∙ at ∙ ap (λ n. get_or c.prefixes-prefixes.result.now n []) one in
+          subst (λ b. ArePrefixes b (get_or c.prefixes-prefixes.result.now (number + 1 - 1) []) c.add.new.stack.items) c.in_ok-block.ensures.baskets
+          (subst (λ l. ArePrefixes c.in_ok-block.block.baskets.now l c.add.new.stack.items) read c.in_ok-add.ensures.prefixes);
     }
 
 pub returns : goal.returns
-returns c k inside within = c.loop-number.invariant.added k (omega (arith, c.loop-number-test.false, inside, ap length c.self.view_is))
+returns c k inside within =
+    let groups = c.self.inside.sets.now in
+    let number = c.loop-number.number in
+    let same = (λ i. groups_of (c.prefixes-prefixes.ensures i) (c.lists-items-items.ensures i)) ∙ groups_back groups in
+    let end = take_all number groups (omega (arith, c.loop-number-test.false, ap length c.lists-items-items.ensures, lists_long groups)) in
+    let all = c.loop-number.invariant.starts ∙ ap (λ l. length (sets_of (take number l))) same ∙ ap (λ l. length (sets_of l)) end in
+    c.loop-number.invariant.added k (omega (arith, inside, all, ap length c.self.view_is))

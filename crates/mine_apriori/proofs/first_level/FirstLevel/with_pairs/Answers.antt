@@ -1,12 +1,45 @@
-use Rattle.std.proofs.Common.{◌≡◌, ◌-◌, ◌*◌, ◌/◌, length, sym, ap, ◌∙◌, arith}
-use Rattle.mine_apriori.specs.Levels.{level_of}
+use Rattle.std.proofs.Common.{◌≡◌, ◌-◌, ◌*◌, ◌/◌, filter, length, map, sym, ap, subst, ◌∙◌, arith}
+use Rattle.std.specs.List.{All}
+use Rattle.std.proofs.lemmas.List.{length-map}
+use Rattle.basket_ranks.specs.Codes.{decoded_set}
+use Rattle.basket_sets.specs.Frequent.{counted, is_frequent}
+use Rattle.basket_sets.specs.Itemset.{IsRising}
+use Rattle.basket_sets.specs.Support.{support_of}
+use Rattle.mine_apriori.specs.Extensions.{AreGrouped, sets_of}
+use Rattle.mine_apriori.specs.Levels.{level_of, levels_up_to}
+use Rattle.mine_apriori.proofs.ExtensionLemmas.{kept_sets}
+use Rattle.mine_apriori.proofs.JoinedLemmas.{kept_grouped}
+use Rattle.mine_apriori.proofs.LevelsLemmas.{found_next, level_again, level_rises}
 use Rattle.mine_apriori.proofs.WorkLemmas.{pair_count}
 use Rattle.mine_apriori.proofs.first_level.FirstLevel.with_pairs.Goals as goal
+
+pub add_frequent-requires-clause-rising : goal.add_frequent-requires-clause-rising
+add_frequent-requires-clause-rising c = subst (All IsRising) (sym c.in_ok-sets.ensures.sets) (level_rises c.self.inside.coded.now 2)
+
+pub add_frequent-requires-clause-counts : goal.add_frequent-requires-clause-counts
+add_frequent-requires-clause-counts c = c.deref.ensures.value ∙ c.in_ok-sets.ensures.counts ∙ ap (map (support_of c.self.inside.coded.now.baskets)) (sym c.in_ok-sets.ensures.sets)
+
+pub ask-requires-clause-found : goal.ask-requires-clause-found
+ask-requires-clause-found c =
+    let coding = c.self.inside.coded.now in
+    let passes = is_frequent coding.baskets coding.minimum in
+    found_next coding 1 c.self.inside.found c.add_frequent.new.found (filter passes (sets_of c.in_ok-sets.sets)) c.self.invariant.1
+    (ap (filter passes) c.in_ok-sets.ensures.sets ∙ level_again coding 2) c.in_ok-level.ensures.found
+
+pub ask-requires-clause-level : goal.ask-requires-clause-level
+ask-requires-clause-level c =
+    let coding = c.self.inside.coded.now in
+    let passes = is_frequent coding.baskets coding.minimum in
+    ap sets_of c.in_ok-level.ensures.level ∙ kept_sets passes c.in_ok-sets.sets ∙ ap (filter passes) c.in_ok-sets.ensures.sets ∙ level_again coding 2
+
+pub ask-requires-clause-grouped : goal.ask-requires-clause-grouped
+ask-requires-clause-grouped c =
+    let coding = c.self.inside.coded.now in
+    subst AreGrouped (sym c.in_ok-level.ensures.level) (kept_grouped (is_frequent coding.baskets coding.minimum) c.in_ok-sets.sets c.in_ok-sets.ensures.grouped)
 
 pub ask-requires-clause-counted : goal.ask-requires-clause-counted
 ask-requires-clause-counted c =
     let coding = c.self.inside.coded.now in
-    let found = c.self.inside.found in
-    let more : length found.sets.items ≡ length (level_of coding 1) = ap length c.self.invariant.1.sets in
-    let last : c.len-last.result ≡ length (level_of coding 1) = omega (arith, c.len-last.ensures, more, found.sets.ok) in
-    c.pair_count.ensures.number ∙ ap (λ n. n * (n - 1) / 2) last ∙ sym (pair_count coding)
+    let more : length c.self.inside.found ≡ length (level_of coding 1) = ap length c.self.invariant.1 ∙ length-map (levels_up_to coding 1) (λ set. decoded_set coding.items (counted coding.baskets set)) in
+    let last : c.len.result ≡ length (level_of coding 1) = omega (arith, c.len.ensures, more) in
+    c.pair_count-counted.ensures.number ∙ ap (λ n. n * (n - 1) / 2) last ∙ sym (pair_count coding)

@@ -1,44 +1,64 @@
-use Rattle.std.proofs.Common.{◌≡◌, ◌+◌, length, drop, sym, ap, subst, ◌∙◌, arith}
+use Rattle.std.proofs.Common.{◌≢◌, ◌+◌, [], filter, map, sym, ap, subst, ◌∙◌, arith}
+use Rattle.std.specs.List.{All}
+use Rattle.std.proofs.lemmas.Bool.{true≢false}
 use Rattle.std.proofs.lemmas.Result.{IfOk-weaker}
-use Rattle.mine_apriori.specs.Levels.{AreFound, level_of}
-use Rattle.mine_apriori.specs.Work.{candidates_up_to}
-use Rattle.mine_apriori.proofs.LevelsLemmas.{asked_size, found_next, last_next}
+use Rattle.basket_sets.specs.Frequent.{is_frequent}
+use Rattle.basket_sets.specs.Itemset.{IsRising}
+use Rattle.basket_sets.specs.Support.{support_of}
+use Rattle.mine_apriori.specs.Extensions.{AreGrouped, sets_of}
+use Rattle.mine_apriori.specs.Levels.{asked_of, wanted}
+use Rattle.mine_apriori.proofs.ExtensionLemmas.{kept_sets}
+use Rattle.mine_apriori.proofs.JoinedLemmas.{kept_grouped}
+use Rattle.mine_apriori.proofs.LevelsLemmas.{asked_few, asked_rise, found_next, next}
 use Rattle.mine_apriori.proofs.levels.Levels.answer.Goals as goal
-use Rattle.mine_apriori.proofs.levels.Levels.answer.Goals.{After-len-size}
 
--- what is asked has one rank more
-size_is : (c : After-len-size) → c.len-size.result ≡ c.self.inside.size + 1
-size_is c =
+pub add_frequent-requires-clause-rising : goal.add_frequent-requires-clause-rising
+add_frequent-requires-clause-rising c =
     let knows = c.self.invariant.1 in
-    c.len-size.ensures ∙ asked_size c.self.inside.coded.now c.self.inside.size knows.some c.deref.result.now (c.deref.ensures.value ∙ knows.asked) c.in-Some.set.now c.in-Some.ensures.value
+    subst (All IsRising) (sym knows.asked) (asked_rise c.self.inside.coded.now c.self.inside.size knows.some)
 
-pub ask-requires-clause-some : goal.ask-requires-clause-some
-ask-requires-clause-some c = omega (arith, size_is (goal.at.ask-requires-clause-some c).After-len-size)
+pub add_frequent-requires-clause-counts : goal.add_frequent-requires-clause-counts
+add_frequent-requires-clause-counts c =
+    c.requires.counts ∙ ap wanted (sym c.self.view_is) ∙ ap (map (support_of c.self.inside.coded.now.baskets)) (sym c.self.invariant.1.asked)
+
+pub overflow_add-known : goal.overflow_add-known
+overflow_add-known c =
+    let coding = c.self.inside.coded.now in
+    let asks : asked_of coding c.self.inside.size ≢ [] = λ none. true≢false (sym (c.is_empty.ensures.1 (c.self.invariant.1.asked ∙ none)) ∙ c.if-is_empty.false) in
+    record { fits = omega (arith, asked_few coding c.self.invariant.0 c.self.inside.size asks, c.self.invariant.0.few) }
 
 pub ask-requires-clause-found : goal.ask-requires-clause-found
 ask-requires-clause-found c =
     let coding = c.self.inside.coded.now in
     let knows = c.self.invariant.1 in
-    subst (λ n. AreFound coding n c.add_frequent.new.self) (sym (size_is (goal.at.ask-requires-clause-found c).After-len-size))
-    (found_next coding c.self.inside.size knows.some c.deref-2.result.now (c.deref-2.ensures.value ∙ knows.asked)
-    c.self.inside.found c.add_frequent.new.self knows.found_all c.in_ok-add_frequent.ensures.sets c.in_ok-add_frequent.ensures.counts)
+    let passes = is_frequent coding.baskets coding.minimum in
+    found_next coding c.self.inside.size c.self.inside.found c.add_frequent.new.found (filter passes (sets_of c.self.inside.asked)) knows.found_all
+    (next coding c.self.inside.size knows.some (sets_of c.self.inside.asked) knows.asked) c.in_ok-level.ensures.found
 
-pub ask-requires-clause-last : goal.ask-requires-clause-last
-ask-requires-clause-last c =
+pub ask-requires-clause-level : goal.ask-requires-clause-level
+ask-requires-clause-level c =
     let coding = c.self.inside.coded.now in
     let knows = c.self.invariant.1 in
-    let long : c.len-last.result ≡ length c.self.inside.found.sets.items = omega (arith, c.len-last.ensures, c.self.inside.found.sets.ok) in
-    ap (λ n. drop n c.add_frequent.new.self.sets.items) long
-    ∙ last_next coding c.self.inside.size knows.some c.deref-2.result.now (c.deref-2.ensures.value ∙ knows.asked) c.self.inside.found c.add_frequent.new.self c.in_ok-add_frequent.ensures.sets
-    ∙ ap (level_of coding) (sym (size_is (goal.at.ask-requires-clause-last c).After-len-size))
+    ap sets_of c.in_ok-level.ensures.level ∙ kept_sets (is_frequent coding.baskets coding.minimum) c.self.inside.asked
+    ∙ next coding c.self.inside.size knows.some (sets_of c.self.inside.asked) knows.asked
+
+pub ask-requires-clause-grouped : goal.ask-requires-clause-grouped
+ask-requires-clause-grouped c =
+    let coding = c.self.inside.coded.now in
+    subst AreGrouped (sym c.in_ok-level.ensures.level) (kept_grouped (is_frequent coding.baskets coding.minimum) c.self.inside.asked c.self.invariant.1.grouped)
 
 pub ask-requires-clause-counted : goal.ask-requires-clause-counted
-ask-requires-clause-counted c =
-    let coding = c.self.inside.coded.now in
-    c.self.invariant.1.number ∙ ap (λ n. length (candidates_up_to coding.baskets coding.minimum n)) (sym (size_is (goal.at.ask-requires-clause-counted c).After-len-size))
+ask-requires-clause-counted c = c.self.invariant.1.number
 
 pub returns-clause-next : goal.returns-clause-next
 returns-clause-next c = λ asks.
-    let size = size_is (goal.at.returns-clause-next c).After-len-size in
     IfOk-weaker c.ask.result _ _
-    (λ levels is. is ∙ (λ i. record { coding = (c.self.view_is i).coding; limit = (c.self.view_is i).limit; size = (size ∙ ap (λ s. s.size + 1) c.self.view_is) i })) c.ask.ensures.ok
+    (λ levels is. is ∙ (λ i. record { coding = (c.self.view_is i).coding; limit = (c.self.view_is i).limit; size = (c.self.view_is i).size + 1 })) c.ask.ensures.ok
+
+pub returns-clause-done : goal.returns-clause-done
+returns-clause-done c = λ none.
+    absurd (true≢false (sym (c.is_empty.ensures.1 (c.self.invariant.1.asked ∙ ap (λ s. asked_of s.coding s.size) c.self.view_is ∙ none)) ∙ c.if-is_empty.false))
+
+pub returns-then-is_empty-clause-next : goal.returns-then-is_empty-clause-next
+returns-then-is_empty-clause-next c = λ asks.
+    absurd (asks (sym (c.self.invariant.1.asked ∙ ap (λ s. asked_of s.coding s.size) c.self.view_is) ∙ c.is_empty.ensures.0 c.if-is_empty.true))

@@ -10,7 +10,7 @@ use Rattle.mine_apriori.proofs.levels.Levels.asked.Goals as goal
 pub returns-clause-candidates : goal.returns-clause-candidates
 returns-clause-candidates c =
     let knows = c.self.invariant.1 in
-    c.deref.ensures.value ∙ knows.asked ∙ asked_are c.self.inside.coded.now c.self.inside.size knows.some
+    knows.asked ∙ asked_are c.self.inside.coded.now c.self.inside.size knows.some
     ∙ ap (λ s. candidates_of_size s.coding.baskets s.coding.minimum (s.size + 1)) c.self.view_is
 
 pub returns-clause-regular : goal.returns-clause-regular
@@ -19,7 +19,7 @@ returns-clause-regular c =
     let coding = c.self.inside.coded.now in
     let size = c.self.inside.size in
     let some = knows.some in
-    let asked = c.deref.ensures.value ∙ knows.asked in
+    let asked = knows.asked in
     subst IsRegular (sym asked) (
       (size + 1, omega arith, candidates_are_one_larger size (level_of coding size) (level_sized coding size)),
       candidates_are_in_report_order (level_of coding size),

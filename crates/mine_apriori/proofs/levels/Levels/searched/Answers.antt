@@ -1,4 +1,4 @@
-use Rattle.std.proofs.Common.{◌≢◌, [], eqb, length, sym, ap, ◌∙◌, arith}
+use Rattle.std.proofs.Common.{◌≢◌, [], length, sym, ap, ◌∙◌, arith}
 use Rattle.std.proofs.lemmas.Bool.{true≢false}
 use Rattle.basket_sets.specs.Support.{items_of}
 use Rattle.mine_apriori.specs.Levels.{asked_of}
@@ -8,7 +8,7 @@ use Rattle.mine_apriori.proofs.levels.Levels.searched.Goals as goal
 pub loop-alloc-smaller : goal.loop-alloc-smaller
 loop-alloc-smaller c =
     let levels = c.loop-alloc.levels in
-    let asks : asked_of levels.coding levels.size ≢ [] = λ none. true≢false (sym (c.is_empty.ensures ∙ ap (λ l. eqb (length l) 0) (c.asked.ensures.asked ∙ none)) ∙ c.loop-alloc-test.true) in
+    let asks : asked_of levels.coding levels.size ≢ [] = λ none. true≢false (sym (c.is_empty.ensures.1 (c.asked.ensures.asked ∙ none)) ∙ c.loop-alloc-test.true) in
     let knows = c.levels.invariant.1 in
     let some = ap (λ s. s.size) c.levels.view_is in
     let next = ap (λ s. s.size) (c.in_ok-levels-2.ensures.next asks) in

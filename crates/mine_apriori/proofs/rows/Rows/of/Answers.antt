@@ -1,4 +1,4 @@
-use Rattle.std.proofs.Common.{◌≡◌, ◌||◌, ◌&&◌, ℕ, eqb, get_or, length, take, ap, subst, sym, ◌∙◌, arith}
+use Rattle.std.proofs.Common.{◌||◌, ◌&&◌, ℕ, eqb, get_or, length, take, ap, ◌∙◌, arith}
 use Rattle.std.proofs.lemmas.List.{take_all, take_at}
 use Rattle.basket_sets.specs.Itemset.{has}
 use Rattle.mine_apriori.specs.Places.{basket_at}

@@ -1,0 +1,11 @@
+use Rattle.std.proofs.Common.{◌≡◌, ◌++◌, ◌∷◌, [], filter, take}
+use Rattle.basket_sets.specs.Frequent.{is_frequent}
+use Rattle.mine_apriori.specs.Extensions.{extend}
+use Rattle.mine_apriori.specs.Levels.{decoded_sets}
+use Rattle.mine_apriori.proofs.frequent.add_extensions.Given as goal
+
+abbrev pub invariant-loop-place : goal.invariant-loop-place
+invariant-loop-place l = record {
+  items : l.kept.items ≡ filter (λ item. is_frequent l.coded.baskets l.coded.minimum (l.prefix ++ item ∷ [])) (take l.place l.items);
+  found : l.found ≡ l.initial.found ++ decoded_sets l.coded (filter (is_frequent l.coded.baskets l.coded.minimum) (extend l.prefix (take l.place l.items)));
+}

@@ -1,0 +1,37 @@
+use Rattle.std.proofs.Common.{◌∷◌, ◌++◌, [], ℕ, ◌<◌, get_or, length, ap, inl, inr, ◌∙◌, arith}
+use Rattle.std.proofs.lemmas.Bool.{cases_lt}
+use Rattle.basket_sets.proofs.theory.Tests.{rising_at}
+use Rattle.mine_apriori.proofs.IntersectionLemmas.{shared_more, shared_not}
+use Rattle.mine_apriori.proofs.intersection.push_shared.Goals as goal
+use Rattle.mine_apriori.proofs.intersection.push_shared.Goals.{Joined-next-others, then-next-others+then-others-next+in_ok-push, else-next-others, else-next-others-via-then-next-others+else-others-next, else-next-others-via-else-next-others}
+
+-- the others that were passed over are below the item
+passed : (c : Joined-next-others) (k : ℕ) → k < c.first_from-next.result → k < length c.args.others.now → get_or c.args.others.now k 0 < get_or c.args.items.now c.loop-item.item-index 0
+passed c k less within = elim (cases_lt k c.loop-item.next) [
+  | inl before ↦ c.loop-item.invariant.below k before within c.loop-item.item-index (omega arith) c.loop-item-test.true
+  | inr from ↦ c.first_from-next.ensures.below k from less
+]
+
+pub loop-item-preserved : goal.loop-item-preserved
+loop-item-preserved c =
+    let items = c.args.items.now in
+    let others = c.args.others.now in
+    let shared = c.args.shared.now.items in
+    let i = c.loop-item.item-index in
+    let next = c.first_from-next.result in
+    let inv = c.loop-item.invariant in
+    let here = c.loop-item-test.true in
+    record {
+      shared = elim c.if-next-others.branch [
+        | then-next-others+then-others-next+in_ok-push w ↦
+            ap (λ v. v.items) w.shared-is ∙ w.in_ok-push.ensures.items ∙ ap (λ l. l ++ get_or items i 0 ∷ []) inv.shared
+            ∙ shared_more others items shared i next here w.if-next-others.true w.if-others-next.true
+        | else-next-others w ↦
+            ap (λ v. v.items) w.shared-is ∙ inv.shared
+            ∙ shared_not others items shared i next c.requires.others_rise here (passed c) (λ inside. elim w.else-next-others.branch [
+              | else-next-others-via-then-next-others+else-others-next v ↦ (let least = c.first_from-next.ensures.first inside in let differ = v.if-others-next.false in omega (arith, least, differ))
+              | else-next-others-via-else-next-others v ↦ absurd (omega (arith, v.if-next-others.false, inside))
+            ])
+      ];
+      below = λ k less within j from inside. let b = passed c k less within in let r = rising_at items i j c.requires.rises (omega (arith, from)) inside in omega arith;
+    }

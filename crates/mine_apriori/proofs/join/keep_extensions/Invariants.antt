@@ -1,0 +1,7 @@
+use Rattle.std.proofs.Common.{◌≡◌, filter}
+use Rattle.mine_apriori.specs.Extensions.{sets_of}
+use Rattle.mine_apriori.specs.Join.{has_parts}
+use Rattle.mine_apriori.proofs.join.keep_extensions.Given as goal
+
+abbrev pub invariant-loop-place : goal.invariant-loop-place
+invariant-loop-place l = l.items.items ≡ filter (has_parts l.place (sets_of l.level) l.set) l.initial.items.items

@@ -1,0 +1,70 @@
+//! The frequent sets among candidates.
+ghost use Rattle.std.specs.Prelude.{◌≡◌, ◌++◌, ◌∷◌, [], All, IfOk, OnOk, filter, map};
+ghost use Rattle.basket_ranks.specs.Codes.{IsCoding};
+ghost use Rattle.basket_sets.specs.Frequent.{is_frequent};
+ghost use Rattle.basket_sets.specs.Itemset.{IsRising};
+ghost use Rattle.basket_sets.specs.Support.{support_of};
+ghost use Rattle.mine_apriori.specs.Extensions.{extend, kept, sets_of};
+ghost use Rattle.mine_apriori.specs.Levels.{decoded_sets};
+
+use crate::extensions::{Extensions, put_extended};
+use basket_core::{Coded, CountedSets, Itemset};
+use std::alloc::{AllocError, Global};
+
+/// Adds those of the sets that are frequent to those found, as items and with their supports. Returns them as ranks.
+pub fn add_frequent(
+    alloc: Global,
+    coded: &Coded,
+    sets: &Extensions,
+    counts: &[u64],
+    found: &mut CountedSets,
+) -> Result<Extensions, AllocError>
+    requires coding { IsCoding coded.now }
+    requires rising { All IsRising (sets_of sets.now) }
+    requires counts { counts.now ≡ map (support_of coded.now.baskets) (sets_of sets.now) }
+    ensures level { IfOk result (λ level. level ≡ kept (is_frequent coded.now.baskets coded.now.minimum) sets.now) }
+    ensures found { OnOk result (found.new ≡ found.old ++ decoded_sets coded.now (filter (is_frequent coded.now.baskets coded.now.minimum) (sets_of sets.now))) }
+{
+    let mut level = Extensions::new(alloc);
+    let mut rest = counts;
+    for (number, items) in sets.lists().iter().enumerate() {
+        let prefix = sets.prefixes()[number].items();
+        let (counts, others) = rest.split_at(items.len());
+        let frequent = add_extensions(alloc, coded, prefix, items.items(), counts, found)?;
+        if !frequent.is_empty() {
+            level = level.with_items(alloc, prefix, &frequent)?;
+        }
+        rest = others;
+    }
+    Ok(level)
+}
+
+/// Adds the frequent ones of the sets of a prefix to those found. Returns the items that extend it.
+fn add_extensions(
+    alloc: Global,
+    coded: &Coded,
+    prefix: &[u32],
+    items: &[u32],
+    counts: &[u64],
+    found: &mut CountedSets,
+) -> Result<Vec<u32>, AllocError>
+    requires coding { IsCoding coded.now }
+    requires rising { All IsRising (extend prefix.now items.now) }
+    requires counts { counts.now ≡ map (support_of coded.now.baskets) (extend prefix.now items.now) }
+    ensures items { IfOk result (λ kept. kept.items ≡ filter (λ item. is_frequent coded.now.baskets coded.now.minimum (prefix.now ++ item ∷ [])) items.now) }
+    ensures found { OnOk result (found.new ≡ found.old ++ decoded_sets coded.now (filter (is_frequent coded.now.baskets coded.now.minimum) (extend prefix.now items.now))) }
+{
+    let minimum = coded.minimum();
+    let total = coded.total();
+    let mut kept = Vec::new(alloc);
+    let mut set = Vec::new(alloc);
+    for (place, item) in items.iter().enumerate() {
+        if minimum.met(counts[place], total) {
+            put_extended(&mut set, prefix, *item)?;
+            let ranks = Itemset::from_items(alloc, &set)?;
+            found.push_renamed(alloc, &ranks, coded.items(), counts[place])?;
+            kept.push(*item)?;
+        }
+    }
+    Ok(kept)
+}
