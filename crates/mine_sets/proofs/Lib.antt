@@ -1,2 +1,2 @@
-mod SortLemmas
+mod RunLemmas
 mod PlaceLemmas

@@ -1,4 +1,4 @@
--- Sets that are put into report order and back at their places.
+-- Sets that are put back at their places.
 use Rattle.std.proofs.Common.{◌≡◌, ℕ, ◌+◌, ◌<◌, Bool, true, false, List, [], ◌∷◌, ◌++◌, map, fold, zip, cond, refl, sym, ap, ◌∙◌, subst, inl, inr, arith, get_or}
 use Rattle.std.specs.declared.cmp.Ordering.{Ordering}
 use Rattle.std.specs.declared.cmp.Ordering.TheVariants.{Less, Equal, Greater}
@@ -22,59 +22,6 @@ use Rattle.mine_sets.specs.declared.asked.Asked.{Asked}
 use Rattle.mine_sets.specs.declared.count.Found.{Found}
 use Rattle.mine_sets.specs.Asked.{with_set, asked_of}
 use Rattle.mine_sets.specs.Placed.{placed, found_of, found_with}
-
--- ---- the sets that are asked for differ
-
-nothing_twice : IsDistinct (pointwise nat_eq) []
-unfolding IsDistinct
-nothing_twice = tt
-
-with_set-distinct : (sets : List (List ℕ)) (set : List ℕ) → IsDistinct (pointwise nat_eq) sets → IsDistinct (pointwise nat_eq) (with_set sets set)
-with_set-distinct sets set apart = at (list_any (pointwise nat_eq set) sets) refl
-  where
-    at : (b : Bool) → list_any (pointwise nat_eq set) sets ≡ b → IsDistinct (pointwise nat_eq) (cond b sets (sets ++ set ∷ []))
-    at true e = apart
-    at false e = IsDistinct-push nat_list_eq_equiv sets set apart e
-
-fold-distinct : (before sets : List (List ℕ)) → IsDistinct (pointwise nat_eq) before → IsDistinct (pointwise nat_eq) (fold with_set before sets)
-fold-distinct before [] apart = apart
-fold-distinct before (set ∷ sets) apart = fold-distinct (with_set before set) sets (with_set-distinct before set apart)
-
-asked-distinct : (sets : List (List ℕ)) → IsDistinct (pointwise nat_eq) (asked_of sets)
-asked-distinct sets = fold-distinct [] ([] ∷ sets) nothing_twice
-
--- ---- by set
-
--- the order of sets with their places
-abbrev pub by_set : Asked → Asked → Ordering
-by_set a b = ordering_then (report_order a.set b.set) (nat_cmp a.place b.place)
-
-sets_of_placed : (n : ℕ) (sets : List (List ℕ)) → map (λ (a : Asked). a.set) (map (λ entry. record { set = entry.1; place = entry.0 }) (enumerate_from n sets)) ≡ sets
-sets_of_placed n [] = refl
-sets_of_placed n (set ∷ sets) = ap (λ l. set ∷ l) (sets_of_placed (n + 1) sets)
-
-sorted_by_set : (sorted : List Asked) → IsSorted by_set sorted → IsSorted (λ (a b : Asked). report_order a.set b.set) sorted
-sorted_by_set sorted up k d low high =
-    let next = get_or sorted (k + 1) d in let this = get_or sorted k d in
-    at (report_order next.set this.set) (nat_cmp next.place this.place) (up k d low high)
-  where
-    at : (r o : Ordering) → is_lt (ordering_then r o) ≡ false → is_lt r ≡ false
-    at Less o e = e
-    at Equal o e = refl
-    at Greater o e = refl
-
--- after a sort by set they are in report order
-pub asked_in_order : (sets : List (List ℕ)) (start sorted : List Asked) → start ≡ placed (asked_of sets) → IsPermutation start sorted → IsSorted by_set sorted
-    → IsInReportOrder (map (λ (a : Asked). a.set) sorted)
-asked_in_order sets start sorted is moved up =
-    let asked = asked_of sets in
-    let set_of = λ (a : Asked). a.set in
-    strictly_sorted report_order_total asked (map set_of sorted)
-    (subst (λ (e : List ℕ → List ℕ → Bool). IsDistinct e asked) (λ k a b. report_order_ties a b k) (asked-distinct sets))
-    (subst (λ l. IsPermutation l (map set_of sorted)) (ap (map set_of) is ∙ sets_of_placed 0 asked) (IsPermutation-map set_of start sorted moved))
-    (sorted_images (λ a b. report_order a.set b.set) report_order set_of (λ a b. refl) sorted (sorted_by_set sorted up))
-
--- ---- by place
 
 -- the order of places with their sets and supports
 abbrev pub by_place : Found → Found → Ordering

@@ -1,7 +1,6 @@
 //! The supports of sets at their places.
 ghost use Rattle.std.specs.Prelude.{◌≡◌, IfOk, map, zip};
 ghost use Rattle.basket_sets.specs.Frequent.{counted};
-ghost use Rattle.basket_sets.specs.Order.{IsInReportOrder};
 ghost use Rattle.mine_sets.specs.Asked.{asked_of};
 ghost use Rattle.mine_sets.specs.Placed.{found_of, found_with, placed};
 
@@ -48,7 +47,6 @@ fn count_placed<R: Threads + Sync, G: Gate + Sync>(
     cutting: Cutting,
     gate: &G,
 ) -> Result<Vec<Found>, AllocError>
-    requires { IsInReportOrder (map (λ a. a.set) asked.items) }
     ensures { IfOk result (λ found. found.items ≡ map (found_of database.now) asked.items) }
 {
     let places: Vec<usize> = asked.iter().map(|asked| asked.place).collect(alloc)?;

@@ -1,6 +1,5 @@
-//! Sets in report order, counted in runs of one size.
+//! Sets that are counted in runs of one size.
 ghost use Rattle.std.specs.Prelude.{◌≡◌, ◌≤◌, IfOk, length, map, take};
-ghost use Rattle.basket_sets.specs.Order.{IsInReportOrder};
 ghost use Rattle.basket_sets.specs.Support.{support_of};
 ghost use Rattle.mine_apriori.specs.Sizes.{AreOfSize};
 
@@ -19,7 +18,6 @@ pub fn count_in_order<R: Threads + Sync, G: Gate + Sync>(
     cutting: Cutting,
     gate: &G,
 ) -> Result<Vec<u64>, AllocError>
-    requires { IsInReportOrder sets.now }
     ensures { IfOk result (λ supports. supports.items ≡ map (support_of database.now) sets.now) }
 {
     let mut supports = Vec::with_capacity(alloc, sets.len())?;

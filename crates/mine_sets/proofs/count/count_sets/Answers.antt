@@ -2,12 +2,8 @@ use Rattle.std.proofs.Common.{◌∙◌, ap}
 use Rattle.std.proofs.lemmas.Result.{IfOk-weaker}
 use Rattle.mine_sets.specs.Asked.{asked_of}
 use Rattle.mine_sets.specs.Placed.{placed}
-use Rattle.mine_sets.proofs.PlaceLemmas.{asked_in_order, found_in_place}
+use Rattle.mine_sets.proofs.PlaceLemmas.{found_in_place}
 use Rattle.mine_sets.proofs.count.count_sets.Goals as goal
-
-pub count_placed-requires-after_bounds : goal.count_placed-requires-after_bounds
-count_placed-requires-after_bounds g c κs within =
-    asked_in_order c.args.sets.items c.in_ok-asked.asked.items c.sort_unstable.new.self.items (c.in_ok-asked.ensures ∙ ap placed c.in_ok-asked_for.ensures) c.sort_unstable.ensures.permutation c.sort_unstable.ensures.sorted
 
 pub returns : goal.returns
 returns g c =

@@ -1,23 +1,16 @@
 use Rattle.std.proofs.Common.{◌≡◌, ◌≤◌, ◌+◌, [], length, map, take, sym, ap, ◌∙◌, subst, arith}
-use Rattle.std.proofs.lemmas.Map.Keys.{sorted_tail}
-use Rattle.basket_sets.specs.Order.{IsInReportOrder, report_order}
 use Rattle.basket_sets.specs.Support.{support_of}
 use Rattle.mine_apriori.specs.Sizes.{AreOfSize}
-use Rattle.mine_sets.proofs.SortLemmas.{sorted_take, sorted_drop, run_sized, some_items, one_more, run_more}
+use Rattle.mine_sets.proofs.RunLemmas.{run_sized, some_items, one_more, run_more}
 use Rattle.mine_sets.proofs.runs.count_in_order.Goals as goal
 
 pub runs-preserved-then-is_empty : goal.runs-preserved-then-is_empty
 runs-preserved-then-is_empty g c =
     let baskets = c.args.database.now in
     let first = c.in-Some.first.now in
-    let others = c.in-Some.others.now in
-    let is = c.in-Some.ensures.cases.0 in
     let empty : first ≡ [] = c.is_empty.ensures.0 c.if-is_empty.true in
-    record {
-      in_order = sorted_tail report_order first others (subst IsInReportOrder is c.runs.invariant.in_order);
-      so_far = one_more baskets c.runs.supports.items c.push.new.self.items c.total.result c.runs.rest.now others first is c.in_ok-push.ensures.items
-          (c.total.ensures ∙ ap (support_of baskets) (sym empty)) ∙ c.runs.invariant.so_far;
-    }
+    one_more baskets c.runs.supports.items c.push.new.self.items c.total.result c.runs.rest.now c.in-Some.others.now first c.in-Some.ensures.cases.0 c.in_ok-push.ensures.items
+    (c.total.ensures ∙ ap (support_of baskets) (sym empty)) ∙ c.runs.invariant
 
 pub count_level-requires-clause-sized : goal.count_level-requires-clause-sized
 count_level-requires-clause-sized g c κs within =
@@ -31,16 +24,9 @@ count_level-requires-clause-sized g c κs within =
       subst (AreOfSize size) (sym front) (run_sized size c.same_size.result (1 + c.same_size.result) first c.in-Some.others.now (omega arith) (sym long) c.same_size.ensures.sized),
     )
 
-pub count_level-requires-clause-in_order : goal.count_level-requires-clause-in_order
-count_level-requires-clause-in_order g c κs within =
-    subst IsInReportOrder (sym c.split_at.ensures.front) (sorted_take report_order (1 + c.same_size.result) c.runs.rest.now c.runs.invariant.in_order)
-
 pub runs-preserved : goal.runs-preserved
 runs-preserved g c =
     let baskets = c.args.database.now in
     let run = c.split_at.result.0.now in
-    record {
-      in_order = subst IsInReportOrder (sym c.split_at.ensures.back) (sorted_drop report_order (1 + c.same_size.result) c.runs.rest.now c.runs.invariant.in_order);
-      so_far = run_more baskets c.runs.supports.items c.append.new.self.items c.in_ok-counted.counted.items c.runs.rest.now run c.split_at.result.1.now
-          c.split_at.ensures.by_index.0 c.in_ok-append.ensures.items (c.in_ok-counted.ensures ∙ ap (λ l. map (support_of l) run) c.baskets.ensures.baskets) ∙ c.runs.invariant.so_far;
-    }
+    run_more baskets c.runs.supports.items c.append.new.self.items c.in_ok-counted.counted.items c.runs.rest.now run c.split_at.result.1.now
+    c.split_at.ensures.by_index.0 c.in_ok-append.ensures.items (c.in_ok-counted.ensures ∙ ap (λ l. map (support_of l) run) c.baskets.ensures.baskets) ∙ c.runs.invariant

@@ -1,36 +1,11 @@
--- Parts of a sorted list, and runs of one size with their supports.
-use Rattle.std.proofs.Common.{◌≡◌, ◌≤◌, ◌++◌, Bool, true, false, length, map, refl, sym, ap, ◌∙◌, subst, append_assoc, arith, List, [], ◌∷◌, ℕ, zero, suc, take, drop, inl, inr}
-use Rattle.std.specs.declared.cmp.Ordering.{Ordering}
-use Rattle.std.specs.declared.cmp.Ordering.TheVariants.{Less}
-use Rattle.std.specs.List.Sorted.{IsStrictlySortedBy}
+-- Runs of sets of one size, with their supports.
+use Rattle.std.proofs.Common.{◌≡◌, ◌≤◌, ◌++◌, Bool, true, false, length, map, refl, sym, ap, ◌∙◌, subst, append_assoc, arith, List, [], ◌∷◌, ℕ, suc, take}
 use Rattle.std.proofs.lemmas.Bool.{false≢true}
 use Rattle.std.proofs.lemmas.List.{map-append}
 use Rattle.std.proofs.lemmas.List.Elements.{All-cons}
 use Rattle.basket_sets.specs.declared.weighted.Weighted.{Weighted}
 use Rattle.basket_sets.specs.Support.{support_of}
-use Rattle.basket_sets.proofs.theory.Members.{Member, at_Member, All-from_Member}
 use Rattle.mine_apriori.specs.Sizes.{AreOfSize}
-
-module _ {K : Type 0} where
-  Member-take : (n : ℕ) (xs : List K) (z : K) → Member z (take n xs) → Member z xs
-  Member-take zero xs z m = absurd m
-  Member-take (suc n) [] z m = absurd m
-  Member-take (suc n) (x ∷ xs) z (inl e) = inl e
-  Member-take (suc n) (x ∷ xs) z (inr m) = inr (Member-take n xs z m)
-
-  -- the front of a sorted list is sorted, and so are the others
-  pub sorted_take : (R : K → K → Ordering) (n : ℕ) (xs : List K) → IsStrictlySortedBy R xs → IsStrictlySortedBy R (take n xs)
-  unfolding IsStrictlySortedBy
-  sorted_take R zero xs s = tt
-  sorted_take R (suc n) [] s = tt
-  sorted_take R (suc n) (x ∷ xs) s =
-      (All-from_Member (λ z. R x z ≡ Less) (take n xs) (λ z m. at_Member (λ w. R x w ≡ Less) z xs s.0 (Member-take n xs z m)), sorted_take R n xs s.1)
-
-  pub sorted_drop : (R : K → K → Ordering) (n : ℕ) (xs : List K) → IsStrictlySortedBy R xs → IsStrictlySortedBy R (drop n xs)
-  unfolding IsStrictlySortedBy
-  sorted_drop R zero xs s = s
-  sorted_drop R (suc n) [] s = tt
-  sorted_drop R (suc n) (x ∷ xs) s = sorted_drop R n xs s.1
 
 -- a set and others of its size
 pub run_sized : (size n k : ℕ) (first : List ℕ) (others : List (List ℕ)) → k ≡ suc n → length first ≡ size → AreOfSize size (take n others) → AreOfSize size (take k (first ∷ others))
