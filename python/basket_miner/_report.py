@@ -5,20 +5,25 @@ import csv
 import gc
 import io
 import itertools
-from collections.abc import Iterable, Iterator, Sequence
+from collections.abc import Iterable, Iterator
 from dataclasses import dataclass
-from fractions import Fraction
 from typing import Any
 
 import numpy as np
 import pandas as pd
 
 from ._baskets import Array, Baskets, Labels
+from ._columns import (
+    Fractions,
+    fractions_of,
+    objects_of,
+    quotients_of,
+    shares_of,
+    supports_of,
+)
 from ._errors import DataError
 
 Itemset = frozenset[Any]
-# Numerators and denominators, place by place.
-Fractions = tuple[Array, Array]
 
 _BLANKS = bytes.maketrans(b"()/=>", b"     ")
 # Below it, products of two weights are whole numbers that a float holds.
@@ -69,9 +74,9 @@ def sets_frame(
     else:
         itemsets, counts = _named_sets(report, baskets.separator)
     whole = int(counts[0]) if weight is None else weight
-    columns = {"itemsets": _objects(itemsets), **_supports(counts, whole)}
+    columns = {"itemsets": objects_of(itemsets), **supports_of(counts, whole)}
     if exact:
-        columns["exact_support"] = _exact(counts, whole)
+        columns["exact_support"] = shares_of(counts, whole)
     return pd.DataFrame(columns)
 
 
@@ -94,21 +99,21 @@ def rules_frame(
     if whole != weight:
         lifts = lifts[0].astype(object) * whole, lifts[1].astype(object) * weight
     columns = {
-        "antecedents": _objects(found.antecedents),
-        "consequents": _objects(found.consequents),
-        **_supports(found.counts, whole),
-        "confidence": _quotients(found.confidences),
-        "lift": _quotients(lifts),
+        "antecedents": objects_of(found.antecedents),
+        "consequents": objects_of(found.consequents),
+        **supports_of(found.counts, whole),
+        "confidence": quotients_of(found.confidences),
+        "lift": quotients_of(lifts),
     }
     if exact:
-        columns["exact_support"] = _exact(found.counts, whole)
-        columns["exact_confidence"] = _fractions(found.confidences)
-        columns["exact_lift"] = _fractions(lifts)
+        columns["exact_support"] = shares_of(found.counts, whole)
+        columns["exact_confidence"] = fractions_of(found.confidences)
+        columns["exact_lift"] = fractions_of(lifts)
     sides = dict(zip(("antecedent", "consequent"), _side_counts(found, weight)))
     columns |= {f"{side} support": counts / whole for side, counts in sides.items()}
     if exact:
         for side, counts in sides.items():
-            columns[f"exact_{side}_support"] = _exact(counts, whole)
+            columns[f"exact_{side}_support"] = shares_of(counts, whole)
     return pd.DataFrame(columns)
 
 
@@ -234,29 +239,3 @@ def _parts(texts: Iterable[str]) -> Fractions:
     pairs = [text.split("/") for text in texts]
     tops = np.array([int(top) for top, _ in pairs], dtype=object)
     return tops, np.array([int(bottom) for _, bottom in pairs], dtype=object)
-
-
-def _objects(values: Sequence[object]) -> Any:
-    return pd.Series(values, dtype=object)
-
-
-def _supports(counts: Array, weight: int) -> dict[str, Any]:
-    # Without baskets a support is not a number.
-    with np.errstate(invalid="ignore"):
-        return {"count": counts, "support": counts / weight}
-
-
-def _exact(counts: Array, weight: int) -> Any:
-    if weight == 0:
-        return _objects([None] * len(counts))
-    return _objects([Fraction(count, weight) for count in counts.tolist()])
-
-
-def _quotients(fractions: Fractions) -> Array:
-    """The floats nearest to fractions: whole numbers of Python divide so, whatever their size."""
-    return np.asarray(fractions[0] / fractions[1], dtype=np.float64)
-
-
-def _fractions(fractions: Fractions) -> Any:
-    tops, bottoms = (part.tolist() for part in fractions)
-    return _objects([*map(Fraction, tops, bottoms)])
