@@ -68,6 +68,7 @@ SHARED = [
     (FORTY, "sets --min 1% --miner eclat-bits"),
     (DENSE, "sets --min 10% --miner eclat-bits"),
     (DENSE, "sets --min 5% --miner eclat-bits"),
+    (DENSE, "sets --min 5% --miner apriori"),
 ]
 
 # Of which sets `count` has to write the supports: those that are frequent at a minimum.
@@ -175,7 +176,7 @@ class Bench:
     def shared(self) -> list[str]:
         rows = []
         for says, command in SHARED:
-            words = [self.program, *command.split(), "--pieces", "64", "--workers"]
+            words = [self.program, *command.split(), "--workers"]
             _, (one, four) = in_turn([[*words, "1"], [*words, "4"]], self.data[says])
             clocks = [one.clock, four.clock, one.clock / four.clock]
             cells = [f"{number:.3f}" for number in clocks]
