@@ -5,7 +5,7 @@ usage: tools/parts.py    at the top of the repository, with the program that `ma
 
 `BASKET` names another program. The baskets are those of bench/quest.py by a fixed seed. They are cut at
 line ends into parts of unequal length. Of each part `basket sets` lists the sets that are frequent in it,
-and `basket count` counts the sets that some part lists. The reports of these counts, one behind another,
+and `basket count` counts the sets that some part lists. The reports of these counts, concatenated,
 are the counted input.
 """
 
@@ -65,7 +65,7 @@ def cut(baskets: Path, folder: Path) -> list[Path]:
 
 
 def counted(parts: list[Path], folder: Path) -> Path:
-    """The file of the counts of all parts, one behind another."""
+    """The file of the counts of all parts, concatenated."""
     asked, counts = folder / "asked", folder / "counts"
     for part in parts:
         run(f"sets --min {SHARE}", part, asked)

@@ -12,8 +12,8 @@ in the order of its report. All take the baskets as one of these:
   (DuckDB) or `__dataframe__`;
 - an iterable of baskets, each an iterable of hashable labels;
 - a matrix of `scipy.sparse` with a row for each basket; `names=` are the labels of its columns;
-- the path of a file: `form=` "fimi", or of CSV "baskets" (a basket a record) or "single" (a
-  basket's id and an item a record), with `sep=`, `header=` and `weighted=` (a record begins
+- the path of a file: `form=` "fimi", or of CSV "baskets" (a record is a basket) or "single" (a
+  record is a basket's id and an item), with `sep=`, `header=` and `weighted=` (a record begins
   with its weight) as the program has them. A pipe or `/dev/stdin` is copied into a temporary file;
 - what `baskets` returns of one of these, for many questions.
 
@@ -38,7 +38,7 @@ of util-linux.
 
 The program has the package's version, or a later one of the same major version.
 
-`tidy` makes a row an item, `recommend` says what to offer to baskets by rules, `explore` writes a
+`tidy` makes a row for each item, `recommend` says what to offer to baskets by rules, `explore` writes a
 page that shows rules in a browser, `basket_miner.frequent_patterns` has the calls of mlxtend, and
 `basket_miner.cluster` asks parts of the baskets on a Dask cluster.
 

@@ -47,11 +47,15 @@ def read(data: Data, keywords: Layout) -> Baskets:
         return _file(Path(os.path.expanduser(data)), layout)
     if isinstance(data, pd.DataFrame):
         if layout["basket"] is None and layout["item"] is None:
-            _refuse_others(layout, "weight missing", "a frame with a column an item")
+            _refuse_others(
+                layout, "weight missing", "a frame with a column for each item"
+            )
             return wide_frame(data, layout["weight"], drop)
         _refuse_others(layout, "basket item weight missing", "a frame")
         if layout["basket"] is None or layout["item"] is None:
-            raise DataError("a frame with a row an item needs both basket= and item=")
+            raise DataError(
+                "a frame with a row for each item needs both basket= and item="
+            )
         return long_frame(
             data, layout["basket"], layout["item"], layout["weight"], drop
         )
@@ -105,8 +109,8 @@ def _file(path: Path, layout: Layout) -> Baskets:
     if form is None:
         if path.suffix.lower() in _CSV_ENDINGS:
             raise DataError(
-                f'{path} ends like CSV: give form="baskets" (a basket a record), '
-                'form="single" (a basket\'s id and an item a record) or form="fimi"'
+                f'{path} ends like CSV: give form="baskets" (a record is a basket), '
+                'form="single" (a record is a basket\'s id and an item) or form="fimi"'
             )
         form = "fimi"
     if form not in ("fimi", "baskets", "single"):

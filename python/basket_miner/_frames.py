@@ -121,7 +121,7 @@ def _truths_of_objects(values: Array, drop: bool) -> Array | None:
 
 
 def matrix(values: Any, names: Labels | None) -> Baskets:
-    """Baskets of a `scipy.sparse` matrix of ones, a row a basket and a column an item."""
+    """Baskets of a `scipy.sparse` matrix of ones: a row for each basket, a column for each item."""
     rows = values.tocsr()
     if not rows.has_canonical_format:
         rows = rows.copy()

@@ -49,7 +49,9 @@ class PartLayout(TypedDict, total=False):
 
     basket: Annotated[
         Hashable | None,
-        Keyword(None, "of a frame with a row an item: the column of the basket's id."),
+        Keyword(
+            None, "of a frame with a row for each item: the column of the basket's id."
+        ),
     ]
     item: Annotated[Hashable | None, Keyword(None, "the column of the item.")]
     weight: Annotated[
@@ -69,8 +71,8 @@ class PartLayout(TypedDict, total=False):
         Form | None,
         Keyword(
             None,
-            'of a file: "fimi", or of CSV "baskets" (a basket a record) or "single" (a basket\'s '
-            "id and an item a record).",
+            'of a file: "fimi", or of CSV "baskets" (a record is a basket) or "single" (a record is '
+            "a basket's id and an item).",
         ),
     ]
     sep: Annotated[

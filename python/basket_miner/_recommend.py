@@ -155,7 +155,9 @@ def _baskets(
         data = frame_of(data)
     if isinstance(data, pd.DataFrame):
         if (basket is None) != (item is None):
-            raise DataError("a frame with a row an item needs both basket= and item=")
+            raise DataError(
+                "a frame with a row for each item needs both basket= and item="
+            )
         yield from _wide(data) if basket is None else _long(data, basket, item)
         return
     if basket is not None or item is not None:

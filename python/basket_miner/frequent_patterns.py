@@ -46,7 +46,7 @@ def apriori(
     verbose: int = 0,
     low_memory: bool = False,
 ) -> pd.DataFrame:
-    """The frequent itemsets of a frame of true and false (or 1 and 0), a row a basket.
+    """The frequent itemsets of a frame of true and false (or 1 and 0), a row for each basket.
 
     Returns the columns `support` (`float64`) and `itemsets` (`frozenset` of the columns'
     places, or with `use_colnames` of their labels). Itemsets of more than `max_len` items are left

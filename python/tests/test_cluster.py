@@ -31,7 +31,7 @@ SHOP = (ROOT / "examples/shop.dat").read_bytes()
 
 
 def whole(texts: Sequence[bytes]) -> bytes:
-    """All parts one behind another, each ended by a line feed."""
+    """All parts concatenated, each ended by a line feed."""
     return b"".join(text if text.endswith(b"\n") else text + b"\n" for text in texts)
 
 

@@ -112,7 +112,7 @@ def minimum_in(words: str) -> str:
 
 
 def ways_to_cut(baskets: bytes) -> list[list[bytes]]:
-    """The lines in one or more parts, one behind another, in each way that there is."""
+    """Each way to cut the lines into one or more parts."""
     lines = baskets.splitlines(keepends=True)
     ways = []
     for ends in itertools.product((False, True), repeat=len(lines) - 1):

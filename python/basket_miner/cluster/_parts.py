@@ -106,7 +106,7 @@ def _files(names: list[Any], layout: Layout) -> Parts:
             )
     if layout["form"] == "single":
         raise DataError(
-            "files of a row an item may cut a basket: read them as a Dask data frame "
+            "files with a row for each item may cut a basket: read them as a Dask data frame "
             "(dask.dataframe.read_csv), which brings the rows of a basket together"
         )
     read_so = [read(name, layout) for name in names]
@@ -121,7 +121,7 @@ def _files(names: list[Any], layout: Layout) -> Parts:
 def _listed(
     parts: list[Delayed | Future], client: Client, layout: Layout, progress: bool
 ) -> Parts:
-    """Delayed parts and futures: frames with a row an item, which may cut baskets, or whole baskets."""
+    """Delayed parts and futures: frames with a row for each item, which may cut baskets, or whole baskets."""
     if layout["basket"] is None and layout["item"] is None:
         return _baskets(parts, client, layout, progress)
     # Here, since it takes a second.
@@ -142,7 +142,7 @@ def _futures(parts: Iterable[Delayed | Future], client: Client) -> list[Future]:
 def _baskets(
     parts: Iterable[Delayed | Future], client: Client, layout: Layout, progress: bool
 ) -> Parts:
-    """Parts that have whole baskets each: iterables of them, frames with a column an item, matrices."""
+    """Parts that have whole baskets each: iterables of them, frames with a column for each item, matrices."""
     read_so = [
         client.submit(read_part, part, layout, pure=False)
         for part in _futures(parts, client)
@@ -158,7 +158,7 @@ def _frame(frame: Any, client: Client, layout: Layout, progress: bool) -> Parts:
     if layout["basket"] is None and layout["item"] is None:
         return _baskets(frame.to_delayed(), client, layout, progress)
     if layout["basket"] is None or layout["item"] is None:
-        raise DataError("a frame with a row an item needs both basket= and item=")
+        raise DataError("a frame with a row for each item needs both basket= and item=")
     names = [layout["basket"], layout["item"]]
     names += [] if layout["weight"] is None else [layout["weight"]]
     for name in names:

@@ -29,7 +29,7 @@ def rows_of(part: Any) -> pd.DataFrame:
     found = frame_of(part) if is_table(part) else part
     if not isinstance(found, pd.DataFrame):
         raise DataError(
-            f"a part with a row an item is a data frame, not {type(part).__name__}"
+            f"a part with a row for each item is a data frame, not {type(part).__name__}"
         )
     return found
 
