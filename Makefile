@@ -68,6 +68,7 @@ $(YARDSTICK): bench/yardstick.cpp
 	mkdir -p $(@D)
 	$(CXX) -O3 -march=x86-64-v2 -std=c++17 -o $@ $<
 
-# Times the program, beside the C++ program, and its stages, and writes bench/RESULTS.md.
+# Times the program, beside the C++ program, its stages and the Python package, and writes bench/RESULTS.md.
 bench: $(PROGRAM) $(STAGES) $(YARDSTICK)
-	bench/run.py $(PROGRAM) --beside $(YARDSTICK) --stages $(STAGES)
+	tools/python-packages
+	bench/run.py $(PROGRAM) --beside $(YARDSTICK) --stages $(STAGES) --frames bench/frames.py

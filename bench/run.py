@@ -3,7 +3,7 @@
 
 With --beside the C++ program of yardstick.cpp runs in turn with it over the same files,
 and has to write the same bytes. With --stages the program that times the stages of
-`sets` runs too."""
+`sets` runs too, and with --frames the one that times the Python package."""
 
 import argparse
 import ctypes
@@ -18,63 +18,12 @@ import time
 from collections.abc import Sequence
 from typing import NamedTuple
 
+from workloads import GIVEN, INPUTS, MINERS, SHARED, STAGES, TABLES
+
 HERE = pathlib.Path(__file__).resolve().parent
 
 # How often each command of a row runs, one after another in each turn.
 RUNS = 3
-
-MINERS = ["apriori", "eclat", "eclat-diff", "eclat-bits", "fpgrowth"]
-
-# What each input is, and its generator.
-INPUTS = {
-    "1,000,000 of eight items": "baskets.py 1000000 8 100000 1",
-    "100,000 of some ten items": "quest.py 10 4 100000 1000 2000 1",
-    "100,000 of some forty items": "quest.py 40 10 100000 1000 2000 2",
-    "60,000 of some four items": "quest.py 4 2 60000 20000 20000 3",
-    "8,000 of 23 attributes": "dense.py 8000 23 8 1",
-    "4,600 of a store's departments": "shapes.py store 4600 1",
-    "1,550 texts": "shapes.py news 1550 1",
-    "56,000 of packages": "shapes.py packages 56000 1",
-    "990,000 visits to pages": "shapes.py clicks 990000 1",
-}
-MANY, SPARSE, FORTY, SHORT, DENSE, STORE, NEWS, PACKAGES, CLICKS = INPUTS
-
-TABLES = {
-    "Items": [(MANY, "items --min 1")],
-    "Itemsets": [
-        (SPARSE, "sets --min 1/200"),
-        (SPARSE, "sets --min 1/1000"),
-        (FORTY, "sets --min 1%"),
-        (SHORT, "sets --min 1/5000"),
-        (DENSE, "sets --min 10%"),
-        (DENSE, "sets --min 5%"),
-        (STORE, "sets --min 3%"),
-        (NEWS, "sets --min 4%"),
-        (PACKAGES, "sets --min 1/2000"),
-        (CLICKS, "sets --min 1/1000"),
-    ],
-    "Closed and maximal itemsets, and rules": [
-        (DENSE, "closed --min 10%"),
-        (DENSE, "maximal --min 10%"),
-        (DENSE, "rules --min 20% --conf 1/10"),
-        (SPARSE, "rules --min 1/1000 --conf 1/2"),
-    ],
-}
-
-SHARED = [
-    (MANY, "items --min 1"),
-    (SPARSE, "sets --min 1/1000 --miner apriori"),
-    (SPARSE, "sets --min 1/1000 --miner eclat-bits"),
-    (FORTY, "sets --min 1% --miner eclat-bits"),
-    (DENSE, "sets --min 10% --miner eclat-bits"),
-    (DENSE, "sets --min 5% --miner eclat-bits"),
-    (DENSE, "sets --min 5% --miner apriori"),
-]
-
-# Of which sets `count` has to write the supports: those that are frequent at a minimum.
-GIVEN = [(SPARSE, "1/1000"), (SPARSE, "1/10000"), (DENSE, "10%")]
-
-STAGES = [(SPARSE, "1/1000"), (FORTY, "1%"), (DENSE, "10%")]
 
 # The shell leaves the program to this process. A process has at least the memory of the
 # one that begins it, and a shell has little.
@@ -220,6 +169,11 @@ class Bench:
             text += ["", f"{says}, at {least}:", "", "```", said.strip(), "```"]
         return text
 
+    def frames(self, script: str) -> list[str]:
+        given = {**os.environ, "BASKET": self.program}
+        said = subprocess.check_output([os.path.abspath(script)], env=given, text=True)
+        return ["", "## Data frames in Python", "", "```", said.strip(), "```"]
+
 
 def machine() -> str:
     with open("/proc/cpuinfo", encoding="utf-8") as said:
@@ -232,6 +186,7 @@ def main() -> None:
     parser.add_argument("program")
     parser.add_argument("--beside")
     parser.add_argument("--stages")
+    parser.add_argument("--frames")
     given = parser.parse_args()
     # PR_SET_CHILD_SUBREAPER: what a shell leaves comes to this process.
     ctypes.CDLL(None).prctl(36, 1, 0, 0, 0)
@@ -241,6 +196,8 @@ def main() -> None:
         found = [*bench.tables(), *bench.given(), *bench.shared()]
         if given.stages:
             found += bench.stages(given.stages)
+        if given.frames:
+            found += bench.frames(given.frames)
     made = f"{machine()}; {datetime.date.today()}; {commit}; {output('rt', 'version')}."
     how = f"Least processor time and most memory of {RUNS} runs in turn."
     head = ["# Results", "", f"{made} {how}", BESIDE if given.beside else ""]
