@@ -1,29 +1,26 @@
 -- The candidates of a level, prefix by prefix.
-use Rattle.std.proofs.Common.{◌≡◌, ◌≢◌, ℕ, zero, suc, ◌+◌, ◌<◌, ◌&&◌, Bool, true, false, eqb, List, [], ◌∷◌, ◌++◌, length, take, drop, filter, flat_map, map, get_or, cond, append_assoc, append-nil, refl, sym, ap, ◌∙◌, subst, inl, inr, arith}
+use Rattle.std.proofs.Common.{◌≡◌, ◌≢◌, ℕ, zero, suc, ◌<◌, ◌&&◌, Bool, true, false, List, [], ◌∷◌, ◌++◌, length, take, filter, flat_map, map, cond, append_assoc, refl, sym, ap, ◌∙◌, subst, inl, inr, arith}
 use Rattle.std.specs.Cmp.Lexicographic.{slice_cmp, nat_list_cmp_total, bytes_decides}
-use Rattle.std.specs.List.{All, range_with_len}
 use Rattle.std.specs.List.Sorted.{IsStrictlySortedBy}
 use Rattle.std.specs.Ordering.{nat_cmp}
-use Rattle.std.proofs.lemmas.Bool.{and_parts, cases_Bool, cases_lt, eqb-true, true≢false}
+use Rattle.std.proofs.lemmas.Bool.{and_parts, cases_Bool, cases_lt}
 use Rattle.std.proofs.lemmas.Grind.{flat_map-append}
-use Rattle.std.proofs.lemmas.List.{drop_more, get_or-map, length-map, map-append, take_more}
-use Rattle.std.proofs.lemmas.List.Elements.{All-from_recursion, filter-append}
-use Rattle.basket_sets.specs.Itemset.{IsRising, has, without}
+use Rattle.std.proofs.lemmas.List.{map-append}
+use Rattle.std.proofs.lemmas.List.Elements.{All-from_recursion}
+use Rattle.basket_sets.specs.Itemset.{IsRising, without}
 use Rattle.basket_sets.specs.Order.{report_order, IsInReportOrder}
 use Rattle.basket_sets.specs.Subsets.{subsets_of_size}
-use Rattle.basket_sets.proofs.theory.Members.{Member, Member-append, Member-append_left, Member-append_right, Member-from_map, Member-map, All-from_Member, Contains-from_Member, rest_is_sorted, sorted_along, sorted_map}
-use Rattle.basket_sets.proofs.theory.Ranges.{filter_members, range_rises}
-use Rattle.basket_sets.proofs.theory.Rising.{Member-from_has, has-from_Member, has_place, lt-from_Less, same_test}
+use Rattle.basket_sets.proofs.theory.Members.{Member, Member-append, Member-from_map, All-from_Member, rest_is_sorted, sorted_along}
+use Rattle.basket_sets.proofs.theory.Rising.{same_test}
 use Rattle.basket_sets.proofs.theory.Without.{each_passes}
 use Rattle.mine_apriori.specs.Candidates.{is_one_of, has_subsets, candidates_of}
-use Rattle.mine_apriori.specs.Extensions.{AreGrouped, Group, extend, kept, lists_of, sets_of, prefixes_of, has_items, is_some}
-use Rattle.mine_apriori.specs.Join.{AreParts, has_parts, joined_group, joined_groups, join, joined_with, joined_from, share_front}
-use Rattle.mine_apriori.specs.Sizes.{AreOfSize}
+use Rattle.mine_apriori.specs.Extensions.{AreGrouped, Group, extend, kept, sets_of, prefixes_of, has_items}
+use Rattle.mine_apriori.specs.Join.{has_parts, joined_group, joined_groups, join, joined_with, joined_from, share_front}
 use Rattle.mine_apriori.proofs.CandidateLemmas.{joins_are_candidates, length_behind}
-use Rattle.mine_apriori.proofs.ExtensionLemmas.{filter_prefix, filter_sorted, looked_up, missing, other_prefix, passing, sets_filled}
-use Rattle.mine_apriori.proofs.JoinLemmas.{joins, less_last, same_order, shares, take_front, without_first, without_second}
+use Rattle.mine_apriori.proofs.ExtensionLemmas.{filter_prefix, filter_sorted, other_prefix, passing, sets_filled}
+use Rattle.mine_apriori.proofs.JoinLemmas.{joins, same_order, shares, take_front, without_first, without_second}
 use Rattle.mine_apriori.proofs.LawLemmas.{size_at}
-use Rattle.mine_apriori.proofs.PruneLemmas.{Member-without, has_all, is_one_of-from_Member}
+use Rattle.mine_apriori.proofs.PruneLemmas.{Member-without, has_all}
 
 -- ---- the subsets without one of the first items
 

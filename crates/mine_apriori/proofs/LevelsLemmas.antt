@@ -8,7 +8,7 @@ use Rattle.std.proofs.lemmas.List.Elements.{filter-append}
 use Rattle.std.proofs.lemmas.List.FromFn.{length-range_with_len}
 use Rattle.std.proofs.lemmas.List.Kept.{IsStrictlySortedBy-filter}
 use Rattle.basket_ranks.specs.Codes.{Coding, IsCoding, baskets_of, frequent_of_coding, decoded_set}
-use Rattle.basket_sets.specs.Counts.{item_supports, AllBelow}
+use Rattle.basket_sets.specs.Counts.{item_supports}
 use Rattle.basket_sets.specs.Frequent.{is_frequent, counted, frequent_of, ListsOnce}
 use Rattle.basket_sets.specs.Itemset.{IsRising}
 use Rattle.basket_sets.specs.Order.{report_order, report_order_total, IsInReportOrder}

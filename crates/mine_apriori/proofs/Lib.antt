@@ -15,7 +15,8 @@ mod WorkLemmas
 mod ItemLemmas
 mod OnesLemmas
 mod PlaceLemmas
+mod NeededLemmas
 mod RowLemmas
-mod BlockLemmas
+mod PrefixLemmas
 mod CounterLemmas
 mod UsedItemLemmas

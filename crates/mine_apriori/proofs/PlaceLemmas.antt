@@ -2,11 +2,9 @@
 use Rattle.std.proofs.Common.{◌≡◌, ℕ, zero, suc, ◌+◌, ◌*◌, ◌/◌, ◌%◌, ◌<◌, ◌≤◌, ◌^◌, Bool, true, false, ◌&&◌, List, [], ◌∷◌, ◌++◌, length, take, drop, get_or, ◌-◌, cond, eqb, refl, sym, ap, ◌∙◌, subst, inl, inr, arith, min, w64}
 use Rattle.std.specs.Prelude.{bit_and, bit_or, count_ones}
 use Rattle.std.specs.Int.{bit_at, trailing_zeros}
-use Rattle.std.specs.Int.Bits.{and_zero_l}
 use Rattle.std.proofs.Math.ListN.{set}
 use Rattle.std.proofs.Math.Nat.{add-mul, zero-mul, one-mul}
-use Rattle.std.proofs.Math.Seq.{take-add}
-use Rattle.std.proofs.lemmas.List.{length-take-le, take-append-drop, take_all, take_more}
+use Rattle.std.proofs.lemmas.List.{take-append-drop}
 use Rattle.std.proofs.lemmas.List.Sums.{sum_by_more, sum_by-set}
 use Rattle.std.proofs.lemmas.Nat.{and_assoc}
 use Rattle.std.proofs.lemmas.Nat.Bits.{bit_at_above, bit_at_and, bit_at_ones, bit_at-lt, bit_at-trailing_zeros}
@@ -221,20 +219,15 @@ pub none_support : (baskets : List Weighted) (items : List ℕ) → ArePlacesOf 
 none_support baskets items are = sym (from_ones 0 items baskets) ∙ sym (are.weighs ones)
 
 -- the places of all baskets, with one basket more
-pub all_more : (baskets : List Weighted) (i : ℕ) (basket : Weighted) (places new : List Places) → i < length baskets → basket ≡ get_or baskets i basket
-    → ((row : ℕ → ℕ) → shared_weight row new ≡ shared_weight row places + cond (has_place row i) basket.weight 0)
-    → ArePlacesOf (take i baskets) [] places → ArePlacesOf (take (i + 1) baskets) [] new
-all_more baskets i basket places new below is added before = record {
+pub all_more : (baskets : List Weighted) (basket : Weighted) (place : ℕ) (places new : List Places) → place ≡ length baskets
+    → ((row : ℕ → ℕ) → shared_weight row new ≡ shared_weight row places + cond (has_place row place) basket.weight 0)
+    → ArePlacesOf baskets [] places → ArePlacesOf (baskets ++ basket ∷ []) [] new
+all_more baskets basket place places new long added before = record {
   weighs = λ row.
-      let long : i ≡ 0 + length (take i baskets) = sym (length-take-le i baskets (omega arith)) ∙ zero-sum (length (take i baskets)) in
-      added row ∙ ap (λ n. n + cond (has_place row i) basket.weight 0) (before.weighs row)
-      ∙ ap (λ p. weight_from 0 row [] (take i baskets) + cond (has_place row p) basket.weight 0) long
-      ∙ sym (from_push 0 row [] (take i baskets) basket)
-      ∙ ap (λ l. weight_from 0 row [] (take i baskets ++ l ∷ [])) is ∙ ap (weight_from 0 row []) (sym (take_more baskets i basket below));
+      let e : place ≡ 0 + length baskets = omega (arith, long) in
+      added row ∙ ap (λ n. n + cond (has_place row place) basket.weight 0) (before.weighs row)
+      ∙ ap (λ p. weight_from 0 row [] baskets + cond (has_place row p) basket.weight 0) e ∙ sym (from_push 0 row [] baskets basket);
 }
-  where
-    zero-sum : (n : ℕ) → n ≡ 0 + n
-    zero-sum n = omega arith
 
 -- all items of a set are used
 pub set_used : (sets : List (List ℕ)) (used : List ℕ) (k : ℕ) → AreUsed sets used → k < length sets → contains used (get_or sets k []) ≡ true

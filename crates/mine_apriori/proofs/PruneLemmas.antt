@@ -1,5 +1,5 @@
 -- The subsets of a set with one item less are the set without one of its places.
-use Rattle.std.proofs.Common.{◌≡◌, ℕ, ◌<◌, ◌≤◌, true, false, ◌||◌, List, [], ◌∷◌, length, map, refl, sym, ap, ◌∙◌, subst, inl, inr, arith, zero, suc}
+use Rattle.std.proofs.Common.{◌≡◌, ℕ, ◌<◌, ◌≤◌, true, ◌||◌, List, [], ◌∷◌, length, map, refl, sym, ap, ◌∙◌, subst, inl, inr, arith, zero, suc}
 use Rattle.std.specs.Cmp.Lexicographic.{pointwise, bytes_decides}
 use Rattle.std.specs.Prelude.{nat_eq}
 use Rattle.std.proofs.lemmas.Bool.{or_cases, cases_Bool, cases_lt, true≢false}
@@ -8,7 +8,7 @@ use Rattle.basket_sets.proofs.theory.Members.{Member, Member-append, Member-appe
 use Rattle.mine_apriori.specs.Candidates.{is_one_of, has_subsets}
 use Rattle.mine_apriori.specs.Join.{IsJoin}
 use Rattle.basket_sets.specs.Itemset.{without}
-use Rattle.basket_sets.proofs.theory.Without.{all_pass, each_passes}
+use Rattle.basket_sets.proofs.theory.Without.{all_pass}
 
 pub Member-from_is_one_of : (sets : List (List ℕ)) (set : List ℕ) → is_one_of sets set ≡ true → Member set sets
 Member-from_is_one_of [] set h = absurd (true≢false (sym h))

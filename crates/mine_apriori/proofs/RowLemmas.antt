@@ -1,11 +1,11 @@
 -- Rows of bits, one behind the other, whose bits are set one by one.
-use Rattle.std.proofs.Common.{◌≡◌, ◌≢◌, ℕ, ◌+◌, ◌*◌, ◌/◌, ◌%◌, ◌<◌, ◌≤◌, ◌^◌, Bool, true, false, ◌&&◌, ◌||◌, List, [], length, take, drop, get_or, map, eqb, refl, sym, ap, ◌∙◌, inl, inr, arith, w64}
+use Rattle.std.proofs.Common.{◌≡◌, ◌≢◌, ℕ, ◌+◌, ◌*◌, ◌/◌, ◌%◌, ◌<◌, ◌≤◌, ◌^◌, Bool, true, false, ◌&&◌, ◌||◌, List, [], ◌∷◌, ◌++◌, length, take, drop, get_or, map, eqb, refl, sym, ap, ◌∙◌, inl, inr, arith, w64}
 use Rattle.std.specs.Prelude.{bit_or}
 use Rattle.std.specs.Int.{bit_at}
 use Rattle.std.proofs.Math.ListN.{set}
 use Rattle.std.proofs.Math.Nat.{mul_comm}
 use Rattle.std.proofs.lemmas.Bool.{cases_eq, cases_lt, eq-eqb, false≢true}
-use Rattle.std.proofs.lemmas.List.{get_or-map, get_or-set_other, get_or-set_same, get_or-drop, get_or-take, get_or_past, length-take, length-map, length-take-le}
+use Rattle.std.proofs.lemmas.List.{get_or-map, get_or-set_other, get_or-set_same, get_or-drop, get_or-take, get_or_past, get_or_append_left, get_or_push, length-take, length-map, length_push}
 use Rattle.std.proofs.lemmas.Nat.{div-mul-add, mul-add-lt}
 use Rattle.std.proofs.lemmas.Nat.Bits.{bit_at-zero, bit_at_set_other, bit_at_set_same}
 use Rattle.basket_sets.specs.declared.weighted.Weighted.{Weighted}
@@ -111,29 +111,37 @@ past_basket baskets place past = get_or_past (map (λ (b : Weighted). b.basket) 
 pub here_basket : (baskets : List Weighted) (place : ℕ) (basket : Weighted) → place < length baskets → basket_at baskets place ≡ (get_or baskets place basket).basket
 here_basket baskets place basket here = get_or-map (λ (b : Weighted). b.basket) baskets place basket [] here
 
-taken_basket : (baskets : List Weighted) (i place : ℕ) (basket : Weighted) → i ≤ length baskets → place < i → basket_at (take i baskets) place ≡ basket_at baskets place
-taken_basket baskets i place basket le below =
-    here_basket (take i baskets) place basket (omega (arith, length-take-le i baskets le)) ∙ ap (λ (b : Weighted). b.basket) (get_or-take i baskets place basket below)
-    ∙ sym (here_basket baskets place basket (omega arith))
-
 -- a basket more
-pub basket_more : (baskets : List Weighted) (i place u : ℕ) (basket : Weighted) → i < length baskets → basket ≡ get_or baskets i basket
-    → (has (basket_at (take i baskets) place) u || (eqb place i && has basket.basket u)) ≡ has (basket_at (take (i + 1) baskets) place) u
-basket_more baskets i place u basket below is = elim (cases_eq place i) [
+pub basket_more : (baskets : List Weighted) (basket : Weighted) (place u : ℕ)
+    → (has (basket_at baskets place) u || (eqb place (length baskets) && has basket.basket u)) ≡ has (basket_at (baskets ++ basket ∷ []) place) u
+basket_more baskets basket place u = elim (cases_eq place (length baskets)) [
   | inl same ↦
-      (let none : basket_at (take i baskets) place ≡ [] = past_basket (take i baskets) place (omega (arith, length-take-le i baskets (omega arith))) in
-      let now : basket_at (take (i + 1) baskets) place ≡ basket.basket =
-      taken_basket baskets (i + 1) place basket (omega arith) (omega arith) ∙ ap (basket_at baskets) same ∙ here_basket baskets i basket below ∙ ap (λ (b : Weighted). b.basket) (sym is) in
-      ap (λ l. has l u || (eqb place i && has basket.basket u)) none ∙ ap (λ b. b && has basket.basket u) (eq-eqb place i same) ∙ ap (λ l. has l u) (sym now))
+      (let none = past_basket baskets place (omega (arith, same)) in
+      let now : basket_at (baskets ++ basket ∷ []) place ≡ basket.basket =
+      here_basket (baskets ++ basket ∷ []) place basket (omega (arith, length_push baskets basket, same)) ∙ ap (λ (b : Weighted). b.basket) (get_or_push baskets basket basket place (sym same)) in
+      ap (λ l. has l u || (eqb place (length baskets) && has basket.basket u)) none ∙ ap (λ b. b && has basket.basket u) (eq-eqb place (length baskets) same) ∙ ap (λ l. has l u) (sym now))
   | inr differ ↦
-      (let kept : basket_at (take i baskets) place ≡ basket_at (take (i + 1) baskets) place = elim (cases_lt place i) [
-        | inl less ↦ taken_basket baskets i place basket (omega arith) less ∙ sym (taken_basket baskets (i + 1) place basket (omega arith) (omega arith))
-        | inr past ↦
-            past_basket (take i baskets) place (omega (arith, length-take-le i baskets (omega arith)))
-            ∙ sym (past_basket (take (i + 1) baskets) place (omega (arith, length-take-le (i + 1) baskets (omega arith))))
+      (let kept : basket_at baskets place ≡ basket_at (baskets ++ basket ∷ []) place = elim (cases_lt place (length baskets)) [
+        | inl less ↦
+            here_basket baskets place basket less ∙ ap (λ (b : Weighted). b.basket) (sym (get_or_append_left baskets (basket ∷ []) basket place less))
+            ∙ sym (here_basket (baskets ++ basket ∷ []) place basket (omega (arith, length_push baskets basket, less)))
+        | inr past ↦ past_basket baskets place past ∙ sym (past_basket (baskets ++ basket ∷ []) place (omega (arith, length_push baskets basket, past, differ)))
       ] in
-      ap (λ b. has (basket_at (take i baskets) place) u || (b && has basket.basket u)) (apart_eqb place i differ) ∙ or_false (has (basket_at (take i baskets) place) u) ∙ ap (λ l. has l u) kept)
+      ap (λ b. has (basket_at baskets place) u || (b && has basket.basket u)) (apart_eqb place (length baskets) differ) ∙ or_false (has (basket_at baskets place) u) ∙ ap (λ l. has l u) kept)
 ]
+
+-- a basket more, whose items are marked at its place
+pub rows_more : (items : List ℕ) (before : List Weighted) (basket : Weighted) (place : ℕ) (rows new : Rows) → place ≡ length before → place < rows.words * 64 → new.words ≡ rows.words
+    → length new.bits.items ≡ length rows.bits.items → AreMarkedAt items rows.words place basket.basket rows.bits.items new.bits.items → AreRows items before rows → AreRows items (before ++ basket ∷ []) new
+rows_more items before basket place rows new here room words long marked are = record {
+  long = long ∙ are.long ∙ ap (λ n. length items * n) (sym words);
+  enough = let enough = are.enough in omega (arith, length_push before basket, here, room, ap (λ n. n * 64) words);
+  each = λ number other within inside.
+      let low : other < rows.words * 64 = omega (arith, inside, ap (λ n. n * 64) words) in
+      ap (λ n. bit_in new.bits.items n number other) words ∙ marked number other within low
+      ∙ (λ i. are.each number other within low i || (eqb other (here i) && has basket.basket (get_or items number 0)))
+      ∙ basket_more before basket other (get_or items number 0);
+}
 
 -- the row of an item among all rows
 pub row_is : (items : List ℕ) (baskets : List Weighted) (rows : Rows) (number : ℕ) (row : List ℕ) → number < length items → AreRows items baskets rows

@@ -9,6 +9,8 @@ pub mod Work
 pub mod Levels
 pub mod Places
 pub mod UsedItems
+pub mod Needed
+pub mod Prefixes
 pub mod Rows
-pub mod Block
+pub mod BlockCounts
 pub mod Counter

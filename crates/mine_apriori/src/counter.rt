@@ -1,5 +1,5 @@
 //! Sets that are counted by rows of bits.
-ghost use Rattle.std.specs.Prelude.{◌≡◌, ◌<◌, ◌≤◌, ◌+◌, ℕ, IfOk, OnOk, length, slice_index};
+ghost use Rattle.std.specs.Prelude.{◌≡◌, ◌<◌, ◌≤◌, ◌+◌, ℕ, IfOk, OnOk, length, slice_index, take};
 ghost use Rattle.basket_sets.specs.Database.{MOST_WEIGHT};
 ghost use Rattle.basket_sets.specs.Support.{total_of};
 ghost use Rattle.mine_apriori.specs.Counter.{IsShared};
@@ -23,18 +23,22 @@ const BLOCK_WORDS: usize = 32_768;
 pub struct RowCounter<'a> {
     sets: &'a Extensions,
     used: UsedItems,
+    /// Each of the sets has this many items at least.
+    least: usize,
 }
 
 impl<'a> Model for RowCounter<'a> {
     ghost use Rattle.std.specs.Prelude.{ℕ, List};
     ghost use Rattle.mine_apriori.specs.Extensions.{lists_of, prefixes_of, sets_of};
+    ghost use Rattle.mine_apriori.specs.Needed.{AreAtLeast};
     ghost use Rattle.mine_apriori.specs.UsedItems.{AreUsed};
 
     ghost Value = { List (List ℕ) };
 
     ghost view = { λ counter. sets_of counter.sets.now };
 
-    ghost invariant = { λ counter. AreUsed (prefixes_of counter.sets.now) counter.used × AreUsed (lists_of counter.sets.now) counter.used };
+    ghost invariant = { λ counter. AreUsed (prefixes_of counter.sets.now) counter.used × AreUsed (lists_of counter.sets.now) counter.used
+        × AreAtLeast counter.least (sets_of counter.sets.now) };
 }
 
 impl<'a> RowCounter<'a> {
@@ -42,8 +46,11 @@ impl<'a> RowCounter<'a> {
     pub fn of(alloc: Global, sets: &'a Extensions) -> Result<Self, AllocError>
         ensures { IfOk result (λ counter. counter ≡ sets_of sets.now) }
     {
-        let used = UsedItems::of(alloc, sets.prefixes(), sets.lists())?;
-        Ok(RowCounter { sets, used })
+        Ok(RowCounter {
+            sets,
+            used: UsedItems::of(alloc, sets.prefixes(), sets.lists())?,
+            least: sets.least_items(),
+        })
     }
 
     /// The number of sets.
@@ -53,7 +60,7 @@ impl<'a> RowCounter<'a> {
         self.sets.len()
     }
 
-    /// How many baskets a block has at most.
+    /// How many baskets have a place in a block at most.
     fn most_baskets(&self) -> usize
         ensures { 1 ≤ result }
     {
@@ -72,42 +79,41 @@ impl<'a> RowCounter<'a> {
         requires light { (k : ℕ) → k < length counts.old → slice_index counts.old k + total_of baskets.now ≤ MOST_WEIGHT }
         ensures { OnOk result (WithSupports self.now baskets.now counts.old counts.new) }
     {
-        let most = self.most_baskets();
         let mut start = 0;
         while start < baskets.len() {
-            let end = start + most.min(baskets.len() - start);
-            self.add_block(alloc, &baskets[start..end], counts)?;
-            start = end;
+            start += self.add_block(alloc, &baskets[start..], counts)?;
         }
         Ok(())
     }
 
-    /// Adds the support of each set in the baskets of a block to its count. The places of the prefixes that two sets
-    /// in a row share are found once.
+    /// Adds the support of each set in the first of some baskets to its count. They are as many as fill a block, and their
+    /// number is returned. The places of the prefixes that two sets in a row share are found once.
     fn add_block(
         &self,
         alloc: Global,
         baskets: &[Weighted],
         counts: &mut [u64],
-    ) -> Result<(), AllocError>
+    ) -> Result<usize, AllocError>
+        requires some { 1 ≤ length baskets.now }
         requires long { length counts.old ≡ length self.now }
         requires light { (k : ℕ) → k < length counts.old → slice_index counts.old k + total_of baskets.now ≤ MOST_WEIGHT }
-        ensures { OnOk result (WithSupports self.now baskets.now counts.old counts.new) }
+        ensures within { IfOk result (λ read. (1 ≤ read) × (read ≤ length baskets.now)) }
+        ensures added { IfOk result (λ read. WithSupports self.now (take read baskets.now) counts.old counts.new) }
     {
         if self.sets.is_empty() {
-            return Ok(());
+            return Ok(baskets.len());
         }
-        let block = Block::of(alloc, &self.used, baskets)?;
-        let mut stack = block.prefixes()?;
+        let block = Block::of(alloc, &self.used, self.least, baskets, self.most_baskets())?;
+        let mut shared = block.prefixes()?;
         let prefixes = self.sets.prefixes();
         let mut start = 0;
         for (number, items) in self.sets.lists().iter().enumerate() {
             let (before, prefix) = (&prefixes[number.saturating_sub(1)], &prefixes[number]);
-            stack.truncate(1 + shared_items(before.items(), prefix.items()));
-            block.add(prefix.items(), items.items(), &mut stack, start, counts)?;
+            shared.truncate(1 + shared_items(before.items(), prefix.items()));
+            block.add(prefix.items(), items.items(), &mut shared, start, counts)?;
             start += items.len();
         }
-        Ok(())
+        Ok(block.len())
     }
 }
 

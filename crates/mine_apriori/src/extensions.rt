@@ -1,7 +1,8 @@
 //! Sets as prefixes and the items that extend them.
 ghost use Rattle.std.specs.Prelude.{◌≡◌, ◌++◌, ◌∷◌, ◌↔◌, [], IfOk, IsTrue, OnOk, filter, length};
 ghost use Rattle.basket_sets.specs.Itemset.{IsRising};
-ghost use Rattle.mine_apriori.specs.Extensions.{is_some, lists_of, prefixes_of, sets_of};
+ghost use Rattle.mine_apriori.specs.Extensions.{extend, is_some, lists_of, prefixes_of, sets_of};
+ghost use Rattle.mine_apriori.specs.Needed.{AreAtLeast};
 
 use basket_core::Itemset;
 use std::alloc::{AllocError, Global};
@@ -114,6 +115,17 @@ impl Extensions {
         self.len == 0
     }
 
+    /// A number of items that each of the sets has at least.
+    pub fn least_items(&self) -> usize
+        ensures { AreAtLeast result (sets_of self.now) }
+    {
+        let mut least = usize::MAX;
+        for (number, items) in self.lists.iter().enumerate() {
+            least = least.min(least_of(self.prefixes[number].items(), items.items()));
+        }
+        least
+    }
+
     /// The prefixes.
     pub fn prefixes(&self) -> &[Itemset]
         ensures { result.now ≡ prefixes_of self.now }
@@ -138,6 +150,20 @@ fn rises(items: &[u32], item: u32) -> bool
         Some(last) => *last < item,
         None => true,
     }
+}
+
+/// A number of items that a prefix has at least with any of the items that extend it.
+fn least_of(prefix: &[u32], items: &[u32]) -> usize
+    requires prefix { IsRising prefix.now }
+    requires items { IsRising items.now }
+    ensures { AreAtLeast result (extend prefix.now items.now) }
+{
+    if let Some(first) = items.first() {
+        if rises(prefix, *first) {
+            return prefix.len() + 1;
+        }
+    }
+    prefix.len()
 }
 
 /// Makes a set of a prefix and one item more. The room of its items is used again.

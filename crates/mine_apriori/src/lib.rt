@@ -9,6 +9,7 @@
 #![tactic(auto)]
 
 mod block;
+mod block_counts;
 mod counter;
 mod extensions;
 mod first_level;
@@ -19,6 +20,7 @@ pub mod laws;
 mod levels;
 mod partners;
 mod places;
+mod prefixes;
 mod rows;
 mod search;
 mod shard;

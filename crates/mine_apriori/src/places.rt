@@ -1,10 +1,9 @@
 //! Places of a block of baskets, as bits.
-ghost use Rattle.std.specs.Prelude.{◌≡◌, ◌≤◌, ◌<◌, ◌+◌, ℕ, [], IfOk, IfSome, OnOk, bit_and, bit_or, length, slice_index, slice_index_or, if◌then◌else◌};
+ghost use Rattle.std.specs.Prelude.{◌≡◌, ◌≤◌, ◌<◌, ◌+◌, ℕ, IfSome, OnOk, bit_and, bit_or, length, slice_index, slice_index_or, if◌then◌else◌};
 ghost use Rattle.basket_sets.specs.Database.{MOST_WEIGHT};
-ghost use Rattle.mine_apriori.specs.Places.{AreKept, ArePlacesOf, IsJoinable, has_place, part_weight, shared_weight};
+ghost use Rattle.mine_apriori.specs.Places.{AreKept, IsJoinable, has_place, part_weight, shared_weight};
 
-use basket_core::Weighted;
-use std::alloc::{AllocError, Global};
+use std::alloc::AllocError;
 
 /// How many places have a bit in a word.
 pub const WORD: usize = 64;
@@ -48,7 +47,7 @@ fn add_part(places: &mut Vec<Places>, start: usize, more: Places) -> Result<(), 
 }
 
 /// Adds a place of a weight, bit by bit of the weight, so that most weights have their places together.
-fn add_place(
+pub fn add_place(
     places: &mut Vec<Places>,
     start: usize,
     place: usize,
@@ -64,21 +63,6 @@ fn add_place(
         rest -= weight;
     }
     Ok(())
-}
-
-/// The places of all baskets.
-pub fn places_of(alloc: Global, baskets: &[Weighted]) -> Result<Vec<Places>, AllocError>
-    ensures { IfOk result (λ places. ArePlacesOf baskets.now [] places.items) }
-{
-    let mut places = Vec::new(alloc);
-    let mut start = 0;
-    for (place, basket) in baskets.iter().enumerate() {
-        if place % WORD == 0 {
-            start = places.len();
-        }
-        add_place(&mut places, start, place, basket.weight)?;
-    }
-    Ok(places)
 }
 
 /// A word of a row, or 0 behind its end.
@@ -99,19 +83,20 @@ fn push_some(places: &mut Vec<Places>, more: Places) -> Result<(), AllocError>
     Ok(())
 }
 
-/// Those of the places that a row has.
-pub fn kept(alloc: Global, places: &[Places], row: &[u64]) -> Result<Vec<Places>, AllocError>
-    ensures { IfOk result (λ kept. AreKept row.now places.now kept.items) }
+/// Puts the places into a list that a row has too. The memory of the list is used again.
+pub fn put_kept(places: &[Places], row: &[u64], kept: &mut Vec<Places>) -> Result<(), AllocError>
+    ensures { OnOk result (AreKept row.now places.now kept.new.items) }
 {
-    let mut kept = Vec::with_capacity(alloc, places.len())?;
+    kept.clear();
+    kept.reserve(places.len())?;
     for part in places {
         let bits = part.bits & word_of(row, part.word);
-        push_some(&mut kept, Places { bits, ..*part })?;
+        push_some(kept, Places { bits, ..*part })?;
     }
-    Ok(kept)
+    Ok(())
 }
 
-/// What those of the places weigh that a row has.
+/// What the places weigh that a row has too.
 pub fn shared_weight(places: &[Places], row: &[u64]) -> u64
     requires light { shared_weight (λ word. slice_index row.now word) places.now ≤ MOST_WEIGHT }
     ensures { result ≡ shared_weight (λ word. slice_index row.now word) places.now }

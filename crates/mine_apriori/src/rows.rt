@@ -1,5 +1,5 @@
 //! Rows of bits of a block of baskets.
-ghost use Rattle.std.specs.Prelude.{◌≡◌, ◌≤◌, ◌<◌, ◌+◌, ◌*◌, ◌==◌, ◌&&◌, ◌||◌, ℕ, List, IfOk, length, slice_index};
+ghost use Rattle.std.specs.Prelude.{◌≡◌, ◌≤◌, ◌<◌, ◌+◌, ◌*◌, ◌++◌, ◌∷◌, ◌==◌, ◌&&◌, ◌||◌, [], ℕ, List, IfOk, length, slice_index};
 ghost use Rattle.basket_sets.specs.Itemset.{has};
 ghost use Rattle.basket_sets.specs.declared.weighted.Weighted.{Weighted as Place};
 ghost use Rattle.mine_apriori.specs.Places.{IsRowOf};
@@ -15,24 +15,38 @@ use std::alloc::{AllocError, Global};
 pub struct Rows {
     /// How many words a row has.
     words: usize,
-    /// The words of all rows, one row behind the other.
+    /// The words of all rows, one row after the other.
     bits: Vec<u64>,
 }
 
 impl Rows {
-    /// The rows of the baskets.
-    pub fn of(alloc: Global, used: &UsedItems, baskets: &[Weighted]) -> Result<Self, AllocError>
-        ensures { IfOk result (AreRows used.now baskets.now) }
+    /// Rows that have a bit for this many baskets at least, of which there are none yet.
+    pub fn with_room(alloc: Global, used: &UsedItems, baskets: usize) -> Result<Self, AllocError>
+        ensures rows { IfOk result (AreRows used.now []) }
+        ensures room { IfOk result (λ rows. baskets ≤ rows.words * 64) }
     {
-        let words = baskets.len().div_ceil(WORD);
+        let words = baskets.div_ceil(WORD);
         let Some(len) = used.items().len().checked_mul(words) else {
             return Err(AllocError);
         };
-        let mut bits = vec![in alloc; 0; len]?;
-        for (place, basket) in baskets.iter().enumerate() {
-            mark(&mut bits, words, used, place, basket.basket.items());
-        }
+        let bits = vec![in alloc; 0; len]?;
         Ok(Rows { words, bits })
+    }
+
+    /// Adds a basket, whose place is the number of those before it.
+    pub fn push(&mut self, used: &UsedItems, place: usize, basket: &Weighted)
+        requires rows { (before : List Place) × (place ≡ length before) × AreRows used.now before self.old }
+        requires room { place < self.old.words * 64 }
+        ensures rows { (before : List Place) → place ≡ length before → AreRows used.now before self.old → AreRows used.now (before ++ basket.now ∷ []) self.new }
+        ensures room { self.new.words ≡ self.old.words }
+    {
+        mark(
+            &mut self.bits,
+            self.words,
+            used,
+            place,
+            basket.basket.items(),
+        );
     }
 
     /// The row of an item by its number.

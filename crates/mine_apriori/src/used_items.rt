@@ -1,5 +1,5 @@
 //! The items that sets have, each with a number.
-ghost use Rattle.std.specs.Prelude.{◌≡◌, ◌<◌, ◌≤◌, ℕ, false, IfOk, IsTrue, MatchOption, OnOk, length, slice_index};
+ghost use Rattle.std.specs.Prelude.{◌≡◌, ◌<◌, ◌≤◌, ℕ, false, IfOk, IsTrue, MatchOption, OnOk, filter, length, nat_le, slice_index};
 ghost use Rattle.basket_sets.specs.Itemset.{IsRising, has};
 ghost use Rattle.mine_apriori.specs.UsedItems.{AreUsed};
 
@@ -50,6 +50,22 @@ impl UsedItems {
         ensures rising { IsRising self.now }
     {
         self.items.items()
+    }
+
+    /// Whether at least this many of some items are used.
+    pub fn has_at_least(&self, items: &[u32], least: usize) -> bool
+        ensures { result ≡ nat_le least (length (filter (has self.now) items.now)) }
+    {
+        let mut missing = least;
+        for item in items {
+            if missing == 0 {
+                return true;
+            }
+            if self.number(*item).is_some() {
+                missing -= 1;
+            }
+        }
+        missing == 0
     }
 
     /// The number of an item, if it is used.

@@ -1,45 +1,44 @@
-use Rattle.std.specs.declared.alloc.Global.{Global}
-use Rattle.std.specs.declared.vec.Vec.{Vec}
-use Rattle.std.proofs.Common.{◌≡◌, ◌-◌, ◌+◌, ℕ, length, take, subst, sym, arith}
-use Rattle.std.proofs.lemmas.List.{take_all}
-use Rattle.mine_apriori.specs.declared.places.Places.{Places}
-use Rattle.mine_apriori.specs.Block.{ArePrefixes}
+use Rattle.std.proofs.Common.{◌≡◌, ◌-◌, ℕ, length, take, subst, sym, ◌∙◌, arith}
+use Rattle.std.proofs.lemmas.Bool.{eqb-true}
+use Rattle.std.proofs.lemmas.List.{nil_from_length, take_all}
+use Rattle.mine_apriori.specs.BlockCounts.{placed}
 use Rattle.mine_apriori.specs.Places.{ArePlacesOf}
-use Rattle.mine_apriori.proofs.BlockLemmas.{none_added, rest_joined}
-use Rattle.mine_apriori.proofs.PlaceLemmas.{part_used}
+use Rattle.mine_apriori.proofs.PlaceLemmas.{none_with_prefix, part_used}
+use Rattle.mine_apriori.proofs.PrefixLemmas.{last_prefix, none_added, rest_joined}
 use Rattle.mine_apriori.proofs.block.Block.add.Goals as goal
+use Rattle.mine_apriori.proofs.block.Block.add.Goals.{After-deref}
 
-pub returns-then-are_none-clause-supports : goal.returns-then-are_none-clause-supports
-returns-then-are_none-clause-supports c =
-    let baskets = c.args.self.now.baskets.now in
-    none_added baskets c.args.prefix.now c.args.items.now c.args.start c.args.counts.now c.add_prefixes.new.prefixes.items c.in_ok-add_prefixes.ensures.short c.in_ok-add_prefixes.ensures.prefixes
-    (λ set are. c.are_none.ensures c.if-are_none.true baskets set (subst (ArePrefixes baskets set) (sym c.deref.ensures.value) are))
+pub returns-then-is_empty-clause-supports : goal.returns-then-is_empty-clause-supports
+returns-then-is_empty-clause-supports c =
+    let baskets = placed c.args.self.now in
+    let lists = c.add_prefixes.new.prefixes.lists.items in
+    let none = nil_from_length c.last-last.result.now (eqb-true _ _ (sym c.is_empty.ensures ∙ c.if-is_empty.true)) in
+    none_added baskets c.args.prefix.now c.args.items.now c.args.start c.args.counts.now lists c.in_ok-add_prefixes.ensures.short c.in_ok-add_prefixes.ensures.prefixes
+    (λ set are. none_with_prefix baskets set (length lists - 1) (subst (ArePlacesOf baskets (take (length lists - 1) set)) none (last_prefix baskets set lists c.last-last.result.now are c.last-last.ensures)))
 
 pub kept_by_all-requires : goal.kept_by_all-requires
 kept_by_all-requires c = record { used = part_used c.args.self.now.used.now c.args.prefix.now (c.len-depth.result - 1) _ c.requires.used }
 
 pub returns-then-depth-prefix-clause-supports : goal.returns-then-depth-prefix-clause-supports
 returns-then-depth-prefix-clause-supports c =
-    let baskets = c.args.self.now.baskets.now in
+    let baskets = placed c.args.self.now in
+    let prefix = c.args.prefix.now in
+    let lists = c.add_prefixes.new.prefixes.lists in
+    let are = last_prefix baskets prefix lists.items c.last-last.result.now c.in_ok-add_prefixes.ensures.prefixes c.last-last.ensures in
+    c.add_weights.ensures prefix (subst (λ l. ArePlacesOf baskets l c.last-last.result.now) (take_all (length lists.items - 1) prefix (omega (arith, c.if-depth-prefix.true, c.len-depth.ensures, lists.ok))) are)
+
+rest_kept : (c : After-deref) → ArePlacesOf (placed c.args.self.now) c.args.prefix.now c.deref.result.now
+rest_kept c =
+    let baskets = placed c.args.self.now in
     let prefix = c.args.prefix.now in
     let depth : ℕ = c.len-depth.result - 1 in
-    let prefixes = c.add_prefixes.new.prefixes in
-    let some = c.in_ok-add_prefixes.ensures.prefixes.some in
-    let long : length prefixes.items ≡ depth + 1 = omega (arith, c.len-depth.ensures, prefixes.ok, some) in
-    let at = subst (λ (v : Vec Places Global). ArePlacesOf baskets (take depth prefix) v.items) (sym c.index.ensures) (c.in_ok-add_prefixes.ensures.prefixes.each depth c.index.result.now (omega arith)) in
-    let whole = subst (λ l. ArePlacesOf baskets l c.index.result.now.items) (take_all depth prefix (omega (arith, c.if-depth-prefix.true))) at in
-    c.add_weights.ensures prefix (subst (ArePlacesOf baskets prefix) (sym c.deref-then-depth-prefix.ensures.value) whole)
+    let lists = c.add_prefixes.new.prefixes.lists in
+    let e : length lists.items - 1 ≡ depth = omega (arith, c.len-depth.ensures, lists.ok) in
+    let at = subst (λ n. ArePlacesOf baskets (take n prefix) c.last-last.result.now) e (last_prefix baskets prefix lists.items c.last-last.result.now c.in_ok-add_prefixes.ensures.prefixes c.last-last.ensures) in
+    subst (ArePlacesOf baskets prefix) (sym c.deref.ensures.value) (subst (λ l. ArePlacesOf baskets l c.in_ok-places.places.items) (rest_joined prefix depth) (c.in_ok-places.ensures (take depth prefix) at))
+
+pub add_weights-requires-else-depth-prefix-clause-places : goal.add_weights-requires-else-depth-prefix-clause-places
+add_weights-requires-else-depth-prefix-clause-places c = (c.args.prefix.now, rest_kept (goal.at.add_weights-requires-else-depth-prefix-clause-places c).After-deref)
 
 pub returns-in_ok-places-clause-supports : goal.returns-in_ok-places-clause-supports
-returns-in_ok-places-clause-supports c =
-    let baskets = c.args.self.now.baskets.now in
-    let prefix = c.args.prefix.now in
-    let depth : ℕ = c.len-depth.result - 1 in
-    let prefixes = c.add_prefixes.new.prefixes in
-    let some = c.in_ok-add_prefixes.ensures.prefixes.some in
-    let long : length prefixes.items ≡ depth + 1 = omega (arith, c.len-depth.ensures, prefixes.ok, some) in
-    let at = subst (λ (v : Vec Places Global). ArePlacesOf baskets (take depth prefix) v.items) (sym c.index-else-depth-prefix.ensures)
-    (c.in_ok-add_prefixes.ensures.prefixes.each depth c.index-else-depth-prefix.result.now (omega arith)) in
-    let kept = c.in_ok-places.ensures (take depth prefix) (subst (ArePlacesOf baskets (take depth prefix)) (sym c.deref-else-depth-prefix.ensures.value) at) in
-    let whole = subst (λ l. ArePlacesOf baskets l c.in_ok-places.places.items) (rest_joined prefix depth) kept in
-    c.add_weights-else-depth-prefix.ensures prefix (subst (ArePlacesOf baskets prefix) (sym c.deref-else-depth-prefix-2.ensures.value) whole)
+returns-in_ok-places-clause-supports c = c.add_weights-else-depth-prefix.ensures c.args.prefix.now (rest_kept (goal.at.returns-in_ok-places-clause-supports c).After-deref)

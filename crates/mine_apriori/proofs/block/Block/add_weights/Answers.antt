@@ -2,12 +2,13 @@ use Rattle.std.proofs.Common.{[], ◌∷◌, ◌++◌, ℕ, ◌+◌, ◌<◌, ge
 use Rattle.std.proofs.lemmas.List.{get_or-map, length-map}
 use Rattle.basket_sets.specs.Support.{support_of}
 use Rattle.basket_sets.proofs.theory.Support.{support_falls}
+use Rattle.mine_apriori.specs.BlockCounts.{placed}
 use Rattle.mine_apriori.proofs.CounterLemmas.{one_added, others_stay}
 use Rattle.mine_apriori.proofs.block.Block.add_weights.Goals as goal
 
 pub overflow_add-counts-in-loop-number : goal.overflow_add-counts-in-loop-number
 overflow_add-counts-in-loop-number c =
-    let baskets = c.args.self.now.baskets.now in
+    let baskets = placed c.args.self.now in
     let at : ℕ = c.args.start + c.loop-number.number in
     let set = c.requires.places.0 in
     let is = c.weight.ensures set c.requires.places.1 in
@@ -18,7 +19,7 @@ overflow_add-counts-in-loop-number c =
 
 pub loop-number-preserved : goal.loop-number-preserved
 loop-number-preserved c =
-    let baskets = c.args.self.now.baskets.now in
+    let baskets = placed c.args.self.now in
     let items = c.args.items.now in
     let start = c.args.start in
     let number = c.loop-number.number in
@@ -34,7 +35,7 @@ loop-number-preserved c =
 
 pub returns : goal.returns
 returns c set are =
-    let baskets = c.args.self.now.baskets.now in
+    let baskets = placed c.args.self.now in
     let items = c.args.items.now in
     let start = c.args.start in
     let inv = c.loop-number.invariant in

@@ -1,5 +1,5 @@
-use Rattle.std.proofs.Common.{◌≡◌, ◌+◌, ◌-◌, ℕ, take, refl, subst, arith}
-use Rattle.mine_classes.specs.Triangle.{WithSupports}
+use Rattle.std.proofs.Common.{◌-◌, ◌≤◌, ℕ, drop, length, refl, arith}
+use Rattle.std.proofs.lemmas.List.{length-take, take-take}
 use Rattle.mine_apriori.proofs.CounterLemmas.{block_fits, supports_joined}
 use Rattle.mine_apriori.proofs.counter.RowCounter.add.Goals as goal
 
@@ -10,12 +10,14 @@ add_block-requires-clause-light c =
 
 pub loop-start-preserved : goal.loop-start-preserved
 loop-start-preserved c =
+    let baskets = c.args.baskets.now in
     let start = c.loop-start.start in
-    let size : ℕ = start + c.min.result - start in
-    let e : start + size ≡ start + c.min.result = omega arith in
+    let read = c.in_ok-start.field-0 in
+    let size : ℕ = length baskets - start in
+    let within = c.in_ok-start.ensures.within in
+    let le : read ≤ size = omega (arith, within.1, length-take size (drop start baskets)) in
     record {
-      within = omega (arith, c.min.ensures, c.loop-start.invariant.within);
-      added = subst (λ n. WithSupports c.args.self.now (take n c.args.baskets.now) c.args.counts.now c.add_block.new.counts) e
-          (supports_joined c.args.self.now c.args.baskets.now _ start size refl c.args.counts.now c.loop-start.counts c.loop-start.auto.counts c.loop-start.invariant.added
-          c.add_block.new.counts c.in_ok-add_block.ensures);
+      within = omega (arith, le, c.loop-start-test.true);
+      added = supports_joined c.args.self.now baskets _ start read (take-take read size (drop start baskets) le) c.args.counts.now c.loop-start.counts c.loop-start.auto.counts
+          c.loop-start.invariant.added c.add_block.new.counts c.in_ok-start.ensures.added;
     }

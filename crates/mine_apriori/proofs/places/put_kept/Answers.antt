@@ -3,7 +3,7 @@ use Rattle.std.proofs.Common.{◌+◌, get_or, ap, ◌∙◌}
 use Rattle.std.proofs.lemmas.List.{get_or_default}
 use Rattle.mine_apriori.specs.Places.{part_weight, shared_weight}
 use Rattle.mine_apriori.proofs.PlaceLemmas.{kept_more, places_at}
-use Rattle.mine_apriori.proofs.places.kept.Goals as goal
+use Rattle.mine_apriori.proofs.places.put_kept.Goals as goal
 
 pub loop-part-preserved : goal.loop-part-preserved
 loop-part-preserved c =

@@ -3,17 +3,18 @@ use Rattle.std.specs.declared.alloc.Global.{Global}
 use Rattle.std.specs.declared.vec.Vec.{Vec}
 use Rattle.std.proofs.Common.{◌≡◌, ℕ, ◌+◌, ◌-◌, ◌<◌, ◌≤◌, List, [], ◌∷◌, ◌++◌, length, drop, take, get_or, refl, sym, ap, ◌∙◌, subst, inl, inr, arith}
 use Rattle.std.proofs.lemmas.Bool.{cases_lt}
-use Rattle.std.proofs.lemmas.List.{get_or-map, length-map, take-append-drop, take-append-le, take_rest, get_or-take, get_or_append_left, get_or_push, length-take, length_push, take-take}
+use Rattle.std.proofs.lemmas.List.{get_or-map, length-map, take-append-drop, take-append-le, take_rest, get_or-take, get_or_append_left, get_or_push, get_or_default, length-take, length_push, take-take, take_more}
 use Rattle.basket_sets.specs.declared.weighted.Weighted.{Weighted}
 use Rattle.basket_sets.specs.Support.{support_of}
 use Rattle.mine_apriori.specs.declared.places.Places.{Places}
-use Rattle.mine_apriori.specs.Block.{ArePrefixes}
+use Rattle.mine_apriori.specs.Prefixes.{ArePrefixes, AreLast, IsNext}
 use Rattle.mine_apriori.specs.Counter.{AreAdded, IsShared}
 use Rattle.mine_apriori.specs.Extensions.{extend}
-use Rattle.mine_apriori.specs.Places.{ArePlacesOf}
+use Rattle.mine_apriori.specs.Places.{ArePlacesOf, IsRowOf}
+use Rattle.mine_apriori.proofs.PlaceLemmas.{are_kept}
 
 -- the places of one more prefix
-pub prefix_added : (baskets : List Weighted) (items : List ℕ) (prefixes : List (Vec Places Global)) (new : Vec Places Global) (depth : ℕ) → length prefixes ≡ depth → ArePlacesOf baskets (take depth items) new.items
+prefix_added : (baskets : List Weighted) (items : List ℕ) (prefixes : List (Vec Places Global)) (new : Vec Places Global) (depth : ℕ) → length prefixes ≡ depth → ArePlacesOf baskets (take depth items) new.items
     → ArePrefixes baskets items prefixes → ArePrefixes baskets items (prefixes ++ new ∷ [])
 prefix_added baskets items prefixes new depth long are before = record {
   some = omega (arith, length_push prefixes new);
@@ -25,6 +26,28 @@ prefix_added baskets items prefixes new depth long are before = record {
         (subst (λ n. ArePlacesOf baskets (take n items) new.items) same are))
   ];
 }
+
+-- the places of the last prefix
+pub last_prefix : (baskets : List Weighted) (items : List ℕ) (prefixes : List (Vec Places Global)) (places : List Places) → ArePrefixes baskets items prefixes → AreLast prefixes places
+    → ArePlacesOf baskets (take (length prefixes - 1) items) places
+last_prefix baskets items [] places are last = absurd (let some = are.some in omega (arith, some))
+last_prefix baskets items (first ∷ prefixes) places are last =
+    subst (ArePlacesOf baskets (take (length (first ∷ prefixes) - 1) items)) (sym (last first)) (are.each (length (first ∷ prefixes) - 1) first (omega arith))
+
+-- the next prefix, whose last item has a row
+pub next_prefix : (baskets : List Weighted) (items : List ℕ) (prefixes new : List (Vec Places Global)) (row : List ℕ) (depth : ℕ) → length prefixes ≡ depth + 1 → depth < length items
+    → IsRowOf baskets (get_or items depth 0) row → IsNext row prefixes new → ArePrefixes baskets items prefixes → ArePrefixes baskets items new
+next_prefix baskets items [] new row depth long within is next are = absurd (omega (arith, long))
+next_prefix baskets items (first ∷ prefixes) new row depth long within is next are =
+    let all = first ∷ prefixes in
+    let place : ℕ = length all - 1 in
+    let here : place < length all = omega arith in
+    let last : Vec Places Global = get_or all place first in
+    let kept = next.keeps last.items (λ d. ap (λ (v : Vec Places Global). v.items) (get_or_default all place first d here)) in
+    let at = subst (λ n. ArePlacesOf baskets (take n items) last.items) (let e : place ≡ depth = omega (arith, long) in e) (are.each place first here) in
+    let more = subst (λ l. ArePlacesOf baskets l next.kept.items) (sym (take_more items depth 0 within))
+    (are_kept baskets (take depth items) (get_or items depth 0) row last.items next.kept.items at is kept) in
+    subst (ArePrefixes baskets items) (sym next.pushed) (prefix_added baskets items all next.kept (depth + 1) long more are)
 
 -- what a set shares with the one before it
 pub prefixes_shared : (baskets : List Weighted) (before items : List ℕ) (count : ℕ) (prefixes : List (Vec Places Global)) → IsShared before items count
