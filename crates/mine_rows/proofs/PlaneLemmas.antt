@@ -19,7 +19,7 @@ use Rattle.basket_sets.proofs.theory.Rising.{Member-from_has, has-from_Member, s
 use Rattle.basket_sets.proofs.theory.Ranges.{Member-into_range, Member-range, filter_rises, range_more, range_rises}
 use Rattle.mine_rows.specs.declared.planes.Plane.{Plane}
 use Rattle.mine_rows.specs.Cover.{IsCover, common, cover_weight}
-use Rattle.mine_rows.specs.Planes.{IsPlane, are_ones, bits_of, has_bit, plane_weight}
+use Rattle.mine_rows.specs.Planes.{ArePlanes, IsPlane, are_ones, bits_of, has_bit, plane_weight}
 use Rattle.mine_rows.proofs.CoverLemmas.{cover_light}
 use Rattle.mine_rows.proofs.WordLemmas.{length-words, words_and, words_same, words_share}
 
@@ -311,9 +311,9 @@ module _ (weights parent first second : List ℕ) (x y : BitRow) (p : IsBitRow w
   pub row_ones : shared_bits x.words.items y.words.items ≡ length (common first second)
   row_ones = ap (λ l. shared_bits l y.words.items) p.words ∙ ap (shared_bits (words_of (length weights) first)) q.words ∙ row_shares weights first p.covers (has second)
 
--- ---- weights that are kept with their planes
+-- ---- weights and their planes
 
-module _ (weights : List ℕ) (ones : Bool) (planes : List Plane) (keeps : KeepsWeights weights ones planes) (cover words : List ℕ) (is : IsCover weights cover) (are : words ≡ words_of (length weights) cover) where
+module _ (weights : List ℕ) (ones : Bool) (planes : List Plane) (keeps : KeepsWeights weights ones) (planes_are : ArePlanes weights (are_ones weights) planes) (cover words : List ℕ) (is : IsCover weights cover) (are : words ≡ words_of (length weights) cover) where
   long : length words ≡ word_count (length weights)
   long = ap length are ∙ length-words (has cover) 0 (word_count (length weights))
 
@@ -322,17 +322,17 @@ module _ (weights : List ℕ) (ones : Bool) (planes : List Plane) (keeps : Keeps
 
   module _ (weighs : ones ≡ false) where
     bits : map (λ plane. plane.bit) planes ≡ bits_of weights
-    bits = keeps.planes_are.bits ∙ ap (λ b. cond b [] (bits_of weights)) weighs
+    bits = planes_are.bits ∙ ap (λ b. cond b [] (bits_of weights)) (sym keeps.ones_are ∙ weighs)
 
     pub kept_narrow : All (λ plane. plane.bit < 40) planes
     kept_narrow = planes_narrow weights planes bits
 
     pub kept_wide : All (λ plane. length plane.words.items ≡ length words) planes
     kept_wide = All-weaker (λ (plane : Plane). length plane.words.items ≡ word_count (length weights)) (λ (plane : Plane). length plane.words.items ≡ length words)
-        (λ plane e. e ∙ sym long) planes (planes_wide weights planes keeps.planes_are.words)
+        (λ plane e. e ∙ sym long) planes (planes_wide weights planes planes_are.words)
 
     pub kept_weigh : sum_by (plane_weight words) planes ≡ cover_weight weights cover
-    kept_weigh = ap (λ l. sum_by (plane_weight l) planes) are ∙ planes_weigh weights cover planes is keeps.light bits keeps.planes_are.words
+    kept_weigh = ap (λ l. sum_by (plane_weight l) planes) are ∙ planes_weigh weights cover planes is keeps.light bits planes_are.words
 
     pub kept_light : sum_by (plane_weight words) planes ≤ MOST_WEIGHT
     kept_light = let most = cover_light weights cover is.rises is.below in let all = kept_weigh in let top = keeps.light in omega arith

@@ -1,7 +1,8 @@
-ghost use Rattle.std.specs.Prelude.{◌≡◌, ◌<◌, ◌^◌, ⊤, IfOk};
+ghost use Rattle.std.specs.Prelude.{◌≡◌, ◌<◌, ◌^◌, IfOk};
 ghost use Rattle.basket_sets.specs.Itemset.{AllBelow};
 ghost use Rattle.mine_rows.specs.Bits.{words_of};
 ghost use Rattle.mine_rows.specs.BitRows.{IsAddedAt};
+ghost use Rattle.mine_rows.specs.Planes.{ArePlanes, are_ones};
 ghost use Rattle.mine_rows.specs.Rows.{IsBitRow};
 
 use crate::marks::Marks;
@@ -54,9 +55,9 @@ fn add_ones(words: &mut [u64], start: usize, ones: u64, bit: u64)
 impl Row for BitRow {
     ghost stands = { IsBitRow };
 
-    ghost at_rest = { λ weights marks. ⊤ };
+    ghost at_rest = { λ weights marks. ArePlanes weights (are_ones weights) marks.planes.items };
 
-    ghost marked = { λ row weights marks. ⊤ };
+    ghost marked = { λ row weights marks. ArePlanes weights (are_ones weights) marks.planes.items };
 
     fn first(alloc: Global, cover: &[u32], weights: &Weights) -> Result<Self, AllocError> {
         Ok(BitRow {
@@ -72,8 +73,8 @@ impl Row for BitRow {
         }
     }
 
-    fn new_marks(alloc: Global, _weights: &Weights) -> Result<Marks, AllocError> {
-        Marks::new(alloc, 0)
+    fn new_marks(alloc: Global, weights: &Weights) -> Result<Marks, AllocError> {
+        Marks::planes(alloc, weights)
     }
 
     fn mark(&self, _marks: &mut Marks, _weights: &Weights) {}
@@ -84,12 +85,12 @@ impl Row for BitRow {
         &mut self,
         x: &Self,
         y: &Self,
-        _marks: &Marks,
+        marks: &Marks,
         weights: &Weights,
     ) -> Result<(), AllocError> {
         weights.bounds();
         let ones = share(&mut self.words, &x.words, &y.words)?;
-        self.count = weights.weight_of_bits(&self.words, ones);
+        self.count = weights.weight_of_bits(&self.words, ones, &marks.planes);
         Ok(())
     }
 

@@ -1,17 +1,21 @@
-//! Places that are marked while a row is joined with others.
+//! What is known of places while a row is joined with others.
 ghost use Rattle.std.specs.Prelude.{◌≡◌, ◌≤◌, ◌<◌, ◌||◌, ◌&&◌, ℕ, Bool, false, true, List, IfOk, OnOk, filter, length, nat_lt, not, slice_index};
 ghost use Rattle.std.specs.List.{sum_by};
 ghost use Rattle.basket_sets.specs.Database.{MOST_WEIGHT};
 ghost use Rattle.basket_sets.specs.Itemset.{AllBelow, has};
 ghost use Rattle.mine_rows.specs.Marks.{IsMarked};
+ghost use Rattle.mine_rows.specs.Planes.{ArePlanes, are_ones};
 
+use crate::planes::Plane;
 use crate::weights::Weights;
 use std::alloc::{AllocError, Global};
 
-/// The weight of each place that is marked, by the place's number, and 0 for the others.
+/// The weight of each place that is marked, by the place's number, and 0 for the others. For rows of bits no place is
+/// marked, and the weights of all are there bit by bit.
 #[derive(Debug, Drop)]
 pub struct Marks {
     pub weights: Vec<u64>,
+    pub planes: Vec<Plane>,
 }
 
 impl Marks {
@@ -22,6 +26,7 @@ impl Marks {
     {
         Ok(Marks {
             weights: vec![in alloc; 0u64; places as usize]?,
+            planes: Vec::new(alloc),
         })
     }
 
@@ -31,6 +36,17 @@ impl Marks {
     {
         Ok(Marks {
             weights: weights.to_vec(alloc)?,
+            planes: Vec::new(alloc),
+        })
+    }
+
+    /// The weights bit by bit.
+    pub fn planes(alloc: Global, weights: &Weights) -> Result<Self, AllocError>
+        ensures { IfOk result (λ marks. ArePlanes weights.now (are_ones weights.now) marks.planes.items) }
+    {
+        Ok(Marks {
+            weights: Vec::new(alloc),
+            planes: weights.planes(alloc)?,
         })
     }
 

@@ -4,7 +4,7 @@ ghost use Rattle.basket_sets.specs.Database.{MOST_WEIGHT};
 ghost use Rattle.basket_sets.specs.Itemset.{AllBelow, IsRising};
 ghost use Rattle.mine_rows.specs.Cover.{IsCover, cover_weight};
 ghost use Rattle.mine_rows.specs.Bits.{words_of};
-ghost use Rattle.mine_rows.specs.Planes.{are_ones};
+ghost use Rattle.mine_rows.specs.Planes.{ArePlanes, are_ones};
 ghost use Rattle.mine_rows.specs.Weights.{MOST_PLACES};
 
 use crate::planes::{Plane, planes_of, weight_by_planes};
@@ -19,12 +19,11 @@ fn all_are_ones(weights: &[u64]) -> bool
     weights.iter().all(|weight| *weight == 1)
 }
 
-/// The weight of each place, by the place's number, and the same bit by bit.
+/// The weight of each place, by the place's number.
 #[derive(Debug, Drop)]
 pub struct Weights {
     weights: Vec<u64>,
     are_ones: bool,
-    planes: Vec<Plane>,
     /// Whether the places were at least twice as many before equal ones were merged.
     is_halved: bool,
 }
@@ -37,7 +36,7 @@ impl Model for Weights {
 
     ghost view = { λ w. w.weights.items };
 
-    ghost invariant = { λ w. KeepsWeights w.weights.items w.are_ones w.planes.items };
+    ghost invariant = { λ w. KeepsWeights w.weights.items w.are_ones };
 }
 
 impl Weights {
@@ -48,25 +47,23 @@ impl Weights {
         requires light { sum weights.now ≤ MOST_WEIGHT }
         ensures { IfOk result (λ copy. copy ≡ weights.now) }
     {
-        Weights::of_vec(alloc, weights.to_vec(alloc)?, false)
+        Ok(Weights::of_vec(weights.to_vec(alloc)?, false))
     }
 
     /// The weights of places, in their own vector, and whether there were at least twice as many
     /// places before equal ones were merged.
-    pub fn of_vec(alloc: Global, weights: Vec<u64>, is_halved: bool) -> Result<Self, AllocError>
+    pub fn of_vec(weights: Vec<u64>, is_halved: bool) -> Self
         requires few { length weights.items ≤ MOST_PLACES }
         requires some { All (λ weight. 1 ≤ weight) weights.items }
         requires light { sum weights.items ≤ MOST_WEIGHT }
-        ensures { IfOk result (λ kept. kept ≡ weights.items) }
+        ensures { result ≡ weights.items }
     {
         let are_ones = all_are_ones(&weights);
-        let planes = planes_of(alloc, &weights, are_ones)?;
-        Ok(Weights {
+        Weights {
             weights,
             are_ones,
-            planes,
             is_halved,
-        })
+        }
     }
 
     /// How many places there are.
@@ -120,14 +117,22 @@ impl Weights {
         weight
     }
 
+    /// The weights bit by bit.
+    pub(crate) fn planes(&self, alloc: Global) -> Result<Vec<Plane>, AllocError>
+        ensures { IfOk result (λ planes. ArePlanes self.now (are_ones self.now) planes.items) }
+    {
+        planes_of(alloc, &self.weights, self.are_ones)
+    }
+
     /// The weight of the places of a row of bits, if the row has this many ones.
-    pub(crate) fn weight_of_bits(&self, words: &RowWords, ones: u64) -> u64
-        requires { (cover : List ℕ) × IsCover self.now cover × (words.now.items ≡ words_of (length self.now) cover) × (ones ≡ length cover) }
+    pub(crate) fn weight_of_bits(&self, words: &RowWords, ones: u64, planes: &[Plane]) -> u64
+        requires planes { ArePlanes self.now (are_ones self.now) planes.now }
+        requires cover { (cover : List ℕ) × IsCover self.now cover × (words.now.items ≡ words_of (length self.now) cover) × (ones ≡ length cover) }
         ensures { (cover : List ℕ) → IsCover self.now cover → words.now.items ≡ words_of (length self.now) cover → ones ≡ length cover → result ≡ cover_weight self.now cover }
     {
         if self.are_ones {
             return ones;
         }
-        weight_by_planes(words, &self.planes)
+        weight_by_planes(words, planes)
     }
 }

@@ -53,7 +53,7 @@ fn merged_weights(
         return Err(AllocError);
     }
     let is_halved = weights.len() <= unmerged / 2;
-    Weights::of_vec(alloc, weights, is_halved)
+    Ok(Weights::of_vec(weights, is_halved))
 }
 
 /// The weights of merged baskets, of which there were this many before, and a sibling over them for

@@ -20,8 +20,8 @@ share-requires-clause-few c =
     let long = ap length p.words ∙ length-words (has first) 0 n in
     omega (arith, long, c.bounds.ensures.few)
 
-pub weight_of_bits-self-requires : goal.weight_of_bits-self-requires
-weight_of_bits-self-requires c =
+pub weight_of_bits-self-requires-clause-cover : goal.weight_of_bits-self-requires-clause-cover
+weight_of_bits-self-requires-clause-cover c =
     let (parent, first, second, p, q) = c.requires.rows in
     let weights = c.args.weights.now in (
       common first second,

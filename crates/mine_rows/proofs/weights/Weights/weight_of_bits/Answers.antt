@@ -13,38 +13,30 @@ returns-then-self c = λ cover is words ones.
 
 pub weight_by_planes-requires-clause-few : goal.weight_by_planes-requires-clause-few
 weight_by_planes-requires-clause-few c =
-    let (cover, is, words, ones) = c.requires in
-    let planes = c.self.inside.planes.items in
-    let keeps = subst (λ l. KeepsWeights l c.self.inside.are_ones planes) c.self.view_is c.self.invariant in
-    kept_few c.args.self.now c.self.inside.are_ones planes keeps cover c.args.words.now.items is words
+    let (cover, is, words, ones) = c.requires.cover in
+    let keeps = subst (λ l. KeepsWeights l c.self.inside.are_ones) c.self.view_is c.self.invariant in
+    kept_few c.args.self.now c.self.inside.are_ones c.args.planes.now keeps c.requires.planes cover c.args.words.now.items is words
 
 pub weight_by_planes-requires-clause-wide : goal.weight_by_planes-requires-clause-wide
 weight_by_planes-requires-clause-wide c =
-    let (cover, is, words, ones) = c.requires in
-    let planes = c.self.inside.planes.items in
-    let keeps = subst (λ l. KeepsWeights l c.self.inside.are_ones planes) c.self.view_is c.self.invariant in
-    subst (All (λ plane. length plane.words.items ≡ length c.args.words.now.items)) (sym c.deref.ensures.value)
-    (kept_wide c.args.self.now c.self.inside.are_ones planes keeps cover c.args.words.now.items is words c.if-self.false)
+    let (cover, is, words, ones) = c.requires.cover in
+    let keeps = subst (λ l. KeepsWeights l c.self.inside.are_ones) c.self.view_is c.self.invariant in
+    kept_wide c.args.self.now c.self.inside.are_ones c.args.planes.now keeps c.requires.planes cover c.args.words.now.items is words c.if-self.false
 
 pub weight_by_planes-requires-clause-narrow : goal.weight_by_planes-requires-clause-narrow
 weight_by_planes-requires-clause-narrow c =
-    let (cover, is, words, ones) = c.requires in
-    let planes = c.self.inside.planes.items in
-    let keeps = subst (λ l. KeepsWeights l c.self.inside.are_ones planes) c.self.view_is c.self.invariant in
-    subst (All (λ plane. plane.bit < 40)) (sym c.deref.ensures.value)
-    (kept_narrow c.args.self.now c.self.inside.are_ones planes keeps cover c.args.words.now.items is words c.if-self.false)
+    let (cover, is, words, ones) = c.requires.cover in
+    let keeps = subst (λ l. KeepsWeights l c.self.inside.are_ones) c.self.view_is c.self.invariant in
+    kept_narrow c.args.self.now c.self.inside.are_ones c.args.planes.now keeps c.requires.planes cover c.args.words.now.items is words c.if-self.false
 
 pub weight_by_planes-requires-clause-light : goal.weight_by_planes-requires-clause-light
 weight_by_planes-requires-clause-light c =
-    let (cover, is, words, ones) = c.requires in
-    let planes = c.self.inside.planes.items in
-    let keeps = subst (λ l. KeepsWeights l c.self.inside.are_ones planes) c.self.view_is c.self.invariant in
-    subst (λ l. sum_by (plane_weight c.args.words.now.items) l ≤ MOST_WEIGHT) (sym c.deref.ensures.value)
-    (kept_light c.args.self.now c.self.inside.are_ones planes keeps cover c.args.words.now.items is words c.if-self.false)
+    let (cover, is, words, ones) = c.requires.cover in
+    let keeps = subst (λ l. KeepsWeights l c.self.inside.are_ones) c.self.view_is c.self.invariant in
+    kept_light c.args.self.now c.self.inside.are_ones c.args.planes.now keeps c.requires.planes cover c.args.words.now.items is words c.if-self.false
 
 pub returns : goal.returns
 returns c = λ cover is words ones.
-    let planes = c.self.inside.planes.items in
-    let keeps = subst (λ l. KeepsWeights l c.self.inside.are_ones planes) c.self.view_is c.self.invariant in
-    c.weight_by_planes.ensures ∙ ap (sum_by (plane_weight c.args.words.now.items)) c.deref.ensures.value
-    ∙ kept_weigh c.args.self.now c.self.inside.are_ones planes keeps cover c.args.words.now.items is words c.if-self.false
+    let keeps = subst (λ l. KeepsWeights l c.self.inside.are_ones) c.self.view_is c.self.invariant in
+    c.weight_by_planes.ensures
+    ∙ kept_weigh c.args.self.now c.self.inside.are_ones c.args.planes.now keeps c.requires.planes cover c.args.words.now.items is words c.if-self.false
