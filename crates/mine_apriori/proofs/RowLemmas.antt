@@ -130,19 +130,6 @@ basket_more baskets basket place u = elim (cases_eq place (length baskets)) [
       ap (λ b. has (basket_at baskets place) u || (b && has basket.basket u)) (apart_eqb place (length baskets) differ) ∙ or_false (has (basket_at baskets place) u) ∙ ap (λ l. has l u) kept)
 ]
 
--- a basket more, whose items are marked at its place
-pub rows_more : (items : List ℕ) (before : List Weighted) (basket : Weighted) (place : ℕ) (rows new : Rows) → place ≡ length before → place < rows.words * 64 → new.words ≡ rows.words
-    → length new.bits.items ≡ length rows.bits.items → AreMarkedAt items rows.words place basket.basket rows.bits.items new.bits.items → AreRows items before rows → AreRows items (before ++ basket ∷ []) new
-rows_more items before basket place rows new here room words long marked are = record {
-  long = long ∙ are.long ∙ ap (λ n. length items * n) (sym words);
-  enough = let enough = are.enough in omega (arith, length_push before basket, here, room, ap (λ n. n * 64) words);
-  each = λ number other within inside.
-      let low : other < rows.words * 64 = omega (arith, inside, ap (λ n. n * 64) words) in
-      ap (λ n. bit_in new.bits.items n number other) words ∙ marked number other within low
-      ∙ (λ i. are.each number other within low i || (eqb other (here i) && has basket.basket (get_or items number 0)))
-      ∙ basket_more before basket other (get_or items number 0);
-}
-
 -- the row of an item among all rows
 pub row_is : (items : List ℕ) (baskets : List Weighted) (rows : Rows) (number : ℕ) (row : List ℕ) → number < length items → AreRows items baskets rows
     → row ≡ take rows.words (drop (number * rows.words) rows.bits.items) → IsRowOf baskets (get_or items number 0) row
