@@ -4,7 +4,7 @@
 //! `levels` goes from size to size, from the `first_level` on. Sets are kept as `extensions`: prefixes, and the items that
 //! extend them. `join` makes candidates by the `intersection` of lists of items, which `search` looks up. `shard` counts
 //! sets by a `counter`: in each `block` of baskets the `used_items` have `rows` of bits, and the `places` of the baskets
-//! that contain a prefix are found from those of the prefix without its last item. `frequent` keeps the frequent sets. The
+//! that contain a set are found from those of its `prefixes` (`block_counts`). `frequent` keeps the frequent sets. The
 //! second level is made of the frequent pairs, which `partners` puts in order.
 #![tactic(auto)]
 
