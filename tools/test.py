@@ -28,7 +28,7 @@ Sum = tuple[int, int]
 
 
 def proved() -> Sum:
-    """Runs `rt ci`, and answers what it counts as passed and as failed."""
+    """Runs `rt ci`, and returns how many it counts as passed and as failed."""
     kit.demand()
     last = ""
     with subprocess.Popen(["rt", "ci"], stdout=subprocess.PIPE, text=True) as checker:

@@ -20,7 +20,7 @@ in the order of its report. All take the baskets as one of these:
 Labels come back as they were given; those of a FIMI file are `int`, those of CSV `str`. A weight
 is a whole number from 1 to 4,294,967,295, and stands for that many equal baskets. Missing values
 are refused (`DataError`), and with `missing="drop"` left out. A basket without an item counts in no
-support and no share; `baskets(data, total=..)` counts such baskets too. Rows of an answer stand in
+support and no share; `baskets(data, total=..)` counts such baskets too. Rows of a frame are in
 the order of the program's report, where items are numbered by their first appearance, or by the
 places of their columns.
 
@@ -32,7 +32,7 @@ means the nearest fraction of numbers up to 67,108,864. A `Fraction` of numbers 
 is refused.
 
 `help(sets)` has all keywords. Those of the program's work, as `miner` and `workers`, change time and
-memory, and no answer. The floats of a frame are those nearest to the exact values. An interrupt
+memory, and no report. The floats of a frame are those nearest to the exact values. An interrupt
 ends the program, and so does the end of Python, however it comes, on Linux with the tool `setpriv`
 of util-linux.
 

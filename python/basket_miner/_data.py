@@ -164,7 +164,7 @@ def _refuse_tables(baskets: Any) -> None:
     is_matrix = isinstance(baskets, np.ndarray) and baskets.ndim > 1
     if is_matrix or isinstance(baskets, (Mapping, bytes)):
         name = type(baskets).__name__
-        raise DataError(f"{name} is no iterable of baskets{_TABLE_HINT}")
+        raise DataError(f"{name} is not an iterable of baskets{_TABLE_HINT}")
 
 
 def _without_missing(

@@ -17,7 +17,7 @@ def little_memory() -> None:
 
 
 class Statuses(unittest.TestCase):
-    """What the program answers, and on which stream it says why."""
+    """What the program writes, and on which stream it says why it failed."""
 
     def test_a_report_goes_to_standard_output_and_ends_with_0(self) -> None:
         ended = run(SETS, b"1 2\n")

@@ -48,12 +48,12 @@ abbrev pub counts_in : Layout → List (List ℕ) → Contents → Result (List 
 counts_in layout sets (contents.Baskets baskets names) = text_of_counts layout names (Ok (map (counted baskets) sets))
 counts_in layout sets (contents.Counts lines names) = text_of_counts layout names (counts_over lines sets)
 
--- the same of an input that was read, or its fault
+-- the text of the counts of sets over an input that was read, or the input's fault
 abbrev pub of_contents : Layout → List (List ℕ) → Result Contents ReadFault → Result (List ℕ) RunFault
 of_contents layout sets (Ok contents) = counts_in layout sets contents
 of_contents layout sets (Err fault) = Err (Input fault)
 
--- the same of sets that were read: the names of their items have their numbers in the input too
+-- the text of the counts of sets that were read, or their fault: the names of their items have their numbers in the input too
 abbrev pub of_asked : Layout → List ℕ → Result (List (List ℕ) × List (List ℕ)) ReadFault → Result (List ℕ) RunFault
 of_asked layout bytes (Ok asked) = of_contents layout (asked_of asked.0) (contents_of layout asked.1 bytes)
 of_asked layout bytes (Err fault) = Err (Sets fault)

@@ -32,7 +32,7 @@ abbrev pub are_too_many : Ask → List Weighted → Minimum → ℕ → Bool
 are_too_many Items baskets minimum limit = false
 are_too_many _ baskets minimum limit = nat_lt limit (length (frequent_of baskets minimum))
 
--- the same of the sets of a counted input that meet the minimum
+-- the text of a report on the sets of a counted input that meet the minimum
 abbrev pub text_in : Wording → Ask → Listing → List ℕ
 text_in wording Items listing = report_of wording (filter (λ c. length c.set == 1) listing.sets)
 text_in wording Sets listing = report_of wording listing.sets

@@ -77,7 +77,7 @@ IsReportFault question left after failed (Input fault) =
 IsReportFault question left after failed (Mine fault) = (failed ≡ false) × RefusesSets left question fault
 IsReportFault question left after failed _ = failed ≡ false
 
--- the same of a task, where `left` and `has_failed` tell of a reader what it has left and whether it failed
+-- the fault of a task is the one of its outcome; `left` and `has_failed` say of a reader what it has left and whether it failed
 abbrev pub IsTaskFault : {S : Type 0} → (S → Option (List ℕ)) → (S → Bool) → (Origin → Option (List ℕ)) → Task → Origin → RunFault → Type 0
 IsTaskFault {S} left has_failed bytes (Report plan) input fault = (reader : S) × IsReportFault plan.question (bytes input) (left reader) (has_failed reader) fault
 IsTaskFault {S} left has_failed bytes (Count plan sets) input fault =

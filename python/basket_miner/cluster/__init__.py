@@ -18,7 +18,7 @@ with the worker's name (`ProgramMissing`).
 Two passes go over the parts. First each part is asked for the sets that are frequent in it at
 the share; then the sets that some part has are counted in each. The counts are added up, a few
 parts at a time, and the question is asked of the sums. Each step is a run of the program. The
-answer is, byte for byte, that of one run over all parts concatenated: the law of parts,
+report is, byte for byte, that of one run over all parts concatenated: the law of parts,
 which is proved of the program, says so of everything but the engine's moving of the bytes from
 one run to the next, and of CSV files, that counts by names are read back as they were written,
 which is tested. A minimum that is a count takes a pass more, in front: the weights of the
