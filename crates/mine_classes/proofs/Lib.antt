@@ -8,7 +8,6 @@ mod RunLoopLemmas
 mod SumStepLemmas
 mod SumLemmas
 mod PairLemmas
-mod AllPairsLemmas
 mod TriangleLemmas
 mod PlaceLemmas
 mod BitLemmas

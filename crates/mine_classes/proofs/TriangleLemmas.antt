@@ -1,181 +1,163 @@
 -- Counts of pairs, one basket after another.
-use Rattle.std.proofs.Common.{◌≡◌, ◌≢◌, ℕ, ◌+◌, ◌-◌, ◌<◌, ◌≤◌, Bool, true, false, ◌&&◌, ◌||◌, List, [], ◌∷◌, length, take, drop, get_or, map, cond, refl, sym, ap, ◌∙◌, ltb, subst, inl, inr, arith, add-zero}
-use Rattle.std.proofs.Math.Bool.{or-false, or-true}
-use borrow.Rule.Slice.PartMut.{put_mid}
-use Rattle.std.proofs.lemmas.Bool.{cases_lt, eq-eqb, ne_eqb, lt-ltb, ltb-true}
-use Rattle.std.specs.Prelude.{IsTrue}
-use Rattle.std.specs.List.{filter, range_with_len}
-use Rattle.std.proofs.lemmas.List.{get_or-drop, get_or-map, get_or-take, get_or_default, length-drop, length-map, length-take-le}
+use Rattle.std.proofs.Common.{◌≡◌, ◌≢◌, ℕ, ◌+◌, ◌<◌, ◌≤◌, Bool, true, false, ◌&&◌, ◌||◌, List, [], ◌∷◌, length, map, take, drop, get_or, set, cond, eqb, refl, sym, ap, ◌∙◌, ltb, subst, inl, inr, arith, zero, suc, add-zero}
+use Rattle.std.proofs.lemmas.Bool.{cases_Bool, cases_eq, eq-eqb, ne_eqb, lt-ltb, ltb-true}
+use Rattle.std.proofs.lemmas.List.{drop_more, get_or-replicate, get_or-set_other, get_or-set_same, length-replicate, take-append-drop}
+use Rattle.std.proofs.lemmas.List.FromFn.{get_or-map-range_with_len, length-map-range_with_len}
 use Rattle.std.proofs.lemmas.List.Sums.{sum_by_more, sum_by_more_le}
-use Rattle.std.proofs.lemmas.Slice.{between-put_mid, drop-put_mid, take-put_mid_below}
+use Rattle.std.specs.List.{filter, range_with_len}
 use Rattle.basket_sets.specs.declared.weighted.Weighted.{Weighted}
 use Rattle.basket_sets.specs.Counts.{AllBelow}
 use Rattle.basket_sets.specs.Database.{MOST_WEIGHT}
 use Rattle.basket_sets.specs.Itemset.{IsRising, has}
-use Rattle.basket_sets.specs.Support.{support_of, total_of, weight_at}
+use Rattle.basket_sets.specs.Support.{total_of, weight_at}
 use Rattle.basket_sets.proofs.theory.Members.{Member, Member-filter, Member-from_filter}
-use Rattle.basket_sets.proofs.theory.Rising.{Member-from_has, has-from_Member, has_more, has_place, not_before, same_test}
-use Rattle.basket_sets.proofs.theory.Support.{support_falls}
 use Rattle.basket_sets.proofs.theory.Ranges.{filter_rises}
-use Rattle.mine_classes.specs.Sums.{WithBasket, is_met}
+use Rattle.basket_sets.proofs.theory.Rising.{Member-from_has, first_below, has-append, has-from_Member, has_more, rest_rises, same_test}
+use Rattle.basket_sets.proofs.theory.Support.{support_falls}
 use Rattle.mine_classes.specs.Pairs.{pairs_of}
-use Rattle.mine_classes.specs.Triangle.{WithSupports, AreSupports, HaveRows, WithPairs, all_pairs, place_of}
-use Rattle.mine_classes.proofs.AllPairsLemmas.{find_pair, pair_at, pair_of, row_before}
-use Rattle.mine_classes.proofs.RunStepLemmas.{front_is}
+use Rattle.mine_classes.specs.Sums.{WithBasket, is_met}
+use Rattle.mine_classes.specs.Triangle.{HaveCounts, WithPairs, row_at, zeros}
 use Rattle.mine_classes.proofs.PairLemmas.{sums_are_pairs}
+use Rattle.mine_classes.proofs.RunStepLemmas.{front_is}
 
--- ---- the counts of a basket
+-- ---- the ranks before and after one of a basket
 
--- of the ranks below one of a basket it has those that stand before that one
-front_has : (ranks : List ℕ) (place lesser : ℕ) → IsRising ranks → place < length ranks → lesser < get_or ranks place 0 → has (take place ranks) lesser ≡ has ranks lesser
-front_has ranks place lesser up here less =
-    let below : ℕ → Bool = λ other. ltb other (get_or ranks place 0) in
-    let front = front_is ranks place up here in
-    same_test (has (take place ranks) lesser) (has ranks lesser)
-    (λ h. has-from_Member ranks lesser (Member-filter below lesser ranks (subst (Member lesser) (sym front) (Member-from_has (take place ranks) lesser h))).0)
-    (λ h. has-from_Member (take place ranks) lesser (subst (Member lesser) front (Member-from_filter below lesser ranks (Member-from_has ranks lesser h) (lt-ltb lesser (get_or ranks place 0) less))))
+drop_rises : (n : ℕ) (xs : List ℕ) → IsRising xs → IsRising (drop n xs)
+drop_rises zero xs up = up
+drop_rises (suc n) [] up = up
+drop_rises (suc n) (x ∷ xs) up = drop_rises n xs (rest_rises x xs up)
 
-pub before_rises : (ranks : List ℕ) (place : ℕ) → IsRising ranks → place < length ranks → IsRising (take place ranks)
-before_rises ranks place up here = subst IsRising (front_is ranks place up here) (filter_rises (λ other. ltb other (get_or ranks place 0)) ranks up)
+module _ (ranks : List ℕ) (place : ℕ) (up : IsRising ranks) (here : place < length ranks) where
+  abbrev rank : ℕ
+  rank = get_or ranks place 0
 
-pub before_all_below : (ranks : List ℕ) (place : ℕ) → IsRising ranks → place < length ranks → AllBelow (get_or ranks place 0) (take place ranks)
-before_all_below ranks place up here rank h =
-    let m = subst (Member rank) (sym (front_is ranks place up here)) (Member-from_has (take place ranks) rank h) in
-    ltb-true rank (get_or ranks place 0) (Member-filter (λ other. ltb other (get_or ranks place 0)) rank ranks m).1
+  -- of the ranks below it the basket has those that stand before it
+  front_has : (lesser : ℕ) → lesser < rank → has (take place ranks) lesser ≡ has ranks lesser
+  front_has lesser less =
+      let below : ℕ → Bool = λ other. ltb other rank in
+      let front = front_is ranks place up here in
+      same_test (has (take place ranks) lesser) (has ranks lesser)
+      (λ h. has-from_Member ranks lesser (Member-filter below lesser ranks (subst (Member lesser) (sym front) (Member-from_has (take place ranks) lesser h))).0)
+      (λ h. has-from_Member (take place ranks) lesser (subst (Member lesser) front (Member-from_filter below lesser ranks (Member-from_has ranks lesser h) (lt-ltb lesser rank less))))
 
--- ---- a part of the counts written
+  pub before_rises : IsRising (take place ranks)
+  before_rises = subst IsRising (front_is ranks place up here) (filter_rises (λ other. ltb other rank) ranks up)
 
-module _ (start k : ℕ) (now row : List ℕ) (within : start + k ≤ length now) (long : length row ≡ k) where
-  at_below : (n : ℕ) → n < start → get_or (put_mid start k now row) n 0 ≡ get_or now n 0
-  at_below n less =
-      sym (get_or-take start (put_mid start k now row) n 0 less) ∙ ap (λ l. get_or l n 0) (take-put_mid_below start k now row start (omega arith) (omega arith)) ∙ get_or-take start now n 0 less
+  pub before_all_below : AllBelow rank (take place ranks)
+  before_all_below lesser h =
+      let m = subst (Member lesser) (sym (front_is ranks place up here)) (Member-from_has (take place ranks) lesser h) in
+      ltb-true lesser rank (Member-filter (λ other. ltb other rank) lesser ranks m).1
 
-  at_above : (n : ℕ) → start + k ≤ n → get_or (put_mid start k now row) n 0 ≡ get_or now n 0
-  at_above n le =
-      let behind : start + k + (n - (start + k)) ≡ n = omega arith in
-      ap (λ m. get_or (put_mid start k now row) m 0) (sym behind)
-      ∙ sym (get_or-drop (start + k) (put_mid start k now row) (n - (start + k)) 0)
-      ∙ ap (λ l. get_or l (n - (start + k)) 0) (drop-put_mid start k now row (start + k) (omega arith) (omega arith) long)
-      ∙ get_or-drop (start + k) now (n - (start + k)) 0 ∙ ap (λ m. get_or now m 0) behind
+  later_has : (greater : ℕ) → has (drop place ranks) greater ≡ (eqb rank greater || has (drop (place + 1) ranks) greater)
+  later_has greater = ap (λ l. has l greater) (drop_more ranks place 0 here)
 
-  at_row : (n : ℕ) → n < k → get_or (put_mid start k now row) (start + n) 0 ≡ get_or row n 0
-  at_row n less =
-      sym (get_or-drop start (put_mid start k now row) n 0) ∙ sym (get_or-take k (drop start (put_mid start k now row)) n 0 less)
-      ∙ ap (λ l. get_or l n 0) (ap (λ m. take m (drop start (put_mid start k now row))) (let e : k ≡ start + k - start = omega arith in e) ∙ between-put_mid start k now row (start + k) (omega arith) (omega arith))
+  not_later : has (drop (place + 1) ranks) rank ≡ false
+  not_later = elim (cases_Bool (has (drop (place + 1) ranks) rank)) [
+    | inl e ↦
+        (let rises = subst IsRising (drop_more ranks place 0 here) (drop_rises place ranks up) in
+        let less = first_below rank (drop (place + 1) ranks) rises rank (Member-from_has (drop (place + 1) ranks) rank e) in
+        absurd (omega arith))
+    | inr e ↦ e
+  ]
 
-pub row_at : (start k : ℕ) (counts : List ℕ) (n : ℕ) → n < k → get_or (take k (drop start counts)) n 0 ≡ get_or counts (start + n) 0
-row_at start k counts n less = get_or-take k (drop start counts) n 0 less ∙ get_or-drop start counts n 0
+  pub other_later : (greater : ℕ) → greater ≢ rank → has (drop (place + 1) ranks) greater ≡ has (drop place ranks) greater
+  other_later greater differ = ap (λ b. b || has (drop (place + 1) ranks) greater) (sym (ne_eqb rank greater (λ e. differ (sym e)))) ∙ sym (later_has greater)
 
-pub row_long : (start k : ℕ) (counts : List ℕ) → start + k ≤ length counts → length (take k (drop start counts)) ≡ k
-row_long start k counts within = length-take-le k (drop start counts) (omega (arith, length-drop start counts))
+  -- the ranks above it stand after it
+  pub above_later : (greater : ℕ) → rank < greater → has (drop (place + 1) ranks) greater ≡ has ranks greater
+  above_later greater above =
+      let early : has (take place ranks) greater ≡ false = elim (cases_Bool (has (take place ranks) greater)) [
+        | inl e ↦ absurd (let less = before_all_below greater e in omega arith)
+        | inr e ↦ e
+      ] in
+      let front = has_more ranks place greater here ∙ ap (λ b. b || eqb rank greater) early ∙ ne_eqb rank greater (λ e. omega (arith, e, above)) in
+      ap (λ b. b || has (drop (place + 1) ranks) greater) (sym front) ∙ sym (has-append (take (place + 1) ranks) (drop (place + 1) ranks) greater)
+      ∙ ap (λ l. has l greater) (take-append-drop (place + 1) ranks)
 
--- the counts once those of the first ranks of a basket have its weight
-abbrev pub WithFirst : List ℕ → ℕ → List ℕ → ℕ → List ℕ → Type 0
-WithFirst ranks weight old place now = (greater lesser : ℕ) → lesser < greater → place_of greater lesser < length old
-    → get_or now (place_of greater lesser) 0 ≡ get_or old (place_of greater lesser) 0 + cond (has (take place ranks) greater && has ranks lesser) weight 0
+-- ---- the rows, one rank of a basket after another
 
-module _ (ranks : List ℕ) (weight : ℕ) (old : List ℕ) (up : IsRising ranks) where
-  module _ (place : ℕ) (now : List ℕ) (same : length now ≡ length old) (first : WithFirst ranks weight old place now) (here : place < length ranks)
-      (within : place_of (get_or ranks place 0) (get_or ranks place 0) ≤ length old) where
-    abbrev rank : ℕ
-    rank = get_or ranks place 0
+module _ (first weight : ℕ) (ranks : List ℕ) (old now : List (List ℕ)) where
+  pub other_greater : (one other : List ℕ) → ((k : ℕ) → k < length old → has one (first + k) ≡ has other (first + k)) → WithPairs first one ranks weight old now → WithPairs first other ranks weight old now
+  other_greater one other same with = record {
+    long = with.long;
+    added = λ k below. subst (λ b. WithBasket (cond b ranks []) weight (row_at old k) (row_at now k)) (same k below) (with.added k below);
+  }
 
-    -- the counts of the rank at the place are as they were
-    pub untouched : (lesser : ℕ) → lesser < rank → get_or now (place_of rank lesser) 0 ≡ get_or old (place_of rank lesser) 0
-    untouched lesser less = first rank lesser less (omega arith)
-        ∙ ap (λ b. get_or old (place_of rank lesser) 0 + cond (b && has ranks lesser) weight 0) (not_before ranks place up here) ∙ add-zero (get_or old (place_of rank lesser) 0)
+  module _ (place k : ℕ) (up : IsRising ranks) (here : place < length ranks) (within : k < length old) (is : first + k ≡ get_or ranks place 0) (with : WithPairs first (drop (place + 1) ranks) ranks weight old now) where
+    -- the row of the next rank is as it was
+    pub as_was : (lesser : ℕ) → lesser < length (row_at old k) → get_or (row_at now k) lesser 0 ≡ get_or (row_at old k) lesser 0
+    as_was lesser below = with.added k within lesser below
+        ∙ ap (λ b. get_or (row_at old k) lesser 0 + cond (has (cond b ranks []) lesser) weight 0) (ap (has (drop (place + 1) ranks)) is ∙ not_later ranks place up here)
+        ∙ add-zero (get_or (row_at old k) lesser 0)
 
-    -- the other ranks have the weight once it is added at this one as they had it before
-    other_rank : (greater lesser : ℕ) → greater ≢ rank
-        → get_or old (place_of greater lesser) 0 + cond (has (take place ranks) greater && has ranks lesser) weight 0 ≡ get_or old (place_of greater lesser) 0 + cond (has (take (place + 1) ranks) greater && has ranks lesser) weight 0
-    other_rank greater lesser differ = ap (λ b. get_or old (place_of greater lesser) 0 + cond (b && has ranks lesser) weight 0)
-        (sym (has_more ranks place greater here ∙ ap (λ b. has (take place ranks) greater || b) (ne_eqb rank greater (λ e. differ (sym e))) ∙ or-false (has (take place ranks) greater)))
-
-    pub first_more : (start k : ℕ) (row : List ℕ) → start ≡ length (all_pairs rank) → k ≡ rank → length row ≡ k → WithBasket (take place ranks) weight (take k (drop start now)) row
-        → WithFirst ranks weight old (place + 1) (put_mid start k now row)
-    first_more start k row begins wide long added greater lesser less inside = elim (cases_lt greater rank) [
-      | inl before ↦
-          (let first_row = row_before greater rank before in
-          at_below start k now row fits long (place_of greater lesser) (omega arith) ∙ first greater lesser less inside
-          ∙ other_rank greater lesser (λ e. omega (arith, e, before)))
-      | inr from ↦ elim (cases_lt rank greater) [
-        | inl behind ↦
-            (let last_row = row_before rank greater behind in
-            at_above start k now row fits long (place_of greater lesser) (omega arith) ∙ first greater lesser less inside
-            ∙ other_rank greater lesser (λ e. omega (arith, e, behind)))
-        | inr to ↦
-            (let e : greater ≡ rank = omega arith in
-            subst (λ r. lesser < r → get_or (put_mid start k now row) (place_of r lesser) 0 ≡ get_or old (place_of r lesser) 0 + cond (has (take (place + 1) ranks) r && has ranks lesser) weight 0) (sym e) (at lesser) less)
-      ]
-    ]
+    pub row_more : (row : List ℕ) → length now ≡ length old → length (row_at old k) ≡ first + k → length row ≡ length (row_at now k) → WithBasket (take place ranks) weight (row_at now k) row
+        → WithPairs first (drop place ranks) ranks weight old (set now k row)
+    row_more row same wide long added = record {
+      long = λ j below. elim (cases_eq j k) [
+        | inl e ↦ subst (λ n. length (row_at (set now k row) n) ≡ length (row_at old n)) (sym e) (ap length (get_or-set_same now k row [] (omega arith)) ∙ long ∙ with.long k within)
+        | inr differ ↦ ap length (get_or-set_other now k j row [] differ) ∙ with.long j below
+      ];
+      added = λ j below. elim (cases_eq j k) [
+        | inl e ↦
+            subst (λ n. WithBasket (cond (has (drop place ranks) (first + n)) ranks []) weight (row_at old n) (row_at (set now k row) n)) (sym e)
+            (subst (λ l. WithBasket (cond (has (drop place ranks) (first + k)) ranks []) weight (row_at old k) l) (sym (get_or-set_same now k row [] (omega arith)))
+            (subst (λ b. WithBasket (cond b ranks []) weight (row_at old k) row) (sym there) whole))
+        | inr differ ↦
+            subst (λ b. WithBasket (cond b ranks []) weight (row_at old j) (row_at (set now k row) j)) (other_later ranks place up here (first + j) (λ e. differ (omega arith)))
+            (subst (λ l. WithBasket (cond (has (drop (place + 1) ranks) (first + j)) ranks []) weight (row_at old j) l) (sym (get_or-set_other now k j row [] differ)) (with.added j below))
+      ];
+    }
       where
-        fits : start + k ≤ length now
-        fits = omega arith
+        there : has (drop place ranks) (first + k) ≡ true
+        there = later_has ranks place up here (first + k) ∙ ap (λ b. b || has (drop (place + 1) ranks) (first + k)) (eq-eqb (get_or ranks place 0) (first + k) (sym is))
 
-        at : (lesser : ℕ) → lesser < rank → get_or (put_mid start k now row) (place_of rank lesser) 0 ≡ get_or old (place_of rank lesser) 0 + cond (has (take (place + 1) ranks) rank && has ranks lesser) weight 0
-        at lesser less =
-            ap (λ n. get_or (put_mid start k now row) (n + lesser) 0) (sym begins) ∙ at_row start k now row fits long lesser (omega arith)
-            ∙ added lesser (omega (arith, row_long start k now fits))
-            ∙ ap (λ n. n + cond (has (take place ranks) lesser) weight 0) (row_at start k now lesser (omega arith) ∙ ap (λ n. get_or now (n + lesser) 0) begins ∙ untouched lesser less)
-            ∙ ap (λ b. get_or old (place_of rank lesser) 0 + cond b weight 0) (front_has ranks place lesser up here less)
-            ∙ ap (λ b. get_or old (place_of rank lesser) 0 + cond (b && has ranks lesser) weight 0)
-            (sym (has_more ranks place rank here ∙ ap (λ b. has (take place ranks) rank || b) (eq-eqb rank rank refl) ∙ or-true (has (take place ranks) rank)))
+        whole : WithBasket ranks weight (row_at old k) row
+        whole lesser below = added lesser (omega (arith, with.long k within))
+            ∙ ap (λ n. n + cond (has (take place ranks) lesser) weight 0) (as_was lesser below)
+            ∙ ap (λ b. get_or (row_at old k) lesser 0 + cond b weight 0) (front_has ranks place up here lesser (omega arith))
 
--- ---- the counts of all baskets
+pub none_added : (first weight : ℕ) (ranks : List ℕ) (rows : List (List ℕ)) → WithPairs first [] ranks weight rows rows
+none_added first weight ranks rows = record { long = λ k below. refl; added = λ k below lesser less. sym (add-zero (get_or (row_at rows k) lesser 0)) }
 
-both : (a b : Bool) → (a && b) ≡ (b && (a && true))
-both true true = refl
-both true false = refl
-both false true = refl
-both false false = refl
+-- ---- the rows, one basket after another
 
--- the counts with the supports of the pairs in some baskets added
-abbrev pub WithPairSupports : List Weighted → List ℕ → List ℕ → Type 0
-WithPairSupports baskets old new = (greater lesser : ℕ) → lesser < greater → place_of greater lesser < length old
-    → get_or new (place_of greater lesser) 0 ≡ get_or old (place_of greater lesser) 0 + support_of baskets (lesser ∷ greater ∷ [])
+pub zeros_count : (first count : ℕ) → HaveCounts [] first (map zeros (range_with_len first count))
+zeros_count first count = record { long = λ k within. ap length (is k within) ∙ length-replicate (first + k) 0; counts = λ k lesser within less. ap (λ l. get_or l lesser 0) (is k within) ∙ get_or-replicate (first + k) lesser 0 0 less }
+  where
+    is : (k : ℕ) → k < length (map zeros (range_with_len first count)) → row_at (map zeros (range_with_len first count)) k ≡ zeros (first + k)
+    is k within = get_or-map-range_with_len zeros first count k (first + k) [] (omega (arith, within, length-map-range_with_len zeros first count)) refl
 
-module _ (baskets : List Weighted) (i : ℕ) (d : Weighted) (old now : List ℕ) (here : i < length baskets) (same : length now ≡ length old) (so_far : WithPairSupports (take i baskets) old now) where
-  pub supports_more : (new : List ℕ) → WithPairs (get_or baskets i d).basket (get_or baskets i d).weight now new → WithPairSupports (take (i + 1) baskets) old new
-  supports_more new with greater lesser less within =
-      let place = get_or baskets i d in
-      let before = so_far greater lesser less within in
-      let more = sum_by_more (weight_at (lesser ∷ greater ∷ [])) baskets i d here in
-      let added = with greater lesser less (omega arith) ∙ ap (λ b. get_or now (place_of greater lesser) 0 + cond b place.weight 0) (both (has place.basket greater) (has place.basket lesser)) in
-      omega (arith, before, more, added)
+both : (a b : Bool) (ranks : List ℕ) (lesser : ℕ) → has ranks lesser ≡ b → has (cond a ranks []) lesser ≡ (b && (a && true))
+both true true ranks lesser e = e
+both true false ranks lesser e = e
+both false true ranks lesser e = refl
+both false false ranks lesser e = refl
 
-  pub supports_light : (count : ℕ) → length old ≡ length (all_pairs count) → ((k : ℕ) → k < length old → get_or old k 0 + total_of baskets ≤ MOST_WEIGHT)
-      → (k : ℕ) → k < length now → get_or now k 0 + (get_or baskets i d).weight ≤ MOST_WEIGHT
-  supports_light count long light k within =
-      let found = find_pair count k (omega arith) in
-      let place = found.place in
-      let before = so_far found.greater found.lesser found.less (omega arith) in
-      let fall = support_falls (take i baskets) (found.lesser ∷ found.greater ∷ []) [] refl in
+module _ (baskets : List Weighted) (i : ℕ) (d : Weighted) (first : ℕ) (now : List (List ℕ)) (here : i < length baskets) (have : HaveCounts (take i baskets) first now) where
+  pub counts_light : total_of baskets ≤ MOST_WEIGHT → (k lesser : ℕ) → k < length now → lesser < first + k → get_or (row_at now k) lesser 0 + (get_or baskets i d).weight ≤ MOST_WEIGHT
+  counts_light light k lesser within less =
+      let before = have.counts k lesser within less in
+      let fall = support_falls (take i baskets) (lesser ∷ (first + k) ∷ []) [] refl in
       let all = sum_by_more_le (weight_at []) baskets i d here in
-      let most = light k (omega arith) in
-      omega (arith, ap (λ p. get_or now p 0) place, ap (λ p. get_or old p 0) place, before, fall, all, most)
+      omega (arith, before, fall, all)
 
-pub have_rows : (count : ℕ) (counts basket : List ℕ) → length counts ≡ length (all_pairs count) → AllBelow count basket → HaveRows counts basket
-have_rows count counts basket long below k d here =
-    let row = row_before (get_or basket k d) count (below (get_or basket k d) (subst (λ x. IsTrue (has basket x)) (get_or_default basket k 0 d here) (has_place basket k here))) in omega arith
-
-pub supports_by_place : (baskets : List Weighted) (old new : List ℕ) → WithPairSupports baskets old new → (count : ℕ) → WithSupports (all_pairs count) baskets old new
-supports_by_place baskets old new with count k here within =
-    let found = find_pair count k here in
-    let place = found.place in
-    ap (λ p. get_or new p 0) place ∙ with found.greater found.lesser found.less (omega arith)
-    ∙ ap (λ p. get_or old p 0 + support_of baskets (found.lesser ∷ found.greater ∷ [])) (sym place)
-    ∙ ap (λ set. get_or old k 0 + support_of baskets set) (sym (pair_of count k found))
+  pub counts_more : (new : List (List ℕ)) → length new ≡ length now → WithPairs first (get_or baskets i d).basket (get_or baskets i d).basket (get_or baskets i d).weight now new
+      → HaveCounts (take (i + 1) baskets) first new
+  counts_more new same with = record {
+    long = λ k within. with.long k (omega arith) ∙ have.long k (omega arith);
+    counts = λ k lesser within less.
+        let place = get_or baskets i d in
+        let inside : k < length now = omega arith in
+        let before = have.counts k lesser inside less in
+        let more = sum_by_more (weight_at (lesser ∷ (first + k) ∷ [])) baskets i d here in
+        let added = with.added k inside lesser (omega (arith, have.long k inside))
+        ∙ ap (λ b. get_or (row_at now k) lesser 0 + cond b place.weight 0) (both (has place.basket (first + k)) (has place.basket lesser) place.basket lesser refl) in
+        omega (arith, before, more, added);
+  }
 
 -- ---- the pairs of a rank
 
--- the supports of the pairs of a rank
-module _ (baskets : List Weighted) (count : ℕ) (supports : List ℕ) (greater : ℕ) (are : AreSupports baskets count supports) (below : greater < count) where
-  pub row_within : place_of greater greater ≤ length supports
-  row_within = let row = row_before greater count below in omega (arith, row, ap length are, length-map (all_pairs count) (support_of baskets))
-
-  pub row_pairs : (least : ℕ) (row : List ℕ) → row ≡ take greater (drop (length (all_pairs greater)) supports)
-      → map (λ rank. (rank, get_or row rank 0)) (filter (λ rank. is_met least (get_or row rank 0)) (range_with_len 0 (length row))) ≡ pairs_of baskets least greater
-  row_pairs least row is = sums_are_pairs baskets least greater row (ap length is ∙ row_long (length (all_pairs greater)) greater supports row_within) (λ lesser less.
-      let within = row_before greater count below in
-      ap (λ l. get_or l lesser 0) is ∙ row_at (length (all_pairs greater)) greater supports lesser less ∙ ap (λ l. get_or l (place_of greater lesser) 0) are
-      ∙ get_or-map (support_of baskets) (all_pairs count) (place_of greater lesser) [] 0 (omega arith) ∙ ap (support_of baskets) (pair_at count greater lesser below less))
+pub row_pairs : (baskets : List Weighted) (least first : ℕ) (rows : List (List ℕ)) (k : ℕ) (row : List ℕ) → HaveCounts baskets first rows → k < length rows → row ≡ row_at rows k
+    → map (λ other. (other, get_or row other 0)) (filter (λ other. is_met least (get_or row other 0)) (range_with_len 0 (length row))) ≡ pairs_of baskets least (first + k)
+row_pairs baskets least first rows k row have within is =
+    sums_are_pairs baskets least (first + k) row (ap length is ∙ have.long k within) (λ other less. ap (λ l. get_or l other 0) is ∙ have.counts k other within less)

@@ -1,39 +1,41 @@
--- A count for each pair of ranks, first by the greater rank of a pair, then by the lesser.
-use Rattle.std.specs.Prelude.{◌≡◌, ◌<◌, ◌≤◌, ◌+◌, ◌&&◌, ℕ, List, [], ◌∷◌, All, length, map, slice_index, slice_index_or, if◌then◌else◌}
-use Rattle.std.specs.List.{flat_map, range_with_len}
+-- A count for each pair of ranks: a row for each greater rank, with a count for each lesser one.
+use Rattle.std.specs.Prelude.{◌≡◌, ◌<◌, ◌+◌, ℕ, List, [], ◌∷◌, length, map, replicate, slice_index, slice_index_or, if◌then◌else◌}
+use Rattle.std.specs.List.{range_with_len}
 use Rattle.basket_sets.specs.declared.weighted.Weighted.{Weighted}
-use Rattle.basket_sets.specs.Counts.{AllBelow}
 use Rattle.basket_sets.specs.Itemset.{has}
 use Rattle.basket_sets.specs.Support.{support_of}
+use Rattle.mine_classes.specs.declared.rank_range.RankRange.{RankRange}
+use Rattle.mine_classes.specs.Pairs.{pairs_of}
+use Rattle.mine_classes.specs.Sums.{WithBasket}
 
--- the pairs of a rank with lesser ones
-abbrev pub pairs_below : ℕ → List (List ℕ)
-pairs_below greater = map (λ lesser. lesser ∷ greater ∷ []) (range_with_len 0 greater)
+-- the ranks of a range
+abbrev pub ranks_in : RankRange → List ℕ
+ranks_in range = range_with_len range.first range.count
 
--- the pairs of ranks below a number
-abbrev pub all_pairs : ℕ → List (List ℕ)
-all_pairs count = flat_map pairs_below (range_with_len 0 count)
+-- for each of them the ranks below it that are frequent together with it, by a least support, each with the support of the pair
+abbrev pub pairs_in_range : List Weighted → ℕ → RankRange → List (List (ℕ × ℕ))
+pairs_in_range baskets least range = map (pairs_of baskets least) (ranks_in range)
 
--- the supports of all pairs of ranks below a number
-abbrev pub AreSupports : List Weighted → ℕ → List ℕ → Type 0
-AreSupports baskets count supports = supports ≡ map (support_of baskets) (all_pairs count)
+-- a count of 0 for each rank below one
+abbrev pub zeros : ℕ → List ℕ
+zeros greater = replicate greater 0
 
--- the place of a pair
-abbrev pub place_of : ℕ → ℕ → ℕ
-place_of greater lesser = length (all_pairs greater) + lesser
+abbrev pub row_at : List (List ℕ) → ℕ → List ℕ
+row_at rows k = slice_index_or rows k []
 
--- there are counts for the pairs of each of the ranks with lesser ones
-abbrev pub HaveRows : List ℕ → List ℕ → Type 0
-HaveRows counts ranks = All (λ rank. place_of rank rank ≤ length counts) ranks
+-- the rows are those of the ranks from a first one on
+abbrev pub HaveRows : ℕ → List (List ℕ) → Type 0
+HaveRows first rows = (k : ℕ) → k < length rows → length (row_at rows k) ≡ first + k
 
--- there are counts for all pairs of ranks below a number, and the baskets have only such ranks
-abbrev pub HaveCounts : List ℕ → List Weighted → Type 0
-HaveCounts counts baskets = (count : ℕ) × (length counts ≡ length (all_pairs count)) × All (λ place. AllBelow count place.basket) baskets
+-- they have the supports of the pairs in some baskets
+pub record HaveCounts (baskets : List Weighted) (first : ℕ) (rows : List (List ℕ)) : Type 0 where
+  pub long : HaveRows first rows
+  pub counts : (k lesser : ℕ) → k < length rows → lesser < first + k → slice_index (row_at rows k) lesser ≡ support_of baskets (lesser ∷ (first + k) ∷ [])
 
--- the counts with a weight added at each pair of ranks of a basket
-abbrev pub WithPairs : List ℕ → ℕ → List ℕ → List ℕ → Type 0
-WithPairs basket weight old new = (greater lesser : ℕ) → lesser < greater → place_of greater lesser < length old
-    → slice_index new (place_of greater lesser) ≡ slice_index old (place_of greater lesser) + (if has basket greater && has basket lesser then weight else 0)
+-- the rows with a weight added for the pairs of some greater ranks with each of some lesser ones
+pub record WithPairs (first : ℕ) (greater lesser : List ℕ) (weight : ℕ) (old new : List (List ℕ)) : Type 0 where
+  pub long : (k : ℕ) → k < length old → length (row_at new k) ≡ length (row_at old k)
+  pub added : (k : ℕ) → k < length old → WithBasket (if has greater (first + k) then lesser else []) weight (row_at old k) (row_at new k)
 
 -- the counts of some sets with their supports in some baskets added
 abbrev pub WithSupports : List (List ℕ) → List Weighted → List ℕ → List ℕ → Type 0

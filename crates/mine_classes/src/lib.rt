@@ -18,6 +18,7 @@ pub mod laws;
 mod pairs;
 mod paths;
 mod places;
+mod rank_range;
 mod room;
 mod runs;
 mod shift;
@@ -29,12 +30,13 @@ pub mod worked;
 
 pub use conditional::{Conditional, ranks_of};
 pub use pairs::{
-    frequent_pairs, is_small_triangle, pairs_by_triangle, pays_for_classes, runs_keeping,
+    frequent_pairs, is_small_triangle, least_support, pays_for_classes, runs_keeping,
     runs_with_least,
 };
 pub use paths::Paths;
 pub use places::Places;
+pub use rank_range::RankRange;
 pub use runs::Runs;
 pub use sums::Sums;
 pub use tables::Tables;
-pub use triangle::{add_pairs, pair_count, pairs_of_supports};
+pub use triangle::{pair_count, pairs_of_range};

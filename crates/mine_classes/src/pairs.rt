@@ -1,11 +1,13 @@
 //! The frequent pairs of ranks, without a list of all pairs.
 ghost use Rattle.std.specs.Prelude.{◌≡◌, ◌<◌, ◌≤◌, ◌↔◌, ◌*◌, ◌/◌, ℕ, List, IfOk, IsTrue, length};
-ghost use Rattle.basket_sets.specs.Support.{support_of};
+ghost use Rattle.basket_sets.specs.Minimum.{IsLeastSupport};
+ghost use Rattle.basket_sets.specs.Support.{support_of, total_of};
 ghost use Rattle.mine_classes.specs.Pairs.{ArePairs, lists_of, pairs_by_greater};
 
+use crate::rank_range::RankRange;
 use crate::runs::Runs;
 use crate::sums::Sums;
-use crate::triangle::{add_pairs, pair_count, pairs_of_supports};
+use crate::triangle::pairs_of_range;
 use basket_ranks::Coded;
 use mine_baskets::ListBaskets;
 use std::alloc::{AllocError, Global};
@@ -20,7 +22,11 @@ pub fn frequent_pairs(alloc: Global, coded: &Coded) -> Result<Vec<Vec<(u32, u64)
     ensures { IfOk result (λ lists. ArePairs coded.now (lists_of lists.items)) }
 {
     if is_small_triangle(coded.ranks(), coded.baskets().len()) {
-        return pairs_by_triangle(alloc, coded);
+        let range = RankRange {
+            first: 0,
+            count: coded.ranks(),
+        };
+        return pairs_of_range(alloc, coded, range, least_support(coded));
     }
     let (runs, least) = runs_with_least(alloc, coded)?;
     pairs_by_runs(alloc, &runs, least)
@@ -30,11 +36,17 @@ pub fn frequent_pairs(alloc: Global, coded: &Coded) -> Result<Vec<Vec<(u32, u64)
 pub fn runs_with_least(alloc: Global, coded: &Coded) -> Result<(Runs, u64), AllocError>
     ensures { IfOk result (λ found. ArePairs coded.now (pairs_by_greater found.0.baskets found.1 found.0.ranks)) }
 {
+    let runs = Runs::of(alloc, ListBaskets::of_coded(alloc, coded)?)?;
+    Ok((runs, least_support(coded)))
+}
+
+/// The least support that meets the minimum of a coding.
+pub fn least_support(coded: &Coded) -> u64
+    ensures { IsLeastSupport coded.now.minimum (total_of coded.now.baskets) result }
+{
     // The baskets of a coding are light enough for a least support.
     let _ = coded.baskets();
-    let least = coded.minimum().least(coded.total());
-    let runs = Runs::of(alloc, ListBaskets::of_coded(alloc, coded)?)?;
-    Ok((runs, least))
+    coded.minimum().least(coded.total())
 }
 
 /// The runs of the coded baskets, which keep the frequent pairs of each rank, or none if none are
@@ -44,9 +56,7 @@ pub fn runs_keeping(coded: &Coded, mut runs: Runs, pairs: Vec<Vec<(u32, u64)>>) 
     requires pairs { 0 < length pairs.items → ArePairs coded.now (lists_of pairs.items) }
     ensures { result ≡ runs }
 {
-    // The baskets of a coding are light enough for a least support.
-    let _ = coded.baskets();
-    runs.keep_pairs(pairs, coded.minimum().least(coded.total()));
+    runs.keep_pairs(pairs, least_support(coded));
     runs
 }
 
@@ -65,15 +75,6 @@ pub fn is_small_triangle(ranks: u32, baskets: usize) -> bool
 {
     let ranks = u64::from(ranks);
     ranks * ranks / 2 <= (baskets as u64).saturating_mul(16)
-}
-
-/// The frequent pairs of each rank, from a count for each pair of ranks.
-pub fn pairs_by_triangle(alloc: Global, coded: &Coded) -> Result<Vec<Vec<(u32, u64)>>, AllocError>
-    ensures { IfOk result (λ lists. ArePairs coded.now (lists_of lists.items)) }
-{
-    let mut counts = vec![in alloc; 0; pair_count(coded.ranks())]?;
-    add_pairs(&mut counts, coded.baskets());
-    pairs_of_supports(alloc, coded, &counts)
 }
 
 /// The frequent pairs of each rank, from the runs of the baskets, one rank after another.

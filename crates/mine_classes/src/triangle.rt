@@ -1,43 +1,83 @@
-//! A count for each pair of ranks.
-ghost use Rattle.std.specs.Prelude.{◌≡◌, ◌<◌, ◌≤◌, ◌+◌, ◌-◌, ◌*◌, ◌/◌, ◌^◌, ℕ, IfOk, filter, length, map, slice_index};
-ghost use Rattle.std.specs.List.{range_with_len};
-ghost use Rattle.basket_ranks.specs.Codes.{IsCoding};
+//! A count for each pair of ranks whose greater rank is in a range.
+ghost use Rattle.std.specs.Prelude.{◌≡◌, ◌<◌, ◌≤◌, ◌+◌, ◌-◌, ◌*◌, ◌/◌, ◌^◌, ℕ, [], IfOk, length, map, slice_index};
 ghost use Rattle.basket_sets.specs.Counts.{AllBelow};
 ghost use Rattle.basket_sets.specs.Database.{MOST_WEIGHT};
 ghost use Rattle.basket_sets.specs.Itemset.{IsRising};
 ghost use Rattle.basket_sets.specs.Support.{total_of};
-ghost use Rattle.mine_classes.specs.Sums.{WithBasket, is_met};
-ghost use Rattle.mine_classes.specs.Pairs.{ArePairs, lists_of};
-ghost use Rattle.mine_classes.specs.Triangle.{WithSupports, AreSupports, HaveCounts, HaveRows, WithPairs, all_pairs};
+ghost use Rattle.mine_classes.specs.Pairs.{lists_of};
+ghost use Rattle.mine_classes.specs.Sums.{WithBasket};
+ghost use Rattle.mine_classes.specs.Triangle.{HaveCounts, HaveRows, WithPairs, pairs_in_range, ranks_in, row_at, zeros};
 
+use crate::rank_range::RankRange;
 use crate::sums::met_in_order;
 use basket_ranks::Coded;
 use basket_sets::Weighted;
 use std::alloc::{AllocError, Global};
 
-/// Adds the supports of all pairs of ranks in some more baskets to counts, which are ordered first
-/// by the greater rank of a pair, then by the lesser.
-pub fn add_pairs(counts: &mut [u64], baskets: &[Weighted])
-    requires below { HaveCounts counts.old baskets.now }
-    requires light { (k : ℕ) → k < length counts.old → slice_index counts.old k + total_of baskets.now ≤ MOST_WEIGHT }
-    ensures { (count : ℕ) → WithSupports (all_pairs count) baskets.now counts.old counts.new }
+/// How many pairs this many ranks make.
+pub fn pair_count(ranks: u32) -> usize
+    ensures number { result ≡ ranks * (ranks - 1) / 2 }
+{
+    let ranks = ranks as usize;
+    ranks * ranks.saturating_sub(1) / 2
+}
+
+/// For each rank of a range the ranks below it that are frequent together with it, by a least
+/// support, rising, each with the support of the pair.
+pub fn pairs_of_range(
+    alloc: Global,
+    coded: &Coded,
+    range: RankRange,
+    least: u64,
+) -> Result<Vec<Vec<(u32, u64)>>, AllocError>
+    ensures { IfOk result (λ lists. lists_of lists.items ≡ pairs_in_range coded.now.baskets least range) }
+{
+    let mut rows = no_counts(alloc, range)?;
+    count_pairs(&mut rows, range.first, coded.baskets());
+    let mut lists = Vec::with_capacity(alloc, rows.len())?;
+    for row in &rows {
+        lists.push(met_in_order(alloc, row, least)?)?;
+    }
+    Ok(lists)
+}
+
+/// A row for each rank of a range, which has a count of 0 for each lesser rank.
+fn no_counts(alloc: Global, range: RankRange) -> Result<Vec<Vec<u64>>, AllocError>
+    ensures { IfOk result (λ rows. lists_of rows.items ≡ map zeros (ranks_in range)) }
+{
+    let mut rows = Vec::with_capacity(alloc, range.count as usize)?;
+    for number in 0..range.count {
+        rows.push(vec![in alloc; 0; (range.first + number) as usize]?)?;
+    }
+    Ok(rows)
+}
+
+/// Counts the pairs of ranks of some baskets whose greater ranks have rows, from a first one on.
+fn count_pairs(rows: &mut [Vec<u64>], first: u32, baskets: &[Weighted])
+    requires none { HaveCounts [] first (lists_of rows.old) }
+    requires light { total_of baskets.now ≤ MOST_WEIGHT }
+    ensures { HaveCounts baskets.now first (lists_of rows.new) }
 {
     for place in baskets {
-        count_basket(counts, place.basket.items(), place.weight);
+        count_basket(rows, first, place.basket.items(), place.weight);
     }
 }
 
-/// Adds a weight at each pair of ranks of a basket.
-fn count_basket(counts: &mut [u64], ranks: &[u32], weight: u64)
+/// Adds a weight for each pair of ranks of a basket whose greater rank has a row.
+fn count_basket(rows: &mut [Vec<u64>], first: u32, ranks: &[u32], weight: u64)
     requires rises { IsRising ranks.now }
-    requires rows { HaveRows counts.old ranks.now }
-    requires light { (k : ℕ) → k < length counts.old → slice_index counts.old k + weight ≤ MOST_WEIGHT }
-    ensures { WithPairs ranks.now weight counts.old counts.new }
+    requires rows { HaveRows first (lists_of rows.old) }
+    requires light { (k lesser : ℕ) → k < length rows.old → lesser < first + k → slice_index (row_at (lists_of rows.old) k) lesser + weight ≤ MOST_WEIGHT }
+    ensures { WithPairs first ranks.now ranks.now weight (lists_of rows.old) (lists_of rows.new) }
 {
-    for (place, rank) in ranks.iter().enumerate() {
-        let start = pair_count(*rank);
-        let end = start + *rank as usize;
-        count_below(&mut counts[start..end], &ranks[..place], weight);
+    for place in (0..ranks.len()).rev() {
+        if ranks[place] < first {
+            break;
+        }
+        let row = (ranks[place] - first) as usize;
+        if row < rows.len() {
+            count_below(&mut rows[row], &ranks[..place], weight);
+        }
     }
 }
 
@@ -51,36 +91,4 @@ fn count_below(row: &mut [u64], ranks: &[u32], weight: u64)
     for rank in ranks {
         row[*rank as usize] += weight;
     }
-}
-
-/// How many pairs this many ranks make.
-pub fn pair_count(ranks: u32) -> usize
-    ensures number { result ≡ ranks * (ranks - 1) / 2 }
-    ensures pairs { result ≡ length (all_pairs ranks) }
-{
-    let ranks = ranks as usize;
-    ranks * ranks.saturating_sub(1) / 2
-}
-
-/// For each rank the ranks below it that are frequent together with it, rising, each with the
-/// support of the pair, from the supports of all pairs, first by the greater rank, then by the
-/// lesser.
-pub fn pairs_of_supports(
-    alloc: Global,
-    coded: &Coded,
-    supports: &[u64],
-) -> Result<Vec<Vec<(u32, u64)>>, AllocError>
-    requires coding { IsCoding coded.now }
-    requires supports { AreSupports coded.now.baskets (length coded.now.items) supports.now }
-    ensures { IfOk result (λ lists. ArePairs coded.now (lists_of lists.items)) }
-{
-    let least = coded.minimum().least(coded.total());
-    let mut lists = Vec::with_capacity(alloc, coded.ranks() as usize)?;
-    let mut later = supports;
-    for rank in 0..coded.ranks() {
-        let (row, rest) = later.split_at(rank as usize);
-        lists.push(met_in_order(alloc, row, least)?)?;
-        later = rest;
-    }
-    Ok(lists)
 }

@@ -1,5 +1,5 @@
 -- Sets of one size have items.
-use Rattle.std.proofs.Common.{◌≡◌, ◌≤◌, ◌<◌, ℕ, Bool, true, List, [], ◌∷◌, length, filter, cond, refl, ap, ◌∙◌, arith, suc}
+use Rattle.std.proofs.Common.{◌≡◌, ◌≤◌, ℕ, true, List, [], ◌∷◌, length, filter, cond, refl, arith, suc}
 use Rattle.mine_apriori.specs.Extensions.{is_some}
 use Rattle.mine_apriori.specs.Sizes.{AreOfOneSize, AreOfSize}
 

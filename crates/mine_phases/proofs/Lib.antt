@@ -4,6 +4,7 @@ mod Parts
 mod Shares
 mod SupportLemmas
 mod Numbers
+mod RangeLemmas
 mod Ranks
 mod Sharing
 mod LevelLemmas

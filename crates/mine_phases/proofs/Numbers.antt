@@ -11,7 +11,7 @@ use Rattle.mine_phases.specs.Share.{numbers_of}
 
 -- ---- numbers one after another
 
-range_split : (a m n : ℕ) → range_with_len a (m + n) ≡ range_with_len a m ++ range_with_len (a + m) n
+pub range_split : (a m n : ℕ) → range_with_len a (m + n) ≡ range_with_len a m ++ range_with_len (a + m) n
 range_split a zero n =
     let e : zero + n ≡ n = omega arith in
     let f : a ≡ a + zero = omega arith in ap (range_with_len a) e ∙ ap (λ b. range_with_len b n) f

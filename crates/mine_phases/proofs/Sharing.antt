@@ -1,5 +1,5 @@
 -- What all workers of a phase of classes have told and mined together.
-use Rattle.std.proofs.Common.{◌≡◌, ◌≤◌, ◌<◌, ◌+◌, ◌-◌, ◌*◌, ◌^◌, ◌++◌, ◌⊎◌, ℕ, suc, zero, List, [], ◌∷◌, map, fold, get_or, length, Option, Some, None, Ok, Err, Result, refl, cond, ap, sym, ◌∙◌, subst, inl, inr, arith, zero-add}
+use Rattle.std.proofs.Common.{◌≡◌, ◌≤◌, ◌<◌, ◌+◌, ◌-◌, ◌*◌, ◌^◌, ◌⊎◌, ℕ, suc, zero, List, [], ◌∷◌, map, fold, get_or, length, Option, Some, None, Ok, Err, Result, cond, ap, sym, ◌∙◌, subst, inl, inr, arith, zero-add}
 use Rattle.std.specs.Prelude.{◌==◌, All, IsPermutation, Vec, slice_index}
 use Rattle.std.specs.Global.{Global}
 use Rattle.std.specs.List.{flat_map, range_with_len, sum, sum_by}

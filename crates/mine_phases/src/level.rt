@@ -17,8 +17,6 @@ use std::thread::Threads;
 impl SupportCounter for RowCounter<'_> {
     ghost sets_of = { λ counter. counter };
 
-    ghost can_count = { λ counter basket. Unit {0} };
-
     fn len(&self) -> usize {
         RowCounter::len(self)
     }

@@ -4,8 +4,8 @@
 //!
 //! A `phase` either finds a value for each part that its `pieces` have, or adds `supports` to
 //! counters that its workers share. `counting` counts the items. Of `apriori`, `triangle` counts
-//! the pairs of few ranks, `pairs` finds the frequent pairs of many, and `level` counts the
-//! candidates of a level. `runs` prepares what `classes` mines class by class with a `class_miner`,
+//! the pairs of few ranks, over `ranges` of them, `pairs` finds the frequent pairs of many, and
+//! `level` counts the candidates of a level. `runs` prepares what `classes` mines class by class with a `class_miner`,
 //! whose sets are reported to a `round_tally`. `share` is what a worker hands back, `placed` puts
 //! values in their order, and workers pass a `gate` with each piece.
 #![tactic(auto)]
@@ -22,6 +22,7 @@ mod pairs;
 mod phase;
 mod pieces;
 mod placed;
+mod ranges;
 mod round_tally;
 mod runs;
 mod share;

@@ -1,5 +1,5 @@
 //! Phases that count the supports of sets, each of which has a counter that the workers share.
-ghost use Rattle.std.specs.Prelude.{◌≡◌, ◌≤◌, ◌<◌, ◌+◌, ℕ, List, All, IfOk, OnOk, length, map, slice_index};
+ghost use Rattle.std.specs.Prelude.{◌≡◌, ◌≤◌, ◌<◌, ◌+◌, ℕ, List, IfOk, OnOk, length, map, slice_index};
 ghost use Rattle.basket_sets.specs.Database.{MOST_WEIGHT};
 ghost use Rattle.basket_sets.specs.Support.{support_of, total_of};
 ghost use Rattle.mine_classes.specs.Triangle.{WithSupports};
@@ -25,16 +25,12 @@ pub trait SupportCounter {
     // The sets, in the order of their counts.
     ghost sets_of: { Self → List (List ℕ) };
 
-    // Whether it can count a basket.
-    ghost can_count: { Self → List ℕ → Type 0 };
-
     /// How many sets there are.
     fn len(&self) -> usize
         ensures { result ≡ length (sets_of self.now) };
 
     /// Adds the support of each set in the baskets to its count.
     fn add(&self, alloc: Global, baskets: &[Weighted], counts: &mut [u64]) -> Result<(), AllocError>
-        requires can { All (λ place. can_count self.now place.basket) baskets.now }
         requires long { length counts.old ≡ length (sets_of self.now) }
         requires light { (k : ℕ) → k < length counts.old → slice_index counts.old k + total_of baskets.now ≤ MOST_WEIGHT }
         ensures { OnOk result (WithSupports (sets_of self.now) baskets.now counts.old counts.new) };
@@ -57,7 +53,6 @@ impl<C: SupportCounter, G: Gate> Counting<'_, '_, '_, '_, C, G> {
         requires unused { seat.held ≡ unused 1 (length (C.sets_of self.now.counter.now)) }
         requires pieces { self.now.round.now.pieces ≡ self.now.phase.now.cutting.pieces }
         requires counters { self.now.round.now.counters ≡ length (C.sets_of self.now.counter.now) }
-        requires can { All (λ place. C.can_count self.now.counter.now place.basket) self.now.baskets.now }
         requires light { total_of self.now.baskets.now ≤ MOST_WEIGHT }
         ensures { IsSupportShare self.now.round.now self.now.baskets.now self.now.phase.now.cutting.pieces (C.sets_of self.now.counter.now) result }
     {
@@ -78,7 +73,6 @@ impl<C: SupportCounter, G: Gate> Counting<'_, '_, '_, '_, C, G> {
         requires unused { seat.old.held ≡ unused 1 (length (C.sets_of self.now.counter.now)) }
         requires pieces { self.now.round.now.pieces ≡ self.now.phase.now.cutting.pieces }
         requires counters { self.now.round.now.counters ≡ length (C.sets_of self.now.counter.now) }
-        requires can { All (λ place. C.can_count self.now.counter.now place.basket) self.now.baskets.now }
         requires light { total_of self.now.baskets.now ≤ MOST_WEIGHT }
         ensures own { seat.new.round ≡ seat.old.round }
         ensures added { IfOk result (λ _. AddsSupports self.now.baskets.now self.now.phase.now.cutting.pieces (C.sets_of self.now.counter.now) seat.new) }
@@ -104,7 +98,6 @@ pub fn count_supports<'b, 'c, 'p, R: Threads + Sync, G: Gate + Sync, C: SupportC
     counter: &'c C,
     phase: &Phase<'p, G>,
 ) -> Result<Vec<u64>, AllocError>
-    requires can { All (λ place. C.can_count counter.now place.basket) baskets.now }
     requires light { total_of baskets.now ≤ MOST_WEIGHT }
     ensures { IfOk result (λ supports. supports.items ≡ map (support_of baskets.now) (C.sets_of counter.now)) }
 {
@@ -125,7 +118,7 @@ pub fn count_supports<'b, 'c, 'p, R: Threads + Sync, G: Gate + Sync, C: SupportC
         &|job: (u32, RoundSeat)| -> Share<()>
             requires { (job.1.round ≡ lent.now.round.now.id) × (job.1.held ≡ unused 1 (length (C.sets_of lent.now.counter.now)))
                 × (lent.now.round.now.pieces ≡ lent.now.phase.now.cutting.pieces) × (lent.now.round.now.counters ≡ length (C.sets_of lent.now.counter.now))
-                × All (λ place. C.can_count lent.now.counter.now place.basket) lent.now.baskets.now × (total_of lent.now.baskets.now ≤ MOST_WEIGHT) }
+                × (total_of lent.now.baskets.now ≤ MOST_WEIGHT) }
             ensures { IsSupportShare lent.entry.now.round.now lent.entry.now.baskets.now lent.entry.now.phase.now.cutting.pieces (C.sets_of lent.entry.now.counter.now) result }
         { lent.share(alloc, job.0, job.1) },
     )?;

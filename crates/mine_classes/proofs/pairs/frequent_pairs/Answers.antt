@@ -1,7 +1,16 @@
-use Rattle.std.proofs.Common.{subst, sym}
+use Rattle.std.proofs.Common.{subst, sym, ap, ◌∙◌}
 use Rattle.std.proofs.lemmas.Result.{IfOk-weaker}
-use Rattle.mine_classes.specs.Pairs.{ArePairs, lists_of}
+use Rattle.mine_classes.specs.Pairs.{ArePairs, lists_of, pairs_by_greater}
 use Rattle.mine_classes.proofs.pairs.frequent_pairs.Goals as goal
+
+pub returns-then-is_small_triangle : goal.returns-then-is_small_triangle
+returns-then-is_small_triangle c =
+    IfOk-weaker c.pairs_of_range.result _ (λ lists. ArePairs c.args.coded.now (lists_of lists.items))
+    (λ lists is. record {
+      least = c.least_support.result;
+      settles = c.least_support.ensures;
+      pairs = is ∙ ap (pairs_by_greater c.args.coded.now.baskets c.least_support.result) c.ranks-then-is_small_triangle.ensures;
+    }) c.pairs_of_range.ensures
 
 pub returns : goal.returns
 returns c =

@@ -1,6 +1,5 @@
-use Rattle.std.proofs.Common.{◌≡◌, ℕ, List, subst, ap, ◌∙◌}
-use Rattle.basket_sets.specs.Minimum.{IsLeastSupport}
-use Rattle.basket_sets.specs.Support.{support_of, total_of}
+use Rattle.std.proofs.Common.{◌≡◌, ℕ, List, ap, ◌∙◌}
+use Rattle.basket_sets.specs.Support.{support_of}
 use Rattle.mine_baskets.specs.ListBaskets.{RankBaskets}
 use Rattle.mine_classes.specs.Pairs.{pairs_by_greater}
 use Rattle.mine_classes.proofs.PairLemmas.{same_pairs}
@@ -9,15 +8,13 @@ use Rattle.mine_classes.proofs.pairs.runs_with_least.Goals as goal
 pub returns : goal.returns
 returns c =
     let coding = c.args.coded.now in
-    let least = c.least-least.result in
-    let settles : IsLeastSupport coding.minimum (total_of coding.baskets) least = subst (λ m. IsLeastSupport m (total_of coding.baskets) least) c.minimum.ensures
-    (subst (λ n. IsLeastSupport c.minimum.result n least) c.total.ensures c.least-least.ensures) in
+    let least = c.least_support.result in
     let runs = c.in_ok-runs.runs in
     let made : runs ≡ c.in_ok-of_coded.field-0 = c.in_ok-runs.ensures in
     let same : (set : List ℕ) → support_of runs.baskets set ≡ support_of coding.baskets set =
     λ set. ap (λ (o : RankBaskets). support_of o.baskets set) made ∙ c.in_ok-of_coded.ensures.supports set in
     record {
       least = least;
-      settles = settles;
+      settles = c.least_support.ensures;
       pairs = same_pairs runs.baskets coding.baskets least runs.ranks same ∙ ap (pairs_by_greater coding.baskets least) (ap (λ (o : RankBaskets). o.ranks) made ∙ c.in_ok-of_coded.ensures.ranks);
     }

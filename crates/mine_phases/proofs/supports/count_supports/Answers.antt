@@ -16,7 +16,6 @@ by_workers-requires-clause-accepted g c κs within i seat below is =
       ap (λ (s : SeatView). s.held) is ∙ fresh.1 ∙ ap (unused 1) long,
       c.in_ok-round.ensures.round.0,
       c.in_ok-round.ensures.round.1 ∙ long,
-      c.requires.can,
       c.requires.light,
     )
 

@@ -1,7 +1,5 @@
 use Rattle.std.proofs.Common.{◌≡◌, ap, sym, ◌∙◌, refl, subst, arith, length, get_or, replicate, slice_index, []}
 use Rattle.std.proofs.lemmas.List.{take_at}
-use Rattle.std.proofs.lemmas.List.Elements.{All-drop, All-take}
-use Rattle.basket_sets.specs.declared.weighted.Weighted.{Weighted}
 use Rattle.basket_sets.specs.Support.{support_of, total_of}
 use Rattle.mine_phases.proofs.Claims.{behind, behind-le, behind_push}
 use Rattle.mine_phases.proofs.Parts.{part_is}
@@ -19,11 +17,6 @@ loop-piece-init g c =
       counted = subst (λ claimed. HasAdded c.args.self.now.baskets.now pieces sets claimed c.in_ok-counts.counts.items) (sym (ap (λ h. h.claimed) c.requires.unused))
           (subst (HasAdded c.args.self.now.baskets.now pieces sets []) (sym (c.in_ok-counts.ensures.items_if_clones_equal (λ y e. e) ∙ ap (λ n. replicate n 0) c.len.ensures)) (nothing_added c.args.self.now.baskets.now pieces sets));
     }
-
-pub add-requires-clause-can : goal.add-requires-clause-can
-add-requires-clause-can g c =
-    let Can : Weighted → Type 0 = λ place. g.C.SupportCounter.can_count c.args.self.now.counter.now place.basket in
-    All-take Can _ _ (All-drop Can c.shard-start.result.0 c.args.self.now.baskets.now c.requires.can)
 
 pub add-requires-clause-light : goal.add-requires-clause-light
 add-requires-clause-light g c k below =

@@ -1,0 +1,42 @@
+-- Ranges of ranks, and the pairs of all.
+use Rattle.std.proofs.Common.{◌≡◌, ℕ, ◌+◌, ◌++◌, List, [], ◌∷◌, map, get_or, length, refl, sym, ap, ◌∙◌, append-nil, zero-add}
+use Rattle.std.specs.declared.alloc.Global.{Global}
+use Rattle.std.specs.declared.vec.Vec.{Vec}
+use Rattle.std.specs.List.{flat_map, range_with_len}
+use Rattle.std.proofs.lemmas.List.{length-map, map-append}
+use Rattle.std.proofs.lemmas.List.Concat.{flat_map-append, flat_map-cons}
+use Rattle.std.proofs.lemmas.List.Folds.{flat_map-map}
+use Rattle.std.proofs.lemmas.List.FromFn.{fill_by_all}
+use Rattle.basket_sets.specs.declared.weighted.Weighted.{Weighted}
+use Rattle.mine_classes.specs.declared.rank_range.RankRange.{RankRange}
+use Rattle.mine_classes.specs.Pairs.{lists_of, pairs_by_greater, pairs_of}
+use Rattle.mine_classes.specs.Triangle.{pairs_in_range, ranks_in}
+use Rattle.mine_phases.specs.Pieces.{HasEach}
+use Rattle.mine_phases.specs.Ranges.{AreRanges}
+use Rattle.mine_phases.proofs.Numbers.{range_split}
+use Rattle.mine_phases.proofs.Parts.{entries_by_part}
+
+pub range_pushed : (ranges : List RankRange) (range : RankRange) (end : ℕ) → flat_map ranks_in ranges ≡ range_with_len 0 range.first → range.first + range.count ≡ end
+    → flat_map ranks_in (ranges ++ range ∷ []) ≡ range_with_len 0 end
+range_pushed ranges range end so_far ends =
+    flat_map-append ranks_in ranges (range ∷ []) ∙ ap (λ l. flat_map ranks_in ranges ++ l) (append-nil (ranks_in range))
+    ∙ ap (λ l. l ++ ranks_in range) so_far ∙ ap (λ n. range_with_len 0 range.first ++ range_with_len n range.count) (sym (zero-add range.first))
+    ∙ sym (range_split 0 range.first range.count) ∙ ap (range_with_len 0) ends
+
+map_flat : {X Y Z : Type 0} (f : Y → Z) (g : X → List Y) (xs : List X) → map f (flat_map g xs) ≡ flat_map (λ x. map f (g x)) xs
+map_flat f g [] = refl
+map_flat f g (x ∷ xs) =
+    ap (map f) (flat_map-cons g x xs) ∙ map-append f (g x) (flat_map g xs) ∙ ap (λ l. map f (g x) ++ l) (map_flat f g xs) ∙ sym (flat_map-cons (λ y. map f (g y)) x xs)
+
+-- the pairs of the ranges, one after another, are those of all ranks
+module _ (baskets : List Weighted) (least ranks : ℕ) (ranges : List RankRange) (values : List (Vec (Vec (ℕ × ℕ) Global) Global)) where
+  pub pairs_joined : AreRanges ranks ranges → HasEach (λ part lists. lists_of lists.items ≡ get_or (map (pairs_in_range baskets least) ranges) part []) (length ranges) values
+      → lists_of (flat_map (λ lists. lists.items) values) ≡ pairs_by_greater baskets least ranks
+  pairs_joined are has =
+      let of_range = pairs_in_range baskets least in
+      let each = entries_by_part (λ (lists : Vec (Vec (ℕ × ℕ) Global) Global). lists_of lists.items) (λ part. get_or (map of_range ranges) part []) (length ranges) values has
+      ∙ sym (fill_by_all (λ part. get_or (map of_range ranges) part []) (map of_range ranges) (length ranges) [] (length-map ranges of_range) (λ part below. refl)) in
+      map_flat (λ (list : Vec (ℕ × ℕ) Global). list.items) (λ (lists : Vec (Vec (ℕ × ℕ) Global) Global). lists.items) values
+      ∙ sym (flat_map-map (λ (l : List (List (ℕ × ℕ))). l) (λ (lists : Vec (Vec (ℕ × ℕ) Global) Global). lists_of lists.items) values)
+      ∙ ap (flat_map (λ (l : List (List (ℕ × ℕ))). l)) each ∙ flat_map-map (λ (l : List (List (ℕ × ℕ))). l) of_range ranges
+      ∙ sym (map_flat (pairs_of baskets least) ranks_in ranges) ∙ ap (map (pairs_of baskets least)) are.whole

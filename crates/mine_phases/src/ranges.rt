@@ -1,0 +1,75 @@
+//! The ranks as ranges whose pairs take about equally long to count.
+ghost use Rattle.std.specs.Prelude.{◌≤◌, ◌^◌, ◌<◌, ◌≡◌, All, IfOk, length};
+ghost use Rattle.basket_sets.specs.Counts.{AllBelow};
+ghost use Rattle.mine_phases.specs.Ranges.{AreRanges};
+
+use basket_core::{Coded, Weighted};
+use mine_classes::RankRange;
+use std::alloc::{AllocError, Global};
+
+/// About this many baskets show how long the pairs of each rank take.
+const SAMPLE: usize = 4_096;
+
+/// All ranks, as at most this many ranges. To count the pairs of a rank with lesser ones takes as
+/// many steps as such ranks stand before it in the baskets, and one for each basket that has it.
+/// Each range but the last has a little more than its share of the steps in a sample.
+pub fn ranges_of(alloc: Global, coded: &Coded, parts: u32) -> Result<Vec<RankRange>, AllocError>
+    requires { 1 ≤ parts }
+    ensures ranges { IfOk result (λ ranges. AreRanges (length coded.now.items) ranges.items) }
+    ensures few { IfOk result (λ ranges. length ranges.items < 2 ^ 32) }
+{
+    let mut steps = vec![in alloc; 0; coded.ranks() as usize]?;
+    if parts > 1 {
+        add_sample(&mut steps, coded.baskets());
+    }
+    let total = steps
+        .iter()
+        .fold(0u64, |total, some| total.saturating_add(*some));
+    cut(alloc, &steps, total / u64::from(parts))
+}
+
+/// Adds the steps that each rank takes in some of the baskets.
+fn add_sample(steps: &mut [u64], baskets: &[Weighted])
+    requires { All (λ place. AllBelow (length steps.old) place.basket) baskets.now }
+{
+    let apart = baskets.len() / SAMPLE + 1;
+    for number in 0..SAMPLE {
+        if let Some(place) = baskets.get(number.saturating_mul(apart)) {
+            add_basket(steps, place.basket.items());
+        }
+    }
+}
+
+/// Adds the steps that each rank of a basket takes in it.
+fn add_basket(steps: &mut [u64], ranks: &[u32])
+    requires { AllBelow (length steps.old) ranks.now }
+{
+    for (place, rank) in ranks.iter().enumerate() {
+        let some = &mut steps[*rank as usize];
+        *some = some.saturating_add(place as u64 + 1);
+    }
+}
+
+/// All ranks as ranges. Each except the last takes more than this many steps, and would not
+/// without its last rank.
+fn cut(alloc: Global, steps: &[u64], share: u64) -> Result<Vec<RankRange>, AllocError>
+    requires { length steps.now < 2 ^ 32 }
+    ensures { IfOk result (λ ranges. AreRanges (length steps.now) ranges.items) }
+{
+    let mut ranges = Vec::new(alloc);
+    let mut first = 0;
+    let mut sum = 0u64;
+    for (rank, some) in steps.iter().enumerate() {
+        sum = sum.saturating_add(*some);
+        if sum > share || rank + 1 == steps.len() {
+            let end = rank as u32 + 1;
+            ranges.push(RankRange {
+                first,
+                count: end - first,
+            })?;
+            first = end;
+            sum = 0;
+        }
+    }
+    Ok(ranges)
+}
