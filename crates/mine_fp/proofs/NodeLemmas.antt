@@ -1,130 +1,112 @@
--- Nodes of a tree and their paths.
-use Rattle.std.proofs.Common.{◌≡◌, ◌≢◌, ℕ, ◌+◌, ◌-◌, ◌<◌, ◌≤◌, List, [], ◌∷◌, ◌++◌, length, get_or, set, Option, Some, None, refl, sym, ap, ◌∙◌, subst, inl, inr, arith}
-use Rattle.std.specs.List.{Contains}
-use Rattle.std.proofs.lemmas.Bool.{cases_lt}
-use Rattle.std.proofs.lemmas.List.{get_or_append_left, get_or-append_right, get_or_default, get_or-map, length-append, map-append}
-use Rattle.std.proofs.lemmas.List.Sums.{fold-append}
-use Rattle.std.proofs.Math.Seq.{map-set_same}
+-- Nodes of a tree, where a path is added.
+use Rattle.std.proofs.Common.{◌≡◌, ℕ, ◌+◌, ◌-◌, ◌<◌, ◌≤◌, ◌&&◌, true, false, List, [], ◌∷◌, ◌++◌, length, get_or, map, replicate, set, take, drop, zero, suc, cond, eqb, max, refl, sym, ap, ◌∙◌, subst, inl, inr, arith}
+use Rattle.std.specs.List.{common_prefix_len, range_with_len}
+use Rattle.std.proofs.lemmas.Bool.{and_from, cases_Bool, true≢false}
+use Rattle.std.proofs.lemmas.List.{append_assoc, drop_at, drop-append-le, get_or-append_right, get_or-drop, get_or_default, length-append, length-drop, length-map, length-take-le, map_push, replicate_more, take-append-le, take_more}
+use Rattle.std.proofs.lemmas.List.Edits.{map_over_more}
+use Rattle.std.proofs.lemmas.List.Elements.{All-head, All-push, All-tail}
+use Rattle.std.proofs.lemmas.List.FromFn.{map-range_with_len_more}
 use Rattle.mine_fp.specs.declared.tree.Node.{Node}
-use Rattle.mine_fp.specs.Tree.{AreLinked, IsBefore, first_number, link_of, links_of, path_above, paths_of, with_path}
+use Rattle.mine_fp.specs.Tree.{AreInside, IsKnown, begins, counts_of, path_of, paths_of, raised}
+use Rattle.mine_fp.proofs.BranchLemmas.{known_more, known_same}
 
-pub before_first : (k : ℕ) (above : Option ℕ) → IsBefore k above → first_number above ≤ k
-before_first k None before = omega arith
-before_first k (Some number) before = omega arith
+begins_within : (n : ℕ) (p q : List ℕ) → n ≤ common_prefix_len eqb p q → begins (take n p) q ≡ true
+begins_within zero p q less = refl
+begins_within (suc n) [] q less = absurd (omega arith)
+begins_within (suc n) (x ∷ p) [] less = absurd (omega arith)
+begins_within (suc n) (x ∷ p) (y ∷ q) less = elim (cases_Bool (eqb x y)) [
+  | inl e ↦ (let more = subst (λ b. suc n ≤ cond b (1 + common_prefix_len eqb p q) 0) e less in and_from (eqb x y) (begins (take n p) q) e (begins_within n p q (omega arith)))
+  | inr e ↦ (let none = subst (λ b. suc n ≤ cond b (1 + common_prefix_len eqb p q) 0) e less in absurd (omega arith))
+]
 
-pub before_more : (j k : ℕ) (above : Option ℕ) → j ≤ k → IsBefore j above → IsBefore k above
-before_more j k None more before = tt
-before_more j k (Some number) more before = omega arith
+begins_beyond : (n : ℕ) (p q : List ℕ) → common_prefix_len eqb p q < n → n ≤ length p → begins (take n p) q ≡ false
+begins_beyond zero p q more here = absurd (omega arith)
+begins_beyond (suc n) [] q more here = absurd (omega arith)
+begins_beyond (suc n) (x ∷ p) [] more here = refl
+begins_beyond (suc n) (x ∷ p) (y ∷ q) more here = elim (cases_Bool (eqb x y)) [
+  | inl e ↦ (let less = subst (λ b. cond b (1 + common_prefix_len eqb p q) 0 < suc n) e more in ap (λ b. b && begins (take n p) q) e ∙ begins_beyond n p q (omega arith) (omega arith))
+  | inr e ↦ ap (λ b. b && begins (take n p) q) e
+]
 
--- lists with one element more
-push_apart : (a b : List ℕ) (x y : ℕ) → a ++ x ∷ [] ≡ b ++ y ∷ [] → (a ≡ b) × (x ≡ y)
-push_apart [] [] x y e = (refl, cc)
-push_apart [] (b ∷ bs) x y e = let long = ap length e in let more = length-append bs (y ∷ []) in absurd (omega arith)
-push_apart (a ∷ as') [] x y e = let long = ap length e in let more = length-append as' (x ∷ []) in absurd (omega arith)
-push_apart (a ∷ as') (b ∷ bs) x y e =
-    let head : a ≡ b = cc in
-    let tail : as' ++ x ∷ [] ≡ bs ++ y ∷ [] = cc in
-    let rest = push_apart as' bs x y tail in
-    (λ i. head i ∷ rest.0 i, rest.1)
+-- ranks that come later change no path
+kept_path : (ranks more : List ℕ) (node : Node) → node.start + node.depth ≤ length ranks → path_of (ranks ++ more) node ≡ path_of ranks node
+kept_path ranks more node inside =
+    ap (take node.depth) (drop-append-le node.start ranks more (omega arith)) ∙ take-append-le node.depth (drop node.start ranks) more (omega (arith, length-drop node.start ranks))
 
-push_some : (q : List ℕ) (r : ℕ) → q ++ r ∷ [] ≢ []
-push_some [] r e = cc
-push_some (x ∷ q) r e = cc
+pub kept_paths : (ranks more : List ℕ) (nodes : List Node) → AreInside ranks nodes → paths_of (ranks ++ more) nodes ≡ paths_of ranks nodes
+kept_paths ranks more [] inside = refl
+kept_paths ranks more (node ∷ nodes) inside =
+    let P = λ (n : Node). n.start + n.depth ≤ length ranks in
+    λ i. kept_path ranks more node (All-head P node nodes inside) i ∷ kept_paths ranks more nodes (All-tail P node nodes inside) i
 
-module _ (links : List (ℕ × Option ℕ)) (paths : List (List ℕ)) (are : AreLinked links paths) where
-  abbrev link : ℕ → ℕ × Option ℕ
-  link k = get_or links k (0, None)
+-- the nodes before a place have more weight, the others are as they were
+module _ (ranks path : List ℕ) (weight : ℕ) (nodes now : List Node) (k : ℕ) (here : k < length nodes) (is : now ≡ map (raised ranks path weight) (take k nodes) ++ drop k nodes) where
+  pub rest_at : (d : Node) → get_or now k d ≡ get_or nodes k d
+  rest_at d =
+      let long = length-map (take k nodes) (raised ranks path weight) ∙ length-take-le k nodes (omega arith) in
+      let first : k + (k - k) ≡ k = omega arith in
+      ap (λ l. get_or l k d) is ∙ get_or-append_right (map (raised ranks path weight) (take k nodes)) (drop k nodes) k k d long (omega arith)
+      ∙ get_or-drop k nodes (k - k) d ∙ ap (λ n. get_or nodes n d) first
 
-  -- nodes with one path above are the same
-  one_above : (a b : Option ℕ) → IsBefore (length links) a → IsBefore (length links) b → path_above paths a ≡ path_above paths b → a ≡ b
-  one_above None None before after same = refl
-  one_above None (Some j) before after same = absurd (push_some (path_above paths (link j).1) (link j).0 (sym (same ∙ are.linked j after)))
-  one_above (Some i) None before after same = absurd (push_some (path_above paths (link i).1) (link i).0 (sym (are.linked i before) ∙ same))
-  one_above (Some i) (Some j) before after same = ap Some (are.distinct i j before after same)
+  module _ (d : Node) (inside : (get_or now k d).start + (get_or now k d).depth ≤ length ranks) (shared known : ℕ) (known_is : IsKnown (paths_of ranks (take k nodes)) path known) where
+    abbrev node : Node
+    node = get_or now k d
 
-  -- where no node is linked so, no node has the path
-  pub missing_path : (rank : ℕ) (above : Option ℕ) → IsBefore (length links) above → ((k : ℕ) → k < length links → link k ≡ (rank, above) → ⊥)
-      → Contains paths (path_above paths above ++ rank ∷ []) → ⊥
-  missing_path rank above before none has =
-      let k = has.0 in
-      let here : k < length links = let long = are.long in let inside = has.1 in omega arith in
-      let same = push_apart (path_above paths (link k).1) (path_above paths above) (link k).0 rank
-      (sym (are.linked k here) ∙ get_or_default paths k [] (path_above paths above ++ rank ∷ []) has.1 ∙ has.2) in
-      let up = one_above (link k).1 above (before_more k (length links) (link k).1 (omega arith) (are.before k here)) before same.0 in
-      none k here (λ i. (same.1 i, up i))
+    abbrev next : List Node
+    next = map (raised ranks path weight) (take (k + 1) nodes) ++ drop (k + 1) nodes
 
-  -- a node that is linked so has the path
-  pub linked_path : (rank : ℕ) (above : Option ℕ) (k : ℕ) → k < length links → link k ≡ (rank, above) → get_or paths k [] ≡ path_above paths above ++ rank ∷ []
-  linked_path rank above k here same = are.linked k here ∙ (λ i. path_above paths ((same i).1) ++ (same i).0 ∷ [])
+    paths_more : paths_of ranks (take (k + 1) nodes) ≡ paths_of ranks (take k nodes) ++ path_of ranks node ∷ []
+    paths_more =
+        ap (paths_of ranks) (take_more nodes k d here) ∙ map_push (path_of ranks) (take k nodes) (get_or nodes k d)
+        ∙ ap (λ n. paths_of ranks (take k nodes) ++ path_of ranks n ∷ []) (sym (rest_at d))
 
-  above_more : (path : List ℕ) (above : Option ℕ) → IsBefore (length links) above → path_above (paths ++ path ∷ []) above ≡ path_above paths above
-  above_more path None before = refl
-  above_more path (Some j) before = get_or_append_left paths (path ∷ []) [] j (let long = are.long in omega arith)
+    raised_at : set now k (raised ranks path weight node) ≡ next
+    raised_at =
+        let rest : k < length now = omega (arith, ap length is, length-append (map (raised ranks path weight) (take k nodes)) (drop k nodes), length-map (take k nodes) (raised ranks path weight), length-take-le k nodes (omega arith), length-drop k nodes) in
+        map_over_more (raised ranks path weight) nodes now k node here is (get_or_default now k d node rest)
 
-  first : {X : Type 0} (n : ℕ) (x d : X) → get_or (x ∷ []) (n - n) d ≡ x
-  first n x d = let none : n - n ≡ 0 = omega arith in ap (λ k. get_or (x ∷ []) k d) none
+    abbrev with_count : ℕ → Node
+    with_count count = record { start = node.start; depth = node.depth; count = count }
 
-  -- one node more
-  module _ (rank : ℕ) (above : Option ℕ) (before : IsBefore (length links) above) (new : Contains paths (path_above paths above ++ rank ∷ []) → ⊥) where
-    abbrev path : List ℕ
-    path = path_above paths above ++ rank ∷ []
+    module _ (shared_is : shared ≡ common_prefix_len eqb (drop node.start ranks) path) where
+      pub goes_through : node.depth ≤ shared
+          → (set now k (record { start = node.start; depth = node.depth; count = node.count + weight }) ≡ next) × IsKnown (paths_of ranks (take (k + 1) nodes)) path (max known node.depth)
+      goes_through less =
+          let yes = begins_within node.depth (drop node.start ranks) path (omega arith) in
+          let long : length (path_of ranks node) ≡ node.depth = length-take-le node.depth (drop node.start ranks) (omega (arith, length-drop node.start ranks)) in
+          (ap (set now k) (sym (ap (λ b. with_count (node.count + cond b weight 0)) yes)) ∙ raised_at,
+            subst (λ (t : List (List ℕ) × ℕ). IsKnown t.0 path (max known t.1)) (λ i. (sym paths_more i, long i)) (known_more (paths_of ranks (take k nodes)) (path_of ranks node) path known known_is yes))
 
-    abbrev more_links : List (ℕ × Option ℕ)
-    more_links = links ++ (rank, above) ∷ []
+      pub stays : shared < node.depth → (set now k node ≡ next) × IsKnown (paths_of ranks (take (k + 1) nodes)) path known
+      stays more =
+          let no = begins_beyond node.depth (drop node.start ranks) path (omega arith) (omega (arith, length-drop node.start ranks)) in
+          let same : node.count + 0 ≡ node.count = omega arith in
+          (ap (set now k) (sym (ap (λ b. with_count (node.count + cond b weight 0)) no ∙ ap with_count same)) ∙ raised_at,
+            subst (λ l. IsKnown l path known) (sym paths_more) (known_same (paths_of ranks (take k nodes)) (path_of ranks node) path known known_is no))
 
-    old_link : (k : ℕ) → k < length links → get_or more_links k (0, None) ≡ link k
-    old_link k here = get_or_append_left links ((rank, above) ∷ []) (0, None) k here
+-- a node for the prefix of a path with one rank more
+module _ (ranks path : List ℕ) (weight known depth : ℕ) (old now : List Node) (past : known ≤ depth) (here : depth < length path) where
+  abbrev made : Node
+  made = record { start = length ranks; depth = depth + 1; count = weight }
 
-    last_link : get_or more_links (length links) (0, None) ≡ (rank, above)
-    last_link = get_or-append_right links ((rank, above) ∷ []) (length links) (length links) (0, None) refl (omega arith) ∙ first (length links) (rank, above) (0, None)
+  abbrev prefix : ℕ → List ℕ
+  prefix rank = take (rank + 1) path
 
-    old_path : (k : ℕ) → k < length links → get_or (paths ++ path ∷ []) k [] ≡ get_or paths k []
-    old_path k here = get_or_append_left paths (path ∷ []) [] k (let long = are.long in omega arith)
+  one_longer : depth - known + 1 ≡ depth + 1 - known
+  one_longer = omega arith
 
-    last_path : get_or (paths ++ path ∷ []) (length links) [] ≡ path
-    last_path = get_or-append_right paths (path ∷ []) (length links) (length links) [] are.long (omega arith) ∙ first (length links) path []
+  pub inside_more : AreInside (ranks ++ path) now → AreInside (ranks ++ path) (now ++ made ∷ [])
+  inside_more inside = All-push (λ (n : Node). n.start + n.depth ≤ length (ranks ++ path)) now made inside (omega (arith, length-append ranks path))
 
-    none_is : (k : ℕ) → k < length links → get_or paths k [] ≡ path → ⊥
-    none_is k here same = new (k, (let long = are.long in omega arith), get_or_default paths k path [] (let long = are.long in omega arith) ∙ same)
+  pub prefixes_more : paths_of (ranks ++ path) now ≡ paths_of ranks old ++ map prefix (range_with_len known (depth - known))
+      → paths_of (ranks ++ path) (now ++ made ∷ []) ≡ paths_of ranks old ++ map prefix (range_with_len known (depth + 1 - known))
+  prefixes_more is =
+      map_push (path_of (ranks ++ path)) now made ∙ (λ i. is i ++ take (depth + 1) (drop_at ranks path (length ranks) refl i) ∷ [])
+      ∙ append_assoc (paths_of ranks old) (map prefix (range_with_len known (depth - known))) (prefix depth ∷ [])
+      ∙ ap (λ l. paths_of ranks old ++ l) (sym (map-range_with_len_more prefix known (depth - known) depth (omega arith)))
+      ∙ ap (λ n. paths_of ranks old ++ map prefix (range_with_len known n)) one_longer
 
-    pub with_node : AreLinked more_links (paths ++ path ∷ [])
-    with_node = record {
-      long = length-append paths (path ∷ []) ∙ ap (λ n. n + 1) are.long ∙ sym (length-append links ((rank, above) ∷ []));
-      before = λ k below. elim (cases_lt k (length links)) [
-        | inl here ↦ subst (λ (l : ℕ × Option ℕ). IsBefore k l.1) (sym (old_link k here)) (are.before k here)
-        | inr past ↦ (let is = last k below past in subst (λ n. IsBefore n (get_or more_links n (0, None)).1) (sym is) (subst (λ (l : ℕ × Option ℕ). IsBefore (length links) l.1) (sym last_link) before))
-      ];
-      linked = λ k below. elim (cases_lt k (length links)) [
-        | inl here ↦
-            old_path k here ∙ are.linked k here
-            ∙ (λ i. sym (above_more path (link k).1 (before_more k (length links) (link k).1 (omega arith) (are.before k here))) i ++ (link k).0 ∷ [])
-            ∙ (λ i. path_above (paths ++ path ∷ []) ((sym (old_link k here) i).1) ++ (sym (old_link k here) i).0 ∷ [])
-        | inr past ↦ subst (λ n. get_or (paths ++ path ∷ []) n [] ≡ path_above (paths ++ path ∷ []) (get_or more_links n (0, None)).1 ++ (get_or more_links n (0, None)).0 ∷ []) (sym (last k below past))
-            (last_path ∙ (λ i. sym (above_more path above before) i ++ rank ∷ []) ∙ (λ i. path_above (paths ++ path ∷ []) ((sym last_link i).1) ++ (sym last_link i).0 ∷ []))
-      ];
-      distinct = λ j k low high same. elim (cases_lt j (length links)) [
-        | inl here ↦ elim (cases_lt k (length links)) [
-          | inl there ↦ are.distinct j k here there (sym (old_path j here) ∙ same ∙ old_path k there)
-          | inr past ↦ absurd (none_is j here (sym (old_path j here) ∙ same ∙ ap (λ n. get_or (paths ++ path ∷ []) n []) (last k high past) ∙ last_path))
-        ]
-        | inr past ↦ elim (cases_lt k (length links)) [
-          | inl there ↦ absurd (none_is k there (sym (old_path k there) ∙ sym same ∙ ap (λ n. get_or (paths ++ path ∷ []) n []) (last j low past) ∙ last_path))
-          | inr beyond ↦ last j low past ∙ sym (last k high beyond)
-        ]
-      ];
-    }
-      where
-        last : (k : ℕ) → k < length more_links → length links ≤ k → k ≡ length links
-        last k below past = let long = length-append links ((rank, above) ∷ []) in omega arith
-
--- ---- nodes
-
-pub links-push : (nodes : List Node) (node : Node) → links_of (nodes ++ node ∷ []) ≡ links_of nodes ++ link_of node ∷ []
-links-push nodes node = map-append link_of nodes (node ∷ [])
-
-pub paths-push : (links : List (ℕ × Option ℕ)) (link : ℕ × Option ℕ) → paths_of (links ++ link ∷ []) ≡ with_path (paths_of links) link
-paths-push links link = fold-append with_path [] links (link ∷ [])
-
--- another count changes no link
-pub links-set : (nodes : List Node) (k : ℕ) (node : Node) → k < length nodes → get_or (links_of nodes) k (0, None) ≡ link_of node → links_of (set nodes k node) ≡ links_of nodes
-links-set nodes k node here same = map-set_same link_of nodes k node node (sym same ∙ get_or-map link_of nodes k node (0, None) here)
+  pub weights_more : counts_of now ≡ counts_of old ++ replicate (depth - known) weight → counts_of (now ++ made ∷ []) ≡ counts_of old ++ replicate (depth + 1 - known) weight
+  weights_more is =
+      map_push (λ (n : Node). n.count) now made ∙ (λ i. is i ++ weight ∷ []) ∙ append_assoc (counts_of old) (replicate (depth - known) weight) (weight ∷ [])
+      ∙ ap (λ l. counts_of old ++ l) (replicate_more (depth - known) weight) ∙ ap (λ n. counts_of old ++ replicate n weight) one_longer
