@@ -1,14 +1,16 @@
 -- A tree's branches, where a path is added.
-use Rattle.std.proofs.Common.{◌≡◌, ◌≢◌, ℕ, ◌+◌, ◌-◌, ◌<◌, ◌≤◌, true, false, List, [], ◌∷◌, ◌++◌, length, get_or, cond, eqb, max, replicate, take, zero, suc, refl, sym, ap, ◌∙◌, subst, inl, inr, ◌⊎◌, arith, zero-add}
-use Rattle.std.specs.List.{Contains}
+use Rattle.std.proofs.Common.{◌≡◌, ◌≢◌, ℕ, ◌+◌, ◌-◌, ◌<◌, ◌≤◌, ◌↔◌, true, List, [], ◌∷◌, ◌++◌, length, get_or, cond, eqb, map, max, take, zero, suc, refl, sym, ap, ◌∙◌, subst, inl, inr, ◌⊎◌, arith, zero-add}
+use Rattle.std.specs.List.{All, AllPairs, Contains, range_with_len}
 use Rattle.std.proofs.lemmas.Bool.{and_from, and_parts, cases_Bool, cases_lt, eq-eqb, eqb-true, true≢false}
-use Rattle.std.proofs.lemmas.List.{get_or_append_left, get_or-append_right, get_or_default, get_or-replicate, length-append, length-take-le, take-take}
-use Rattle.std.proofs.lemmas.List.Elements.{Contains-append_cases, Contains-append_left, Contains-append_right, Contains-get_or, Contains-push, Contains-push_cases}
-use Rattle.std.proofs.lemmas.List.FromFn.{get_or-map-range_with_len, length-map-range_with_len}
+use Rattle.std.proofs.lemmas.List.{get_or_append_left, get_or-append_right, get_or_default, length-append, length-map, length-take-le, map-append, take_at, take-take}
+use Rattle.std.proofs.lemmas.List.Elements.{All-append, All-map, Contains-append_cases, Contains-append_left, Contains-append_right, Contains-get_or, Contains-push, Contains-push_cases}
+use Rattle.std.proofs.lemmas.List.FromFn.{get_or-map-range_with_len, get_or-range_with_len, length-map-range_with_len, length-range_with_len}
 use Rattle.std.proofs.lemmas.List.Sums.{sum_by-append, sum_by-cons}
+use Rattle.std.proofs.lemmas.Simd.{map-map}
 use Rattle.basket_sets.specs.declared.weighted.Weighted.{Weighted}
 use Rattle.basket_sets.specs.Database.{weighted}
-use Rattle.mine_fp.specs.Tree.{AreBranches, BeginsOne, IsKnown, begins, prefixes_past, weight_begun}
+use Rattle.basket_sets.specs.Support.{total_of}
+use Rattle.mine_fp.specs.Tree.{BeginsOne, StandsFor, Tree, begins, longest, made, paths_of, weight_begun}
 
 -- ---- paths that begin others
 
@@ -47,115 +49,96 @@ none_begun p (place ∷ paths) none = elim (cases_Bool (begins p place.basket)) 
       ∙ none_begun p paths (λ x has. none x (suc has.0, omega (arith, has.1), has.2))
 ]
 
--- ---- the longest prefix that is a branch
+-- ---- the longest branch that begins a path
 
-module _ (branches : List (List ℕ)) (branch path : List ℕ) (known : ℕ) (is : IsKnown branches path known) where
-  pub known_same : begins branch path ≡ false → IsKnown (branches ++ branch ∷ []) path known
-  known_same not = record {
-    most = λ b has h. elim (Contains-push_cases branches branch b has) [
-      | inl old ↦ is.most b old h
-      | inr e ↦ absurd (true≢false (sym h ∙ ap (λ t. begins t path) (sym e) ∙ not))
-    ];
-    reached = elim is.reached [
-      | inl none ↦ inl none
-      | inr top ↦ inr (top.0, Contains-append_left branches (branch ∷ []) top.0 top.1, top.2, top.3)
-    ];
-  }
+module _ (path : List ℕ) where
+  pub longest_push : (branches : List (List ℕ)) (branch : List ℕ) → longest path (branches ++ branch ∷ []) ≡ max (longest path branches) (cond (begins branch path) (length branch) 0)
+  longest_push [] branch = omega arith
+  longest_push (b ∷ branches) branch = omega (arith, longest_push branches branch)
 
-  pub known_more : begins branch path ≡ true → IsKnown (branches ++ branch ∷ []) path (max known (length branch))
-  known_more begun = record {
-    most = λ b has h. elim (Contains-push_cases branches branch b has) [
-      | inl old ↦ (let less = is.most b old h in omega arith)
-      | inr e ↦ omega (arith, ap length e)
-    ];
-    reached = elim (cases_lt known (length branch)) [
-      | inl more ↦ inr (branch, Contains-push branches branch, begun, omega arith)
-      | inr less ↦ elim is.reached [
-        | inl none ↦ inl (omega arith)
-        | inr top ↦ inr (top.0, Contains-append_left branches (branch ∷ []) top.0 top.1, top.2, omega (arith, top.3))
-      ]
-    ];
-  }
+  longest_most : (branches : List (List ℕ)) (q : List ℕ) (k : ℕ) → k < length branches → get_or branches k q ≡ q → begins q path ≡ true → length q ≤ longest path branches
+  longest_most [] q k here is h = absurd (omega arith)
+  longest_most (b ∷ branches) q zero here is h = let own = (λ i. cond (begins (is i) path) (length (is i)) 0) ∙ ap (λ t. cond t (length q) 0) h in omega (arith, own)
+  longest_most (b ∷ branches) q (suc k) here is h = omega (arith, longest_most branches q k (omega arith) is h)
 
-pub known_within : (branches : List (List ℕ)) (path : List ℕ) (known : ℕ) → IsKnown branches path known → known ≤ length path
-known_within branches path known is = elim is.reached [
-  | inl none ↦ omega arith
-  | inr top ↦ omega (arith, top.3, (begins_take top.0 path top.2).1)
-]
-
--- ---- a path more
-
--- all of the longer prefixes of a path, and nothing else
-module _ (known : ℕ) (path : List ℕ) where
-  abbrev made : List (List ℕ)
-  made = prefixes_past known path
-
-  prefix_at : (k : ℕ) → k < length path - known → get_or made k [] ≡ take (known + k + 1) path
-  prefix_at k here = get_or-map-range_with_len (λ rank. take (rank + 1) path) known (length path - known) k (known + k) [] here refl
-
-  pub length-made : length made ≡ length path - known
-  length-made = length-map-range_with_len (λ rank. take (rank + 1) path) known (length path - known)
-
-  prefix_is : (k : ℕ) → k < length made → (begins (get_or made k []) path ≡ true) × (length (get_or made k []) ≡ known + k + 1)
-  prefix_is k here =
-      let within : k < length path - known = subst (λ n. k < n) length-made here in
-      let is = prefix_at k within in
-      (subst (λ q. begins q path ≡ true) (sym is) (take_begins (known + k + 1) path), ap length is ∙ length-take-le (known + k + 1) path (omega arith))
-
-  made_has : (q : List ℕ) → begins q path ≡ true → known < length q → Contains made q
-  made_has q begun more =
-      let same = begins_take q path begun in
-      let k = length q - known - 1 in
-      let within : k < length path - known = omega (arith, same.1, more) in
-      let at : known + k + 1 ≡ length q = omega (arith, more) in
-      let here : k < length made = subst (λ n. k < n) (sym length-made) within in
-      (k, here, get_or_default made k q [] here ∙ prefix_at k within ∙ ap (λ n. take n path) at ∙ same.0)
-
-module _ (branches : List (List ℕ)) (path : List ℕ) (known : ℕ) (is : IsKnown branches path known) where
-  abbrev all : List (List ℕ)
-  all = branches ++ prefixes_past known path
-
-  -- the branches that are made begin the path, and have not been there
-  last_is : (k : ℕ) → length branches ≤ k → k < length all
-      → (begins (get_or all k []) path ≡ true) × (length (get_or all k []) ≡ known + (k - length branches) + 1)
-  last_is k past here =
-      let more : k - length branches < length (prefixes_past known path) = omega (arith, length-append branches (prefixes_past known path), here, past) in
-      subst (λ q. (begins q path ≡ true) × (length q ≡ known + (k - length branches) + 1))
-      (sym (get_or-append_right branches (prefixes_past known path) (length branches) k [] refl past)) (prefix_is known path (k - length branches) more)
-
-  is_new : (k : ℕ) → length branches ≤ k → k < length all → Contains branches (get_or all k []) → ⊥
-  is_new k past here has =
-      let last = last_is k past here in
-      let less = is.most (get_or all k []) has last.0 in omega (arith, last.1)
-
-  old_is : (k : ℕ) → k < length branches → get_or all k [] ≡ get_or branches k []
-  old_is k here = get_or_append_left branches (prefixes_past known path) [] k here
-
-  pub still_distinct : ((j k : ℕ) → j < length branches → k < length branches → get_or branches j [] ≡ get_or branches k [] → j ≡ k)
-      → (j k : ℕ) → j < length all → k < length all → get_or all j [] ≡ get_or all k [] → j ≡ k
-  still_distinct distinct j k low high same = elim (cases_lt j (length branches)) [
-    | inl here ↦ elim (cases_lt k (length branches)) [
-      | inl there ↦ distinct j k here there (sym (old_is j here) ∙ same ∙ old_is k there)
-      | inr past ↦ absurd (is_new k past high (subst (Contains branches) (sym (old_is j here) ∙ same) (Contains-get_or branches j [] here)))
+  longest_reached : (branches : List (List ℕ)) → (longest path branches ≡ 0) ⊎ ((b : List ℕ) × Contains branches b × (begins b path ≡ true) × (length b ≡ longest path branches))
+  longest_reached [] = inl refl
+  longest_reached (b ∷ branches) = elim (cases_lt (longest path branches) (cond (begins b path) (length b) 0)) [
+    | inl more ↦ elim (cases_Bool (begins b path)) [
+      | inl e ↦ inr (b, (0, omega arith, refl), e, omega (arith, more, ap (λ t. cond t (length b) 0) e))
+      | inr e ↦ absurd (omega (arith, more, ap (λ t. cond t (length b) 0) e))
     ]
-    | inr past ↦ elim (cases_lt k (length branches)) [
-      | inl there ↦ absurd (is_new j past low (subst (Contains branches) (sym (old_is k there) ∙ sym same) (Contains-get_or branches k [] there)))
-      | inr beyond ↦ omega (arith, (last_is j past low).1, (last_is k beyond high).1, ap length same)
+    | inr less ↦ elim (longest_reached branches) [
+      | inl none ↦ inl (omega arith)
+      | inr top ↦ inr (top.0, (suc top.1.0, omega (arith, top.1.1), top.1.2), top.2, omega (arith, top.3))
     ]
   ]
 
-  module _ (counts new : List ℕ) (w : ℕ) (paths : List Weighted) (are : AreBranches branches counts paths) where
+  pub longest_within : (branches : List (List ℕ)) → longest path branches ≤ length path
+  longest_within branches = elim (longest_reached branches) [
+    | inl none ↦ omega arith
+    | inr top ↦ omega (arith, top.3, (begins_take top.0 path top.2).1)
+  ]
+
+-- ---- a path more
+
+-- a node with the weight of one more path, if that goes through it
+abbrev pub heavier : List ℕ → ℕ → List ℕ × ℕ → List ℕ × ℕ
+heavier path w node = (node.0, node.1 + cond (begins node.0 path) w 0)
+
+-- the nodes with one path more
+abbrev pub grown : List ℕ → ℕ → List (List ℕ × ℕ) → List (List ℕ × ℕ)
+grown path w nodes = map (heavier path w) nodes ++ made path w (longest path (paths_of nodes))
+
+module _ (nodes : List (List ℕ × ℕ)) (path : List ℕ) (w : ℕ) where
+  abbrev branches : List (List ℕ)
+  branches = paths_of nodes
+
+  abbrev known : ℕ
+  known = longest path branches
+
+  abbrev prefix : ℕ → List ℕ
+  prefix rank = take (rank + 1) path
+
+  abbrev new : List (List ℕ)
+  new = map prefix (range_with_len known (length path - known))
+
+  all_paths : paths_of (grown path w nodes) ≡ branches ++ new
+  all_paths =
+      map-append (λ (node : List ℕ × ℕ). node.0) (map (heavier path w) nodes) (made path w known)
+      ∙ (λ i. map-map (λ (node : List ℕ × ℕ). node.0) (heavier path w) nodes i ++ map-map (λ (node : List ℕ × ℕ). node.0) (λ rank. (prefix rank, w)) (range_with_len known (length path - known)) i)
+
+  pub older_first : take (length nodes) (paths_of (grown path w nodes)) ≡ branches
+  older_first = ap (take (length nodes)) all_paths ∙ take_at branches new (length nodes) (length-map nodes (λ (node : List ℕ × ℕ). node.0))
+
+  module _ (total : ℕ) (paths : List Weighted) (stands : StandsFor (record { nodes = nodes; total = total }) paths) where
     abbrev after : List Weighted
     after = paths ++ weighted path w ∷ []
 
-    here_or_new : (q : List ℕ) → q ≢ [] → begins q path ≡ true → Contains all q
+    prefix_long : (rank : ℕ) → rank < length path → length (prefix rank) ≡ rank + 1
+    prefix_long rank here = length-take-le (rank + 1) path (omega arith)
+
+    is_new : (rank : ℕ) → known ≤ rank → rank < length path → Contains branches (prefix rank) → ⊥
+    is_new rank past here has = omega (arith, longest_most path branches (prefix rank) has.0 has.1 has.2 (take_begins (rank + 1) path), prefix_long rank here)
+
+    new_at : (k : ℕ) (d : List ℕ) → k < length new → (k < length path - known) × (get_or new k d ≡ prefix (known + k))
+    new_at k d here =
+        let within : k < length path - known = omega (arith, here, length-map-range_with_len prefix known (length path - known)) in
+        (within, get_or-map-range_with_len prefix known (length path - known) k (known + k) d within refl)
+
+    here_or_new : (q : List ℕ) → q ≢ [] → begins q path ≡ true → Contains (branches ++ new) q
     here_or_new q some begun = elim (cases_lt known (length q)) [
-      | inl more ↦ Contains-append_right branches (prefixes_past known path) q (made_has known path q begun more)
-      | inr less ↦ elim is.reached [
+      | inl past ↦
+          (let same = begins_take q path begun in
+          let k = length q - known - 1 in
+          let at : known + k + 1 ≡ length q = omega (arith, past) in
+          let here : k < length new = omega (arith, same.1, past, length-map-range_with_len prefix known (length path - known)) in
+          Contains-append_right branches new q (k, here, (new_at k q here).1 ∙ ap (λ n. take n path) at ∙ same.0))
+      | inr less ↦ elim (longest_reached path branches) [
         | inl none ↦ absurd (some (no_ranks q (omega arith)))
         | inr top ↦
-            (let one = ((are.begun top.0).0 top.1).1 in
-            Contains-append_left branches (prefixes_past known path) q ((are.begun q).1 (some, (one.0, one.1, shorter_begins q top.0 path one.0.basket begun top.2 (omega (arith, top.3)) one.2))))
+            (let one = ((stands.begun top.0).0 top.1).1 in
+            Contains-append_left branches new q ((stands.begun q).1 (some, (one.0, one.1, shorter_begins q top.0 path one.0.basket begun top.2 (omega (arith, top.3)) one.2))))
       ]
     ]
       where
@@ -163,34 +146,59 @@ module _ (branches : List (List ℕ)) (path : List ℕ) (known : ℕ) (is : IsKn
         no_ranks [] less = refl
         no_ranks (x ∷ q) less = absurd (omega arith)
 
-    one_more : (q : List ℕ) → BeginsOne paths q → BeginsOne after q
-    one_more q one = (one.0, (one.1.0, Contains-append_left paths (weighted path w ∷ []) one.1.0 one.1.1, one.1.2))
+    begun_now : (q : List ℕ) → Contains (branches ++ new) q ↔ BeginsOne after q
+    begun_now q = (
+      λ has. elim (Contains-append_cases branches new q has) [
+        | inl old ↦ (let one = (stands.begun q).0 old in (one.0, (one.1.0, Contains-append_left paths (weighted path w ∷ []) one.1.0 one.1.1, one.1.2)))
+        | inr last ↦
+            (let is = new_at last.0 q last.1 in
+            let same = sym is.1 ∙ last.2 in
+            (λ none. omega (arith, is.0, prefix_long (known + last.0) (omega (arith, is.0)), ap length (same ∙ none)),
+              (weighted path w, Contains-push paths (weighted path w), subst (λ t. begins t path ≡ true) same (take_begins (known + last.0 + 1) path))))
+      ],
+      λ one. elim (Contains-push_cases paths (weighted path w) one.1.0 one.1.1) [
+        | inl old ↦ Contains-append_left branches new q ((stands.begun q).1 (one.0, (one.1.0, old, one.1.2)))
+        | inr e ↦ here_or_new q one.0 (ap (λ (x : Weighted). begins q x.basket) e ∙ one.1.2)
+      ],
+    )
 
-    pub path_begun : ((k : ℕ) → k < length branches → get_or new k 0 ≡ get_or counts k 0 + cond (begins (get_or branches k []) path) w 0)
-        → ((k : ℕ) → length branches ≤ k → k < length all → get_or new k 0 ≡ w) → AreBranches all new after
-    path_begun olds news = record {
-      begun = λ q. (
-        λ has. elim (Contains-append_cases branches (prefixes_past known path) q has) [
-          | inl old ↦ one_more q ((are.begun q).0 old)
-          | inr new ↦
-              (let one = prefix_is known path new.0 new.1 in
-              let e = get_or_default (prefixes_past known path) new.0 [] q new.1 ∙ new.2 in
-              (λ none. absurd (omega (arith, one.1, ap length (e ∙ none))), (weighted path w, Contains-push paths (weighted path w), ap (λ t. begins t path) (sym e) ∙ one.0)))
-        ],
-        λ one. elim (Contains-push_cases paths (weighted path w) one.1.0 one.1.1) [
-          | inl old ↦ Contains-append_left branches (prefixes_past known path) q ((are.begun q).1 (one.0, (one.1.0, old, one.1.2)))
-          | inr e ↦ here_or_new q one.0 (ap (λ (x : Weighted). begins q x.basket) e ∙ one.1.2)
-        ],
-      );
-      counted = λ k here. elim (cases_lt k (length branches)) [
-        | inl old ↦
-            olds k old ∙ ap (λ n. n + cond (begins (get_or branches k []) path) w 0) (are.counted k old)
-            ∙ sym (weight_push (get_or branches k []) path w paths) ∙ ap (λ q. weight_begun q after) (sym (old_is k old))
-        | inr past ↦
-            (let q = get_or all k [] in
-            let last = last_is k past here in
-            let some : q ≢ [] = λ none. omega (arith, last.1, ap length none) in
-            let none = none_begun q paths (λ place has begun. is_new k past here ((are.begun q).1 (some, (place, has, begun)))) in
-            news k past here ∙ sym (weight_push q path w paths ∙ (λ i. none i + cond (last.0 i) w 0) ∙ zero-add w))
-      ];
+    distinct_now : AllPairs (λ one other. one ≢ other) (branches ++ new)
+    distinct_now i j d less here same = elim (cases_lt j (length branches)) [
+      | inl old ↦ stands.distinct i j d less old (sym (get_or_append_left branches new d i (omega arith)) ∙ same ∙ get_or_append_left branches new d j old)
+      | inr past ↦
+          (let last = at j past here in
+          let long = prefix_long (known + (j - length branches)) (omega (arith, last.0)) in
+          elim (cases_lt i (length branches)) [
+            | inl old ↦ is_new (known + (j - length branches)) (omega arith) (omega (arith, last.0))
+                (subst (Contains branches) (sym (get_or_append_left branches new d i old) ∙ same ∙ last.1) (Contains-get_or branches i d old))
+            | inr before ↦
+                (let one = at i before (omega (arith, here)) in
+                omega (arith, long, prefix_long (known + (i - length branches)) (omega (arith, one.0)), ap length (sym one.1 ∙ same ∙ last.1)))
+          ])
+    ]
+      where
+        at : (k : ℕ) → length branches ≤ k → k < length (branches ++ new) → (k - length branches < length path - known) × (get_or (branches ++ new) k d ≡ prefix (known + (k - length branches)))
+        at k past here =
+            let is = new_at (k - length branches) d (omega (arith, here, length-append branches new)) in
+            (is.0, get_or-append_right branches new (length branches) k d refl past ∙ is.1)
+
+    abbrev IsCounted : List ℕ × ℕ → Type 0
+    IsCounted node = node.1 ≡ weight_begun node.0 after
+
+    pub stands_now : StandsFor (record { nodes = grown path w nodes; total = total + w }) after
+    stands_now = record {
+      distinct = subst (AllPairs (λ one other. one ≢ other)) (sym all_paths) distinct_now;
+      begun = subst (λ (l : List (List ℕ)). (q : List ℕ) → Contains l q ↔ BeginsOne after q) (sym all_paths) begun_now;
+      counted = All-append IsCounted (map (heavier path w) nodes) (made path w known)
+          (All-map IsCounted (heavier path w) nodes (λ k d here.
+            ap (λ n. n + cond (begins (get_or nodes k d).0 path) w 0) (stands.counted k d here) ∙ sym (weight_push (get_or nodes k d).0 path w paths)))
+          (All-map IsCounted (λ rank. (prefix rank, w)) (range_with_len known (length path - known)) (λ k d here.
+            let rank = get_or (range_with_len known (length path - known)) k d in
+            let within : k < length path - known = omega (arith, here, length-range_with_len known (length path - known)) in
+            let is = get_or-range_with_len known (length path - known) k d within in
+            let low : rank < length path = omega (arith, is, within) in
+            let none = none_begun (prefix rank) paths (λ place has begun. is_new rank (omega (arith, is)) low
+            ((stands.begun (prefix rank)).1 ((λ e. omega (arith, prefix_long rank low, ap length e)), (place, has, begun)))) in
+            sym (weight_push (prefix rank) path w paths ∙ (λ i. none i + cond (take_begins (rank + 1) path i) w 0) ∙ zero-add w)));
+      total = ap (λ n. n + w) stands.total ∙ sym (sum_by-append (λ (place : Weighted). place.weight) paths (weighted path w ∷ []) ∙ ap (λ n. total_of paths + n) (zero-add w));
     }

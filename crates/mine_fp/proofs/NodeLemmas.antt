@@ -1,16 +1,17 @@
 -- Nodes of a tree, where a path is added.
-use Rattle.std.proofs.Common.{◌≡◌, ℕ, ◌+◌, ◌-◌, ◌<◌, ◌≤◌, ◌&&◌, true, false, List, [], ◌∷◌, ◌++◌, length, get_or, map, replicate, set, take, drop, zero, suc, cond, eqb, max, refl, sym, ap, ◌∙◌, subst, inl, inr, arith}
-use Rattle.std.specs.List.{common_prefix_len, range_with_len}
-use Rattle.std.proofs.lemmas.Bool.{and_from, cases_Bool, true≢false}
-use Rattle.std.proofs.lemmas.List.{append_assoc, drop_at, drop-append-le, get_or-append_right, get_or-drop, get_or_default, length-append, length-drop, length-map, length-take-le, map_push, replicate_more, take-append-le, take_more}
+use Rattle.std.proofs.Common.{◌≡◌, ℕ, ◌+◌, ◌-◌, ◌<◌, ◌≤◌, ◌&&◌, Bool, true, false, List, [], ◌∷◌, ◌++◌, length, get_or, map, set, take, drop, zero, suc, cond, eqb, max, refl, sym, ap, ◌∙◌, subst, inl, inr, arith}
+use Rattle.std.specs.List.{All, common_prefix_len, range_with_len}
+use Rattle.std.proofs.lemmas.Bool.{and_from, cases_Bool}
+use Rattle.std.proofs.lemmas.List.{drop_at, drop-append-le, get_or-append_right, get_or-drop, get_or_default, length-append, length-drop, length-map, length-take-le, map-append, map_push, take_at, take-append-le, take_more}
 use Rattle.std.proofs.lemmas.List.Edits.{map_over_more}
-use Rattle.std.proofs.lemmas.List.Elements.{All-head, All-push, All-tail}
-use Rattle.std.proofs.lemmas.List.FromFn.{map-range_with_len_more}
+use Rattle.std.proofs.lemmas.List.Elements.{All-append, All-head, All-map, All-tail, All-weaker}
+use Rattle.std.proofs.lemmas.List.FromFn.{get_or-range_with_len, length-range_with_len}
+use Rattle.std.proofs.lemmas.Simd.{map-map}
 use Rattle.mine_fp.specs.declared.tree.Node.{Node}
-use Rattle.mine_fp.specs.Tree.{AreInside, IsKnown, begins, counts_of, path_of, paths_of, raised}
-use Rattle.mine_fp.proofs.BranchLemmas.{known_more, known_same}
+use Rattle.mine_fp.specs.Tree.{AreNodes, begins, longest, made, node_of, paths_of, raised}
+use Rattle.mine_fp.proofs.BranchLemmas.{longest_push}
 
-begins_within : (n : ℕ) (p q : List ℕ) → n ≤ common_prefix_len eqb p q → begins (take n p) q ≡ true
+pub begins_within : (n : ℕ) (p q : List ℕ) → n ≤ common_prefix_len eqb p q → begins (take n p) q ≡ true
 begins_within zero p q less = refl
 begins_within (suc n) [] q less = absurd (omega arith)
 begins_within (suc n) (x ∷ p) [] less = absurd (omega arith)
@@ -19,7 +20,7 @@ begins_within (suc n) (x ∷ p) (y ∷ q) less = elim (cases_Bool (eqb x y)) [
   | inr e ↦ (let none = subst (λ b. suc n ≤ cond b (1 + common_prefix_len eqb p q) 0) e less in absurd (omega arith))
 ]
 
-begins_beyond : (n : ℕ) (p q : List ℕ) → common_prefix_len eqb p q < n → n ≤ length p → begins (take n p) q ≡ false
+pub begins_beyond : (n : ℕ) (p q : List ℕ) → common_prefix_len eqb p q < n → n ≤ length p → begins (take n p) q ≡ false
 begins_beyond zero p q more here = absurd (omega arith)
 begins_beyond (suc n) [] q more here = absurd (omega arith)
 begins_beyond (suc n) (x ∷ p) [] more here = refl
@@ -28,85 +29,95 @@ begins_beyond (suc n) (x ∷ p) (y ∷ q) more here = elim (cases_Bool (eqb x y)
   | inr e ↦ ap (λ b. b && begins (take n p) q) e
 ]
 
--- ranks that come later change no path
-kept_path : (ranks more : List ℕ) (node : Node) → node.start + node.depth ≤ length ranks → path_of (ranks ++ more) node ≡ path_of ranks node
-kept_path ranks more node inside =
-    ap (take node.depth) (drop-append-le node.start ranks more (omega arith)) ∙ take-append-le node.depth (drop node.start ranks) more (omega (arith, length-drop node.start ranks))
-
-pub kept_paths : (ranks more : List ℕ) (nodes : List Node) → AreInside ranks nodes → paths_of (ranks ++ more) nodes ≡ paths_of ranks nodes
-kept_paths ranks more [] inside = refl
-kept_paths ranks more (node ∷ nodes) inside =
-    let P = λ (n : Node). n.start + n.depth ≤ length ranks in
-    λ i. kept_path ranks more node (All-head P node nodes inside) i ∷ kept_paths ranks more nodes (All-tail P node nodes inside) i
-
 -- the nodes before a place have more weight, the others are as they were
-module _ (ranks path : List ℕ) (weight : ℕ) (nodes now : List Node) (k : ℕ) (here : k < length nodes) (is : now ≡ map (raised ranks path weight) (take k nodes) ++ drop k nodes) where
-  pub rest_at : (d : Node) → get_or now k d ≡ get_or nodes k d
-  rest_at d =
+module _ (ranks path : List ℕ) (weight : ℕ) (nodes now : List Node) (k : ℕ) (d : Node) (here : k < length nodes) (is : now ≡ map (raised ranks path weight) (take k nodes) ++ drop k nodes) where
+  pub rest_at : get_or now k d ≡ get_or nodes k d
+  rest_at =
       let long = length-map (take k nodes) (raised ranks path weight) ∙ length-take-le k nodes (omega arith) in
       let first : k + (k - k) ≡ k = omega arith in
       ap (λ l. get_or l k d) is ∙ get_or-append_right (map (raised ranks path weight) (take k nodes)) (drop k nodes) k k d long (omega arith)
       ∙ get_or-drop k nodes (k - k) d ∙ ap (λ n. get_or nodes n d) first
 
-  module _ (d : Node) (inside : (get_or now k d).start + (get_or now k d).depth ≤ length ranks) (shared known : ℕ) (known_is : IsKnown (paths_of ranks (take k nodes)) path known) where
-    abbrev node : Node
-    node = get_or now k d
+  abbrev node : Node
+  node = get_or now k d
 
-    abbrev next : List Node
-    next = map (raised ranks path weight) (take (k + 1) nodes) ++ drop (k + 1) nodes
+  abbrev longest_of : List Node → ℕ
+  longest_of some = longest path (paths_of (map (node_of ranks) some))
 
-    paths_more : paths_of ranks (take (k + 1) nodes) ≡ paths_of ranks (take k nodes) ++ path_of ranks node ∷ []
-    paths_more =
-        ap (paths_of ranks) (take_more nodes k d here) ∙ map_push (path_of ranks) (take k nodes) (get_or nodes k d)
-        ∙ ap (λ n. paths_of ranks (take k nodes) ++ path_of ranks n ∷ []) (sym (rest_at d))
+  pub raised_more : (through : Bool) (count : ℕ) → node.start + node.depth ≤ length ranks → begins (take node.depth (drop node.start ranks)) path ≡ through → count ≡ node.count + cond through weight 0
+      → (set now k (record { start = node.start; depth = node.depth; count = count }) ≡ map (raised ranks path weight) (take (k + 1) nodes) ++ drop (k + 1) nodes)
+      × (longest_of (take (k + 1) nodes) ≡ max (longest_of (take k nodes)) (cond through node.depth 0))
+  raised_more through count inside goes more =
+      let here_too : k < length now = omega (arith, ap length is, length-append (map (raised ranks path weight) (take k nodes)) (drop k nodes), length-map (take k nodes) (raised ranks path weight), length-take-le k nodes (omega arith), length-drop k nodes) in
+      let long = length-take-le node.depth (drop node.start ranks) (omega (arith, length-drop node.start ranks)) in
+      let one = node_of ranks node in (
+        ap (λ n. set now k (record { start = node.start; depth = node.depth; count = n })) (more ∙ ap (λ b. node.count + cond b weight 0) (sym goes))
+            ∙ map_over_more (raised ranks path weight) nodes now k node here is (get_or_default now k d node here_too),
+        ap longest_of (take_more nodes k d here ∙ ap (λ n. take k nodes ++ n ∷ []) (sym rest_at)) ∙ ap (λ l. longest path (paths_of l)) (map_push (node_of ranks) (take k nodes) node)
+            ∙ ap (longest path) (map_push (λ (n : List ℕ × ℕ). n.0) (map (node_of ranks) (take k nodes)) one)
+            ∙ longest_push path (paths_of (map (node_of ranks) (take k nodes))) one.0 ∙ (λ i. max (longest_of (take k nodes)) (cond (goes i) (long i) 0)),
+      )
 
-    raised_at : set now k (raised ranks path weight node) ≡ next
-    raised_at =
-        let rest : k < length now = omega (arith, ap length is, length-append (map (raised ranks path weight) (take k nodes)) (drop k nodes), length-map (take k nodes) (raised ranks path weight), length-take-le k nodes (omega arith), length-drop k nodes) in
-        map_over_more (raised ranks path weight) nodes now k node here is (get_or_default now k d node rest)
+if_less : (b : Bool) (n : ℕ) → cond b n 0 ≤ n
+if_less true n = omega arith
+if_less false n = omega arith
 
-    abbrev with_count : ℕ → Node
-    with_count count = record { start = node.start; depth = node.depth; count = count }
+pub raised_are : (ranks path : List ℕ) (weight total : ℕ) (nodes : List Node) → AreNodes ranks nodes total → AreNodes ranks (map (raised ranks path weight) nodes) (total + weight)
+raised_are ranks path weight total nodes are = record {
+  inside = All-map (λ n. n.start + n.depth ≤ length ranks) (raised ranks path weight) nodes are.inside;
+  light = All-map (λ n. n.count ≤ total + weight) (raised ranks path weight) nodes
+      (All-weaker (λ n. n.count ≤ total) (λ n. (raised ranks path weight n).count ≤ total + weight) (λ n less. omega (arith, less, if_less (begins (node_of ranks n).0 path) weight)) nodes are.light);
+}
 
-    module _ (shared_is : shared ≡ common_prefix_len eqb (drop node.start ranks) path) where
-      pub goes_through : node.depth ≤ shared
-          → (set now k (record { start = node.start; depth = node.depth; count = node.count + weight }) ≡ next) × IsKnown (paths_of ranks (take (k + 1) nodes)) path (max known node.depth)
-      goes_through less =
-          let yes = begins_within node.depth (drop node.start ranks) path (omega arith) in
-          let long : length (path_of ranks node) ≡ node.depth = length-take-le node.depth (drop node.start ranks) (omega (arith, length-drop node.start ranks)) in
-          (ap (set now k) (sym (ap (λ b. with_count (node.count + cond b weight 0)) yes)) ∙ raised_at,
-            subst (λ (t : List (List ℕ) × ℕ). IsKnown t.0 path (max known t.1)) (λ i. (sym paths_more i, long i)) (known_more (paths_of ranks (take k nodes)) (path_of ranks node) path known known_is yes))
+-- ranks that come later change no path
+kept_nodes : (ranks more : List ℕ) (nodes : List Node) → All (λ node. node.start + node.depth ≤ length ranks) nodes → map (node_of (ranks ++ more)) nodes ≡ map (node_of ranks) nodes
+kept_nodes ranks more [] inside = refl
+kept_nodes ranks more (node ∷ nodes) inside =
+    let P = λ (n : Node). n.start + n.depth ≤ length ranks in
+    let here = All-head P node nodes inside in
+    let path : take node.depth (drop node.start (ranks ++ more)) ≡ take node.depth (drop node.start ranks)
+    = ap (take node.depth) (drop-append-le node.start ranks more (omega arith)) ∙ take-append-le node.depth (drop node.start ranks) more (omega (arith, length-drop node.start ranks)) in
+    λ i. (path i, node.count) ∷ kept_nodes ranks more nodes (All-tail P node nodes inside) i
 
-      pub stays : shared < node.depth → (set now k node ≡ next) × IsKnown (paths_of ranks (take (k + 1) nodes)) path known
-      stays more =
-          let no = begins_beyond node.depth (drop node.start ranks) path (omega arith) (omega (arith, length-drop node.start ranks)) in
-          let same : node.count + 0 ≡ node.count = omega arith in
-          (ap (set now k) (sym (ap (λ b. with_count (node.count + cond b weight 0)) no ∙ ap with_count same)) ∙ raised_at,
-            subst (λ l. IsKnown l path known) (sym paths_more) (known_same (paths_of ranks (take k nodes)) (path_of ranks node) path known known_is no))
+-- the nodes that a path makes, by where it stands in the list of all ranks
+abbrev pub made_at : ℕ → ℕ → ℕ → Node
+made_at start weight rank = record { start = start; depth = rank + 1; count = weight }
 
--- a node for the prefix of a path with one rank more
-module _ (ranks path : List ℕ) (weight known depth : ℕ) (old now : List Node) (past : known ≤ depth) (here : depth < length path) where
-  abbrev made : Node
-  made = record { start = length ranks; depth = depth + 1; count = weight }
+module _ (ranks path : List ℕ) (weight known total : ℕ) (nodes : List Node) (few : known ≤ length path) (less : weight ≤ total) (are : AreNodes ranks nodes total) where
+  abbrev numbers : List ℕ
+  numbers = range_with_len known (length path - known)
 
-  abbrev prefix : ℕ → List ℕ
-  prefix rank = take (rank + 1) path
+  abbrev all : List Node
+  all = nodes ++ map (made_at (length ranks) weight) numbers
 
-  one_longer : depth - known + 1 ≡ depth + 1 - known
-  one_longer = omega arith
+  made_nodes : map (node_of (ranks ++ path)) all ≡ map (node_of ranks) nodes ++ made path weight known
+  made_nodes =
+      map-append (node_of (ranks ++ path)) nodes (map (made_at (length ranks) weight) numbers)
+      ∙ (λ i. kept_nodes ranks path nodes are.inside i ++ (map-map (node_of (ranks ++ path)) (made_at (length ranks) weight) numbers
+        ∙ ap (λ l. map (λ rank. (take (rank + 1) l, weight)) numbers) (drop_at ranks path (length ranks) refl)) i)
 
-  pub inside_more : AreInside (ranks ++ path) now → AreInside (ranks ++ path) (now ++ made ∷ [])
-  inside_more inside = All-push (λ (n : Node). n.start + n.depth ≤ length (ranks ++ path)) now made inside (omega (arith, length-append ranks path))
+  made_are : AreNodes (ranks ++ path) all total
+  made_are =
+      let IsInside = λ (n : Node). n.start + n.depth ≤ length (ranks ++ path) in
+      let IsLight = λ (n : Node). n.count ≤ total in
+      let long = length-append ranks path in
+      record {
+        inside = All-append IsInside nodes (map (made_at (length ranks) weight) numbers)
+            (All-weaker (λ n. n.start + n.depth ≤ length ranks) IsInside (λ n low. omega (arith, low, long)) nodes are.inside)
+            (All-map IsInside (made_at (length ranks) weight) numbers (λ k d here.
+              let within : k < length path - known = omega (arith, here, length-range_with_len known (length path - known)) in
+              omega (arith, long, within, get_or-range_with_len known (length path - known) k d within)));
+        light = All-append IsLight nodes (map (made_at (length ranks) weight) numbers) are.light (All-map IsLight (made_at (length ranks) weight) numbers (λ k d here. less));
+      }
 
-  pub prefixes_more : paths_of (ranks ++ path) now ≡ paths_of ranks old ++ map prefix (range_with_len known (depth - known))
-      → paths_of (ranks ++ path) (now ++ made ∷ []) ≡ paths_of ranks old ++ map prefix (range_with_len known (depth + 1 - known))
-  prefixes_more is =
-      map_push (path_of (ranks ++ path)) now made ∙ (λ i. is i ++ take (depth + 1) (drop_at ranks path (length ranks) refl i) ∷ [])
-      ∙ append_assoc (paths_of ranks old) (map prefix (range_with_len known (depth - known))) (prefix depth ∷ [])
-      ∙ ap (λ l. paths_of ranks old ++ l) (sym (map-range_with_len_more prefix known (depth - known) depth (omega arith)))
-      ∙ ap (λ n. paths_of ranks old ++ map prefix (range_with_len known n)) one_longer
+  pub with_made : (at : ℕ) (now : List Node) (more : List ℕ) → at ≡ length ranks → more ≡ ranks ++ path → now ≡ nodes ++ map (made_at at weight) numbers
+      → AreNodes more now total × (map (node_of more) now ≡ map (node_of ranks) nodes ++ made path weight known)
+  with_made at now more start items is =
+      subst (λ (t : List ℕ × List Node). AreNodes t.0 t.1 total × (map (node_of t.0) t.1 ≡ map (node_of ranks) nodes ++ made path weight known))
+      (λ i. (sym items i, sym (is ∙ ap (λ s. nodes ++ map (made_at s weight) numbers) start) i)) (made_are, made_nodes)
 
-  pub weights_more : counts_of now ≡ counts_of old ++ replicate (depth - known) weight → counts_of (now ++ made ∷ []) ≡ counts_of old ++ replicate (depth + 1 - known) weight
-  weights_more is =
-      map_push (λ (n : Node). n.count) now made ∙ (λ i. is i ++ weight ∷ []) ∙ append_assoc (counts_of old) (replicate (depth - known) weight) (weight ∷ [])
-      ∙ ap (λ l. counts_of old ++ l) (replicate_more (depth - known) weight) ∙ ap (λ n. counts_of old ++ replicate n weight) one_longer
+-- nodes that were lent with room for more, each with the weight
+pub written : (ranks path : List ℕ) (weight : ℕ) (nodes : List Node) (at : List ℕ) (lent old new : List Node) (len : ℕ) → at ≡ ranks → lent ≡ old → old ≡ nodes → len ≡ length lent
+    → new ≡ map (raised at path weight) lent → take len (new ++ drop (length new) old) ≡ map (raised ranks path weight) nodes
+written ranks path weight nodes at lent old new len same is was long raise =
+    take_at new (drop (length new) old) len (ap length raise ∙ length-map lent (raised at path weight) ∙ sym long) ∙ raise ∙ (λ i. map (raised (same i) path weight) ((is ∙ was) i))

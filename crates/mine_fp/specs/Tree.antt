@@ -1,6 +1,6 @@
 -- Prefix trees of weighted paths.
-use Rattle.std.specs.Prelude.{◌≡◌, ◌≢◌, ◌↔◌, ◌≤◌, ◌<◌, ◌+◌, ◌-◌, ◌⊎◌, ℕ, Bool, true, false, ◌&&◌, ◌==◌, IsTrue, List, [], ◌∷◌, drop, length, map, slice_index, slice_index_or, take, if◌then◌else◌}
-use Rattle.std.specs.List.{All, Contains, range_with_len, sum_by}
+use Rattle.std.specs.Prelude.{◌≡◌, ◌≢◌, ◌↔◌, ◌≤◌, ◌+◌, ◌-◌, ℕ, Bool, true, false, ◌&&◌, ◌==◌, IsTrue, List, [], ◌∷◌, drop, length, map, max, take, if◌then◌else◌}
+use Rattle.std.specs.List.{All, AllPairs, Contains, flat_map, range_with_len, sum_by}
 use Rattle.basket_sets.specs.declared.weighted.Weighted.{Weighted}
 use Rattle.basket_sets.specs.Support.{total_of}
 use Rattle.mine_classes.specs.Classes.{ends_in}
@@ -8,35 +8,27 @@ use Rattle.mine_fp.specs.declared.tree.Node.{Node}
 
 -- ---- nodes
 
--- the path of a node: so many ranks from a place on in the list of all
-abbrev pub path_of : List ℕ → Node → List ℕ
-path_of ranks node = take node.depth (drop node.start ranks)
-
-abbrev pub paths_of : List ℕ → List Node → List (List ℕ)
-paths_of ranks nodes = map (path_of ranks) nodes
-
-abbrev pub counts_of : List Node → List ℕ
-counts_of nodes = map (λ node. node.count) nodes
-
--- the path of each node lies in the list of all ranks
-abbrev pub AreInside : List ℕ → List Node → Type 0
-AreInside ranks nodes = All (λ node. node.start + node.depth ≤ length ranks) nodes
+-- the path of a node, which is so many ranks from a place on in the list of all, and its count
+abbrev pub node_of : List ℕ → Node → List ℕ × ℕ
+node_of ranks node = (take node.depth (drop node.start ranks), node.count)
 
 -- what the nodes of all trees are, whose paths weigh so much
 pub record AreNodes (ranks : List ℕ) (nodes : List Node) (total : ℕ) : Type 0 where
-  pub inside : AreInside ranks nodes
-  pub light : All (λ count. count ≤ total) (counts_of nodes)
+  pub inside : All (λ node. node.start + node.depth ≤ length ranks) nodes
+  pub light : All (λ node. node.count ≤ total) nodes
 
 -- ---- trees
 
 -- a tree: the path and the count of each node, in the order in which the nodes were made, and the weight of all paths
 pub record Tree : Type 0 where
-  pub paths : List (List ℕ)
-  pub counts : List ℕ
+  pub nodes : List (List ℕ × ℕ)
   pub total : ℕ
 
 abbrev pub tree_of : List ℕ → List Node → ℕ → Tree
-tree_of ranks nodes total = record { paths = paths_of ranks nodes; counts = counts_of nodes; total = total }
+tree_of ranks nodes total = record { nodes = map (node_of ranks) nodes; total = total }
+
+abbrev pub paths_of : List (List ℕ × ℕ) → List (List ℕ)
+paths_of nodes = map (λ node. node.0) nodes
 
 -- whether a path begins another one
 abbrev pub begins : List ℕ → List ℕ → Bool
@@ -52,43 +44,33 @@ weight_begun path paths = sum_by (λ place. if begins path place.basket then pla
 abbrev pub BeginsOne : List Weighted → List ℕ → Type 0
 BeginsOne paths path = (path ≢ []) × ((place : Weighted) × Contains paths place × IsTrue (begins path place.basket))
 
--- a path is a node's exactly where it begins one of some paths, and the node's count is the weight of those that it begins
-pub record AreBranches (branches : List (List ℕ)) (counts : List ℕ) (paths : List Weighted) : Type 0 where
-  pub begun : (path : List ℕ) → Contains branches path ↔ BeginsOne paths path
-  pub counted : (k : ℕ) → k < length branches → slice_index counts k ≡ weight_begun (slice_index_or branches k []) paths
-
--- a tree stands for a list of weighted paths (Han, Pei and Yin 2000), where no two nodes have one path
+-- a tree stands for a list of weighted paths (Han, Pei and Yin 2000): no two nodes have one path, a path is a node's exactly where it begins one of the list, and the node's count is the weight of those that it begins
 pub record StandsFor (tree : Tree) (paths : List Weighted) : Type 0 where
-  pub distinct : (j k : ℕ) → j < length tree.paths → k < length tree.paths → slice_index_or tree.paths j [] ≡ slice_index_or tree.paths k [] → j ≡ k
-  pub branches : AreBranches tree.paths tree.counts paths
+  pub distinct : AllPairs (λ one other. one ≢ other) (paths_of tree.nodes)
+  pub begun : (path : List ℕ) → Contains (paths_of tree.nodes) path ↔ BeginsOne paths path
+  pub counted : All (λ node. node.1 ≡ weight_begun node.0 paths) tree.nodes
   pub total : tree.total ≡ total_of paths
 
 -- ---- what is added and asked
 
+-- the length of the longest branch that begins a path
+abbrev pub longest : List ℕ → List (List ℕ) → ℕ
+longest path [] = 0
+longest path (branch ∷ branches) = max (if begins branch path then length branch else 0) (longest path branches)
+
 -- a node with the weight of one more path, if that goes through it
 abbrev pub raised : List ℕ → List ℕ → ℕ → Node → Node
 raised ranks path weight node =
-    record { start = node.start; depth = node.depth; count = node.count + (if begins (path_of ranks node) path then weight else 0) }
+    record { start = node.start; depth = node.depth; count = node.count + (if begins (take node.depth (drop node.start ranks)) path then weight else 0) }
 
--- the longest of the branches that begin a path has so many ranks
-pub record IsKnown (branches : List (List ℕ)) (path : List ℕ) (known : ℕ) : Type 0 where
-  pub most : (branch : List ℕ) → Contains branches branch → IsTrue (begins branch path) → length branch ≤ known
-  pub reached : (known ≡ 0) ⊎ ((branch : List ℕ) × Contains branches branch × IsTrue (begins branch path) × (length branch ≡ known))
-
--- the prefixes of a path that have more ranks than so many
-abbrev pub prefixes_past : ℕ → List ℕ → List (List ℕ)
-prefixes_past known path = map (λ rank. take (rank + 1) path) (range_with_len known (length path - known))
+-- the nodes that a path makes: those of its prefixes that have more than so many ranks
+abbrev pub made : List ℕ → ℕ → ℕ → List (List ℕ × ℕ)
+made path weight known = map (λ rank. (take (rank + 1) path, weight)) (range_with_len known (length path - known))
 
 -- a path without its last rank
 abbrev pub front : List ℕ → List ℕ
 front path = take (length path - 1) path
 
 -- the paths above the nodes of a rank, with the nodes' counts
-abbrev pub bases_from : List (List ℕ) → List ℕ → ℕ → List (List ℕ × ℕ)
-bases_from [] counts rank = []
-bases_from (path ∷ paths) [] rank = []
-bases_from (path ∷ paths) (count ∷ counts) rank =
-    if ends_in rank path then (front path, count) ∷ bases_from paths counts rank else bases_from paths counts rank
-
 abbrev pub base_of : Tree → ℕ → List (List ℕ × ℕ)
-base_of tree rank = bases_from tree.paths tree.counts rank
+base_of tree rank = flat_map (λ node. if ends_in rank node.0 then (front node.0, node.1) ∷ [] else []) tree.nodes

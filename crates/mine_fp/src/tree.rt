@@ -1,11 +1,11 @@
 //! The prefix tree of weighted paths.
-ghost use Rattle.std.specs.Prelude.{◌≡◌, ◌≤◌, ◌<◌, ◌+◌, ◌-◌, ◌^◌, ◌++◌, [], ◌∷◌, List, IfOk, MatchOption, OnErr, OnOk, drop, false, length, map, nat_eq, replicate, take, true, vec_capacity, vec_len};
+ghost use Rattle.std.specs.Prelude.{◌≡◌, ◌≤◌, ◌<◌, ◌+◌, ◌^◌, ◌++◌, [], ◌∷◌, ℕ, List, IfOk, MatchOption, OnErr, OnOk, drop, false, length, map, nat_eq, take, true, vec_capacity, vec_len};
 ghost use Rattle.std.specs.List.{All, common_prefix_len};
 ghost use Rattle.basket_sets.specs.declared.weighted.Weighted.{Weighted};
 ghost use Rattle.basket_sets.specs.Database.{weighted};
 ghost use Rattle.basket_sets.specs.Itemset.{IsRising};
 ghost use Rattle.mine_classes.specs.Classes.{ends_in};
-ghost use Rattle.mine_fp.specs.Tree.{AreInside, IsKnown, StandsFor, base_of, counts_of, front, paths_of, prefixes_past, raised};
+ghost use Rattle.mine_fp.specs.Tree.{AreNodes, StandsFor, base_of, front, longest, made, node_of, paths_of, raised};
 
 use std::alloc::{AllocError, Global};
 use std::marker::Model;
@@ -59,7 +59,7 @@ impl FpTree {
         requires weighs { 1 ≤ weight }
         requires light { self.old.total + weight ≤ 2 ^ 40 }
         ensures ok { OnOk result ((paths : List Weighted) → StandsFor self.old paths → StandsFor self.new (paths ++ weighted path.now weight ∷ [])) }
-        ensures order { OnOk result (take (length self.old.paths) self.new.paths ≡ self.old.paths) }
+        ensures order { OnOk result (take (length self.old.nodes) (paths_of self.new.nodes) ≡ paths_of self.old.nodes) }
         ensures err { OnErr result (self.new ≡ self.old) }
     {
         self.ranks.reserve(path.len())?;
@@ -103,10 +103,10 @@ fn above(path: &[u32], rank: u32) -> Option<&[u32]>
 
 /// Adds a weight to each node whose path begins another one. Returns the length of the longest.
 fn add_weight(ranks: &[u32], nodes: &mut [Node], path: &[u32], weight: u64) -> usize
-    requires inside { AreInside ranks.now nodes.old }
+    requires inside { All (λ node. node.start + node.depth ≤ length ranks.now) nodes.old }
     requires light { All (λ node. node.count + weight < 2 ^ 64) nodes.old }
     ensures raised { nodes.new ≡ map (raised ranks.now path.now weight) nodes.old }
-    ensures known { IsKnown (paths_of ranks.now nodes.old) path.now result }
+    ensures known { result ≡ longest path.now (paths_of (map (node_of ranks.now) nodes.old)) }
 {
     let mut known = 0usize;
     let mut start = 0;
@@ -142,10 +142,8 @@ fn shared_ranks(ranks: &[u32], start: usize, path: &[u32]) -> usize
 fn add_nodes(ranks: &mut Vec<u32>, nodes: &mut Vec<Node>, path: &[u32], known: usize, weight: u64)
     requires known { known ≤ length path.now }
     requires room { (vec_len ranks.old + length path.now ≤ vec_capacity ranks.old) × (vec_len nodes.old + length path.now ≤ vec_capacity nodes.old) }
-    requires inside { AreInside ranks.old.items nodes.old.items }
-    ensures inside { AreInside ranks.new.items nodes.new.items }
-    ensures paths { paths_of ranks.new.items nodes.new.items ≡ paths_of ranks.old.items nodes.old.items ++ prefixes_past known path.now }
-    ensures counts { counts_of nodes.new.items ≡ counts_of nodes.old.items ++ replicate (length path.now - known) weight }
+    ensures { (total : ℕ) → weight ≤ total → AreNodes ranks.old.items nodes.old.items total
+        → AreNodes ranks.new.items nodes.new.items total × (map (node_of ranks.new.items) nodes.new.items ≡ map (node_of ranks.old.items) nodes.old.items ++ made path.now weight known) }
 {
     if known == path.len() {
         return;
