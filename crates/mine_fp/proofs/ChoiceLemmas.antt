@@ -23,7 +23,7 @@ use Rattle.mine_classes.specs.Conditional.{ConditionalSupports, conditional, is_
 use Rattle.mine_classes.specs.Mined.{ListsHaveClassSize}
 use Rattle.mine_fp.specs.Level.{as_items}
 use Rattle.mine_fp.proofs.ClassLemmas.{listed_long}
-use Rattle.mine_fp.proofs.LevelLemmas.{rising_same}
+use Rattle.mine_fp.proofs.LevelLemmas.{more_items}
 use Rattle.mine_fp.proofs.StraightLemmas.{same_support}
 use Rattle.mine_classes.proofs.theory.Branches.{full_from_branch, from_picked}
 use Rattle.mine_classes.specs.Paths.{is_branch}
@@ -170,31 +170,7 @@ module _ (baskets : List Weighted) (least rank : ℕ) (one : is_branch baskets �
 pub chosen_items : (names suffix : List ℕ) (rank support : ℕ) (c : Counted) (item : ℕ) → item ≡ get_or names rank 0
     → record { set = with_item item (as_items names suffix c).set; count = support } ≡ as_items names suffix (with_rank rank (recounted support c))
 chosen_items names suffix rank support c item is =
-    let same = rising_same (item ∷ map (λ k. get_or names k 0) c.set ++ suffix) (map (λ k. get_or names k 0) (c.set ++ rank ∷ []) ++ suffix) into back in
-    λ i. record { set = same i; count = support }
-  where
-    into : (z : ℕ) → Member z (item ∷ map (λ k. get_or names k 0) c.set ++ suffix) → Member z (map (λ k. get_or names k 0) (c.set ++ rank ∷ []) ++ suffix)
-    into z (inl e) = Member-append_left z (map (λ k. get_or names k 0) (c.set ++ rank ∷ [])) suffix
-        (subst (λ x. Member x (map (λ k. get_or names k 0) (c.set ++ rank ∷ []))) (sym is ∙ e) (Member-map (λ k. get_or names k 0) rank (c.set ++ rank ∷ []) (Member-append_right rank c.set (rank ∷ []) (inl refl))))
-    into z (inr n) = elim (Member-append z (map (λ k. get_or names k 0) c.set) suffix n) [
-      | inl o ↦
-          (let d = Member-from_map (λ k. get_or names k 0) z c.set o in
-          Member-append_left z (map (λ k. get_or names k 0) (c.set ++ rank ∷ [])) suffix
-          (subst (λ x. Member x (map (λ k. get_or names k 0) (c.set ++ rank ∷ []))) d.2 (Member-map (λ k. get_or names k 0) d.0 (c.set ++ rank ∷ []) (Member-append_left d.0 c.set (rank ∷ []) d.1))))
-      | inr o ↦ Member-append_right z (map (λ k. get_or names k 0) (c.set ++ rank ∷ [])) suffix o
-    ]
-
-    back : (z : ℕ) → Member z (map (λ k. get_or names k 0) (c.set ++ rank ∷ []) ++ suffix) → Member z (item ∷ map (λ k. get_or names k 0) c.set ++ suffix)
-    back z m = elim (Member-append z (map (λ k. get_or names k 0) (c.set ++ rank ∷ [])) suffix m) [
-      | inl n ↦
-          (let d = Member-from_map (λ k. get_or names k 0) z (c.set ++ rank ∷ []) n in
-          elim (Member-append d.0 c.set (rank ∷ []) d.1) [
-            | inl o ↦ inr (Member-append_left z (map (λ k. get_or names k 0) c.set) suffix (subst (λ x. Member x (map (λ k. get_or names k 0) c.set)) d.2 (Member-map (λ k. get_or names k 0) d.0 c.set o)))
-            | inr (inl e) ↦ inl (is ∙ ap (λ k. get_or names k 0) e ∙ d.2)
-            | inr (inr o) ↦ absurd o
-          ])
-      | inr n ↦ inr (Member-append_right z (map (λ k. get_or names k 0) c.set) suffix n)
-    ]
+    let same = ap (λ x. with_item x (as_items names suffix c).set) is ∙ sym (more_items names suffix c.set rank) in λ i. record { set = same i; count = support }
 
 -- one more of the sets of lower ranks
 pub chosen_more : (names suffix : List ℕ) (rank support item at k : ℕ) (d : Counted) (before old now new sets : List Counted) → k < length sets → length before + k ≡ at

@@ -1,7 +1,8 @@
 -- Nodes of a tree, where a path is added.
-use Rattle.std.proofs.Common.{◌≡◌, ℕ, ◌+◌, ◌-◌, ◌<◌, ◌≤◌, ◌&&◌, Bool, true, false, List, [], ◌∷◌, ◌++◌, length, get_or, map, set, take, drop, zero, suc, cond, eqb, max, refl, sym, ap, ◌∙◌, subst, inl, inr, arith}
+use Rattle.std.proofs.Common.{◌≡◌, ℕ, ◌+◌, ◌-◌, ◌<◌, ◌≤◌, ◌&&◌, Bool, true, false, List, [], ◌∷◌, ◌++◌, length, get_or, map, set, take, drop, zero, suc, cond, eqb, leb, max, refl, sym, ap, ◌∙◌, subst, inl, inr, arith}
 use Rattle.std.specs.List.{All, common_prefix_len, range_with_len}
-use Rattle.std.proofs.lemmas.Bool.{and_from, cases_Bool}
+use Rattle.std.proofs.Math.Dec.{leb-suc-suc, leb-suc-zero}
+use Rattle.std.proofs.lemmas.Bool.{le-leb}
 use Rattle.std.proofs.lemmas.List.{drop_at, drop-append-le, get_or-append_right, get_or-drop, get_or_default, length-append, length-drop, length-map, length-take-le, map-append, map_push, take_at, take-append-le, take_more}
 use Rattle.std.proofs.lemmas.List.Edits.{map_over_more}
 use Rattle.std.proofs.lemmas.List.Elements.{All-append, All-head, All-map, All-tail, All-weaker}
@@ -11,33 +12,26 @@ use Rattle.mine_fp.specs.declared.tree.Node.{Node}
 use Rattle.mine_fp.specs.Tree.{AreNodes, begins, longest, made, node_of, paths_of, raised}
 use Rattle.mine_fp.proofs.BranchLemmas.{longest_push}
 
-pub begins_within : (n : ℕ) (p q : List ℕ) → n ≤ common_prefix_len eqb p q → begins (take n p) q ≡ true
-begins_within zero p q less = refl
-begins_within (suc n) [] q less = absurd (omega arith)
-begins_within (suc n) (x ∷ p) [] less = absurd (omega arith)
-begins_within (suc n) (x ∷ p) (y ∷ q) less = elim (cases_Bool (eqb x y)) [
-  | inl e ↦ (let more = subst (λ b. suc n ≤ cond b (1 + common_prefix_len eqb p q) 0) e less in and_from (eqb x y) (begins (take n p) q) e (begins_within n p q (omega arith)))
-  | inr e ↦ (let none = subst (λ b. suc n ≤ cond b (1 + common_prefix_len eqb p q) 0) e less in absurd (omega arith))
-]
+pub begins_is : (n : ℕ) (p q : List ℕ) → n ≤ length p → begins (take n p) q ≡ leb n (common_prefix_len eqb p q)
+begins_is zero p q here = sym (le-leb 0 (common_prefix_len eqb p q) (omega arith))
+begins_is (suc n) [] q here = absurd (omega arith)
+begins_is (suc n) (x ∷ p) [] here = sym (leb-suc-zero n)
+begins_is (suc n) (x ∷ p) (y ∷ q) here = go (eqb x y) (begins_is n p q (omega arith))
+  where
+    go : (b : Bool) → begins (take n p) q ≡ leb n (common_prefix_len eqb p q) → (b && begins (take n p) q) ≡ leb (suc n) (cond b (1 + common_prefix_len eqb p q) 0)
+    go true rest = let one : suc (common_prefix_len eqb p q) ≡ 1 + common_prefix_len eqb p q = omega arith in rest ∙ sym (leb-suc-suc n (common_prefix_len eqb p q)) ∙ ap (leb (suc n)) one
+    go false rest = sym (leb-suc-zero n)
 
-pub begins_beyond : (n : ℕ) (p q : List ℕ) → common_prefix_len eqb p q < n → n ≤ length p → begins (take n p) q ≡ false
-begins_beyond zero p q more here = absurd (omega arith)
-begins_beyond (suc n) [] q more here = absurd (omega arith)
-begins_beyond (suc n) (x ∷ p) [] more here = refl
-begins_beyond (suc n) (x ∷ p) (y ∷ q) more here = elim (cases_Bool (eqb x y)) [
-  | inl e ↦ (let less = subst (λ b. cond b (1 + common_prefix_len eqb p q) 0 < suc n) e more in ap (λ b. b && begins (take n p) q) e ∙ begins_beyond n p q (omega arith) (omega arith))
-  | inr e ↦ ap (λ b. b && begins (take n p) q) e
-]
+-- where the elements before a place are changed, the others are as they were
+pub rest_at : {X : Type 0} (f : X → X) (xs now : List X) (k : ℕ) (d : X) → k < length xs → now ≡ map f (take k xs) ++ drop k xs → get_or now k d ≡ get_or xs k d
+rest_at f xs now k d here is =
+    let long = length-map (take k xs) f ∙ length-take-le k xs (omega arith) in
+    let first : k + (k - k) ≡ k = omega arith in
+    ap (λ l. get_or l k d) is ∙ get_or-append_right (map f (take k xs)) (drop k xs) k k d long (omega arith) ∙ get_or-drop k xs (k - k) d ∙ ap (λ n. get_or xs n d) first
 
--- the nodes before a place have more weight, the others are as they were
-module _ (ranks path : List ℕ) (weight : ℕ) (nodes now : List Node) (k : ℕ) (d : Node) (here : k < length nodes) (is : now ≡ map (raised ranks path weight) (take k nodes) ++ drop k nodes) where
-  pub rest_at : get_or now k d ≡ get_or nodes k d
-  rest_at =
-      let long = length-map (take k nodes) (raised ranks path weight) ∙ length-take-le k nodes (omega arith) in
-      let first : k + (k - k) ≡ k = omega arith in
-      ap (λ l. get_or l k d) is ∙ get_or-append_right (map (raised ranks path weight) (take k nodes)) (drop k nodes) k k d long (omega arith)
-      ∙ get_or-drop k nodes (k - k) d ∙ ap (λ n. get_or nodes n d) first
-
+-- the nodes before a place have more weight
+module _ (ranks path : List ℕ) (weight : ℕ) (nodes now : List Node) (k : ℕ) (d : Node) (here : k < length nodes) (there : k < length now)
+    (is : now ≡ map (raised ranks path weight) (take k nodes) ++ drop k nodes) where
   abbrev node : Node
   node = get_or now k d
 
@@ -48,12 +42,11 @@ module _ (ranks path : List ℕ) (weight : ℕ) (nodes now : List Node) (k : ℕ
       → (set now k (record { start = node.start; depth = node.depth; count = count }) ≡ map (raised ranks path weight) (take (k + 1) nodes) ++ drop (k + 1) nodes)
       × (longest_of (take (k + 1) nodes) ≡ max (longest_of (take k nodes)) (cond through node.depth 0))
   raised_more through count inside goes more =
-      let here_too : k < length now = omega (arith, ap length is, length-append (map (raised ranks path weight) (take k nodes)) (drop k nodes), length-map (take k nodes) (raised ranks path weight), length-take-le k nodes (omega arith), length-drop k nodes) in
       let long = length-take-le node.depth (drop node.start ranks) (omega (arith, length-drop node.start ranks)) in
       let one = node_of ranks node in (
         ap (λ n. set now k (record { start = node.start; depth = node.depth; count = n })) (more ∙ ap (λ b. node.count + cond b weight 0) (sym goes))
-            ∙ map_over_more (raised ranks path weight) nodes now k node here is (get_or_default now k d node here_too),
-        ap longest_of (take_more nodes k d here ∙ ap (λ n. take k nodes ++ n ∷ []) (sym rest_at)) ∙ ap (λ l. longest path (paths_of l)) (map_push (node_of ranks) (take k nodes) node)
+            ∙ map_over_more (raised ranks path weight) nodes now k node here is (get_or_default now k d node there),
+        ap longest_of (take_more nodes k d here ∙ ap (λ n. take k nodes ++ n ∷ []) (sym (rest_at (raised ranks path weight) nodes now k d here is))) ∙ ap (λ l. longest path (paths_of l)) (map_push (node_of ranks) (take k nodes) node)
             ∙ ap (longest path) (map_push (λ (n : List ℕ × ℕ). n.0) (map (node_of ranks) (take k nodes)) one)
             ∙ longest_push path (paths_of (map (node_of ranks) (take k nodes))) one.0 ∙ (λ i. max (longest_of (take k nodes)) (cond (goes i) (long i) 0)),
       )

@@ -94,6 +94,7 @@ impl FpTree {
 }
 
 /// The ranks above the last one of a path, if that is the given one.
+#[tactic(auto, using(crate::proofs::BaseLemmas::ends_push, crate::proofs::BaseLemmas::front_push))]
 fn above(path: &[u32], rank: u32) -> Option<&[u32]>
     ensures { MatchOption result (ends_in rank path.now ≡ false) (λ above. (ends_in rank path.now ≡ true) × (above.now ≡ front path.now)) }
 {

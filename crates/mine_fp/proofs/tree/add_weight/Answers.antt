@@ -1,9 +1,10 @@
-use Rattle.std.proofs.Common.{◌≡◌, ◌≤◌, ◌+◌, ◌++◌, true, false, get_or, length, map, nat_eq, drop, refl, sym, ap, ◌∙◌, arith}
+use Rattle.std.proofs.Common.{◌≡◌, ◌≤◌, ◌+◌, ◌++◌, true, false, get_or, leb, length, map, nat_eq, drop, refl, sym, ap, ◌∙◌, arith}
 use Rattle.std.specs.List.{common_prefix_len}
 use Rattle.std.proofs.lemmas.List.{append-nil, drop_all, length-drop, take_all}
+use Rattle.std.proofs.lemmas.Bool.{le-leb, lt-leb}
 use Rattle.mine_fp.specs.declared.tree.Node.{Node}
 use Rattle.mine_fp.specs.Tree.{longest, node_of, paths_of, raised}
-use Rattle.mine_fp.proofs.NodeLemmas.{begins_beyond, begins_within, raised_more, rest_at}
+use Rattle.mine_fp.proofs.NodeLemmas.{begins_is, raised_more, rest_at}
 use Rattle.mine_fp.proofs.tree.add_weight.Goals as goal
 use Rattle.mine_fp.proofs.tree.add_weight.Goals.{then-node-start, else-node-start, then-node-shared, else-node-shared}
 
@@ -13,13 +14,13 @@ none = record { start = 0; depth = 0; count = 0 }
 pub shared_ranks-shared-requires-then-node-start : goal.shared_ranks-shared-requires-then-node-start
 shared_ranks-shared-requires-then-node-start c =
     let k = c.loop-node.node-index in
-    let same = rest_at c.args.ranks.now c.args.path.now c.args.weight c.args.nodes.now c.loop-node.nodes k none c.loop-node-test.true c.loop-node.invariant.raised in
+    let same = rest_at (raised c.args.ranks.now c.args.path.now c.args.weight) c.args.nodes.now c.loop-node.nodes k none c.loop-node-test.true c.loop-node.invariant.raised in
     omega (arith, c.requires.inside k none c.loop-node-test.true, ap (λ (n : Node). n.start) same)
 
 pub overflow_add-node : goal.overflow_add-node
 overflow_add-node c =
     let k = c.loop-node.node-index in
-    let same = rest_at c.args.ranks.now c.args.path.now c.args.weight c.args.nodes.now c.loop-node.nodes k none c.loop-node-test.true c.loop-node.invariant.raised in
+    let same = rest_at (raised c.args.ranks.now c.args.path.now c.args.weight) c.args.nodes.now c.loop-node.nodes k none c.loop-node-test.true c.loop-node.invariant.raised in
     omega (arith, c.requires.light k none c.loop-node-test.true, ap (λ (n : Node). n.count) same)
 
 pub loop-node-preserved : goal.loop-node-preserved
@@ -30,7 +31,7 @@ loop-node-preserved c =
     let k = c.loop-node.node-index in
     let node = get_or c.loop-node.nodes k none in
     let so_far = c.loop-node.invariant in
-    let same = rest_at ranks path c.args.weight nodes c.loop-node.nodes k none c.loop-node-test.true so_far.raised in
+    let same = rest_at (raised ranks path c.args.weight) nodes c.loop-node.nodes k none c.loop-node-test.true so_far.raised in
     let inside : node.start + node.depth ≤ length ranks = omega (arith, c.requires.inside k none c.loop-node-test.true, ap (λ (n : Node). n.start) same, ap (λ (n : Node). n.depth) same) in
     let start : c.if-node-start.start ≡ node.start = elim c.if-node-start.branch [
       | then-node-start w ↦ w.start-is
@@ -41,13 +42,14 @@ loop-node-preserved c =
       | else-node-start w ↦ w.shared-is ∙ so_far.shared ∙ ap (λ s. common_prefix_len nat_eq (drop s ranks) path) (sym w.if-node-start.false)
     ] in
     let shared_is = shared ∙ ap (λ s. common_prefix_len nat_eq (drop s ranks) path) (sym start) in
-    let next = raised_more ranks path c.args.weight nodes c.loop-node.nodes k none c.loop-node-test.true so_far.raised in
+    let test = begins_is node.depth (drop node.start ranks) path (omega (arith, length-drop node.start ranks)) ∙ ap (leb node.depth) (sym shared) in
+    let next = raised_more ranks path c.args.weight nodes c.loop-node.nodes k none c.loop-node-test.true (omega (arith, c.loop-node-test.true, c.loop-node.auto.nodes)) so_far.raised in
     elim c.if-node-shared.branch [
       | then-node-shared w ↦
-          (let to = next true (node.count + c.args.weight) inside (begins_within node.depth (drop node.start ranks) path (omega (arith, w.if-node-shared.true))) refl in
+          (let to = next true (node.count + c.args.weight) inside (test ∙ le-leb node.depth c.if-node-start.shared w.if-node-shared.true) refl in
           record { shared = shared_is; raised = w.nodes-is ∙ to.0; known = omega (arith, w.known-is, w.max-known.ensures, so_far.known, to.1) })
       | else-node-shared w ↦
-          (let to = next false node.count inside (begins_beyond node.depth (drop node.start ranks) path (omega (arith, w.if-node-shared.false)) (omega (arith, length-drop node.start ranks))) (omega arith) in
+          (let to = next false node.count inside (test ∙ lt-leb node.depth c.if-node-start.shared w.if-node-shared.false) (omega arith) in
           record { shared = shared_is; raised = w.nodes-is ∙ to.0; known = omega (arith, w.known-is, so_far.known, to.1) })
     ]
 
