@@ -6,6 +6,7 @@ use Rattle.std.specs.List.{IsDistinct, flat_map, range_with_len}
 use Rattle.std.proofs.lemmas.Bool.{and_from, and_parts, eqb-true, lt-ltb, ltb-true}
 use Rattle.std.proofs.lemmas.List.{get_or-append_right, get_or-map, get_or_append_left, length-append, length-map, map-append, take_more}
 use Rattle.std.proofs.lemmas.List.Elements.{All-from_recursion, recursion_from_All}
+use Rattle.std.proofs.lemmas.Simd.{map-map}
 use Rattle.basket_sets.specs.declared.weighted.Weighted.{Weighted}
 use Rattle.basket_sets.specs.declared.counted.Counted.{Counted}
 use Rattle.basket_sets.specs.declared.minimum.Minimum.TheVariants.{Count}
@@ -22,7 +23,7 @@ use Rattle.mine_classes.specs.Classes.{ClassesAreAll, ClassesAreConditional, Lis
 use Rattle.mine_classes.specs.Conditional.{ConditionalSupports, conditional, is_kept}
 use Rattle.mine_classes.specs.Mined.{ListsHaveClassSize}
 use Rattle.mine_fp.specs.Level.{as_items}
-use Rattle.mine_fp.proofs.ClassLemmas.{listed_long}
+use Rattle.mine_fp.proofs.ClassLemmas.{in_some, listed_long}
 use Rattle.mine_fp.proofs.LevelLemmas.{more_items}
 use Rattle.mine_fp.proofs.StraightLemmas.{same_support}
 use Rattle.mine_classes.proofs.theory.Branches.{full_from_branch, from_picked}
@@ -35,10 +36,6 @@ recounted count c = record { set = c.set; count = count }
 -- a rank alone, and with each set of a list, all with the rank's support
 abbrev pub chosen : ℕ → ℕ → List Counted → List Counted
 chosen rank support list = extended rank support (map (recounted support) list)
-
-recounted_sets : (count : ℕ) (list : List Counted) → map (λ (c : Counted). c.set) (map (recounted count) list) ≡ map (λ (c : Counted). c.set) list
-recounted_sets count [] = refl
-recounted_sets count (c ∷ list) = ap (λ l. c.set ∷ l) (recounted_sets count list)
 
 recounted_classes : (count : ℕ) (classes : List (List Counted)) → flat_map (λ class. class) (map (map (recounted count)) classes) ≡ map (recounted count) (flat_map (λ class. class) classes)
 recounted_classes count [] = refl
@@ -54,13 +51,6 @@ members_below rank (x ∷ y ∷ set) up h k (inl e) =
     let high = members_below rank (y ∷ set) (rest_rises x (y ∷ set) up) h y (inl refl) in
     omega arith
 members_below rank (x ∷ y ∷ set) up h k (inr m) = members_below rank (y ∷ set) (rest_rises x (y ∷ set) up) h k m
-
-in_some : (baskets : List Weighted) (k : ℕ) → Member k (flat_map (λ place. place.basket) baskets) → (place : Weighted) × Member place baskets × Member k place.basket
-in_some [] k m = absurd m
-in_some (p ∷ baskets) k m = elim (Member-append k p.basket (flat_map (λ q. q.basket) baskets) m) [
-  | inl here ↦ (p, inl refl, here)
-  | inr later ↦ (let r = in_some baskets k later in (r.0, inr r.1, r.2))
-]
 
 module _ (baskets : List Weighted) (least rank : ℕ) (one : is_branch baskets ≡ true) (met : is_frequent baskets (Count least) (rank ∷ []) ≡ true) (law : ConditionalSupports) where
   abbrev support : ℕ
@@ -117,7 +107,7 @@ module _ (baskets : List Weighted) (least rank : ℕ) (one : is_branch baskets �
 
   lower_class : (other : ℕ) (class : List Counted) → other < rank → ListsClass baskets (Count least) other class → ListsClass lower (Count least) other (map (recounted support) class)
   lower_class other class less lists = record {
-    distinct = subst (IsDistinct (pointwise nat_eq)) (sym (recounted_sets support class)) lists.distinct;
+    distinct = subst (IsDistinct (pointwise nat_eq)) (sym (map-map (λ (c : Counted). c.set) (recounted support) class)) lists.distinct;
     sound = All-from_recursion (IsOfLower other) (map (recounted support) class) (All-from_Member (IsOfLower other) (map (recounted support) class) (λ c m.
         let d = Member-from_map (recounted support) c class m in
         let s = at_Member (IsOfClass other) d.0 class (recursion_from_All (IsOfClass other) class lists.sound) d.1 in

@@ -1,6 +1,7 @@
 -- The sets of a conditional database as items.
 use Rattle.std.proofs.Common.{◌≡◌, ℕ, ◌<◌, ◌↔◌, List, [], ◌∷◌, ◌++◌, length, get_or, map, refl, sym, ap, ◌∙◌, subst, inl, inr, arith, zero, suc}
 use Rattle.std.proofs.lemmas.List.{append_assoc, get_or-map, length-map, map-append}
+use Rattle.std.proofs.lemmas.Simd.{map-map}
 use Rattle.basket_ranks.specs.Codes.{decoded, decoded_set}
 use Rattle.basket_ranks.proofs.theory.Coding.{from_decoded, into_decoded}
 use Rattle.basket_sets.specs.declared.weighted.Weighted.{Weighted}
@@ -105,18 +106,13 @@ length-decoded items set up over within =
 -- the names of a rank's pairs: the items of the ranks that are kept, and the pairs' supports
 pub named_ranks : (names : List ℕ) (baskets : List Weighted) (least rank : ℕ)
     → map (λ (name : ℕ × ℕ). name.0) (map (named_pair names) (pairs_of baskets least rank)) ≡ map (λ other. get_or names other 0) (kept_ranks baskets least rank)
-named_ranks names baskets least rank = go (kept_ranks baskets least rank)
-  where
-    go : (ranks : List ℕ) → map (λ (name : ℕ × ℕ). name.0) (map (named_pair names) (map (λ other. (other, support_of baskets (other ∷ rank ∷ []))) ranks)) ≡ map (λ other. get_or names other 0) ranks
-    go [] = refl
-    go (first ∷ ranks) = ap (λ l. get_or names first 0 ∷ l) (go ranks)
+named_ranks names baskets least rank =
+    let pair : ℕ → ℕ × ℕ = λ other. (other, support_of baskets (other ∷ rank ∷ [])) in
+    ap (map (λ (name : ℕ × ℕ). name.0)) (map-map (named_pair names) pair (kept_ranks baskets least rank)) ∙ map-map (λ (name : ℕ × ℕ). name.0) (λ other. named_pair names (pair other)) (kept_ranks baskets least rank)
 
 pub named_supports : (names : List ℕ) (baskets : List Weighted) (least rank k : ℕ) → k < length (kept_ranks baskets least rank)
     → (get_or (map (named_pair names) (pairs_of baskets least rank)) k (0, 0)).1 ≡ support_of baskets (get_or (kept_ranks baskets least rank) k 0 ∷ rank ∷ [])
-named_supports names baskets least rank k here = go (kept_ranks baskets least rank) k here
-  where
-    go : (ranks : List ℕ) (k : ℕ) → k < length ranks
-        → (get_or (map (named_pair names) (map (λ other. (other, support_of baskets (other ∷ rank ∷ []))) ranks)) k (0, 0)).1 ≡ support_of baskets (get_or ranks k 0 ∷ rank ∷ [])
-    go [] k here = absurd (omega arith)
-    go (first ∷ ranks) zero here = refl
-    go (first ∷ ranks) (suc k) here = go ranks k (omega arith)
+named_supports names baskets least rank k here =
+    let pair : ℕ → ℕ × ℕ = λ other. (other, support_of baskets (other ∷ rank ∷ [])) in
+    ap (λ (l : List (ℕ × ℕ)). (get_or l k (0, 0)).1) (map-map (named_pair names) pair (kept_ranks baskets least rank))
+    ∙ ap (λ (name : ℕ × ℕ). name.1) (get_or-map (λ other. named_pair names (pair other)) (kept_ranks baskets least rank) k 0 (0, 0) here)

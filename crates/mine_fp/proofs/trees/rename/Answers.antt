@@ -2,16 +2,17 @@ use Rattle.std.proofs.Common.{◌≡◌, ◌<◌, ◌∙◌, ℕ, List, get_or, 
 use Rattle.std.proofs.lemmas.List.{get_or-map, get_or_default, length-map}
 use Rattle.std.proofs.lemmas.List.Edits.{map_over_more}
 use Rattle.basket_sets.specs.Counts.{AllBelow}
-use Rattle.basket_sets.proofs.theory.Rising.{has_place}
+use Rattle.basket_sets.proofs.theory.Tests.{all_below_at}
 use Rattle.mine_classes.specs.Pairs.{named_pair}
 use Rattle.mine_fp.proofs.NodeLemmas.{rest_at}
 use Rattle.mine_fp.proofs.trees.rename.Goals as goal
 
 rank_below : (before : List (ℕ × ℕ)) (count at : ℕ) → AllBelow count (map (λ (pair : ℕ × ℕ). pair.0) before) → at < length before → (get_or before at (0, 0)).0 < count
-rank_below before count at low here =
-    let ranks = map (λ (pair : ℕ × ℕ). pair.0) before in
-    let within = low (get_or ranks at 0) (has_place ranks at (omega (arith, here, length-map before (λ (pair : ℕ × ℕ). pair.0)))) in
-    omega (arith, within, get_or-map (λ (pair : ℕ × ℕ). pair.0) before at (0, 0) 0 here)
+rank_below before count at low here = omega (
+  arith,
+  all_below_at count (map (λ (pair : ℕ × ℕ). pair.0) before) at low (omega (arith, here, length-map before (λ (pair : ℕ × ℕ). pair.0))),
+  get_or-map (λ (pair : ℕ × ℕ). pair.0) before at (0, 0) 0 here,
+)
 
 pub bounds-names-pairs : goal.bounds-names-pairs
 bounds-names-pairs c =
