@@ -1,46 +1,37 @@
--- A tree's branches, where a path grows by a rank.
-use Rattle.std.proofs.Common.{◌≡◌, ◌≢◌, ℕ, ◌+◌, ◌<◌, ◌≤◌, true, false, List, [], ◌∷◌, ◌++◌, length, get_or, set, cond, eqb, refl, sym, ap, ◌∙◌, subst, inl, inr, ◌⊎◌, arith, zero-add, ◌-◌}
-use Rattle.std.specs.List.{Contains}
-use Rattle.std.proofs.lemmas.Bool.{and_from, and_parts, cases_Bool, cases_order, eq-eqb, eqb-true, true≢false}
-use Rattle.std.proofs.lemmas.List.{get_or_append_left, get_or-append_right, get_or_default, get_or-set_other, get_or-set_same, length-append}
+-- A tree's branches, where a path is added.
+use Rattle.std.proofs.Common.{◌≡◌, ◌≢◌, ℕ, ◌+◌, ◌-◌, ◌<◌, ◌≤◌, ◌↔◌, true, List, [], ◌∷◌, ◌++◌, length, get_or, cond, eqb, map, max, take, zero, suc, refl, sym, ap, ◌∙◌, subst, inl, inr, ◌⊎◌, arith, zero-add}
+use Rattle.std.specs.List.{All, AllPairs, Contains, range_with_len}
+use Rattle.std.proofs.lemmas.Bool.{and_from, and_parts, cases_Bool, cases_lt, eq-eqb, eqb-true, true≢false}
+use Rattle.std.proofs.lemmas.List.{get_or_append_left, get_or-append_right, get_or_default, length-append, length-map, length-take-le, map-append, take_at, take-take}
+use Rattle.std.proofs.lemmas.List.Elements.{All-append, All-map, Contains-append_cases, Contains-append_left, Contains-append_right, Contains-get_or, Contains-push, Contains-push_cases}
+use Rattle.std.proofs.lemmas.List.FromFn.{get_or-map-range_with_len, get_or-range_with_len, length-map-range_with_len, length-range_with_len}
 use Rattle.std.proofs.lemmas.List.Sums.{sum_by-append, sum_by-cons}
+use Rattle.std.proofs.lemmas.Simd.{map-map}
 use Rattle.basket_sets.specs.declared.weighted.Weighted.{Weighted}
 use Rattle.basket_sets.specs.Database.{weighted}
-use Rattle.basket_sets.proofs.theory.Members.{Member, Member-append, Member-append_left, Member-append_right, Member-from_Contains, Contains-from_Member}
-use Rattle.basket_sets.proofs.theory.Rising.{same_test}
-use Rattle.mine_fp.specs.Tree.{AreBranches, BeginsOne, begins, weight_begun}
+use Rattle.basket_sets.specs.Support.{total_of}
+use Rattle.mine_fp.specs.Tree.{BeginsOne, StandsFor, Tree, begins, longest, made, paths_of, weight_begun}
 
 -- ---- paths that begin others
 
-begins_itself : (p : List ℕ) → begins p p ≡ true
-begins_itself [] = refl
-begins_itself (x ∷ p) = and_from (eqb x x) (begins p p) (eq-eqb x x refl) (begins_itself p)
+take_begins : (n : ℕ) (p : List ℕ) → begins (take n p) p ≡ true
+take_begins zero p = refl
+take_begins (suc n) [] = refl
+take_begins (suc n) (x ∷ p) = and_from (eqb x x) (begins (take n p) p) (eq-eqb x x refl) (take_begins n p)
 
-begins_more : (p q more : List ℕ) → begins p q ≡ true → begins p (q ++ more) ≡ true
-begins_more [] q more h = refl
-begins_more (x ∷ p) [] more h = absurd (true≢false (sym h))
-begins_more (x ∷ p) (y ∷ q) more h =
-    let parts = and_parts (eqb x y) (begins p q) h in and_from (eqb x y) (begins p (q ++ more)) parts.0 (begins_more p q more parts.1)
+begins_take : (q p : List ℕ) → begins q p ≡ true → (take (length q) p ≡ q) × (length q ≤ length p)
+begins_take [] p h = (refl, omega arith)
+begins_take (x ∷ q) [] h = absurd (true≢false (sym h))
+begins_take (x ∷ q) (y ∷ p) h =
+    let parts = and_parts (eqb x y) (begins q p) h in
+    let rest = begins_take q p parts.1 in
+    (λ i. sym (eqb-true x y parts.0) i ∷ rest.0 i, omega (arith, rest.1))
 
-begins_no_longer : (p q : List ℕ) → begins p q ≡ true → length p ≤ length q
-begins_no_longer [] q h = omega arith
-begins_no_longer (x ∷ p) [] h = absurd (true≢false (sym h))
-begins_no_longer (x ∷ p) (y ∷ q) h = let rest = begins_no_longer p q (and_parts (eqb x y) (begins p q) h).1 in omega arith
-
-begins_last : (p q : List ℕ) (r : ℕ) → begins p (q ++ r ∷ []) ≡ true → (begins p q ≡ true) ⊎ (p ≡ q ++ r ∷ [])
-begins_last [] q r h = inl refl
-begins_last (x ∷ []) [] r h = inr (ap (λ y. y ∷ []) (eqb-true x r (and_parts (eqb x r) true h).0))
-begins_last (x ∷ y ∷ p) [] r h = absurd (true≢false (sym (and_parts (eqb x r) false h).1))
-begins_last (x ∷ p) (y ∷ q) r h =
-    let parts = and_parts (eqb x y) (begins p (q ++ r ∷ [])) h in
-    elim (begins_last p q r parts.1) [
-      | inl less ↦ inl (and_from (eqb x y) (begins p q) parts.0 less)
-      | inr same ↦ inr (λ i. eqb-true x y parts.0 i ∷ same i)
-    ]
-
-push_some : (q : List ℕ) (r : ℕ) → q ++ r ∷ [] ≢ []
-push_some [] r e = cc
-push_some (x ∷ q) r e = cc
+-- of two paths that begin a third, the shorter one begins all that the longer one begins
+shorter_begins : (q b p r : List ℕ) → begins q p ≡ true → begins b p ≡ true → length q ≤ length b → begins b r ≡ true → begins q r ≡ true
+shorter_begins q b p r short long less h =
+    let same = sym (take-take (length q) (length b) p less ∙ (begins_take q p short).0) ∙ ap (take (length q)) ((begins_take b p long).0 ∙ sym (begins_take b r h).0) ∙ take-take (length q) (length b) r less in
+    subst (λ t. begins t r ≡ true) (sym same) (take_begins (length q) r)
 
 -- ---- weights
 
@@ -48,148 +39,166 @@ weight_push : (p q : List ℕ) (w : ℕ) (paths : List Weighted) → weight_begu
 weight_push p q w paths =
     sum_by-append (λ (place : Weighted). cond (begins p place.basket) place.weight 0) paths (weighted q w ∷ []) ∙ ap (λ n. weight_begun p paths + n) (zero-add (cond (begins p q) w 0))
 
-none_begun : (p : List ℕ) (paths : List Weighted) → ((place : Weighted) → Member place paths → begins p place.basket ≡ false) → weight_begun p paths ≡ 0
+none_begun : (p : List ℕ) (paths : List Weighted) → ((place : Weighted) → Contains paths place → begins p place.basket ≡ true → ⊥) → weight_begun p paths ≡ 0
 none_begun p [] none = refl
-none_begun p (place ∷ paths) none =
-    sum_by-cons (λ (x : Weighted). cond (begins p x.basket) x.weight 0) place paths
-    ∙ ap (λ b. cond b place.weight 0 + weight_begun p paths) (none place (inl refl)) ∙ zero-add (weight_begun p paths) ∙ none_begun p paths (λ x m. none x (inr m))
+none_begun p (place ∷ paths) none = elim (cases_Bool (begins p place.basket)) [
+  | inl e ↦ absurd (none place (0, omega arith, refl) e)
+  | inr e ↦
+      sum_by-cons (λ (x : Weighted). cond (begins p x.basket) x.weight 0) place paths
+      ∙ ap (λ b. cond b place.weight 0 + weight_begun p paths) e ∙ zero-add (weight_begun p paths)
+      ∙ none_begun p paths (λ x has. none x (suc has.0, omega (arith, has.1), has.2))
+]
 
--- the empty path adds no branch
-pub root_begun : (branches : List (List ℕ)) (counts : List ℕ) (w : ℕ) (paths : List Weighted) → AreBranches branches counts paths → AreBranches branches counts (paths ++ weighted [] w ∷ [])
-root_begun branches counts w paths are = record {
-  begun = λ p. (
-    λ here. let one = (are.begun p).0 here in (one.0, (one.1.0, Contains-from_Member one.1.0 (paths ++ weighted [] w ∷ []) (Member-append_left one.1.0 paths (weighted [] w ∷ []) (Member-from_Contains one.1.0 paths one.1.1)), one.1.2)),
-    λ one. (are.begun p).1 (less p one),
-  );
-  counted = λ k here.
-      let p = get_or branches k [] in
-      let one = (are.begun p).0 (k, here, get_or_default branches k p [] here) in
-      are.counted k here ∙ sym (weight_push p [] w paths ∙ ap (λ b. weight_begun p paths + cond b w 0) (begins_none p one.0) ∙ omega arith);
-}
-  where
-    begins_none : (p : List ℕ) → p ≢ [] → begins p [] ≡ false
-    begins_none [] some = absurd (some refl)
-    begins_none (x ∷ p) some = refl
+-- ---- the longest branch that begins a path
 
-    less : (p : List ℕ) → BeginsOne (paths ++ weighted [] w ∷ []) p → BeginsOne paths p
-    less p one = elim (Member-append one.1.0 paths (weighted [] w ∷ []) (Member-from_Contains one.1.0 (paths ++ weighted [] w ∷ []) one.1.1)) [
-      | inl m ↦ (one.0, (one.1.0, Contains-from_Member one.1.0 paths m, one.1.2))
-      | inr (inl e) ↦ absurd (true≢false (sym one.1.2 ∙ ap (λ (x : Weighted). begins p x.basket) (sym e) ∙ begins_none p one.0))
-      | inr (inr m) ↦ absurd m
+module _ (path : List ℕ) where
+  pub longest_push : (branches : List (List ℕ)) (branch : List ℕ) → longest path (branches ++ branch ∷ []) ≡ max (longest path branches) (cond (begins branch path) (length branch) 0)
+  longest_push [] branch = omega arith
+  longest_push (b ∷ branches) branch = omega (arith, longest_push branches branch)
+
+  longest_most : (branches : List (List ℕ)) (q : List ℕ) (k : ℕ) → k < length branches → get_or branches k q ≡ q → begins q path ≡ true → length q ≤ longest path branches
+  longest_most [] q k here is h = absurd (omega arith)
+  longest_most (b ∷ branches) q zero here is h = let own = (λ i. cond (begins (is i) path) (length (is i)) 0) ∙ ap (λ t. cond t (length q) 0) h in omega (arith, own)
+  longest_most (b ∷ branches) q (suc k) here is h = omega (arith, longest_most branches q k (omega arith) is h)
+
+  longest_reached : (branches : List (List ℕ)) → (longest path branches ≡ 0) ⊎ ((b : List ℕ) × Contains branches b × (begins b path ≡ true) × (length b ≡ longest path branches))
+  longest_reached [] = inl refl
+  longest_reached (b ∷ branches) = elim (cases_lt (longest path branches) (cond (begins b path) (length b) 0)) [
+    | inl more ↦ elim (cases_Bool (begins b path)) [
+      | inl e ↦ inr (b, (0, omega arith, refl), e, omega (arith, more, ap (λ t. cond t (length b) 0) e))
+      | inr e ↦ absurd (omega (arith, more, ap (λ t. cond t (length b) 0) e))
     ]
-
--- ---- one rank more
-
-module _ (paths : List Weighted) (q : List ℕ) (r w : ℕ) where
-  abbrev longer : List ℕ
-  longer = q ++ r ∷ []
-
-  abbrev before : List Weighted
-  before = paths ++ weighted q w ∷ []
-
-  abbrev after : List Weighted
-  after = paths ++ weighted longer w ∷ []
-
-  one_more : (p : List ℕ) → BeginsOne before p → BeginsOne after p
-  one_more p one = elim (Member-append one.1.0 paths (weighted q w ∷ []) (Member-from_Contains one.1.0 before one.1.1)) [
-    | inl m ↦ (one.0, (one.1.0, Contains-from_Member one.1.0 after (Member-append_left one.1.0 paths (weighted longer w ∷ []) m), one.1.2))
-    | inr (inl e) ↦ (one.0, (weighted longer w, last, begins_more p q (r ∷ []) (ap (λ (x : Weighted). begins p x.basket) e ∙ one.1.2)))
-    | inr (inr m) ↦ absurd m
-  ]
-    where
-      last : Contains after (weighted longer w)
-      last = Contains-from_Member (weighted longer w) after (Member-append_right (weighted longer w) paths (weighted longer w ∷ []) (inl refl))
-
-  one_less : (p : List ℕ) → BeginsOne after p → BeginsOne before p ⊎ (p ≡ longer)
-  one_less p one = elim (Member-append one.1.0 paths (weighted longer w ∷ []) (Member-from_Contains one.1.0 after one.1.1)) [
-    | inl m ↦ inl (one.0, (one.1.0, Contains-from_Member one.1.0 before (Member-append_left one.1.0 paths (weighted q w ∷ []) m), one.1.2))
-    | inr (inl e) ↦ elim (begins_last p q r (ap (λ (x : Weighted). begins p x.basket) e ∙ one.1.2)) [
-      | inl less ↦ inl (one.0, (weighted q w, Contains-from_Member (weighted q w) before (Member-append_right (weighted q w) paths (weighted q w ∷ []) (inl refl)), less))
-      | inr same ↦ inr same
+    | inr less ↦ elim (longest_reached branches) [
+      | inl none ↦ inl (omega arith)
+      | inr top ↦ inr (top.0, (suc top.1.0, omega (arith, top.1.1), top.1.2), top.2, omega (arith, top.3))
     ]
-    | inr (inr m) ↦ absurd m
   ]
 
-  the_longer : BeginsOne after longer
-  the_longer = (push_some q r, (weighted longer w, Contains-from_Member (weighted longer w) after (Member-append_right (weighted longer w) paths (weighted longer w ∷ []) (inl refl)), begins_itself longer))
+  pub longest_within : (branches : List (List ℕ)) → longest path branches ≤ length path
+  longest_within branches = elim (longest_reached branches) [
+    | inl none ↦ omega arith
+    | inr top ↦ omega (arith, top.3, (begins_take top.0 path top.2).1)
+  ]
 
-  other_weight : (p : List ℕ) → p ≢ longer → weight_begun p before ≡ weight_begun p after
-  other_weight p differs =
-      weight_push p q w paths
-      ∙ ap (λ b. weight_begun p paths + cond b w 0) (same_test (begins p q) (begins p longer) (begins_more p q (r ∷ []))
-      (λ h. elim (begins_last p q r h) [ inl less ↦ less | inr same ↦ absurd (differs same) ]))
-      ∙ sym (weight_push p longer w paths)
+-- ---- a path more
 
-  own_weight : weight_begun longer before + w ≡ weight_begun longer after
-  own_weight =
-      let not = elim (cases_Bool (begins longer q)) as (λ _. begins longer q ≡ false) [
-        | inl e ↦ (let short = begins_no_longer longer q e in let long = length-append q (r ∷ []) in absurd (omega arith))
-        | inr e ↦ e
-      ] in
-      ap (λ n. n + w) (weight_push longer q w paths ∙ ap (λ b. weight_begun longer paths + cond b w 0) not ∙ omega arith)
-      ∙ sym (weight_push longer longer w paths ∙ ap (λ b. weight_begun longer paths + cond b w 0) (begins_itself longer))
+-- a node with the weight of one more path, if that goes through it
+abbrev pub heavier : List ℕ → ℕ → List ℕ × ℕ → List ℕ × ℕ
+heavier path w node = (node.0, node.1 + cond (begins node.0 path) w 0)
 
-  -- a node that was there gets the weight
-  pub found_begun : (branches : List (List ℕ)) (counts : List ℕ) (k : ℕ) → length counts ≡ length branches → k < length branches → get_or branches k [] ≡ longer
-      → ((j : ℕ) → j < length branches → get_or branches j [] ≡ get_or branches k [] → j ≡ k)
-      → AreBranches branches counts before → AreBranches branches (set counts k (get_or counts k 0 + w)) after
-  found_begun branches counts k long here is distinct are = record {
-    begun = λ p. (
-      λ m. one_more p ((are.begun p).0 m),
-      λ one. elim (one_less p one) [
-        | inl less ↦ (are.begun p).1 less
-        | inr same ↦ (k, here, get_or_default branches k p [] here ∙ is ∙ sym same)
+-- the nodes with one path more
+abbrev pub grown : List ℕ → ℕ → List (List ℕ × ℕ) → List (List ℕ × ℕ)
+grown path w nodes = map (heavier path w) nodes ++ made path w (longest path (paths_of nodes))
+
+module _ (nodes : List (List ℕ × ℕ)) (path : List ℕ) (w : ℕ) where
+  abbrev branches : List (List ℕ)
+  branches = paths_of nodes
+
+  abbrev known : ℕ
+  known = longest path branches
+
+  abbrev prefix : ℕ → List ℕ
+  prefix rank = take (rank + 1) path
+
+  abbrev new : List (List ℕ)
+  new = map prefix (range_with_len known (length path - known))
+
+  all_paths : paths_of (grown path w nodes) ≡ branches ++ new
+  all_paths =
+      map-append (λ (node : List ℕ × ℕ). node.0) (map (heavier path w) nodes) (made path w known)
+      ∙ (λ i. map-map (λ (node : List ℕ × ℕ). node.0) (heavier path w) nodes i ++ map-map (λ (node : List ℕ × ℕ). node.0) (λ rank. (prefix rank, w)) (range_with_len known (length path - known)) i)
+
+  pub older_first : take (length nodes) (paths_of (grown path w nodes)) ≡ branches
+  older_first = ap (take (length nodes)) all_paths ∙ take_at branches new (length nodes) (length-map nodes (λ (node : List ℕ × ℕ). node.0))
+
+  module _ (total : ℕ) (paths : List Weighted) (stands : StandsFor (record { nodes = nodes; total = total }) paths) where
+    abbrev after : List Weighted
+    after = paths ++ weighted path w ∷ []
+
+    prefix_long : (rank : ℕ) → rank < length path → length (prefix rank) ≡ rank + 1
+    prefix_long rank here = length-take-le (rank + 1) path (omega arith)
+
+    is_new : (rank : ℕ) → known ≤ rank → rank < length path → Contains branches (prefix rank) → ⊥
+    is_new rank past here has = omega (arith, longest_most path branches (prefix rank) has.0 has.1 has.2 (take_begins (rank + 1) path), prefix_long rank here)
+
+    new_at : (k : ℕ) (d : List ℕ) → k < length new → (k < length path - known) × (get_or new k d ≡ prefix (known + k))
+    new_at k d here =
+        let within : k < length path - known = omega (arith, here, length-map-range_with_len prefix known (length path - known)) in
+        (within, get_or-map-range_with_len prefix known (length path - known) k (known + k) d within refl)
+
+    here_or_new : (q : List ℕ) → q ≢ [] → begins q path ≡ true → Contains (branches ++ new) q
+    here_or_new q some begun = elim (cases_lt known (length q)) [
+      | inl past ↦
+          (let same = begins_take q path begun in
+          let k = length q - known - 1 in
+          let at : known + k + 1 ≡ length q = omega (arith, past) in
+          let here : k < length new = omega (arith, same.1, past, length-map-range_with_len prefix known (length path - known)) in
+          Contains-append_right branches new q (k, here, (new_at k q here).1 ∙ ap (λ n. take n path) at ∙ same.0))
+      | inr less ↦ elim (longest_reached path branches) [
+        | inl none ↦ absurd (some (no_ranks q (omega arith)))
+        | inr top ↦
+            (let one = ((stands.begun top.0).0 top.1).1 in
+            Contains-append_left branches new q ((stands.begun q).1 (some, (one.0, one.1, shorter_begins q top.0 path one.0.basket begun top.2 (omega (arith, top.3)) one.2))))
+      ]
+    ]
+      where
+        no_ranks : (q : List ℕ) → length q ≤ 0 → q ≡ []
+        no_ranks [] less = refl
+        no_ranks (x ∷ q) less = absurd (omega arith)
+
+    begun_now : (q : List ℕ) → Contains (branches ++ new) q ↔ BeginsOne after q
+    begun_now q = (
+      λ has. elim (Contains-append_cases branches new q has) [
+        | inl old ↦ (let one = (stands.begun q).0 old in (one.0, (one.1.0, Contains-append_left paths (weighted path w ∷ []) one.1.0 one.1.1, one.1.2)))
+        | inr last ↦
+            (let is = new_at last.0 q last.1 in
+            let same = sym is.1 ∙ last.2 in
+            (λ none. omega (arith, is.0, prefix_long (known + last.0) (omega (arith, is.0)), ap length (same ∙ none)),
+              (weighted path w, Contains-push paths (weighted path w), subst (λ t. begins t path ≡ true) same (take_begins (known + last.0 + 1) path))))
       ],
-    );
-    counted = λ j below. elim (cases_order j k) [
-      | inl same ↦ subst (λ n. get_or (set counts k (get_or counts k 0 + w)) n 0 ≡ weight_begun (get_or branches n []) after) (sym same)
-          (get_or-set_same counts k (get_or counts k 0 + w) 0 (omega arith) ∙ ap (λ n. n + w) (are.counted k here ∙ ap (λ p. weight_begun p before) is) ∙ own_weight ∙ sym (ap (λ p. weight_begun p after) is))
-      | inr (inl less) ↦ other j below (λ e. omega arith)
-      | inr (inr more) ↦ other j below (λ e. omega arith)
-    ];
-  }
-    where
-      other : (j : ℕ) → j < length branches → j ≢ k → get_or (set counts k (get_or counts k 0 + w)) j 0 ≡ weight_begun (get_or branches j []) after
-      other j below apart =
-          get_or-set_other counts k j (get_or counts k 0 + w) 0 apart ∙ are.counted j below
-          ∙ other_weight (get_or branches j []) (λ same. apart (distinct j below (same ∙ sym is)))
-
-  -- a new node
-  pub made_begun : (branches : List (List ℕ)) (counts : List ℕ) → length counts ≡ length branches → (Contains branches longer → ⊥)
-      → AreBranches branches counts before → AreBranches (branches ++ longer ∷ []) (counts ++ w ∷ []) after
-  made_begun branches counts long missing are = record {
-    begun = λ p. (
-      λ here. elim (Member-append p branches (longer ∷ []) (Member-from_Contains p (branches ++ longer ∷ []) here)) [
-        | inl m ↦ one_more p ((are.begun p).0 (Contains-from_Member p branches m))
-        | inr (inl e) ↦ subst (BeginsOne after) e the_longer
-        | inr (inr m) ↦ absurd m
+      λ one. elim (Contains-push_cases paths (weighted path w) one.1.0 one.1.1) [
+        | inl old ↦ Contains-append_left branches new q ((stands.begun q).1 (one.0, (one.1.0, old, one.1.2)))
+        | inr e ↦ here_or_new q one.0 (ap (λ (x : Weighted). begins q x.basket) e ∙ one.1.2)
       ],
-      λ one. Contains-from_Member p (branches ++ longer ∷ []) (elim (one_less p one) [
-        | inl less ↦ Member-append_left p branches (longer ∷ []) (Member-from_Contains p branches ((are.begun p).1 less))
-        | inr same ↦ Member-append_right p branches (longer ∷ []) (inl (sym same))
-      ]),
-    );
-    counted = λ k below. elim (cases_order k (length branches)) [
-      | inl same ↦ subst (λ n. get_or (counts ++ w ∷ []) n 0 ≡ weight_begun (get_or (branches ++ longer ∷ []) n []) after) (sym same) last
-      | inr (inl less) ↦
-          (get_or_append_left counts (w ∷ []) 0 k (omega arith) ∙ are.counted k less
-          ∙ other_weight (get_or branches k []) (λ e. missing (k, less, get_or_default branches k longer [] less ∙ e))
-          ∙ ap (λ p. weight_begun p after) (sym (get_or_append_left branches (longer ∷ []) [] k less)))
-      | inr (inr more) ↦ (let size = length-append branches (longer ∷ []) in absurd (omega arith))
-    ];
-  }
-    where
-      none : weight_begun longer before ≡ 0
-      none = none_begun longer before (λ place m. elim (cases_Bool (begins longer place.basket)) [
-        | inl e ↦ absurd (missing ((are.begun longer).1 (push_some q r, (place, Contains-from_Member place before m, e))))
-        | inr e ↦ e
-      ])
+    )
 
-      last : get_or (counts ++ w ∷ []) (length branches) 0 ≡ weight_begun (get_or (branches ++ longer ∷ []) (length branches) []) after
-      last =
-          get_or-append_right counts (w ∷ []) (length branches) (length branches) 0 long (omega arith)
-          ∙ first (length branches) w 0 ∙ sym (zero-add w) ∙ ap (λ n. n + w) (sym none) ∙ own_weight
-          ∙ ap (λ p. weight_begun p after) (sym (get_or-append_right branches (longer ∷ []) (length branches) (length branches) [] refl (omega arith) ∙ first (length branches) longer []))
-        where
-          first : {X : Type 0} (n : ℕ) (x d : X) → get_or (x ∷ []) (n - n) d ≡ x
-          first n x d = (let zero : n - n ≡ 0 = omega arith in ap (λ k. get_or (x ∷ []) k d) zero)
+    distinct_now : AllPairs (λ one other. one ≢ other) (branches ++ new)
+    distinct_now i j d less here same = elim (cases_lt j (length branches)) [
+      | inl old ↦ stands.distinct i j d less old (sym (get_or_append_left branches new d i (omega arith)) ∙ same ∙ get_or_append_left branches new d j old)
+      | inr past ↦
+          (let last = at j past here in
+          let long = prefix_long (known + (j - length branches)) (omega (arith, last.0)) in
+          elim (cases_lt i (length branches)) [
+            | inl old ↦ is_new (known + (j - length branches)) (omega arith) (omega (arith, last.0))
+                (subst (Contains branches) (sym (get_or_append_left branches new d i old) ∙ same ∙ last.1) (Contains-get_or branches i d old))
+            | inr before ↦
+                (let one = at i before (omega (arith, here)) in
+                omega (arith, long, prefix_long (known + (i - length branches)) (omega (arith, one.0)), ap length (sym one.1 ∙ same ∙ last.1)))
+          ])
+    ]
+      where
+        at : (k : ℕ) → length branches ≤ k → k < length (branches ++ new) → (k - length branches < length path - known) × (get_or (branches ++ new) k d ≡ prefix (known + (k - length branches)))
+        at k past here =
+            let is = new_at (k - length branches) d (omega (arith, here, length-append branches new)) in
+            (is.0, get_or-append_right branches new (length branches) k d refl past ∙ is.1)
+
+    abbrev IsCounted : List ℕ × ℕ → Type 0
+    IsCounted node = node.1 ≡ weight_begun node.0 after
+
+    pub stands_now : StandsFor (record { nodes = grown path w nodes; total = total + w }) after
+    stands_now = record {
+      distinct = subst (AllPairs (λ one other. one ≢ other)) (sym all_paths) distinct_now;
+      begun = subst (λ (l : List (List ℕ)). (q : List ℕ) → Contains l q ↔ BeginsOne after q) (sym all_paths) begun_now;
+      counted = All-append IsCounted (map (heavier path w) nodes) (made path w known)
+          (All-map IsCounted (heavier path w) nodes (λ k d here.
+            ap (λ n. n + cond (begins (get_or nodes k d).0 path) w 0) (stands.counted k d here) ∙ sym (weight_push (get_or nodes k d).0 path w paths)))
+          (All-map IsCounted (λ rank. (prefix rank, w)) (range_with_len known (length path - known)) (λ k d here.
+            let rank = get_or (range_with_len known (length path - known)) k d in
+            let within : k < length path - known = omega (arith, here, length-range_with_len known (length path - known)) in
+            let is = get_or-range_with_len known (length path - known) k d within in
+            let low : rank < length path = omega (arith, is, within) in
+            let none = none_begun (prefix rank) paths (λ place has begun. is_new rank (omega (arith, is)) low
+            ((stands.begun (prefix rank)).1 ((λ e. omega (arith, prefix_long rank low, ap length e)), (place, has, begun)))) in
+            sym (weight_push (prefix rank) path w paths ∙ (λ i. none i + cond (take_begins (rank + 1) path i) w 0) ∙ zero-add w)));
+      total = ap (λ n. n + w) stands.total ∙ sym (sum_by-append (λ (place : Weighted). place.weight) paths (weighted path w ∷ []) ∙ ap (λ n. total_of paths + n) (zero-add w));
+    }

@@ -6,6 +6,7 @@ use Rattle.std.specs.List.{IsDistinct, flat_map, range_with_len}
 use Rattle.std.proofs.lemmas.Bool.{and_from, and_parts, eqb-true, lt-ltb, ltb-true}
 use Rattle.std.proofs.lemmas.List.{get_or-append_right, get_or-map, get_or_append_left, length-append, length-map, map-append, take_more}
 use Rattle.std.proofs.lemmas.List.Elements.{All-from_recursion, recursion_from_All}
+use Rattle.std.proofs.lemmas.Simd.{map-map}
 use Rattle.basket_sets.specs.declared.weighted.Weighted.{Weighted}
 use Rattle.basket_sets.specs.declared.counted.Counted.{Counted}
 use Rattle.basket_sets.specs.declared.minimum.Minimum.TheVariants.{Count}
@@ -22,8 +23,8 @@ use Rattle.mine_classes.specs.Classes.{ClassesAreAll, ClassesAreConditional, Lis
 use Rattle.mine_classes.specs.Conditional.{ConditionalSupports, conditional, is_kept}
 use Rattle.mine_classes.specs.Mined.{ListsHaveClassSize}
 use Rattle.mine_fp.specs.Level.{as_items}
-use Rattle.mine_fp.proofs.ClassLemmas.{listed_long}
-use Rattle.mine_fp.proofs.LevelLemmas.{rising_same}
+use Rattle.mine_fp.proofs.ClassLemmas.{in_some, listed_long}
+use Rattle.mine_fp.proofs.LevelLemmas.{more_items}
 use Rattle.mine_fp.proofs.StraightLemmas.{same_support}
 use Rattle.mine_classes.proofs.theory.Branches.{full_from_branch, from_picked}
 use Rattle.mine_classes.specs.Paths.{is_branch}
@@ -35,10 +36,6 @@ recounted count c = record { set = c.set; count = count }
 -- a rank alone, and with each set of a list, all with the rank's support
 abbrev pub chosen : ℕ → ℕ → List Counted → List Counted
 chosen rank support list = extended rank support (map (recounted support) list)
-
-recounted_sets : (count : ℕ) (list : List Counted) → map (λ (c : Counted). c.set) (map (recounted count) list) ≡ map (λ (c : Counted). c.set) list
-recounted_sets count [] = refl
-recounted_sets count (c ∷ list) = ap (λ l. c.set ∷ l) (recounted_sets count list)
 
 recounted_classes : (count : ℕ) (classes : List (List Counted)) → flat_map (λ class. class) (map (map (recounted count)) classes) ≡ map (recounted count) (flat_map (λ class. class) classes)
 recounted_classes count [] = refl
@@ -54,13 +51,6 @@ members_below rank (x ∷ y ∷ set) up h k (inl e) =
     let high = members_below rank (y ∷ set) (rest_rises x (y ∷ set) up) h y (inl refl) in
     omega arith
 members_below rank (x ∷ y ∷ set) up h k (inr m) = members_below rank (y ∷ set) (rest_rises x (y ∷ set) up) h k m
-
-in_some : (baskets : List Weighted) (k : ℕ) → Member k (flat_map (λ place. place.basket) baskets) → (place : Weighted) × Member place baskets × Member k place.basket
-in_some [] k m = absurd m
-in_some (p ∷ baskets) k m = elim (Member-append k p.basket (flat_map (λ q. q.basket) baskets) m) [
-  | inl here ↦ (p, inl refl, here)
-  | inr later ↦ (let r = in_some baskets k later in (r.0, inr r.1, r.2))
-]
 
 module _ (baskets : List Weighted) (least rank : ℕ) (one : is_branch baskets ≡ true) (met : is_frequent baskets (Count least) (rank ∷ []) ≡ true) (law : ConditionalSupports) where
   abbrev support : ℕ
@@ -117,7 +107,7 @@ module _ (baskets : List Weighted) (least rank : ℕ) (one : is_branch baskets �
 
   lower_class : (other : ℕ) (class : List Counted) → other < rank → ListsClass baskets (Count least) other class → ListsClass lower (Count least) other (map (recounted support) class)
   lower_class other class less lists = record {
-    distinct = subst (IsDistinct (pointwise nat_eq)) (sym (recounted_sets support class)) lists.distinct;
+    distinct = subst (IsDistinct (pointwise nat_eq)) (sym (map-map (λ (c : Counted). c.set) (recounted support) class)) lists.distinct;
     sound = All-from_recursion (IsOfLower other) (map (recounted support) class) (All-from_Member (IsOfLower other) (map (recounted support) class) (λ c m.
         let d = Member-from_map (recounted support) c class m in
         let s = at_Member (IsOfClass other) d.0 class (recursion_from_All (IsOfClass other) class lists.sound) d.1 in
@@ -170,31 +160,7 @@ module _ (baskets : List Weighted) (least rank : ℕ) (one : is_branch baskets �
 pub chosen_items : (names suffix : List ℕ) (rank support : ℕ) (c : Counted) (item : ℕ) → item ≡ get_or names rank 0
     → record { set = with_item item (as_items names suffix c).set; count = support } ≡ as_items names suffix (with_rank rank (recounted support c))
 chosen_items names suffix rank support c item is =
-    let same = rising_same (item ∷ map (λ k. get_or names k 0) c.set ++ suffix) (map (λ k. get_or names k 0) (c.set ++ rank ∷ []) ++ suffix) into back in
-    λ i. record { set = same i; count = support }
-  where
-    into : (z : ℕ) → Member z (item ∷ map (λ k. get_or names k 0) c.set ++ suffix) → Member z (map (λ k. get_or names k 0) (c.set ++ rank ∷ []) ++ suffix)
-    into z (inl e) = Member-append_left z (map (λ k. get_or names k 0) (c.set ++ rank ∷ [])) suffix
-        (subst (λ x. Member x (map (λ k. get_or names k 0) (c.set ++ rank ∷ []))) (sym is ∙ e) (Member-map (λ k. get_or names k 0) rank (c.set ++ rank ∷ []) (Member-append_right rank c.set (rank ∷ []) (inl refl))))
-    into z (inr n) = elim (Member-append z (map (λ k. get_or names k 0) c.set) suffix n) [
-      | inl o ↦
-          (let d = Member-from_map (λ k. get_or names k 0) z c.set o in
-          Member-append_left z (map (λ k. get_or names k 0) (c.set ++ rank ∷ [])) suffix
-          (subst (λ x. Member x (map (λ k. get_or names k 0) (c.set ++ rank ∷ []))) d.2 (Member-map (λ k. get_or names k 0) d.0 (c.set ++ rank ∷ []) (Member-append_left d.0 c.set (rank ∷ []) d.1))))
-      | inr o ↦ Member-append_right z (map (λ k. get_or names k 0) (c.set ++ rank ∷ [])) suffix o
-    ]
-
-    back : (z : ℕ) → Member z (map (λ k. get_or names k 0) (c.set ++ rank ∷ []) ++ suffix) → Member z (item ∷ map (λ k. get_or names k 0) c.set ++ suffix)
-    back z m = elim (Member-append z (map (λ k. get_or names k 0) (c.set ++ rank ∷ [])) suffix m) [
-      | inl n ↦
-          (let d = Member-from_map (λ k. get_or names k 0) z (c.set ++ rank ∷ []) n in
-          elim (Member-append d.0 c.set (rank ∷ []) d.1) [
-            | inl o ↦ inr (Member-append_left z (map (λ k. get_or names k 0) c.set) suffix (subst (λ x. Member x (map (λ k. get_or names k 0) c.set)) d.2 (Member-map (λ k. get_or names k 0) d.0 c.set o)))
-            | inr (inl e) ↦ inl (is ∙ ap (λ k. get_or names k 0) e ∙ d.2)
-            | inr (inr o) ↦ absurd o
-          ])
-      | inr n ↦ inr (Member-append_right z (map (λ k. get_or names k 0) c.set) suffix n)
-    ]
+    let same = ap (λ x. with_item x (as_items names suffix c).set) is ∙ sym (more_items names suffix c.set rank) in λ i. record { set = same i; count = support }
 
 -- one more of the sets of lower ranks
 pub chosen_more : (names suffix : List ℕ) (rank support item at k : ℕ) (d : Counted) (before old now new sets : List Counted) → k < length sets → length before + k ≡ at

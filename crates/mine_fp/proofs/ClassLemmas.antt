@@ -33,20 +33,23 @@ use Rattle.mine_fp.proofs.LevelLemmas.{alone_as_items, inner_as_items, length-de
 
 -- ---- lists of classes
 
+-- a rank of the baskets is in one of them
+pub in_some : (baskets : List Weighted) (k : ℕ) → Member k (flat_map (λ place. place.basket) baskets) → (place : Weighted) × Member place baskets × Member k place.basket
+in_some [] k m = absurd m
+in_some (p ∷ baskets) k m = elim (Member-append k p.basket (flat_map (λ q. q.basket) baskets) m) [
+  | inl here ↦ (p, inl refl, here)
+  | inr later ↦ (let r = in_some baskets k later in (r.0, inr r.1, r.2))
+]
+
 -- the classes of the ranks below one, and its own, have no more sets than are frequent
 module _ (all : ClassesAreAll) (listed : ClassesAreListed) (value : RankBaskets) (are : AreRankBaskets value) (least : ℕ) where
   abbrev classes_from : ℕ → ℕ → List (List Counted)
   classes_from first count = map (class_of value.baskets (Count least)) (range_with_len first count)
 
   pub ranks_are_below : RanksAreBelow value.ranks value.baskets
-  ranks_are_below rank here = within value.baskets (recursion_from_All (IsRankBasket value.ranks) value.baskets are.places) (Member-from_Contains rank (flat_map (λ place. place.basket) value.baskets) here)
-    where
-      within : (places : List Weighted) → AllByRecursion (IsRankBasket value.ranks) places → Member rank (flat_map (λ place. place.basket) places) → rank < value.ranks
-      within [] each m = absurd m
-      within (place ∷ places) each m = elim (Member-append rank place.basket (flat_map (λ p. p.basket) places) m) [
-        | inl n ↦ each.0.below rank (has-from_Member place.basket rank n)
-        | inr n ↦ within places each.1 n
-      ]
+  ranks_are_below rank here =
+      let one = in_some value.baskets rank (Member-from_Contains rank (flat_map (λ place. place.basket) value.baskets) here) in
+      (at_Member (IsRankBasket value.ranks) one.0 value.baskets (recursion_from_All (IsRankBasket value.ranks) value.baskets are.places) one.1).below rank (has-from_Member one.0.basket rank one.2)
 
   pub all_once : (classes : List (List Counted)) → length classes ≡ value.ranks → ListClasses value.baskets (Count least) classes → ListsOnce value.baskets (Count least) (flat_map (λ class. class) classes)
   all_once classes long lists = all value.baskets (Count least) classes (subst (λ n. RanksAreBelow n value.baskets) (sym long) ranks_are_below) lists

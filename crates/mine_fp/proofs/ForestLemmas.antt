@@ -78,8 +78,6 @@ module _ (coding : Coding) (least : ℕ) (runs : RankBaskets) (are : AreInForest
 
 -- sets of ranks as items
 pub decoded_items : (items names suffix : List ℕ) (sets : List Counted) → names ≡ items → suffix ≡ [] → map (as_items names suffix) sets ≡ map (decoded_set items) sets
-decoded_items items names suffix [] same none = refl
-decoded_items items names suffix (c ∷ sets) same none =
-    let item : ℕ → ℕ = λ rank. get_or items rank 0 in
-    let set = (λ i. rising (map (λ rank. get_or (same i) rank 0) c.set ++ none i)) ∙ ap rising (append-nil (map item c.set)) in
-    λ i. record { set = set i; count = c.count } ∷ decoded_items items names suffix sets same none i
+decoded_items items names suffix sets same none =
+    let set = λ (c : Counted). (λ i. rising (map (λ rank. get_or (same i) rank 0) c.set ++ none i)) ∙ ap rising (append-nil (map (λ rank. get_or items rank 0) c.set)) in
+    λ i. map (λ (c : Counted). record { set = set c i; count = c.count }) sets

@@ -3,7 +3,6 @@ mod ClassLemmas
 mod ForestLemmas
 mod BranchLemmas
 mod NodeLemmas
-mod InsertLemmas
 mod BaseLemmas
 mod TreeCountLemmas
 mod StraightLemmas

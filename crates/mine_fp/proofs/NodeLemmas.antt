@@ -1,130 +1,116 @@
--- Nodes of a tree and their paths.
-use Rattle.std.proofs.Common.{◌≡◌, ◌≢◌, ℕ, ◌+◌, ◌-◌, ◌<◌, ◌≤◌, List, [], ◌∷◌, ◌++◌, length, get_or, set, Option, Some, None, refl, sym, ap, ◌∙◌, subst, inl, inr, arith}
-use Rattle.std.specs.List.{Contains}
-use Rattle.std.proofs.lemmas.Bool.{cases_lt}
-use Rattle.std.proofs.lemmas.List.{get_or_append_left, get_or-append_right, get_or_default, get_or-map, length-append, map-append}
-use Rattle.std.proofs.lemmas.List.Sums.{fold-append}
-use Rattle.std.proofs.Math.Seq.{map-set_same}
+-- Nodes of a tree, where a path is added.
+use Rattle.std.proofs.Common.{◌≡◌, ℕ, ◌+◌, ◌-◌, ◌<◌, ◌≤◌, ◌&&◌, Bool, true, false, List, [], ◌∷◌, ◌++◌, length, get_or, map, set, take, drop, zero, suc, cond, eqb, leb, max, refl, sym, ap, ◌∙◌, subst, inl, inr, arith}
+use Rattle.std.specs.List.{All, common_prefix_len, range_with_len}
+use Rattle.std.proofs.Math.Dec.{leb-suc-suc, leb-suc-zero}
+use Rattle.std.proofs.lemmas.Bool.{le-leb}
+use Rattle.std.proofs.lemmas.List.{drop_at, drop-append-le, get_or-append_right, get_or-drop, get_or_default, length-append, length-drop, length-map, length-take-le, map-append, map_push, take_at, take-append-le, take_more}
+use Rattle.std.proofs.lemmas.List.Edits.{map_over_more}
+use Rattle.std.proofs.lemmas.List.Elements.{All-append, All-head, All-map, All-tail, All-weaker}
+use Rattle.std.proofs.lemmas.List.FromFn.{get_or-range_with_len, length-range_with_len}
+use Rattle.std.proofs.lemmas.Simd.{map-map}
 use Rattle.mine_fp.specs.declared.tree.Node.{Node}
-use Rattle.mine_fp.specs.Tree.{AreLinked, IsBefore, first_number, link_of, links_of, path_above, paths_of, with_path}
+use Rattle.mine_fp.specs.Tree.{AreNodes, begins, longest, made, node_of, paths_of, raised}
+use Rattle.mine_fp.proofs.BranchLemmas.{longest_push}
 
-pub before_first : (k : ℕ) (above : Option ℕ) → IsBefore k above → first_number above ≤ k
-before_first k None before = omega arith
-before_first k (Some number) before = omega arith
+pub begins_is : (n : ℕ) (p q : List ℕ) → n ≤ length p → begins (take n p) q ≡ leb n (common_prefix_len eqb p q)
+begins_is zero p q here = sym (le-leb 0 (common_prefix_len eqb p q) (omega arith))
+begins_is (suc n) [] q here = absurd (omega arith)
+begins_is (suc n) (x ∷ p) [] here = sym (leb-suc-zero n)
+begins_is (suc n) (x ∷ p) (y ∷ q) here = go (eqb x y) (begins_is n p q (omega arith))
+  where
+    go : (b : Bool) → begins (take n p) q ≡ leb n (common_prefix_len eqb p q) → (b && begins (take n p) q) ≡ leb (suc n) (cond b (1 + common_prefix_len eqb p q) 0)
+    go true rest = let one : suc (common_prefix_len eqb p q) ≡ 1 + common_prefix_len eqb p q = omega arith in rest ∙ sym (leb-suc-suc n (common_prefix_len eqb p q)) ∙ ap (leb (suc n)) one
+    go false rest = sym (leb-suc-zero n)
 
-pub before_more : (j k : ℕ) (above : Option ℕ) → j ≤ k → IsBefore j above → IsBefore k above
-before_more j k None more before = tt
-before_more j k (Some number) more before = omega arith
+-- where the elements before a place are changed, the others are as they were
+pub rest_at : {X : Type 0} (f : X → X) (xs now : List X) (k : ℕ) (d : X) → k < length xs → now ≡ map f (take k xs) ++ drop k xs → get_or now k d ≡ get_or xs k d
+rest_at f xs now k d here is =
+    let long = length-map (take k xs) f ∙ length-take-le k xs (omega arith) in
+    let first : k + (k - k) ≡ k = omega arith in
+    ap (λ l. get_or l k d) is ∙ get_or-append_right (map f (take k xs)) (drop k xs) k k d long (omega arith) ∙ get_or-drop k xs (k - k) d ∙ ap (λ n. get_or xs n d) first
 
--- lists with one element more
-push_apart : (a b : List ℕ) (x y : ℕ) → a ++ x ∷ [] ≡ b ++ y ∷ [] → (a ≡ b) × (x ≡ y)
-push_apart [] [] x y e = (refl, cc)
-push_apart [] (b ∷ bs) x y e = let long = ap length e in let more = length-append bs (y ∷ []) in absurd (omega arith)
-push_apart (a ∷ as') [] x y e = let long = ap length e in let more = length-append as' (x ∷ []) in absurd (omega arith)
-push_apart (a ∷ as') (b ∷ bs) x y e =
-    let head : a ≡ b = cc in
-    let tail : as' ++ x ∷ [] ≡ bs ++ y ∷ [] = cc in
-    let rest = push_apart as' bs x y tail in
-    (λ i. head i ∷ rest.0 i, rest.1)
+-- the nodes before a place have more weight
+module _ (ranks path : List ℕ) (weight : ℕ) (nodes now : List Node) (k : ℕ) (d : Node) (here : k < length nodes) (there : k < length now)
+    (is : now ≡ map (raised ranks path weight) (take k nodes) ++ drop k nodes) where
+  abbrev node : Node
+  node = get_or now k d
 
-push_some : (q : List ℕ) (r : ℕ) → q ++ r ∷ [] ≢ []
-push_some [] r e = cc
-push_some (x ∷ q) r e = cc
+  abbrev longest_of : List Node → ℕ
+  longest_of some = longest path (paths_of (map (node_of ranks) some))
 
-module _ (links : List (ℕ × Option ℕ)) (paths : List (List ℕ)) (are : AreLinked links paths) where
-  abbrev link : ℕ → ℕ × Option ℕ
-  link k = get_or links k (0, None)
+  pub raised_more : (through : Bool) (count : ℕ) → node.start + node.depth ≤ length ranks → begins (take node.depth (drop node.start ranks)) path ≡ through → count ≡ node.count + cond through weight 0
+      → (set now k (record { start = node.start; depth = node.depth; count = count }) ≡ map (raised ranks path weight) (take (k + 1) nodes) ++ drop (k + 1) nodes)
+      × (longest_of (take (k + 1) nodes) ≡ max (longest_of (take k nodes)) (cond through node.depth 0))
+  raised_more through count inside goes more =
+      let long = length-take-le node.depth (drop node.start ranks) (omega (arith, length-drop node.start ranks)) in
+      let one = node_of ranks node in (
+        ap (λ n. set now k (record { start = node.start; depth = node.depth; count = n })) (more ∙ ap (λ b. node.count + cond b weight 0) (sym goes))
+            ∙ map_over_more (raised ranks path weight) nodes now k node here is (get_or_default now k d node there),
+        ap longest_of (take_more nodes k d here ∙ ap (λ n. take k nodes ++ n ∷ []) (sym (rest_at (raised ranks path weight) nodes now k d here is))) ∙ ap (λ l. longest path (paths_of l)) (map_push (node_of ranks) (take k nodes) node)
+            ∙ ap (longest path) (map_push (λ (n : List ℕ × ℕ). n.0) (map (node_of ranks) (take k nodes)) one)
+            ∙ longest_push path (paths_of (map (node_of ranks) (take k nodes))) one.0 ∙ (λ i. max (longest_of (take k nodes)) (cond (goes i) (long i) 0)),
+      )
 
-  -- nodes with one path above are the same
-  one_above : (a b : Option ℕ) → IsBefore (length links) a → IsBefore (length links) b → path_above paths a ≡ path_above paths b → a ≡ b
-  one_above None None before after same = refl
-  one_above None (Some j) before after same = absurd (push_some (path_above paths (link j).1) (link j).0 (sym (same ∙ are.linked j after)))
-  one_above (Some i) None before after same = absurd (push_some (path_above paths (link i).1) (link i).0 (sym (are.linked i before) ∙ same))
-  one_above (Some i) (Some j) before after same = ap Some (are.distinct i j before after same)
+if_less : (b : Bool) (n : ℕ) → cond b n 0 ≤ n
+if_less true n = omega arith
+if_less false n = omega arith
 
-  -- where no node is linked so, no node has the path
-  pub missing_path : (rank : ℕ) (above : Option ℕ) → IsBefore (length links) above → ((k : ℕ) → k < length links → link k ≡ (rank, above) → ⊥)
-      → Contains paths (path_above paths above ++ rank ∷ []) → ⊥
-  missing_path rank above before none has =
-      let k = has.0 in
-      let here : k < length links = let long = are.long in let inside = has.1 in omega arith in
-      let same = push_apart (path_above paths (link k).1) (path_above paths above) (link k).0 rank
-      (sym (are.linked k here) ∙ get_or_default paths k [] (path_above paths above ++ rank ∷ []) has.1 ∙ has.2) in
-      let up = one_above (link k).1 above (before_more k (length links) (link k).1 (omega arith) (are.before k here)) before same.0 in
-      none k here (λ i. (same.1 i, up i))
+pub raised_are : (ranks path : List ℕ) (weight total : ℕ) (nodes : List Node) → AreNodes ranks nodes total → AreNodes ranks (map (raised ranks path weight) nodes) (total + weight)
+raised_are ranks path weight total nodes are = record {
+  inside = All-map (λ n. n.start + n.depth ≤ length ranks) (raised ranks path weight) nodes are.inside;
+  light = All-map (λ n. n.count ≤ total + weight) (raised ranks path weight) nodes
+      (All-weaker (λ n. n.count ≤ total) (λ n. (raised ranks path weight n).count ≤ total + weight) (λ n less. omega (arith, less, if_less (begins (node_of ranks n).0 path) weight)) nodes are.light);
+}
 
-  -- a node that is linked so has the path
-  pub linked_path : (rank : ℕ) (above : Option ℕ) (k : ℕ) → k < length links → link k ≡ (rank, above) → get_or paths k [] ≡ path_above paths above ++ rank ∷ []
-  linked_path rank above k here same = are.linked k here ∙ (λ i. path_above paths ((same i).1) ++ (same i).0 ∷ [])
+-- ranks that come later change no path
+kept_nodes : (ranks more : List ℕ) (nodes : List Node) → All (λ node. node.start + node.depth ≤ length ranks) nodes → map (node_of (ranks ++ more)) nodes ≡ map (node_of ranks) nodes
+kept_nodes ranks more [] inside = refl
+kept_nodes ranks more (node ∷ nodes) inside =
+    let P = λ (n : Node). n.start + n.depth ≤ length ranks in
+    let here = All-head P node nodes inside in
+    let path : take node.depth (drop node.start (ranks ++ more)) ≡ take node.depth (drop node.start ranks)
+    = ap (take node.depth) (drop-append-le node.start ranks more (omega arith)) ∙ take-append-le node.depth (drop node.start ranks) more (omega (arith, length-drop node.start ranks)) in
+    λ i. (path i, node.count) ∷ kept_nodes ranks more nodes (All-tail P node nodes inside) i
 
-  above_more : (path : List ℕ) (above : Option ℕ) → IsBefore (length links) above → path_above (paths ++ path ∷ []) above ≡ path_above paths above
-  above_more path None before = refl
-  above_more path (Some j) before = get_or_append_left paths (path ∷ []) [] j (let long = are.long in omega arith)
+-- the nodes that a path makes, by where it stands in the list of all ranks
+abbrev pub made_at : ℕ → ℕ → ℕ → Node
+made_at start weight rank = record { start = start; depth = rank + 1; count = weight }
 
-  first : {X : Type 0} (n : ℕ) (x d : X) → get_or (x ∷ []) (n - n) d ≡ x
-  first n x d = let none : n - n ≡ 0 = omega arith in ap (λ k. get_or (x ∷ []) k d) none
+module _ (ranks path : List ℕ) (weight known total : ℕ) (nodes : List Node) (few : known ≤ length path) (less : weight ≤ total) (are : AreNodes ranks nodes total) where
+  abbrev numbers : List ℕ
+  numbers = range_with_len known (length path - known)
 
-  -- one node more
-  module _ (rank : ℕ) (above : Option ℕ) (before : IsBefore (length links) above) (new : Contains paths (path_above paths above ++ rank ∷ []) → ⊥) where
-    abbrev path : List ℕ
-    path = path_above paths above ++ rank ∷ []
+  abbrev all : List Node
+  all = nodes ++ map (made_at (length ranks) weight) numbers
 
-    abbrev more_links : List (ℕ × Option ℕ)
-    more_links = links ++ (rank, above) ∷ []
+  made_nodes : map (node_of (ranks ++ path)) all ≡ map (node_of ranks) nodes ++ made path weight known
+  made_nodes =
+      map-append (node_of (ranks ++ path)) nodes (map (made_at (length ranks) weight) numbers)
+      ∙ (λ i. kept_nodes ranks path nodes are.inside i ++ (map-map (node_of (ranks ++ path)) (made_at (length ranks) weight) numbers
+        ∙ ap (λ l. map (λ rank. (take (rank + 1) l, weight)) numbers) (drop_at ranks path (length ranks) refl)) i)
 
-    old_link : (k : ℕ) → k < length links → get_or more_links k (0, None) ≡ link k
-    old_link k here = get_or_append_left links ((rank, above) ∷ []) (0, None) k here
+  made_are : AreNodes (ranks ++ path) all total
+  made_are =
+      let IsInside = λ (n : Node). n.start + n.depth ≤ length (ranks ++ path) in
+      let IsLight = λ (n : Node). n.count ≤ total in
+      let long = length-append ranks path in
+      record {
+        inside = All-append IsInside nodes (map (made_at (length ranks) weight) numbers)
+            (All-weaker (λ n. n.start + n.depth ≤ length ranks) IsInside (λ n low. omega (arith, low, long)) nodes are.inside)
+            (All-map IsInside (made_at (length ranks) weight) numbers (λ k d here.
+              let within : k < length path - known = omega (arith, here, length-range_with_len known (length path - known)) in
+              omega (arith, long, within, get_or-range_with_len known (length path - known) k d within)));
+        light = All-append IsLight nodes (map (made_at (length ranks) weight) numbers) are.light (All-map IsLight (made_at (length ranks) weight) numbers (λ k d here. less));
+      }
 
-    last_link : get_or more_links (length links) (0, None) ≡ (rank, above)
-    last_link = get_or-append_right links ((rank, above) ∷ []) (length links) (length links) (0, None) refl (omega arith) ∙ first (length links) (rank, above) (0, None)
+  pub with_made : (at : ℕ) (now : List Node) (more : List ℕ) → at ≡ length ranks → more ≡ ranks ++ path → now ≡ nodes ++ map (made_at at weight) numbers
+      → AreNodes more now total × (map (node_of more) now ≡ map (node_of ranks) nodes ++ made path weight known)
+  with_made at now more start items is =
+      subst (λ (t : List ℕ × List Node). AreNodes t.0 t.1 total × (map (node_of t.0) t.1 ≡ map (node_of ranks) nodes ++ made path weight known))
+      (λ i. (sym items i, sym (is ∙ ap (λ s. nodes ++ map (made_at s weight) numbers) start) i)) (made_are, made_nodes)
 
-    old_path : (k : ℕ) → k < length links → get_or (paths ++ path ∷ []) k [] ≡ get_or paths k []
-    old_path k here = get_or_append_left paths (path ∷ []) [] k (let long = are.long in omega arith)
-
-    last_path : get_or (paths ++ path ∷ []) (length links) [] ≡ path
-    last_path = get_or-append_right paths (path ∷ []) (length links) (length links) [] are.long (omega arith) ∙ first (length links) path []
-
-    none_is : (k : ℕ) → k < length links → get_or paths k [] ≡ path → ⊥
-    none_is k here same = new (k, (let long = are.long in omega arith), get_or_default paths k path [] (let long = are.long in omega arith) ∙ same)
-
-    pub with_node : AreLinked more_links (paths ++ path ∷ [])
-    with_node = record {
-      long = length-append paths (path ∷ []) ∙ ap (λ n. n + 1) are.long ∙ sym (length-append links ((rank, above) ∷ []));
-      before = λ k below. elim (cases_lt k (length links)) [
-        | inl here ↦ subst (λ (l : ℕ × Option ℕ). IsBefore k l.1) (sym (old_link k here)) (are.before k here)
-        | inr past ↦ (let is = last k below past in subst (λ n. IsBefore n (get_or more_links n (0, None)).1) (sym is) (subst (λ (l : ℕ × Option ℕ). IsBefore (length links) l.1) (sym last_link) before))
-      ];
-      linked = λ k below. elim (cases_lt k (length links)) [
-        | inl here ↦
-            old_path k here ∙ are.linked k here
-            ∙ (λ i. sym (above_more path (link k).1 (before_more k (length links) (link k).1 (omega arith) (are.before k here))) i ++ (link k).0 ∷ [])
-            ∙ (λ i. path_above (paths ++ path ∷ []) ((sym (old_link k here) i).1) ++ (sym (old_link k here) i).0 ∷ [])
-        | inr past ↦ subst (λ n. get_or (paths ++ path ∷ []) n [] ≡ path_above (paths ++ path ∷ []) (get_or more_links n (0, None)).1 ++ (get_or more_links n (0, None)).0 ∷ []) (sym (last k below past))
-            (last_path ∙ (λ i. sym (above_more path above before) i ++ rank ∷ []) ∙ (λ i. path_above (paths ++ path ∷ []) ((sym last_link i).1) ++ (sym last_link i).0 ∷ []))
-      ];
-      distinct = λ j k low high same. elim (cases_lt j (length links)) [
-        | inl here ↦ elim (cases_lt k (length links)) [
-          | inl there ↦ are.distinct j k here there (sym (old_path j here) ∙ same ∙ old_path k there)
-          | inr past ↦ absurd (none_is j here (sym (old_path j here) ∙ same ∙ ap (λ n. get_or (paths ++ path ∷ []) n []) (last k high past) ∙ last_path))
-        ]
-        | inr past ↦ elim (cases_lt k (length links)) [
-          | inl there ↦ absurd (none_is k there (sym (old_path k there) ∙ sym same ∙ ap (λ n. get_or (paths ++ path ∷ []) n []) (last j low past) ∙ last_path))
-          | inr beyond ↦ last j low past ∙ sym (last k high beyond)
-        ]
-      ];
-    }
-      where
-        last : (k : ℕ) → k < length more_links → length links ≤ k → k ≡ length links
-        last k below past = let long = length-append links ((rank, above) ∷ []) in omega arith
-
--- ---- nodes
-
-pub links-push : (nodes : List Node) (node : Node) → links_of (nodes ++ node ∷ []) ≡ links_of nodes ++ link_of node ∷ []
-links-push nodes node = map-append link_of nodes (node ∷ [])
-
-pub paths-push : (links : List (ℕ × Option ℕ)) (link : ℕ × Option ℕ) → paths_of (links ++ link ∷ []) ≡ with_path (paths_of links) link
-paths-push links link = fold-append with_path [] links (link ∷ [])
-
--- another count changes no link
-pub links-set : (nodes : List Node) (k : ℕ) (node : Node) → k < length nodes → get_or (links_of nodes) k (0, None) ≡ link_of node → links_of (set nodes k node) ≡ links_of nodes
-links-set nodes k node here same = map-set_same link_of nodes k node node (sym same ∙ get_or-map link_of nodes k node (0, None) here)
+-- nodes that were lent with room for more, each with the weight
+pub written : (ranks path : List ℕ) (weight : ℕ) (nodes : List Node) (at : List ℕ) (lent old new : List Node) (len : ℕ) → at ≡ ranks → lent ≡ old → old ≡ nodes → len ≡ length lent
+    → new ≡ map (raised at path weight) lent → take len (new ++ drop (length new) old) ≡ map (raised ranks path weight) nodes
+written ranks path weight nodes at lent old new len same is was long raise =
+    take_at new (drop (length new) old) len (ap length raise ∙ length-map lent (raised at path weight) ∙ sym long) ∙ raise ∙ (λ i. map (raised (same i) path weight) ((is ∙ was) i))

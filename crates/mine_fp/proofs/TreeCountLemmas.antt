@@ -1,8 +1,8 @@
 -- The trees of all classes add up.
-use Rattle.std.proofs.Common.{◌≡◌, ◌≢◌, ℕ, ◌+◌, ◌<◌, ◌≤◌, Bool, true, false, ◌&&◌, List, [], ◌∷◌, length, cond, eqb, filter, refl, ap, ◌∙◌, inl, inr, arith, zero, suc}
-use Rattle.std.specs.List.{AllByRecursion, range_with_len, sum_by}
-use Rattle.std.proofs.lemmas.Bool.{cases_Bool, eq-eqb, eqb-true}
-use Rattle.std.proofs.lemmas.List.Elements.{recursion_from_All}
+use Rattle.std.proofs.Common.{◌≡◌, ◌≢◌, ℕ, ◌+◌, ◌<◌, ◌≤◌, Bool, true, false, ◌&&◌, List, [], ◌∷◌, length, cond, eqb, filter, refl, sym, ap, ◌∙◌, inl, inr, arith, zero, suc}
+use Rattle.std.specs.List.{All, range_with_len, sum_by}
+use Rattle.std.proofs.lemmas.Bool.{cases_Bool, eq-eqb, eqb-true, ne_eqb}
+use Rattle.std.proofs.lemmas.List.Elements.{All-head, All-tail, All-weaker}
 use Rattle.std.proofs.lemmas.List.Sums.{sum_by-cons}
 use Rattle.basket_ranks.specs.Codes.{Coding, IsCoding}
 use Rattle.basket_ranks.proofs.theory.Decoding.{ranks_below}
@@ -11,6 +11,7 @@ use Rattle.basket_sets.specs.Frequent.{IsNonemptySet, frequent_of, is_frequent}
 use Rattle.basket_sets.specs.Support.{support_of}
 use Rattle.basket_sets.proofs.theory.Frequent.{frequent_once}
 use Rattle.basket_sets.proofs.theory.Members.{Member}
+use Rattle.basket_sets.proofs.theory.Merging.{sum_by-add, sum_by-same}
 use Rattle.basket_sets.proofs.theory.Rising.{has-from_Member}
 use Rattle.mine_classes.specs.Classes.{ends_in}
 use Rattle.mine_fp.specs.Trees.{ClassTreesAddUp, has_tree}
@@ -36,14 +37,11 @@ Member-last first (second ∷ others) = inr (Member-last second others)
 abbrev one_at : ℕ → Bool → ℕ → ℕ
 one_at last passes rank = cond (eqb last rank && passes) 1 0
 
-differ : (a b : ℕ) → a ≢ b → eqb a b ≡ false
-differ a b apart = elim (cases_Bool (eqb a b)) [ inl e ↦ absurd (apart (eqb-true a b e)) | inr e ↦ e ]
-
 none_after : (last : ℕ) (passes : Bool) (a n : ℕ) → last < a → sum_by (one_at last passes) (range_with_len a n) ≡ 0
 none_after last passes a zero before = refl
 none_after last passes a (suc n) before =
     sum_by-cons (one_at last passes) a (range_with_len (a + 1) n)
-    ∙ ap (λ b. cond (b && passes) 1 0 + sum_by (one_at last passes) (range_with_len (a + 1) n)) (differ last a (λ e. omega arith))
+    ∙ ap (λ b. cond (b && passes) 1 0 + sum_by (one_at last passes) (range_with_len (a + 1) n)) (ne_eqb last a (λ e. omega arith))
     ∙ (let rest = none_after last passes (a + 1) n (omega arith) in omega arith)
 
 one_within : (last : ℕ) (passes : Bool) (a n : ℕ) → a ≤ last → last < a + n → sum_by (one_at last passes) (range_with_len a n) ≡ cond passes 1 0
@@ -61,17 +59,11 @@ one_within last passes a (suc n) low high =
           ∙ (let rest = one_within last passes (a + 1) n (omega arith) (omega arith) in omega arith))
     ]
 
-sum_of_sums : (f g h : ℕ → ℕ) → ((k : ℕ) → f k ≡ g k + h k) → (a n : ℕ) → sum_by f (range_with_len a n) ≡ sum_by g (range_with_len a n) + sum_by h (range_with_len a n)
-sum_of_sums f g h each a zero = refl
-sum_of_sums f g h each a (suc n) =
-    let one = each a in
-    let rest = sum_of_sums f g h each (a + 1) n in
-    let whole = sum_by-cons f a (range_with_len (a + 1) n) in
-    let left = sum_by-cons g a (range_with_len (a + 1) n) in
-    let right = sum_by-cons h a (range_with_len (a + 1) n) in
-    omega arith
-
 -- ---- the sets by their last ranks
+
+-- a set is not empty, and its ranks are below a number
+abbrev pub EndsBelow : ℕ → Counted → Type 0
+EndsBelow count c = (c.set ≢ []) × ((rank : ℕ) → Member rank c.set → rank < count)
 
 module _ (p : Counted → Bool) (count : ℕ) where
   abbrev with_last : ℕ → List Counted → List Counted
@@ -88,10 +80,7 @@ module _ (p : Counted → Bool) (count : ℕ) where
       at true false e = ap (λ b. length (cond b (c ∷ filter p (with_last rank list)) (filter p (with_last rank list)))) e ∙ omega arith
       at false passes e = omega arith
 
-  abbrev EndsBelow : Counted → Type 0
-  EndsBelow c = (c.set ≢ []) × ((rank : ℕ) → Member rank c.set → rank < count)
-
-  one_set : (c : Counted) → EndsBelow c → sum_by (λ rank. cond (ends_in rank c.set && p c) 1 0) (range_with_len 0 count) ≡ cond (p c) 1 0
+  one_set : (c : Counted) → EndsBelow count c → sum_by (λ rank. cond (ends_in rank c.set && p c) 1 0) (range_with_len 0 count) ≡ cond (p c) 1 0
   one_set c ends = go c.set ends.0 ends.1
     where
       go : (set : List ℕ) → set ≢ [] → ((rank : ℕ) → Member rank set → rank < count) → sum_by (λ rank. cond (ends_in rank set && p c) 1 0) (range_with_len 0 count) ≡ cond (p c) 1 0
@@ -104,26 +93,20 @@ module _ (p : Counted → Bool) (count : ℕ) where
   no_sets a zero = refl
   no_sets a (suc n) = sum_by-cons (passing []) a (range_with_len (a + 1) n) ∙ (let rest = no_sets (a + 1) n in omega arith)
 
-  pub classes_add_up : (list : List Counted) → AllByRecursion EndsBelow list → sum_by (passing list) (range_with_len 0 count) ≡ length (filter p list)
+  pub classes_add_up : (list : List Counted) → All (EndsBelow count) list → sum_by (passing list) (range_with_len 0 count) ≡ length (filter p list)
   classes_add_up [] all = no_sets 0 count
   classes_add_up (c ∷ list) all =
-      sum_of_sums (passing (c ∷ list)) (λ rank. cond (ends_in rank c.set && p c) 1 0) (passing list) (one_more c list) 0 count
-      ∙ (λ i. one_set c all.0 i + classes_add_up list all.1 i) ∙ last (p c)
+      sum_by-same (passing (c ∷ list)) (λ rank. cond (ends_in rank c.set && p c) 1 0 + passing list rank) (range_with_len 0 count) (one_more c list)
+      ∙ sym (sum_by-add (λ rank. cond (ends_in rank c.set && p c) 1 0) (passing list) (range_with_len 0 count))
+      ∙ (λ i. one_set c (All-head (EndsBelow count) c list all) i + classes_add_up list (All-tail (EndsBelow count) c list all) i) ∙ last (p c)
     where
       last : (passes : Bool) → cond passes 1 0 + length (filter p list) ≡ length (cond passes (c ∷ filter p list) (filter p list))
       last true = omega arith
       last false = omega arith
 
-module _ (coding : Coding) (is : IsCoding coding) where
-  abbrev Sound : Counted → Type 0
-  Sound c = IsNonemptySet c.set × (is_frequent coding.baskets coding.minimum c.set ≡ true) × (c.count ≡ support_of coding.baskets c.set)
-
-  end_below : (list : List Counted) → AllByRecursion Sound list → AllByRecursion (λ c. (c.set ≢ []) × ((rank : ℕ) → Member rank c.set → rank < length coding.items)) list
-  end_below [] all = tt
-  end_below (c ∷ list) all = ((all.0.0.1, λ rank m. ranks_below coding is c.set all.0.1 rank (has-from_Member c.set rank m)), end_below list all.1)
-
 pub class_trees_add_up : ClassTreesAddUp
 class_trees_add_up coding is =
     let list = frequent_of coding.baskets coding.minimum in
     classes_add_up (λ c. has_tree coding.baskets coding.minimum c.set) (length coding.items) list
-    (end_below coding is list (recursion_from_All (Sound coding is) list (frequent_once coding.baskets coding.minimum).sound))
+    (All-weaker (λ (c : Counted). IsNonemptySet c.set × (is_frequent coding.baskets coding.minimum c.set ≡ true) × (c.count ≡ support_of coding.baskets c.set)) (EndsBelow (length coding.items))
+    (λ c sound. (sound.0.1, λ rank m. ranks_below coding is c.set sound.1 rank (has-from_Member c.set rank m))) list (frequent_once coding.baskets coding.minimum).sound)

@@ -4,9 +4,10 @@ use Rattle.std.specs.Prelude.{nat_eq, not}
 use Rattle.std.specs.Cmp.Lexicographic.{bytes_decides, nat_list_eq_equiv, pointwise}
 use Rattle.std.specs.List.{AllByRecursion, IsDistinct, flat_map, list_any, range_with_len, sum_by}
 use Rattle.std.proofs.lemmas.Bool.{cases_Bool}
-use Rattle.std.proofs.lemmas.List.Elements.{recursion_from_All}
+use Rattle.std.proofs.lemmas.List.Elements.{All-weaker, filter_agree, recursion_from_All}
+use Rattle.std.proofs.lemmas.List.Kept.{AllPairs-filter}
 use Rattle.std.proofs.lemmas.List.Sums.{sum_by-append, sum_by-cons}
-use Rattle.std.proofs.lemmas.Map.Made.{length-from_same_keys}
+use Rattle.std.proofs.lemmas.Map.Made.{AllPairs-from_IsDistinct, IsDistinct-from_AllPairs, length-from_same_keys}
 use Rattle.std.proofs.lemmas.Map.Views.{Contains-from_any, list_any-from_Contains}
 use Rattle.basket_ranks.specs.Codes.{Coding, IsCodedPlace, decoded_set}
 use Rattle.basket_ranks.proofs.theory.Decoding.{ranks_below}
@@ -34,7 +35,7 @@ use Rattle.mine_fp.proofs.ClassLemmas.{class_with, lists_class, ranks_are_below}
 use Rattle.mine_fp.proofs.InnerLemmas.{IsWithinRanks, outer_tree}
 use Rattle.mine_fp.proofs.LevelLemmas.{placed_rise}
 use Rattle.mine_fp.proofs.StraightLemmas.{ArePlain}
-use Rattle.mine_fp.proofs.TreeCountLemmas.{classes_add_up}
+use Rattle.mine_fp.proofs.TreeCountLemmas.{EndsBelow, classes_add_up}
 use Rattle.mine_classes.specs.Paths.{is_branch}
 
 -- ---- sets that pass a test
@@ -55,17 +56,7 @@ module _ (test : List ℕ → Bool) where
       at rest false = rest
 
   distinct_passed : (sets : List (List ℕ)) → IsDistinct (pointwise nat_eq) sets → IsDistinct (pointwise nat_eq) (filter test sets)
-  unfolding IsDistinct
-  distinct_passed [] apart = tt
-  distinct_passed (set ∷ sets) apart = at (distinct_passed sets apart.1) (test set)
-    where
-      at : IsDistinct (pointwise nat_eq) (filter test sets) → (b : Bool) → IsDistinct (pointwise nat_eq) (cond b (set ∷ filter test sets) (filter test sets))
-      at rest true = (
-        All-from_Member (λ other. pointwise nat_eq set other ≡ false) (filter test sets)
-            (λ other m. at_Member (λ y. pointwise nat_eq set y ≡ false) other sets apart.0 (Member-filter test other sets m).0),
-        rest,
-      )
-      at rest false = rest
+  distinct_passed sets apart = IsDistinct-from_AllPairs bytes_decides (filter test sets) (AllPairs-filter (λ one other. one ≢ other) test sets (AllPairs-from_IsDistinct bytes_decides sets apart))
 
   still_passed : (one other : List (List ℕ)) → ((set : List ℕ) → Member set one → Member set other) → (set : List ℕ)
       → list_any (pointwise nat_eq set) (filter test one) ≡ true → list_any (pointwise nat_eq set) (filter test other) ≡ true
@@ -94,14 +85,7 @@ module _ (test : List ℕ → Bool) where
 
 -- two tests that agree pass as many
 pub same_passed : (test other : List ℕ → Bool) → ((set : List ℕ) → test set ≡ other set) → (list : List Counted) → length (filter (λ c. test c.set) list) ≡ length (filter (λ c. other c.set) list)
-same_passed test other same [] = refl
-same_passed test other same (c ∷ list) =
-    ap (λ b. length (cond b (c ∷ filter (λ c. test c.set) list) (filter (λ c. test c.set) list))) (same c.set)
-    ∙ at (same_passed test other same list) (other c.set)
-  where
-    at : length (filter (λ c. test c.set) list) ≡ length (filter (λ c. other c.set) list) → (b : Bool) → length (cond b (c ∷ filter (λ c. test c.set) list) (filter (λ c. test c.set) list)) ≡ length (cond b (c ∷ filter (λ c. other c.set) list) (filter (λ c. other c.set) list))
-    at rest true = omega arith
-    at rest false = rest
+same_passed test other same list = ap length (filter_agree (λ c. test c.set) (λ c. other c.set) (λ c. same c.set) list)
 
 -- ---- what levels' baskets are
 
@@ -164,26 +148,20 @@ module _ (level : Level) (rank : ℕ) (inner : Level) (is_level : IsLevel level)
   abbrev outer_passed : List Counted → ℕ
   outer_passed list = length (outer_rest list)
 
-  none_passed : is_branch within ≡ true → (list : List Counted) → AllByRecursion IsInner list → outer_passed list ≡ 0
-  none_passed one [] all = refl
-  none_passed one (c ∷ list) all =
-      ap (λ b. length (cond b (outer_set c ∷ outer_rest list) (outer_rest list))) (tree_is c all.0 ∙ ap (λ b. not b && inner_test c.set) one) ∙ none_passed one list all.1
-
-  each_passed : is_branch within ≡ false → (list : List Counted) → AllByRecursion IsInner list → outer_passed list ≡ length (filter (λ c. inner_test c.set) list)
-  each_passed several [] all = refl
-  each_passed several (c ∷ list) all =
-      ap (λ b. length (cond b (outer_set c ∷ outer_rest list) (outer_rest list))) (tree_is c all.0 ∙ ap (λ b. not b && inner_test c.set) several)
-      ∙ at (each_passed several list all.1) (inner_test c.set)
-    where
-      at : outer_passed list ≡ length (filter (λ c. inner_test c.set) list) → (b : Bool) → length (cond b (outer_set c ∷ outer_rest list) (outer_rest list)) ≡ length (cond b (c ∷ filter (λ c. inner_test c.set) list) (filter (λ c. inner_test c.set) list))
-      at others true = omega arith
-      at others false = others
-
   within_passed : (list : List Counted) → AllByRecursion IsInner list → outer_passed list ≡ cond (is_branch within) 0 (length (filter (λ c. inner_test c.set) list))
-  within_passed list all = elim (cases_Bool (is_branch within)) [
-    | inl one ↦ none_passed one list all ∙ ap (λ b. cond b 0 (length (filter (λ (c : Counted). inner_test c.set) list))) (sym one)
-    | inr several ↦ each_passed several list all ∙ ap (λ b. cond b 0 (length (filter (λ (c : Counted). inner_test c.set) list))) (sym several)
-  ]
+  within_passed [] all = none (is_branch within)
+    where
+      none : (b : Bool) → ◌≡◌ {A = ℕ} 0 (cond b 0 0)
+      none true = refl
+      none false = refl
+  within_passed (c ∷ list) all =
+      ap (λ b. length (cond b (outer_set c ∷ outer_rest list) (outer_rest list))) (tree_is c all.0) ∙ at (is_branch within) (inner_test c.set) (within_passed list all.1)
+    where
+      at : (one passes : Bool) → outer_passed list ≡ cond one 0 (length (filter (λ c. inner_test c.set) list))
+          → length (cond (not one && passes) (outer_set c ∷ outer_rest list) (outer_rest list)) ≡ cond one 0 (length (cond passes (c ∷ filter (λ c. inner_test c.set) list) (filter (λ c. inner_test c.set) list)))
+      at true passes rest = rest
+      at false true rest = omega arith
+      at false false rest = rest
 
   -- the rank's own tree, and those within its conditional database
   pub class_trees_are : rank_trees baskets level.least rank ≡ 1 + inner_trees within inner.least
@@ -214,20 +192,10 @@ module _ (all : ClassesAreAll) (listed : ClassesAreListed) (value : RankBaskets)
   abbrev IsSoundHere : Counted → Type 0
   IsSoundHere c = IsNonemptySet c.set × (is_frequent value.baskets (Count least) c.set ≡ true) × (c.count ≡ support_of value.baskets c.set)
 
-  ends_below : (list : List Counted) → AllByRecursion IsSoundHere list → AllByRecursion (λ c. (c.set ≢ []) × ((rank : ℕ) → Member rank c.set → rank < value.ranks)) list
-  ends_below [] sound = tt
-  ends_below (c ∷ list) sound = (
-    (
-      sound.0.0.1,
-      λ rank m.
-          ranks_are_below all listed value are least rank
-          (Contains-from_Member rank (flat_map (λ place. place.basket) value.baskets)
-          (in_items value.baskets c.set (at_least_one (Count least) (support_of value.baskets c.set) (total_of value.baskets) sound.0.1) rank m)),
-    ),
-    ends_below list sound.1,
-  )
-
   pub trees_of_ranks : sum_by (rank_trees value.baskets least) (range_with_len 0 value.ranks) ≡ length (filter (λ c. has_tree value.baskets (Count least) c.set) (frequent_of value.baskets (Count least)))
   trees_of_ranks =
       let list = frequent_of value.baskets (Count least) in
-      classes_add_up (λ c. has_tree value.baskets (Count least) c.set) value.ranks list (ends_below list (recursion_from_All IsSoundHere list (frequent_once value.baskets (Count least)).sound))
+      classes_add_up (λ c. has_tree value.baskets (Count least) c.set) value.ranks list
+      (All-weaker IsSoundHere (EndsBelow value.ranks) (λ c sound. (sound.0.1, λ rank m. ranks_are_below all listed value are least rank
+      (Contains-from_Member rank (flat_map (λ place. place.basket) value.baskets)
+      (in_items value.baskets c.set (at_least_one (Count least) (support_of value.baskets c.set) (total_of value.baskets) sound.1) rank m)))) list (frequent_once value.baskets (Count least)).sound)

@@ -1,34 +1,31 @@
 //! The prefix tree of weighted paths.
-ghost use Rattle.std.specs.Prelude.{◌≡◌, ◌≤◌, ◌<◌, ◌↔◌, ◌+◌, ◌^◌, ◌++◌, [], ◌∷◌, List, ℕ, IfOk, IsTrue, MatchOption, OnErr, OnOk, None, length, map, slice_index, slice_index_or, take, vec_capacity, vec_len};
+ghost use Rattle.std.specs.Prelude.{◌≡◌, ◌≤◌, ◌<◌, ◌+◌, ◌^◌, ◌++◌, [], ◌∷◌, ℕ, List, IfOk, MatchOption, OnErr, OnOk, drop, false, length, map, nat_eq, take, true, vec_capacity, vec_len};
+ghost use Rattle.std.specs.List.{All, common_prefix_len};
 ghost use Rattle.basket_sets.specs.declared.weighted.Weighted.{Weighted};
 ghost use Rattle.basket_sets.specs.Database.{weighted};
 ghost use Rattle.basket_sets.specs.Itemset.{IsRising};
-ghost use Rattle.mine_fp.specs.Tree.{AreLinked, IsAdded, IsBefore, StandsFor, base_of, counts_of, first_number, link_of, links_of, path_above, paths_of};
+ghost use Rattle.mine_classes.specs.Classes.{ends_in};
+ghost use Rattle.mine_fp.specs.Tree.{AreNodes, StandsFor, base_of, front, longest, made, node_of, paths_of, raised};
 
 use std::alloc::{AllocError, Global};
 use std::marker::Model;
 
-/// A node: its rank, the number of the node above it, and the weight of the paths that go through it.
+/// A node: its path, as so many ranks from a place on in the list of all, and the weight of the
+/// paths that go through it.
 #[derive(Clone, Copy, Debug)]
 struct Node {
-    rank: u32,
-    above: Option<usize>,
+    start: usize,
+    depth: usize,
     count: u64,
 }
 
-impl Node {
-    /// Whether it is of the rank, and below that node.
-    fn is_linked(&self, above: Option<usize>, rank: u32) -> bool
-        ensures { IsTrue result ↔ (link_of self.now ≡ (rank, above)) }
-    {
-        self.rank == rank && self.above == above
-    }
-}
-
 /// The prefix tree of weighted paths (Han, Pei and Yin 2000). Paths with a common prefix share
-/// nodes. The nodes are in one list, each after the one above it.
+/// nodes.
 #[derive(Debug, Drop)]
 pub struct FpTree {
+    /// The paths that made nodes, one after the other.
+    ranks: Vec<u32>,
+    /// The nodes in the order in which they were made. Those that one path made are neighbours.
     nodes: Vec<Node>,
     total: u64,
 }
@@ -38,9 +35,9 @@ impl Model for FpTree {
 
     ghost Value = { Tree };
 
-    ghost view = { λ t. tree_of t.nodes.items t.total };
+    ghost view = { λ t. tree_of t.ranks.items t.nodes.items t.total };
 
-    ghost invariant = { λ t. AreNodes t.nodes.items t.total };
+    ghost invariant = { λ t. AreNodes t.ranks.items t.nodes.items t.total };
 }
 
 impl FpTree {
@@ -49,6 +46,7 @@ impl FpTree {
         ensures { StandsFor result [] }
     {
         FpTree {
+            ranks: Vec::new(alloc),
             nodes: Vec::new(alloc),
             total: 0,
         }
@@ -61,14 +59,13 @@ impl FpTree {
         requires weighs { 1 ≤ weight }
         requires light { self.old.total + weight ≤ 2 ^ 40 }
         ensures ok { OnOk result ((paths : List Weighted) → StandsFor self.old paths → StandsFor self.new (paths ++ weighted path.now weight ∷ [])) }
-        ensures order { OnOk result (take (length self.old.paths) self.new.paths ≡ self.old.paths) }
+        ensures order { OnOk result (take (length self.old.nodes) (paths_of self.new.nodes) ≡ paths_of self.old.nodes) }
         ensures err { OnErr result (self.new ≡ self.old) }
     {
+        self.ranks.reserve(path.len())?;
         self.nodes.reserve(path.len())?;
-        let mut at = None;
-        for rank in path {
-            at = Some(add(&mut self.nodes, at, *rank, weight));
-        }
+        let known = add_weight(&self.ranks, &mut self.nodes, path, weight);
+        add_nodes(&mut self.ranks, &mut self.nodes, path, known, weight);
         self.total += weight;
         Ok(())
     }
@@ -87,78 +84,80 @@ impl FpTree {
     {
         let mut base = Vec::new(alloc);
         for node in &self.nodes {
-            if node.rank == rank {
-                base.push((path_to(alloc, &self.nodes, node.above)?, node.count))?;
+            let path = &self.ranks[node.start..node.start + node.depth];
+            if let Some(above) = above(path, rank) {
+                base.push((above.to_vec(alloc)?, node.count))?;
             }
         }
         Ok(base)
     }
 }
 
-/// The node of the rank below a node, which gets more weight. It is made if there is none.
-fn add(nodes: &mut Vec<Node>, above: Option<usize>, rank: u32, weight: u64) -> usize
-    requires room { vec_len nodes.old < vec_capacity nodes.old }
-    requires before { (k : ℕ) → k < length nodes.old.items → IsBefore k (slice_index_or (links_of nodes.old.items) k (0, None)).1 }
-    requires above { IsBefore (length nodes.old.items) above }
-    requires light { (k : ℕ) → k < length nodes.old.items → slice_index_or (links_of nodes.old.items) k (0, None) ≡ (rank, above)
-        → slice_index (counts_of nodes.old.items) k + weight < 2 ^ 64 }
-    ensures added { IsAdded nodes.old.items (rank, above) weight nodes.new.items result }
-    ensures room { vec_capacity nodes.old ≤ vec_capacity nodes.new }
-    ensures len { vec_len nodes.new ≤ vec_len nodes.old + 1 }
+/// The ranks above the last one of a path, if that is the given one.
+#[tactic(auto, using(crate::proofs::BaseLemmas::ends_push, crate::proofs::BaseLemmas::front_push))]
+fn above(path: &[u32], rank: u32) -> Option<&[u32]>
+    ensures { MatchOption result (ends_in rank path.now ≡ false) (λ above. (ends_in rank path.now ≡ true) × (above.now ≡ front path.now)) }
 {
-    if let Some(child) = child_of(nodes, above, rank) {
-        nodes[child].count += weight;
-        return child;
-    }
-    let made = nodes.len();
-    nodes
-        .push(Node {
-            rank,
-            above,
-            count: weight,
-        })
-        .unwrap();
-    made
+    let (last, above) = path.split_last()?;
+    if *last == rank { Some(above) } else { None }
 }
 
-/// The node of the rank below a node. It comes after that node.
-fn child_of(nodes: &[Node], above: Option<usize>, rank: u32) -> Option<usize>
-    requires before { (k : ℕ) → k < length nodes.now → IsBefore k (slice_index_or (links_of nodes.now) k (0, None)).1 }
-    requires above { IsBefore (length nodes.now) above }
-    ensures { MatchOption result ((k : ℕ) → k < length nodes.now → slice_index_or (links_of nodes.now) k (0, None) ≡ (rank, above) → ⊥)
-        (λ child. (child < length nodes.now) × (slice_index_or (links_of nodes.now) child (0, None) ≡ (rank, above))) }
+/// Adds a weight to each node whose path begins another one. Returns the length of the longest.
+fn add_weight(ranks: &[u32], nodes: &mut [Node], path: &[u32], weight: u64) -> usize
+    requires inside { All (λ node. node.start + node.depth ≤ length ranks.now) nodes.old }
+    requires light { All (λ node. node.count + weight < 2 ^ 64) nodes.old }
+    ensures raised { nodes.new ≡ map (raised ranks.now path.now weight) nodes.old }
+    ensures known { result ≡ longest path.now (paths_of (map (node_of ranks.now) nodes.old)) }
 {
-    for number in first_below(above)..nodes.len() {
-        if nodes[number].is_linked(above, rank) {
-            return Some(number);
+    let mut known = 0usize;
+    let mut start = 0;
+    let mut shared = shared_ranks(ranks, start, path);
+    for node in nodes.iter_mut() {
+        // The nodes that one path made are neighbours, so each path is compared once.
+        if node.start != start {
+            start = node.start;
+            shared = shared_ranks(ranks, start, path);
+        }
+        if node.depth <= shared {
+            node.count += weight;
+            known = known.max(node.depth);
         }
     }
-    None
+    known
 }
 
-/// Where the nodes below a node begin at the earliest.
-fn first_below(above: Option<usize>) -> usize
-    requires { IsBefore usize.MAX above }
-    ensures { result ≡ first_number above }
+/// How many first ranks a path shares with those from a place on.
+fn shared_ranks(ranks: &[u32], start: usize, path: &[u32]) -> usize
+    requires { start ≤ length ranks.now }
+    ensures { result ≡ common_prefix_len nat_eq (drop start ranks.now) path.now }
 {
-    match above {
-        Some(number) => number + 1,
-        None => 0,
+    let rest = &ranks[start..];
+    let mut shared = 0;
+    while shared < rest.len() && shared < path.len() && rest[shared] == path[shared] {
+        shared += 1;
     }
+    shared
 }
 
-/// The path of a node by its number, or that of the root.
-fn path_to(alloc: Global, nodes: &[Node], number: Option<usize>) -> Result<Vec<u32>, AllocError>
-    requires linked { AreLinked (links_of nodes.now) (paths_of (links_of nodes.now)) }
-    requires there { IsBefore (length nodes.now) number }
-    ensures { IfOk result (λ path. path.items ≡ path_above (paths_of (links_of nodes.now)) number) }
+/// Adds a node for each prefix of a path that is longer than the known ones.
+fn add_nodes(ranks: &mut Vec<u32>, nodes: &mut Vec<Node>, path: &[u32], known: usize, weight: u64)
+    requires known { known ≤ length path.now }
+    requires room { (vec_len ranks.old + length path.now ≤ vec_capacity ranks.old) × (vec_len nodes.old + length path.now ≤ vec_capacity nodes.old) }
+    ensures { (total : ℕ) → weight ≤ total → AreNodes ranks.old.items nodes.old.items total
+        → AreNodes ranks.new.items nodes.new.items total × (map (node_of ranks.new.items) nodes.new.items ≡ map (node_of ranks.old.items) nodes.old.items ++ made path.now weight known) }
 {
-    let mut path = Vec::new(alloc);
-    let mut at = number;
-    while let Some(number) = at {
-        path.push(nodes[number].rank)?;
-        at = nodes[number].above;
+    if known == path.len() {
+        return;
     }
-    path.reverse();
-    Ok(path)
+    let start = ranks.len();
+    ranks.extend_from_slice(path).unwrap();
+    for depth in known..path.len() {
+        nodes
+            .push(Node {
+                start,
+                depth: depth + 1,
+                count: weight,
+            })
+            .unwrap();
+    }
 }

@@ -1,11 +1,9 @@
-use Rattle.std.proofs.Common.{◌≡◌, map, take}
+use Rattle.std.proofs.Common.{◌≡◌, ℕ, map, take}
 use Rattle.std.specs.declared.vec.Vec.{Vec}
 use Rattle.std.specs.declared.alloc.Global.{Global}
-use Rattle.std.proofs.Common.{ℕ}
-use Rattle.mine_fp.specs.Tree.{bases_from, counts_of, links_of, paths_of}
+use Rattle.mine_fp.specs.Tree.{base_of, tree_of}
 use Rattle.mine_fp.proofs.tree.FpTree.base.Given as goal
 
 abbrev pub invariant-loop-node : goal.invariant-loop-node
 invariant-loop-node l =
-    map (λ (place : Vec ℕ Global × ℕ). (place.0.items, place.1)) l.base.items
-    ≡ bases_from (take l.node-index (paths_of (links_of l.node-items))) (take l.node-index (counts_of l.node-items)) l.rank
+    map (λ (place : Vec ℕ Global × ℕ). (place.0.items, place.1)) l.base.items ≡ base_of (tree_of l.self-inside.ranks.items (take l.node-index l.node-items) l.self-inside.total) l.rank

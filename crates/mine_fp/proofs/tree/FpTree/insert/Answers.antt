@@ -1,38 +1,46 @@
-use Rattle.std.proofs.Common.{◌≡◌, ◌++◌, ◌∷◌, [], List, None, get_or, length, take, sym, ap, ◌∙◌, subst, arith}
-use Rattle.std.proofs.lemmas.List.{length-take, take_all}
+use Rattle.std.proofs.Common.{◌≡◌, ◌+◌, ◌++◌, ◌∷◌, [], List, ℕ, length, map, take, sym, ap, ◌∙◌, subst, arith}
+use Rattle.std.proofs.lemmas.Simd.{map-map}
 use Rattle.basket_sets.specs.Database.{weighted}
 use Rattle.mine_fp.specs.declared.tree.Node.{Node}
-use Rattle.mine_fp.specs.Tree.{AreBranches, IsReached, Tree, counts_of, links_of, paths_of}
-use Rattle.mine_fp.proofs.BranchLemmas.{root_begun}
-use Rattle.mine_fp.proofs.InsertLemmas.{added, kept_first, not_begun}
+use Rattle.mine_fp.specs.Tree.{AreNodes, StandsFor, Tree, longest, made, node_of, paths_of, raised}
+use Rattle.mine_fp.proofs.BranchLemmas.{grown, heavier, longest_within, older_first, stands_now}
+use Rattle.mine_fp.proofs.NodeLemmas.{raised_are, written}
 use Rattle.mine_fp.proofs.tree.FpTree.insert.Goals as goal
 
-pub loop-rank-init : goal.loop-rank-init
-loop-rank-init c =
-    let items = sym c.in_ok-reserve.ensures.items in
-    record {
-      is = subst (λ (nodes : List Node). IsReached (links_of nodes) (paths_of (links_of nodes)) (counts_of nodes) c.self.inside.total c.args.weight c.args.path.now 0 None) items
-          (not_begun c.self.inside.nodes.items c.self.inside.total c.args.weight c.args.path.now c.self.invariant);
-      room = omega (arith, c.in_ok-reserve.ensures.ok);
-      order = subst (λ (nodes : List Node). take (length c.args.self.now.paths) (paths_of (links_of nodes)) ≡ c.args.self.now.paths) items
-          (ap (take (length c.args.self.now.paths)) (ap (λ (v : Tree). v.paths) c.self.view_is) ∙ take_all (length c.args.self.now.paths) c.args.self.now.paths (omega arith));
-      total = ap (λ (v : Tree). v.total) c.self.view_is;
-      stands = λ begun are.
-          subst (λ (nodes : List Node). AreBranches (paths_of (links_of nodes)) (counts_of nodes) (begun ++ weighted [] c.args.weight ∷ [])) items
-          (root_begun (paths_of (links_of c.self.inside.nodes.items)) (counts_of c.self.inside.nodes.items) c.args.weight begun
-          (subst (λ (v : Tree). AreBranches v.paths v.counts begun) (sym c.self.view_is) are));
-    }
+pub add_nodes-requires-clause-known : goal.add_nodes-requires-clause-known
+add_nodes-requires-clause-known c = omega (arith, c.add_weight-known.ensures.known, longest_within c.args.path.now (paths_of (map (node_of c.deref.result.now) c.deref_mut.result.now)))
 
-pub loop-rank-preserved : goal.loop-rank-preserved
-loop-rank-preserved c =
-    let nodes = c.loop-rank.self-inside.nodes.items in
-    let so_far = c.loop-rank.invariant in
-    let next = added nodes c.add.new.nodes.items c.loop-rank.self-inside.total c.args.weight c.args.path.now c.loop-rank.rank-index c.loop-rank.at c.add.result c.loop-rank-test.true so_far.is c.add.ensures.added in
-    record {
-      is = next.0;
-      room = omega (arith, so_far.room, c.add.ensures.room, c.add.ensures.len, c.loop-rank-test.true);
-      order = kept_first nodes c.add.new.nodes.items (get_or c.args.path.now c.loop-rank.rank-index 0, c.loop-rank.at) c.args.weight c.add.result (length c.args.self.now.paths) c.add.ensures.added
-          (omega (arith, ap length so_far.order, length-take (length c.args.self.now.paths) (paths_of (links_of nodes)))) ∙ so_far.order;
-      total = so_far.total;
-      stands = λ begun are. next.1 begun (so_far.stands begun are);
-    }
+-- the nodes before
+abbrev older : goal.After-self-2-1 → List (List ℕ × ℕ)
+older c = map (node_of c.self.inside.ranks.items) c.self.inside.nodes.items
+
+all_are : (c : goal.After-self-2-1) → AreNodes c.add_nodes.new.ranks.items c.add_nodes.new.nodes.items (c.self.inside.total + c.args.weight)
+    × (map (node_of c.add_nodes.new.ranks.items) c.add_nodes.new.nodes.items ≡ grown c.args.path.now c.args.weight (older c))
+all_are c =
+    let ranks = c.self.inside.ranks.items in
+    let nodes = c.self.inside.nodes.items in
+    let path = c.args.path.now in
+    let raise = raised ranks path c.args.weight in
+    let at = c.deref.ensures.value ∙ c.in_ok-reserve.ensures.items in
+    let lent = c.deref_mut.ensures.value ∙ c.in_ok-reserve-2.ensures.items in
+    let more = written ranks path c.args.weight nodes _ _ _ _ c.reserve-2.new.self.len at c.deref_mut.ensures.value c.in_ok-reserve-2.ensures.items (sym c.deref_mut.ensures.len) c.add_weight-known.ensures.raised in
+    let known = c.add_weight-known.ensures.known ∙ (λ i. longest path (paths_of (map (node_of (at i)) (lent i)))) in
+    let all = c.add_nodes.ensures (c.self.inside.total + c.args.weight) (omega arith)
+    (subst (λ (t : List ℕ × List Node). AreNodes t.0 t.1 (c.self.inside.total + c.args.weight)) (λ i. (sym c.in_ok-reserve.ensures.items i, sym more i)) (raised_are ranks path c.args.weight c.self.inside.total nodes c.self.invariant)) in (
+      all.0,
+      all.1 ∙ (λ i. map (node_of (c.in_ok-reserve.ensures.items i)) (more i) ++ made path c.args.weight (known i))
+          ∙ ap (λ l. l ++ made path c.args.weight (longest path (paths_of (older c)))) (map-map (node_of ranks) raise nodes ∙ sym (map-map (heavier path c.args.weight) (node_of ranks) nodes)),
+    )
+
+pub invariant_of-self-2 : goal.invariant_of-self-2
+invariant_of-self-2 c = (all_are c).0
+
+pub returns-clause-ok : goal.returns-clause-ok
+returns-clause-ok c = λ begun stands.
+    subst (λ (l : List (List ℕ × ℕ)). StandsFor (record { nodes = l; total = c.self.inside.total + c.args.weight }) (begun ++ weighted c.args.path.now c.args.weight ∷ [])) (sym (all_are c).1)
+    (stands_now (older c) c.args.path.now c.args.weight c.self.inside.total begun (subst (λ (v : Tree). StandsFor v begun) (sym c.self.view_is) stands))
+
+pub returns-clause-order : goal.returns-clause-order
+returns-clause-order c =
+    subst (λ (v : Tree). take (length v.nodes) (paths_of (map (node_of c.add_nodes.new.ranks.items) c.add_nodes.new.nodes.items)) ≡ paths_of v.nodes) c.self.view_is
+    (ap (λ (l : List (List ℕ × ℕ)). take (length (older c)) (paths_of l)) (all_are c).1 ∙ older_first (older c) c.args.path.now c.args.weight)
