@@ -1,7 +1,8 @@
 -- Counts of pairs, one basket after another.
-use Rattle.std.proofs.Common.{◌≡◌, ◌≢◌, ℕ, ◌+◌, ◌<◌, ◌≤◌, Bool, true, false, ◌&&◌, ◌||◌, List, [], ◌∷◌, length, map, take, drop, get_or, set, cond, eqb, refl, sym, ap, ◌∙◌, ltb, subst, inl, inr, arith, zero, suc, add-zero}
-use Rattle.std.proofs.lemmas.Bool.{cases_Bool, cases_eq, eq-eqb, ne_eqb, lt-ltb, ltb-true}
-use Rattle.std.proofs.lemmas.List.{drop_more, get_or-replicate, get_or-set_other, get_or-set_same, length-replicate, take-append-drop}
+use Rattle.std.proofs.Common.{◌≡◌, ◌≢◌, ℕ, ◌+◌, ◌<◌, ◌≤◌, Bool, true, false, ◌&&◌, ◌||◌, List, [], ◌∷◌, length, map, take, get_or, set, cond, refl, sym, ap, ◌∙◌, ltb, subst, inl, inr, arith, add-zero}
+use Rattle.std.proofs.Math.Bool.{or-false, or-true}
+use Rattle.std.proofs.lemmas.Bool.{cases_eq, eq-eqb, ne_eqb, lt-ltb, ltb-true}
+use Rattle.std.proofs.lemmas.List.{get_or-replicate, get_or-set_other, get_or-set_same, length-replicate}
 use Rattle.std.proofs.lemmas.List.FromFn.{get_or-map-range_with_len, length-map-range_with_len}
 use Rattle.std.proofs.lemmas.List.Sums.{sum_by_more, sum_by_more_le}
 use Rattle.std.specs.List.{filter, range_with_len}
@@ -12,7 +13,7 @@ use Rattle.basket_sets.specs.Itemset.{IsRising, has}
 use Rattle.basket_sets.specs.Support.{total_of, weight_at}
 use Rattle.basket_sets.proofs.theory.Members.{Member, Member-filter, Member-from_filter}
 use Rattle.basket_sets.proofs.theory.Ranges.{filter_rises}
-use Rattle.basket_sets.proofs.theory.Rising.{Member-from_has, first_below, has-append, has-from_Member, has_more, rest_rises, same_test}
+use Rattle.basket_sets.proofs.theory.Rising.{Member-from_has, has-from_Member, has_more, not_before, same_test}
 use Rattle.basket_sets.proofs.theory.Support.{support_falls}
 use Rattle.mine_classes.specs.Pairs.{pairs_of}
 use Rattle.mine_classes.specs.Sums.{WithBasket, is_met}
@@ -20,19 +21,14 @@ use Rattle.mine_classes.specs.Triangle.{HaveCounts, WithPairs, row_at, zeros}
 use Rattle.mine_classes.proofs.PairLemmas.{sums_are_pairs}
 use Rattle.mine_classes.proofs.RunStepLemmas.{front_is}
 
--- ---- the ranks before and after one of a basket
-
-drop_rises : (n : ℕ) (xs : List ℕ) → IsRising xs → IsRising (drop n xs)
-drop_rises zero xs up = up
-drop_rises (suc n) [] up = up
-drop_rises (suc n) (x ∷ xs) up = drop_rises n xs (rest_rises x xs up)
+-- ---- the ranks before one of a basket
 
 module _ (ranks : List ℕ) (place : ℕ) (up : IsRising ranks) (here : place < length ranks) where
   abbrev rank : ℕ
   rank = get_or ranks place 0
 
   -- of the ranks below it the basket has those that stand before it
-  front_has : (lesser : ℕ) → lesser < rank → has (take place ranks) lesser ≡ has ranks lesser
+  pub front_has : (lesser : ℕ) → lesser < rank → has (take place ranks) lesser ≡ has ranks lesser
   front_has lesser less =
       let below : ℕ → Bool = λ other. ltb other rank in
       let front = front_is ranks place up here in
@@ -48,31 +44,9 @@ module _ (ranks : List ℕ) (place : ℕ) (up : IsRising ranks) (here : place < 
       let m = subst (Member lesser) (sym (front_is ranks place up here)) (Member-from_has (take place ranks) lesser h) in
       ltb-true lesser rank (Member-filter (λ other. ltb other rank) lesser ranks m).1
 
-  later_has : (greater : ℕ) → has (drop place ranks) greater ≡ (eqb rank greater || has (drop (place + 1) ranks) greater)
-  later_has greater = ap (λ l. has l greater) (drop_more ranks place 0 here)
-
-  not_later : has (drop (place + 1) ranks) rank ≡ false
-  not_later = elim (cases_Bool (has (drop (place + 1) ranks) rank)) [
-    | inl e ↦
-        (let rises = subst IsRising (drop_more ranks place 0 here) (drop_rises place ranks up) in
-        let less = first_below rank (drop (place + 1) ranks) rises rank (Member-from_has (drop (place + 1) ranks) rank e) in
-        absurd (omega arith))
-    | inr e ↦ e
-  ]
-
-  pub other_later : (greater : ℕ) → greater ≢ rank → has (drop (place + 1) ranks) greater ≡ has (drop place ranks) greater
-  other_later greater differ = ap (λ b. b || has (drop (place + 1) ranks) greater) (sym (ne_eqb rank greater (λ e. differ (sym e)))) ∙ sym (later_has greater)
-
-  -- the ranks above it stand after it
-  pub above_later : (greater : ℕ) → rank < greater → has (drop (place + 1) ranks) greater ≡ has ranks greater
-  above_later greater above =
-      let early : has (take place ranks) greater ≡ false = elim (cases_Bool (has (take place ranks) greater)) [
-        | inl e ↦ absurd (let less = before_all_below greater e in omega arith)
-        | inr e ↦ e
-      ] in
-      let front = has_more ranks place greater here ∙ ap (λ b. b || eqb rank greater) early ∙ ne_eqb rank greater (λ e. omega (arith, e, above)) in
-      ap (λ b. b || has (drop (place + 1) ranks) greater) (sym front) ∙ sym (has-append (take (place + 1) ranks) (drop (place + 1) ranks) greater)
-      ∙ ap (λ l. has l greater) (take-append-drop (place + 1) ranks)
+  pub other_front : (greater : ℕ) → greater ≢ rank → has (take place ranks) greater ≡ has (take (place + 1) ranks) greater
+  other_front greater differ =
+      sym (has_more ranks place greater here ∙ ap (λ b. has (take place ranks) greater || b) (ne_eqb rank greater (λ e. differ (sym e))) ∙ or-false (has (take place ranks) greater))
 
 -- ---- the rows, one rank of a basket after another
 
@@ -83,15 +57,15 @@ module _ (first weight : ℕ) (ranks : List ℕ) (old now : List (List ℕ)) whe
     added = λ k below. subst (λ b. WithBasket (cond b ranks []) weight (row_at old k) (row_at now k)) (same k below) (with.added k below);
   }
 
-  module _ (place k : ℕ) (up : IsRising ranks) (here : place < length ranks) (within : k < length old) (is : first + k ≡ get_or ranks place 0) (with : WithPairs first (drop (place + 1) ranks) ranks weight old now) where
+  module _ (place k : ℕ) (up : IsRising ranks) (here : place < length ranks) (within : k < length old) (is : first + k ≡ get_or ranks place 0) (with : WithPairs first (take place ranks) ranks weight old now) where
     -- the row of the next rank is as it was
     pub as_was : (lesser : ℕ) → lesser < length (row_at old k) → get_or (row_at now k) lesser 0 ≡ get_or (row_at old k) lesser 0
     as_was lesser below = with.added k within lesser below
-        ∙ ap (λ b. get_or (row_at old k) lesser 0 + cond (has (cond b ranks []) lesser) weight 0) (ap (has (drop (place + 1) ranks)) is ∙ not_later ranks place up here)
+        ∙ ap (λ b. get_or (row_at old k) lesser 0 + cond (has (cond b ranks []) lesser) weight 0) (ap (has (take place ranks)) is ∙ not_before ranks place up here)
         ∙ add-zero (get_or (row_at old k) lesser 0)
 
     pub row_more : (row : List ℕ) → length now ≡ length old → length (row_at old k) ≡ first + k → length row ≡ length (row_at now k) → WithBasket (take place ranks) weight (row_at now k) row
-        → WithPairs first (drop place ranks) ranks weight old (set now k row)
+        → WithPairs first (take (place + 1) ranks) ranks weight old (set now k row)
     row_more row same wide long added = record {
       long = λ j below. elim (cases_eq j k) [
         | inl e ↦ subst (λ n. length (row_at (set now k row) n) ≡ length (row_at old n)) (sym e) (ap length (get_or-set_same now k row [] (omega arith)) ∙ long ∙ with.long k within)
@@ -99,17 +73,17 @@ module _ (first weight : ℕ) (ranks : List ℕ) (old now : List (List ℕ)) whe
       ];
       added = λ j below. elim (cases_eq j k) [
         | inl e ↦
-            subst (λ n. WithBasket (cond (has (drop place ranks) (first + n)) ranks []) weight (row_at old n) (row_at (set now k row) n)) (sym e)
-            (subst (λ l. WithBasket (cond (has (drop place ranks) (first + k)) ranks []) weight (row_at old k) l) (sym (get_or-set_same now k row [] (omega arith)))
+            subst (λ n. WithBasket (cond (has (take (place + 1) ranks) (first + n)) ranks []) weight (row_at old n) (row_at (set now k row) n)) (sym e)
+            (subst (λ l. WithBasket (cond (has (take (place + 1) ranks) (first + k)) ranks []) weight (row_at old k) l) (sym (get_or-set_same now k row [] (omega arith)))
             (subst (λ b. WithBasket (cond b ranks []) weight (row_at old k) row) (sym there) whole))
         | inr differ ↦
-            subst (λ b. WithBasket (cond b ranks []) weight (row_at old j) (row_at (set now k row) j)) (other_later ranks place up here (first + j) (λ e. differ (omega arith)))
-            (subst (λ l. WithBasket (cond (has (drop (place + 1) ranks) (first + j)) ranks []) weight (row_at old j) l) (sym (get_or-set_other now k j row [] differ)) (with.added j below))
+            subst (λ b. WithBasket (cond b ranks []) weight (row_at old j) (row_at (set now k row) j)) (other_front ranks place up here (first + j) (λ e. differ (omega arith)))
+            (subst (λ l. WithBasket (cond (has (take place ranks) (first + j)) ranks []) weight (row_at old j) l) (sym (get_or-set_other now k j row [] differ)) (with.added j below))
       ];
     }
       where
-        there : has (drop place ranks) (first + k) ≡ true
-        there = later_has ranks place up here (first + k) ∙ ap (λ b. b || has (drop (place + 1) ranks) (first + k)) (eq-eqb (get_or ranks place 0) (first + k) (sym is))
+        there : has (take (place + 1) ranks) (first + k) ≡ true
+        there = has_more ranks place (first + k) here ∙ ap (λ b. has (take place ranks) (first + k) || b) (eq-eqb (get_or ranks place 0) (first + k) (sym is)) ∙ or-true (has (take place ranks) (first + k))
 
         whole : WithBasket ranks weight (row_at old k) row
         whole lesser below = added lesser (omega (arith, with.long k within))

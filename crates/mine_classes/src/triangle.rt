@@ -63,19 +63,20 @@ fn count_pairs(rows: &mut [Vec<u64>], first: u32, baskets: &[Weighted])
     }
 }
 
-/// Adds a weight for each pair of ranks of a basket whose greater rank has a row.
+/// Adds a weight for each pair of ranks of a basket whose greater rank has a row. The ranks rise, so
+/// the first one past the rows is the end.
 fn count_basket(rows: &mut [Vec<u64>], first: u32, ranks: &[u32], weight: u64)
     requires rises { IsRising ranks.now }
     requires rows { HaveRows first (lists_of rows.old) }
     requires light { (k lesser : ℕ) → k < length rows.old → lesser < first + k → slice_index (row_at (lists_of rows.old) k) lesser + weight ≤ MOST_WEIGHT }
     ensures { WithPairs first ranks.now ranks.now weight (lists_of rows.old) (lists_of rows.new) }
 {
-    for place in (0..ranks.len()).rev() {
-        if ranks[place] < first {
-            break;
-        }
-        let row = (ranks[place] - first) as usize;
-        if row < rows.len() {
+    for (place, rank) in ranks.iter().enumerate() {
+        if *rank >= first {
+            let row = (*rank - first) as usize;
+            if row >= rows.len() {
+                break;
+            }
             count_below(&mut rows[row], &ranks[..place], weight);
         }
     }
