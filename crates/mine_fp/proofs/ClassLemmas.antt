@@ -4,7 +4,7 @@ use Rattle.std.specs.List.{AllByRecursion, flat_map, range_with_len}
 use Rattle.std.proofs.lemmas.Bool.{and_from, and_parts, cases_lt, eq-eqb, le-leb, leb-true}
 use Rattle.std.proofs.lemmas.Grind.{flat_map-append}
 use Rattle.std.proofs.lemmas.List.{get_or_append_left, get_or-append_right, length-append, length-map}
-use Rattle.std.proofs.lemmas.List.Elements.{All-from_recursion, recursion_from_All}
+use Rattle.std.proofs.lemmas.List.Elements.{All-contains, All-from_recursion, recursion_from_All}
 use Rattle.std.proofs.lemmas.List.FromFn.{get_or-map-range_with_len, length-map-range_with_len}
 use Rattle.basket_ranks.specs.Codes.{Coding, IsCodedPlace, IsCoding, decoded_set, decoded}
 use Rattle.basket_ranks.specs.Depth.{HasSetOfSize}
@@ -165,14 +165,12 @@ module _ (level : Level) (rank : ℕ) (inner : Level) (is : IsBelow level rank i
   deeper listed size has =
       let list = frequent_of inner.paths.baskets (Count inner.least) in
       let once = frequent_once inner.paths.baskets (Count inner.least) in
-      let m = Member-from_Contains has.0 list has.1 in
-      let s = at_Member IsFrequentWithin has.0 list (sound list once) m in
+      let s = All-contains IsFrequentWithin list has.0 (own_least list once).sound has.1 in
       let set = decoded kept has.0.set in
-      let of_class = recursion_from_All (λ (c : Counted). IsNonemptySet c.set × (ends_in rank c.set ≡ true) × (is_frequent level.paths.baskets (Count level.least) c.set ≡ true) × (c.count ≡ support_of level.paths.baskets c.set))
-      (class_with list) (lists_class list once).sound in
-      let d = at_Member (λ (c : Counted). IsNonemptySet c.set × (ends_in rank c.set ≡ true) × (is_frequent level.paths.baskets (Count level.least) c.set ≡ true) × (c.count ≡ support_of level.paths.baskets c.set))
-      (with_rank rank (decoded_set kept has.0)) (class_with list) of_class
-      (inr (Member-map (with_rank rank) (decoded_set kept has.0) (map (decoded_set kept) list) (Member-map (decoded_set kept) has.0 list m))) in
+      let d = All-contains (λ (c : Counted). IsNonemptySet c.set × (ends_in rank c.set ≡ true) × (is_frequent level.paths.baskets (Count level.least) c.set ≡ true) × (c.count ≡ support_of level.paths.baskets c.set))
+      (class_with list) (with_rank rank (decoded_set kept has.0)) (lists_class list once).sound
+      (Contains-from_Member (with_rank rank (decoded_set kept has.0)) (class_with list)
+      (inr (Member-map (with_rank rank) (decoded_set kept has.0) (map (decoded_set kept) list) (Member-map (decoded_set kept) has.0 list (Member-from_Contains has.0 list has.1))))) in
       let long = length-append set (rank ∷ []) ∙ ap (λ n. n + 1) (length-decoded kept has.0.set (kept_rises level.paths.baskets level.least rank) s.0.0 (ranks_below coding is.coding has.0.set s.1) ∙ has.2) in
       subst (HasSetOfSize (class_of level.paths.baskets (Count level.least) rank)) long (class_of_size level.paths.baskets level.least rank listed (set ++ rank ∷ []) d.0 d.1 d.2)
 
