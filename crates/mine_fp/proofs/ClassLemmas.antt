@@ -1,9 +1,9 @@
 -- What a class gets from the conditional database of its rank, and how large it is.
-use Rattle.std.proofs.Common.{◌≡◌, ℕ, ◌+◌, ◌-◌, ◌<◌, ◌≤◌, Bool, true, List, [], ◌∷◌, ◌++◌, length, get_or, map, suc, leb, append_assoc, refl, sym, ap, ◌∙◌, subst, inl, inr, arith}
+use Rattle.std.proofs.Common.{◌≡◌, ℕ, ◌+◌, ◌-◌, ◌<◌, ◌≤◌, Bool, true, false, List, [], ◌∷◌, ◌++◌, length, get_or, map, suc, leb, append_assoc, refl, sym, ap, ◌∙◌, subst, inl, inr, arith}
 use Rattle.std.specs.List.{AllByRecursion, flat_map, range_with_len}
 use Rattle.std.proofs.lemmas.Bool.{and_from, and_parts, cases_lt, eq-eqb, le-leb, leb-true}
 use Rattle.std.proofs.lemmas.Grind.{flat_map-append}
-use Rattle.std.proofs.lemmas.List.{get_or_append_left, get_or-append_right, length-append, length-map}
+use Rattle.std.proofs.lemmas.List.{append-nil, get_or_append_left, get_or-append_right, length-append, length-map}
 use Rattle.std.proofs.lemmas.List.Elements.{All-contains, All-from_recursion, recursion_from_All}
 use Rattle.std.proofs.lemmas.List.FromFn.{get_or-map-range_with_len, length-map-range_with_len}
 use Rattle.basket_ranks.specs.Codes.{Coding, IsCodedPlace, IsCoding, decoded_set, decoded}
@@ -21,7 +21,7 @@ use Rattle.basket_sets.specs.Support.{support_of}
 use Rattle.basket_sets.proofs.theory.Frequent.{frequent_once, once_is_as_long}
 use Rattle.basket_sets.proofs.theory.Members.{Member, All-from_Member, Member-append, Member-filter, Member-map, Member-from_Contains, Contains-from_Member, at_Member}
 use Rattle.basket_sets.proofs.theory.Rising.{cons_rises, has-from_Member, nil_rises, same_test}
-use Rattle.mine_classes.specs.Classes.{ClassesAreAll, ClassesAreListed, ClassesByCodings, ListClasses, ListsClass, RanksAreBelow, class_of, ends_in, extended, with_rank}
+use Rattle.mine_classes.specs.Classes.{ClassesAreAll, ClassesAreListed, ClassesByCodings, ListClasses, ListsClass, RanksAreBelow, RareRanksHaveNoClass, class_of, ends_in, extended, with_rank}
 use Rattle.mine_classes.specs.declared.tables.Tables.{Tables}
 use Rattle.mine_classes.specs.Mined.{ListsHaveClassSize}
 use Rattle.mine_baskets.specs.ListBaskets.{AreRankBaskets, IsRankBasket, RankBaskets}
@@ -202,6 +202,13 @@ class_has_one baskets least rank test listed is met =
     let one = (alone_is_one baskets least rank listed (sym is ∙ met)).1 in
     let here = one.1 in
     omega arith
+
+-- a rank that is not frequent has no sets
+pub rare_listed : (level : Level) (rank : ℕ) (old : List Counted) (test : Bool) → RareRanksHaveNoClass → test ≡ is_frequent level.paths.baskets (Count level.least) (rank ∷ []) → test ≡ false
+    → ListsClassAsItems level rank old old
+rare_listed level rank old test rare is not = record { sets = []; listed = rare level.paths.baskets (Count level.least) rank (sym is ∙ not); added = sym (append-nil old) }
+
+pub ruleset class_sizes = (class_has_one, rare_listed)
 
 -- ---- levels
 
