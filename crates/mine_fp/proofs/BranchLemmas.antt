@@ -127,24 +127,23 @@ module _ (nodes : List (List ℕ × ℕ)) (path : List ℕ) (w : ℕ) where
         (within, get_or-map-range_with_len prefix known (length path - known) k (known + k) d within refl)
 
     here_or_new : (q : List ℕ) → q ≢ [] → begins q path ≡ true → Contains (branches ++ new) q
-    here_or_new q some begun = elim (cases_lt known (length q)) [
-      | inl past ↦
-          (let same = begins_take q path begun in
-          let k = length q - known - 1 in
-          let at : known + k + 1 ≡ length q = omega (arith, past) in
-          let here : k < length new = omega (arith, same.1, past, length-map-range_with_len prefix known (length path - known)) in
-          Contains-append_right branches new q (k, here, (new_at k q here).1 ∙ ap (λ n. take n path) at ∙ same.0))
-      | inr less ↦ elim (longest_reached path branches) [
-        | inl none ↦ absurd (some (no_ranks q (omega arith)))
-        | inr top ↦
-            (let one = ((stands.begun top.0).0 top.1).1 in
-            Contains-append_left branches new q ((stands.begun q).1 (some, (one.0, one.1, shorter_begins q top.0 path one.0.basket begun top.2 (omega (arith, top.3)) one.2))))
-      ]
-    ]
-      where
-        no_ranks : (q : List ℕ) → length q ≤ 0 → q ≡ []
-        no_ranks [] less = refl
-        no_ranks (x ∷ q) less = absurd (omega arith)
+    here_or_new [] some begun = absurd (some refl)
+    here_or_new (x ∷ rest) some begun =
+        let q = x ∷ rest in
+        elim (cases_lt known (length q)) [
+          | inl past ↦
+              (let same = begins_take q path begun in
+              let k = length q - known - 1 in
+              let at : known + k + 1 ≡ length q = omega (arith, past) in
+              let here : k < length new = omega (arith, same.1, past, length-map-range_with_len prefix known (length path - known)) in
+              Contains-append_right branches new q (k, here, (new_at k q here).1 ∙ ap (λ n. take n path) at ∙ same.0))
+          | inr less ↦ elim (longest_reached path branches) [
+            | inl none ↦ absurd (omega arith)
+            | inr top ↦
+                (let one = ((stands.begun top.0).0 top.1).1 in
+                Contains-append_left branches new q ((stands.begun q).1 (some, (one.0, one.1, shorter_begins q top.0 path one.0.basket begun top.2 (omega (arith, top.3)) one.2))))
+          ]
+        ]
 
     begun_now : (q : List ℕ) → Contains (branches ++ new) q ↔ BeginsOne after q
     begun_now q = (

@@ -1,10 +1,10 @@
 -- What a class gets from the conditional database of its rank, and how large it is.
-use Rattle.std.proofs.Common.{◌≡◌, ℕ, ◌+◌, ◌-◌, ◌<◌, ◌≤◌, Bool, true, List, [], ◌∷◌, ◌++◌, length, get_or, map, suc, leb, append_assoc, refl, sym, ap, ◌∙◌, subst, inl, inr, arith}
+use Rattle.std.proofs.Common.{◌≡◌, ℕ, ◌+◌, ◌-◌, ◌<◌, ◌≤◌, Bool, true, false, List, [], ◌∷◌, ◌++◌, length, get_or, map, suc, leb, append_assoc, refl, sym, ap, ◌∙◌, subst, inl, inr, arith}
 use Rattle.std.specs.List.{AllByRecursion, flat_map, range_with_len}
 use Rattle.std.proofs.lemmas.Bool.{and_from, and_parts, cases_lt, eq-eqb, le-leb, leb-true}
 use Rattle.std.proofs.lemmas.Grind.{flat_map-append}
-use Rattle.std.proofs.lemmas.List.{get_or_append_left, get_or-append_right, length-append, length-map}
-use Rattle.std.proofs.lemmas.List.Elements.{All-from_recursion, recursion_from_All}
+use Rattle.std.proofs.lemmas.List.{append-nil, get_or_append_left, get_or-append_right, length-append, length-map}
+use Rattle.std.proofs.lemmas.List.Elements.{All-contains, All-from_recursion, recursion_from_All}
 use Rattle.std.proofs.lemmas.List.FromFn.{get_or-map-range_with_len, length-map-range_with_len}
 use Rattle.basket_ranks.specs.Codes.{Coding, IsCodedPlace, IsCoding, decoded_set, decoded}
 use Rattle.basket_ranks.specs.Depth.{HasSetOfSize}
@@ -21,7 +21,7 @@ use Rattle.basket_sets.specs.Support.{support_of}
 use Rattle.basket_sets.proofs.theory.Frequent.{frequent_once, once_is_as_long}
 use Rattle.basket_sets.proofs.theory.Members.{Member, All-from_Member, Member-append, Member-filter, Member-map, Member-from_Contains, Contains-from_Member, at_Member}
 use Rattle.basket_sets.proofs.theory.Rising.{cons_rises, has-from_Member, nil_rises, same_test}
-use Rattle.mine_classes.specs.Classes.{ClassesAreAll, ClassesAreListed, ClassesByCodings, ListClasses, ListsClass, RanksAreBelow, class_of, ends_in, extended, with_rank}
+use Rattle.mine_classes.specs.Classes.{ClassesAreAll, ClassesAreListed, ClassesByCodings, ListClasses, ListsClass, RanksAreBelow, RareRanksHaveNoClass, class_of, ends_in, extended, with_rank}
 use Rattle.mine_classes.specs.declared.tables.Tables.{Tables}
 use Rattle.mine_classes.specs.Mined.{ListsHaveClassSize}
 use Rattle.mine_baskets.specs.ListBaskets.{AreRankBaskets, IsRankBasket, RankBaskets}
@@ -165,14 +165,12 @@ module _ (level : Level) (rank : ℕ) (inner : Level) (is : IsBelow level rank i
   deeper listed size has =
       let list = frequent_of inner.paths.baskets (Count inner.least) in
       let once = frequent_once inner.paths.baskets (Count inner.least) in
-      let m = Member-from_Contains has.0 list has.1 in
-      let s = at_Member IsFrequentWithin has.0 list (sound list once) m in
+      let s = All-contains IsFrequentWithin list has.0 (own_least list once).sound has.1 in
       let set = decoded kept has.0.set in
-      let of_class = recursion_from_All (λ (c : Counted). IsNonemptySet c.set × (ends_in rank c.set ≡ true) × (is_frequent level.paths.baskets (Count level.least) c.set ≡ true) × (c.count ≡ support_of level.paths.baskets c.set))
-      (class_with list) (lists_class list once).sound in
-      let d = at_Member (λ (c : Counted). IsNonemptySet c.set × (ends_in rank c.set ≡ true) × (is_frequent level.paths.baskets (Count level.least) c.set ≡ true) × (c.count ≡ support_of level.paths.baskets c.set))
-      (with_rank rank (decoded_set kept has.0)) (class_with list) of_class
-      (inr (Member-map (with_rank rank) (decoded_set kept has.0) (map (decoded_set kept) list) (Member-map (decoded_set kept) has.0 list m))) in
+      let d = All-contains (λ (c : Counted). IsNonemptySet c.set × (ends_in rank c.set ≡ true) × (is_frequent level.paths.baskets (Count level.least) c.set ≡ true) × (c.count ≡ support_of level.paths.baskets c.set))
+      (class_with list) (with_rank rank (decoded_set kept has.0)) (lists_class list once).sound
+      (Contains-from_Member (with_rank rank (decoded_set kept has.0)) (class_with list)
+      (inr (Member-map (with_rank rank) (decoded_set kept has.0) (map (decoded_set kept) list) (Member-map (decoded_set kept) has.0 list (Member-from_Contains has.0 list has.1))))) in
       let long = length-append set (rank ∷ []) ∙ ap (λ n. n + 1) (length-decoded kept has.0.set (kept_rises level.paths.baskets level.least rank) s.0.0 (ranks_below coding is.coding has.0.set s.1) ∙ has.2) in
       subst (HasSetOfSize (class_of level.paths.baskets (Count level.least) rank)) long (class_of_size level.paths.baskets level.least rank listed (set ++ rank ∷ []) d.0 d.1 d.2)
 
@@ -204,6 +202,13 @@ class_has_one baskets least rank test listed is met =
     let one = (alone_is_one baskets least rank listed (sym is ∙ met)).1 in
     let here = one.1 in
     omega arith
+
+-- a rank that is not frequent has no sets
+pub rare_listed : (level : Level) (rank : ℕ) (old : List Counted) (test : Bool) → RareRanksHaveNoClass → test ≡ is_frequent level.paths.baskets (Count level.least) (rank ∷ []) → test ≡ false
+    → ListsClassAsItems level rank old old
+rare_listed level rank old test rare is not = record { sets = []; listed = rare level.paths.baskets (Count level.least) rank (sym is ∙ not); added = sym (append-nil old) }
+
+pub ruleset class_sizes = (class_has_one, rare_listed)
 
 -- ---- levels
 

@@ -2,7 +2,7 @@
 use Rattle.std.proofs.Common.{◌≡◌, ℕ, ◌+◌, ◌<◌, ◌≤◌, Bool, true, false, ◌&&◌, List, [], ◌∷◌, ◌++◌, get_or, length, map, cond, leb, ltb, refl, sym, ap, ◌∙◌, subst, inl, inr, arith}
 use Rattle.std.specs.Prelude.{nat_eq, not}
 use Rattle.std.specs.List.{IsDistinct, list_all, range_with_len}
-use Rattle.std.proofs.lemmas.Bool.{and_from, and_parts, cases_lt, lt-ltb, ltb-true}
+use Rattle.std.proofs.lemmas.Bool.{and_from, and_parts, cases_order, lt-ltb, ltb-true}
 use Rattle.std.proofs.lemmas.List.{get_or_default}
 use Rattle.basket_ranks.specs.Codes.{decoded, decoded_place}
 use Rattle.basket_ranks.proofs.theory.Coding.{into_decoded}
@@ -93,16 +93,11 @@ module _ (baskets inner : List Weighted) (least rank : ℕ) (law : ConditionalSu
   less_names i j less here = rising_at kept i j (kept_rises baskets least rank) less here
 
   names_less : (i j : ℕ) → i < count → j < count → name i < name j → i < j
-  names_less i j here there less = elim (cases_lt i j) [
-    | inl before ↦ before
-    | inr after ↦ absurd (no_names i j here after less)
+  names_less i j here there less = elim (cases_order i j) [
+    | inl same ↦ absurd (omega (arith, less, ap name same))
+    | inr (inl before) ↦ before
+    | inr (inr after) ↦ (let more = less_names j i after here in absurd (omega arith))
   ]
-    where
-      no_names : (i j : ℕ) → i < count → j ≤ i → name i < name j → ⊥
-      no_names i j here after less = elim (cases_lt j i) [
-        | inl before ↦ (let more = less_names j i before here in omega arith)
-        | inr not ↦ (let e : i ≡ j = omega arith in let more = subst (λ n. name n < name j) e less in omega arith)
-      ]
 
   place_of : (a : ℕ) → is_kept baskets least rank a ≡ true → (k : ℕ) × (k < count) × (name k ≡ a)
   place_of a h =

@@ -23,7 +23,7 @@ use Rattle.basket_sets.proofs.theory.Members.{All-from_Member, Contains-from_Mem
 use Rattle.basket_sets.proofs.theory.Rising.{has-from_Member, rising-rising, same_test}
 use Rattle.basket_sets.proofs.theory.Support.{at_least_one, in_items}
 use Rattle.basket_sets.proofs.theory.Ranges.{range_more}
-use Rattle.mine_classes.specs.Classes.{ClassesAreAll, ClassesAreListed, ClassesByCodings, ListsClass, class_of, ends_in, with_rank}
+use Rattle.mine_classes.specs.Classes.{ClassesAreAll, ClassesAreListed, ClassesByCodings, ListsClass, RareRanksHaveNoClass, class_of, ends_in, with_rank}
 use Rattle.mine_classes.specs.Conditional.{ConditionalSupports}
 use Rattle.mine_baskets.specs.ListBaskets.{AreRankBaskets, IsRankBasket, RankBaskets}
 use Rattle.mine_classes.specs.Pairs.{kept_ranks}
@@ -176,8 +176,10 @@ module _ (level : Level) (rank : ℕ) (inner : Level) (is_level : IsLevel level)
       omega (arith, all, rest, own)
 
 -- a rank that is not frequent has no tree
-pub rare_trees : (baskets : List Weighted) (least rank : ℕ) → ClassesAreListed → ListsClass baskets (Count least) rank [] → rank_trees baskets least rank ≡ 0
-rare_trees baskets least rank listed none = passed_as_many (λ set. has_tree baskets (Count least) set) baskets (Count least) rank (class_of baskets (Count least) rank) [] (listed baskets (Count least) rank) none
+pub rare_trees : (baskets : List Weighted) (least rank : ℕ) (test : Bool) → ClassesAreListed → RareRanksHaveNoClass → test ≡ is_frequent baskets (Count least) (rank ∷ []) → test ≡ false
+    → rank_trees baskets least rank ≡ 0
+rare_trees baskets least rank test listed rare is not =
+    passed_as_many (λ set. has_tree baskets (Count least) set) baskets (Count least) rank (class_of baskets (Count least) rank) [] (listed baskets (Count least) rank) (rare baskets (Count least) rank (sym is ∙ not))
 
 -- ---- the classes of all ranks
 

@@ -38,7 +38,7 @@ impl Level {
     /// The class of a rank, each set as items, added at the end of those found. Each set is
     /// reported as soon as it is known to be frequent.
     #[cycle(growth)]
-    #[tactic(auto, using(crate::proofs::ClassLemmas::class_has_one))]
+    #[tactic(auto, using(crate::proofs::ClassLemmas::class_sizes, crate::proofs::TreesLemmas::rare_trees))]
     pub fn class<T: Tally>(
         &self,
         alloc: Global,

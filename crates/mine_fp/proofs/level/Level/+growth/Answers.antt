@@ -22,24 +22,6 @@ use Rattle.mine_fp.proofs.ToldLemmas.{tells_all, tells_failed, tells_more, told_
 use Rattle.mine_fp.proofs.TreesLemmas.{class_trees_are, more_trees, rare_trees, trees_of_ranks}
 use Rattle.mine_fp.proofs.level.Level.+growth.Goals as goal
 
-pub class-returns-then-not-is_frequent-clause-listed :
-    goal.class-returns-then-not-is_frequent-clause-listed
-class-returns-then-not-is_frequent-clause-listed g t c =
-    let level = c.args.self.now in
-    record {
-      sets = [];
-      listed = c.rare_ranks_have_no_class.ensures level.paths.baskets (Count level.least) c.args.rank (sym c.is_frequent.ensures ∙ c.if-not-is_frequent.true);
-      added = sym (append-nil c.args.found.now.sets);
-    }
-
-pub class-returns-then-not-is_frequent-clause-trees :
-    goal.class-returns-then-not-is_frequent-clause-trees
-class-returns-then-not-is_frequent-clause-trees g t c =
-    let level = c.args.self.now in
-    let rare = c.rare_ranks_have_no_class.ensures level.paths.baskets (Count level.least) c.args.rank (sym c.is_frequent.ensures ∙ c.if-not-is_frequent.true) in
-    let none = rare_trees level.paths.baskets level.least c.args.rank c.classes_are_listed.ensures rare in
-    omega arith
-
 pub class-returns-then-self-ge-DEPTH-clause-tally :
     goal.class-returns-then-self-ge-DEPTH-clause-tally
 class-returns-then-self-ge-DEPTH-clause-tally g t c =

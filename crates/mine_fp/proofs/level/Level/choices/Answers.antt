@@ -14,15 +14,6 @@ use Rattle.mine_fp.proofs.LevelLemmas.{alone_as_items}
 use Rattle.mine_fp.proofs.ToldLemmas.{tells_all, tells_failed, told_more}
 use Rattle.mine_fp.proofs.level.Level.choices.Goals as goal
 
-pub returns-then-not-is_frequent-clause-listed : goal.returns-then-not-is_frequent-clause-listed
-returns-then-not-is_frequent-clause-listed g c =
-    let level = c.args.self.now in
-    record {
-      sets = [];
-      listed = c.rare_ranks_have_no_class.ensures level.paths.baskets (Count level.least) c.args.rank (sym c.is_frequent.ensures ∙ c.if-not-is_frequent.true);
-      added = sym (append-nil c.args.found.now.sets);
-    }
-
 pub returns-in_err-choose-clause-tally : goal.returns-in_err-choose-clause-tally
 returns-in_err-choose-clause-tally g c =
     let level = c.args.self.now in
