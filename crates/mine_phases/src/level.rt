@@ -8,28 +8,11 @@ ghost use Rattle.mine_apriori.specs.Sizes.{AreOfOneSize};
 use crate::cutting::Cutting;
 use crate::gate::Gate;
 use crate::phase::Phase;
-use crate::supports::{SupportCounter, count_supports};
+use crate::supports::count_supports;
 use basket_core::{Itemset, Weighted};
 use mine_apriori::{Extensions, RowCounter};
 use std::alloc::{AllocError, Global};
 use std::thread::Threads;
-
-impl SupportCounter for RowCounter<'_> {
-    ghost sets_of = { λ counter. counter };
-
-    fn len(&self) -> usize {
-        RowCounter::len(self)
-    }
-
-    fn add(
-        &self,
-        alloc: Global,
-        baskets: &[Weighted],
-        counts: &mut [u64],
-    ) -> Result<(), AllocError> {
-        RowCounter::add(self, alloc, baskets, counts)
-    }
-}
 
 /// The support of each set in the baskets, counted by a number of workers over parts of the
 /// baskets. The number of the phase is the size of the sets.

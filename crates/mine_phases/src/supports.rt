@@ -1,8 +1,7 @@
 //! Phases that count the supports of sets, each of which has a counter that the workers share.
-ghost use Rattle.std.specs.Prelude.{◌≡◌, ◌≤◌, ◌<◌, ◌+◌, ℕ, List, IfOk, OnOk, length, map, slice_index};
+ghost use Rattle.std.specs.Prelude.{◌≡◌, ◌≤◌, ◌<◌, IfOk, length, map};
 ghost use Rattle.basket_sets.specs.Database.{MOST_WEIGHT};
 ghost use Rattle.basket_sets.specs.Support.{support_of, total_of};
-ghost use Rattle.mine_classes.specs.Triangle.{WithSupports};
 ghost use Rattle.mine_phases.specs.Supports.{AddsSupports, IsSupportShare};
 ghost use Rattle.mine_round.specs.Record.{unused};
 
@@ -10,6 +9,7 @@ use crate::gate::Gate;
 use crate::phase::Phase;
 use crate::share::{Share, add_counts, by_workers, claim_piece};
 use basket_core::{MineFault, Weighted, shard};
+use mine_apriori::RowCounter;
 use mine_round::{Round, RoundSeat};
 use std::alloc::{AllocError, Global};
 use std::thread::Threads;
@@ -20,41 +20,25 @@ const SMALL_PART: usize = 16;
 /// This many parts are never too many.
 const FEW_PARTS: usize = 128;
 
-/// Sets whose supports are counted in some baskets after others.
-pub trait SupportCounter {
-    // The sets, in the order of their counts.
-    ghost sets_of: { Self → List (List ℕ) };
-
-    /// How many sets there are.
-    fn len(&self) -> usize
-        ensures { result ≡ length (sets_of self.now) };
-
-    /// Adds the support of each set in the baskets to its count.
-    fn add(&self, alloc: Global, baskets: &[Weighted], counts: &mut [u64]) -> Result<(), AllocError>
-        requires long { length counts.old ≡ length (sets_of self.now) }
-        requires light { (k : ℕ) → k < length counts.old → slice_index counts.old k + total_of baskets.now ≤ MOST_WEIGHT }
-        ensures { OnOk result (WithSupports (sets_of self.now) baskets.now counts.old counts.new) };
-}
-
 /// The phase as its workers see it.
 #[derive(Drop)]
-struct Counting<'r, 'b, 'c, 'p, C, G> {
+struct Counting<'r, 'b, 'c, 's, 'p, G> {
     round: &'r Round,
     baskets: &'b [Weighted],
-    counter: &'c C,
+    counter: &'c RowCounter<'s>,
     phase: &'r Phase<'p, G>,
 }
 
-impl<C: SupportCounter, G: Gate> Counting<'_, '_, '_, '_, C, G> {
+impl<G: Gate> Counting<'_, '_, '_, '_, '_, G> {
     /// What a worker does: it counts the sets in each part of the baskets that it claims, and adds
     /// its counts to the shared counters once no part is left.
     fn share(&self, alloc: Global, worker: u32, mut seat: RoundSeat) -> Share<()>
         requires own { seat.round ≡ self.now.round.now.id }
-        requires unused { seat.held ≡ unused 1 (length (C.sets_of self.now.counter.now)) }
+        requires unused { seat.held ≡ unused 1 (length self.now.counter.now) }
         requires pieces { self.now.round.now.pieces ≡ self.now.phase.now.cutting.pieces }
-        requires counters { self.now.round.now.counters ≡ length (C.sets_of self.now.counter.now) }
+        requires counters { self.now.round.now.counters ≡ length self.now.counter.now }
         requires light { total_of self.now.baskets.now ≤ MOST_WEIGHT }
-        ensures { IsSupportShare self.now.round.now self.now.baskets.now self.now.phase.now.cutting.pieces (C.sets_of self.now.counter.now) result }
+        ensures { IsSupportShare self.now.round.now self.now.baskets.now self.now.phase.now.cutting.pieces self.now.counter.now result }
     {
         let values = match self.add_supports(alloc, worker, &mut seat) {
             Ok(()) => Ok(()),
@@ -70,12 +54,12 @@ impl<C: SupportCounter, G: Gate> Counting<'_, '_, '_, '_, C, G> {
         seat: &mut RoundSeat,
     ) -> Result<(), AllocError>
         requires own { seat.old.round ≡ self.now.round.now.id }
-        requires unused { seat.old.held ≡ unused 1 (length (C.sets_of self.now.counter.now)) }
+        requires unused { seat.old.held ≡ unused 1 (length self.now.counter.now) }
         requires pieces { self.now.round.now.pieces ≡ self.now.phase.now.cutting.pieces }
-        requires counters { self.now.round.now.counters ≡ length (C.sets_of self.now.counter.now) }
+        requires counters { self.now.round.now.counters ≡ length self.now.counter.now }
         requires light { total_of self.now.baskets.now ≤ MOST_WEIGHT }
         ensures own { seat.new.round ≡ seat.old.round }
-        ensures added { IfOk result (λ _. AddsSupports self.now.baskets.now self.now.phase.now.cutting.pieces (C.sets_of self.now.counter.now) seat.new) }
+        ensures added { IfOk result (λ _. AddsSupports self.now.baskets.now self.now.phase.now.cutting.pieces self.now.counter.now seat.new) }
     {
         let phase = self.phase;
         let pieces = phase.cutting.pieces;
@@ -91,15 +75,15 @@ impl<C: SupportCounter, G: Gate> Counting<'_, '_, '_, '_, C, G> {
 }
 
 /// The support of each set in the baskets, counted by the workers of a phase over parts of the baskets.
-pub fn count_supports<'b, 'c, 'p, R: Threads + Sync, G: Gate + Sync, C: SupportCounter + Sync>(
+pub fn count_supports<'b, 'c, 's, 'p, R: Threads + Sync, G: Gate + Sync>(
     rt: &R,
     alloc: Global,
     baskets: &'b [Weighted],
-    counter: &'c C,
+    counter: &'c RowCounter<'s>,
     phase: &Phase<'p, G>,
 ) -> Result<Vec<u64>, AllocError>
     requires light { total_of baskets.now ≤ MOST_WEIGHT }
-    ensures { IfOk result (λ supports. supports.items ≡ map (support_of baskets.now) (C.sets_of counter.now)) }
+    ensures { IfOk result (λ supports. supports.items ≡ map (support_of baskets.now) counter.now) }
 {
     let phase = phase.for_parts((baskets.len() / SMALL_PART).max(FEW_PARTS));
     let cutting = phase.cutting;
@@ -116,10 +100,10 @@ pub fn count_supports<'b, 'c, 'p, R: Threads + Sync, G: Gate + Sync, C: SupportC
         alloc,
         seats,
         &|job: (u32, RoundSeat)| -> Share<()>
-            requires { (job.1.round ≡ lent.now.round.now.id) × (job.1.held ≡ unused 1 (length (C.sets_of lent.now.counter.now)))
-                × (lent.now.round.now.pieces ≡ lent.now.phase.now.cutting.pieces) × (lent.now.round.now.counters ≡ length (C.sets_of lent.now.counter.now))
+            requires { (job.1.round ≡ lent.now.round.now.id) × (job.1.held ≡ unused 1 (length lent.now.counter.now))
+                × (lent.now.round.now.pieces ≡ lent.now.phase.now.cutting.pieces) × (lent.now.round.now.counters ≡ length lent.now.counter.now)
                 × (total_of lent.now.baskets.now ≤ MOST_WEIGHT) }
-            ensures { IsSupportShare lent.entry.now.round.now lent.entry.now.baskets.now lent.entry.now.phase.now.cutting.pieces (C.sets_of lent.entry.now.counter.now) result }
+            ensures { IsSupportShare lent.entry.now.round.now lent.entry.now.baskets.now lent.entry.now.phase.now.cutting.pieces lent.entry.now.counter.now result }
         { lent.share(alloc, job.0, job.1) },
     )?;
     let Ok(totals) = round.close(seats) else {

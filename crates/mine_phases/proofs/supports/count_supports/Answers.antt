@@ -26,7 +26,7 @@ pub returns : goal.returns
 returns g c =
     let shares = c.in_ok-seats.ensures.shares in
     let baskets = c.args.baskets.now in
-    let sets = g.C.SupportCounter.sets_of c.args.counter.now in
+    let sets = c.args.counter.now in
     let cutting = c.for_parts-phase.result.cutting in
     elim c.match-ended.branch [
       | in-Ok-ended w ↦

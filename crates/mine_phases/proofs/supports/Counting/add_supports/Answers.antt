@@ -8,7 +8,7 @@ use Rattle.mine_phases.proofs.supports.Counting.add_supports.Goals as goal
 
 pub loop-piece-init : goal.loop-piece-init
 loop-piece-init g c =
-    let sets = g.C.SupportCounter.sets_of c.args.self.now.counter.now in
+    let sets = c.args.self.now.counter.now in
     let pieces = c.args.self.now.phase.now.cutting.pieces in
     record {
       own = refl;
@@ -21,7 +21,7 @@ loop-piece-init g c =
 pub add-requires-clause-light : goal.add-requires-clause-light
 add-requires-clause-light g c k below =
     let baskets = c.args.self.now.baskets.now in
-    let sets = g.C.SupportCounter.sets_of c.args.self.now.counter.now in
+    let sets = c.args.self.now.counter.now in
     let pieces = c.args.self.now.phase.now.cutting.pieces in
     let piece = c.in-Some.piece in
     let part = part_is baskets _ _ piece pieces _ refl c.shard-start.ensures.start c.shard-start.ensures.end in
@@ -42,7 +42,7 @@ loop-piece-preserved g c =
     let before = c.loop-piece.seat.held in
     let was = c.loop-piece.invariant in
     let baskets = c.args.self.now.baskets.now in
-    let sets = g.C.SupportCounter.sets_of c.args.self.now.counter.now in
+    let sets = c.args.self.now.counter.now in
     let pieces = c.args.self.now.phase.now.cutting.pieces in
     let piece = c.in-Some.piece in
     let claim = c.in-Some.ensures.piece.1 in
@@ -70,7 +70,7 @@ loop-piece-preserved g c =
 pub add_counts-requires-clause-room : goal.add_counts-requires-clause-room
 add_counts-requires-clause-room g c k below =
     let baskets = c.args.self.now.baskets.now in
-    let sets = g.C.SupportCounter.sets_of c.args.self.now.counter.now in
+    let sets = c.args.self.now.counter.now in
     let was = c.loop-piece.invariant in
     let same = c.deref.ensures.value in
     let fits = added_fits baskets c.args.self.now.phase.now.cutting.pieces sets c.loop-piece.seat.held.claimed c.loop-piece.counts.items was.counted c.requires.light k (omega (arith, below, ap length same, was.counted.sized)) in

@@ -8,8 +8,8 @@ abbrev pub invariant-loop-piece : goal.invariant-loop-piece
 invariant-loop-piece g l = record {
   own : l.seat.round ≡ l.fn.seat.round;
   within : behind l.seat.held.claimed ≤ l.pieces;
-  none : l.seat.held.added ≡ replicate (length (g.C.SupportCounter.sets_of l.self.counter.now)) 0;
-  counted : HasAdded l.self.baskets.now l.pieces (g.C.SupportCounter.sets_of l.self.counter.now) l.seat.held.claimed l.counts.items;
+  none : l.seat.held.added ≡ replicate (length l.self.counter.now) 0;
+  counted : HasAdded l.self.baskets.now l.pieces l.self.counter.now l.seat.held.claimed l.counts.items;
 }
 
 abbrev pub decreases-loop-piece : goal.decreases-loop-piece
