@@ -1,14 +1,13 @@
 use Rattle.std.proofs.Common.{◌≡◌, ◌+◌, ◌++◌, map, ap, ◌∙◌, subst, inl, inr, arith, Err}
 use Rattle.std.proofs.lemmas.Result.{err_from_is_err_and}
-use Rattle.basket_ranks.specs.Codes.{Coding, IsCoding}
+use Rattle.basket_ranks.specs.Codes.{Coding}
 use Rattle.basket_core.specs.declared.fault.MineFault.TheVariants.{TooMany}
 use Rattle.basket_ranks.specs.Depth.{HasSetOfSize}
 use Rattle.basket_sets.specs.declared.minimum.Minimum.TheVariants.{Count}
 use Rattle.mine_classes.specs.Classes.{class_of}
 use Rattle.mine_fp.specs.Forest.{AreInForest}
 use Rattle.mine_fp.specs.Level.{as_items, items_of, missing, set_from, suffix_of}
-use Rattle.mine_fp.proofs.ForestLemmas.{class_deep, class_settled, class_sizes, decoded_items, trees_settled}
-use Rattle.mine_fp.proofs.SuffixLemmas.{suffix_of_none}
+use Rattle.mine_fp.proofs.ForestLemmas.{class_deep, class_settled, decoded_items}
 use Rattle.mine_fp.proofs.forest.fp_class_with.Goals as goal
 
 pub returns-in_err-class-clause-too_many : goal.returns-in_err-class-clause-too_many

@@ -1,25 +1,23 @@
 use Rattle.std.proofs.Common.{◌≡◌, ◌+◌, ◌∷◌, [], Some, get_or, cond, filter, length, refl, sym, ap, ◌∙◌, subst, inr, arith, Err}
 use Rattle.std.specs.Bool.{⊤}
 use Rattle.std.specs.List.{range_with_len, sum_by}
-use Rattle.std.proofs.lemmas.Option.{MatchOption-at_none, MatchOption-at_some}
-use Rattle.std.proofs.lemmas.List.{append-nil, length-append}
-use Rattle.std.proofs.lemmas.Result.{err_from_is_err_and, on_ok_weaker}
+use Rattle.std.proofs.lemmas.Option.{MatchOption-at_some}
+use Rattle.std.proofs.lemmas.List.{length-append}
+use Rattle.std.proofs.lemmas.Result.{err_from_is_err_and}
 use Rattle.basket_ranks.specs.Depth.{HasSetOfSize}
 use Rattle.basket_sets.specs.declared.counted.Counted.{Counted}
 use Rattle.basket_sets.specs.declared.minimum.Minimum.TheVariants.{Count}
 use Rattle.basket_sets.specs.Frequent.{frequent_of}
 use Rattle.basket_sets.proofs.theory.Rising.{with_item-rises}
-use Rattle.mine_classes.specs.Pairs.{pairs_of}
 use Rattle.mine_fp.specs.declared.level.Level.{Level}
 use Rattle.mine_fp.specs.Level.{IsBelow, class_in, items_of, missing, set_of_rank, suffix_of}
 use Rattle.mine_fp.specs.Trees.{has_tree, inner_trees, rank_trees}
-use Rattle.mine_fp.proofs.ClassLemmas.{alone_is_one, class_grown, class_has_one, class_long, deeper, frequent_of_size, inner_has_fewer, slots_below, slots_kept}
-use Rattle.mine_fp.proofs.FoundLemmas.{found_fit, found_long, found_more, found_suffix, no_classes}
-use Rattle.mine_fp.proofs.LeafLemmas.{leaf_grown, leaf_trees}
+use Rattle.mine_fp.proofs.ClassLemmas.{alone_is_one, class_has_one, class_long, deeper, frequent_of_size, inner_has_fewer, slots_below}
+use Rattle.mine_fp.proofs.FoundLemmas.{found_fit, found_long}
 use Rattle.mine_fp.proofs.NameLemmas.{inner_is_level}
-use Rattle.mine_fp.proofs.SuffixLemmas.{suffix_added, suffix_is}
-use Rattle.mine_fp.proofs.ToldLemmas.{tells_all, tells_failed, tells_more, told_more, told_none}
-use Rattle.mine_fp.proofs.TreesLemmas.{class_trees_are, more_trees, rare_trees, trees_of_ranks}
+use Rattle.mine_fp.proofs.SuffixLemmas.{suffix_added}
+use Rattle.mine_fp.proofs.ToldLemmas.{tells_all, tells_failed, tells_more}
+use Rattle.mine_fp.proofs.TreesLemmas.{trees_of_ranks}
 use Rattle.mine_fp.proofs.level.Level.+growth.Goals as goal
 
 pub class-returns-then-self-ge-DEPTH-clause-tally :

@@ -1,7 +1,7 @@
 use Rattle.std.proofs.Common.{◌≡◌, refl, ap, ◌∙◌, Err, arith}
 use Rattle.std.proofs.lemmas.Result.{err_from_is_err_and}
-use Rattle.mine_fp.proofs.FoundLemmas.{found_fit, found_long, found_more}
-use Rattle.mine_fp.proofs.ToldLemmas.{tells_all, tells_failed, told_more}
+use Rattle.mine_fp.proofs.FoundLemmas.{found_fit, found_long}
+use Rattle.mine_fp.proofs.ToldLemmas.{tells_all, tells_failed}
 use Rattle.mine_fp.proofs.level.Level.read_off.Goals as goal
 
 pub returns-in_err-choices-clause-tally : goal.returns-in_err-choices-clause-tally
