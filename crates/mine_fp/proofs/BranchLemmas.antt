@@ -82,7 +82,7 @@ module _ (path : List ℕ) where
 
 -- ---- a path more
 
--- a node with the weight of one more path, if that goes through it
+-- a node with the weight of one more path, if its own path is a prefix of that
 abbrev pub heavier : List ℕ → ℕ → List ℕ × ℕ → List ℕ × ℕ
 heavier path w node = (node.0, node.1 + cond (begins node.0 path) w 0)
 
@@ -151,9 +151,10 @@ module _ (nodes : List (List ℕ × ℕ)) (path : List ℕ) (w : ℕ) where
         | inl old ↦ (let one = (stands.begun q).0 old in (one.0, (one.1.0, Contains-append_left paths (weighted path w ∷ []) one.1.0 one.1.1, one.1.2)))
         | inr last ↦
             (let is = new_at last.0 q last.1 in
-            let same = sym is.1 ∙ last.2 in
-            (λ none. omega (arith, is.0, prefix_long (known + last.0) (omega (arith, is.0)), ap length (same ∙ none)),
-              (weighted path w, Contains-push paths (weighted path w), subst (λ t. begins t path ≡ true) same (take_begins (known + last.0 + 1) path))))
+            let same = sym is.1 ∙ last.2 in (
+              λ none. omega (arith, is.0, prefix_long (known + last.0) (omega (arith, is.0)), ap length (same ∙ none)),
+              (weighted path w, Contains-push paths (weighted path w), subst (λ t. begins t path ≡ true) same (take_begins (known + last.0 + 1) path)),
+            ))
       ],
       λ one. elim (Contains-push_cases paths (weighted path w) one.1.0 one.1.1) [
         | inl old ↦ Contains-append_left branches new q ((stands.begun q).1 (one.0, (one.1.0, old, one.1.2)))
@@ -190,14 +191,14 @@ module _ (nodes : List (List ℕ × ℕ)) (path : List ℕ) (w : ℕ) where
       begun = subst (λ (l : List (List ℕ)). (q : List ℕ) → Contains l q ↔ BeginsOne after q) (sym all_paths) begun_now;
       counted = All-append IsCounted (map (heavier path w) nodes) (made path w known)
           (All-map IsCounted (heavier path w) nodes (λ k d here.
-            ap (λ n. n + cond (begins (get_or nodes k d).0 path) w 0) (stands.counted k d here) ∙ sym (weight_push (get_or nodes k d).0 path w paths)))
+          ap (λ n. n + cond (begins (get_or nodes k d).0 path) w 0) (stands.counted k d here) ∙ sym (weight_push (get_or nodes k d).0 path w paths)))
           (All-map IsCounted (λ rank. (prefix rank, w)) (range_with_len known (length path - known)) (λ k d here.
-            let rank = get_or (range_with_len known (length path - known)) k d in
-            let within : k < length path - known = omega (arith, here, length-range_with_len known (length path - known)) in
-            let is = get_or-range_with_len known (length path - known) k d within in
-            let low : rank < length path = omega (arith, is, within) in
-            let none = none_begun (prefix rank) paths (λ place has begun. is_new rank (omega (arith, is)) low
-            ((stands.begun (prefix rank)).1 ((λ e. omega (arith, prefix_long rank low, ap length e)), (place, has, begun)))) in
-            sym (weight_push (prefix rank) path w paths ∙ (λ i. none i + cond (take_begins (rank + 1) path i) w 0) ∙ zero-add w)));
+          let rank = get_or (range_with_len known (length path - known)) k d in
+          let within : k < length path - known = omega (arith, here, length-range_with_len known (length path - known)) in
+          let is = get_or-range_with_len known (length path - known) k d within in
+          let low : rank < length path = omega (arith, is, within) in
+          let none = none_begun (prefix rank) paths (λ place has begun. is_new rank (omega (arith, is)) low
+          ((stands.begun (prefix rank)).1 ((λ e. omega (arith, prefix_long rank low, ap length e)), (place, has, begun)))) in
+          sym (weight_push (prefix rank) path w paths ∙ (λ i. none i + cond (take_begins (rank + 1) path i) w 0) ∙ zero-add w)));
       total = ap (λ n. n + w) stands.total ∙ sym (sum_by-append (λ (place : Weighted). place.weight) paths (weighted path w ∷ []) ∙ ap (λ n. total_of paths + n) (zero-add w));
     }

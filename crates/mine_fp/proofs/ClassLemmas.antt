@@ -208,7 +208,7 @@ pub rare_listed : (level : Level) (rank : ℕ) (old : List Counted) (test : Bool
     → ListsClassAsItems level rank old old
 rare_listed level rank old test rare is not = record { sets = []; listed = rare level.paths.baskets (Count level.least) rank (sym is ∙ not); added = sym (append-nil old) }
 
-pub ruleset class_sizes = (class_has_one, rare_listed)
+pub ruleset rank_classes = (class_has_one, rare_listed)
 
 -- ---- levels
 

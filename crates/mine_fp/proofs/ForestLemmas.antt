@@ -4,6 +4,7 @@ use Rattle.std.specs.List.{Contains}
 use Rattle.std.proofs.lemmas.Bool.{leb-true, le-leb}
 use Rattle.std.proofs.lemmas.List.{append-nil}
 use Rattle.std.proofs.lemmas.List.Elements.{All-weaker, recursion_from_All}
+pub use Rattle.std.proofs.lemmas.List.FromFn.{map-range_with_len_more}
 use Rattle.basket_ranks.specs.Codes.{Coding, IsCodedPlace, IsCoding, decoded_set}
 use Rattle.basket_ranks.specs.Depth.{HasSetOfSize}
 use Rattle.basket_sets.specs.declared.counted.Counted.{Counted}
@@ -22,6 +23,7 @@ use Rattle.mine_fp.specs.Level.{as_items}
 use Rattle.mine_fp.specs.Trees.{class_trees, has_tree, rank_trees}
 use Rattle.mine_fp.proofs.ClassLemmas.{listed_long}
 use Rattle.mine_fp.proofs.StraightLemmas.{ArePlain, same_tree}
+pub use Rattle.mine_fp.proofs.SuffixLemmas.{suffix_of_none}
 use Rattle.mine_fp.proofs.TreesLemmas.{passed_as_many, ranked_plain, same_passed}
 
 one_test : (a b : Bool) → (b ≡ true → a ≡ true) → (a && b) ≡ b
@@ -81,3 +83,8 @@ pub decoded_items : (items names suffix : List ℕ) (sets : List Counted) → na
 decoded_items items names suffix sets same none =
     let set = λ (c : Counted). (λ i. rising (map (λ rank. get_or (same i) rank 0) c.set ++ none i)) ∙ ap rising (append-nil (map (λ rank. get_or items rank 0) c.set)) in
     λ i. map (λ (c : Counted). record { set = set c i; count = c.count }) sets
+
+pub ruleset forest_classes = (class_sizes, suffix_of_none, trees_settled)
+
+-- the step of a loop that goes over the ranks
+pub ruleset more_ranks = (map-range_with_len_more)

@@ -14,6 +14,9 @@ use Rattle.mine_classes.specs.Mined.{ListsHaveClassSize}
 use Rattle.mine_fp.specs.declared.level.Level.{Level}
 use Rattle.mine_fp.specs.Level.{HasLower, HasSuffix, IsLevel, ListsAllAsItems, ListsClassAsItems, as_items, class_in, items_of, suffix_of}
 use Rattle.mine_fp.proofs.ClassLemmas.{all_once, classes_fit, listed_long}
+pub use Rattle.mine_fp.proofs.ClassLemmas.{slots_kept}
+pub use Rattle.mine_fp.proofs.ToldLemmas.{told_more, told_none}
+pub use Rattle.mine_fp.proofs.TreesLemmas.{more_trees}
 use Rattle.mine_fp.proofs.SuffixLemmas.{suffix_kept, suffix_same}
 
 more_classes : (baskets : List Weighted) (least : ℕ) (classes : List (List Counted)) (class : List Counted) → ListClasses baskets (Count least) classes
@@ -95,4 +98,5 @@ class_fits sized level rank old new lists =
     ap length lists.added ∙ length-append old (map named lists.sets)
     ∙ ap (λ n. length old + n) (length-map lists.sets named ∙ listed_long sized level.paths.baskets (Count level.least) rank lists.sets lists.listed)
 
-pub ruleset found_classes = (found_suffix, found_lower, found_all)
+-- what the loops over ranks are proved by
+pub ruleset found_classes = (found_all, found_lower, found_more, found_suffix, more_trees, no_classes, slots_kept, told_more, told_none)

@@ -17,8 +17,10 @@ use Rattle.mine_classes.proofs.theory.Kept.{has_kept, pair_ranks}
 use Rattle.mine_fp.specs.declared.level.Level.{Level}
 use Rattle.mine_fp.specs.Level.{ListsClassAsItems, items_of, set_of_rank, suffix_of}
 use Rattle.mine_fp.specs.Trees.{has_tree, rank_trees}
+pub use Rattle.mine_fp.proofs.ClassLemmas.{class_grown, class_has_one, rare_listed}
 use Rattle.mine_fp.proofs.LevelLemmas.{alone_as_items}
-use Rattle.mine_fp.proofs.TreesLemmas.{passed_as_many}
+pub use Rattle.mine_fp.proofs.SuffixLemmas.{suffix_is}
+pub use Rattle.mine_fp.proofs.TreesLemmas.{class_trees_are, passed_as_many, rare_trees}
 
 none_distinct : IsDistinct (pointwise nat_eq) []
 unfolding IsDistinct
@@ -63,3 +65,6 @@ leaf_grown level rank none conditionals supports met old new up told = record {
   listed = leaf_class level.paths.baskets level.least rank none conditionals supports met;
   added = told ∙ ap (λ c. old ++ c ∷ []) (sym (alone_as_items (items_of level) (suffix_of level old) rank (support_of level.paths.baskets (rank ∷ [])) up));
 }
+
+-- what `class` is proved by
+pub ruleset class_steps = (class_grown, class_has_one, class_trees_are, leaf_grown, leaf_trees, rare_listed, rare_trees, suffix_is)

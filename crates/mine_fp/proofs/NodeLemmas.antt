@@ -87,7 +87,7 @@ module _ (ranks path : List ℕ) (weight known total : ℕ) (nodes : List Node) 
   made_nodes =
       map-append (node_of (ranks ++ path)) nodes (map (made_at (length ranks) weight) numbers)
       ∙ (λ i. kept_nodes ranks path nodes are.inside i ++ (map-map (node_of (ranks ++ path)) (made_at (length ranks) weight) numbers
-        ∙ ap (λ l. map (λ rank. (take (rank + 1) l, weight)) numbers) (drop_at ranks path (length ranks) refl)) i)
+      ∙ ap (λ l. map (λ rank. (take (rank + 1) l, weight)) numbers) (drop_at ranks path (length ranks) refl)) i)
 
   made_are : AreNodes (ranks ++ path) all total
   made_are =
@@ -98,8 +98,8 @@ module _ (ranks path : List ℕ) (weight known total : ℕ) (nodes : List Node) 
         inside = All-append IsInside nodes (map (made_at (length ranks) weight) numbers)
             (All-weaker (λ n. n.start + n.depth ≤ length ranks) IsInside (λ n low. omega (arith, low, long)) nodes are.inside)
             (All-map IsInside (made_at (length ranks) weight) numbers (λ k d here.
-              let within : k < length path - known = omega (arith, here, length-range_with_len known (length path - known)) in
-              omega (arith, long, within, get_or-range_with_len known (length path - known) k d within)));
+            let within : k < length path - known = omega (arith, here, length-range_with_len known (length path - known)) in
+            omega (arith, long, within, get_or-range_with_len known (length path - known) k d within)));
         light = All-append IsLight nodes (map (made_at (length ranks) weight) numbers) are.light (All-map IsLight (made_at (length ranks) weight) numbers (λ k d here. less));
       }
 

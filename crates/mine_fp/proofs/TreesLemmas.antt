@@ -198,6 +198,9 @@ module _ (all : ClassesAreAll) (listed : ClassesAreListed) (value : RankBaskets)
   trees_of_ranks =
       let list = frequent_of value.baskets (Count least) in
       classes_add_up (λ c. has_tree value.baskets (Count least) c.set) value.ranks list
-      (All-weaker IsSoundHere (EndsBelow value.ranks) (λ c sound. (sound.0.1, λ rank m. ranks_are_below all listed value are least rank
-      (Contains-from_Member rank (flat_map (λ place. place.basket) value.baskets)
-      (in_items value.baskets c.set (at_least_one (Count least) (support_of value.baskets c.set) (total_of value.baskets) sound.1) rank m)))) list (frequent_once value.baskets (Count least)).sound)
+      (All-weaker IsSoundHere (EndsBelow value.ranks) (λ c sound. (
+        sound.0.1,
+        λ rank m. ranks_are_below all listed value are least rank
+            (Contains-from_Member rank (flat_map (λ place. place.basket) value.baskets)
+            (in_items value.baskets c.set (at_least_one (Count least) (support_of value.baskets c.set) (total_of value.baskets) sound.1) rank m)),
+      )) list (frequent_once value.baskets (Count least)).sound)

@@ -8,7 +8,7 @@ use Rattle.mine_fp.specs.declared.tree.Node.{Node}
 
 -- ---- nodes
 
--- the path of a node, which is so many ranks from a place on in the list of all, and its count
+-- the path of a node, which is a slice of the list of ranks, and its count
 abbrev pub node_of : List ℕ → Node → List ℕ × ℕ
 node_of ranks node = (take node.depth (drop node.start ranks), node.count)
 
@@ -58,7 +58,7 @@ abbrev pub longest : List ℕ → List (List ℕ) → ℕ
 longest path [] = 0
 longest path (branch ∷ branches) = max (if begins branch path then length branch else 0) (longest path branches)
 
--- a node with the weight of one more path, if that goes through it
+-- a node with the weight of one more path, if its own path is a prefix of that
 abbrev pub raised : List ℕ → List ℕ → ℕ → Node → Node
 raised ranks path weight node =
     record { start = node.start; depth = node.depth; count = node.count + (if begins (take node.depth (drop node.start ranks)) path then weight else 0) }

@@ -43,7 +43,7 @@ impl Level {
 
     /// The sets that a rank and lower ones make: the rank alone, and with each set of lower ranks,
     /// which are those from `start` on.
-    #[tactic(auto, using(crate::proofs::ClassLemmas::class_sizes))]
+    #[tactic(auto, using(crate::proofs::ClassLemmas::rank_classes))]
     fn choices<T: Tally>(
         &self,
         alloc: Global,

@@ -38,7 +38,7 @@ impl Level {
     /// The class of a rank, each set as items, added at the end of those found. Each set is
     /// reported as soon as it is known to be frequent.
     #[cycle(growth)]
-    #[tactic(auto, using(crate::proofs::ClassLemmas::class_sizes, crate::proofs::TreesLemmas::rare_trees))]
+    #[tactic(auto, using(crate::proofs::LeafLemmas::class_steps))]
     pub fn class<T: Tally>(
         &self,
         alloc: Global,
@@ -134,6 +134,7 @@ impl Level {
     }
 
     /// Whether a rank is frequent.
+    #[tactic(auto, using(crate::proofs::ClassLemmas::frequent_by))]
     pub fn is_frequent(&self, rank: u32) -> bool
         requires level { IsLevel self.now }
         requires rank { rank < self.now.paths.ranks }

@@ -10,7 +10,7 @@ ghost use Rattle.mine_fp.specs.Tree.{AreNodes, StandsFor, base_of, front, longes
 use std::alloc::{AllocError, Global};
 use std::marker::Model;
 
-/// A node: its path, as so many ranks from a place on in the list of all, and the weight of the
+/// A node: where its path begins in the list of ranks, the length of its path, and the weight of the
 /// paths that go through it.
 #[derive(Clone, Copy, Debug)]
 struct Node {
@@ -23,9 +23,10 @@ struct Node {
 /// nodes.
 #[derive(Debug, Drop)]
 pub struct FpTree {
-    /// The paths that made nodes, one after the other.
+    /// The paths that made nodes, one after the other. The path of a node is a slice of this list:
+    /// a copy for each node would take the square of a path's length.
     ranks: Vec<u32>,
-    /// The nodes in the order in which they were made. Those that one path made are neighbours.
+    /// The nodes in the order in which they were made.
     nodes: Vec<Node>,
     total: u64,
 }
@@ -54,6 +55,7 @@ impl FpTree {
 
     /// Adds a path of some weight. All paths together weigh at most 2^40. The older nodes keep
     /// their places.
+    #[tactic(auto, using(crate::proofs::BranchLemmas::longest_within))]
     pub fn insert(&mut self, path: &[u32], weight: u64) -> Result<(), AllocError>
         requires rises { IsRising path.now }
         requires weighs { 1 ≤ weight }
@@ -93,7 +95,7 @@ impl FpTree {
     }
 }
 
-/// The ranks above the last one of a path, if that is the given one.
+/// A path without its last rank, if that is the given one.
 #[tactic(auto, using(crate::proofs::BaseLemmas::ends_push, crate::proofs::BaseLemmas::front_push))]
 fn above(path: &[u32], rank: u32) -> Option<&[u32]>
     ensures { MatchOption result (ends_in rank path.now ≡ false) (λ above. (ends_in rank path.now ≡ true) × (above.now ≡ front path.now)) }
@@ -102,7 +104,9 @@ fn above(path: &[u32], rank: u32) -> Option<&[u32]>
     if *last == rank { Some(above) } else { None }
 }
 
-/// Adds a weight to each node whose path begins another one. Returns the length of the longest.
+/// Adds a weight to each node whose path is a prefix of the given one. Returns the length of the
+/// longest.
+#[tactic(auto, using(crate::proofs::NodeLemmas::rest_at))]
 fn add_weight(ranks: &[u32], nodes: &mut [Node], path: &[u32], weight: u64) -> usize
     requires inside { All (λ node. node.start + node.depth ≤ length ranks.now) nodes.old }
     requires light { All (λ node. node.count + weight < 2 ^ 64) nodes.old }
@@ -113,7 +117,7 @@ fn add_weight(ranks: &[u32], nodes: &mut [Node], path: &[u32], weight: u64) -> u
     let mut start = 0;
     let mut shared = shared_ranks(ranks, start, path);
     for node in nodes.iter_mut() {
-        // The nodes that one path made are neighbours, so each path is compared once.
+        // Nodes that one path made are neighbours, so each path is compared only once.
         if node.start != start {
             start = node.start;
             shared = shared_ranks(ranks, start, path);
@@ -126,7 +130,7 @@ fn add_weight(ranks: &[u32], nodes: &mut [Node], path: &[u32], weight: u64) -> u
     known
 }
 
-/// How many first ranks a path shares with those from a place on.
+/// The length of the common prefix of a path and the ranks from a place on.
 fn shared_ranks(ranks: &[u32], start: usize, path: &[u32]) -> usize
     requires { start ≤ length ranks.now }
     ensures { result ≡ common_prefix_len nat_eq (drop start ranks.now) path.now }
@@ -139,7 +143,7 @@ fn shared_ranks(ranks: &[u32], start: usize, path: &[u32]) -> usize
     shared
 }
 
-/// Adds a node for each prefix of a path that is longer than the known ones.
+/// Adds a node for each prefix of a path that is longer than `known`.
 fn add_nodes(ranks: &mut Vec<u32>, nodes: &mut Vec<Node>, path: &[u32], known: usize, weight: u64)
     requires known { known ≤ length path.now }
     requires room { (vec_len ranks.old + length path.now ≤ vec_capacity ranks.old) × (vec_len nodes.old + length path.now ≤ vec_capacity nodes.old) }

@@ -1,14 +1,13 @@
 use Rattle.std.proofs.Common.{◌≡◌, ◌+◌, ◌++◌, map, ap, ◌∙◌, subst, inl, inr, arith, Err}
 use Rattle.std.proofs.lemmas.Result.{err_from_is_err_and}
-use Rattle.basket_ranks.specs.Codes.{Coding, IsCoding}
+use Rattle.basket_ranks.specs.Codes.{Coding}
 use Rattle.basket_core.specs.declared.fault.MineFault.TheVariants.{TooMany}
 use Rattle.basket_ranks.specs.Depth.{HasSetOfSize}
 use Rattle.basket_sets.specs.declared.minimum.Minimum.TheVariants.{Count}
 use Rattle.mine_classes.specs.Classes.{class_of}
 use Rattle.mine_fp.specs.Forest.{AreInForest}
 use Rattle.mine_fp.specs.Level.{as_items, items_of, missing, set_from, suffix_of}
-use Rattle.mine_fp.proofs.ForestLemmas.{class_deep, class_settled, class_sizes, decoded_items, trees_settled}
-use Rattle.mine_fp.proofs.SuffixLemmas.{suffix_of_none}
+use Rattle.mine_fp.proofs.ForestLemmas.{class_deep, class_settled, decoded_items}
 use Rattle.mine_fp.proofs.forest.fp_class_with.Goals as goal
 
 pub returns-in_err-class-clause-too_many : goal.returns-in_err-class-clause-too_many
@@ -29,14 +28,6 @@ returns-in_err-class-clause-too_many g c = λ limit e.
       ],
     )
 
-pub returns-in_err-class-clause-at_most : goal.returns-in_err-class-clause-at_most
-returns-in_err-class-clause-at_most g c =
-    let level = c.forest.inside.level in
-    let are = subst (λ (v : Coding). AreInForest v level.least level.paths) c.forest.view_is c.forest.invariant.0 in
-    let size = class_sizes c.args.forest.now level.least level.paths are c.classes_are_listed.ensures c.lists_have_class_size.ensures c.args.rank in
-    let most = c.in_err-class.ensures.tally.at_most in
-    omega arith
-
 pub returns-clause-listed : goal.returns-clause-listed
 returns-clause-listed g c =
     let level = c.forest.inside.level in
@@ -48,37 +39,3 @@ returns-clause-listed g c =
       decoded = found.added ∙ ap (λ l. l ++ map (as_items (items_of level) (suffix_of level c.in_ok-sets.sets)) found.sets) c.in_ok-sets.ensures
           ∙ decoded_items c.args.forest.now.items (items_of level) (suffix_of level c.in_ok-sets.sets) found.sets (c.forest.invariant.2 ∙ ap (λ v. v.items) c.forest.view_is) (ap (set_from c.in_ok-sets.sets) c.forest.invariant.3);
     }
-
-pub returns-clause-at_most : goal.returns-clause-at_most
-returns-clause-at_most g c =
-    let level = c.forest.inside.level in
-    let are = subst (λ (v : Coding). AreInForest v level.least level.paths) c.forest.view_is c.forest.invariant.0 in
-    let size = class_sizes c.args.forest.now level.least level.paths are c.classes_are_listed.ensures c.lists_have_class_size.ensures c.args.rank in
-    let most = c.in_ok-class.ensures.tally.at_most in
-    omega arith
-
-pub returns-clause-few : goal.returns-clause-few
-returns-clause-few g c =
-    let size = c.lists_have_class_size.ensures c.args.forest.now c.args.rank _ (returns-clause-listed g c) in
-    omega (arith, size, c.in_ok-class.ensures.few)
-
-pub returns-clause-trees : goal.returns-clause-trees
-returns-clause-trees g c =
-    let level = c.forest.inside.level in
-    let are = subst (λ (v : Coding). AreInForest v level.least level.paths) c.forest.view_is c.forest.invariant.0 in
-    let is = subst IsCoding c.forest.view_is c.baskets-baskets.ensures.coding in
-    omega (arith, c.in_ok-class.ensures.trees, trees_settled c.args.forest.now level.least level.paths are is c.classes_are_listed.ensures c.args.rank)
-
-pub class-requires-clause-level : goal.class-requires-clause-level
-class-requires-clause-level g c =
-    let level = c.forest.inside.level in
-    let are = c.forest.invariant.0 in
-    record {
-      names = c.forest.invariant.1;
-      ranked = are.ranked;
-      some = are.least_is.some;
-      short = omega (arith, c.forest.invariant.4);
-    }
-
-pub class-requires-clause-stands : goal.class-requires-clause-stands
-class-requires-clause-stands g c = suffix_of_none c.forest.inside.level c.in_ok-sets.sets c.forest.invariant.3

@@ -1,9 +1,7 @@
-use Rattle.std.proofs.Common.{◌≡◌, ◌+◌, ◌-◌, ◌++◌, ◌∷◌, [], List, cond, is_ok, length, map, sym, ap, ◌∙◌, arith}
+use Rattle.std.proofs.Common.{◌≡◌, ◌+◌, ◌-◌, ◌++◌, ◌∷◌, [], cond, is_ok, length, map, sym, ap, ◌∙◌, arith}
 use Rattle.std.specs.List.{range_with_len}
-use Rattle.std.proofs.lemmas.List.{append-nil, append_assoc}
+use Rattle.std.proofs.lemmas.List.{append_assoc}
 use Rattle.std.proofs.lemmas.List.FromFn.{map-range_with_len_more}
-use Rattle.mine_fp.specs.declared.tree.Node.{Node}
-use Rattle.mine_fp.specs.Tree.{node_of}
 use Rattle.mine_fp.proofs.NodeLemmas.{made_at, with_made}
 use Rattle.mine_fp.proofs.tree.add_nodes.Goals as goal
 

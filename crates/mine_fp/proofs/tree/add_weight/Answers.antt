@@ -11,18 +11,6 @@ use Rattle.mine_fp.proofs.tree.add_weight.Goals.{then-node-start, else-node-star
 abbrev none : Node
 none = record { start = 0; depth = 0; count = 0 }
 
-pub shared_ranks-shared-requires-then-node-start : goal.shared_ranks-shared-requires-then-node-start
-shared_ranks-shared-requires-then-node-start c =
-    let k = c.loop-node.node-index in
-    let same = rest_at (raised c.args.ranks.now c.args.path.now c.args.weight) c.args.nodes.now c.loop-node.nodes k none c.loop-node-test.true c.loop-node.invariant.raised in
-    omega (arith, c.requires.inside k none c.loop-node-test.true, ap (λ (n : Node). n.start) same)
-
-pub overflow_add-node : goal.overflow_add-node
-overflow_add-node c =
-    let k = c.loop-node.node-index in
-    let same = rest_at (raised c.args.ranks.now c.args.path.now c.args.weight) c.args.nodes.now c.loop-node.nodes k none c.loop-node-test.true c.loop-node.invariant.raised in
-    omega (arith, c.requires.light k none c.loop-node-test.true, ap (λ (n : Node). n.count) same)
-
 pub loop-node-preserved : goal.loop-node-preserved
 loop-node-preserved c =
     let ranks = c.args.ranks.now in

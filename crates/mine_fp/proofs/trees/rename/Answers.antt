@@ -1,4 +1,4 @@
-use Rattle.std.proofs.Common.{◌≡◌, ◌<◌, ◌∙◌, ℕ, List, get_or, length, map, set, sym, ap, arith}
+use Rattle.std.proofs.Common.{◌<◌, ◌∙◌, ℕ, List, get_or, length, map, set, sym, ap, arith}
 use Rattle.std.proofs.lemmas.List.{get_or-map, get_or_default, length-map}
 use Rattle.std.proofs.lemmas.List.Edits.{map_over_more}
 use Rattle.basket_sets.specs.Counts.{AllBelow}

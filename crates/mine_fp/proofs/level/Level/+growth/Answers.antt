@@ -1,25 +1,23 @@
 use Rattle.std.proofs.Common.{◌≡◌, ◌+◌, ◌∷◌, [], Some, get_or, cond, filter, length, refl, sym, ap, ◌∙◌, subst, inr, arith, Err}
 use Rattle.std.specs.Bool.{⊤}
 use Rattle.std.specs.List.{range_with_len, sum_by}
-use Rattle.std.proofs.lemmas.Option.{MatchOption-at_none, MatchOption-at_some}
-use Rattle.std.proofs.lemmas.List.{append-nil, length-append}
-use Rattle.std.proofs.lemmas.Result.{err_from_is_err_and, on_ok_weaker}
+use Rattle.std.proofs.lemmas.Option.{MatchOption-at_some}
+use Rattle.std.proofs.lemmas.List.{length-append}
+use Rattle.std.proofs.lemmas.Result.{err_from_is_err_and}
 use Rattle.basket_ranks.specs.Depth.{HasSetOfSize}
 use Rattle.basket_sets.specs.declared.counted.Counted.{Counted}
 use Rattle.basket_sets.specs.declared.minimum.Minimum.TheVariants.{Count}
 use Rattle.basket_sets.specs.Frequent.{frequent_of}
 use Rattle.basket_sets.proofs.theory.Rising.{with_item-rises}
-use Rattle.mine_classes.specs.Pairs.{pairs_of}
 use Rattle.mine_fp.specs.declared.level.Level.{Level}
 use Rattle.mine_fp.specs.Level.{IsBelow, class_in, items_of, missing, set_of_rank, suffix_of}
 use Rattle.mine_fp.specs.Trees.{has_tree, inner_trees, rank_trees}
-use Rattle.mine_fp.proofs.ClassLemmas.{alone_is_one, class_grown, class_has_one, class_long, deeper, frequent_of_size, inner_has_fewer, slots_below, slots_kept}
-use Rattle.mine_fp.proofs.FoundLemmas.{found_fit, found_long, found_more, found_suffix, no_classes}
-use Rattle.mine_fp.proofs.LeafLemmas.{leaf_grown, leaf_trees}
+use Rattle.mine_fp.proofs.ClassLemmas.{alone_is_one, class_has_one, class_long, deeper, frequent_of_size, inner_has_fewer, slots_below}
+use Rattle.mine_fp.proofs.FoundLemmas.{found_fit, found_long}
 use Rattle.mine_fp.proofs.NameLemmas.{inner_is_level}
-use Rattle.mine_fp.proofs.SuffixLemmas.{suffix_added, suffix_is}
-use Rattle.mine_fp.proofs.ToldLemmas.{tells_all, tells_failed, tells_more, told_more, told_none}
-use Rattle.mine_fp.proofs.TreesLemmas.{class_trees_are, more_trees, rare_trees, trees_of_ranks}
+use Rattle.mine_fp.proofs.SuffixLemmas.{suffix_added}
+use Rattle.mine_fp.proofs.ToldLemmas.{tells_all, tells_failed, tells_more}
+use Rattle.mine_fp.proofs.TreesLemmas.{trees_of_ranks}
 use Rattle.mine_fp.proofs.level.Level.+growth.Goals as goal
 
 pub class-returns-then-self-ge-DEPTH-clause-tally :
@@ -38,24 +36,43 @@ class-returns-then-self-ge-DEPTH-clause-tally g t c =
       limit = so_far.limit;
     }
 
-pub class-returns-in-None-clause-listed : goal.class-returns-in-None-clause-listed
-class-returns-in-None-clause-listed g t c =
-    let level = c.args.self.now in
-    let met = sym c.is_frequent.ensures ∙ c.if-not-is_frequent.false in
-    let none = MatchOption-at_none (pairs_of level.paths.baskets level.least c.args.rank ≡ []) (λ _. ⊤) c.in-None.is c.in_ok-below.ensures.alone in
-    leaf_grown level c.args.rank none c.classes_are_conditional.ensures c.conditional_supports.ensures met c.args.found.now.sets c.tell_rank.new.found.sets c.requires.stands.rises c.in_ok-tell_rank.ensures.added
+pub classes-returns-clause-tally : goal.classes-returns-clause-tally
+classes-returns-clause-tally g t c =
+    let last : c.loop-rank.rank ≡ c.args.self.now.paths.ranks = omega (arith, c.loop-rank-test.false, c.ranks-rank-end.ensures, c.loop-rank.auto.rank-end) in
+    let long = found_long c.args.self.now c.loop-rank.rank c.args.found.now.sets c.loop-rank.found.sets c.loop-rank.invariant.listed c.classes_are_all.ensures c.classes_are_listed.ensures c.requires.level last in
+    tells_all c.loop-rank.invariant.told (omega (arith, long))
 
-pub class-returns-in-None-clause-trees : goal.class-returns-in-None-clause-trees
-class-returns-in-None-clause-trees g t c =
+pub class-returns-in-Some-clause-tally : goal.class-returns-in-Some-clause-tally
+class-returns-in-Some-clause-tally g t c =
     let level = c.args.self.now in
+    let inner = c.in-Some.inner in
     let met = sym c.is_frequent.ensures ∙ c.if-not-is_frequent.false in
-    let none = MatchOption-at_none (pairs_of level.paths.baskets level.least c.args.rank ≡ []) (λ _. ⊤) c.in-None.is c.in_ok-below.ensures.alone in
-    omega (
-      arith,
-      c.in_ok-tell_rank.ensures.trees,
-      c.in_ok-below.ensures.number,
-      leaf_trees level.paths.baskets level.least c.args.rank none c.classes_are_conditional.ensures c.conditional_supports.ensures met c.classes_are_listed.ensures,
-    )
+    let below = MatchOption-at_some ⊤ (IsBelow level c.args.rank) inner c.in-Some.is c.in_ok-below.ensures.below in
+    let long = class_long level c.args.rank inner below c.classes_by_codings.ensures met c.lists_have_class_size.ensures in
+    let one = ap length c.in_ok-tell_rank.ensures.added ∙ length-append c.args.found.now.sets (set_of_rank level c.args.found.now.sets c.args.rank ∷ []) in
+    let less : missing inner + 1 ≡ missing level = omega (arith, below.depth, c.if-self-ge-DEPTH.false) in
+    tells_more c.in_ok-tell_rank.ensures.tally.all c.classes.ensures.tally (omega (arith, long, one))
+    (λ deep. subst (HasSetOfSize (class_in level c.args.rank)) less (deeper level c.args.rank inner below c.classes_by_codings.ensures met c.classes_are_listed.ensures (missing inner) deep))
+
+pub classes-returns-in_err-class-clause-tally : goal.classes-returns-in_err-class-clause-tally
+classes-returns-in_err-class-clause-tally g t c =
+    let level = c.args.self.now in
+    let so_far = c.loop-rank.invariant in
+    let fit = found_fit level c.loop-rank.rank c.args.found.now.sets c.loop-rank.found.sets so_far.listed c.classes_are_all.ensures c.classes_are_listed.ensures c.requires.level
+    (omega (arith, c.loop-rank-test.true, c.ranks-rank-end.ensures)) in
+    let p = err_from_is_err_and c.from_residual.result c.from_residual.ensures.1 in
+    tells_failed so_far.told c.in_err-class.ensures.tally refl fit (frequent_of_size level.paths.baskets level.least c.loop-rank.rank (missing level)) c.from_residual.result (p.1 ∙ ap Err p.2)
+
+pub classes-returns-clause-trees : goal.classes-returns-clause-trees
+classes-returns-clause-trees g t c =
+    let level = c.args.self.now in
+    let so_far = c.loop-rank.invariant in
+    let last : c.loop-rank.rank ≡ level.paths.ranks = omega (arith, c.loop-rank-test.false, c.ranks-rank-end.ensures, c.loop-rank.auto.rank-end) in
+    let all = ap (λ n. sum_by (rank_trees level.paths.baskets level.least) (range_with_len 0 n)) last
+    ∙ trees_of_ranks c.classes_are_all.ensures c.classes_are_listed.ensures level.paths c.requires.level.ranked level.least in
+    let own : inner_trees level.paths.baskets level.least ≡ length (filter (λ (s : Counted). has_tree level.paths.baskets (Count level.least) s.set) (frequent_of level.paths.baskets (Count level.least))) =
+    ap (λ b. cond b 0 (length (filter (λ (s : Counted). has_tree level.paths.baskets (Count level.least) s.set) (frequent_of level.paths.baskets (Count level.least))))) (sym c.is_branch.ensures ∙ c.if-is_branch.false) in
+    omega (arith, so_far.trees, all, own)
 
 pub class-classes-requires : goal.class-classes-requires
 class-classes-requires g t c κs within =
@@ -84,105 +101,3 @@ class-classes-requires g t c κs within =
         ),
       ),
     )
-
-pub class-returns-in-Some-clause-listed : goal.class-returns-in-Some-clause-listed
-class-returns-in-Some-clause-listed g t c =
-    let level = c.args.self.now in
-    let inner = c.in-Some.inner in
-    let met = sym c.is_frequent.ensures ∙ c.if-not-is_frequent.false in
-    let below = MatchOption-at_some ⊤ (IsBelow level c.args.rank) inner c.in-Some.is c.in_ok-below.ensures.below in
-    let at = MatchOption-at_some ⊤ (λ (inner : Level). inner.place ≡ Some c.len-place.result) inner c.in-Some.is c.in_ok-below.ensures.place in
-    let old = c.args.found.now.sets in
-    let mid = c.tell_rank.new.found.sets in
-    on_ok_weaker c.classes.result
-    (class_grown level c.args.rank inner below c.classes_by_codings.ensures met old mid c.classes.new.found.sets c.requires.stands.rises c.in_ok-tell_rank.ensures.added
-    (suffix_is inner old mid (set_of_rank level old c.args.rank) c.len-place.result c.len-place.ensures c.in_ok-tell_rank.ensures.added at))
-    c.classes.ensures.listed
-
-pub class-returns-in-Some-clause-trees : goal.class-returns-in-Some-clause-trees
-class-returns-in-Some-clause-trees g t c =
-    let level = c.args.self.now in
-    let inner = c.in-Some.inner in
-    let met = sym c.is_frequent.ensures ∙ c.if-not-is_frequent.false in
-    let below = MatchOption-at_some ⊤ (IsBelow level c.args.rank) inner c.in-Some.is c.in_ok-below.ensures.below in
-    let all = class_trees_are level c.args.rank inner c.requires.level below c.classes_by_codings.ensures met c.classes_are_listed.ensures c.conditional_supports.ensures in
-    on_ok_weaker c.classes.result (λ made. omega (arith, made, all, c.in_ok-below.ensures.number, c.in_ok-tell_rank.ensures.trees)) c.classes.ensures.trees
-
-pub class-returns-in-Some-clause-tally : goal.class-returns-in-Some-clause-tally
-class-returns-in-Some-clause-tally g t c =
-    let level = c.args.self.now in
-    let inner = c.in-Some.inner in
-    let met = sym c.is_frequent.ensures ∙ c.if-not-is_frequent.false in
-    let below = MatchOption-at_some ⊤ (IsBelow level c.args.rank) inner c.in-Some.is c.in_ok-below.ensures.below in
-    let long = class_long level c.args.rank inner below c.classes_by_codings.ensures met c.lists_have_class_size.ensures in
-    let one = ap length c.in_ok-tell_rank.ensures.added ∙ length-append c.args.found.now.sets (set_of_rank level c.args.found.now.sets c.args.rank ∷ []) in
-    let less : missing inner + 1 ≡ missing level = omega (arith, below.depth, c.if-self-ge-DEPTH.false) in
-    tells_more c.in_ok-tell_rank.ensures.tally.all c.classes.ensures.tally (omega (arith, long, one))
-    (λ deep. subst (HasSetOfSize (class_in level c.args.rank)) less (deeper level c.args.rank inner below c.classes_by_codings.ensures met c.classes_are_listed.ensures (missing inner) deep))
-
-pub classes-loop-rank-init : goal.classes-loop-rank-init
-classes-loop-rank-init g t c = record {
-  listed = no_classes c.args.self.now c.args.found.now.sets;
-  trees = omega arith;
-  few = c.requires.few;
-  tables = record { sums = refl; places = refl };
-  told = told_none c.args.tally.now c.args.found.now.sets c.requires.going;
-}
-
-pub classes-returns-in_err-class-clause-tally : goal.classes-returns-in_err-class-clause-tally
-classes-returns-in_err-class-clause-tally g t c =
-    let level = c.args.self.now in
-    let so_far = c.loop-rank.invariant in
-    let fit = found_fit level c.loop-rank.rank c.args.found.now.sets c.loop-rank.found.sets so_far.listed c.classes_are_all.ensures c.classes_are_listed.ensures c.requires.level
-    (omega (arith, c.loop-rank-test.true, c.ranks-rank-end.ensures)) in
-    let p = err_from_is_err_and c.from_residual.result c.from_residual.ensures.1 in
-    tells_failed so_far.told c.in_err-class.ensures.tally refl fit (frequent_of_size level.paths.baskets level.least c.loop-rank.rank (missing level)) c.from_residual.result (p.1 ∙ ap Err p.2)
-
-pub classes-class-requires : goal.classes-class-requires
-classes-class-requires g t c κs within =
-    let so_far = c.loop-rank.invariant in (
-      omega (arith, c.decreases, c.loop-rank-test.true, c.ranks-rank-end.ensures),
-      (
-        within,
-        (
-          c.requires.level,
-          (
-            found_suffix c.args.self.now c.loop-rank.rank c.args.found.now.sets c.loop-rank.found.sets so_far.listed c.requires.stands,
-            (
-              omega (arith, c.loop-rank-test.true, c.ranks-rank-end.ensures),
-              (slots_kept c.args.self.now c.args.tables.now c.loop-rank.tables c.requires.tables so_far.tables, (so_far.few, so_far.told.going_on)),
-            ),
-          ),
-        ),
-      ),
-    )
-
-pub classes-loop-rank-preserved : goal.classes-loop-rank-preserved
-classes-loop-rank-preserved g t c =
-    let level = c.args.self.now in
-    let so_far = c.loop-rank.invariant in
-    let now = c.in_ok-class.ensures in
-    record {
-      listed = found_more level c.loop-rank.rank c.args.found.now.sets c.loop-rank.found.sets so_far.listed c.class.new.found.sets c.requires.stands now.listed;
-      trees = omega (arith, now.trees, so_far.trees, more_trees level.paths.baskets level.least c.loop-rank.rank);
-      few = now.few;
-      tables = record { sums = now.tables.sums ∙ so_far.tables.sums; places = now.tables.places ∙ so_far.tables.places };
-      told = told_more so_far.told now.tally.all;
-    }
-
-pub classes-returns-clause-tally : goal.classes-returns-clause-tally
-classes-returns-clause-tally g t c =
-    let last : c.loop-rank.rank ≡ c.args.self.now.paths.ranks = omega (arith, c.loop-rank-test.false, c.ranks-rank-end.ensures, c.loop-rank.auto.rank-end) in
-    let long = found_long c.args.self.now c.loop-rank.rank c.args.found.now.sets c.loop-rank.found.sets c.loop-rank.invariant.listed c.classes_are_all.ensures c.classes_are_listed.ensures c.requires.level last in
-    tells_all c.loop-rank.invariant.told (omega (arith, long))
-
-pub classes-returns-clause-trees : goal.classes-returns-clause-trees
-classes-returns-clause-trees g t c =
-    let level = c.args.self.now in
-    let so_far = c.loop-rank.invariant in
-    let last : c.loop-rank.rank ≡ level.paths.ranks = omega (arith, c.loop-rank-test.false, c.ranks-rank-end.ensures, c.loop-rank.auto.rank-end) in
-    let all = ap (λ n. sum_by (rank_trees level.paths.baskets level.least) (range_with_len 0 n)) last
-    ∙ trees_of_ranks c.classes_are_all.ensures c.classes_are_listed.ensures level.paths c.requires.level.ranked level.least in
-    let own : inner_trees level.paths.baskets level.least ≡ length (filter (λ (s : Counted). has_tree level.paths.baskets (Count level.least) s.set) (frequent_of level.paths.baskets (Count level.least))) =
-    ap (λ b. cond b 0 (length (filter (λ (s : Counted). has_tree level.paths.baskets (Count level.least) s.set) (frequent_of level.paths.baskets (Count level.least))))) (sym c.is_branch.ensures ∙ c.if-is_branch.false) in
-    omega (arith, so_far.trees, all, own)

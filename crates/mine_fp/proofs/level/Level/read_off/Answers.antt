@@ -1,7 +1,7 @@
 use Rattle.std.proofs.Common.{◌≡◌, refl, ap, ◌∙◌, Err, arith}
 use Rattle.std.proofs.lemmas.Result.{err_from_is_err_and}
-use Rattle.mine_fp.proofs.FoundLemmas.{found_fit, found_long, found_more}
-use Rattle.mine_fp.proofs.ToldLemmas.{tells_all, tells_failed, told_more}
+use Rattle.mine_fp.proofs.FoundLemmas.{found_fit, found_long}
+use Rattle.mine_fp.proofs.ToldLemmas.{tells_all, tells_failed}
 use Rattle.mine_fp.proofs.level.Level.read_off.Goals as goal
 
 pub returns-in_err-choices-clause-tally : goal.returns-in_err-choices-clause-tally
@@ -11,16 +11,6 @@ returns-in_err-choices-clause-tally g c =
     (omega (arith, c.loop-last-test.true, c.ranks-last-end.ensures)) in
     let p = err_from_is_err_and c.from_residual.result c.from_residual.ensures.1 in
     tells_failed so_far.told c.in_err-choices.ensures.tally refl fit (λ none. none) c.from_residual.result (p.1 ∙ ap Err p.2)
-
-pub loop-last-preserved : goal.loop-last-preserved
-loop-last-preserved g c =
-    let so_far = c.loop-last.invariant in
-    let now = c.in_ok-choices.ensures in
-    record {
-      listed = found_more c.args.self.now c.loop-last.last c.args.found.now.sets c.loop-last.found.sets so_far.listed c.choices.new.found.sets c.requires.stands now.listed;
-      trees = now.trees ∙ so_far.trees;
-      told = told_more so_far.told now.tally.all;
-    }
 
 pub returns-clause-tally : goal.returns-clause-tally
 returns-clause-tally g c =

@@ -3,12 +3,9 @@ use Rattle.std.proofs.lemmas.Simd.{map-map}
 use Rattle.basket_sets.specs.Database.{weighted}
 use Rattle.mine_fp.specs.declared.tree.Node.{Node}
 use Rattle.mine_fp.specs.Tree.{AreNodes, StandsFor, Tree, longest, made, node_of, paths_of, raised}
-use Rattle.mine_fp.proofs.BranchLemmas.{grown, heavier, longest_within, older_first, stands_now}
+use Rattle.mine_fp.proofs.BranchLemmas.{grown, heavier, older_first, stands_now}
 use Rattle.mine_fp.proofs.NodeLemmas.{raised_are, written}
 use Rattle.mine_fp.proofs.tree.FpTree.insert.Goals as goal
-
-pub add_nodes-requires-clause-known : goal.add_nodes-requires-clause-known
-add_nodes-requires-clause-known c = omega (arith, c.add_weight-known.ensures.known, longest_within c.args.path.now (paths_of (map (node_of c.deref.result.now) c.deref_mut.result.now)))
 
 -- the nodes before
 abbrev older : goal.After-self-2-1 → List (List ℕ × ℕ)
