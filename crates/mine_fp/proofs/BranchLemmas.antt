@@ -1,8 +1,8 @@
 -- A tree's branches, where a path is added.
 use Rattle.std.proofs.Common.{◌≡◌, ◌≢◌, ℕ, ◌+◌, ◌-◌, ◌<◌, ◌≤◌, ◌↔◌, true, List, [], ◌∷◌, ◌++◌, length, get_or, cond, eqb, map, max, take, zero, suc, refl, sym, ap, ◌∙◌, subst, inl, inr, ◌⊎◌, arith, zero-add}
-use Rattle.std.specs.List.{All, AllPairs, Contains, range_with_len}
+use Rattle.std.specs.List.{AllPairs, Contains, range_with_len}
 use Rattle.std.proofs.lemmas.Bool.{and_from, and_parts, cases_Bool, cases_lt, eq-eqb, eqb-true, true≢false}
-use Rattle.std.proofs.lemmas.List.{get_or_append_left, get_or-append_right, get_or_default, length-append, length-map, length-take-le, map-append, take_at, take-take}
+use Rattle.std.proofs.lemmas.List.{get_or_append_left, get_or-append_right, length-append, length-map, length-take-le, map-append, take_at, take-take}
 use Rattle.std.proofs.lemmas.List.Elements.{All-append, All-map, Contains-append_cases, Contains-append_left, Contains-append_right, Contains-get_or, Contains-push, Contains-push_cases}
 use Rattle.std.proofs.lemmas.List.FromFn.{get_or-map-range_with_len, get_or-range_with_len, length-map-range_with_len, length-range_with_len}
 use Rattle.std.proofs.lemmas.List.Sums.{sum_by-append, sum_by-cons}
@@ -10,7 +10,7 @@ use Rattle.std.proofs.lemmas.Simd.{map-map}
 use Rattle.basket_sets.specs.declared.weighted.Weighted.{Weighted}
 use Rattle.basket_sets.specs.Database.{weighted}
 use Rattle.basket_sets.specs.Support.{total_of}
-use Rattle.mine_fp.specs.Tree.{BeginsOne, StandsFor, Tree, begins, longest, made, paths_of, weight_begun}
+use Rattle.mine_fp.specs.Tree.{BeginsOne, StandsFor, begins, longest, made, paths_of, weight_begun}
 
 -- ---- paths that begin others
 

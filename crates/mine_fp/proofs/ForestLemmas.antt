@@ -1,10 +1,9 @@
 -- Classes of the baskets of a forest are those of the coding.
-use Rattle.std.proofs.Common.{◌≡◌, ℕ, Bool, true, false, ◌&&◌, List, [], ◌∷◌, ◌++◌, get_or, length, leb, map, refl, sym, ap, ◌∙◌, subst, arith}
+use Rattle.std.proofs.Common.{◌≡◌, ℕ, Bool, true, false, ◌&&◌, List, [], ◌++◌, get_or, length, leb, map, refl, sym, ap, ◌∙◌, subst, arith}
 use Rattle.std.specs.List.{Contains}
 use Rattle.std.proofs.lemmas.Bool.{leb-true, le-leb}
 use Rattle.std.proofs.lemmas.List.{append-nil}
 use Rattle.std.proofs.lemmas.List.Elements.{All-weaker, recursion_from_All}
-pub use Rattle.std.proofs.lemmas.List.FromFn.{map-range_with_len_more}
 use Rattle.basket_ranks.specs.Codes.{Coding, IsCodedPlace, IsCoding, decoded_set}
 use Rattle.basket_ranks.specs.Depth.{HasSetOfSize}
 use Rattle.basket_sets.specs.declared.counted.Counted.{Counted}
@@ -85,6 +84,3 @@ decoded_items items names suffix sets same none =
     λ i. map (λ (c : Counted). record { set = set c i; count = c.count }) sets
 
 pub ruleset forest_classes = (class_sizes, suffix_of_none, trees_settled)
-
--- the step of a loop that goes over the ranks
-pub ruleset more_ranks = (map-range_with_len_more)

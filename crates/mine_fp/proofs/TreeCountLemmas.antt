@@ -4,7 +4,6 @@ use Rattle.std.specs.List.{All, range_with_len, sum_by}
 use Rattle.std.proofs.lemmas.Bool.{cases_Bool, eq-eqb, eqb-true, ne_eqb}
 use Rattle.std.proofs.lemmas.List.Elements.{All-head, All-tail, All-weaker}
 use Rattle.std.proofs.lemmas.List.Sums.{sum_by-cons}
-use Rattle.basket_ranks.specs.Codes.{Coding, IsCoding}
 use Rattle.basket_ranks.proofs.theory.Decoding.{ranks_below}
 use Rattle.basket_sets.specs.declared.counted.Counted.{Counted}
 use Rattle.basket_sets.specs.Frequent.{IsNonemptySet, frequent_of, is_frequent}

@@ -1,9 +1,8 @@
 -- The trees of a class are that of its rank and those within the rank's conditional database.
-use Rattle.std.proofs.Common.{◌≡◌, ◌≢◌, ℕ, ◌+◌, ◌<◌, Bool, true, false, ◌&&◌, List, [], ◌∷◌, ◌++◌, filter, get_or, length, map, cond, refl, sym, ap, ◌∙◌, subst, inl, inr, arith, suc, add-zero, zero-add}
+use Rattle.std.proofs.Common.{◌≡◌, ◌≢◌, ℕ, ◌+◌, ◌<◌, Bool, true, false, ◌&&◌, List, [], ◌∷◌, ◌++◌, filter, get_or, length, map, cond, refl, sym, ap, ◌∙◌, subst, arith, suc, add-zero, zero-add}
 use Rattle.std.specs.Prelude.{nat_eq, not}
 use Rattle.std.specs.Cmp.Lexicographic.{bytes_decides, nat_list_eq_equiv, pointwise}
 use Rattle.std.specs.List.{AllByRecursion, IsDistinct, flat_map, list_any, range_with_len, sum_by}
-use Rattle.std.proofs.lemmas.Bool.{cases_Bool}
 use Rattle.std.proofs.lemmas.List.Elements.{All-weaker, filter_agree, recursion_from_All}
 use Rattle.std.proofs.lemmas.List.Kept.{AllPairs-filter}
 use Rattle.std.proofs.lemmas.List.Sums.{sum_by-append, sum_by-cons}
@@ -19,7 +18,7 @@ use Rattle.basket_sets.specs.Database.{HasWeight}
 use Rattle.basket_sets.specs.Frequent.{IsNonemptySet, ListsOnce, counted, frequent_of, is_frequent}
 use Rattle.basket_sets.specs.Support.{support_of, total_of}
 use Rattle.basket_sets.proofs.theory.Frequent.{frequent_once}
-use Rattle.basket_sets.proofs.theory.Members.{All-from_Member, Contains-from_Member, Member, Member-filter, Member-from_Contains, Member-from_filter, Member-from_map, Member-map, at_Member}
+use Rattle.basket_sets.proofs.theory.Members.{Contains-from_Member, Member, Member-filter, Member-from_Contains, Member-from_filter, Member-from_map, Member-map, at_Member}
 use Rattle.basket_sets.proofs.theory.Rising.{has-from_Member, rising-rising, same_test}
 use Rattle.basket_sets.proofs.theory.Support.{at_least_one, in_items}
 use Rattle.basket_sets.proofs.theory.Ranges.{range_more}

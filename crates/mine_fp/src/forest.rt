@@ -73,7 +73,6 @@ impl<'a> Forest<'a> {
 }
 
 /// The item and the support of each rank.
-#[tactic(auto, using(crate::proofs::ForestLemmas::more_ranks))]
 fn names_of(alloc: Global, coded: &Coded, runs: &Runs) -> Result<Vec<(u32, u64)>, AllocError>
     requires { runs.now.ranks ≡ length coded.now.items }
     ensures { IfOk result (λ names. names.items ≡ map (λ rank. (slice_index coded.now.items rank, support_of runs.now.baskets (rank ∷ []))) (range_with_len 0 (length coded.now.items))) }
