@@ -1,11 +1,11 @@
 -- The frequent pairs of ranks.
-use Rattle.std.proofs.Common.{◌≡◌, ℕ, ◌<◌, Bool, ◌&&◌, List, [], ◌∷◌, length, get_or, map, leb, ltb, refl, sym, ap, ◌∙◌, inl, inr, arith}
+use Rattle.std.proofs.Common.{◌≡◌, ℕ, ◌+◌, ◌<◌, Bool, ◌&&◌, List, [], ◌∷◌, ◌++◌, length, get_or, map, leb, ltb, refl, sym, ap, ◌∙◌, inl, inr, arith}
 use Rattle.std.specs.List.{filter, range_with_len}
 use Rattle.std.specs.declared.alloc.Global.{Global}
 use Rattle.std.specs.declared.vec.Vec.{Vec}
 use Rattle.std.proofs.lemmas.Bool.{cases_order, le-leb, leb-true, lt-ltb}
-use Rattle.std.proofs.lemmas.List.{length-map, get_or-map}
-use Rattle.std.proofs.lemmas.List.FromFn.{length-map-range_with_len, get_or-map-range_with_len}
+use Rattle.std.proofs.lemmas.List.{length-map, get_or-map, map-append}
+use Rattle.std.proofs.lemmas.List.FromFn.{length-map-range_with_len, get_or-map-range_with_len, map-range_with_len_more}
 use Rattle.basket_ranks.specs.Codes.{Coding}
 use Rattle.basket_sets.specs.declared.minimum.Minimum.{Minimum}
 use Rattle.basket_sets.specs.declared.minimum.Minimum.TheVariants.{Count}
@@ -40,6 +40,13 @@ sums_are_pairs baskets least rank sums long are =
 
     within : (other : ℕ) → Member other (range_with_len 0 rank) → other < rank
     within other m = let high = (Member-range 0 rank other m).1 in omega arith
+
+-- one list more, that of the next number
+pub lists_pushed : {X : Type 0} (f : ℕ → List X) (first n next : ℕ) (lists new : List (Vec X Global)) (list : Vec X Global) → lists_of lists ≡ map f (range_with_len first n)
+    → new ≡ lists ++ list ∷ [] → first + n ≡ next → list.items ≡ f next → lists_of new ≡ map f (range_with_len first (n + 1))
+lists_pushed f first n next lists new list so_far pushed at is =
+    ap lists_of pushed ∙ map-append (λ (v : Vec _ Global). v.items) lists (list ∷ []) ∙ ap (λ l. l ++ list.items ∷ []) so_far
+    ∙ ap (λ l. map f (range_with_len first n) ++ l ∷ []) is ∙ sym (map-range_with_len_more f first n next at)
 
 -- baskets that give each set the same support have the same pairs
 same_of_rank : (one other : List Weighted) (least rank : ℕ) → ((set : List ℕ) → support_of one set ≡ support_of other set) → pairs_of one least rank ≡ pairs_of other least rank

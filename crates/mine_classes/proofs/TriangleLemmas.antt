@@ -74,11 +74,11 @@ module _ (first weight : ℕ) (ranks : List ℕ) (old now : List (List ℕ)) whe
       added = λ j below. elim (cases_eq j k) [
         | inl e ↦
             subst (λ n. WithBasket (cond (has (take (place + 1) ranks) (first + n)) ranks []) weight (row_at old n) (row_at (set now k row) n)) (sym e)
-            (subst (λ l. WithBasket (cond (has (take (place + 1) ranks) (first + k)) ranks []) weight (row_at old k) l) (sym (get_or-set_same now k row [] (omega arith)))
-            (subst (λ b. WithBasket (cond b ranks []) weight (row_at old k) row) (sym there) whole))
+            (λ lesser less. ap (λ l. get_or l lesser 0) (get_or-set_same now k row [] (omega arith)) ∙ whole lesser less
+            ∙ ap (λ b. get_or (row_at old k) lesser 0 + cond (has (cond b ranks []) lesser) weight 0) (sym there))
         | inr differ ↦
-            subst (λ b. WithBasket (cond b ranks []) weight (row_at old j) (row_at (set now k row) j)) (other_front ranks place up here (first + j) (λ e. differ (omega arith)))
-            (subst (λ l. WithBasket (cond (has (take place ranks) (first + j)) ranks []) weight (row_at old j) l) (sym (get_or-set_other now k j row [] differ)) (with.added j below))
+            λ lesser less. ap (λ l. get_or l lesser 0) (get_or-set_other now k j row [] differ) ∙ with.added j below lesser less
+            ∙ ap (λ b. get_or (row_at old j) lesser 0 + cond (has (cond b ranks []) lesser) weight 0) (other_front ranks place up here (first + j) (λ e. differ (omega arith)))
       ];
     }
       where

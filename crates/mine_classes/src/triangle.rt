@@ -72,13 +72,14 @@ fn count_basket(rows: &mut [Vec<u64>], first: u32, ranks: &[u32], weight: u64)
     ensures { WithPairs first ranks.now ranks.now weight (lists_of rows.old) (lists_of rows.new) }
 {
     for (place, rank) in ranks.iter().enumerate() {
-        if *rank >= first {
-            let row = (*rank - first) as usize;
-            if row >= rows.len() {
-                break;
-            }
-            count_below(&mut rows[row], &ranks[..place], weight);
+        if *rank < first {
+            continue;
         }
+        let row = (*rank - first) as usize;
+        if row >= rows.len() {
+            break;
+        }
+        count_below(&mut rows[row], &ranks[..place], weight);
     }
 }
 
@@ -90,6 +91,7 @@ fn count_below(row: &mut [u64], ranks: &[u32], weight: u64)
     ensures { WithBasket ranks.now weight row.old row.new }
 {
     for rank in ranks {
-        row[*rank as usize] += weight;
+        let count = &mut row[*rank as usize];
+        *count += weight;
     }
 }

@@ -4,7 +4,6 @@ mod Parts
 mod Shares
 mod SupportLemmas
 mod Numbers
-mod RangeLemmas
 mod Ranks
 mod Sharing
 mod LevelLemmas

@@ -1,7 +1,8 @@
 //! The ranks as ranges whose pairs take about equally long to count.
 ghost use Rattle.std.specs.Prelude.{◌≤◌, ◌^◌, ◌<◌, ◌≡◌, All, IfOk, length};
+ghost use Rattle.std.specs.List.{flat_map, range_with_len};
 ghost use Rattle.basket_sets.specs.Counts.{AllBelow};
-ghost use Rattle.mine_phases.specs.Ranges.{AreRanges};
+ghost use Rattle.mine_classes.specs.Triangle.{ranks_in};
 
 use basket_core::{Coded, Weighted};
 use mine_classes::RankRange;
@@ -15,7 +16,7 @@ const SAMPLE: usize = 4_096;
 /// Each range but the last has a little more than its share of the steps in a sample.
 pub fn ranges_of(alloc: Global, coded: &Coded, parts: u32) -> Result<Vec<RankRange>, AllocError>
     requires { 1 ≤ parts }
-    ensures ranges { IfOk result (λ ranges. AreRanges (length coded.now.items) ranges.items) }
+    ensures ranges { IfOk result (λ ranges. flat_map ranks_in ranges.items ≡ range_with_len 0 (length coded.now.items)) }
     ensures few { IfOk result (λ ranges. length ranges.items < 2 ^ 32) }
 {
     let mut steps = vec![in alloc; 0; coded.ranks() as usize]?;
@@ -54,7 +55,8 @@ fn add_basket(steps: &mut [u64], ranks: &[u32])
 /// without its last rank.
 fn cut(alloc: Global, steps: &[u64], share: u64) -> Result<Vec<RankRange>, AllocError>
     requires { length steps.now < 2 ^ 32 }
-    ensures { IfOk result (λ ranges. AreRanges (length steps.now) ranges.items) }
+    ensures ranges { IfOk result (λ ranges. flat_map ranks_in ranges.items ≡ range_with_len 0 (length steps.now)) }
+    ensures few { IfOk result (λ ranges. length ranges.items ≤ length steps.now) }
 {
     let mut ranges = Vec::new(alloc);
     let mut first = 0;

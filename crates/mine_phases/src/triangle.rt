@@ -78,9 +78,5 @@ pub fn triangle_pairs<R: Threads + Sync, G: Gate + Sync>(
 fn in_a_row(alloc: Global, lists: Vec<Vec<Pairs>>) -> Result<Vec<Pairs>, AllocError>
     ensures { IfOk result (λ all. all.items ≡ flat_map (λ list. list.items) lists.items) }
 {
-    let mut all = Vec::new(alloc);
-    for mut list in lists {
-        all.append(&mut list)?;
-    }
-    Ok(all)
+    lists.into_iter().flatten().collect(alloc)
 }

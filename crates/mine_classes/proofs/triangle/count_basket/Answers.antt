@@ -9,13 +9,10 @@ use Rattle.mine_classes.specs.Sums.{WithBasket}
 use Rattle.mine_classes.specs.Triangle.{WithPairs, row_at}
 use Rattle.mine_classes.proofs.TriangleLemmas.{as_was, before_all_below, before_rises, front_has, none_added, other_front, other_greater, row_more}
 use Rattle.mine_classes.proofs.triangle.count_basket.Goals as goal
-use Rattle.mine_classes.proofs.triangle.count_basket.Goals.{After-deref_mut, then-rank-first+else-row-rows, else-rank-first}
+use Rattle.mine_classes.proofs.triangle.count_basket.Goals.{After-deref_mut}
 
 length_of : (rows : List (Vec ℕ Global)) → length (lists_of rows) ≡ length rows
 length_of rows = length-map rows (λ (v : Vec ℕ Global). v.items)
-
-row_is : (rows : List (Vec ℕ Global)) (k : ℕ) (v : Vec ℕ Global) → k < length rows → v ≡ get_or rows k v → v.items ≡ row_at (lists_of rows) k
-row_is rows k v within is = ap (λ (w : Vec ℕ Global). w.items) is ∙ sym (get_or-map (λ (w : Vec ℕ Global). w.items) rows k v [] within)
 
 module _ (c : After-deref_mut) where
   abbrev row : ℕ
@@ -25,10 +22,10 @@ module _ (c : After-deref_mut) where
   within = omega (arith, c.if-row-rows.false, c.loop-place.auto.rows, length_of c.args.rows.now)
 
   rank_is : c.args.first + row ≡ get_or c.args.ranks.now c.loop-place.place 0
-  rank_is = omega (arith, c.if-rank-first.true)
+  rank_is = omega (arith, c.if-rank-first.false)
 
   at_row : c.deref_mut.result.now ≡ row_at (lists_of c.loop-place.rows) row
-  at_row = c.deref_mut.ensures.value ∙ ap (λ (v : Vec ℕ Global). v.items) (sym c.index-rows-row.is) ∙ row_is c.loop-place.rows row c.index-rows-row.result c.if-row-rows.false c.index-rows-row.is
+  at_row = c.deref_mut.ensures.value ∙ sym (get_or-map (λ (v : Vec ℕ Global). v.items) c.loop-place.rows row c.index-rows-row.result [] c.if-row-rows.false)
 
   long : length c.deref_mut.result.now ≡ length (row_at (lists_of c.args.rows.now) row)
   long = ap length at_row ∙ c.loop-place.invariant.long row within
@@ -50,32 +47,27 @@ count_below-requires-clause-light c = λ lesser below.
     let light = c.requires.light (row c) lesser (omega (arith, c.if-row-rows.false, c.loop-place.auto.rows)) (omega (arith, below, long c, wide)) in
     omega (arith, ap (λ l. get_or l lesser 0) (at_row c), was, light)
 
-pub loop-place-preserved : goal.loop-place-preserved
-loop-place-preserved c =
-    let first = c.args.first in
-    let weight = c.args.weight in
+pub loop-place-preserved-then-rank-first : goal.loop-place-preserved-then-rank-first
+loop-place-preserved-then-rank-first c =
     let ranks = c.args.ranks.now in
     let place = c.loop-place.place in
-    let row = get_or ranks place 0 - first in
-    let rows = c.loop-place.rows in
-    let more = WithPairs first (take (place + 1) ranks) ranks weight (lists_of c.args.rows.now) in
-    elim c.if-rank-first.branch [
-      | then-rank-first+else-row-rows w ↦
-          (let v = w.index-rows-row.result in
-          let new = w.count_below.new.row in
-          let was = w.deref_mut.ensures.value ∙ ap (λ (u : Vec ℕ Global). u.items) (sym w.index-rows-row.is) ∙ row_is rows row v w.if-row-rows.false w.index-rows-row.is in
-          let set_is = ap lists_of w.rows-is ∙ map-set (λ (u : Vec ℕ Global). u.items) rows row (with_items (get_or rows row v) new)
-          ∙ ap (set (lists_of rows) row) (take_at new _ (get_or rows row v).len (w.count_below.auto.row ∙ w.deref_mut.ensures.len)) in
-          let within : row < length (lists_of c.args.rows.now) = omega (arith, w.if-row-rows.false, c.loop-place.auto.rows, length_of c.args.rows.now) in
-          subst more (sym set_is)
-          (row_more first weight ranks _ (lists_of rows) place row c.requires.rises c.loop-place-test.true within (omega (arith, w.if-rank-first.true)) c.loop-place.invariant new
-          (length_of rows ∙ c.loop-place.auto.rows ∙ sym (length_of c.args.rows.now)) (c.requires.rows row within) (w.count_below.auto.row ∙ ap length was)
-          (subst (λ l. WithBasket (take place ranks) weight l new) was w.count_below.ensures)))
-      | else-rank-first w ↦
-          subst more (sym (ap lists_of w.rows-is))
-          (other_greater first weight ranks _ _ (take place ranks) (take (place + 1) ranks)
-          (λ k below. other_front ranks place c.requires.rises c.loop-place-test.true (first + k) (λ e. omega (arith, e, w.if-rank-first.false))) c.loop-place.invariant)
-    ]
+    other_greater c.args.first c.args.weight ranks _ _ (take place ranks) (take (place + 1) ranks)
+    (λ k below. other_front ranks place c.requires.rises c.loop-place-test.true (c.args.first + k) (λ e. omega (arith, e, c.if-rank-first.true))) c.loop-place.invariant
+
+pub loop-place-preserved : goal.loop-place-preserved
+loop-place-preserved c =
+    let w = (goal.at.loop-place-preserved c).After-deref_mut in
+    let ranks = c.args.ranks.now in
+    let place = c.loop-place.place in
+    let row = get_or ranks place 0 - c.args.first in
+    let v = get_or c.loop-place.rows row c.index-rows-row.result in
+    let new = c.count_below.new.row in
+    let lists = lists_of c.loop-place.rows in
+    let set_is = map-set (λ (u : Vec ℕ Global). u.items) c.loop-place.rows row (with_items v new) ∙ ap (set lists row) (take_at new _ v.len (c.count_below.auto.row ∙ c.deref_mut.ensures.len)) in
+    subst (WithPairs c.args.first (take (place + 1) ranks) ranks c.args.weight (lists_of c.args.rows.now)) (sym set_is)
+    (row_more c.args.first c.args.weight ranks _ lists place row c.requires.rises c.loop-place-test.true (within w) (rank_is w) c.loop-place.invariant new
+    (length_of c.loop-place.rows ∙ c.loop-place.auto.rows ∙ sym (length_of c.args.rows.now)) (c.requires.rows row (within w)) (c.count_below.auto.row ∙ ap length (at_row w))
+    (subst (λ l. WithBasket (take place ranks) c.args.weight l new) (at_row w) c.count_below.ensures))
 
 pub returns-after-loop-place : goal.returns-after-loop-place
 returns-after-loop-place c =

@@ -8,11 +8,6 @@ bounds-row-rank c =
     let here = all_below_at (length c.args.row.now) c.args.ranks.now c.loop-rank.rank-index c.requires.below c.loop-rank-test.true in
     omega (arith, here, c.loop-rank.auto.row)
 
-pub bounds-row-rank-in-loop-rank : goal.bounds-row-rank-in-loop-rank
-bounds-row-rank-in-loop-rank c =
-    let here = all_below_at (length c.args.row.now) c.args.ranks.now c.loop-rank.rank-index c.requires.below c.loop-rank-test.true in
-    omega (arith, here, c.loop-rank.auto.row)
-
 pub loop-rank-preserved : goal.loop-rank-preserved
 loop-rank-preserved c =
     let here = all_below_at (length c.args.row.now) c.args.ranks.now c.loop-rank.rank-index c.requires.below c.loop-rank-test.true in

@@ -1,12 +1,13 @@
-use Rattle.std.proofs.Common.{◌≡◌, ◌+◌, ◌<◌, ◌++◌, ◌∷◌, [], ℕ, length, map, subst, refl, sym, ap, ◌∙◌, arith}
+use Rattle.std.proofs.Common.{◌≡◌, ◌+◌, ◌<◌, [], ℕ, length, map, subst, refl, sym, ap, ◌∙◌, arith}
 use Rattle.std.specs.declared.alloc.Global.{Global}
 use Rattle.std.specs.declared.vec.Vec.{Vec}
 use Rattle.std.specs.List.{range_with_len}
-use Rattle.std.proofs.lemmas.List.{get_or-map, length-map, map-append, take_at}
-use Rattle.std.proofs.lemmas.List.FromFn.{length-map-range_with_len, map-range_with_len_more}
+use Rattle.std.proofs.lemmas.List.{get_or-map, length-map, take_at}
+use Rattle.std.proofs.lemmas.List.FromFn.{length-map-range_with_len}
 use Rattle.basket_sets.specs.Support.{total_of}
 use Rattle.mine_classes.specs.Pairs.{lists_of, pairs_of}
 use Rattle.mine_classes.specs.Triangle.{HaveCounts, row_at, zeros}
+use Rattle.mine_classes.proofs.PairLemmas.{lists_pushed}
 use Rattle.mine_classes.proofs.TriangleLemmas.{row_pairs, zeros_count}
 use Rattle.mine_classes.proofs.triangle.pairs_of_range.Goals as goal
 use Rattle.mine_classes.proofs.triangle.pairs_of_range.Goals.{After-deref, After-deref-row-items}
@@ -49,14 +50,10 @@ met_in_order-requires c =
 pub loop-row-preserved : goal.loop-row-preserved
 loop-row-preserved c =
     let w = (goal.at.loop-row-preserved c).After-deref in
-    let baskets = c.args.coded.now.baskets in
     let k = c.loop-row.row-index in
     let first = c.args.range.first in
-    ap lists_of c.in_ok-push.ensures.items ∙ map-append (λ (v : Vec (ℕ × ℕ) Global). v.items) c.loop-row.lists.items (c.in_ok-met_in_order.field-0 ∷ [])
-    ∙ ap (λ l. l ++ c.in_ok-met_in_order.field-0.items ∷ []) c.loop-row.invariant
-    ∙ ap (λ l. map (pairs_of baskets c.args.least) (range_with_len first k) ++ l ∷ [])
-    (c.in_ok-met_in_order.ensures ∙ row_pairs baskets c.args.least first _ k _ (counts (goal.at.loop-row-preserved c).After-deref-row-items) (within w) (at_row w))
-    ∙ sym (map-range_with_len_more (pairs_of baskets c.args.least) first k (first + k) refl)
+    lists_pushed (pairs_of c.args.coded.now.baskets c.args.least) first k (first + k) c.loop-row.lists.items _ _ c.loop-row.invariant c.in_ok-push.ensures.items refl
+    (c.in_ok-met_in_order.ensures ∙ row_pairs c.args.coded.now.baskets c.args.least first _ k _ (counts (goal.at.loop-row-preserved c).After-deref-row-items) (within w) (at_row w))
 
 pub returns : goal.returns
 returns c =

@@ -1,10 +1,19 @@
-use Rattle.std.proofs.Common.{◌≡◌, ◌+◌, length, sym, ap, ◌∙◌, arith}
+use Rattle.std.proofs.Common.{◌≡◌, ◌+◌, ◌++◌, ◌∷◌, [], List, ℕ, append-nil, length, sym, ap, ◌∙◌, arith, zero-add}
 use Rattle.std.specs.List.{flat_map, range_with_len}
 use Rattle.std.proofs.lemmas.List.{length-append}
+use Rattle.std.proofs.lemmas.List.Concat.{flat_map-append}
+use Rattle.mine_classes.specs.declared.rank_range.RankRange.{RankRange}
 use Rattle.mine_classes.specs.Triangle.{ranks_in}
-use Rattle.mine_phases.proofs.RangeLemmas.{range_pushed}
+use Rattle.mine_phases.proofs.Numbers.{range_split}
 use Rattle.mine_phases.proofs.ranges.cut.Goals as goal
 use Rattle.mine_phases.proofs.ranges.cut.Goals.{then-sum-share+in_ok-push, else-sum-share+else-rank-steps}
+
+range_pushed : (ranges : List RankRange) (range : RankRange) (end : ℕ) → flat_map ranks_in ranges ≡ range_with_len 0 range.first → range.first + range.count ≡ end
+    → flat_map ranks_in (ranges ++ range ∷ []) ≡ range_with_len 0 end
+range_pushed ranges range end so_far ends =
+    flat_map-append ranks_in ranges (range ∷ []) ∙ ap (λ l. flat_map ranks_in ranges ++ l) (append-nil (ranks_in range))
+    ∙ ap (λ l. l ++ ranks_in range) so_far ∙ ap (λ n. range_with_len 0 range.first ++ range_with_len n range.count) (sym (zero-add range.first))
+    ∙ sym (range_split 0 range.first range.count) ∙ ap (range_with_len 0) ends
 
 pub loop-rank-preserved : goal.loop-rank-preserved
 loop-rank-preserved c =
@@ -31,4 +40,4 @@ pub returns : goal.returns
 returns c =
     let all : c.loop-rank.rank ≡ length c.args.steps.now = omega (arith, c.loop-rank-test.false, c.loop-rank.auto.rank-end) in
     let first = c.loop-rank.invariant.last all ∙ all in
-    record { whole = c.loop-rank.invariant.whole ∙ ap (range_with_len 0) first; few = omega (arith, first, c.loop-rank.invariant.few) }
+    record { ranges = c.loop-rank.invariant.whole ∙ ap (range_with_len 0) first; few = omega (arith, first, c.loop-rank.invariant.few) }

@@ -1,8 +1,37 @@
-use Rattle.std.proofs.Common.{ap, ◌∙◌, length}
+use Rattle.std.proofs.Common.{◌≡◌, ◌++◌, ℕ, List, [], ◌∷◌, map, get_or, length, refl, sym, ap, ◌∙◌}
+use Rattle.std.specs.declared.alloc.Global.{Global}
+use Rattle.std.specs.declared.vec.Vec.{Vec}
+use Rattle.std.specs.List.{flat_map, range_with_len}
+use Rattle.std.proofs.lemmas.List.{length-map, map-append}
+use Rattle.std.proofs.lemmas.List.Concat.{flat_map-cons}
+use Rattle.std.proofs.lemmas.List.Folds.{flat_map-map}
+use Rattle.std.proofs.lemmas.List.FromFn.{fill_by_all}
 use Rattle.std.proofs.lemmas.Result.{IfOk-weaker}
-use Rattle.mine_classes.specs.Pairs.{ArePairs, lists_of}
-use Rattle.mine_phases.proofs.RangeLemmas.{pairs_joined}
+use Rattle.basket_sets.specs.declared.weighted.Weighted.{Weighted}
+use Rattle.mine_classes.specs.declared.rank_range.RankRange.{RankRange}
+use Rattle.mine_classes.specs.Pairs.{ArePairs, lists_of, pairs_by_greater, pairs_of}
+use Rattle.mine_classes.specs.Triangle.{pairs_in_range, ranks_in}
+use Rattle.mine_phases.specs.Pieces.{HasEach}
+use Rattle.mine_phases.proofs.Parts.{entries_by_part}
 use Rattle.mine_phases.proofs.triangle.triangle_pairs.Goals as goal
+
+map_flat : {X Y Z : Type 0} (f : Y → Z) (g : X → List Y) (xs : List X) → map f (flat_map g xs) ≡ flat_map (λ x. map f (g x)) xs
+map_flat f g [] = refl
+map_flat f g (x ∷ xs) =
+    ap (map f) (flat_map-cons g x xs) ∙ map-append f (g x) (flat_map g xs) ∙ ap (λ l. map f (g x) ++ l) (map_flat f g xs) ∙ sym (flat_map-cons (λ y. map f (g y)) x xs)
+
+-- the pairs of the ranges, one after another, are those of all ranks
+module _ (baskets : List Weighted) (least ranks : ℕ) (ranges : List RankRange) (values : List (Vec (Vec (ℕ × ℕ) Global) Global)) where
+  pairs_joined : flat_map ranks_in ranges ≡ range_with_len 0 ranks → HasEach (λ part lists. lists_of lists.items ≡ get_or (map (pairs_in_range baskets least) ranges) part []) (length ranges) values
+      → lists_of (flat_map (λ lists. lists.items) values) ≡ pairs_by_greater baskets least ranks
+  pairs_joined are has =
+      let of_range = pairs_in_range baskets least in
+      let each = entries_by_part (λ (lists : Vec (Vec (ℕ × ℕ) Global) Global). lists_of lists.items) (λ part. get_or (map of_range ranges) part []) (length ranges) values has
+      ∙ sym (fill_by_all (λ part. get_or (map of_range ranges) part []) (map of_range ranges) (length ranges) [] (length-map ranges of_range) (λ part below. refl)) in
+      map_flat (λ (list : Vec (ℕ × ℕ) Global). list.items) (λ (lists : Vec (Vec (ℕ × ℕ) Global) Global). lists.items) values
+      ∙ sym (flat_map-map (λ (l : List (List (ℕ × ℕ))). l) (λ (lists : Vec (Vec (ℕ × ℕ) Global) Global). lists_of lists.items) values)
+      ∙ ap (flat_map (λ (l : List (List (ℕ × ℕ))). l)) each ∙ flat_map-map (λ (l : List (List (ℕ × ℕ))). l) of_range ranges
+      ∙ sym (map_flat (pairs_of baskets least) ranks_in ranges) ∙ ap (map (pairs_of baskets least)) are
 
 pub returns : goal.returns
 returns g c =
