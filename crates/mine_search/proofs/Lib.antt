@@ -1,0 +1,3 @@
+mod WalkLemmas
+mod NodeLemmas
+mod FoundLemmas

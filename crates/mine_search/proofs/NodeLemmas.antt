@@ -1,0 +1,173 @@
+-- What is found below a node so far, and the nodes that extend it.
+use Rattle.std.proofs.Common.{◌≡◌, ℕ, ◌+◌, ◌<◌, ◌≤◌, Bool, true, false, not, suc, List, [], ◌∷◌, ◌++◌, length, get_or, take, map, refl, sym, ap, ◌∙◌, subst, inl, inr, arith, length-append, append_assoc}
+use Rattle.std.specs.Prelude.{Err, OnOk, Result}
+use Rattle.basket_core.specs.declared.fault.MineFault.{MineFault}
+use Rattle.basket_core.specs.declared.fault.MineFault.TheVariants.{TooMany}
+use Rattle.std.specs.List.{filter, flat_map, sum_by}
+use Rattle.std.proofs.lemmas.Bool.{le-leb, leb-true}
+use Rattle.std.proofs.lemmas.List.{append-nil, length-map, length-take-le, map-append, take_all, take_more}
+use Rattle.std.proofs.lemmas.List.Concat.{length-flat_map}
+use Rattle.std.proofs.lemmas.List.Filters.{length-filter_both}
+use Rattle.std.proofs.lemmas.List.Folds.{length-flat_map-take}
+use Rattle.std.proofs.lemmas.List.Sums.{sum_by-take-le, sum_by_more}
+use Rattle.std.proofs.lemmas.Grind.{flat_map-append}
+use Rattle.basket_sets.specs.declared.counted.Counted.{Counted}
+use Rattle.basket_lists.specs.CountedSets.{set_at}
+use Rattle.basket_lists.proofs.theory.Places.{set_added, set_kept}
+use Rattle.basket_sets.specs.Itemset.{with_item}
+use Rattle.basket_sets.proofs.theory.Members.{Member}
+use Rattle.basket_sets.proofs.theory.Rising.{Member-from_has, has_place}
+use Rattle.basket_ranks.specs.Codes.{MOST_RANKS}
+use Rattle.mine_search.specs.Node.{Node, Supports, child, is_met, kept, sets_at, work_at}
+use Rattle.mine_search.specs.Search.{Adds, AreTooMany, FindsAll, GoesOn, IsDone, IsNode, IsOf, Reached, TellsAtMost, found_at}
+use Rattle.mine_search.specs.Walk.{kept_below}
+use Rattle.mine_search.proofs.WalkLemmas.{branch, branch_work, kept_before, kept_few, kept_lower, kept_with, sets_are_branches, work_is_branches}
+
+-- a set that is added, with so much work
+pub adds_one : (one : Counted) (work : ℕ) (before after : Reached) → after.sets ≡ before.sets ++ one ∷ [] → after.work ≡ before.work + work → after.told ≡ before.told + 1 → after.is_over ≡ false
+    → work < 4294967296 → GoesOn before → Adds (one ∷ []) work before after
+adds_one one work before after sets worked told over few going = record {
+  sets = sets;
+  worked = worked;
+  told = told;
+  going = record { going = over; few = omega (arith, worked, few, going.few, ap length sets, length-append before.sets (one ∷ [])) };
+}
+
+-- a search that fails
+pub fails : {P A : Type 0} (gives : P → Node → Type 0) (cost : Supports → List ℕ → ℕ → ℕ) (base : P) (set : List ℕ) (before after : Reached) (result : Result A MineFault) (fault : MineFault) → result ≡ Err fault
+    → ((limit : ℕ) → fault ≡ TooMany limit → (node : Node) → IsOf gives base set node → AreTooMany limit before after node)
+    → ((node : Node) → IsOf gives base set node → TellsAtMost before after node) → after.limit ≡ before.limit
+    → IsDone gives cost base set before after result
+fails gives cost base set before after result fault is many most limit = record {
+  found = subst (λ r. OnOk r ((node : Node) → IsOf gives base set node → FindsAll cost before after node)) (sym is) tt;
+  too_many = λ n e. many n (let both = sym is ∙ e in cc);
+  at_most = most;
+  limit = limit;
+}
+
+-- sets that were found one after another
+pub adds_both : {first second : List Counted} {one two : ℕ} {before mid after : Reached} → Adds first one before mid → Adds second two mid after → Adds (first ++ second) (one + two) before after
+adds_both {first} {second} {one} {two} {before} {mid} {after} p q = record {
+  sets = q.sets ∙ ap (λ l. l ++ second) p.sets ∙ append_assoc before.sets first second;
+  worked = omega (arith, p.worked, q.worked);
+  told = omega (arith, p.told, q.told, length-append first second);
+  going = q.going;
+}
+
+module _ (cost : Supports → List ℕ → ℕ → ℕ) (node : Node) where
+  abbrev test : List ℕ → Bool
+  test = is_met node.over
+
+  -- ---- what is found by the first ranks
+
+  abbrev pub found_by : List ℕ → List (List ℕ)
+  found_by ranks = flat_map (branch test node.set) ranks
+
+  abbrev pub FindsPart : ℕ → Reached → Reached → Type 0
+  FindsPart i before now = Adds (map (found_at node.over) (found_by (take i (kept node)))) (sum_by (branch_work test (cost node.over) node.set) (take i (kept node))) before now
+
+  pub nothing_yet : (before : Reached) → GoesOn before → FindsPart 0 before before
+  nothing_yet before going = record { sets = sym (append-nil before.sets); worked = omega arith; told = omega arith; going = going }
+
+  -- at last it is all
+  pub part_is_all : (i : ℕ) (before now : Reached) → length (kept node) ≤ i → FindsPart i before now → FindsAll cost before now node
+  part_is_all i before now last part =
+      let all = take_all i (kept node) last in
+      let sets = ap found_by all ∙ sym (sets_are_branches test node.below node.set) in
+      let work = ap (sum_by (branch_work test (cost node.over) node.set)) all ∙ sym (work_is_branches test (cost node.over) node.below node.set) in
+      record {
+        sets = part.sets ∙ ap (λ l. before.sets ++ map (found_at node.over) l) sets;
+        worked = part.worked ∙ ap (λ n. before.work + n) work;
+        told = part.told ∙ ap (λ l. before.told + length (map (found_at node.over) l)) sets;
+        going = part.going;
+      }
+
+  pub part_at_most : (i : ℕ) (before now : Reached) → FindsPart i before now → TellsAtMost before now node
+  part_at_most i before now part =
+      let whole = ap length (sets_are_branches test node.below node.set) ∙ length-flat_map (branch test node.set) (kept node) in
+      let some = length-flat_map (branch test node.set) (take i (kept node)) in
+      let less = sum_by-take-le (λ rank. length (branch test node.set rank)) (kept node) i in
+      omega (arith, whole, some, less, part.told, length-map (found_by (take i (kept node))) (found_at node.over))
+
+  -- ---- one of the ranks
+
+  module _ (set : List ℕ) (is : IsNode set node) (i rank : ℕ) (inside : i < length (kept node)) (rank_is : rank ≡ get_or (kept node) i 0) where
+    lower : rank < node.below
+    lower = subst (λ n. n < node.below) (sym rank_is) (kept_lower test node.below node.set (get_or (kept node) i 0) (Member-from_has (kept node) (get_or (kept node) i 0) (has_place (kept node) i inside)))
+
+    -- the work for it is little
+    pub turn_few : rank + 1 < 4294967296
+    turn_few = omega (arith, lower, is.within, is.few)
+
+    -- what it adds is not beyond what is below the node
+    pub turn_within : (before now : Reached) → FindsPart i before now
+        → (now.told + (1 + length (sets_at (child node rank))) ≤ before.told + length (sets_at node))
+        × (length now.sets + (1 + length (sets_at (child node rank))) ≤ length before.sets + length (sets_at node))
+    turn_within before now part =
+        let whole = ap length (sets_are_branches test node.below node.set) in
+        let more = length-flat_map-take (branch test node.set) (kept node) i 0 inside in
+        let one = ap (λ r. length (branch test node.set r)) rank_is in
+        let long = length-map (found_by (take i (kept node))) (found_at node.over) in
+        let sets = ap length part.sets ∙ length-append before.sets (map (found_at node.over) (found_by (take i (kept node)))) in
+        (omega (arith, whole, more, one, long, part.told), omega (arith, whole, more, one, long, sets))
+
+    -- the part with its set and those below it
+    pub turn_adds : (one : Counted) (before now with_one after : Reached) → one ≡ found_at node.over (rank ∷ node.set) → FindsPart i before now → Adds (one ∷ []) (cost node.over node.set rank) now with_one
+        → FindsAll cost with_one after (child node rank) → FindsPart (i + 1) before after
+    turn_adds one before now with_one after is_one part adds below =
+        let found = found_at node.over in
+        let sum = adds_both part (adds_both adds below) in
+        let all = ap found_by (take_more (kept node) i 0 inside) ∙ flat_map-append (branch test node.set) (take i (kept node)) (get_or (kept node) i 0 ∷ [])
+        ∙ ap (λ l. found_by (take i (kept node)) ++ l) (ap (λ r. flat_map (branch test node.set) (r ∷ [])) (sym rank_is) ∙ append-nil (branch test node.set rank)) in
+        let sets : map found (found_by (take i (kept node))) ++ (one ∷ map found (sets_at (child node rank))) ≡ map found (found_by (take (i + 1) (kept node))) =
+        ap (λ x. map found (found_by (take i (kept node))) ++ (x ∷ map found (sets_at (child node rank)))) is_one
+        ∙ sym (ap (map found) all ∙ map-append found (found_by (take i (kept node))) (branch test node.set rank)) in
+        let more = sum_by_more (branch_work test (cost node.over) node.set) (kept node) i 0 inside in
+        record {
+          sets = sum.sets ∙ ap (λ l. before.sets ++ l) sets;
+          worked = omega (arith, sum.worked, more, ap (branch_work test (cost node.over) node.set) rank_is);
+          told = sum.told ∙ ap (λ l. before.told + length l) sets;
+          going = sum.going;
+        }
+
+    -- ---- the node that extends this one
+
+    -- what is frequent with two ranks is frequent with one
+    falls : (other : ℕ) → test (other ∷ rank ∷ node.set) ≡ true → test (other ∷ node.set) ≡ true
+    falls other h = le-leb node.over.least (node.over.support (other ∷ node.set))
+        (let less = is.falls rank other node.set in let enough = leb-true node.over.least (node.over.support (other ∷ rank ∷ node.set)) h in omega arith)
+
+    -- it has fewer ranks
+    pub fewer : length (kept (child node rank)) < length (kept node)
+    fewer =
+        let most : i ≤ length (kept node) = omega (arith, inside) in
+        let with_it = kept_with test rank node.set falls rank in
+        let before_it = sym (length-take-le i (kept node) most) ∙ ap length (kept_before test node.below node.set i inside) ∙ ap (λ r. length (kept_below test r node.set)) (sym rank_is) in
+        let less = length-filter_both (λ other. test (other ∷ rank ∷ node.set)) (λ other. not (test (other ∷ rank ∷ node.set))) (λ other. refl) (kept_below test rank node.set) in
+        omega (arith, ap length with_it, before_it, less, inside)
+
+    -- its set stands among those that were found, and the search goes on below it
+    pub record IsExtended (one : Counted) (longer : List ℕ) : Type 0 where
+      pub found : one ≡ found_at node.over (rank ∷ node.set)
+      pub inner : IsNode longer (child node rank)
+
+    pub extended : {longer item count : ℕ} {before now : Reached} {with_one : List Counted} (place : ℕ)
+        → place < length before.sets → set ≡ set_at before.sets place → item ≡ get_or node.over.items rank 0 → count ≡ node.over.support (rank ∷ node.set) → FindsPart i before now
+        → longer ≡ length now.sets → with_one ≡ now.sets ++ record { set = with_item item (set_at now.sets place); count = count } ∷ []
+        → IsExtended (record { set = with_item item (set_at now.sets place); count = count }) (set_at with_one longer)
+    extended {longer} {item} {count} {before} {now} {with_one} place here of_set is_item is_count part at adds =
+        let named = ap (with_item item) (set_kept before.sets (map (found_at node.over) (found_by (take i (kept node)))) now.sets place here part.sets ∙ sym of_set) ∙ ap (λ x. with_item x set) is_item in
+        let items_are = named ∙ ap (with_item (get_or node.over.items rank 0)) is.of_set in
+        record {
+          found = λ k. record { set = items_are k; count = is_count k };
+          inner = record {
+            falls = is.falls;
+            of_set = set_added now.sets with_one (record { set = with_item item (set_at now.sets place); count = count }) longer at adds ∙ items_are;
+            few = is.few;
+            within = (let low = lower in let most = is.within in omega arith);
+          };
+        }
+
+-- nothing is found below a node without ranks
+pub finds_none : (cost : Supports → List ℕ → ℕ → ℕ) (node : Node) → kept node ≡ [] → (now : Reached) → GoesOn now → FindsAll cost now now node
+finds_none cost node none now going = part_is_all cost node 0 now now (omega (arith, ap length none)) (nothing_yet cost node now going)

@@ -1,0 +1,10 @@
+//! A search for frequent sets, depth first, over conditional databases of any kind.
+#![tactic(auto)]
+
+mod mined;
+mod projected;
+mod search;
+
+pub use mined::Mined;
+pub use projected::Projected;
+pub use search::extend;
