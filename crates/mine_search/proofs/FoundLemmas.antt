@@ -1,12 +1,12 @@
 -- What a search finds: each set that passes the test, once.
-use Rattle.std.proofs.Common.{◌≡◌, ◌≢◌, ℕ, zero, suc, ◌<◌, ◌≤◌, Bool, true, false, List, [], ◌∷◌, ◌++◌, ◌⊎◌, length, map, cond, refl, sym, ap, ◌∙◌, subst, inl, inr, arith, append_assoc}
+use Rattle.std.proofs.Common.{◌≡◌, ◌≢◌, ℕ, zero, suc, ◌<◌, ◌≤◌, Bool, true, false, List, [], ◌∷◌, ◌++◌, ◌⊎◌, length, cond, refl, sym, ap, ◌∙◌, subst, inl, inr, arith, append_assoc}
 use Rattle.std.specs.Prelude.{nat_eq}
 use Rattle.std.specs.Cmp.Lexicographic.{pointwise, bytes_decides}
 use Rattle.std.specs.List.{IsDistinct}
 use Rattle.std.proofs.lemmas.Bool.{cases_Bool, cases_eq}
 use Rattle.basket_sets.specs.Itemset.{IsRising}
-use Rattle.basket_sets.proofs.theory.Members.{Member, All-from_Member, at_Member, Contains-from_Member, Member-append, Member-append_left, Member-append_right, Member-from_map, Member-map}
-use Rattle.basket_sets.proofs.theory.Rising.{nil_rises, cons_rises, contains_each, first_below, rest_rises}
+use Rattle.basket_sets.proofs.theory.Members.{Member, All-from_Member, at_Member, Member-append, Member-append_left, Member-append_right}
+use Rattle.basket_sets.proofs.theory.Rising.{nil_rises, cons_rises, first_below, rest_rises}
 use Rattle.mine_search.specs.Walk.{sets_below}
 
 apart : (a b : List ℕ) → a ≢ b → pointwise nat_eq a b ≡ false
@@ -161,4 +161,3 @@ module _ (test : List ℕ → Bool) where
       has_rank true found (inl is) = subst (Member rank) is (inl refl)
       has_rank true found (inr d) = keeps rank (rank ∷ set) found rank d (inl refl)
       has_rank false found d = absurd d
-

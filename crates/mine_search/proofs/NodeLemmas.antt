@@ -1,9 +1,9 @@
 -- What is found below a node so far, and the nodes that extend it.
-use Rattle.std.proofs.Common.{◌≡◌, ℕ, ◌+◌, ◌<◌, ◌≤◌, Bool, true, false, not, suc, List, [], ◌∷◌, ◌++◌, length, get_or, take, map, refl, sym, ap, ◌∙◌, subst, inl, inr, arith, length-append, append_assoc}
+use Rattle.std.proofs.Common.{◌≡◌, ℕ, ◌+◌, ◌<◌, ◌≤◌, Bool, true, false, not, List, [], ◌∷◌, ◌++◌, length, get_or, take, map, refl, sym, ap, ◌∙◌, subst, arith, length-append, append_assoc}
 use Rattle.std.specs.Prelude.{Err, OnOk, Result}
 use Rattle.basket_core.specs.declared.fault.MineFault.{MineFault}
 use Rattle.basket_core.specs.declared.fault.MineFault.TheVariants.{TooMany}
-use Rattle.std.specs.List.{filter, flat_map, sum_by}
+use Rattle.std.specs.List.{flat_map, sum_by}
 use Rattle.std.proofs.lemmas.Bool.{le-leb, leb-true}
 use Rattle.std.proofs.lemmas.List.{append-nil, length-map, length-take-le, map-append, take_all, take_more}
 use Rattle.std.proofs.lemmas.List.Concat.{length-flat_map}
@@ -15,13 +15,11 @@ use Rattle.basket_sets.specs.declared.counted.Counted.{Counted}
 use Rattle.basket_lists.specs.CountedSets.{set_at}
 use Rattle.basket_lists.proofs.theory.Places.{set_added, set_kept}
 use Rattle.basket_sets.specs.Itemset.{with_item}
-use Rattle.basket_sets.proofs.theory.Members.{Member}
 use Rattle.basket_sets.proofs.theory.Rising.{Member-from_has, has_place}
-use Rattle.basket_ranks.specs.Codes.{MOST_RANKS}
-use Rattle.mine_search.specs.Node.{Node, Supports, child, is_met, kept, sets_at, work_at}
+use Rattle.mine_search.specs.Node.{Node, Supports, child, is_met, kept, sets_at}
 use Rattle.mine_search.specs.Search.{Adds, AreTooMany, FindsAll, GoesOn, IsDone, IsNode, IsOf, Reached, TellsAtMost, found_at}
 use Rattle.mine_search.specs.Walk.{kept_below}
-use Rattle.mine_search.proofs.WalkLemmas.{branch, branch_work, kept_before, kept_few, kept_lower, kept_with, sets_are_branches, work_is_branches}
+use Rattle.mine_search.proofs.WalkLemmas.{branch, branch_work, kept_before, kept_lower, kept_with, sets_are_branches, work_is_branches}
 
 -- a set that is added, with so much work
 pub adds_one : (one : Counted) (work : ℕ) (before after : Reached) → after.sets ≡ before.sets ++ one ∷ [] → after.work ≡ before.work + work → after.told ≡ before.told + 1 → after.is_over ≡ false
@@ -89,84 +87,108 @@ module _ (cost : Supports → List ℕ → ℕ → ℕ) (node : Node) where
       let less = sum_by-take-le (λ rank. length (branch test node.set rank)) (kept node) i in
       omega (arith, whole, some, less, part.told, length-map (found_by (take i (kept node))) (found_at node.over))
 
-  -- ---- one of the ranks
+-- one of the ranks that extend a node's set, at a place
+pub record IsTurn (set : List ℕ) (node : Node) (i rank : ℕ) : Type 0 where
+  pub is : IsNode set node
+  pub here : i < length (kept node)
+  pub rank_is : rank ≡ get_or (kept node) i 0
 
-  module _ (set : List ℕ) (is : IsNode set node) (i rank : ℕ) (inside : i < length (kept node)) (rank_is : rank ≡ get_or (kept node) i 0) where
-    lower : rank < node.below
-    lower = subst (λ n. n < node.below) (sym rank_is) (kept_lower test node.below node.set (get_or (kept node) i 0) (Member-from_has (kept node) (get_or (kept node) i 0) (has_place (kept node) i inside)))
+pub turn_at : {P : Type 0} {gives : P → Node → Type 0} {base : P} {set : List ℕ} {node : Node} (ranks : P → List ℕ) → ((base : P) (node : Node) → gives base node → ranks base ≡ kept node)
+    → IsOf gives base set node → (i : ℕ) → i < length (ranks base) → IsTurn set node i (get_or (ranks base) i 0)
+turn_at {P} {gives} {base} {set} {node} ranks law of i inside = record {
+  is = of.is;
+  here = subst (λ l. i < length l) (law base node of.given) inside;
+  rank_is = ap (λ l. get_or l i 0) (law base node of.given);
+}
 
-    -- the work for it is little
-    pub turn_few : rank + 1 < 4294967296
-    turn_few = omega (arith, lower, is.within, is.few)
+module _ (cost : Supports → List ℕ → ℕ → ℕ) {set : List ℕ} {node : Node} {i rank : ℕ} (turn : IsTurn set node i rank) where
+  abbrev passes : List ℕ → Bool
+  passes = is_met node.over
 
-    -- what it adds is not beyond what is below the node
-    pub turn_within : (before now : Reached) → FindsPart i before now
-        → (now.told + (1 + length (sets_at (child node rank))) ≤ before.told + length (sets_at node))
-        × (length now.sets + (1 + length (sets_at (child node rank))) ≤ length before.sets + length (sets_at node))
-    turn_within before now part =
-        let whole = ap length (sets_are_branches test node.below node.set) in
-        let more = length-flat_map-take (branch test node.set) (kept node) i 0 inside in
-        let one = ap (λ r. length (branch test node.set r)) rank_is in
-        let long = length-map (found_by (take i (kept node))) (found_at node.over) in
-        let sets = ap length part.sets ∙ length-append before.sets (map (found_at node.over) (found_by (take i (kept node)))) in
-        (omega (arith, whole, more, one, long, part.told), omega (arith, whole, more, one, long, sets))
+  is : IsNode set node
+  is = turn.is
 
-    -- the part with its set and those below it
-    pub turn_adds : (one : Counted) (before now with_one after : Reached) → one ≡ found_at node.over (rank ∷ node.set) → FindsPart i before now → Adds (one ∷ []) (cost node.over node.set rank) now with_one
-        → FindsAll cost with_one after (child node rank) → FindsPart (i + 1) before after
-    turn_adds one before now with_one after is_one part adds below =
-        let found = found_at node.over in
-        let sum = adds_both part (adds_both adds below) in
-        let all = ap found_by (take_more (kept node) i 0 inside) ∙ flat_map-append (branch test node.set) (take i (kept node)) (get_or (kept node) i 0 ∷ [])
-        ∙ ap (λ l. found_by (take i (kept node)) ++ l) (ap (λ r. flat_map (branch test node.set) (r ∷ [])) (sym rank_is) ∙ append-nil (branch test node.set rank)) in
-        let sets : map found (found_by (take i (kept node))) ++ (one ∷ map found (sets_at (child node rank))) ≡ map found (found_by (take (i + 1) (kept node))) =
-        ap (λ x. map found (found_by (take i (kept node))) ++ (x ∷ map found (sets_at (child node rank)))) is_one
-        ∙ sym (ap (map found) all ∙ map-append found (found_by (take i (kept node))) (branch test node.set rank)) in
-        let more = sum_by_more (branch_work test (cost node.over) node.set) (kept node) i 0 inside in
-        record {
-          sets = sum.sets ∙ ap (λ l. before.sets ++ l) sets;
-          worked = omega (arith, sum.worked, more, ap (branch_work test (cost node.over) node.set) rank_is);
-          told = sum.told ∙ ap (λ l. before.told + length l) sets;
-          going = sum.going;
-        }
+  rank_is : rank ≡ get_or (kept node) i 0
+  rank_is = turn.rank_is
 
-    -- ---- the node that extends this one
+  inside : i < length (kept node)
+  inside = turn.here
 
-    -- what is frequent with two ranks is frequent with one
-    falls : (other : ℕ) → test (other ∷ rank ∷ node.set) ≡ true → test (other ∷ node.set) ≡ true
-    falls other h = le-leb node.over.least (node.over.support (other ∷ node.set))
-        (let less = is.falls rank other node.set in let enough = leb-true node.over.least (node.over.support (other ∷ rank ∷ node.set)) h in omega arith)
+  lower : rank < node.below
+  lower = subst (λ n. n < node.below) (sym rank_is) (kept_lower passes node.below node.set (get_or (kept node) i 0) (Member-from_has (kept node) (get_or (kept node) i 0) (has_place (kept node) i inside)))
 
-    -- it has fewer ranks
-    pub fewer : length (kept (child node rank)) < length (kept node)
-    fewer =
-        let most : i ≤ length (kept node) = omega (arith, inside) in
-        let with_it = kept_with test rank node.set falls rank in
-        let before_it = sym (length-take-le i (kept node) most) ∙ ap length (kept_before test node.below node.set i inside) ∙ ap (λ r. length (kept_below test r node.set)) (sym rank_is) in
-        let less = length-filter_both (λ other. test (other ∷ rank ∷ node.set)) (λ other. not (test (other ∷ rank ∷ node.set))) (λ other. refl) (kept_below test rank node.set) in
-        omega (arith, ap length with_it, before_it, less, inside)
+  -- the work for it is little
+  pub turn_few : rank + 1 < 4294967296
+  turn_few = omega (arith, lower, is.within, is.few)
 
-    -- its set stands among those that were found, and the search goes on below it
-    pub record IsExtended (one : Counted) (longer : List ℕ) : Type 0 where
-      pub found : one ≡ found_at node.over (rank ∷ node.set)
-      pub inner : IsNode longer (child node rank)
+  -- what it adds is not beyond what is below the node
+  pub turn_within : (before now : Reached) → FindsPart cost node i before now
+      → (now.told + (1 + length (sets_at (child node rank))) ≤ before.told + length (sets_at node))
+      × (length now.sets + (1 + length (sets_at (child node rank))) ≤ length before.sets + length (sets_at node))
+  turn_within before now part =
+      let whole = ap length (sets_are_branches passes node.below node.set) in
+      let more = length-flat_map-take (branch passes node.set) (kept node) i 0 inside in
+      let one = ap (λ r. length (branch passes node.set r)) rank_is in
+      let long = length-map (found_by cost node (take i (kept node))) (found_at node.over) in
+      let sets = ap length part.sets ∙ length-append before.sets (map (found_at node.over) (found_by cost node (take i (kept node)))) in
+      (omega (arith, whole, more, one, long, part.told), omega (arith, whole, more, one, long, sets))
 
-    pub extended : {longer item count : ℕ} {before now : Reached} {with_one : List Counted} (place : ℕ)
-        → place < length before.sets → set ≡ set_at before.sets place → item ≡ get_or node.over.items rank 0 → count ≡ node.over.support (rank ∷ node.set) → FindsPart i before now
-        → longer ≡ length now.sets → with_one ≡ now.sets ++ record { set = with_item item (set_at now.sets place); count = count } ∷ []
-        → IsExtended (record { set = with_item item (set_at now.sets place); count = count }) (set_at with_one longer)
-    extended {longer} {item} {count} {before} {now} {with_one} place here of_set is_item is_count part at adds =
-        let named = ap (with_item item) (set_kept before.sets (map (found_at node.over) (found_by (take i (kept node)))) now.sets place here part.sets ∙ sym of_set) ∙ ap (λ x. with_item x set) is_item in
-        let items_are = named ∙ ap (with_item (get_or node.over.items rank 0)) is.of_set in
-        record {
-          found = λ k. record { set = items_are k; count = is_count k };
-          inner = record {
-            falls = is.falls;
-            of_set = set_added now.sets with_one (record { set = with_item item (set_at now.sets place); count = count }) longer at adds ∙ items_are;
-            few = is.few;
-            within = (let low = lower in let most = is.within in omega arith);
-          };
-        }
+  -- the part with its set and those below it
+  pub turn_adds : (one : Counted) (before now with_one after : Reached) → one ≡ found_at node.over (rank ∷ node.set) → FindsPart cost node i before now → Adds (one ∷ []) (cost node.over node.set rank) now with_one
+      → FindsAll cost with_one after (child node rank) → FindsPart cost node (i + 1) before after
+  turn_adds one before now with_one after is_one part adds below =
+      let found = found_at node.over in
+      let sum = adds_both part (adds_both adds below) in
+      let all = ap (found_by cost node) (take_more (kept node) i 0 inside) ∙ flat_map-append (branch passes node.set) (take i (kept node)) (get_or (kept node) i 0 ∷ [])
+      ∙ ap (λ l. found_by cost node (take i (kept node)) ++ l) (ap (λ r. flat_map (branch passes node.set) (r ∷ [])) (sym rank_is) ∙ append-nil (branch passes node.set rank)) in
+      let sets : map found (found_by cost node (take i (kept node))) ++ (one ∷ map found (sets_at (child node rank))) ≡ map found (found_by cost node (take (i + 1) (kept node))) =
+      ap (λ x. map found (found_by cost node (take i (kept node))) ++ (x ∷ map found (sets_at (child node rank)))) is_one
+      ∙ sym (ap (map found) all ∙ map-append found (found_by cost node (take i (kept node))) (branch passes node.set rank)) in
+      let more = sum_by_more (branch_work passes (cost node.over) node.set) (kept node) i 0 inside in
+      record {
+        sets = sum.sets ∙ ap (λ l. before.sets ++ l) sets;
+        worked = omega (arith, sum.worked, more, ap (branch_work passes (cost node.over) node.set) rank_is);
+        told = sum.told ∙ ap (λ l. before.told + length l) sets;
+        going = sum.going;
+      }
+
+  -- ---- the node that extends this one
+
+  -- what is frequent with two ranks is frequent with one
+  falls : (other : ℕ) → passes (other ∷ rank ∷ node.set) ≡ true → passes (other ∷ node.set) ≡ true
+  falls other h = le-leb node.over.least (node.over.support (other ∷ node.set))
+      (let less = is.falls rank other node.set in let enough = leb-true node.over.least (node.over.support (other ∷ rank ∷ node.set)) h in omega arith)
+
+  -- it has fewer ranks
+  pub fewer : length (kept (child node rank)) < length (kept node)
+  fewer =
+      let most : i ≤ length (kept node) = omega (arith, inside) in
+      let with_it = kept_with passes rank node.set falls rank in
+      let before_it = sym (length-take-le i (kept node) most) ∙ ap length (kept_before passes node.below node.set i inside) ∙ ap (λ r. length (kept_below passes r node.set)) (sym rank_is) in
+      let less = length-filter_both (λ other. passes (other ∷ rank ∷ node.set)) (λ other. not (passes (other ∷ rank ∷ node.set))) (λ other. refl) (kept_below passes rank node.set) in
+      omega (arith, ap length with_it, before_it, less, inside)
+
+  -- its set stands among those that were found, and the search goes on below it
+  pub record IsExtended (one : Counted) (longer : List ℕ) : Type 0 where
+    pub found : one ≡ found_at node.over (rank ∷ node.set)
+    pub inner : IsNode longer (child node rank)
+
+  pub extended : {longer item count : ℕ} {before now : Reached} {with_one : List Counted} (place : ℕ)
+      → place < length before.sets → set ≡ set_at before.sets place → item ≡ get_or node.over.items rank 0 → count ≡ node.over.support (rank ∷ node.set) → FindsPart cost node i before now
+      → longer ≡ length now.sets → with_one ≡ now.sets ++ record { set = with_item item (set_at now.sets place); count = count } ∷ []
+      → IsExtended (record { set = with_item item (set_at now.sets place); count = count }) (set_at with_one longer)
+  extended {longer} {item} {count} {before} {now} {with_one} place here of_set is_item is_count part at adds =
+      let named = ap (with_item item) (set_kept before.sets (map (found_at node.over) (found_by cost node (take i (kept node)))) now.sets place here part.sets ∙ sym of_set) ∙ ap (λ x. with_item x set) is_item in
+      let items_are = named ∙ ap (with_item (get_or node.over.items rank 0)) is.of_set in
+      record {
+        found = λ k. record { set = items_are k; count = is_count k };
+        inner = record {
+          falls = is.falls;
+          of_set = set_added now.sets with_one (record { set = with_item item (set_at now.sets place); count = count }) longer at adds ∙ items_are;
+          few = is.few;
+          within = (let low = lower in let most = is.within in omega arith);
+        };
+      }
 
 -- nothing is found below a node without ranks
 pub finds_none : (cost : Supports → List ℕ → ℕ → ℕ) (node : Node) → kept node ≡ [] → (now : Reached) → GoesOn now → FindsAll cost now now node

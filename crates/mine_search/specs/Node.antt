@@ -1,5 +1,5 @@
 -- A set of ranks, and the ranks that may extend it.
-use Rattle.std.specs.Prelude.{ℕ, Bool, List, ◌∷◌, length, nat_le}
+use Rattle.std.specs.Prelude.{ℕ, Bool, List, ◌∷◌, nat_le}
 use Rattle.mine_search.specs.Walk.{kept_below, sets_below, work_below}
 
 -- the support of each set of ranks, the least support of a frequent set, and the item of each rank
@@ -32,3 +32,7 @@ sets_at node = sets_below (is_met node.over) node.below node.set
 
 abbrev pub work_at : (Supports → List ℕ → ℕ → ℕ) → Node → ℕ
 work_at cost node = work_below (cost node.over) (is_met node.over) node.below node.set
+
+-- what served before serves now
+abbrev pub ServesOn : {S P : Type 0} → (S → P → Type 0) → S → S → Type 0
+ServesOn {S} {P} serves before now = (base : P) → serves before base → serves now base

@@ -1,6 +1,6 @@
 //! Conditional databases, of any kind.
 ghost use Rattle.std.specs.Prelude.{◌≡◌, ◌≤◌, ◌<◌, ◌+◌, ◌∷◌, ℕ, List, [], IfNone, IfOk, IfSome, OnOk, length, slice_index_or};
-ghost use Rattle.mine_search.specs.Node.{Node, Supports, child, kept};
+ghost use Rattle.mine_search.specs.Node.{Node, ServesOn, Supports, child, kept};
 
 use std::alloc::{AllocError, Global};
 
@@ -59,7 +59,7 @@ pub trait Projected: Drop + Sized {
         ensures work { OnOk result ((node : Node) → gives self.now node
             → work.new ≡ work.old + cost node.over node.set (slice_index_or (ranks self.now) at 0)) }
         ensures inner { IfOk result (λ below. IfSome below (serves scratch.new)) }
-        ensures lent { OnOk result ((base : Self) → serves scratch.old base → serves scratch.new base) };
+        ensures lent { OnOk result (ServesOn serves scratch.old scratch.new) };
 
     /// The ranks are those with which the set is frequent.
     ghost ranks_are: { (base : Self) (node : Node) → gives base node → ranks base ≡ kept node };
