@@ -1,3 +1,4 @@
 mod WalkLemmas
 mod NodeLemmas
 mod FoundLemmas
+mod BasketLemmas

@@ -117,10 +117,6 @@ module _ (cost : Supports → List ℕ → ℕ → ℕ) {set : List ℕ} {node :
   lower : rank < node.below
   lower = subst (λ n. n < node.below) (sym rank_is) (kept_lower passes node.below node.set (get_or (kept node) i 0) (Member-from_has (kept node) (get_or (kept node) i 0) (has_place (kept node) i inside)))
 
-  -- the work for it is little
-  pub turn_few : rank + 1 < 4294967296
-  turn_few = omega (arith, lower, is.within, is.few)
-
   -- what it adds is not beyond what is below the node
   pub turn_within : (before now : Reached) → FindsPart cost node i before now
       → (now.told + (1 + length (sets_at (child node rank))) ≤ before.told + length (sets_at node))

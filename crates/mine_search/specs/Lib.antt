@@ -1,3 +1,4 @@
 pub mod Walk
 pub mod Node
 pub mod Search
+pub mod Baskets

@@ -1,10 +1,12 @@
 //! A search for frequent sets, depth first, over conditional databases of any kind.
 #![tactic(auto)]
 
+mod baskets;
 mod mined;
 mod projected;
 mod search;
 
+pub use baskets::{Baskets, Extension};
 pub use mined::Mined;
 pub use projected::Projected;
 pub use search::extend;

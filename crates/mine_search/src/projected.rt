@@ -58,12 +58,10 @@ pub trait Projected: Drop + Sized {
             → kept (child node (slice_index_or (ranks self.now) at 0)) ≡ [])) }
         ensures work { OnOk result ((node : Node) → gives self.now node
             → work.new ≡ work.old + cost node.over node.set (slice_index_or (ranks self.now) at 0)) }
+        ensures little { OnOk result (work.new ≤ work.old + 4294967295) }
         ensures inner { IfOk result (λ below. IfSome below (serves scratch.new)) }
         ensures lent { OnOk result (ServesOn serves scratch.old scratch.new) };
 
     /// The ranks are those with which the set is frequent.
     ghost ranks_are: { (base : Self) (node : Node) → gives base node → ranks base ≡ kept node };
-
-    /// The work for one set is less than the number of ranks.
-    ghost cheap: { (over : Supports) (set : List ℕ) (rank : ℕ) → cost over set rank ≤ rank + 1 };
 }

@@ -5,7 +5,7 @@ use Rattle.basket_sets.specs.declared.counted.Counted.{Counted}
 use Rattle.basket_lists.specs.CountedSets.{set_at}
 use Rattle.mine_search.specs.Node.{Node, child}
 use Rattle.mine_search.specs.Search.{FindsAll, IsOf, reached}
-use Rattle.mine_search.proofs.NodeLemmas.{FindsPart, adds_one, extended, fails, fewer, finds_none, part_at_most, part_is_all, turn_adds, turn_at, turn_few, turn_within}
+use Rattle.mine_search.proofs.NodeLemmas.{FindsPart, adds_one, extended, fails, fewer, finds_none, part_at_most, part_is_all, turn_adds, turn_at, turn_within}
 use Rattle.mine_search.proofs.search.+extend.Goals as goal
 use Rattle.mine_search.proofs.search.+extend.Goals.{in-Some+in_ok-extend, in_default}
 
@@ -46,7 +46,7 @@ extend-requires g t c = λ κs lives.
     let with_one = at (record { sets = c.add_longer.new.self.sets; work = c.narrowed.new.work }) c.add_longer.new.tally in
     let adds = adds_one one (g.P.Projected.cost node.over node.set rank) (at now c.loop-at.tally) with_one c.in_ok-longer.ensures.sets
     (omega (arith, c.in_ok-below.ensures.work node is.given, c.add_longer.ensures.work)) c.in_ok-longer.ensures.told c.in_ok-longer.ensures.going_on
-    (omega (arith, g.met.P.Projected.cheap node.over node.set rank, turn_few g.P.Projected.cost turn)) c.loop-at.invariant.going in
+    (omega (arith, c.in_ok-below.ensures.work node is.given, c.in_ok-below.ensures.little)) c.loop-at.invariant.going in
     let below = extended g.P.Projected.cost turn c.args.place c.requires.found refl (c.item-item.ensures node is.given) (c.support-support.ensures node is.given) (c.loop-at.invariant.found node is)
     c.in_ok-longer.ensures.place c.in_ok-longer.ensures.sets in
     let inner : g.P.Projected.gives c.in-Some.inner (child node rank) = (rw c.in-Some.is at c.in_ok-below.ensures.below) node is.given in
@@ -97,7 +97,7 @@ loop-at-preserved g t c =
     let part = c.loop-at.invariant.found node is in
     let adds = adds_one one (g.P.Projected.cost node.over node.set rank) (at now c.loop-at.tally) with_one c.in_ok-longer.ensures.sets
     (omega (arith, c.in_ok-below.ensures.work node is.given, c.add_longer.ensures.work)) c.in_ok-longer.ensures.told c.in_ok-longer.ensures.going_on
-    (omega (arith, g.met.P.Projected.cheap node.over node.set rank, turn_few g.P.Projected.cost turn)) c.loop-at.invariant.going in
+    (omega (arith, c.in_ok-below.ensures.work node is.given, c.in_ok-below.ensures.little)) c.loop-at.invariant.going in
     let all = extended g.P.Projected.cost turn c.args.place c.requires.found refl (c.item-item.ensures node is.given) (c.support-support.ensures node is.given) part
     c.in_ok-longer.ensures.place c.in_ok-longer.ensures.sets in
     let below : FindsAll g.P.Projected.cost with_one (at c.match-below.mined c.match-below.tally) (child node rank) = elim c.match-below.branch [
