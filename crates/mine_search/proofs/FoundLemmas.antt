@@ -3,10 +3,14 @@ use Rattle.std.proofs.Common.{◌≡◌, ◌≢◌, ℕ, zero, suc, ◌<◌, ◌
 use Rattle.std.specs.Prelude.{nat_eq}
 use Rattle.std.specs.Cmp.Lexicographic.{pointwise, bytes_decides}
 use Rattle.std.specs.List.{IsDistinct}
-use Rattle.std.proofs.lemmas.Bool.{cases_Bool, cases_eq}
-use Rattle.basket_sets.specs.Itemset.{IsRising}
-use Rattle.basket_sets.proofs.theory.Members.{Member, All-from_Member, at_Member, Member-append, Member-append_left, Member-append_right}
-use Rattle.basket_sets.proofs.theory.Rising.{nil_rises, cons_rises, first_below, rest_rises}
+use Rattle.std.proofs.lemmas.Bool.{cases_Bool, cases_eq, eq-eqb, eqb-true, le-leb, leb-true, true≢false}
+use Rattle.std.proofs.lemmas.List.Elements.{All-from_recursion}
+use Rattle.basket_sets.specs.Frequent.{IsNonemptySet}
+use Rattle.mine_search.specs.Class.{AreClass, class_sets, ends_in}
+use Rattle.mine_search.specs.Node.{Supports, is_met}
+use Rattle.basket_sets.specs.Itemset.{IsRising, contains}
+use Rattle.basket_sets.proofs.theory.Members.{Contains-from_Member, Member, All-from_Member, at_Member, Member-append, Member-append_left, Member-append_right}
+use Rattle.basket_sets.proofs.theory.Rising.{contains_each, nil_rises, cons_rises, first_below, rest_rises}
 use Rattle.mine_search.specs.Walk.{sets_below}
 
 apart : (a b : List ℕ) → a ≢ b → pointwise nat_eq a b ≡ false
@@ -161,3 +165,66 @@ module _ (test : List ℕ → Bool) where
       has_rank true found (inl is) = subst (Member rank) is (inl refl)
       has_rank true found (inr d) = keeps rank (rank ∷ set) found rank d (inl refl)
       has_rank false found d = absurd d
+
+  -- ---- the class of a rank
+
+  one_rises : (rank : ℕ) → IsRising (rank ∷ [])
+  one_rises rank = with_rises rank [] nil_rises (λ y m. absurd m)
+
+  one_above : (rank : ℕ) → AreAbove rank (rank ∷ [])
+  one_above rank = with_above rank [] (λ y m. absurd m)
+
+  pub class_distinct : (rank : ℕ) → IsDistinct (pointwise nat_eq) ((rank ∷ []) ∷ sets_below test rank (rank ∷ []))
+  unfolding IsDistinct
+  class_distinct rank = (
+    All-from_Member (λ y. pointwise nat_eq (rank ∷ []) y ≡ false) (sets_below test rank (rank ∷ [])) (λ y m. apart (rank ∷ []) y (λ e.
+        let longer = (from_sets rank (rank ∷ []) y (one_rises rank) (one_above rank) m).longer in
+        let same = ap length e in absurd (omega arith))),
+    sets_distinct rank (rank ∷ []) (one_rises rank) (one_above rank),
+  )
+
+  -- what extends a set ends as the set does
+  ends : (below x : ℕ) (set found : List ℕ) (rank : ℕ) → Member found (sets_below test below (x ∷ set)) → ends_in rank (x ∷ set) ≡ true → ends_in rank found ≡ true
+  ends zero x set found rank m h = absurd m
+  ends (suc low) x set found rank m h = elim (Member-append found (sets_below test low (x ∷ set)) (by_rank (test (low ∷ x ∷ set)) low (x ∷ set)) m) [
+    | inl n ↦ ends low x set found rank n h
+    | inr n ↦ at (test (low ∷ x ∷ set)) (λ d. ends low low (x ∷ set) found rank d h) n
+  ]
+    where
+      at : (b : Bool) → (Member found (sets_below test low (low ∷ x ∷ set)) → ends_in rank found ≡ true) → Member found (by_rank b low (x ∷ set)) → ends_in rank found ≡ true
+      at true deeper (inl is) = subst (λ f. ends_in rank f ≡ true) is h
+      at true deeper (inr d) = deeper d
+      at false deeper d = absurd d
+
+  front_of : (rank : ℕ) (set : List ℕ) → ends_in rank set ≡ true → (front : List ℕ) × (set ≡ front ++ rank ∷ [])
+  front_of rank [] h = absurd (true≢false (sym h))
+  front_of rank (x ∷ []) h = ([], ap (λ r. r ∷ []) (eqb-true x rank h))
+  front_of rank (x ∷ y ∷ set) h = let p = front_of rank (y ∷ set) h in (x ∷ p.0, ap (λ s. x ∷ s) p.1)
+
+  pub class_sound : (rank : ℕ) → test (rank ∷ []) ≡ true → (set : List ℕ) → Member set ((rank ∷ []) ∷ sets_below test rank (rank ∷ [])) → IsNonemptySet set × (ends_in rank set ≡ true) × (test set ≡ true)
+  class_sound rank passes set (inl is) = subst (λ s. IsNonemptySet s × (ends_in rank s ≡ true) × (test s ≡ true)) is ((one_rises rank, λ e. absurd cc), eq-eqb rank rank refl, passes)
+  class_sound rank passes set (inr m) =
+      let f = from_sets rank (rank ∷ []) set (one_rises rank) (one_above rank) m in
+      ((f.rises, λ e. (let more = f.longer in let none = ap length e in absurd (omega arith))), ends rank rank [] set rank m (eq-eqb rank rank refl), f.passes)
+
+  pub class_complete : (falls : (a b : List ℕ) → test (a ++ b) ≡ true → test b ≡ true) (rank : ℕ) (set : List ℕ) → IsRising set → ends_in rank set ≡ true → test set ≡ true
+      → Member set ((rank ∷ []) ∷ sets_below test rank (rank ∷ []))
+  class_complete falls rank set up ends h =
+      let (front, is) = front_of rank set ends in
+      subst (λ s. Member s ((rank ∷ []) ∷ sets_below test rank (rank ∷ []))) (sym is) (at front (subst IsRising is up) (subst (λ s. test s ≡ true) is h))
+    where
+      at : (front : List ℕ) → IsRising (front ++ rank ∷ []) → test (front ++ rank ∷ []) ≡ true → Member (front ++ rank ∷ []) ((rank ∷ []) ∷ sets_below test rank (rank ∷ []))
+      at [] rises passes = inl refl
+      at (y ∷ ys) rises passes = inr (into_sets falls rank y ys (rank ∷ []) (front_rises (y ∷ ys) rank rises) (λ z m. front_below (y ∷ ys) rank rises z m) passes)
+
+-- a search lists a class, each set once
+pub class_is : (over : Supports) → ((set subset : List ℕ) → contains set subset ≡ true → over.support set ≤ over.support subset) → (rank : ℕ) → is_met over (rank ∷ []) ≡ true → AreClass over rank (class_sets over rank)
+class_is over fall rank passes = record {
+  distinct = class_distinct (is_met over) rank;
+  sound = All-from_recursion (λ set. IsNonemptySet set × (ends_in rank set ≡ true) × (is_met over set ≡ true)) (class_sets over rank) (All-from_Member _ (class_sets over rank) (class_sound (is_met over) rank passes));
+  complete = λ set n ends h. Contains-from_Member set (class_sets over rank) (class_complete (is_met over) falls rank set n.0 ends h);
+}
+  where
+    falls : (a b : List ℕ) → is_met over (a ++ b) ≡ true → is_met over b ≡ true
+    falls a b h = le-leb over.least (over.support b)
+        (let enough = leb-true over.least (over.support (a ++ b)) h in let less = fall (a ++ b) b (contains_each (a ++ b) b (λ z m. Member-append_right z a b m)) in omega arith)

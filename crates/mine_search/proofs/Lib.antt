@@ -2,3 +2,4 @@ mod WalkLemmas
 mod NodeLemmas
 mod FoundLemmas
 mod BasketLemmas
+mod ClassLemmas

@@ -16,7 +16,7 @@ use Rattle.basket_lists.specs.CountedSets.{set_at}
 use Rattle.basket_lists.proofs.theory.Places.{set_added, set_kept}
 use Rattle.basket_sets.specs.Itemset.{with_item}
 use Rattle.basket_sets.proofs.theory.Rising.{Member-from_has, has_place}
-use Rattle.mine_search.specs.Node.{Node, Supports, child, is_met, kept, sets_at}
+use Rattle.mine_search.specs.Node.{Node, Supports, child, is_met, kept, sets_at, work_at}
 use Rattle.mine_search.specs.Search.{Adds, AreTooMany, FindsAll, GoesOn, IsDone, IsNode, IsOf, Reached, TellsAtMost, found_at}
 use Rattle.mine_search.specs.Walk.{kept_below}
 use Rattle.mine_search.proofs.WalkLemmas.{branch, branch_work, kept_before, kept_lower, kept_with, sets_are_branches, work_is_branches}
@@ -189,3 +189,9 @@ module _ (cost : Supports → List ℕ → ℕ → ℕ) {set : List ℕ} {node :
 -- nothing is found below a node without ranks
 pub finds_none : (cost : Supports → List ℕ → ℕ → ℕ) (node : Node) → kept node ≡ [] → (now : Reached) → GoesOn now → FindsAll cost now now node
 finds_none cost node none now going = part_is_all cost node 0 now now (omega (arith, ap length none)) (nothing_yet cost node now going)
+
+pub no_sets : (node : Node) → kept node ≡ [] → sets_at node ≡ []
+no_sets node none = sets_are_branches (is_met node.over) node.below node.set ∙ ap (flat_map (branch (is_met node.over) node.set)) none
+
+pub no_work : (cost : Supports → List ℕ → ℕ → ℕ) (node : Node) → kept node ≡ [] → work_at cost node ≡ 0
+no_work cost node none = work_is_branches (is_met node.over) (cost node.over) node.below node.set ∙ ap (sum_by (branch_work (is_met node.over) (cost node.over) node.set)) none

@@ -96,6 +96,19 @@ module _ (test : List ℕ → Bool) where
           only true (inr z) = absurd z
           only false z = absurd z
 
+  -- the set is frequent with each
+  pub kept_passes : (below : ℕ) (set : List ℕ) (rank : ℕ) → Member rank (kept_below test below set) → test (rank ∷ set) ≡ true
+  kept_passes zero set rank m = absurd m
+  kept_passes (suc other) set rank m = elim (Member-append rank (kept_below test other set) (cond (test (other ∷ set)) (other ∷ []) []) m) [
+    | inl l ↦ kept_passes other set rank l
+    | inr r ↦ only (test (other ∷ set)) refl r
+  ]
+    where
+      only : (b : Bool) → test (other ∷ set) ≡ b → Member rank (cond b (other ∷ []) []) → test (rank ∷ set) ≡ true
+      only true h (inl e) = subst (λ r. test (r ∷ set) ≡ true) e h
+      only true h (inr z) = absurd z
+      only false h z = absurd z
+
   -- so there are at most so many
   pub kept_few : (below : ℕ) (set : List ℕ) → length (kept_below test below set) ≤ below
   kept_few zero set = omega arith

@@ -2,3 +2,4 @@ pub mod Walk
 pub mod Node
 pub mod Search
 pub mod Baskets
+pub mod Class

@@ -2,11 +2,13 @@
 #![tactic(auto)]
 
 mod baskets;
+mod classes;
 mod mined;
 mod projected;
 mod search;
 
 pub use baskets::{Baskets, Extension};
+pub use classes::class;
 pub use mined::Mined;
 pub use projected::Projected;
 pub use search::extend;
