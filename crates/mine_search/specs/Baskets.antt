@@ -7,7 +7,7 @@ use Rattle.basket_sets.specs.Itemset.{has}
 use Rattle.basket_sets.specs.Support.{support_of, total_of}
 use Rattle.mine_search.specs.declared.baskets.Baskets.{Baskets}
 use Rattle.mine_search.specs.declared.baskets.Extension.{Extension}
-use Rattle.mine_search.specs.Node.{Node, kept}
+use Rattle.mine_search.specs.Node.{Node, Supports, kept}
 
 -- the ranks that extend the set
 abbrev pub ranks_of : Baskets → List ℕ
@@ -29,6 +29,10 @@ pub record IsBaskets (base : Baskets) (node : Node) : Type 0 where
 -- the baskets that have a rank
 abbrev pub having : ℕ → List Weighted → List Weighted
 having rank baskets = filter (λ place. has place.basket rank) baskets
+
+-- the supports in some baskets
+abbrev pub supports_in : List Weighted → List ℕ → ℕ → Supports
+supports_in baskets items least = record { support = support_of baskets; least = least; items = items }
 
 -- an extension, if it is frequent in some baskets, with its support there
 abbrev pub frequent_in : List Weighted → ℕ → Extension → List Extension

@@ -1,14 +1,18 @@
 //! Plain baskets as a conditional database.
-ghost use Rattle.std.specs.Prelude.{◌≡◌, ◌≤◌, ◌<◌, ◌∷◌, [], ℕ, IfOk, OnOk, length, slice_index_or, take};
+ghost use Rattle.std.specs.Prelude.{◌≡◌, ◌≤◌, ◌<◌, ◌∷◌, [], ℕ, IfOk, IfSome, OnOk, false, length, slice_index_or, take};
 ghost use Rattle.std.specs.List.{flat_map};
+ghost use Rattle.basket_ranks.specs.Codes.{MOST_RANKS};
 ghost use Rattle.basket_sets.specs.Database.{MOST_WEIGHT};
 ghost use Rattle.basket_sets.specs.Support.{support_of, total_of};
-ghost use Rattle.mine_search.specs.Baskets.{IsBaskets, frequent_in, having, ranks_of};
-ghost use Rattle.mine_search.specs.Node.{is_met};
+ghost use Rattle.mine_search.specs.Baskets.{IsBaskets, frequent_in, having, ranks_of, supports_in};
+ghost use Rattle.mine_search.specs.Class.{IsRoot, ListsClass, top};
+ghost use Rattle.mine_search.specs.Node.{is_met, kept};
 ghost use Rattle.mine_search.specs.Walk.{kept_below};
 
+use crate::classes::class;
+use crate::mined::Mined;
 use crate::projected::Projected;
-use basket_core::Weighted;
+use basket_core::{MineFault, Tally, Weighted};
 use std::alloc::{AllocError, Global};
 
 /// A rank that extends a set, with its item and with the support of the set with the rank.
@@ -69,6 +73,36 @@ impl Projected for Baskets {
 }
 
 impl Baskets {
+    /// All baskets, whose ranks have these items, and the ranks that are frequent in them.
+    pub fn of(
+        alloc: Global,
+        baskets: Vec<Weighted>,
+        items: &[u32],
+        least: u64,
+    ) -> Result<Self, AllocError>
+        requires few { length items.now < MOST_RANKS }
+        requires light { total_of baskets.items ≤ MOST_WEIGHT }
+        ensures { IfOk result (λ root. IsRoot IsBaskets root (supports_in baskets.items items.now least)) }
+    {
+        let mut extensions = Vec::new(alloc);
+        for rank in 0..items.len() as u32 {
+            let support = support_in(&baskets, rank);
+            if support >= least {
+                let item = items[rank as usize];
+                extensions.push(Extension {
+                    rank,
+                    item,
+                    support,
+                })?;
+            }
+        }
+        Ok(Baskets {
+            baskets,
+            extensions,
+            least,
+        })
+    }
+
     /// The baskets that have the rank at a place too, and which ranks before it stay frequent.
     fn below(&self, alloc: Global, at: usize, sums: &mut Vec<u64>) -> Result<Self, AllocError>
         requires inside { at < length self.now.extensions.items }
@@ -145,4 +179,29 @@ fn frequent(
         }
     }
     Ok(kept)
+}
+
+/// The sets of the class of the frequent rank at a place, if there is one.
+pub fn class_of_baskets<T: Tally>(
+    alloc: Global,
+    baskets: Vec<Weighted>,
+    items: &[u32],
+    least: u64,
+    at: usize,
+    tally: &mut T,
+) -> Result<Option<Mined>, MineFault>
+    requires few { length items.now < MOST_RANKS }
+    requires light { total_of baskets.items ≤ MOST_WEIGHT }
+    requires going { T.is_over tally.old ≡ false }
+    ensures { IfOk result (λ found. IfSome found (λ mined. ListsClass (supports_in baskets.items items.now least)
+        (slice_index_or (kept (top (supports_in baskets.items items.now least))) at 0) mined.sets)) }
+{
+    let root = Baskets::of(alloc, baskets, items, least)?;
+    if at >= root.len() {
+        return Ok(None);
+    }
+    let mut sums = vec![in alloc; 0u64; root.extensions.len()]?;
+    let mut mined = Mined::new(alloc, items, u64::MAX)?;
+    class(alloc, &root, at, &mut sums, &mut mined, tally)?;
+    Ok(Some(mined))
 }
