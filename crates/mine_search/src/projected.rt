@@ -62,6 +62,11 @@ pub trait Projected: Drop + Sized {
         ensures inner { IfOk result (λ below. IfSome below (serves scratch.new)) }
         ensures lent { OnOk result (ServesOn serves scratch.old scratch.new) };
 
+    /// Gives what it has of the scratch back.
+    fn give_back(self, _scratch: &mut Self::Scratch)
+        ensures { ServesOn serves _scratch.old _scratch.new }
+    {}
+
     /// The ranks are those with which the set is frequent.
     ghost ranks_are: { (base : Self) (node : Node) → gives base node → ranks base ≡ kept node };
 }

@@ -35,6 +35,7 @@ pub fn extend<P: Projected, T: Tally>(
         let below = base.narrowed(alloc, at, scratch, &mut mined.work)?;
         if let Some(inner) = below {
             extend(alloc, &inner, longer, scratch, mined, tally)?;
+            inner.give_back(scratch);
         }
     }
     Ok(())

@@ -115,7 +115,7 @@ loop-at-preserved g t c =
     let (known, first) = c.requires.given in
     record {
       lent = elim c.match-below.branch [
-        | in-Some+in_ok-extend w ↦ λ base h. subst (λ s. g.P.Projected.serves s base) (sym w.scratch-is) (w.in_ok-extend.ensures.lent base (c.in_ok-below.ensures.lent base (c.loop-at.invariant.lent base h)))
+        | in-Some+in_ok-extend w ↦ λ base h. subst (λ s. g.P.Projected.serves s base) (sym w.scratch-is) (w.give_back.ensures base (w.in_ok-extend.ensures.lent base (c.in_ok-below.ensures.lent base (c.loop-at.invariant.lent base h))))
         | in_default w ↦ λ base h. subst (λ s. g.P.Projected.serves s base) (sym w.scratch-is) (c.in_ok-below.ensures.lent base (c.loop-at.invariant.lent base h))
       ];
       limit = elim c.match-below.branch [
