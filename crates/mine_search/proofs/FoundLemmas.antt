@@ -27,16 +27,16 @@ distinct-append (x ∷ xs) ys one two across = (
 )
 
 -- the last of a list
-split_last : (x : ℕ) (xs : List ℕ) → (front : List ℕ) × (last : ℕ) × (x ∷ xs ≡ front ++ last ∷ [])
+pub split_last : (x : ℕ) (xs : List ℕ) → (front : List ℕ) × (last : ℕ) × (x ∷ xs ≡ front ++ last ∷ [])
 split_last x [] = ([], x, refl)
 split_last x (y ∷ ys) = let (front, last, is) = split_last y ys in (x ∷ front, last, ap (λ l. x ∷ l) is)
 
-front_rises : (front : List ℕ) (last : ℕ) → IsRising (front ++ last ∷ []) → IsRising front
+pub front_rises : (front : List ℕ) (last : ℕ) → IsRising (front ++ last ∷ []) → IsRising front
 front_rises [] last up = nil_rises
 front_rises (x ∷ front) last up =
     cons_rises x front (λ y m. first_below x (front ++ last ∷ []) up y (Member-append_left y front (last ∷ []) m)) (front_rises front last (rest_rises x (front ++ last ∷ []) up))
 
-front_below : (front : List ℕ) (last : ℕ) → IsRising (front ++ last ∷ []) → (item : ℕ) → Member item front → item < last
+pub front_below : (front : List ℕ) (last : ℕ) → IsRising (front ++ last ∷ []) → (item : ℕ) → Member item front → item < last
 front_below [] last up item m = absurd m
 front_below (x ∷ front) last up item (inl e) = subst (λ y. y < last) e (first_below x (front ++ last ∷ []) up last (Member-append_right last front (last ∷ []) (inl refl)))
 front_below (x ∷ front) last up item (inr m) = front_below front last (rest_rises x (front ++ last ∷ []) up) item m

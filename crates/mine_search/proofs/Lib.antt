@@ -3,3 +3,4 @@ mod NodeLemmas
 mod FoundLemmas
 mod BasketLemmas
 mod ClassLemmas
+mod StraightLemmas

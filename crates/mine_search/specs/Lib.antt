@@ -3,3 +3,4 @@ pub mod Node
 pub mod Search
 pub mod Baskets
 pub mod Class
+pub mod Straight
