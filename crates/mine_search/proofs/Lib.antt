@@ -4,3 +4,4 @@ mod FoundLemmas
 mod BasketLemmas
 mod ClassLemmas
 mod StraightLemmas
+mod ReadLemmas

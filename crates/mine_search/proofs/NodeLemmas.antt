@@ -114,7 +114,7 @@ module _ (cost : Supports → List ℕ → ℕ → ℕ) {set : List ℕ} {node :
   inside : i < length (kept node)
   inside = turn.here
 
-  lower : rank < node.below
+  pub lower : rank < node.below
   lower = subst (λ n. n < node.below) (sym rank_is) (kept_lower passes node.below node.set (get_or (kept node) i 0) (Member-from_has (kept node) (get_or (kept node) i 0) (has_place (kept node) i inside)))
 
   -- what it adds is not beyond what is below the node

@@ -1,18 +1,18 @@
 -- What is read off a single branch.
-use Rattle.std.proofs.Common.{◌≡◌, ℕ, zero, suc, ◌+◌, ◌<◌, ◌≤◌, Bool, true, false, List, [], ◌∷◌, ◌++◌, length, map, get_or, cond, refl, sym, ap, ◌∙◌, subst, inl, inr, arith, append_assoc}
+use Rattle.std.proofs.Common.{◌≡◌, ℕ, zero, suc, ◌<◌, ◌≤◌, Bool, true, false, List, [], ◌∷◌, ◌++◌, map, get_or, cond, refl, sym, ap, ◌∙◌, subst, inl, inr, arith, append_assoc}
 use Rattle.std.specs.Prelude.{nat_le}
 use Rattle.std.proofs.lemmas.Bool.{cases_Bool, le-leb, leb-true, true≢false}
 use Rattle.std.proofs.lemmas.List.{map-append}
 use Rattle.basket_ranks.specs.Codes.{decoded}
 use Rattle.basket_sets.specs.declared.counted.Counted.{Counted}
-use Rattle.basket_sets.specs.Itemset.{IsRising, has, rising, with_item}
+use Rattle.basket_sets.specs.Itemset.{IsRising, rising, with_item}
 use Rattle.basket_sets.proofs.theory.Members.{Member, Member-append_left, Member-append_right}
 use Rattle.basket_sets.proofs.theory.Rising.{Member-from_has, Member-into_rising, Member-rising, cons_rises, rising-rises, rising_is}
 use Rattle.mine_search.specs.Node.{Node, Supports, is_met}
 use Rattle.mine_search.specs.Search.{found_at}
 use Rattle.mine_search.specs.Straight.{IsStraight}
 use Rattle.mine_search.specs.Walk.{sets_below}
-use Rattle.mine_search.proofs.FoundLemmas.{front_below, front_rises, split_last}
+use Rattle.mine_search.proofs.FoundLemmas.{front_below, split_last}
 
 -- ---- one more item, wherever it stands
 

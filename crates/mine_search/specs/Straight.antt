@@ -1,6 +1,7 @@
 -- Single branches.
-use Rattle.std.specs.Prelude.{◌≡◌, ◌<◌, ◌++◌, ℕ, IsTrue, List, ◌∷◌}
-use Rattle.basket_sets.specs.Itemset.{has}
+use Rattle.std.specs.Prelude.{◌≡◌, ◌<◌, ◌++◌, ◌-◌, ℕ, IsTrue, List, ◌∷◌, drop, take}
+use Rattle.basket_sets.specs.declared.counted.Counted.{Counted}
+use Rattle.basket_sets.specs.Itemset.{has, with_item}
 use Rattle.mine_search.specs.Node.{Node, Supports, is_met, work_at}
 
 -- a set of ranks has the support of its greatest one, if the set is frequent with each rank alone; and no work is counted below
@@ -9,3 +10,11 @@ pub record IsStraight (cost : Supports → List ℕ → ℕ → ℕ) (node : Nod
       → ((other : ℕ) → IsTrue (has front other) → (other < rank) × IsTrue (is_met node.over (other ∷ node.set)))
       → node.over.support (front ++ rank ∷ node.set) ≡ node.over.support (rank ∷ node.set)
   pub free : work_at cost node ≡ 0
+
+-- a set that was found, with one more item and another count
+abbrev pub chosen : ℕ → ℕ → Counted → Counted
+chosen item support c = record { set = with_item item c.set; count = support }
+
+-- the sets between two places of a list
+abbrev pub between : ℕ → ℕ → List Counted → List Counted
+between start end sets = take (end - start) (drop start sets)

@@ -2,6 +2,7 @@
 #![tactic(auto)]
 
 mod baskets;
+mod branch;
 mod classes;
 mod mined;
 mod projected;

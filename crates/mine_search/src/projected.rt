@@ -1,5 +1,6 @@
 //! Conditional databases, of any kind.
-ghost use Rattle.std.specs.Prelude.{◌≡◌, ◌≤◌, ◌<◌, ◌+◌, ◌∷◌, ℕ, List, [], IfNone, IfOk, IfSome, OnOk, length, slice_index_or};
+ghost use Rattle.std.specs.Prelude.{◌≡◌, ◌≤◌, ◌<◌, ◌+◌, ◌∷◌, ℕ, List, [], IfNone, IfOk, IfSome, IsTrue, OnOk, length, slice_index_or};
+ghost use Rattle.mine_search.specs.Straight.{IsStraight};
 ghost use Rattle.mine_search.specs.Node.{Node, ServesOn, Supports, child, kept};
 
 use std::alloc::{AllocError, Global};
@@ -61,6 +62,13 @@ pub trait Projected: Drop + Sized {
         ensures little { OnOk result (work.new ≤ work.old + 4294967295) }
         ensures inner { IfOk result (λ below. IfSome below (serves scratch.new)) }
         ensures lent { OnOk result (ServesOn serves scratch.old scratch.new) };
+
+    /// Whether its ranks are those of a single branch, from which the sets are read off.
+    fn is_straight(&self) -> bool
+        ensures { IsTrue result → (node : Node) → gives self.now node → IsStraight cost node }
+    {
+        false
+    }
 
     /// Gives what it has of the scratch back.
     fn give_back(self, _scratch: &mut Self::Scratch)

@@ -4,6 +4,7 @@ ghost use Rattle.basket_lists.specs.CountedSets.{set_at};
 ghost use Rattle.mine_search.specs.Node.{Node, ServesOn};
 ghost use Rattle.mine_search.specs.Search.{GoesOn, IsDone, IsOf, reached};
 
+use crate::branch::read_off;
 use crate::mined::Mined;
 use crate::projected::Projected;
 use basket_core::{MineFault, Tally};
@@ -28,6 +29,9 @@ pub fn extend<P: Projected, T: Tally>(
         (reached T.told_of T.limit_of T.is_over mined.new tally.new) result }
     ensures lent { OnOk result (ServesOn P.serves scratch.old scratch.new) }
 {
+    if base.is_straight() {
+        return read_off(alloc, base, place, mined, tally);
+    }
     for at in 0..base.len() {
         let item = base.item(at);
         let support = base.support(at);
