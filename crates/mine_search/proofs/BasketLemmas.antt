@@ -180,4 +180,5 @@ module _ {base : Baskets} {node : Node} (is : IsBaskets base node) (i : ℕ) (in
           (recursion_from_All IsStill (take i base.extensions.items) (All-take IsStill i base.extensions.items (All-weaker (IsExtension node) IsStill (λ e h. (h.0, one_support e.rank)) base.extensions.items is.each)))));
       light = (let less = having_light base.baskets.items rank in let most = is.light in let same = ap total_of baskets in omega arith);
       below = (let low = lower in let most = is.below in omega arith);
+      works = is.works;
     }

@@ -52,5 +52,5 @@ module _ {P : Type 0} {gives : P → Node → Type 0} {root : P} {over : Support
   }
 
   -- with what was found below it, that is the class
-  pub all : (cost : Supports → List ℕ → ℕ → ℕ) {before after : Reached} → IsFirst before.sets → FindsAll cost before after (child (top over) rank) → after.sets ≡ map (found_at over) (class_sets over rank)
-  all cost first found = found.sets ∙ ap (λ l. l ++ map (found_at over) (sets_at (child (top over) rank))) first.first
+  pub all : {before after : Reached} → IsFirst before.sets → FindsAll before after (child (top over) rank) → after.sets ≡ map (found_at over) (class_sets over rank)
+  all first found = found.sets ∙ ap (λ l. l ++ map (found_at over) (sets_at (child (top over) rank))) first.first

@@ -16,7 +16,7 @@ use Rattle.basket_lists.specs.CountedSets.{set_at}
 use Rattle.basket_lists.proofs.theory.Places.{set_added, set_kept}
 use Rattle.basket_sets.specs.Itemset.{with_item}
 use Rattle.basket_sets.proofs.theory.Rising.{Member-from_has, has_place}
-use Rattle.mine_search.specs.Node.{Node, Supports, child, is_met, kept, sets_at, work_at}
+use Rattle.mine_search.specs.Node.{Node, child, is_met, kept, sets_at, work_at}
 use Rattle.mine_search.specs.Search.{Adds, AreTooMany, FindsAll, GoesOn, IsDone, IsNode, IsOf, Reached, TellsAtMost, found_at}
 use Rattle.mine_search.specs.Walk.{kept_below}
 use Rattle.mine_search.proofs.WalkLemmas.{branch, branch_work, kept_before, kept_lower, kept_with, sets_are_branches, work_is_branches}
@@ -32,12 +32,12 @@ adds_one one work before after sets worked told over few going = record {
 }
 
 -- a search that fails
-pub fails : {P A : Type 0} (gives : P → Node → Type 0) (cost : Supports → List ℕ → ℕ → ℕ) (base : P) (set : List ℕ) (before after : Reached) (result : Result A MineFault) (fault : MineFault) → result ≡ Err fault
+pub fails : {P A : Type 0} (gives : P → Node → Type 0) (base : P) (set : List ℕ) (before after : Reached) (result : Result A MineFault) (fault : MineFault) → result ≡ Err fault
     → ((limit : ℕ) → fault ≡ TooMany limit → (node : Node) → IsOf gives base set node → AreTooMany limit before after node)
     → ((node : Node) → IsOf gives base set node → TellsAtMost before after node) → after.limit ≡ before.limit
-    → IsDone gives cost base set before after result
-fails gives cost base set before after result fault is many most limit = record {
-  found = subst (λ r. OnOk r ((node : Node) → IsOf gives base set node → FindsAll cost before after node)) (sym is) tt;
+    → IsDone gives base set before after result
+fails gives base set before after result fault is many most limit = record {
+  found = subst (λ r. OnOk r ((node : Node) → IsOf gives base set node → FindsAll before after node)) (sym is) tt;
   too_many = λ n e. many n (let both = sym is ∙ e in cc);
   at_most = most;
   limit = limit;
@@ -52,7 +52,7 @@ adds_both {first} {second} {one} {two} {before} {mid} {after} p q = record {
   going = q.going;
 }
 
-module _ (cost : Supports → List ℕ → ℕ → ℕ) (node : Node) where
+module _ (node : Node) where
   abbrev test : List ℕ → Bool
   test = is_met node.over
 
@@ -62,17 +62,17 @@ module _ (cost : Supports → List ℕ → ℕ → ℕ) (node : Node) where
   found_by ranks = flat_map (branch test node.set) ranks
 
   abbrev pub FindsPart : ℕ → Reached → Reached → Type 0
-  FindsPart i before now = Adds (map (found_at node.over) (found_by (take i (kept node)))) (sum_by (branch_work test (cost node.over) node.set) (take i (kept node))) before now
+  FindsPart i before now = Adds (map (found_at node.over) (found_by (take i (kept node)))) (sum_by (branch_work test node.over.work node.set) (take i (kept node))) before now
 
   pub nothing_yet : (before : Reached) → GoesOn before → FindsPart 0 before before
   nothing_yet before going = record { sets = sym (append-nil before.sets); worked = omega arith; told = omega arith; going = going }
 
   -- at last it is all
-  pub part_is_all : (i : ℕ) (before now : Reached) → length (kept node) ≤ i → FindsPart i before now → FindsAll cost before now node
+  pub part_is_all : (i : ℕ) (before now : Reached) → length (kept node) ≤ i → FindsPart i before now → FindsAll before now node
   part_is_all i before now last part =
       let all = take_all i (kept node) last in
       let sets = ap found_by all ∙ sym (sets_are_branches test node.below node.set) in
-      let work = ap (sum_by (branch_work test (cost node.over) node.set)) all ∙ sym (work_is_branches test (cost node.over) node.below node.set) in
+      let work = ap (sum_by (branch_work test node.over.work node.set)) all ∙ sym (work_is_branches test node.over.work node.below node.set) in
       record {
         sets = part.sets ∙ ap (λ l. before.sets ++ map (found_at node.over) l) sets;
         worked = part.worked ∙ ap (λ n. before.work + n) work;
@@ -101,7 +101,7 @@ turn_at {P} {gives} {base} {set} {node} ranks law of i inside = record {
   rank_is = ap (λ l. get_or l i 0) (law base node of.given);
 }
 
-module _ (cost : Supports → List ℕ → ℕ → ℕ) {set : List ℕ} {node : Node} {i rank : ℕ} (turn : IsTurn set node i rank) where
+module _ {set : List ℕ} {node : Node} {i rank : ℕ} (turn : IsTurn set node i rank) where
   abbrev passes : List ℕ → Bool
   passes = is_met node.over
 
@@ -118,32 +118,32 @@ module _ (cost : Supports → List ℕ → ℕ → ℕ) {set : List ℕ} {node :
   lower = subst (λ n. n < node.below) (sym rank_is) (kept_lower passes node.below node.set (get_or (kept node) i 0) (Member-from_has (kept node) (get_or (kept node) i 0) (has_place (kept node) i inside)))
 
   -- what it adds is not beyond what is below the node
-  pub turn_within : (before now : Reached) → FindsPart cost node i before now
+  pub turn_within : (before now : Reached) → FindsPart node i before now
       → (now.told + (1 + length (sets_at (child node rank))) ≤ before.told + length (sets_at node))
       × (length now.sets + (1 + length (sets_at (child node rank))) ≤ length before.sets + length (sets_at node))
   turn_within before now part =
       let whole = ap length (sets_are_branches passes node.below node.set) in
       let more = length-flat_map-take (branch passes node.set) (kept node) i 0 inside in
       let one = ap (λ r. length (branch passes node.set r)) rank_is in
-      let long = length-map (found_by cost node (take i (kept node))) (found_at node.over) in
-      let sets = ap length part.sets ∙ length-append before.sets (map (found_at node.over) (found_by cost node (take i (kept node)))) in
+      let long = length-map (found_by node (take i (kept node))) (found_at node.over) in
+      let sets = ap length part.sets ∙ length-append before.sets (map (found_at node.over) (found_by node (take i (kept node)))) in
       (omega (arith, whole, more, one, long, part.told), omega (arith, whole, more, one, long, sets))
 
   -- the part with its set and those below it
-  pub turn_adds : (one : Counted) (before now with_one after : Reached) → one ≡ found_at node.over (rank ∷ node.set) → FindsPart cost node i before now → Adds (one ∷ []) (cost node.over node.set rank) now with_one
-      → FindsAll cost with_one after (child node rank) → FindsPart cost node (i + 1) before after
+  pub turn_adds : (one : Counted) (before now with_one after : Reached) → one ≡ found_at node.over (rank ∷ node.set) → FindsPart node i before now → Adds (one ∷ []) (node.over.work (rank ∷ node.set)) now with_one
+      → FindsAll with_one after (child node rank) → FindsPart node (i + 1) before after
   turn_adds one before now with_one after is_one part adds below =
       let found = found_at node.over in
       let sum = adds_both part (adds_both adds below) in
-      let all = ap (found_by cost node) (take_more (kept node) i 0 inside) ∙ flat_map-append (branch passes node.set) (take i (kept node)) (get_or (kept node) i 0 ∷ [])
-      ∙ ap (λ l. found_by cost node (take i (kept node)) ++ l) (ap (λ r. flat_map (branch passes node.set) (r ∷ [])) (sym rank_is) ∙ append-nil (branch passes node.set rank)) in
-      let sets : map found (found_by cost node (take i (kept node))) ++ (one ∷ map found (sets_at (child node rank))) ≡ map found (found_by cost node (take (i + 1) (kept node))) =
-      ap (λ x. map found (found_by cost node (take i (kept node))) ++ (x ∷ map found (sets_at (child node rank)))) is_one
-      ∙ sym (ap (map found) all ∙ map-append found (found_by cost node (take i (kept node))) (branch passes node.set rank)) in
-      let more = sum_by_more (branch_work passes (cost node.over) node.set) (kept node) i 0 inside in
+      let all = ap (found_by node) (take_more (kept node) i 0 inside) ∙ flat_map-append (branch passes node.set) (take i (kept node)) (get_or (kept node) i 0 ∷ [])
+      ∙ ap (λ l. found_by node (take i (kept node)) ++ l) (ap (λ r. flat_map (branch passes node.set) (r ∷ [])) (sym rank_is) ∙ append-nil (branch passes node.set rank)) in
+      let sets : map found (found_by node (take i (kept node))) ++ (one ∷ map found (sets_at (child node rank))) ≡ map found (found_by node (take (i + 1) (kept node))) =
+      ap (λ x. map found (found_by node (take i (kept node))) ++ (x ∷ map found (sets_at (child node rank)))) is_one
+      ∙ sym (ap (map found) all ∙ map-append found (found_by node (take i (kept node))) (branch passes node.set rank)) in
+      let more = sum_by_more (branch_work passes node.over.work node.set) (kept node) i 0 inside in
       record {
         sets = sum.sets ∙ ap (λ l. before.sets ++ l) sets;
-        worked = omega (arith, sum.worked, more, ap (branch_work passes (cost node.over) node.set) rank_is);
+        worked = omega (arith, sum.worked, more, ap (branch_work passes node.over.work node.set) rank_is);
         told = sum.told ∙ ap (λ l. before.told + length l) sets;
         going = sum.going;
       }
@@ -170,11 +170,11 @@ module _ (cost : Supports → List ℕ → ℕ → ℕ) {set : List ℕ} {node :
     pub inner : IsNode longer (child node rank)
 
   pub extended : {longer item count : ℕ} {before now : Reached} {with_one : List Counted} (place : ℕ)
-      → place < length before.sets → set ≡ set_at before.sets place → item ≡ get_or node.over.items rank 0 → count ≡ node.over.support (rank ∷ node.set) → FindsPart cost node i before now
+      → place < length before.sets → set ≡ set_at before.sets place → item ≡ get_or node.over.items rank 0 → count ≡ node.over.support (rank ∷ node.set) → FindsPart node i before now
       → longer ≡ length now.sets → with_one ≡ now.sets ++ record { set = with_item item (set_at now.sets place); count = count } ∷ []
       → IsExtended (record { set = with_item item (set_at now.sets place); count = count }) (set_at with_one longer)
   extended {longer} {item} {count} {before} {now} {with_one} place here of_set is_item is_count part at adds =
-      let named = ap (with_item item) (set_kept before.sets (map (found_at node.over) (found_by cost node (take i (kept node)))) now.sets place here part.sets ∙ sym of_set) ∙ ap (λ x. with_item x set) is_item in
+      let named = ap (with_item item) (set_kept before.sets (map (found_at node.over) (found_by node (take i (kept node)))) now.sets place here part.sets ∙ sym of_set) ∙ ap (λ x. with_item x set) is_item in
       let items_are = named ∙ ap (with_item (get_or node.over.items rank 0)) is.of_set in
       record {
         found = λ k. record { set = items_are k; count = is_count k };
@@ -187,11 +187,11 @@ module _ (cost : Supports → List ℕ → ℕ → ℕ) {set : List ℕ} {node :
       }
 
 -- nothing is found below a node without ranks
-pub finds_none : (cost : Supports → List ℕ → ℕ → ℕ) (node : Node) → kept node ≡ [] → (now : Reached) → GoesOn now → FindsAll cost now now node
-finds_none cost node none now going = part_is_all cost node 0 now now (omega (arith, ap length none)) (nothing_yet cost node now going)
+pub finds_none : (node : Node) → kept node ≡ [] → (now : Reached) → GoesOn now → FindsAll now now node
+finds_none node none now going = part_is_all node 0 now now (omega (arith, ap length none)) (nothing_yet node now going)
 
 pub no_sets : (node : Node) → kept node ≡ [] → sets_at node ≡ []
 no_sets node none = sets_are_branches (is_met node.over) node.below node.set ∙ ap (flat_map (branch (is_met node.over) node.set)) none
 
-pub no_work : (cost : Supports → List ℕ → ℕ → ℕ) (node : Node) → kept node ≡ [] → work_at cost node ≡ 0
-no_work cost node none = work_is_branches (is_met node.over) (cost node.over) node.below node.set ∙ ap (sum_by (branch_work (is_met node.over) (cost node.over) node.set)) none
+pub no_work : (node : Node) → kept node ≡ [] → work_at node ≡ 0
+no_work node none = work_is_branches (is_met node.over) node.over.work node.below node.set ∙ ap (sum_by (branch_work (is_met node.over) node.over.work node.set)) none

@@ -10,7 +10,7 @@ use Rattle.basket_lists.proofs.theory.Places.{set_kept}
 use Rattle.basket_sets.specs.Itemset.{with_item}
 use Rattle.basket_sets.proofs.theory.Members.{Member}
 use Rattle.basket_sets.proofs.theory.Rising.{Member-from_has, has_place, nil_rises}
-use Rattle.mine_search.specs.Node.{Node, Supports, child, is_met, kept, sets_at}
+use Rattle.mine_search.specs.Node.{Node, child, is_met, kept, sets_at}
 use Rattle.mine_search.specs.Search.{FindsAll, GoesOn, Reached, found_at}
 use Rattle.mine_search.specs.Straight.{IsStraight, between, chosen}
 use Rattle.mine_search.specs.Walk.{kept_below, sets_below}
@@ -32,45 +32,45 @@ chosen_more item support start from old now new order here so_far adds =
     ∙ append_assoc old (map (chosen item support) (between start from old)) (chosen item support (get_or old from none) ∷ [])
     ∙ ap (λ l. old ++ l) (sym (map-append (chosen item support) (between start from old) (get_or old from none ∷ [])) ∙ ap (map (chosen item support)) (sym more))
 
-module _ (cost : Supports → List ℕ → ℕ → ℕ) {set : List ℕ} {node : Node} {i rank : ℕ} (turn : IsTurn set node i rank) (straight : IsStraight cost node) where
+module _ {set : List ℕ} {node : Node} {i rank : ℕ} (turn : IsTurn set node i rank) (straight : IsStraight node) where
   abbrev test : List ℕ → Bool
   test = is_met node.over
 
   -- nothing is counted for the rank
-  free : branch_work test (cost node.over) node.set rank ≡ 0
+  free : branch_work test node.over.work node.set rank ≡ 0
   free =
-      let whole = work_is_branches test (cost node.over) node.below node.set in
-      let less = sum_by-take-le (branch_work test (cost node.over) node.set) (kept node) (i + 1) in
-      let more = sum_by_more (branch_work test (cost node.over) node.set) (kept node) i 0 turn.here in
-      omega (arith, whole, less, more, straight.free, ap (branch_work test (cost node.over) node.set) turn.rank_is)
+      let whole = work_is_branches test node.over.work node.below node.set in
+      let less = sum_by-take-le (branch_work test node.over.work node.set) (kept node) (i + 1) in
+      let more = sum_by_more (branch_work test node.over.work node.set) (kept node) i 0 turn.here in
+      omega (arith, whole, less, more, straight.free, ap (branch_work test node.over.work node.set) turn.rank_is)
 
-  pub free_one : cost node.over node.set rank ≡ 0
+  pub free_one : node.over.work (rank ∷ node.set) ≡ 0
   free_one = omega (arith, free)
 
   -- the sets of the lower ranks stand there already
-  stand : found_by cost node (take i (kept node)) ≡ sets_below test rank node.set
+  stand : found_by node (take i (kept node)) ≡ sets_below test rank node.set
   stand =
-      ap (found_by cost node) (kept_before test node.below node.set i turn.here ∙ ap (λ r. kept_below test r node.set) (sym turn.rank_is))
+      ap (found_by node) (kept_before test node.below node.set i turn.here ∙ ap (λ r. kept_below test r node.set) (sym turn.rank_is))
       ∙ sym (sets_are_branches test rank node.set)
 
   kept_rank : test (rank ∷ node.set) ≡ true
   kept_rank = kept_passes test node.below node.set rank (subst (λ r. Member r (kept node)) (sym turn.rank_is) (Member-from_has (kept node) (get_or (kept node) i 0) (has_place (kept node) i turn.here)))
 
-  below_are : map (found_at node.over) (sets_at (child node rank)) ≡ map (choose straight turn.is.falls rank (lower cost turn) kept_rank) (found_by cost node (take i (kept node)))
+  below_are : map (found_at node.over) (sets_at (child node rank)) ≡ map (choose straight turn.is.falls rank (lower turn) kept_rank) (found_by node (take i (kept node)))
   below_are =
-      choices straight turn.is.falls rank (lower cost turn) kept_rank rank [] (omega arith) nil_rises (λ other m. absurd m)
-      ∙ ap (map (choose straight turn.is.falls rank (lower cost turn) kept_rank)) (sym stand)
+      choices straight turn.is.falls rank (lower turn) kept_rank rank [] (omega arith) nil_rises (λ other m. absurd m)
+      ∙ ap (map (choose straight turn.is.falls rank (lower turn) kept_rank)) (sym stand)
 
-  pub as_many : length (found_by cost node (take i (kept node))) ≡ length (sets_at (child node rank))
+  pub as_many : length (found_by node (take i (kept node))) ≡ length (sets_at (child node rank))
   as_many =
-      sym (length-map (found_by cost node (take i (kept node))) (choose straight turn.is.falls rank (lower cost turn) kept_rank)) ∙ sym (ap length below_are) ∙ length-map (sets_at (child node rank)) (found_at node.over)
+      sym (length-map (found_by node (take i (kept node))) (choose straight turn.is.falls rank (lower turn) kept_rank)) ∙ sym (ap length below_are) ∙ length-map (sets_at (child node rank)) (found_at node.over)
 
-  module _ {before now : Reached} (part : FindsPart cost node i before now) {start end : ℕ} (start_is : start ≡ length before.sets) (end_is : end ≡ length now.sets) where
+  module _ {before now : Reached} (part : FindsPart node i before now) {start end : ℕ} (start_is : start ≡ length before.sets) (end_is : end ≡ length now.sets) where
     abbrev found : List Counted
-    found = map (found_at node.over) (found_by cost node (take i (kept node)))
+    found = map (found_at node.over) (found_by node (take i (kept node)))
 
     pub places : end - start ≡ length (sets_at (child node rank))
-    places = omega (arith, start_is, end_is, ap length part.sets, length-append before.sets found, length-map (found_by cost node (take i (kept node))) (found_at node.over), as_many)
+    places = omega (arith, start_is, end_is, ap length part.sets, length-append before.sets found, length-map (found_by node (take i (kept node))) (found_at node.over), as_many)
 
     pub order : start ≤ end
     order = omega (arith, start_is, end_is, ap length part.sets, length-append before.sets found)
@@ -84,11 +84,11 @@ module _ (cost : Supports → List ℕ → ℕ → ℕ) {set : List ℕ} {node :
     -- so all sets below the rank are added by choosing them
     pub read_more : {with_one after : Reached} {item support : ℕ} (one : Counted) → item ≡ get_or node.over.items rank 0 → support ≡ node.over.support (rank ∷ node.set) → with_one.sets ≡ now.sets ++ one ∷ [] → GoesOn with_one
         → after.sets ≡ with_one.sets ++ map (chosen item support) (between start end with_one.sets) → after.work ≡ with_one.work → after.told ≡ with_one.told + (end - start) → after.is_over ≡ false
-        → FindsAll cost with_one after (child node rank)
+        → FindsAll with_one after (child node rank)
     read_more {with_one} {after} {item} {support} one item_is support_is sets going adds work told over =
         let all : map (chosen item support) (between start end with_one.sets) ≡ map (found_at node.over) (sets_at (child node rank)) =
         (λ k. map (chosen (item_is k) (support_is k)) (between_are one with_one.sets sets k))
-        ∙ map-map (chosen (get_or node.over.items rank 0) (node.over.support (rank ∷ node.set))) (found_at node.over) (found_by cost node (take i (kept node)))
+        ∙ map-map (chosen (get_or node.over.items rank 0) (node.over.support (rank ∷ node.set))) (found_at node.over) (found_by node (take i (kept node)))
         ∙ sym below_are in
         record {
           sets = adds ∙ ap (λ l. with_one.sets ++ l) all;

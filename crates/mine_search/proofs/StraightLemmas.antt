@@ -8,7 +8,7 @@ use Rattle.basket_sets.specs.declared.counted.Counted.{Counted}
 use Rattle.basket_sets.specs.Itemset.{IsRising, rising, with_item}
 use Rattle.basket_sets.proofs.theory.Members.{Member, Member-append_left, Member-append_right}
 use Rattle.basket_sets.proofs.theory.Rising.{Member-from_has, Member-into_rising, Member-rising, cons_rises, rising-rises, rising_is}
-use Rattle.mine_search.specs.Node.{Node, Supports, is_met}
+use Rattle.mine_search.specs.Node.{Node, is_met}
 use Rattle.mine_search.specs.Search.{found_at}
 use Rattle.mine_search.specs.Straight.{IsStraight}
 use Rattle.mine_search.specs.Walk.{sets_below}
@@ -33,7 +33,7 @@ decoded_with items front rank set =
     ap rising (map-append (λ r. get_or items r 0) front (rank ∷ set)) ∙ moved (map (λ r. get_or items r 0) front) (get_or items rank 0) (map (λ r. get_or items r 0) set)
     ∙ ap (λ l. with_item (get_or items rank 0) (rising l)) (sym (map-append (λ r. get_or items r 0) front set))
 
-module _ {cost : Supports → List ℕ → ℕ → ℕ} {node : Node} (straight : IsStraight cost node) (falls : (rank other : ℕ) (others : List ℕ) → node.over.support (other ∷ rank ∷ others) ≤ node.over.support (other ∷ others)) where
+module _ {node : Node} (straight : IsStraight node) (falls : (rank other : ℕ) (others : List ℕ) → node.over.support (other ∷ rank ∷ others) ≤ node.over.support (other ∷ others)) where
   abbrev test : List ℕ → Bool
   test = is_met node.over
 

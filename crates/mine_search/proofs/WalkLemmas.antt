@@ -16,8 +16,8 @@ module _ (test : List ℕ → Bool) where
   branch set rank = (rank ∷ set) ∷ sets_below test rank (rank ∷ set)
 
   -- the work for one rank and for the sets that extend it
-  abbrev pub branch_work : (List ℕ → ℕ → ℕ) → List ℕ → ℕ → ℕ
-  branch_work cost set rank = cost set rank + work_below cost test rank (rank ∷ set)
+  abbrev pub branch_work : (List ℕ → ℕ) → List ℕ → ℕ → ℕ
+  branch_work work set rank = work (rank ∷ set) + work_below work test rank (rank ∷ set)
 
   pub sets_are_branches : (below : ℕ) (set : List ℕ) → sets_below test below set ≡ flat_map (branch set) (kept_below test below set)
   sets_are_branches zero set = refl
@@ -30,15 +30,15 @@ module _ (test : List ℕ → Bool) where
       one true = sym (append-nil (branch set rank))
       one false = refl
 
-  pub work_is_branches : (cost : List ℕ → ℕ → ℕ) (below : ℕ) (set : List ℕ) → work_below cost test below set ≡ sum_by (branch_work cost set) (kept_below test below set)
-  work_is_branches cost zero set = refl
-  work_is_branches cost (suc rank) set =
-      ap (λ n. n + cond (test (rank ∷ set)) (branch_work cost set rank) 0) (work_is_branches cost rank set)
-      ∙ ap (λ n. sum_by (branch_work cost set) (kept_below test rank set) + n) (one (test (rank ∷ set)))
-      ∙ sym (sum_by-append (branch_work cost set) (kept_below test rank set) (cond (test (rank ∷ set)) (rank ∷ []) []))
+  pub work_is_branches : (work : List ℕ → ℕ) (below : ℕ) (set : List ℕ) → work_below work test below set ≡ sum_by (branch_work work set) (kept_below test below set)
+  work_is_branches work zero set = refl
+  work_is_branches work (suc rank) set =
+      ap (λ n. n + cond (test (rank ∷ set)) (branch_work work set rank) 0) (work_is_branches work rank set)
+      ∙ ap (λ n. sum_by (branch_work work set) (kept_below test rank set) + n) (one (test (rank ∷ set)))
+      ∙ sym (sum_by-append (branch_work work set) (kept_below test rank set) (cond (test (rank ∷ set)) (rank ∷ []) []))
     where
-      one : (b : Bool) → cond b (branch_work cost set rank) 0 ≡ sum_by (branch_work cost set) (cond b (rank ∷ []) [])
-      one true = omega (arith, sum_by-cons (branch_work cost set) rank [])
+      one : (b : Bool) → cond b (branch_work work set rank) 0 ≡ sum_by (branch_work work set) (cond b (rank ∷ []) [])
+      one true = omega (arith, sum_by-cons (branch_work work set) rank [])
       one false = refl
 
   -- the ranks before one of those that extend a set are those below it that do

@@ -1,5 +1,5 @@
 -- Plain baskets as a conditional database.
-use Rattle.std.specs.Prelude.{◌≡◌, ◌≤◌, ◌<◌, ◌++◌, ℕ, List, [], ◌∷◌, All, filter, if◌then◌else◌, map, nat_le, slice_index_or}
+use Rattle.std.specs.Prelude.{length, ◌≡◌, ◌≤◌, ◌<◌, ◌++◌, ℕ, Bool, List, [], ◌∷◌, All, filter, if◌then◌else◌, map, nat_le, slice_index_or}
 use Rattle.basket_ranks.specs.Codes.{MOST_RANKS}
 use Rattle.basket_sets.specs.declared.weighted.Weighted.{Weighted}
 use Rattle.basket_sets.specs.Database.{MOST_WEIGHT}
@@ -7,7 +7,8 @@ use Rattle.basket_sets.specs.Itemset.{has}
 use Rattle.basket_sets.specs.Support.{support_of, total_of}
 use Rattle.mine_search.specs.declared.baskets.Baskets.{Baskets}
 use Rattle.mine_search.specs.declared.baskets.Extension.{Extension}
-use Rattle.mine_search.specs.Node.{Node, Supports, kept}
+use Rattle.mine_search.specs.Node.{Node, Supports, is_met, kept}
+use Rattle.mine_search.specs.Walk.{kept_below}
 
 -- the ranks that extend the set
 abbrev pub ranks_of : Baskets → List ℕ
@@ -25,14 +26,20 @@ pub record IsBaskets (base : Baskets) (node : Node) : Type 0 where
   pub each : All (IsExtension node) base.extensions.items
   pub light : total_of base.baskets.items ≤ MOST_WEIGHT
   pub below : node.below < MOST_RANKS
+  pub works : (rank : ℕ) (set : List ℕ) → node.over.work (rank ∷ set) ≡ length (kept_below (is_met node.over) rank set)
 
 -- the baskets that have a rank
 abbrev pub having : ℕ → List Weighted → List Weighted
 having rank baskets = filter (λ place. has place.basket rank) baskets
 
+-- the joins of a set's least rank with the lower ranks with which the others are frequent
+abbrev pub joins_of : (List ℕ → Bool) → List ℕ → ℕ
+joins_of test [] = 0
+joins_of test (rank ∷ set) = length (kept_below test rank set)
+
 -- the supports in some baskets
 abbrev pub supports_in : List Weighted → List ℕ → ℕ → Supports
-supports_in baskets items least = record { support = support_of baskets; least = least; items = items }
+supports_in baskets items least = record { support = support_of baskets; least = least; items = items; work = joins_of (λ set. nat_le least (support_of baskets set)) }
 
 -- an extension, if it is frequent in some baskets, with its support there
 abbrev pub frequent_in : List Weighted → ℕ → Extension → List Extension

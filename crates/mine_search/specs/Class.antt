@@ -1,5 +1,5 @@
 -- The class of a rank.
-use Rattle.std.specs.Prelude.{◌≡◌, ◌≤◌, ◌<◌, ℕ, Bool, false, IsTrue, List, [], ◌∷◌, ◌==◌, All, length, map, nat_eq}
+use Rattle.std.specs.Prelude.{◌+◌, ◌≡◌, ◌≤◌, ◌<◌, ℕ, Bool, false, IsTrue, List, [], ◌∷◌, ◌==◌, All, length, map, nat_eq}
 use Rattle.std.specs.Cmp.Lexicographic.{pointwise}
 use Rattle.std.specs.List.{Contains, IsDistinct}
 use Rattle.basket_ranks.specs.Codes.{MOST_RANKS}
@@ -30,8 +30,8 @@ pub record IsRoot {P : Type 0} (gives : P → Node → Type 0) (root : P) (over 
 abbrev pub class_sets : Supports → ℕ → List (List ℕ)
 class_sets over rank = (rank ∷ []) ∷ sets_below (is_met over) rank (rank ∷ [])
 
-abbrev pub class_work : (Supports → List ℕ → ℕ → ℕ) → Supports → ℕ → ℕ
-class_work cost over rank = work_below (cost over) (is_met over) rank (rank ∷ [])
+abbrev pub class_work : Supports → ℕ → ℕ
+class_work over rank = over.work (rank ∷ []) + work_below over.work (is_met over) rank (rank ∷ [])
 
 -- the sets are those of a class, each once
 pub record AreClass (over : Supports) (rank : ℕ) (sets : List (List ℕ)) : Type 0 where

@@ -2,11 +2,12 @@
 use Rattle.std.specs.Prelude.{ℕ, Bool, List, ◌∷◌, nat_le}
 use Rattle.mine_search.specs.Walk.{kept_below, sets_below, work_below}
 
--- the support of each set of ranks, the least support of a frequent set, and the item of each rank
+-- the support of each set of ranks, the least support of a frequent set, the item of each rank, and the work of finding what extends each set
 pub record Supports : Type 0 where
   pub support : List ℕ → ℕ
   pub least : ℕ
   pub items : List ℕ
+  pub work : List ℕ → ℕ
 
 -- a set of ranks, which ranks below a number may extend
 pub record Node : Type 0 where
@@ -30,8 +31,8 @@ child node rank = record { over = node.over; set = rank ∷ node.set; below = ra
 abbrev pub sets_at : Node → List (List ℕ)
 sets_at node = sets_below (is_met node.over) node.below node.set
 
-abbrev pub work_at : (Supports → List ℕ → ℕ → ℕ) → Node → ℕ
-work_at cost node = work_below (cost node.over) (is_met node.over) node.below node.set
+abbrev pub work_at : Node → ℕ
+work_at node = work_below node.over.work (is_met node.over) node.below node.set
 
 -- what served before serves now
 abbrev pub ServesOn : {S P : Type 0} → (S → P → Type 0) → S → S → Type 0

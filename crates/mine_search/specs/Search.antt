@@ -51,8 +51,8 @@ pub record Adds (found : List Counted) (work : ℕ) (before after : Reached) : T
   pub going : GoesOn after
 
 -- all sets below a node were found, each once
-abbrev pub FindsAll : (Supports → List ℕ → ℕ → ℕ) → Reached → Reached → Node → Type 0
-FindsAll cost before after node = Adds (map (found_at node.over) (sets_at node)) (work_at cost node) before after
+abbrev pub FindsAll : Reached → Reached → Node → Type 0
+FindsAll before after node = Adds (map (found_at node.over) (sets_at node)) (work_at node) before after
 
 -- the tally is over, or the sets with those below a node are more than the limit
 pub record AreTooMany (limit : ℕ) (before after : Reached) (node : Node) : Type 0 where
@@ -64,8 +64,8 @@ abbrev pub TellsAtMost : Reached → Reached → Node → Type 0
 TellsAtMost before after node = after.told ≤ before.told + length (sets_at node)
 
 -- what is done below each node that is represented, in the end
-pub record IsDone {P A : Type 0} (gives : P → Node → Type 0) (cost : Supports → List ℕ → ℕ → ℕ) (base : P) (set : List ℕ) (before after : Reached) (result : Result A MineFault) : Type 0 where
-  pub found : OnOk result ((node : Node) → IsOf gives base set node → FindsAll cost before after node)
+pub record IsDone {P A : Type 0} (gives : P → Node → Type 0) (base : P) (set : List ℕ) (before after : Reached) (result : Result A MineFault) : Type 0 where
+  pub found : OnOk result ((node : Node) → IsOf gives base set node → FindsAll before after node)
   pub too_many : (limit : ℕ) → result ≡ Err (TooMany limit) → (node : Node) → IsOf gives base set node → AreTooMany limit before after node
   pub at_most : (node : Node) → IsOf gives base set node → TellsAtMost before after node
   pub limit : after.limit ≡ before.limit

@@ -2,14 +2,14 @@
 use Rattle.std.specs.Prelude.{◌≡◌, ◌<◌, ◌++◌, ◌-◌, ℕ, IsTrue, List, ◌∷◌, drop, take}
 use Rattle.basket_sets.specs.declared.counted.Counted.{Counted}
 use Rattle.basket_sets.specs.Itemset.{has, with_item}
-use Rattle.mine_search.specs.Node.{Node, Supports, is_met, work_at}
+use Rattle.mine_search.specs.Node.{Node, is_met, work_at}
 
 -- a set of ranks has the support of its greatest one, if the set is frequent with each rank alone; and no work is counted below
-pub record IsStraight (cost : Supports → List ℕ → ℕ → ℕ) (node : Node) : Type 0 where
+pub record IsStraight (node : Node) : Type 0 where
   pub supports : (rank : ℕ) (front : List ℕ) → rank < node.below → IsTrue (is_met node.over (rank ∷ node.set))
       → ((other : ℕ) → IsTrue (has front other) → (other < rank) × IsTrue (is_met node.over (other ∷ node.set)))
       → node.over.support (front ++ rank ∷ node.set) ≡ node.over.support (rank ∷ node.set)
-  pub free : work_at cost node ≡ 0
+  pub free : work_at node ≡ 0
 
 -- a set that was found, with one more item and another count
 abbrev pub chosen : ℕ → ℕ → Counted → Counted

@@ -11,7 +11,7 @@ abbrev pub sets_below : (List ℕ → Bool) → ℕ → List ℕ → List (List 
 sets_below test zero set = []
 sets_below test (suc rank) set = sets_below test rank set ++ (if test (rank ∷ set) then (rank ∷ set) ∷ sets_below test rank (rank ∷ set) else [])
 
--- the work that finds them, if each set costs what a function gives for the set that it extends and for its rank
-abbrev pub work_below : (List ℕ → ℕ → ℕ) → (List ℕ → Bool) → ℕ → List ℕ → ℕ
-work_below cost test zero set = 0
-work_below cost test (suc rank) set = work_below cost test rank set + (if test (rank ∷ set) then cost set rank + work_below cost test rank (rank ∷ set) else 0)
+-- the work that finds them, if a function gives the work for each
+abbrev pub work_below : (List ℕ → ℕ) → (List ℕ → Bool) → ℕ → List ℕ → ℕ
+work_below work test zero set = 0
+work_below work test (suc rank) set = work_below work test rank set + (if test (rank ∷ set) then work (rank ∷ set) + work_below work test rank (rank ∷ set) else 0)

@@ -6,8 +6,7 @@ ghost use Rattle.basket_sets.specs.Database.{MOST_WEIGHT};
 ghost use Rattle.basket_sets.specs.Support.{support_of, total_of};
 ghost use Rattle.mine_search.specs.Baskets.{IsBaskets, frequent_in, having, ranks_of, supports_in};
 ghost use Rattle.mine_search.specs.Class.{IsRoot, ListsClass, top};
-ghost use Rattle.mine_search.specs.Node.{is_met, kept};
-ghost use Rattle.mine_search.specs.Walk.{kept_below};
+ghost use Rattle.mine_search.specs.Node.{kept};
 
 use crate::classes::class;
 use crate::mined::Mined;
@@ -39,8 +38,6 @@ impl Projected for Baskets {
     ghost ranks = { ranks_of };
 
     ghost serves = { λ sums base. length base.extensions.items ≤ length sums.items };
-
-    ghost cost = { λ over set rank. length (kept_below (is_met over) rank set) };
 
     fn len(&self) -> usize {
         self.extensions.len()

@@ -22,9 +22,9 @@ pub fn read_off<P: Projected, T: Tally>(
 ) -> Result<(), MineFault>
     requires found { place < length mined.old.sets }
     requires given { (node : Node) × IsOf P.gives base.now (set_at mined.old.sets place) node }
-    requires straight { (node : Node) → P.gives base.now node → IsStraight P.cost node }
+    requires straight { (node : Node) → P.gives base.now node → IsStraight node }
     requires going { GoesOn (reached T.told_of T.limit_of T.is_over mined.old tally.old) }
-    ensures done { IsDone P.gives P.cost base.now (set_at mined.old.sets place)
+    ensures done { IsDone P.gives base.now (set_at mined.old.sets place)
         (reached T.told_of T.limit_of T.is_over mined.old tally.old)
         (reached T.told_of T.limit_of T.is_over mined.new tally.new) result }
 {

@@ -28,8 +28,7 @@ pub fn class<P: Projected, T: Tally>(
     ensures listed { OnOk result ((over : Supports) → IsRoot P.gives root.now over
         → ListsClass over (slice_index_or (P.ranks root.now) at 0) mined.new.sets) }
     ensures work { OnOk result ((over : Supports) → IsRoot P.gives root.now over
-        → mined.new.work ≡ P.cost over [] (slice_index_or (P.ranks root.now) at 0)
-        + class_work P.cost over (slice_index_or (P.ranks root.now) at 0)) }
+        → mined.new.work ≡ class_work over (slice_index_or (P.ranks root.now) at 0)) }
     ensures told { OnOk result (T.told_of tally.new ≡ T.told_of tally.old + length mined.new.sets) }
     ensures going_on { OnOk result (T.is_over tally.new ≡ false) }
     ensures too_many { (limit : ℕ) → result ≡ Err (TooMany limit) → (over : Supports) → IsRoot P.gives root.now over

@@ -1,7 +1,7 @@
 //! Conditional databases, of any kind.
 ghost use Rattle.std.specs.Prelude.{◌≡◌, ◌≤◌, ◌<◌, ◌+◌, ◌∷◌, ℕ, List, [], IfNone, IfOk, IfSome, IsTrue, OnOk, length, slice_index_or};
 ghost use Rattle.mine_search.specs.Straight.{IsStraight};
-ghost use Rattle.mine_search.specs.Node.{Node, ServesOn, Supports, child, kept};
+ghost use Rattle.mine_search.specs.Node.{Node, ServesOn, child, kept};
 
 use std::alloc::{AllocError, Global};
 
@@ -19,9 +19,6 @@ pub trait Projected: Drop + Sized {
 
     /// Whether a scratch may be lent to it.
     ghost serves: { Self.Scratch → Self → Type 0 };
-
-    /// The work of finding what extends a set with a rank.
-    ghost cost: { Supports → List ℕ → ℕ → ℕ };
 
     /// How many ranks extend the set.
     fn len(&self) -> usize
@@ -58,14 +55,14 @@ pub trait Projected: Drop + Sized {
         ensures none { IfOk result (λ below. IfNone below ((node : Node) → gives self.now node
             → kept (child node (slice_index_or (ranks self.now) at 0)) ≡ [])) }
         ensures work { OnOk result ((node : Node) → gives self.now node
-            → work.new ≡ work.old + cost node.over node.set (slice_index_or (ranks self.now) at 0)) }
+            → work.new ≡ work.old + node.over.work (slice_index_or (ranks self.now) at 0 ∷ node.set)) }
         ensures little { OnOk result (work.new ≤ work.old + 4294967295) }
         ensures inner { IfOk result (λ below. IfSome below (serves scratch.new)) }
         ensures lent { OnOk result (ServesOn serves scratch.old scratch.new) };
 
     /// Whether its ranks are those of a single branch, from which the sets are read off.
     fn is_straight(&self) -> bool
-        ensures { IsTrue result → (node : Node) → gives self.now node → IsStraight cost node }
+        ensures { IsTrue result → (node : Node) → gives self.now node → IsStraight node }
     {
         false
     }

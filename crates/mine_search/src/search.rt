@@ -24,7 +24,7 @@ pub fn extend<P: Projected, T: Tally>(
     requires given { (node : Node) × IsOf P.gives base.now (set_at mined.old.sets place) node }
     requires going { GoesOn (reached T.told_of T.limit_of T.is_over mined.old tally.old) }
     requires lent { P.serves scratch.old base.now }
-    ensures done { IsDone P.gives P.cost base.now (set_at mined.old.sets place)
+    ensures done { IsDone P.gives base.now (set_at mined.old.sets place)
         (reached T.told_of T.limit_of T.is_over mined.old tally.old)
         (reached T.told_of T.limit_of T.is_over mined.new tally.new) result }
     ensures lent { OnOk result (ServesOn P.serves scratch.old scratch.new) }

@@ -17,7 +17,7 @@ pub returns-in-Some-clause-listed : goal.returns-in-Some-clause-listed
 returns-in-Some-clause-listed g c = on_ok_weaker c.extend.result (λ done over is.
     let first = first_is is g.P.Projected.ranks g.met.P.Projected.ranks_are c.args.at c.requires.inside c.requires.empty c.in_ok-add.ensures.sets c.in_ok-set.ensures.ok (c.item.ensures (top over) is.given) (c.support-support.ensures (top over) is.given) in
     let found = done (child (top over) (get_or (g.P.Projected.ranks c.args.root.now) c.args.at 0)) (record { given = (rw c.in-Some.is at c.in_ok-below.ensures.below) (top over) is.given; is = first.inner }) in
-    lists is g.P.Projected.ranks g.met.P.Projected.ranks_are c.args.at c.requires.inside _ (all is g.P.Projected.ranks g.met.P.Projected.ranks_are c.args.at c.requires.inside g.P.Projected.cost first found)) c.extend.ensures.done.found
+    lists is g.P.Projected.ranks g.met.P.Projected.ranks_are c.args.at c.requires.inside _ (all is g.P.Projected.ranks g.met.P.Projected.ranks_are c.args.at c.requires.inside first found)) c.extend.ensures.done.found
 
 pub returns-in-Some-clause-work : goal.returns-in-Some-clause-work
 returns-in-Some-clause-work g c = on_ok_weaker c.extend.result (λ done over is.
@@ -31,7 +31,7 @@ returns-in-Some-clause-told g c = on_ok_weaker c.extend.result (λ done.
     let rank = get_or (g.P.Projected.ranks c.args.root.now) c.args.at 0 in
     let first = first_is is g.P.Projected.ranks g.met.P.Projected.ranks_are c.args.at c.requires.inside c.requires.empty c.in_ok-add.ensures.sets c.in_ok-set.ensures.ok (c.item.ensures (top over) is.given) (c.support-support.ensures (top over) is.given) in
     let found = done (child (top over) rank) (record { given = (rw c.in-Some.is at c.in_ok-below.ensures.below) (top over) is.given; is = first.inner }) in
-    let long = ap length (all is g.P.Projected.ranks g.met.P.Projected.ranks_are c.args.at c.requires.inside g.P.Projected.cost first found) in
+    let long = ap length (all is g.P.Projected.ranks g.met.P.Projected.ranks_are c.args.at c.requires.inside first found) in
     omega (arith, found.told, c.add.ensures.told, long)) c.extend.ensures.done.found
 
 pub returns-in-Some-clause-going_on : goal.returns-in-Some-clause-going_on
@@ -63,4 +63,4 @@ returns-in-None-clause-listed g c = λ over is.
 pub returns-in-None-clause-work : goal.returns-in-None-clause-work
 returns-in-None-clause-work g c = λ over is.
     let none = (rw c.in-None.is at c.in_ok-below.ensures.none) (top over) is.given in
-    omega (arith, c.in_ok-below.ensures.work (top over) is.given, c.add.ensures.work, c.requires.idle, no_work g.P.Projected.cost (child (top over) (get_or (g.P.Projected.ranks c.args.root.now) c.args.at 0)) none)
+    omega (arith, c.in_ok-below.ensures.work (top over) is.given, c.add.ensures.work, c.requires.idle, no_work (child (top over) (get_or (g.P.Projected.ranks c.args.root.now) c.args.at 0)) none)

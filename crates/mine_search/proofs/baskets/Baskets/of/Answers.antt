@@ -18,6 +18,7 @@ returns c =
         each = c.loop-rank.invariant.each;
         light = c.requires.light;
         below = c.requires.few;
+        works = λ rank set. refl;
       };
       falls = support_falls c.args.baskets.items;
       few = c.requires.few;

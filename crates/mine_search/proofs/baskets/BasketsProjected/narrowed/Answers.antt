@@ -1,4 +1,4 @@
-use Rattle.std.proofs.Common.{◌+◌, sym, ap, arith}
+use Rattle.std.proofs.Common.{◌∙◌, ◌+◌, sym, ap, arith}
 use Rattle.std.proofs.lemmas.Bool.{eqb-true}
 use Rattle.std.proofs.lemmas.List.{length-map}
 use Rattle.mine_search.specs.declared.baskets.Extension.{Extension}
@@ -20,7 +20,7 @@ returns-then-is_empty-clause-none c = λ node is.
     none_below is c.args.at c.requires.inside below c.in_ok-below.ensures.baskets c.in_ok-below.ensures.extensions (omega (arith, none, below.extensions.ok))
 
 pub returns-then-is_empty-clause-work : goal.returns-then-is_empty-clause-work
-returns-then-is_empty-clause-work c = λ node is. ap (λ n. c.args.work.now + n) (as_many is c.args.at c.requires.inside)
+returns-then-is_empty-clause-work c = λ node is. ap (λ n. c.args.work.now + n) (as_many is c.args.at c.requires.inside ∙ sym (is.works _ node.set))
 
 pub returns-then-is_empty-clause-little : goal.returns-then-is_empty-clause-little
 returns-then-is_empty-clause-little c = let (node, is) = c.requires.given in let little = few is c.args.at c.requires.inside in omega arith
@@ -30,7 +30,7 @@ returns-clause-below c = λ node is.
     below_is is c.args.at c.requires.inside c.in_ok-below.below c.in_ok-below.ensures.baskets c.in_ok-below.ensures.extensions c.in_ok-below.ensures.least
 
 pub returns-clause-work : goal.returns-clause-work
-returns-clause-work c = λ node is. ap (λ n. c.args.work.now + n) (as_many is c.args.at c.requires.inside)
+returns-clause-work c = λ node is. ap (λ n. c.args.work.now + n) (as_many is c.args.at c.requires.inside ∙ sym (is.works _ node.set))
 
 pub returns-clause-little : goal.returns-clause-little
 returns-clause-little c = let (node, is) = c.requires.given in let little = few is c.args.at c.requires.inside in omega arith
