@@ -39,6 +39,8 @@ impl Projected for Baskets {
 
     ghost serves = { λ sums base. length base.extensions.items ≤ length sums.items };
 
+    ghost straight = { λ base. false };
+
     fn len(&self) -> usize {
         self.extensions.len()
     }
@@ -64,6 +66,10 @@ impl Projected for Baskets {
             return Ok(None);
         }
         Ok(Some(below))
+    }
+
+    fn is_straight(&self) -> bool {
+        false
     }
 
     ghost ranks_are = { λ base node is. is.ranks };

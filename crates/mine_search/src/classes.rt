@@ -21,6 +21,7 @@ pub fn class<P: Projected, T: Tally>(
 ) -> Result<(), MineFault>
     requires inside { at < length (P.ranks root.now) }
     requires root { (over : Supports) × IsRoot P.gives root.now over }
+    requires branching { P.straight root.now ≡ false }
     requires lent { P.serves scratch.old root.now }
     requires empty { mined.old.sets ≡ [] }
     requires idle { mined.old.work ≡ 0 }

@@ -1,5 +1,5 @@
 //! Conditional databases, of any kind.
-ghost use Rattle.std.specs.Prelude.{◌≡◌, ◌≤◌, ◌<◌, ◌+◌, ◌∷◌, ℕ, List, [], IfNone, IfOk, IfSome, IsTrue, OnOk, length, slice_index_or};
+ghost use Rattle.std.specs.Prelude.{◌≡◌, ◌≤◌, ◌<◌, ◌+◌, ◌∷◌, ℕ, Bool, false, List, [], IfNone, IfOk, IfSome, IsTrue, OnOk, length, slice_index_or};
 ghost use Rattle.mine_search.specs.Straight.{IsStraight};
 ghost use Rattle.mine_search.specs.Node.{Node, ServesOn, child, kept};
 
@@ -19,6 +19,9 @@ pub trait Projected: Drop + Sized {
 
     /// Whether a scratch may be lent to it.
     ghost serves: { Self.Scratch → Self → Type 0 };
+
+    /// Whether the sets are read off a single branch.
+    ghost straight: { Self → Bool };
 
     /// How many ranks extend the set.
     fn len(&self) -> usize
@@ -49,6 +52,7 @@ pub trait Projected: Drop + Sized {
         requires inside { at < length (ranks self.now) }
         requires given { (node : Node) × gives self.now node }
         requires lent { serves scratch.old self.now }
+        requires branching { straight self.now ≡ false }
         requires few { work.old + 4294967295 ≤ 18446744073709551615 }
         ensures below { IfOk result (λ below. IfSome below (λ inner. (node : Node) → gives self.now node
             → gives inner (child node (slice_index_or (ranks self.now) at 0)))) }
@@ -62,10 +66,8 @@ pub trait Projected: Drop + Sized {
 
     /// Whether its ranks are those of a single branch, from which the sets are read off.
     fn is_straight(&self) -> bool
-        ensures { IsTrue result → (node : Node) → gives self.now node → IsStraight node }
-    {
-        false
-    }
+        ensures straight { result ≡ straight self.now }
+        ensures branch { IsTrue result → (node : Node) → gives self.now node → IsStraight node };
 
     /// Gives what it has of the scratch back.
     fn give_back(self, _scratch: &mut Self::Scratch)
