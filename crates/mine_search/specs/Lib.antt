@@ -1,6 +1,0 @@
-pub mod Walk
-pub mod Node
-pub mod Search
-pub mod Baskets
-pub mod Class
-pub mod Straight
