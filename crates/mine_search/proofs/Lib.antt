@@ -1,0 +1,7 @@
+mod WalkLemmas
+mod NodeLemmas
+mod FoundLemmas
+mod BasketLemmas
+mod ClassLemmas
+mod StraightLemmas
+mod ReadLemmas

@@ -1,0 +1,66 @@
+//! Sets that are read off a single branch.
+ghost use Rattle.std.specs.Prelude.{◌≡◌, ◌≤◌, ◌<◌, ◌+◌, ◌-◌, ◌++◌, ◌⊎◌, ℕ, Err, IsTrue, OnOk, false, length, map};
+ghost use Rattle.basket_core.specs.declared.fault.MineFault.TheVariants.{TooMany};
+ghost use Rattle.basket_lists.specs.CountedSets.{set_at};
+ghost use Rattle.mine_search.specs.Node.{Node};
+ghost use Rattle.mine_search.specs.Search.{GoesOn, IsDone, IsOf, reached};
+ghost use Rattle.mine_search.specs.Straight.{IsStraight, between, chosen};
+
+use crate::mined::Mined;
+use crate::projected::Projected;
+use basket_core::{MineFault, Tally};
+use std::alloc::Global;
+
+/// Adds the frequent sets that extend the set at a place, read off a single branch: each choice of
+/// its ranks, with the support of the greatest (Han, Pei and Yin 2000).
+pub fn read_off<P: Projected, T: Tally>(
+    alloc: Global,
+    base: &P,
+    place: usize,
+    mined: &mut Mined,
+    tally: &mut T,
+) -> Result<(), MineFault>
+    requires found { place < length mined.old.sets }
+    requires given { (node : Node) × IsOf P.gives base.now (set_at mined.old.sets place) node }
+    requires straight { (node : Node) → P.gives base.now node → IsStraight node }
+    requires going { GoesOn (reached T.told_of T.limit_of T.is_over mined.old tally.old) }
+    ensures done { IsDone P.gives base.now (set_at mined.old.sets place)
+        (reached T.told_of T.limit_of T.is_over mined.old tally.old)
+        (reached T.told_of T.limit_of T.is_over mined.new tally.new) result }
+{
+    let start = mined.sets.len();
+    for at in 0..base.len() {
+        let item = base.item(at);
+        let support = base.support(at);
+        let end = mined.sets.len();
+        mined.add_longer(alloc, place, item, support, tally)?;
+        choose(alloc, (start, end), (item, support), mined, tally)?;
+    }
+    Ok(())
+}
+
+/// Adds each set between two places once more, with one more item and with another count.
+fn choose<T: Tally>(
+    alloc: Global,
+    places: (usize, usize),
+    one: (u32, u64),
+    mined: &mut Mined,
+    tally: &mut T,
+) -> Result<(), MineFault>
+    requires order { places.0 ≤ places.1 }
+    requires within { places.1 ≤ length mined.old.sets }
+    requires going { T.is_over tally.old ≡ false }
+    ensures sets { OnOk result (mined.new.sets ≡ mined.old.sets ++ map (chosen one.0 one.1) (between places.0 places.1 mined.old.sets)) }
+    ensures work { mined.new.work ≡ mined.old.work }
+    ensures told { OnOk result (T.told_of tally.new ≡ T.told_of tally.old + (places.1 - places.0)) }
+    ensures going_on { OnOk result (T.is_over tally.new ≡ false) }
+    ensures at_most { T.told_of tally.new ≤ T.told_of tally.old + (places.1 - places.0) }
+    ensures limit { T.limit_of tally.new ≡ T.limit_of tally.old }
+    ensures too_many { (limit : ℕ) → result ≡ Err (TooMany limit) → (limit ≡ T.limit_of tally.old)
+        × (IsTrue (T.is_over tally.new) ⊎ (limit < length mined.old.sets + (places.1 - places.0))) }
+{
+    for from in places.0..places.1 {
+        mined.add_longer(alloc, from, one.0, one.1, tally)?;
+    }
+    Ok(())
+}

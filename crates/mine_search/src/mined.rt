@@ -1,0 +1,91 @@
+//! What a search has found so far.
+ghost use Rattle.std.specs.Prelude.{◌≡◌, ◌≤◌, ◌<◌, ◌+◌, ◌++◌, [], ◌∷◌, ℕ, ◌⊎◌, Err, IfOk, IsTrue, false, OnOk, length};
+ghost use Rattle.basket_core.specs.declared.fault.MineFault.TheVariants.{TooMany};
+ghost use Rattle.basket_sets.specs.Itemset.{with_item};
+ghost use Rattle.basket_lists.specs.CountedSets.{set_at};
+
+use basket_core::{CountedSets, Itemset, MineFault, Tally};
+use std::alloc::{AllocError, Global};
+
+/// The sets that were found, and how much work they took.
+#[derive(Debug, Drop)]
+pub struct Mined {
+    pub sets: CountedSets,
+    pub work: u64,
+}
+
+impl Mined {
+    /// Nothing yet. Sets of the items are to come, with counts up to the greatest.
+    pub fn new(alloc: Global, items: &[u32], most: u64) -> Result<Self, AllocError>
+        ensures sets { IfOk result (λ mined. mined.sets ≡ []) }
+        ensures work { IfOk result (λ mined. mined.work ≡ 0) }
+    {
+        Ok(Mined {
+            sets: CountedSets::new(alloc, items, most)?,
+            work: 0,
+        })
+    }
+
+    /// Reports a frequent set to the tally, and adds it.
+    pub fn add<T: Tally>(
+        &mut self,
+        set: Itemset,
+        count: u64,
+        tally: &mut T,
+    ) -> Result<(), MineFault>
+        requires { T.is_over tally.old ≡ false }
+        ensures sets { OnOk result (self.new.sets ≡ self.old.sets ++ record { set = set; count = count } ∷ []) }
+        ensures work { self.new.work ≡ self.old.work }
+        ensures few { OnOk result (length self.new.sets ≤ 4294967295) }
+        ensures going_on { OnOk result (T.is_over tally.new ≡ false) }
+        ensures told { T.told_of tally.new ≡ T.told_of tally.old + 1 }
+        ensures limit { T.limit_of tally.new ≡ T.limit_of tally.old }
+        ensures too_many { (limit : ℕ) → result ≡ Err (TooMany limit)
+            → (limit ≡ T.limit_of tally.old) × (IsTrue (T.is_over tally.new) ⊎ (limit < length self.old.sets + 1)) }
+    {
+        let limit = tally.limit();
+        if !tally.tell() {
+            return Err(MineFault::TooMany { limit });
+        }
+        self.sets.push(set, count)?;
+        if self.sets.len() > limit as usize {
+            return Err(MineFault::TooMany { limit });
+        }
+        Ok(())
+    }
+
+    /// Reports a frequent set to the tally, and adds it: the set at a place with one more item.
+    /// Returns the place of the new set.
+    pub fn add_longer<T: Tally>(
+        &mut self,
+        alloc: Global,
+        place: usize,
+        item: u32,
+        count: u64,
+        tally: &mut T,
+    ) -> Result<usize, MineFault>
+        requires found { place < length self.old.sets }
+        requires going { T.is_over tally.old ≡ false }
+        ensures place { IfOk result (λ longer. longer ≡ length self.old.sets) }
+        ensures sets { OnOk result (self.new.sets ≡ self.old.sets ++ record { set = with_item item (set_at self.old.sets place); count = count } ∷ []) }
+        ensures work { self.new.work ≡ self.old.work }
+        ensures few { OnOk result (length self.new.sets ≤ 4294967295) }
+        ensures going_on { OnOk result (T.is_over tally.new ≡ false) }
+        ensures told { OnOk result (T.told_of tally.new ≡ T.told_of tally.old + 1) }
+        ensures at_most { T.told_of tally.new ≤ T.told_of tally.old + 1 }
+        ensures limit { T.limit_of tally.new ≡ T.limit_of tally.old }
+        ensures too_many { (limit : ℕ) → result ≡ Err (TooMany limit)
+            → (limit ≡ T.limit_of tally.old) × (IsTrue (T.is_over tally.new) ⊎ (limit < length self.old.sets + 1)) }
+    {
+        let limit = tally.limit();
+        if !tally.tell() {
+            return Err(MineFault::TooMany { limit });
+        }
+        let longer = self.sets.len();
+        self.sets.push_longer(alloc, place, item, count)?;
+        if self.sets.len() > limit as usize {
+            return Err(MineFault::TooMany { limit });
+        }
+        Ok(longer)
+    }
+}

@@ -1,0 +1,79 @@
+//! Conditional databases, of any kind.
+ghost use Rattle.std.specs.Prelude.{◌≡◌, ◌≤◌, ◌<◌, ◌+◌, ◌∷◌, ℕ, Bool, false, List, [], IfNone, IfOk, IfSome, IsTrue, OnOk, length, slice_index_or};
+ghost use Rattle.mine_search.specs.Straight.{IsStraight};
+ghost use Rattle.mine_search.specs.Node.{Node, ServesOn, child, kept};
+
+use std::alloc::{AllocError, Global};
+
+/// The ranks that extend a set and stay frequent, and what tells which ranks extend it further: a
+/// conditional database.
+pub trait Projected: Drop + Sized {
+    /// What is used again from database to database.
+    type Scratch;
+
+    /// Whether it represents the extensions of a node's set.
+    ghost gives: { Self → Node → Type 0 };
+
+    /// The ranks that extend the set, rising.
+    ghost ranks: { Self → List ℕ };
+
+    /// Whether a scratch may be lent to it.
+    ghost serves: { Self.Scratch → Self → Type 0 };
+
+    /// Whether the sets are read off a single branch.
+    ghost straight: { Self → Bool };
+
+    /// How many ranks extend the set.
+    fn len(&self) -> usize
+        ensures { result ≡ length (ranks self.now) };
+
+    /// The item of the rank at a place.
+    fn item(&self, at: usize) -> u32
+        requires inside { at < length (ranks self.now) }
+        requires given { (node : Node) × gives self.now node }
+        ensures { (node : Node) → gives self.now node
+            → result ≡ slice_index_or node.over.items (slice_index_or (ranks self.now) at 0) 0 };
+
+    /// The support of the set with the rank at a place.
+    fn support(&self, at: usize) -> u64
+        requires inside { at < length (ranks self.now) }
+        requires given { (node : Node) × gives self.now node }
+        ensures { (node : Node) → gives self.now node
+            → result ≡ node.over.support (slice_index_or (ranks self.now) at 0 ∷ node.set) };
+
+    /// The conditional database of the set with the rank at a place, unless it has no frequent rank.
+    fn narrowed(
+        &self,
+        alloc: Global,
+        at: usize,
+        scratch: &mut Self::Scratch,
+        work: &mut u64,
+    ) -> Result<Option<Self>, AllocError>
+        requires inside { at < length (ranks self.now) }
+        requires given { (node : Node) × gives self.now node }
+        requires lent { serves scratch.old self.now }
+        requires branching { straight self.now ≡ false }
+        requires few { work.old + 4294967295 ≤ 18446744073709551615 }
+        ensures below { IfOk result (λ below. IfSome below (λ inner. (node : Node) → gives self.now node
+            → gives inner (child node (slice_index_or (ranks self.now) at 0)))) }
+        ensures none { IfOk result (λ below. IfNone below ((node : Node) → gives self.now node
+            → kept (child node (slice_index_or (ranks self.now) at 0)) ≡ [])) }
+        ensures work { OnOk result ((node : Node) → gives self.now node
+            → work.new ≡ work.old + node.over.work (slice_index_or (ranks self.now) at 0 ∷ node.set)) }
+        ensures little { OnOk result (work.new ≤ work.old + 4294967295) }
+        ensures inner { IfOk result (λ below. IfSome below (serves scratch.new)) }
+        ensures lent { OnOk result (ServesOn serves scratch.old scratch.new) };
+
+    /// Whether its ranks are those of a single branch, from which the sets are read off.
+    fn is_straight(&self) -> bool
+        ensures straight { result ≡ straight self.now }
+        ensures branch { IsTrue result → (node : Node) → gives self.now node → IsStraight node };
+
+    /// Gives what it has of the scratch back.
+    fn give_back(self, _scratch: &mut Self::Scratch)
+        ensures { ServesOn serves _scratch.old _scratch.new }
+    {}
+
+    /// The ranks are those with which the set is frequent.
+    ghost ranks_are: { (base : Self) (node : Node) → gives base node → ranks base ≡ kept node };
+}
