@@ -1,46 +1,29 @@
--- The class of a rank.
-use Rattle.std.specs.Prelude.{◌+◌, ◌≡◌, ◌≤◌, ◌<◌, ℕ, Bool, false, IsTrue, List, [], ◌∷◌, ◌==◌, All, length, map, nat_eq}
-use Rattle.std.specs.Cmp.Lexicographic.{pointwise}
-use Rattle.std.specs.List.{Contains, IsDistinct}
-use Rattle.basket_ranks.specs.Codes.{MOST_RANKS}
-use Rattle.basket_sets.specs.declared.counted.Counted.{Counted}
-use Rattle.basket_sets.specs.Frequent.{IsNonemptySet}
-use Rattle.basket_sets.specs.Itemset.{contains}
-use Rattle.mine_search.specs.Node.{Node, Supports, is_met}
-use Rattle.mine_search.specs.Search.{found_at}
-use Rattle.mine_search.specs.Walk.{sets_below, work_below}
+-- The class of a rank of coded baskets.
+use Rattle.std.specs.Prelude.{◌≡◌, ◌≤◌, ℕ, List, [], ◌∷◌, Option, Some, None}
+use Rattle.basket_ranks.specs.Codes.{Coding}
+use Rattle.basket_sets.specs.Minimum.{IsLeastSupport}
+use Rattle.basket_sets.specs.Support.{support_of, total_of}
+use Rattle.mine_search.specs.Node.{Node, Supports, is_met, kept}
+use Rattle.mine_search.specs.Walk.{sets_below}
 
--- whether the last rank of a set, which is its greatest, is this one
-abbrev pub ends_in : ℕ → List ℕ → Bool
-ends_in rank [] = false
-ends_in rank (first ∷ []) = first == rank
-ends_in rank (first ∷ second ∷ others) = ends_in rank (second ∷ others)
+-- the supports of sets of ranks in coded baskets, with the work for each set
+pub record IsOver (coding : Coding) (over : Supports) : Type 0 where
+  pub supports : (set : List ℕ) → over.support set ≡ support_of coding.baskets set
+  pub least : IsLeastSupport coding.minimum (total_of coding.baskets) over.least
+  pub items : over.items ≡ coding.items
 
--- the node of the empty set, which all ranks may extend
-abbrev pub top : Supports → Node
-top over = record { over = over; set = []; below = length over.items }
+-- the node of a rank alone
+abbrev pub of_rank : Supports → ℕ → Node
+of_rank over rank = record { over = over; set = rank ∷ []; below = rank }
 
--- a database of all ranks, by supports that fall
-pub record IsRoot {P : Type 0} (gives : P → Node → Type 0) (root : P) (over : Supports) : Type 0 where
-  pub given : gives root (top over)
-  pub falls : (set subset : List ℕ) → IsTrue (contains set subset) → over.support set ≤ over.support subset
-  pub few : length over.items < MOST_RANKS
+-- a frequent rank with its support, and its conditional database unless no rank is frequent there
+pub record IsClass {P : Type 0} (gives : P → Node → Type 0) (coding : Coding) (rank support : ℕ) (below : Option P) (over : Supports) : Type 0 where
+  pub over_coding : IsOver coding over
+  pub supported : support ≡ over.support (rank ∷ [])
+  pub frequent : over.least ≤ support
+  pub some : (inner : P) → below ≡ Some inner → gives inner (of_rank over rank)
+  pub none : below ≡ None → kept (of_rank over rank) ≡ []
 
--- the class as a search lists it, and the work that finds it
+-- the class as a search lists it
 abbrev pub class_sets : Supports → ℕ → List (List ℕ)
 class_sets over rank = (rank ∷ []) ∷ sets_below (is_met over) rank (rank ∷ [])
-
-abbrev pub class_work : Supports → ℕ → ℕ
-class_work over rank = over.work (rank ∷ []) + work_below over.work (is_met over) rank (rank ∷ [])
-
--- the sets are those of a class, each once
-pub record AreClass (over : Supports) (rank : ℕ) (sets : List (List ℕ)) : Type 0 where
-  pub distinct : IsDistinct (pointwise nat_eq) sets
-  pub sound : All (λ set. IsNonemptySet set × IsTrue (ends_in rank set) × IsTrue (is_met over set)) sets
-  pub complete : (set : List ℕ) → IsNonemptySet set → IsTrue (ends_in rank set) → IsTrue (is_met over set) → Contains sets set
-
--- the sets of a class as items, each once with its support
-pub record ListsClass (over : Supports) (rank : ℕ) (list : List Counted) : Type 0 where
-  pub sets : List (List ℕ)
-  pub are : AreClass over rank sets
-  pub named : list ≡ map (found_at over) sets

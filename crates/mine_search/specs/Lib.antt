@@ -1,6 +1,5 @@
 pub mod Walk
 pub mod Node
 pub mod Search
-pub mod Baskets
 pub mod Class
 pub mod Straight

@@ -33,7 +33,3 @@ sets_at node = sets_below (is_met node.over) node.below node.set
 
 abbrev pub work_at : Node → ℕ
 work_at node = work_below node.over.work (is_met node.over) node.below node.set
-
--- what served before serves now
-abbrev pub ServesOn : {S P : Type 0} → (S → P → Type 0) → S → S → Type 0
-ServesOn {S} {P} serves before now = (base : P) → serves before base → serves now base

@@ -1,51 +1,65 @@
 //! The class of a rank.
-ghost use Rattle.std.specs.Prelude.{◌≡◌, ◌≤◌, ◌<◌, ◌+◌, ◌⊎◌, ℕ, [], Err, IsTrue, OnOk, false, length, slice_index_or};
+ghost use Rattle.std.specs.Prelude.{◌≡◌, ◌≤◌, ◌<◌, ◌+◌, ◌*◌, ◌⊎◌, ℕ, Err, IfOk, IsTrue, OnOk, Some, false, length};
 ghost use Rattle.basket_core.specs.declared.fault.MineFault.TheVariants.{TooMany};
-ghost use Rattle.mine_search.specs.Class.{IsRoot, ListsClass, class_sets, class_work};
-ghost use Rattle.mine_search.specs.Node.{ServesOn, Supports};
+ghost use Rattle.mine_classes.specs.Mined.{ListsClassItems, MOST_SET_WORK, class_size};
+ghost use Rattle.mine_search.specs.Class.{IsClass, of_rank};
+ghost use Rattle.mine_search.specs.Node.{Supports, work_at};
 
 use crate::mined::Mined;
 use crate::projected::Projected;
 use crate::search::extend;
-use basket_core::{Itemset, MineFault, Tally};
+use basket_core::{Coded, CountedSets, Itemset, MineFault, Tally};
+use mine_classes::laws::lists_have_class_size;
 use std::alloc::Global;
 
-/// The frequent sets whose greatest rank is the one at a place, of a database of all ranks.
-pub fn class<P: Projected, T: Tally>(
-    alloc: Global,
-    root: &P,
-    at: usize,
-    scratch: &mut P::Scratch,
-    mined: &mut Mined,
-    tally: &mut T,
-) -> Result<(), MineFault>
-    requires inside { at < length (P.ranks root.now) }
-    requires root { (over : Supports) × IsRoot P.gives root.now over }
-    requires branching { P.straight root.now ≡ false }
-    requires lent { P.serves scratch.old root.now }
-    requires empty { mined.old.sets ≡ [] }
-    requires idle { mined.old.work ≡ 0 }
-    requires going { T.is_over tally.old ≡ false }
-    ensures listed { OnOk result ((over : Supports) → IsRoot P.gives root.now over
-        → ListsClass over (slice_index_or (P.ranks root.now) at 0) mined.new.sets) }
-    ensures work { OnOk result ((over : Supports) → IsRoot P.gives root.now over
-        → mined.new.work ≡ class_work over (slice_index_or (P.ranks root.now) at 0)) }
-    ensures told { OnOk result (T.told_of tally.new ≡ T.told_of tally.old + length mined.new.sets) }
-    ensures going_on { OnOk result (T.is_over tally.new ≡ false) }
-    ensures too_many { (limit : ℕ) → result ≡ Err (TooMany limit) → (over : Supports) → IsRoot P.gives root.now over
-        → (limit ≡ T.limit_of tally.old) × (IsTrue (T.is_over tally.new)
-        ⊎ (limit < length (class_sets over (slice_index_or (P.ranks root.now) at 0)))) }
-    ensures at_most { (over : Supports) → IsRoot P.gives root.now over
-        → T.told_of tally.new ≤ T.told_of tally.old + length (class_sets over (slice_index_or (P.ranks root.now) at 0)) }
-    ensures limit { T.limit_of tally.new ≡ T.limit_of tally.old }
-    ensures lent { OnOk result (ServesOn P.serves scratch.old scratch.new) }
-{
-    let support = root.support(at);
-    let set = Itemset::from_items(alloc, &[root.item(at)])?;
-    mined.add(set, support, tally)?;
-    let below = root.narrowed(alloc, at, scratch, &mut mined.work)?;
-    match below {
-        Some(inner) => extend(alloc, &inner, 0, scratch, mined, tally),
-        None => Ok(()),
+/// A frequent rank with its support, its conditional database unless no rank is frequent there, and
+/// the work that it took so far.
+#[derive(Drop)]
+pub struct Class<P> {
+    pub rank: u32,
+    pub support: u64,
+    pub below: Option<P>,
+    pub work: u64,
+}
+
+impl<P: Projected> Class<P> {
+    /// The frequent sets whose greatest rank is this one, as items, each once with its support, and
+    /// the work that they took (Zaki 2000). Each set is reported to the tally once it is known to be
+    /// frequent. `TooMany` comes if the tally is over, or the class is longer than its limit.
+    #[tactic(auto, using(crate::proofs::ClassLemmas::class_steps))]
+    pub fn list<T: Tally>(
+        self,
+        alloc: Global,
+        coded: &Coded,
+        scratch: &mut P::Scratch,
+        tally: &mut T,
+    ) -> Result<(CountedSets, u64), MineFault>
+        requires rank { self.rank < length coded.now.items }
+        requires class { (over : Supports) × IsClass P.gives coded.now self.rank self.support self.below over }
+        requires lent { (inner : P) → self.below ≡ Some inner → P.serves scratch.old inner }
+        requires few { self.work ≤ MOST_SET_WORK }
+        requires going { T.is_over tally.old ≡ false }
+        ensures listed { IfOk result (λ mined. ListsClassItems coded.now self.rank mined.0) }
+        ensures work { IfOk result (λ mined. (over : Supports) → IsClass P.gives coded.now self.rank self.support self.below over
+            → mined.1 ≡ self.work + work_at (of_rank over self.rank)) }
+        ensures little { IfOk result (λ mined. mined.1 ≤ class_size coded.now self.rank * MOST_SET_WORK) }
+        ensures told { IfOk result (λ mined. T.told_of tally.new ≡ T.told_of tally.old + length mined.0) }
+        ensures going_on { IfOk result (λ mined. T.is_over tally.new ≡ false) }
+        ensures too_many { (limit : ℕ) → result ≡ Err (TooMany limit) → (limit ≡ T.limit_of tally.old)
+            × (IsTrue (T.is_over tally.new) ⊎ (limit < class_size coded.now self.rank)) }
+        ensures at_most { T.told_of tally.new ≤ T.told_of tally.old + class_size coded.now self.rank }
+        ensures limit { T.limit_of tally.new ≡ T.limit_of tally.old }
+        ensures lent { OnOk result (P.keeps scratch.old scratch.new) }
+    {
+        lists_have_class_size();
+        let mut mined = Mined::new(alloc, coded.items(), coded.total())?;
+        mined.work = self.work;
+        let set = Itemset::from_items(alloc, &[coded.item(self.rank)])?;
+        mined.add(set, self.support, tally)?;
+        if let Some(below) = self.below {
+            extend(alloc, &below, 0, scratch, &mut mined, tally)?;
+            below.give_back(scratch);
+        }
+        Ok((mined.sets, mined.work))
     }
 }

@@ -1,15 +1,13 @@
 //! A search for frequent sets, depth first, over conditional databases of any kind.
 #![tactic(auto)]
 
-mod baskets;
 mod branch;
 mod classes;
 mod mined;
 mod projected;
 mod search;
 
-pub use baskets::{Baskets, Extension};
-pub use classes::class;
+pub use classes::Class;
 pub use mined::Mined;
 pub use projected::Projected;
 pub use search::extend;

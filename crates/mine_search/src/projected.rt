@@ -1,7 +1,7 @@
 //! Conditional databases, of any kind.
 ghost use Rattle.std.specs.Prelude.{◌≡◌, ◌≤◌, ◌<◌, ◌+◌, ◌∷◌, ℕ, Bool, false, List, [], IfNone, IfOk, IfSome, IsTrue, OnOk, length, slice_index_or};
 ghost use Rattle.mine_search.specs.Straight.{IsStraight};
-ghost use Rattle.mine_search.specs.Node.{Node, ServesOn, child, kept};
+ghost use Rattle.mine_search.specs.Node.{Node, child, kept};
 
 use std::alloc::{AllocError, Global};
 
@@ -19,6 +19,9 @@ pub trait Projected: Drop + Sized {
 
     /// Whether a scratch may be lent to it.
     ghost serves: { Self.Scratch → Self → Type 0 };
+
+    /// Whether a scratch has kept what it may be lent for.
+    ghost keeps: { Self.Scratch → Self.Scratch → Type 0 };
 
     /// Whether the sets are read off a single branch.
     ghost straight: { Self → Bool };
@@ -62,7 +65,7 @@ pub trait Projected: Drop + Sized {
             → work.new ≡ work.old + node.over.work (slice_index_or (ranks self.now) at 0 ∷ node.set)) }
         ensures little { OnOk result (work.new ≤ work.old + 4294967295) }
         ensures inner { IfOk result (λ below. IfSome below (serves scratch.new)) }
-        ensures lent { OnOk result (ServesOn serves scratch.old scratch.new) };
+        ensures lent { OnOk result (keeps scratch.old scratch.new) };
 
     /// Whether its ranks are those of a single branch, from which the sets are read off.
     fn is_straight(&self) -> bool
@@ -70,10 +73,18 @@ pub trait Projected: Drop + Sized {
         ensures branch { IsTrue result → (node : Node) → gives self.now node → IsStraight node };
 
     /// Gives what it has of the scratch back.
-    fn give_back(self, _scratch: &mut Self::Scratch)
-        ensures { ServesOn serves _scratch.old _scratch.new }
-    {}
+    fn give_back(self, scratch: &mut Self::Scratch)
+        ensures { keeps scratch.old scratch.new };
 
     /// The ranks are those with which the set is frequent.
     ghost ranks_are: { (base : Self) (node : Node) → gives base node → ranks base ≡ kept node };
+
+    /// A scratch that is not used has kept all.
+    ghost unused: { (scratch : Self.Scratch) → keeps scratch scratch };
+
+    /// What is kept from use to use is kept.
+    ghost used_twice: { (first second third : Self.Scratch) → keeps first second → keeps second third → keeps first third };
+
+    /// A scratch that has kept all may be lent again.
+    ghost lent_again: { (base : Self) (first second : Self.Scratch) → keeps first second → serves first base → serves second base };
 }

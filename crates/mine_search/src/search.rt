@@ -1,7 +1,7 @@
 //! The search for the frequent sets that extend a set, depth first.
 ghost use Rattle.std.specs.Prelude.{◌<◌, OnOk, length};
 ghost use Rattle.basket_lists.specs.CountedSets.{set_at};
-ghost use Rattle.mine_search.specs.Node.{Node, ServesOn};
+ghost use Rattle.mine_search.specs.Node.{Node};
 ghost use Rattle.mine_search.specs.Search.{GoesOn, IsDone, IsOf, reached};
 
 use crate::branch::read_off;
@@ -27,7 +27,7 @@ pub fn extend<P: Projected, T: Tally>(
     ensures done { IsDone P.gives base.now (set_at mined.old.sets place)
         (reached T.told_of T.limit_of T.is_over mined.old tally.old)
         (reached T.told_of T.limit_of T.is_over mined.new tally.new) result }
-    ensures lent { OnOk result (ServesOn P.serves scratch.old scratch.new) }
+    ensures lent { OnOk result (P.keeps scratch.old scratch.new) }
 {
     if base.is_straight() {
         return read_off(alloc, base, place, mined, tally);
