@@ -1,5 +1,5 @@
 //! The class of a rank.
-ghost use Rattle.std.specs.Prelude.{◌≡◌, ◌≤◌, ◌<◌, ◌+◌, ◌*◌, ◌⊎◌, ℕ, Err, IfOk, IsTrue, OnOk, Some, false, length};
+ghost use Rattle.std.specs.Prelude.{◌≡◌, ◌≤◌, ◌<◌, ◌+◌, ◌*◌, ◌⊎◌, ℕ, Err, IfOk, IsTrue, None, OnOk, Some, false, length};
 ghost use Rattle.basket_core.specs.declared.fault.MineFault.TheVariants.{TooMany};
 ghost use Rattle.mine_classes.specs.Mined.{ListsClassItems, MOST_SET_WORK, class_size};
 ghost use Rattle.mine_search.specs.Class.{IsClass, of_rank};
@@ -49,7 +49,8 @@ impl<P: Projected> Class<P> {
             × (IsTrue (T.is_over tally.new) ⊎ (limit < class_size coded.now self.rank)) }
         ensures at_most { T.told_of tally.new ≤ T.told_of tally.old + class_size coded.now self.rank }
         ensures limit { T.limit_of tally.new ≡ T.limit_of tally.old }
-        ensures lent { OnOk result (P.keeps scratch.old scratch.new) }
+        ensures lent { OnOk result ((inner : P) → self.below ≡ Some inner → P.keeps inner scratch.old scratch.new) }
+        ensures alone { self.below ≡ None → scratch.new ≡ scratch.old }
     {
         lists_have_class_size();
         let mut mined = Mined::new(alloc, coded.items(), coded.total())?;

@@ -20,8 +20,8 @@ pub trait Projected: Drop + Sized {
     /// Whether a scratch may be lent to it.
     ghost serves: { Self.Scratch → Self → Type 0 };
 
-    /// Whether a scratch has kept what it may be lent for.
-    ghost keeps: { Self.Scratch → Self.Scratch → Type 0 };
+    /// Whether a scratch has kept what was lent of it before.
+    ghost keeps: { Self → Self.Scratch → Self.Scratch → Type 0 };
 
     /// Whether the sets are read off a single branch.
     ghost straight: { Self → Bool };
@@ -65,7 +65,9 @@ pub trait Projected: Drop + Sized {
             → work.new ≡ work.old + node.over.work (slice_index_or (ranks self.now) at 0 ∷ node.set)) }
         ensures little { OnOk result (work.new ≤ work.old + 4294967295) }
         ensures inner { IfOk result (λ below. IfSome below (serves scratch.new)) }
-        ensures lent { OnOk result (keeps scratch.old scratch.new) };
+        ensures lent { OnOk result (keeps self.now scratch.old scratch.new) }
+        ensures wider { IfOk result (λ below. IfSome below (λ inner. (before after : Self.Scratch)
+            → keeps inner before after → keeps self.now before after)) };
 
     /// Whether its ranks are those of a single branch, from which the sets are read off.
     fn is_straight(&self) -> bool
@@ -74,17 +76,18 @@ pub trait Projected: Drop + Sized {
 
     /// Gives what it has of the scratch back.
     fn give_back(self, scratch: &mut Self::Scratch)
-        ensures { keeps scratch.old scratch.new };
+        ensures { keeps self scratch.old scratch.new };
 
     /// The ranks are those with which the set is frequent.
     ghost ranks_are: { (base : Self) (node : Node) → gives base node → ranks base ≡ kept node };
 
-    /// A scratch that is not used has kept all.
-    ghost unused: { (scratch : Self.Scratch) → keeps scratch scratch };
+    /// A scratch that is not used keeps all.
+    ghost unused: { (base : Self) (scratch : Self.Scratch) → keeps base scratch scratch };
 
-    /// What is kept from use to use is kept.
-    ghost used_twice: { (first second third : Self.Scratch) → keeps first second → keeps second third → keeps first third };
+    /// What is kept by one use and by the next is kept by both.
+    ghost used_twice: { (base : Self) (first second third : Self.Scratch) → keeps base first second → keeps base second third
+        → keeps base first third };
 
-    /// A scratch that has kept all may be lent again.
-    ghost lent_again: { (base : Self) (first second : Self.Scratch) → keeps first second → serves first base → serves second base };
+    /// A scratch that has kept what was lent may be lent again.
+    ghost lent_again: { (base : Self) (before after : Self.Scratch) → keeps base before after → serves before base → serves after base };
 }

@@ -27,7 +27,7 @@ pub fn extend<P: Projected, T: Tally>(
     ensures done { IsDone P.gives base.now (set_at mined.old.sets place)
         (reached T.told_of T.limit_of T.is_over mined.old tally.old)
         (reached T.told_of T.limit_of T.is_over mined.new tally.new) result }
-    ensures lent { OnOk result (P.keeps scratch.old scratch.new) }
+    ensures lent { OnOk result (P.keeps base.now scratch.old scratch.new) }
 {
     if base.is_straight() {
         return read_off(alloc, base, place, mined, tally);

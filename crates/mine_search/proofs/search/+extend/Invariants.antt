@@ -12,7 +12,7 @@ abbrev pub invariant-loop-at : goal.invariant-loop-at
 invariant-loop-at g l =
     let at = reached g.T.Tally.told_of g.T.Tally.limit_of g.T.Tally.is_over in
     record {
-      lent : g.P.Projected.keeps l.initial.scratch l.scratch;
+      lent : g.P.Projected.keeps l.base l.initial.scratch l.scratch;
       limit : g.T.Tally.limit_of l.tally ≡ g.T.Tally.limit_of l.initial.tally;
       going : GoesOn (at l.mined l.tally);
       found : (node : Node) → IsOf g.P.Projected.gives l.base (set_at l.initial.mined.sets l.place) node → FindsPart node l.at (at l.initial.mined l.initial.tally) (at l.mined l.tally);
