@@ -6,8 +6,7 @@ use Rattle.std.specs.List.{IsDistinct}
 use Rattle.std.proofs.lemmas.Bool.{cases_Bool, cases_eq, eq-eqb, eqb-true, le-leb, leb-true, true≢false}
 use Rattle.std.proofs.lemmas.List.Elements.{All-from_recursion}
 use Rattle.basket_sets.specs.Frequent.{IsNonemptySet}
-use Rattle.mine_search.specs.Class.{AreClass, class_sets, ends_in}
-use Rattle.mine_search.specs.Node.{Supports, is_met}
+use Rattle.mine_classes.specs.Classes.{ends_in}
 use Rattle.basket_sets.specs.Itemset.{IsRising, contains}
 use Rattle.basket_sets.proofs.theory.Members.{Contains-from_Member, Member, All-from_Member, at_Member, Member-append, Member-append_left, Member-append_right}
 use Rattle.basket_sets.proofs.theory.Rising.{contains_each, nil_rises, cons_rises, first_below, rest_rises}
@@ -216,15 +215,3 @@ module _ (test : List ℕ → Bool) where
       at : (front : List ℕ) → IsRising (front ++ rank ∷ []) → test (front ++ rank ∷ []) ≡ true → Member (front ++ rank ∷ []) ((rank ∷ []) ∷ sets_below test rank (rank ∷ []))
       at [] rises passes = inl refl
       at (y ∷ ys) rises passes = inr (into_sets falls rank y ys (rank ∷ []) (front_rises (y ∷ ys) rank rises) (λ z m. front_below (y ∷ ys) rank rises z m) passes)
-
--- a search lists a class, each set once
-pub class_is : (over : Supports) → ((set subset : List ℕ) → contains set subset ≡ true → over.support set ≤ over.support subset) → (rank : ℕ) → is_met over (rank ∷ []) ≡ true → AreClass over rank (class_sets over rank)
-class_is over fall rank passes = record {
-  distinct = class_distinct (is_met over) rank;
-  sound = All-from_recursion (λ set. IsNonemptySet set × (ends_in rank set ≡ true) × (is_met over set ≡ true)) (class_sets over rank) (All-from_Member _ (class_sets over rank) (class_sound (is_met over) rank passes));
-  complete = λ set n ends h. Contains-from_Member set (class_sets over rank) (class_complete (is_met over) falls rank set n.0 ends h);
-}
-  where
-    falls : (a b : List ℕ) → is_met over (a ++ b) ≡ true → is_met over b ≡ true
-    falls a b h = le-leb over.least (over.support b)
-        (let enough = leb-true over.least (over.support (a ++ b)) h in let less = fall (a ++ b) b (contains_each (a ++ b) b (λ z m. Member-append_right z a b m)) in omega arith)

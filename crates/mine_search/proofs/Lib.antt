@@ -1,4 +1,4 @@
-mod WalkLemmas
+pub mod theory
 mod NodeLemmas
 mod FoundLemmas
 mod ClassLemmas

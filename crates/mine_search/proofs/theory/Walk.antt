@@ -1,14 +1,25 @@
 -- A search by the ranks that extend a set.
 use Rattle.std.proofs.Common.{◌≡◌, ℕ, zero, suc, ◌+◌, ◌<◌, ◌≤◌, Bool, true, false, List, [], ◌∷◌, ◌++◌, length, get_or, take, cond, refl, sym, ap, ◌∙◌, subst, inl, inr, arith, length-append}
 use Rattle.std.specs.List.{filter, flat_map, sum_by}
-use Rattle.std.proofs.lemmas.Bool.{cases_lt, true≢false}
+use Rattle.std.proofs.lemmas.Bool.{cases_eq, cases_lt, true≢false}
 use Rattle.std.proofs.lemmas.Grind.{flat_map-append}
 use Rattle.std.proofs.lemmas.List.{append-nil, take-append-le, get_or_append_left}
 use Rattle.std.proofs.lemmas.List.Elements.{filter-append}
 use Rattle.std.proofs.Math.Seq.{get_or-append_seam, take-append_seam}
 use Rattle.std.proofs.lemmas.List.Sums.{sum_by-append, sum_by-cons}
-use Rattle.basket_sets.proofs.theory.Members.{Member, Member-append}
+use Rattle.basket_sets.specs.Itemset.{IsRising}
+use Rattle.basket_sets.proofs.theory.Members.{Member, Member-append, Member-append_left, Member-append_right}
+use Rattle.basket_sets.proofs.theory.Rising.{cons_rises, first_below, nil_rises, rest_rises}
 use Rattle.mine_search.specs.Walk.{kept_below, sets_below, work_below}
+
+push_rises : (front : List ℕ) (last : ℕ) → ((rank : ℕ) → Member rank front → rank < last) → IsRising front → IsRising (front ++ last ∷ [])
+push_rises [] last low up = cons_rises last [] (λ y m. absurd m) nil_rises
+push_rises (x ∷ front) last low up =
+    cons_rises x (front ++ last ∷ []) (λ y m. elim (Member-append y front (last ∷ []) m) [
+      | inl n ↦ first_below x front up y n
+      | inr (inl e) ↦ subst (λ z. x < z) e (low x (inl refl))
+      | inr (inr n) ↦ absurd n
+    ]) (push_rises front last (λ rank m. low rank (inr m)) (rest_rises x front up))
 
 module _ (test : List ℕ → Bool) where
   -- what the search finds by one rank: the set with the rank, and the sets that extend that
@@ -120,3 +131,47 @@ module _ (test : List ℕ → Bool) where
       at : (b : Bool) → length (cond b (rank ∷ []) []) ≤ 1
       at true = omega arith
       at false = omega arith
+
+  -- they are all ranks below the number with which the set passes
+  pub kept_has : (below : ℕ) (set : List ℕ) (rank : ℕ) → rank < below → test (rank ∷ set) ≡ true → Member rank (kept_below test below set)
+  kept_has zero set rank less h = absurd (omega arith)
+  kept_has (suc other) set rank less h = elim (cases_eq rank other) [
+    | inl e ↦ Member-append_right rank (kept_below test other set) (cond (test (other ∷ set)) (other ∷ []) [])
+        (subst (λ b. Member rank (cond b (other ∷ []) [])) (sym (ap (λ r. test (r ∷ set)) (sym e) ∙ h)) (inl (sym e)))
+    | inr differ ↦ Member-append_left rank (kept_below test other set) (cond (test (other ∷ set)) (other ∷ []) []) (kept_has other set rank (omega arith) h)
+  ]
+
+  -- they rise
+  pub kept_rises : (below : ℕ) (set : List ℕ) → IsRising (kept_below test below set)
+  kept_rises zero set = nil_rises
+  kept_rises (suc rank) set = one (kept_rises rank set) (test (rank ∷ set))
+    where
+      one : IsRising (kept_below test rank set) → (b : Bool) → IsRising (kept_below test rank set ++ cond b (rank ∷ []) [])
+      one up true = push_rises (kept_below test rank set) rank (λ other m. kept_lower rank set other m) up
+      one up false = subst IsRising (sym (append-nil (kept_below test rank set))) up
+
+  -- ---- work
+
+  -- the work is that of each set that is found
+  pub work_is_sum : (work : List ℕ → ℕ) (below : ℕ) (set : List ℕ) → work_below work test below set ≡ sum_by work (sets_below test below set)
+  work_is_sum work zero set = refl
+  work_is_sum work (suc rank) set =
+      (λ i. work_is_sum work rank set i + one (work_is_sum work rank (rank ∷ set)) (test (rank ∷ set)) i)
+      ∙ sym (sum_by-append work (sets_below test rank set) (cond (test (rank ∷ set)) ((rank ∷ set) ∷ sets_below test rank (rank ∷ set)) []))
+    where
+      one : work_below work test rank (rank ∷ set) ≡ sum_by work (sets_below test rank (rank ∷ set)) → (b : Bool)
+          → cond b (work (rank ∷ set) + work_below work test rank (rank ∷ set)) 0 ≡ sum_by work (cond b ((rank ∷ set) ∷ sets_below test rank (rank ∷ set)) [])
+      one deeper true = ap (λ n. work (rank ∷ set) + n) deeper ∙ sym (sum_by-cons work (rank ∷ set) (sets_below test rank (rank ∷ set)))
+      one deeper false = refl
+
+  -- there is none if no set that is longer takes any
+  pub no_work_below : (work : List ℕ → ℕ) (set : List ℕ) → ((rank : ℕ) (more : List ℕ) → work (rank ∷ more ++ set) ≡ 0) → (below : ℕ) (more : List ℕ) → work_below work test below (more ++ set) ≡ 0
+  no_work_below work set free zero more = refl
+  no_work_below work set free (suc rank) more =
+      let lower = no_work_below work set free rank more in
+      let its = no_work_below work set free rank (rank ∷ more) in
+      let one = at (test (rank ∷ more ++ set)) its in omega arith
+    where
+      at : (b : Bool) → work_below work test rank (rank ∷ more ++ set) ≡ 0 → cond b (work (rank ∷ more ++ set) + work_below work test rank (rank ∷ more ++ set)) 0 ≡ 0
+      at true its = (let own = free rank more in omega arith)
+      at false its = refl

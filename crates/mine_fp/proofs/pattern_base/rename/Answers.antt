@@ -5,7 +5,7 @@ use Rattle.basket_sets.specs.Counts.{AllBelow}
 use Rattle.basket_sets.proofs.theory.Tests.{all_below_at}
 use Rattle.mine_classes.specs.Pairs.{named_pair}
 use Rattle.mine_fp.proofs.NodeLemmas.{rest_at}
-use Rattle.mine_fp.proofs.trees.rename.Goals as goal
+use Rattle.mine_fp.proofs.pattern_base.rename.Goals as goal
 
 rank_below : (before : List (ℕ × ℕ)) (count at : ℕ) → AllBelow count (map (λ (pair : ℕ × ℕ). pair.0) before) → at < length before → (get_or before at (0, 0)).0 < count
 rank_below before count at low here = omega (
@@ -14,15 +14,15 @@ rank_below before count at low here = omega (
   get_or-map (λ (pair : ℕ × ℕ). pair.0) before at (0, 0) 0 here,
 )
 
-pub bounds-names-pairs : goal.bounds-names-pairs
-bounds-names-pairs c =
+pub bounds-ranks-pairs : goal.bounds-ranks-pairs
+bounds-ranks-pairs c =
     let at = c.loop-place.place in
-    let is = rest_at (named_pair (map (λ (name : ℕ × ℕ). name.0) c.args.names.now)) c.args.pairs.now c.loop-place.pairs at (0, 0) c.loop-place-test.true c.loop-place.invariant in
-    omega (arith, rank_below c.args.pairs.now (length c.args.names.now) at c.requires c.loop-place-test.true, ap (λ (pair : ℕ × ℕ). pair.0) is)
+    let is = rest_at (named_pair (map (λ (name : ℕ × ℕ). name.0) c.args.ranks.now)) c.args.pairs.now c.loop-place.pairs at (0, 0) c.loop-place-test.true c.loop-place.invariant in
+    omega (arith, rank_below c.args.pairs.now (length c.args.ranks.now) at c.requires c.loop-place-test.true, ap (λ (pair : ℕ × ℕ). pair.0) is)
 
 pub loop-place-preserved : goal.loop-place-preserved
 loop-place-preserved c =
-    let names = c.args.names.now in
+    let names = c.args.ranks.now in
     let items = map (λ (name : ℕ × ℕ). name.0) names in
     let now = c.loop-place.pairs in
     let at = c.loop-place.place in
