@@ -1,5 +1,6 @@
 //! The conditional pattern base of a set.
-ghost use Rattle.std.specs.Prelude.{◌≡◌, ◌<◌, [], IfNone, IfOk, IfSome, map, vec_len};
+ghost use Rattle.std.specs.Prelude.{◌≡◌, ◌≤◌, ◌<◌, [], IfNone, IfOk, IfSome, length, map, vec_len};
+ghost use Rattle.std.proofs.Common.{◌∙◌, refl, subst, sym};
 ghost use Rattle.basket_sets.specs.Counts.{AllBelow};
 ghost use Rattle.mine_classes.specs.Pairs.{named_pair, pairs_of};
 ghost use Rattle.mine_classes.specs.Paths.{is_branch};
@@ -98,6 +99,14 @@ impl<'a> Projected for PatternBase<'a> {
     }
 
     fn give_back(self, scratch: &mut Tables) {}
+
+    ghost ranks_are = { λ base node is. is.ranks };
+
+    ghost unused = { λ base tables. (refl, refl) };
+
+    ghost used_twice = { λ base first second third earlier later. (later.0 ∙ earlier.0, later.1 ∙ earlier.1) };
+
+    ghost lent_again = { λ base before after kept lent. record { sums = subst (λ n. base.paths.ranks ≤ n) (sym kept.0) lent.sums; places = subst (λ n. base.paths.ranks ≤ n) (sym kept.1) lent.places } };
 }
 
 /// Replaces each number by the rank that has it.

@@ -20,7 +20,7 @@ use Rattle.mine_classes.specs.Mined.{ListsClassItems, ListsHaveClassSize, class_
 use Rattle.mine_search.specs.Class.{IsOver, class_sets}
 use Rattle.mine_search.specs.Node.{Supports, is_met}
 use Rattle.mine_search.specs.Search.{found_at}
-use Rattle.mine_search.proofs.FoundLemmas.{class_complete, class_distinct, class_sound}
+use Rattle.mine_search.proofs.theory.Found.{class_complete, class_distinct, class_sound}
 
 module _ {coding : Coding} {over : Supports} (is : IsOver coding over) (rank : ℕ) where
   abbrev sets : List (List ℕ)
