@@ -1,5 +1,5 @@
 -- How many sets a class has, and that the classes of coded baskets are together all frequent sets.
-use Rattle.std.proofs.Common.{◌≡◌, ◌≢◌, ℕ, ◌+◌, ◌<◌, ◌≤◌, ◌^◌, ◌&&◌, true, List, [], ◌∷◌, ◌++◌, length, get_or, map, cond, leb, refl, sym, ap, ◌∙◌, subst, inl, inr, arith, zero, suc}
+use Rattle.std.proofs.Common.{◌≡◌, ℕ, ◌+◌, ◌<◌, ◌≤◌, true, List, [], ◌∷◌, ◌++◌, length, get_or, map, refl, sym, ap, ◌∙◌, subst, arith, zero, suc}
 use Rattle.std.specs.Prelude.{nat_eq}
 use Rattle.std.specs.Cmp.Lexicographic.{pointwise, bytes_decides, nat_list_eq_equiv}
 use Rattle.std.specs.List.{IsDistinct, flat_map, range_with_len, sum_by}
@@ -11,24 +11,19 @@ use Rattle.std.proofs.lemmas.Map.Views.{list_any-from_Contains, Contains-from_an
 use Rattle.basket_sets.specs.declared.weighted.Weighted.{Weighted}
 use Rattle.basket_sets.specs.declared.counted.Counted.{Counted}
 use Rattle.basket_sets.specs.declared.minimum.Minimum.{Minimum}
-use Rattle.basket_sets.specs.declared.minimum.Minimum.TheVariants.{Count}
-use Rattle.basket_sets.specs.Database.{merged_of, weighted}
-use Rattle.basket_sets.specs.Frequent.{IsNonemptySet, ListsOnce, counted, frequent_of, is_frequent}
-use Rattle.basket_sets.specs.Itemset.{IsRising}
+use Rattle.basket_sets.specs.Database.{merged_of}
+use Rattle.basket_sets.specs.Frequent.{IsNonemptySet, ListsOnce, counted, is_frequent}
 use Rattle.basket_sets.specs.Minimum.{meets}
 use Rattle.basket_sets.specs.Support.{support_of, total_of}
-use Rattle.basket_sets.proofs.theory.Frequent.{IsSound, frequent_once, once_is_as_long}
+use Rattle.basket_sets.proofs.theory.Frequent.{once_is_as_long}
 use Rattle.basket_sets.proofs.theory.Merging.{merging_keeps_supports}
-use Rattle.basket_sets.proofs.theory.Members.{Member, at_Member, Member-append, Member-append_left, Member-append_right, Member-map, Member-from_map, Member-from_Contains, Contains-from_Member}
-use Rattle.basket_sets.proofs.theory.Rising.{nil_rises, contains_each}
-use Rattle.basket_sets.proofs.theory.Support.{subsets_are_frequent, at_least_one, in_items}
+use Rattle.basket_sets.proofs.theory.Members.{Member, at_Member, Member-map, Member-from_Contains, Contains-from_Member}
 use Rattle.basket_ranks.specs.Codes.{Coding, DecodingKeepsFrequent, IsCodedPlace, baskets_of, coding_of, decoded_set, merged_coding, ranks_of}
 use Rattle.basket_ranks.proofs.theory.Coding.{coded_support, coded_total, ranked_is_frequent}
 use Rattle.basket_ranks.proofs.theory.Decoding.{as_many}
-use Rattle.basket_ranks.proofs.theory.Depth.{deep_sets_are_many}
-use Rattle.mine_classes.specs.Classes.{ListsClass, class_of, ends_in, extended, with_rank}
-use Rattle.mine_classes.specs.Mined.{ClassItemsAreAll, ClassSizesAddUp, CodedRanksAreFrequent, DeepClassesAreLarge, ListsClassItems, ListsHaveClassSize, RanksAreFrequent, class_size}
-use Rattle.mine_classes.proofs.ClassLemmas.{sets, Member-sets, ends_in-push, extended_distinct, front_below, front_of, front_rises, push_rises, push_some}
+use Rattle.mine_classes.specs.Classes.{ListsClass, class_of, ends_in}
+use Rattle.mine_classes.specs.Mined.{ClassItemsAreAll, ClassSizesAddUp, CodedRanksAreFrequent, ListsClassItems, ListsHaveClassSize, RanksAreFrequent}
+use Rattle.mine_classes.proofs.ClassLemmas.{sets, Member-sets}
 use Rattle.mine_classes.proofs.TogetherLemmas.{classes_are_all, classes_are_listed, ranks_below}
 
 -- ---- how many sets a list of a class has
@@ -144,81 +139,6 @@ class_sizes_add_up coding is =
     sym (listed_length coding.baskets coding.minimum 0 (length coding.items))
     ∙ once_is_as_long coding.baskets coding.minimum (flat_map (λ class. class) list) once
     ∙ sym (as_many coding is)
-
--- ---- a set of many ranks has many subsets in its class
-
--- a part of a set of the class is in the class
-in_class_of : (baskets : List Weighted) (minimum : Minimum) (rank : ℕ) (front : List ℕ) → is_frequent baskets minimum (front ++ rank ∷ []) ≡ true → IsRising (front ++ rank ∷ [])
-    → (part : List ℕ) → IsRising part → ((item : ℕ) → Member item part → Member item front) → Member (part ++ rank ∷ []) (sets (class_of baskets minimum rank))
-in_class_of baskets minimum rank front frequent up part rises within =
-    let whole = push_rises rank part rises (λ item m. front_below rank front up item (within item m)) in
-    let often = subsets_are_frequent baskets minimum (front ++ rank ∷ []) (part ++ rank ∷ []) (contains_each (front ++ rank ∷ []) (part ++ rank ∷ []) inside) frequent in
-    let c = (classes_are_listed baskets minimum rank).complete (part ++ rank ∷ []) (whole, push_some rank part) (ends_in-push rank part) often in
-    Member-map (λ (c : Counted). c.set) (counted baskets (part ++ rank ∷ [])) (class_of baskets minimum rank) (Member-from_Contains (counted baskets (part ++ rank ∷ [])) (class_of baskets minimum rank) c)
-  where
-    inside : (item : ℕ) → Member item (part ++ rank ∷ []) → Member item (front ++ rank ∷ [])
-    inside item m = elim (Member-append item part (rank ∷ []) m) [
-      | inl n ↦ Member-append_left item front (rank ∷ []) (within item n)
-      | inr n ↦ Member-append_right item front (rank ∷ []) n
-    ]
-
--- the sets of a list with a rank added are in the class of the rank where the largest of them is
-module _ (baskets : List Weighted) (minimum : Minimum) (rank : ℕ) (front : List ℕ) (list : List Counted) where
-  pushed_within : (frequent : is_frequent baskets minimum (front ++ rank ∷ []) ≡ true) → IsRising (front ++ rank ∷ [])
-      → ((c : Counted) → Member c list → IsNonemptySet c.set × ((item : ℕ) → Member item c.set → Member item front))
-      → (set : List ℕ) → Member set (sets (extended rank 0 list)) → Member set (sets (class_of baskets minimum rank))
-  pushed_within frequent up within set (inl e) = subst (λ s. Member s (sets (class_of baskets minimum rank))) e (in_class_of baskets minimum rank front frequent up [] nil_rises (λ item m. absurd m))
-  pushed_within frequent up within set (inr m) =
-      let p = Member-sets set (map (with_rank rank) list) m in
-      let d = Member-from_map (with_rank rank) p.0 list p.1 in
-      let w = within d.0 d.1 in
-      subst (λ s. Member s (sets (class_of baskets minimum rank))) (ap (λ (c : Counted). c.set) d.2 ∙ p.2) (in_class_of baskets minimum rank front frequent up d.0.set w.0.0 w.1)
-
--- the subsets of a set, as what is frequent in a single basket
-abbrev subsets_listed : List ℕ → List Counted
-subsets_listed front = frequent_of (weighted front 1 ∷ []) (Count 1)
-
-subset_within : (front : List ℕ) (c : Counted) → Member c (subsets_listed front) → IsNonemptySet c.set × ((item : ℕ) → Member item c.set → Member item front)
-subset_within front c m =
-    let once = frequent_once (weighted front 1 ∷ []) (Count 1) in
-    let s = at_Member (IsSound (weighted front 1 ∷ []) (Count 1)) c (subsets_listed front) (recursion_from_All (IsSound (weighted front 1 ∷ []) (Count 1)) (subsets_listed front) once.sound) m in
-    let some = at_least_one (Count 1) (support_of (weighted front 1 ∷ []) c.set) (total_of (weighted front 1 ∷ [])) s.1 in
-    (s.0, λ item n. elim (Member-append item front [] (in_items (weighted front 1 ∷ []) c.set some item n)) [ inl k ↦ k | inr k ↦ absurd k ])
-
-many_subsets : (front : List ℕ) → IsRising front → front ≢ [] → 2 ^ length front ≤ length (subsets_listed front) + 1
-many_subsets front up some =
-    let once = frequent_once (weighted front 1 ∷ []) (Count 1) in
-    deep_sets_are_many (weighted front 1 ∷ []) (Count 1) (length front)
-    (counted (weighted front 1 ∷ []) front, once.complete front (up, some) (ap (λ b. leb 1 (0 + cond b 1 0) && leb 1 (0 + cond b 1 0)) (contains_each front front (λ item m. m))), refl)
-
-pub deep_classes_are_large : DeepClassesAreLarge
-deep_classes_are_large coding rank size (c, here, sized) =
-    let lists = classes_are_listed coding.baskets coding.minimum rank in
-    let m = Member-from_Contains c (class_of coding.baskets coding.minimum rank) here in
-    let s = at_Member (IsOfClass coding.baskets coding.minimum rank) c (class_of coding.baskets coding.minimum rank)
-    (recursion_from_All (IsOfClass coding.baskets coding.minimum rank) (class_of coding.baskets coding.minimum rank) lists.sound) m in
-    let f = front_of rank c.set s.1 in
-    let long = length-append f.0 (rank ∷ []) in
-    let same = ap length f.1 in
-    let few = large f.0 (subst IsRising f.1 s.0.0) (subst (λ set. is_frequent coding.baskets coding.minimum set ≡ true) f.1 s.2) in
-    subst (λ n. 2 ^ n ≤ class_size coding rank) (omega (arith, long, same, sized)) few
-  where
-    nonempty : (list : List Counted) → Member (rank ∷ []) (sets list) → 1 ≤ length list
-    nonempty [] m = absurd m
-    nonempty (d ∷ list) m = omega arith
-
-    large : (front : List ℕ) → IsRising (front ++ rank ∷ []) → is_frequent coding.baskets coding.minimum (front ++ rank ∷ []) ≡ true → 2 ^ length front ≤ class_size coding rank
-    large [] up often = nonempty (class_of coding.baskets coding.minimum rank) (in_class_of coding.baskets coding.minimum rank [] often up [] nil_rises (λ item m. m))
-    large (x ∷ front) up often =
-        let some : (x ∷ front) ≢ [] = λ e. cc in
-        let rises = front_rises rank (x ∷ front) up in
-        let many = many_subsets (x ∷ front) rises some in
-        let once = frequent_once (weighted (x ∷ front) 1 ∷ []) (Count 1) in
-        let few = no_longer (extended rank 0 (subsets_listed (x ∷ front))) (class_of coding.baskets coding.minimum rank)
-        (extended_distinct rank 0 (subsets_listed (x ∷ front)) once.distinct (λ d m. (subset_within (x ∷ front) d m).0.1))
-        (pushed_within coding.baskets coding.minimum rank (x ∷ front) (subsets_listed (x ∷ front)) often up (subset_within (x ∷ front))) in
-        let long = length-map (subsets_listed (x ∷ front)) (with_rank rank) in
-        omega (arith, many, few, long)
 
 -- ---- the ranks of a coded database
 

@@ -1,27 +1,22 @@
 -- The classes are together all frequent sets, each once.
-use Rattle.std.proofs.Common.{◌≡◌, ◌≢◌, ℕ, ◌+◌, ◌<◌, ◌≤◌, Bool, true, false, ◌&&◌, List, [], ◌∷◌, ◌++◌, length, get_or, map, cond, leb, refl, sym, ap, ◌∙◌, subst, inl, inr, arith, zero, suc}
+use Rattle.std.proofs.Common.{◌≡◌, ℕ, ◌+◌, ◌<◌, ◌≤◌, Bool, true, false, List, [], ◌∷◌, ◌++◌, length, get_or, map, cond, refl, sym, ◌∙◌, subst, inl, inr, arith, zero, suc}
 use Rattle.std.specs.Prelude.{nat_eq}
 use Rattle.std.specs.Cmp.Lexicographic.{pointwise}
-use Rattle.std.specs.List.{AllByRecursion, Contains, IsDistinct, filter, flat_map}
-use Rattle.std.proofs.lemmas.Bool.{leb-true, le-leb}
+use Rattle.std.specs.List.{AllByRecursion, IsDistinct, filter, flat_map}
 use Rattle.std.proofs.lemmas.List.{map-append}
-use Rattle.std.proofs.lemmas.List.Elements.{All-from_recursion, All-weaker, recursion_from_All}
+use Rattle.std.proofs.lemmas.List.Elements.{All-from_recursion, recursion_from_All}
 use Rattle.basket_sets.specs.declared.weighted.Weighted.{Weighted}
 use Rattle.basket_sets.specs.declared.counted.Counted.{Counted}
 use Rattle.basket_sets.specs.declared.minimum.Minimum.{Minimum}
-use Rattle.basket_sets.specs.declared.minimum.Minimum.TheVariants.{Count}
-use Rattle.basket_ranks.specs.Codes.{IsCodedPlace, DecodingKeepsFrequent, baskets_of, decoded_set}
-use Rattle.basket_sets.specs.Frequent.{IsNonemptySet, ListsOnce, counted, frequent_of, is_frequent}
-use Rattle.basket_sets.specs.Minimum.{IsLeastSupport}
+use Rattle.basket_ranks.specs.Codes.{IsCodedPlace}
+use Rattle.basket_sets.specs.Frequent.{IsNonemptySet, counted, frequent_of, is_frequent}
 use Rattle.basket_sets.specs.Support.{support_of, total_of}
 use Rattle.basket_sets.proofs.theory.Members.{Member, All-from_Member, at_Member, Member-append, Member-append_left, Member-append_right, Member-filter, Member-from_filter, Member-map, Member-from_map, Member-from_Contains, Contains-from_Member}
 use Rattle.basket_sets.proofs.theory.Rising.{has-from_Member}
-use Rattle.basket_sets.proofs.theory.Support.{support_falls, at_least_one, in_items}
+use Rattle.basket_sets.proofs.theory.Support.{at_least_one, in_items}
 use Rattle.basket_sets.proofs.theory.Frequent.{frequent_once}
-use Rattle.basket_sets.specs.Itemset.{contains}
-use Rattle.mine_classes.specs.Conditional.{conditional}
-use Rattle.mine_classes.specs.Classes.{ClassesByCodings, ends_in, class_of, ListsClass, ClassesAreListed, ClassesAreAll, SupportsSettleFrequent, LeastSupportSettles, DecodedClassesAreAll}
-use Rattle.mine_classes.proofs.ClassLemmas.{classes_are_conditional, sets, Member-sets, Member-end, some_end, one_end, apart}
+use Rattle.mine_classes.specs.Classes.{ends_in, class_of, ListsClass, ClassesAreListed, ClassesAreAll}
+use Rattle.mine_classes.proofs.ClassLemmas.{sets, Member-sets, Member-end, some_end, one_end, apart}
 
 -- ---- lists of distinct elements
 
@@ -112,36 +107,6 @@ classes_are_all baskets minimum classes below lists = record {
     from_zero : ListFrom baskets minimum 0 classes
     from_zero k here = subst (λ rank. ListsClass baskets minimum rank (get_or classes k [])) (omega arith) (lists k here)
 
--- ---- other lists of baskets, and minimums
-
-pub supports_settle_frequent : SupportsSettleFrequent
-supports_settle_frequent baskets others least list same lists = record {
-  distinct = lists.distinct;
-  sound = All-weaker (IsOfFrequent baskets (Count least)) (IsOfFrequent others (Count least)) (λ c s. (s.0, sym (tests c.set s.0.1) ∙ s.1, s.2 ∙ same c.set s.0.1)) list lists.sound;
-  complete = λ set n h. subst (λ count. Contains list (record { set = set; count = count })) (same set n.1) (lists.complete set n (tests set n.1 ∙ h));
-}
-  where
-    tests : (set : List ℕ) → set ≢ [] → is_frequent baskets (Count least) set ≡ is_frequent others (Count least) set
-    tests set some = ap (λ n. leb 1 n && leb least n) (same set some)
-
-least_tests : (baskets : List Weighted) (minimum : Minimum) (least : ℕ) → IsLeastSupport minimum (total_of baskets) least → (set : List ℕ)
-    → is_frequent baskets (Count least) set ≡ is_frequent baskets minimum set
-least_tests baskets minimum least is set =
-    one_test (leb 1 (support_of baskets set)) (leb least (support_of baskets set)) (λ h. let low = is.some in let high = leb-true least (support_of baskets set) h in le-leb 1 (support_of baskets set) (omega arith))
-    ∙ sym (is.met (support_of baskets set) (support_falls baskets set [] refl))
-  where
-    one_test : (a b : Bool) → (b ≡ true → a ≡ true) → (a && b) ≡ b
-    one_test true b h = refl
-    one_test false true h = h refl
-    one_test false false h = refl
-
-pub least_support_settles : LeastSupportSettles
-least_support_settles baskets minimum least list is lists = record {
-  distinct = lists.distinct;
-  sound = All-weaker (IsOfFrequent baskets (Count least)) (IsOfFrequent baskets minimum) (λ c s. (s.0, sym (least_tests baskets minimum least is c.set) ∙ s.1, s.2)) list lists.sound;
-  complete = λ set n h. lists.complete set n (least_tests baskets minimum least is set ∙ h);
-}
-
 -- ---- coded baskets
 
 pub ranks_below : (items : List ℕ) (places : List Weighted) → AllByRecursion (IsCodedPlace items) places → (rank : ℕ) → Member rank (flat_map (λ place. place.basket) places) → rank < length items
@@ -150,19 +115,6 @@ ranks_below items (place ∷ places) coded rank m = elim (Member-append rank pla
   | inl here ↦ coded.0.1 rank (has-from_Member place.basket rank here)
   | inr later ↦ ranks_below items places coded.1 rank later
 ]
-
-map_all : (f : Counted → Counted) (classes : List (List Counted)) → map f (flat_map (λ class. class) classes) ≡ flat_map (λ class. map f class) classes
-map_all f [] = refl
-map_all f (class ∷ classes) = map-append f class (flat_map (λ c. c) classes) ∙ ap (λ rest. map f class ++ rest) (map_all f classes)
-
-pub decoded_classes_are_all : DecodingKeepsFrequent → DecodedClassesAreAll
-decoded_classes_are_all decoding coding least classes is settles long lists =
-    subst (ListsOnce (baskets_of coding) coding.minimum) (map_all (decoded_set coding.items) classes)
-    (decoding coding (flat_map (λ class. class) classes) is
-    (least_support_settles coding.baskets coding.minimum least (flat_map (λ class. class) classes) settles
-    (classes_are_all coding.baskets (Count least) classes
-    (λ rank m. subst (λ n. rank < n) (sym long) (ranks_below coding.items coding.baskets (recursion_from_All (IsCodedPlace coding.items) coding.baskets is.places) rank
-    (Member-from_Contains rank (flat_map (λ place. place.basket) coding.baskets) m))) lists)))
 
 -- ---- the class as a part of the frequent list
 
@@ -197,13 +149,3 @@ classes_are_listed baskets minimum rank =
           (Member-from_filter ends (counted baskets set) (frequent_of baskets minimum)
           (Member-from_Contains (counted baskets set) (frequent_of baskets minimum) (lists.complete set n h)) last);
     }
-
--- ---- a conditional database by other numbers
-
-pub classes_by_codings : DecodingKeepsFrequent → ClassesByCodings
-classes_by_codings decoding baskets least rank coding list one is minimum same lists =
-    let once = decoding coding list is (subst (λ m. ListsOnce coding.baskets m list) (sym minimum) lists) in
-    classes_are_conditional baskets least rank (map (decoded_set coding.items) list) one
-    (supports_settle_frequent (baskets_of coding) (conditional least baskets rank) least (map (decoded_set coding.items) list)
-    (λ set some. sym (same (λ basket. contains basket set)))
-    (subst (λ m. ListsOnce (baskets_of coding) m (map (decoded_set coding.items) list)) minimum once))

@@ -1,17 +1,12 @@
 -- The frequent sets by their greatest rank.
-use Rattle.std.specs.Prelude.{◌≡◌, ◌<◌, ◌++◌, ℕ, Bool, false, IsTrue, List, [], ◌∷◌, ◌==◌, All, length, filter, map, nat_eq, slice_index_or}
+use Rattle.std.specs.Prelude.{◌≡◌, ◌<◌, ℕ, Bool, false, IsTrue, List, [], ◌∷◌, ◌==◌, All, length, filter, map, nat_eq, slice_index_or}
 use Rattle.std.specs.Cmp.Lexicographic.{pointwise}
 use Rattle.std.specs.List.{Contains, IsDistinct, flat_map}
 use Rattle.basket_sets.specs.declared.weighted.Weighted.{Weighted}
 use Rattle.basket_sets.specs.declared.counted.Counted.{Counted}
 use Rattle.basket_sets.specs.declared.minimum.Minimum.{Minimum}
-use Rattle.basket_sets.specs.declared.minimum.Minimum.TheVariants.{Count}
-use Rattle.basket_ranks.specs.Codes.{Coding, IsCoding, baskets_of, decoded_set}
 use Rattle.basket_sets.specs.Frequent.{IsNonemptySet, ListsOnce, counted, frequent_of, is_frequent}
-use Rattle.basket_sets.specs.Minimum.{IsLeastSupport}
-use Rattle.basket_sets.specs.Support.{support_of, total_of}
-use Rattle.mine_classes.specs.Conditional.{conditional, HaveSameSupports}
-use Rattle.mine_baskets.specs.ListBaskets.{HaveSameWeights}
+use Rattle.basket_sets.specs.Support.{support_of}
 
 -- whether the last rank of a set, which is its greatest, is this one
 abbrev pub ends_in : ℕ → List ℕ → Bool
@@ -23,14 +18,6 @@ ends_in rank (first ∷ second ∷ others) = ends_in rank (second ∷ others)
 abbrev pub class_of : List Weighted → Minimum → ℕ → List Counted
 class_of baskets minimum rank = filter (λ c. ends_in rank c.set) (frequent_of baskets minimum)
 
--- a set with a rank added that is above each of its own
-abbrev pub with_rank : ℕ → Counted → Counted
-with_rank rank c = record { set = c.set ++ rank ∷ []; count = c.count }
-
--- a rank alone, and each set of a list with the rank added
-abbrev pub extended : ℕ → ℕ → List Counted → List Counted
-extended rank support list = record { set = rank ∷ []; count = support } ∷ map (with_rank rank) list
-
 -- the list has each set of a class once, with its support, in any order
 pub record ListsClass (baskets : List Weighted) (minimum : Minimum) (rank : ℕ) (list : List Counted) : Type 0 where
   pub distinct : IsDistinct (pointwise nat_eq) (map (λ c. c.set) list)
@@ -40,11 +27,6 @@ pub record ListsClass (baskets : List Weighted) (minimum : Minimum) (rank : ℕ)
 -- the class is such a list
 abbrev pub ClassesAreListed : Type 0
 ClassesAreListed = (baskets : List Weighted) (minimum : Minimum) (rank : ℕ) → ListsClass baskets minimum rank (class_of baskets minimum rank)
-
--- a frequent rank's class is the rank alone, and each frequent set of its conditional database with the rank added, with the same count
-abbrev pub ClassesAreConditional : Type 0
-ClassesAreConditional = (baskets : List Weighted) (least rank : ℕ) (list : List Counted) → IsTrue (is_frequent baskets (Count least) (rank ∷ []))
-    → ListsOnce (conditional least baskets rank) (Count least) list → ListsClass baskets (Count least) rank (extended rank (support_of baskets (rank ∷ [])) list)
 
 -- a rank that is not frequent has an empty class
 abbrev pub RareRanksHaveNoClass : Type 0
@@ -62,25 +44,3 @@ RanksAreBelow bound baskets = (rank : ℕ) → Contains (flat_map (λ place. pla
 abbrev pub ClassesAreAll : Type 0
 ClassesAreAll = (baskets : List Weighted) (minimum : Minimum) (classes : List (List Counted)) → RanksAreBelow (length classes) baskets
     → ListClasses baskets minimum classes → ListsOnce baskets minimum (flat_map (λ class. class) classes)
-
--- a list of the frequent sets is one over each list of baskets with the same supports
-abbrev pub SupportsSettleFrequent : Type 0
-SupportsSettleFrequent = (baskets others : List Weighted) (least : ℕ) (list : List Counted) → HaveSameSupports baskets others
-    → ListsOnce baskets (Count least) list → ListsOnce others (Count least) list
-
--- a least support asks for what its minimum does
-abbrev pub LeastSupportSettles : Type 0
-LeastSupportSettles = (baskets : List Weighted) (minimum : Minimum) (least : ℕ) (list : List Counted) → IsLeastSupport minimum (total_of baskets) least
-    → ListsOnce baskets (Count least) list → ListsOnce baskets minimum list
-
--- the sets of all classes, as items, are the frequent sets of the baskets that were coded, each once
-abbrev pub DecodedClassesAreAll : Type 0
-DecodedClassesAreAll = (coding : Coding) (least : ℕ) (classes : List (List Counted)) → IsCoding coding → IsLeastSupport coding.minimum (total_of coding.baskets) least
-    → length classes ≡ length coding.items → ListClasses coding.baskets (Count least) classes
-    → ListsOnce (baskets_of coding) coding.minimum (flat_map (λ class. map (decoded_set coding.items) class) classes)
-
--- a list of the frequent sets of a conditional database by other numbers of its ranks is a list of the class
-abbrev pub ClassesByCodings : Type 0
-ClassesByCodings = (baskets : List Weighted) (least rank : ℕ) (coding : Coding) (list : List Counted) → IsTrue (is_frequent baskets (Count least) (rank ∷ []))
-    → IsCoding coding → coding.minimum ≡ Count least → HaveSameWeights (conditional least baskets rank) (baskets_of coding) → ListsOnce coding.baskets (Count least) list
-    → ListsClass baskets (Count least) rank (extended rank (support_of baskets (rank ∷ [])) (map (decoded_set coding.items) list))

@@ -1,5 +1,5 @@
 -- The baskets that have a rank, kept to what a set with that rank can have.
-use Rattle.std.specs.Prelude.{◌≡◌, ◌≢◌, ◌++◌, ℕ, Bool, ◌&&◌, List, [], ◌∷◌, filter, nat_lt, if◌then◌else◌}
+use Rattle.std.specs.Prelude.{◌≡◌, ◌++◌, ℕ, Bool, ◌&&◌, List, [], ◌∷◌, filter, nat_lt, if◌then◌else◌}
 use Rattle.std.specs.List.{flat_map, list_all}
 use Rattle.basket_sets.specs.declared.weighted.Weighted.{Weighted}
 use Rattle.basket_sets.specs.declared.minimum.Minimum.TheVariants.{Count}
@@ -32,7 +32,3 @@ conditional_baskets (Words words) = words
 abbrev pub ConditionalSupports : Type 0
 ConditionalSupports = (baskets : List Weighted) (least rank : ℕ) (set : List ℕ)
     → support_of (conditional least baskets rank) set ≡ (if list_all (is_kept baskets least rank) set then support_of baskets (set ++ rank ∷ []) else 0)
-
--- two lists of baskets give each nonempty set the same support. So equal baskets may be merged, and empty ones left out
-abbrev pub HaveSameSupports : List Weighted → List Weighted → Type 0
-HaveSameSupports baskets others = (set : List ℕ) → set ≢ [] → support_of baskets set ≡ support_of others set

@@ -1,11 +1,10 @@
 -- What a miner of classes returns, and what the results for all classes add up to.
-use Rattle.std.specs.Prelude.{◌≡◌, ◌≤◌, ◌<◌, ◌+◌, ◌-◌, ◌^◌, ℕ, IsTrue, List, [], ◌∷◌, length, map, slice_index_or}
+use Rattle.std.specs.Prelude.{◌≡◌, ◌<◌, ◌-◌, ◌^◌, ℕ, IsTrue, List, [], ◌∷◌, length, map, slice_index_or}
 use Rattle.std.specs.List.{flat_map, range_with_len, sum_by}
 use Rattle.basket_sets.specs.declared.weighted.Weighted.{Weighted}
 use Rattle.basket_sets.specs.declared.minimum.Minimum.{Minimum}
 use Rattle.basket_sets.specs.declared.counted.Counted.{Counted}
 use Rattle.basket_ranks.specs.Codes.{Coding, IsCoding, baskets_of, coding_of, decoded_set, frequent_of_coding, merged_coding}
-use Rattle.basket_ranks.specs.Depth.{HasSetOfSize}
 use Rattle.basket_sets.specs.Frequent.{ListsOnce, is_frequent}
 use Rattle.mine_classes.specs.Classes.{ListsClass, class_of}
 
@@ -48,8 +47,3 @@ ClassItemsAreAll = (coding : Coding) (classes : List (List Counted)) → IsCodin
 abbrev pub ClassSizesAddUp : Type 0
 ClassSizesAddUp = (coding : Coding) → IsCoding coding
     → sum_by (class_size coding) (range_with_len 0 (length coding.items)) ≡ length (frequent_of_coding coding)
-
--- a class with a set of one rank more than a number has 2 to that number sets or more
-abbrev pub DeepClassesAreLarge : Type 0
-DeepClassesAreLarge = (coding : Coding) (rank size : ℕ) → HasSetOfSize (class_of coding.baskets coding.minimum rank) (size + 1)
-    → 2 ^ size ≤ class_size coding rank

@@ -2,9 +2,8 @@
 ghost use Rattle.std.specs.Prelude.{◌≡◌, [], ◌∷◌};
 ghost use Rattle.basket_sets.specs.declared.minimum.Minimum.TheVariants.{Count};
 ghost use Rattle.basket_ranks.specs.Codes.{coding_of};
-ghost use Rattle.basket_sets.specs.Frequent.{frequent_of};
 ghost use Rattle.basket_sets.specs.Worked.{each_once, nine_baskets, set};
-ghost use Rattle.mine_classes.specs.Classes.{class_of, extended};
+ghost use Rattle.mine_classes.specs.Classes.{class_of};
 ghost use Rattle.mine_classes.specs.Conditional.{conditional};
 ghost use Rattle.mine_classes.specs.Worked.{nine_by_rank, class_of_four};
 
@@ -28,10 +27,9 @@ pub fn four_and_one()
     ensures { conditional 2 (conditional 2 nine_by_rank 4) 1 ≡ each_once ((0 ∷ []) ∷ (0 ∷ []) ∷ []) }
 {}
 
-/// The class of rank 4 is 4 alone, and the frequent sets of its conditional database with 4 added.
+/// The class of rank 4 is 4 alone, and 4 with each set of ranks 0 and 1.
 pub fn the_class_of_four()
-    ensures listed { class_of nine_by_rank (Count 2) 4 ≡ class_of_four }
-    ensures conditional { extended 4 2 (frequent_of (conditional 2 nine_by_rank 4) (Count 2)) ≡ class_of_four }
+    ensures { class_of nine_by_rank (Count 2) 4 ≡ class_of_four }
 {}
 
 /// At a minimum of 3 the class of rank 2, item 3, is 2 alone, 0 with 2, and 1 with 2.

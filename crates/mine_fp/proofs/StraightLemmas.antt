@@ -1,6 +1,6 @@
 -- A conditional tree is a single branch where each basket that has a rank has the lower ones.
 use Rattle.std.proofs.Common.{◌≡◌, ℕ, ◌+◌, ◌<◌, ◌≤◌, Bool, true, ◌&&◌, List, [], ◌∷◌, filter, cond, eqb, ltb, refl, sym, ap, ◌∙◌, inl, inr, arith}
-use Rattle.std.specs.Prelude.{◌||◌, not}
+use Rattle.std.specs.Prelude.{◌||◌}
 use Rattle.std.specs.List.{list_all}
 use Rattle.std.specs.Ordering.{nat_cmp}
 use Rattle.std.proofs.lemmas.Bool.{and_from, and_parts, cases_Bool, cases_order, cond-false, eq-eqb, eqb-true, or_cases, true≢false}
@@ -16,7 +16,7 @@ use Rattle.basket_sets.proofs.theory.Support.{at_least_one, support-cons, suppor
 use Rattle.basket_sets.proofs.theory.Tests.{all_of, each_of}
 use Rattle.mine_classes.proofs.theory.Branches.{AreHeavy, from_picked, into_picked}
 use Rattle.mine_fp.specs.Tree.{begins}
-use Rattle.mine_fp.specs.Trees.{has_tree, is_straight, paths_below}
+use Rattle.mine_fp.specs.Trees.{is_straight, paths_below}
 
 -- ---- lists that begin others
 
@@ -175,22 +175,3 @@ module _ (baskets : List Weighted) (minimum : Minimum) (first : ℕ) (others : L
       (λ i. begins (sym one.3 i) (sym other.3 i) || begins (sym other.3 i) (sym one.3 i))
       ∙ one_begins (path_of one.0) (path_of other.0) (path_rises one.0 one.1) (path_rises other.0 other.1)
       (path_has_lower flat one.0 other.0 one.1 one.2) (path_has_lower flat other.0 one.0 other.1 other.2)))
-
--- ---- the same supports
-
-module _ (one other : List Weighted) (first_minimum minimum : Minimum) (plain : ArePlain one) (also : ArePlain other)
-    (tests : (set : List ℕ) → is_frequent one first_minimum set ≡ is_frequent other minimum set) (supports : (set : List ℕ) → support_of one set ≡ support_of other set) where
-  same_straight : (first : ℕ) (others : List ℕ) → is_straight one first_minimum (first ∷ others) ≡ is_straight other minimum (first ∷ others)
-  same_straight first others = same_test _ _
-      (λ h. straight_from_flat other minimum first others also (λ a b less ja jb.
-      sym (supports (a ∷ b ∷ first ∷ others)) ∙ flat_from_straight one first_minimum first others plain h a b less (joined_too a ∙ ja) (joined_too b ∙ jb) ∙ supports (b ∷ first ∷ others)))
-      (λ h. straight_from_flat one first_minimum first others plain (λ a b less ja jb.
-      supports (a ∷ b ∷ first ∷ others) ∙ flat_from_straight other minimum first others also h a b less (sym (joined_too a) ∙ ja) (sym (joined_too b) ∙ jb) ∙ sym (supports (b ∷ first ∷ others))))
-    where
-      joined_too : (a : ℕ) → (ltb a first && is_frequent one first_minimum (a ∷ first ∷ others)) ≡ (ltb a first && is_frequent other minimum (a ∷ first ∷ others))
-      joined_too a = ap (λ b. ltb a first && b) (tests (a ∷ first ∷ others))
-
-  pub same_tree : (set : List ℕ) → has_tree one first_minimum set ≡ has_tree other minimum set
-  same_tree [] = refl
-  same_tree (first ∷ []) = refl
-  same_tree (first ∷ second ∷ others) = λ i. not (same_straight second others i) && same_tree (second ∷ others) i

@@ -189,9 +189,3 @@ module _ {set : List ℕ} {node : Node} {i rank : ℕ} (turn : IsTurn set node i
 -- nothing is found below a node without ranks
 pub finds_none : (node : Node) → kept node ≡ [] → (now : Reached) → GoesOn now → FindsAll now now node
 finds_none node none now going = part_is_all node 0 now now (omega (arith, ap length none)) (nothing_yet node now going)
-
-pub no_sets : (node : Node) → kept node ≡ [] → sets_at node ≡ []
-no_sets node none = sets_are_branches (is_met node.over) node.below node.set ∙ ap (flat_map (branch (is_met node.over) node.set)) none
-
-pub no_work : (node : Node) → kept node ≡ [] → work_at node ≡ 0
-no_work node none = work_is_branches (is_met node.over) node.over.work node.below node.set ∙ ap (sum_by (branch_work (is_met node.over) node.over.work node.set)) none
