@@ -1,22 +1,13 @@
 -- What a search finds: each set that passes the test, once.
-use Rattle.std.proofs.Common.{◌≡◌, ◌≢◌, ℕ, zero, suc, ◌<◌, ◌≤◌, Bool, true, false, List, [], ◌∷◌, ◌++◌, ◌⊎◌, length, map, cond, refl, sym, ap, ◌∙◌, subst, inl, inr, arith, append_assoc}
+use Rattle.std.proofs.Common.{◌≡◌, ◌≢◌, ℕ, zero, suc, ◌<◌, ◌≤◌, Bool, true, false, List, [], ◌∷◌, ◌++◌, ◌⊎◌, length, cond, refl, sym, ap, ◌∙◌, subst, inl, inr, arith, append_assoc}
 use Rattle.std.specs.Prelude.{nat_eq}
 use Rattle.std.specs.Cmp.Lexicographic.{pointwise, bytes_decides}
 use Rattle.std.specs.List.{IsDistinct}
 use Rattle.std.proofs.lemmas.Bool.{cases_Bool, cases_eq}
-use Rattle.std.proofs.lemmas.List.{append-nil}
-use Rattle.std.proofs.lemmas.List.Elements.{All-from_recursion}
-use Rattle.basket_sets.specs.declared.weighted.Weighted.{Weighted}
-use Rattle.basket_sets.specs.declared.counted.Counted.{Counted}
-use Rattle.basket_sets.specs.declared.minimum.Minimum.TheVariants.{Count}
-use Rattle.basket_sets.specs.Frequent.{IsNonemptySet, ListsOnce, counted, is_frequent}
 use Rattle.basket_sets.specs.Itemset.{IsRising}
-use Rattle.basket_sets.specs.Support.{support_of}
-use Rattle.basket_sets.proofs.theory.Members.{Member, All-from_Member, at_Member, Contains-from_Member, Member-append, Member-append_left, Member-append_right, Member-from_map, Member-map}
-use Rattle.basket_sets.proofs.theory.Rising.{nil_rises, cons_rises, contains_each, first_below, rest_rises}
-use Rattle.basket_sets.proofs.theory.Support.{subsets_are_frequent}
-use Rattle.mine_vertical.specs.Search.{is_met}
-use Rattle.mine_vertical.specs.Walk.{sets_below}
+use Rattle.basket_sets.proofs.theory.Members.{Member, All-from_Member, at_Member, Member-append, Member-append_left, Member-append_right}
+use Rattle.basket_sets.proofs.theory.Rising.{nil_rises, cons_rises, first_below, rest_rises}
+use Rattle.mine_search.specs.Walk.{sets_below}
 
 apart : (a b : List ℕ) → a ≢ b → pointwise nat_eq a b ≡ false
 apart a b differ = elim (cases_Bool (pointwise nat_eq a b)) [ inl e ↦ absurd (differ ((bytes_decides a b).0 e)) | inr e ↦ e ]
@@ -170,36 +161,3 @@ module _ (test : List ℕ → Bool) where
       has_rank true found (inl is) = subst (Member rank) is (inl refl)
       has_rank true found (inr d) = keeps rank (rank ∷ set) found rank d (inl refl)
       has_rank false found d = absurd d
-
--- the frequent sets of baskets whose frequent sets have only ranks below a number, each once
-pub lists_once : (baskets : List Weighted) (least rank : ℕ) → ((set : List ℕ) (item : ℕ) → is_met baskets least set ≡ true → Member item set → item < rank)
-    → ListsOnce baskets (Count least) (map (counted baskets) (sets_below (is_met baskets least) rank []))
-lists_once baskets least rank lower = record {
-  distinct = subst (IsDistinct (pointwise nat_eq)) (sym (sets_of found)) (sets_distinct (is_met baskets least) rank [] nil_rises (λ y m. absurd m));
-  sound = All-from_recursion IsSound (map (counted baskets) found) (All-from_Member IsSound (map (counted baskets) found) (λ c m.
-      let p = Member-from_map (counted baskets) c found m in
-      let f = from_sets (is_met baskets least) rank [] p.0 nil_rises (λ y n. absurd n) p.1 in
-      subst IsSound p.2 ((f.rises, some p.0 f.longer), f.passes, refl)));
-  complete = λ set n h. Contains-from_Member (counted baskets set) (map (counted baskets) found) (Member-map (counted baskets) set found (is_found set n h));
-}
-  where
-    found : List (List ℕ)
-    found = sets_below (is_met baskets least) rank []
-
-    IsSound : Counted → Type 0
-    IsSound c = IsNonemptySet c.set × (is_frequent baskets (Count least) c.set ≡ true) × (c.count ≡ support_of baskets c.set)
-
-    some : (set : List ℕ) → 0 < length set → set ≢ []
-    some set more e = (let none = ap length e in absurd (omega arith))
-
-    sets_of : (sets : List (List ℕ)) → map (λ (c : Counted). c.set) (map (counted baskets) sets) ≡ sets
-    sets_of [] = refl
-    sets_of (set ∷ sets) = ap (λ rest. set ∷ rest) (sets_of sets)
-
-    falls : (a b : List ℕ) → is_met baskets least (a ++ b) ≡ true → is_met baskets least b ≡ true
-    falls a b h = subsets_are_frequent baskets (Count least) (a ++ b) b (contains_each (a ++ b) b (λ z m. Member-append_right z a b m)) h
-
-    is_found : (set : List ℕ) → IsNonemptySet set → is_frequent baskets (Count least) set ≡ true → Member set (sets_below (is_met baskets least) rank [])
-    is_found [] n h = absurd (n.1 refl)
-    is_found (x ∷ xs) n h = subst (λ s. Member s (sets_below (is_met baskets least) rank [])) (append-nil (x ∷ xs))
-        (into_sets (is_met baskets least) falls rank x xs [] n.0 (λ item m. lower (x ∷ xs) item h m) (subst (λ s. is_met baskets least s ≡ true) (sym (append-nil (x ∷ xs))) h))

@@ -1,10 +1,8 @@
 mod CoverLemmas
 mod WalkLemmas
-mod SearchLemmas
-mod NodeLemmas
 mod FoundLemmas
 mod SiblingLemmas
+mod ExtensionLemmas
 mod ClassLemmas
 mod JoinLemmas
-mod RemadeLemmas
 mod PlacesLemmas

@@ -1,46 +1,16 @@
--- A search by the ranks that extend a set.
-use Rattle.std.proofs.Common.{◌≡◌, ℕ, zero, suc, ◌+◌, ◌<◌, ◌≤◌, Bool, true, false, List, [], ◌∷◌, ◌++◌, length, get_or, take, cond, refl, sym, ap, ◌∙◌, subst, inl, inr, arith, length-append}
-use Rattle.std.specs.List.{filter, flat_map, sum_by}
+-- The ranks that extend a set.
+use Rattle.std.proofs.Common.{◌≡◌, ℕ, zero, suc, ◌+◌, ◌<◌, ◌≤◌, Bool, true, false, List, [], ◌∷◌, ◌++◌, length, get_or, take, cond, refl, sym, ap, ◌∙◌, subst, inl, inr, arith, length-append, zero-add}
+use Rattle.std.specs.List.{filter, range_with_len}
 use Rattle.std.proofs.lemmas.Bool.{cases_lt, true≢false}
-use Rattle.std.proofs.lemmas.Grind.{flat_map-append}
 use Rattle.std.proofs.lemmas.List.{append-nil, take-append-le, get_or_append_left}
 use Rattle.std.proofs.lemmas.List.Elements.{filter-append}
 use Rattle.std.proofs.Math.Seq.{get_or-append_seam, take-append_seam}
-use Rattle.std.proofs.lemmas.List.Sums.{sum_by-append, sum_by-cons}
+use Rattle.basket_sets.specs.Itemset.{IsRising}
 use Rattle.basket_sets.proofs.theory.Members.{Member, Member-append}
-use Rattle.mine_vertical.specs.Walk.{kept_below, sets_below, joins_below}
+use Rattle.basket_sets.proofs.theory.Ranges.{filtered_range_rises, range_more}
+use Rattle.mine_search.specs.Walk.{kept_below}
 
 module _ (test : List ℕ → Bool) where
-  -- what the search finds by one rank: the set with the rank, and the sets that extend that
-  abbrev pub branch : List ℕ → ℕ → List (List ℕ)
-  branch set rank = (rank ∷ set) ∷ sets_below test rank (rank ∷ set)
-
-  -- the joins of one rank and of the sets that extend it
-  abbrev pub branch_joins : List ℕ → ℕ → ℕ
-  branch_joins set rank = length (kept_below test rank set) + joins_below test rank (rank ∷ set)
-
-  pub sets_are_branches : (below : ℕ) (set : List ℕ) → sets_below test below set ≡ flat_map (branch set) (kept_below test below set)
-  sets_are_branches zero set = refl
-  sets_are_branches (suc rank) set =
-      ap (λ l. l ++ cond (test (rank ∷ set)) (branch set rank) []) (sets_are_branches rank set)
-      ∙ ap (λ l. flat_map (branch set) (kept_below test rank set) ++ l) (one (test (rank ∷ set)))
-      ∙ sym (flat_map-append (branch set) (kept_below test rank set) (cond (test (rank ∷ set)) (rank ∷ []) []))
-    where
-      one : (b : Bool) → cond b (branch set rank) [] ≡ flat_map (branch set) (cond b (rank ∷ []) [])
-      one true = sym (append-nil (branch set rank))
-      one false = refl
-
-  pub joins_are_branches : (below : ℕ) (set : List ℕ) → joins_below test below set ≡ sum_by (branch_joins set) (kept_below test below set)
-  joins_are_branches zero set = refl
-  joins_are_branches (suc rank) set =
-      ap (λ n. n + cond (test (rank ∷ set)) (branch_joins set rank) 0) (joins_are_branches rank set)
-      ∙ ap (λ n. sum_by (branch_joins set) (kept_below test rank set) + n) (one (test (rank ∷ set)))
-      ∙ sym (sum_by-append (branch_joins set) (kept_below test rank set) (cond (test (rank ∷ set)) (rank ∷ []) []))
-    where
-      one : (b : Bool) → cond b (branch_joins set rank) 0 ≡ sum_by (branch_joins set) (cond b (rank ∷ []) [])
-      one true = omega (arith, sum_by-cons (branch_joins set) rank [])
-      one false = refl
-
   -- the ranks before one of those that extend a set are those below it that do
   pub kept_before : (below : ℕ) (set : List ℕ) (i : ℕ) → i < length (kept_below test below set)
       → take i (kept_below test below set) ≡ kept_below test (get_or (kept_below test below set) i 0) set
@@ -107,3 +77,13 @@ module _ (test : List ℕ → Bool) where
       at : (b : Bool) → length (cond b (rank ∷ []) []) ≤ 1
       at true = omega arith
       at false = omega arith
+
+  -- they are ranks of a range that pass, and so they rise
+  pub kept_is_filter : (below : ℕ) (set : List ℕ) → kept_below test below set ≡ filter (λ rank. test (rank ∷ set)) (range_with_len 0 below)
+  kept_is_filter zero set = refl
+  kept_is_filter (suc rank) set =
+      ap (λ l. l ++ cond (test (rank ∷ set)) (rank ∷ []) []) (kept_is_filter rank set)
+      ∙ sym (ap (filter (λ other. test (other ∷ set))) (range_more 0 rank ∙ ap (λ k. range_with_len 0 rank ++ k ∷ []) (zero-add rank)) ∙ filter-append (λ other. test (other ∷ set)) (range_with_len 0 rank) (rank ∷ []))
+
+  pub kept_rises : (below : ℕ) (set : List ℕ) → IsRising (kept_below test below set)
+  kept_rises below set = subst IsRising (sym (kept_is_filter below set)) (filtered_range_rises (λ rank. test (rank ∷ set)) 0 below)

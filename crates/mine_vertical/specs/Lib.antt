@@ -1,6 +1,5 @@
-pub mod Walk
-pub mod Search
 pub mod Vertical
 pub mod Siblings
+pub mod Extensions
 pub mod Joins
 pub mod Remade

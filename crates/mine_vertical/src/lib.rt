@@ -4,12 +4,12 @@
 #![tactic(auto)]
 
 mod eclat;
+mod extensions;
 mod joins;
 pub mod laws;
-mod mined;
+mod projected;
 mod remade;
 mod room;
-mod search;
 mod siblings;
 mod vertical;
 pub mod worked;

@@ -9,8 +9,7 @@ ghost use Rattle.mine_baskets.specs.declared.words.Word.{Word as Bits};
 ghost use Rattle.mine_baskets.specs.Words.{word_places};
 ghost use Rattle.mine_baskets.specs.Covers.{weights_of};
 ghost use Rattle.mine_vertical.specs.Remade.{AreBitsOf, GiveSupports, HaveSameNonempty, bit_places};
-ghost use Rattle.mine_vertical.specs.Search.{IsSibling};
-ghost use Rattle.mine_vertical.specs.Siblings.{AreOver};
+ghost use Rattle.mine_vertical.specs.Siblings.{AreOver, IsSibling};
 
 use crate::joins::Sibling;
 use crate::siblings::siblings_of;

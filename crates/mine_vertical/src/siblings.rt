@@ -12,7 +12,6 @@ ghost use Rattle.mine_classes.specs.Paths.{IsConditional};
 ghost use Rattle.mine_vertical.specs.Siblings.{AreClassSiblings, AreOver};
 
 use crate::joins::{Joins, Sibling};
-use mine_classes::laws::conditional_supports;
 use mine_classes::{Conditional, Places, Runs, Tables, ranks_of};
 use mine_rows::{Row, Weights};
 use std::alloc::{AllocError, Global};
@@ -96,7 +95,6 @@ pub fn class_siblings<R: Row>(
     ensures sums { tables.new.sums ≡ tables.old.sums }
     ensures places { tables.new.places ≡ tables.old.places }
 {
-    conditional_supports();
     let pairs = joins.pairs(alloc, runs, &mut tables.sums, rank, least)?;
     let kept = ranks_of(alloc, &pairs)?;
     let places = &mut tables.places;
