@@ -1,9 +1,10 @@
 -- The class of a rank, as a search begins it.
-use Rattle.std.proofs.Common.{◌≡◌, ℕ, ◌+◌, ◌<◌, ◌≤◌, Bool, true, false, ◌&&◌, List, [], ◌∷◌, ◌++◌, length, map, cond, leb, refl, sym, ap, ◌∙◌, subst, inl, inr, arith}
+use Rattle.std.proofs.Common.{◌≡◌, ℕ, zero, suc, ◌+◌, ◌<◌, ◌≤◌, Bool, true, false, ◌&&◌, List, [], ◌∷◌, ◌++◌, length, map, cond, leb, refl, sym, ap, ◌∙◌, subst, inl, inr, arith, zero-add}
 use Rattle.std.specs.Prelude.{All, Some, None, nat_le}
 use Rattle.std.specs.List.{filter, list_all, range_with_len}
 use Rattle.std.proofs.lemmas.Bool.{le-leb, leb-true, lt-leb, lt-ltb, true≢false}
-use Rattle.std.proofs.lemmas.List.{append-nil, take_all}
+use Rattle.std.proofs.lemmas.List.{append-nil}
+use Rattle.std.proofs.lemmas.List.Elements.{filter-append}
 use Rattle.basket_ranks.specs.Codes.{Coding, IsCoding, MOST_RANKS}
 use Rattle.basket_sets.specs.declared.weighted.Weighted.{Weighted}
 use Rattle.basket_sets.specs.declared.counted.Counted.{Counted}
@@ -13,7 +14,7 @@ use Rattle.basket_sets.specs.Itemset.{contains, has}
 use Rattle.basket_sets.specs.Minimum.{IsLeastSupport}
 use Rattle.basket_sets.specs.Support.{support_of, total_of}
 use Rattle.basket_sets.proofs.theory.Members.{Member, Member-filter}
-use Rattle.basket_sets.proofs.theory.Ranges.{Member-range, filter_members}
+use Rattle.basket_sets.proofs.theory.Ranges.{Member-range, filter_members, range_more}
 use Rattle.basket_sets.proofs.theory.Rising.{Member-from_has, contains_each}
 use Rattle.basket_sets.proofs.theory.Support.{support_falls}
 use Rattle.basket_sets.proofs.theory.Tests.{all_of, each_of}
@@ -24,14 +25,20 @@ use Rattle.mine_classes.specs.Mined.{ListsClassItems, RanksAreFrequent}
 use Rattle.mine_classes.specs.Pairs.{kept_ranks}
 use Rattle.mine_search.specs.Class.{IsClass, of_rank}
 use Rattle.mine_search.specs.Node.{Supports, is_met, kept, work_at}
-use Rattle.mine_search.specs.Walk.{work_below}
-use Rattle.mine_vertical.specs.declared.extensions.Extensions.{Extensions}
+use Rattle.mine_search.specs.Walk.{kept_below, work_below}
+use Rattle.mine_vertical.specs.declared.siblings.Siblings.{Siblings}
 use Rattle.mine_vertical.specs.declared.joins.Sibling.{Sibling}
-use Rattle.mine_vertical.specs.Extensions.{Extend, GiveSupportsAt, siblings_in}
+use Rattle.mine_vertical.specs.Projected.{Extend, GiveSupportsAt, siblings_in}
 use Rattle.mine_vertical.specs.Joins.{class_joins}
 use Rattle.mine_vertical.specs.Siblings.{AreClassSiblings, IsSibling}
 use Rattle.mine_vertical.proofs.JoinLemmas.{class_joins_are, set_joins}
-use Rattle.mine_vertical.proofs.WalkLemmas.{kept_is_filter}
+
+-- the ranks that extend a set are those of a range that pass
+kept_is_filter : (test : List ℕ → Bool) (below : ℕ) (set : List ℕ) → kept_below test below set ≡ filter (λ rank. test (rank ∷ set)) (range_with_len 0 below)
+kept_is_filter test zero set = refl
+kept_is_filter test (suc rank) set =
+    ap (λ l. l ++ cond (test (rank ∷ set)) (rank ∷ []) []) (kept_is_filter test rank set)
+    ∙ sym (ap (filter (λ other. test (other ∷ set))) (range_more 0 rank ∙ ap (λ k. range_with_len 0 rank ++ k ∷ []) (zero-add rank)) ∙ filter-append (λ other. test (other ∷ set)) (range_with_len 0 rank) (rank ∷ []))
 
 -- the supports in a coding, by its least support, with the joins as work
 abbrev pub over : Coding → ℕ → Supports
@@ -71,7 +78,7 @@ module _ (coding : Coding) (least : ℕ) (all : List Weighted) (is : IsLeastSupp
   pub joins_are : (rank : ℕ) → RanksAreFrequent coding → rank < length coding.items → class_joins coding rank ≡ rank + work_at (of_rank (over coding least) rank)
   joins_are rank each here = class_joins_are coding rank each here ∙ (λ k. rank + work_below (set_joins (λ set. met set k)) (λ set. met set k) rank (rank ∷ []))
 
-  module _ {R : Type 0} {stands : List ℕ → List ℕ → List ℕ → R → Type 0} {base : Extensions R} {rank : ℕ} {baskets : List Weighted}
+  module _ {R : Type 0} {stands : List ℕ → List ℕ → List ℕ → R → Type 0} {base : Siblings R} {rank : ℕ} {baskets : List Weighted}
       (law : ConditionalSupports) (coding_is : IsCoding coding) (are : AreClassSiblings stands all least rank base.weights.value base.list.items baskets) where
     ranks : List ℕ
     ranks = kept_ranks all least rank
@@ -123,5 +130,5 @@ module _ (coding : Coding) (least : ℕ) (all : List Weighted) (is : IsLeastSupp
       none = λ e. absurd (let none = e in cc);
     }
       where
-        only : (a b : Extensions R) → Some a ≡ Some b → a ≡ b
+        only : (a b : Siblings R) → Some a ≡ Some b → a ≡ b
         only a b e = cc

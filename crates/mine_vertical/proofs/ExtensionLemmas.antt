@@ -14,16 +14,16 @@ use Rattle.basket_sets.proofs.theory.Rising.{Member-from_has, has-from_Member, h
 use Rattle.basket_sets.proofs.theory.Tests.{all_of, each_of}
 use Rattle.mine_search.specs.Node.{Node, child, is_met, kept}
 use Rattle.mine_search.specs.Walk.{kept_below}
-use Rattle.mine_vertical.specs.declared.extensions.Extensions.{Extensions}
+use Rattle.mine_search.proofs.theory.Walk.{kept_before, kept_few, kept_lower, kept_rises, kept_with}
+use Rattle.mine_vertical.specs.declared.siblings.Siblings.{Siblings}
 use Rattle.mine_vertical.specs.declared.joins.Sibling.{Sibling}
-use Rattle.mine_vertical.specs.Extensions.{AreExtensions, Extend, GiveSupportsAt, IsJoined, ranks_in, siblings_in}
+use Rattle.mine_vertical.specs.Projected.{AreExtensions, Extend, GiveSupportsAt, IsJoined, ranks_in, siblings_in}
 use Rattle.mine_vertical.specs.Remade.{GiveSupports}
 use Rattle.mine_vertical.specs.Siblings.{AreKept, AreOver, AreSiblings, IsSibling}
-use Rattle.mine_vertical.proofs.WalkLemmas.{kept_before, kept_few, kept_lower, kept_rises, kept_with}
 
 -- ---- a sibling at a place
 
-module _ {R : Type 0} {base : Extensions R} (at : ℕ) (inside : at < base.kept) where
+module _ {R : Type 0} {base : Siblings R} (at : ℕ) (inside : at < base.kept) where
   enough : at < length base.list.items
   enough = omega (arith, inside, base.within)
 
@@ -48,12 +48,12 @@ module _ {R : Type 0} {base : Extensions R} (at : ℕ) (inside : at < base.kept)
     row_at {stands} {baskets} {set} rows = subst (IsSibling stands baskets set) sibling_at (rows at sibling (omega (arith, kept_is_long, inside)))
 
 -- as many as are kept
-pub as_long : {R : Type 0} (base : Extensions R) → length (ranks_in base) ≡ base.kept
+pub as_long : {R : Type 0} (base : Siblings R) → length (ranks_in base) ≡ base.kept
 as_long {R} base = length-map (siblings_in base) (λ (s : Sibling R). s.rank) ∙ length-take-le base.kept base.list.items base.within
 
 -- ---- a node with one more rank
 
-module _ {R : Type 0} {stands : List ℕ → List ℕ → List ℕ → R → Type 0} {base : Extensions R} {node : Node} {baskets : List Weighted} {set : List ℕ} (is : AreExtensions stands base node baskets set)
+module _ {R : Type 0} {stands : List ℕ → List ℕ → List ℕ → R → Type 0} {base : Siblings R} {node : Node} {baskets : List Weighted} {set : List ℕ} (is : AreExtensions stands base node baskets set)
     (at : ℕ) (inside : at < length (ranks_in base)) where
   abbrev pub rank : ℕ
   rank = get_or (ranks_in base) at 0
@@ -159,7 +159,7 @@ module _ {R : Type 0} {stands : List ℕ → List ℕ → List ℕ → R → Typ
     none_below none = sym ranks_are ∙ ap (map (λ (s : Sibling R). s.rank)) none
 
     -- the siblings that are kept are its extensions
-    pub below_is : (made : Extensions R) → made.coded ≡ base.coded → made.least ≡ base.least → made.weights.value ≡ base.weights.value → siblings_in made ≡ below → Extend stands made (child node rank)
+    pub below_is : (made : Siblings R) → made.coded ≡ base.coded → made.least ≡ base.least → made.weights.value ≡ base.weights.value → siblings_in made ≡ below → Extend stands made (child node rank)
     below_is made coded least weights same = (baskets, rank ∷ set, record {
       joined = subst (λ c. IsJoined c.now.items made.least (child node rank)) (sym coded) (subst (λ n. IsJoined base.coded.now.items n (child node rank)) (sym least) joined_below);
       siblings = record { weighs = weights ∙ is.siblings.weighs; rows = subst (All (IsSibling stands baskets (rank ∷ set))) (sym same) are.rows };
@@ -168,7 +168,7 @@ module _ {R : Type 0} {stands : List ℕ → List ℕ → List ℕ → R → Typ
     })
 
     -- and so are those over a database that is made anew
-    pub anew_is : (made : Extensions R) (others : List Weighted) → made.coded ≡ base.coded → made.least ≡ base.least → AreOver stands ranks made.weights.value (siblings_in made) others
+    pub anew_is : (made : Siblings R) (others : List Weighted) → made.coded ≡ base.coded → made.least ≡ base.least → AreOver stands ranks made.weights.value (siblings_in made) others
         → GiveSupports baskets (rank ∷ set) ranks others → Extend stands made (child node rank)
     anew_is made others coded least over gives = (others, [], record {
       joined = subst (λ c. IsJoined c.now.items made.least (child node rank)) (sym coded) (subst (λ n. IsJoined base.coded.now.items n (child node rank)) (sym least) joined_below);

@@ -1,7 +1,7 @@
 mod CoverLemmas
-mod WalkLemmas
 mod FoundLemmas
 mod SiblingLemmas
+mod RoomLemmas
 mod ExtensionLemmas
 mod ClassLemmas
 mod JoinLemmas

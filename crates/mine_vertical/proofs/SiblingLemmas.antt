@@ -84,7 +84,7 @@ module _ {R : Type 0} (stands : List ℕ → List ℕ → List ℕ → R → Typ
       (subst (λ w. stands w first (common first second) row) pair.weighs
       (made parent first second (subst (λ w. stands w parent first sibling.row) (sym pair.weighs) pair.first_is) (subst (λ w. stands w parent second other.row) (sym pair.weighs) pair.second_is)))
 
-module _ {R : Type 0} {stands : List ℕ → List ℕ → List ℕ → R → Type 0} {least rank : ℕ} {others below : List (Sibling R)} {baskets : List Weighted} {set : List ℕ} (i : ℕ) (other : Sibling R)
+module _ {R : Type 0} (stands : List ℕ → List ℕ → List ℕ → R → Type 0) (least rank : ℕ) (others below : List (Sibling R)) (baskets : List Weighted) (set : List ℕ) (i : ℕ) (other : Sibling R)
     (here : i < length others) (at : other ≡ get_or others i other) (before : AreKept stands least rank (take i others) below baskets set) where
   abbrev test : ℕ → Bool
   test other = nat_le least (support_of baskets (other ∷ rank ∷ set))

@@ -1,5 +1,5 @@
 pub mod Vertical
 pub mod Siblings
-pub mod Extensions
+pub mod Projected
 pub mod Joins
 pub mod Remade

@@ -4,10 +4,9 @@ ghost use Rattle.basket_core.specs.declared.fault.MineFault.TheVariants.{TooMany
 ghost use Rattle.mine_vertical.specs.Joins.{class_joins};
 ghost use Rattle.mine_classes.specs.Mined.{ListsClassItems, MOST_SET_WORK, RanksAreFrequent, class_size};
 
-use crate::extensions::Extensions;
 use crate::joins::Joins;
 use crate::room::Room;
-use crate::siblings::class_siblings;
+use crate::siblings::{Siblings, class_siblings};
 use crate::vertical::Vertical;
 use basket_core::{CountedSets, MineFault, Tally};
 use mine_classes::Tables;
@@ -78,16 +77,16 @@ pub fn eclat_class_with<R: Row, T: Tally>(
         return Ok((none, 0));
     }
     let mut joins = Joins::none();
-    let (weights, list) = class_siblings::<R>(alloc, runs, tables, &mut joins, rank, least)?;
+    let (weights, siblings) = class_siblings::<R>(alloc, runs, tables, &mut joins, rank, least)?;
     let mut room = Room::new(alloc);
     room.add_marks(alloc, 0, &weights)?;
-    let below = Extensions {
+    let below = Siblings {
         coded,
         least,
         weights: Rc::new(alloc, weights)?,
         marks: 0,
-        kept: list.len(),
-        list,
+        kept: siblings.len(),
+        list: siblings,
     };
     let class = Class {
         rank,

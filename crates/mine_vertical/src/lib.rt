@@ -4,7 +4,6 @@
 #![tactic(auto)]
 
 mod eclat;
-mod extensions;
 mod joins;
 pub mod laws;
 mod projected;

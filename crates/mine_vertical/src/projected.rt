@@ -1,21 +1,21 @@
-//! Extensions as a conditional database.
+//! Siblings as a conditional database.
 ghost use Rattle.std.specs.Prelude.{◌≡◌, ◌≤◌, ◌<◌, ◌+◌, ℕ, List, IfOk, IfSome, OnOk, false, length, map, slice_index_or, take};
 ghost use Rattle.basket_sets.specs.declared.weighted.Weighted.{Weighted as Basket};
 ghost use Rattle.basket_sets.specs.Itemset.{IsRising};
-ghost use Rattle.mine_vertical.specs.Extensions.{Extend, Keeps, Serves, ranks_in, siblings_in};
+ghost use Rattle.mine_vertical.specs.Projected.{Extend, Keeps, Serves, ranks_in, siblings_in};
 ghost use Rattle.mine_vertical.specs.Remade.{GiveSupports};
 ghost use Rattle.mine_vertical.specs.Siblings.{AreKept, AreOver, AreSiblings};
 
-use crate::extensions::Extensions;
 use crate::joins::{Joins, Sibling};
 use crate::remade::remade;
 use crate::room::{Room, make_place};
+use crate::siblings::Siblings;
 use mine_rows::{Marks, Row};
 use mine_search::Projected;
 use std::alloc::{AllocError, Global};
 use std::rc::Rc;
 
-impl<'a, R: Row> Projected for Extensions<'a, R> {
+impl<'a, R: Row> Projected for Siblings<'a, R> {
     type Scratch = Room<R>;
 
     ghost gives = { Extend R.stands };
@@ -57,7 +57,7 @@ impl<'a, R: Row> Projected for Extensions<'a, R> {
         }
         let is_large = self.list[at].is_large(kept, at, &self.weights);
         let Some(anew) = self.made_anew(alloc, &list[..kept], is_large, room)? else {
-            return Ok(Some(Extensions {
+            return Ok(Some(Siblings {
                 coded: self.coded,
                 least: self.least,
                 weights: self.weights.clone()?,
@@ -83,14 +83,14 @@ impl<'a, R: Row> Projected for Extensions<'a, R> {
 
     ghost ranks_are = { λ base node gives. gives.2.ranks };
 
-    ghost unused = { λ base room place weights low rests. rests };
+    ghost unused = { λ base room. record { outer = λ place weights low rests. rests; own = λ serves. serves } };
 
-    ghost used_twice = { λ base first second third one two place weights low rests. two place weights low (one place weights low rests) };
+    ghost used_twice = { λ base first second third one two. record { outer = λ place weights low rests. two.outer place weights low (one.outer place weights low rests); own = λ serves. two.own (one.own serves) } };
 
-    ghost lent_again = { λ base before after keeps serves. keeps base.marks base.weights.value search rests };
+    ghost lent_again = { λ base before after keeps serves. keeps.own serves };
 }
 
-impl<'a, R: Row> Extensions<'a, R> {
+impl<'a, R: Row> Siblings<'a, R> {
     /// The frequent extensions of the set with the rank at a place, which replace the first siblings
     /// of a list: its sibling is joined with each of those before it. Returns how many they are.
     fn joined(
@@ -149,7 +149,7 @@ impl<'a, R: Row> Extensions<'a, R> {
             × ((baskets : List Basket) (set : List ℕ) → AreSiblings R.stands self.now.weights.value siblings.now baskets set
                 → GiveSupports baskets set (map (λ sibling. sibling.rank) siblings.now) others))) }
         ensures served { IfOk result (λ made. IfSome made (Serves R.at_rest room.new)) }
-        ensures wider { IfOk result (λ made. IfSome made (λ inner. self.now.marks ≤ inner.marks)) }
+        ensures wider { IfOk result (λ made. IfSome made (λ inner. self.now.marks < inner.marks)) }
         ensures room { OnOk result (Keeps R.at_rest self.now room.old room.new) }
     {
         let found = remade(alloc, siblings, &self.weights, is_large)?;
@@ -159,7 +159,7 @@ impl<'a, R: Row> Extensions<'a, R> {
         let marks = self.marks + 1;
         room.add_marks(alloc, marks, &weights)?;
         let kept = list.len();
-        Ok(Some(Extensions {
+        Ok(Some(Siblings {
             coded: self.coded,
             least: self.least,
             weights: Rc::new(alloc, weights)?,

@@ -1,8 +1,8 @@
 use Rattle.std.proofs.Common.{◌≡◌, ℕ, ◌+◌, ◌≤◌, List, get_or, length, take}
 use Rattle.basket_sets.specs.declared.weighted.Weighted.{Weighted}
-use Rattle.mine_vertical.specs.Extensions.{ranks_in, siblings_in}
+use Rattle.mine_vertical.specs.Projected.{ranks_in, siblings_in}
 use Rattle.mine_vertical.specs.Siblings.{AreKept, AreSiblings}
-use Rattle.mine_vertical.proofs.projected.Extensions.joined.Given as goal
+use Rattle.mine_vertical.proofs.siblings.Siblings.joined.Given as goal
 
 abbrev pub invariant-loop-other : goal.invariant-loop-other
 invariant-loop-other g l = record {
