@@ -1,5 +1,3 @@
-mod LevelLemmas
-mod ClassLemmas
 mod ForestLemmas
 mod BranchLemmas
 mod NodeLemmas
@@ -7,10 +5,6 @@ mod BaseLemmas
 mod TreeCountLemmas
 mod StraightLemmas
 mod InnerLemmas
+mod NumberLemmas
+mod PatternLemmas
 mod TreesLemmas
-mod NameLemmas
-mod ChoiceLemmas
-mod LeafLemmas
-mod SuffixLemmas
-mod FoundLemmas
-mod ToldLemmas

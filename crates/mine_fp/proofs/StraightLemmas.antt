@@ -138,7 +138,7 @@ module _ (baskets : List Weighted) (minimum : Minimum) (first : ℕ) (others : L
   path_in : (place : Weighted) → Member place baskets → contains place.basket set ≡ true → Member (path_of place) paths
   path_in place m h = into_picked has_set path_of baskets place m h
 
-  has_lower : is_straight baskets minimum set ≡ true → (a b : ℕ) → a < b → joined a ≡ true → joined b ≡ true
+  pub has_lower : is_straight baskets minimum set ≡ true → (a b : ℕ) → a < b → joined a ≡ true → joined b ≡ true
       → (place : Weighted) → Member place baskets → contains place.basket (b ∷ set) ≡ true → has place.basket a ≡ true
   has_lower h a b less ja jb place m k =
       let met = (and_parts (ltb a first) (is_frequent baskets minimum (a ∷ set)) ja).1 in

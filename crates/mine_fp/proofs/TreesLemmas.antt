@@ -1,43 +1,30 @@
--- The trees of a class are that of its rank and those within the rank's conditional database.
-use Rattle.std.proofs.Common.{◌≡◌, ◌≢◌, ℕ, ◌+◌, ◌<◌, Bool, true, false, ◌&&◌, List, [], ◌∷◌, ◌++◌, filter, get_or, length, map, cond, refl, sym, ap, ◌∙◌, subst, arith, suc, add-zero, zero-add}
-use Rattle.std.specs.Prelude.{nat_eq, not}
+-- The trees of a class, by any list of it.
+use Rattle.std.proofs.Common.{◌≡◌, ◌≢◌, ℕ, ◌+◌, ◌≤◌, Bool, true, false, not, List, [], ◌∷◌, filter, length, map, cond, refl, sym, ap, ◌∙◌, subst, arith}
 use Rattle.std.specs.Cmp.Lexicographic.{bytes_decides, nat_list_eq_equiv, pointwise}
-use Rattle.std.specs.List.{AllByRecursion, IsDistinct, flat_map, list_any, range_with_len, sum_by}
-use Rattle.std.proofs.lemmas.List.Elements.{All-weaker, filter_agree, recursion_from_All}
+use Rattle.std.specs.List.{IsDistinct, list_any, sum_by}
+use Rattle.std.proofs.lemmas.List.Elements.{recursion_from_All}
+use Rattle.std.proofs.lemmas.List.Filters.{length-filter_both}
 use Rattle.std.proofs.lemmas.List.Kept.{AllPairs-filter}
-use Rattle.std.proofs.lemmas.List.Sums.{sum_by-append, sum_by-cons}
+use Rattle.std.proofs.lemmas.List.Sums.{sum_by-cons}
 use Rattle.std.proofs.lemmas.Map.Made.{AllPairs-from_IsDistinct, IsDistinct-from_AllPairs, length-from_same_keys}
 use Rattle.std.proofs.lemmas.Map.Views.{Contains-from_any, list_any-from_Contains}
-use Rattle.basket_ranks.specs.Codes.{Coding, IsCodedPlace, decoded_set}
-use Rattle.basket_ranks.proofs.theory.Decoding.{ranks_below}
+use Rattle.basket_ranks.specs.Codes.{Coding}
 use Rattle.basket_sets.specs.declared.weighted.Weighted.{Weighted}
 use Rattle.basket_sets.specs.declared.counted.Counted.{Counted}
 use Rattle.basket_sets.specs.declared.minimum.Minimum.{Minimum}
-use Rattle.basket_sets.specs.declared.minimum.Minimum.TheVariants.{Count}
-use Rattle.basket_sets.specs.Database.{HasWeight}
-use Rattle.basket_sets.specs.Frequent.{IsNonemptySet, ListsOnce, counted, frequent_of, is_frequent}
-use Rattle.basket_sets.specs.Support.{support_of, total_of}
-use Rattle.basket_sets.proofs.theory.Frequent.{frequent_once}
+use Rattle.basket_sets.specs.Frequent.{IsNonemptySet, counted, is_frequent}
+use Rattle.basket_sets.specs.Support.{support_of}
 use Rattle.basket_sets.proofs.theory.Members.{Contains-from_Member, Member, Member-filter, Member-from_Contains, Member-from_filter, Member-from_map, Member-map, at_Member}
-use Rattle.basket_sets.proofs.theory.Rising.{has-from_Member, rising-rising, same_test}
-use Rattle.basket_sets.proofs.theory.Support.{at_least_one, in_items}
-use Rattle.basket_sets.proofs.theory.Ranges.{range_more}
-use Rattle.mine_classes.specs.Classes.{ClassesAreAll, ClassesAreListed, ClassesByCodings, ListsClass, RareRanksHaveNoClass, class_of, ends_in, with_rank}
-use Rattle.mine_classes.specs.Conditional.{ConditionalSupports}
-use Rattle.mine_baskets.specs.ListBaskets.{AreRankBaskets, IsRankBasket, RankBaskets}
-use Rattle.mine_classes.specs.Pairs.{kept_ranks}
-use Rattle.mine_classes.proofs.theory.Kept.{kept_rises}
-use Rattle.mine_fp.specs.declared.level.Level.{Level}
-use Rattle.mine_fp.specs.Level.{IsBelow, IsLevel}
-use Rattle.mine_fp.specs.Trees.{has_tree, inner_trees, rank_trees}
-use Rattle.mine_fp.proofs.ClassLemmas.{class_with, lists_class, ranks_are_below}
-use Rattle.mine_fp.proofs.InnerLemmas.{IsWithinRanks, outer_tree}
-use Rattle.mine_fp.proofs.LevelLemmas.{placed_rise}
-use Rattle.mine_fp.proofs.StraightLemmas.{ArePlain}
-use Rattle.mine_fp.proofs.TreeCountLemmas.{EndsBelow, classes_add_up}
-use Rattle.mine_classes.specs.Paths.{is_branch}
-
--- ---- sets that pass a test
+use Rattle.basket_sets.proofs.theory.Rising.{same_test}
+use Rattle.mine_classes.specs.Classes.{ClassesAreListed, ListsClass, RareRanksHaveNoClass, class_of, ends_in}
+use Rattle.mine_classes.specs.Mined.{class_size}
+use Rattle.mine_fp.specs.PatternBase.{supports_in}
+use Rattle.mine_fp.specs.Trees.{class_trees, has_tree}
+use Rattle.mine_search.specs.Class.{IsOver, class_sets, of_rank}
+use Rattle.mine_search.specs.Node.{is_met, work_at}
+use Rattle.mine_search.specs.Walk.{sets_below}
+use Rattle.mine_search.proofs.theory.Class.{class_listed, counted_set}
+use Rattle.mine_search.proofs.theory.Walk.{work_is_sum}
 
 module _ (test : List ℕ → Bool) where
   abbrev sets_of : List Counted → List (List ℕ)
@@ -82,124 +69,38 @@ module _ (test : List ℕ → Bool) where
         (λ set. same_test _ _ (still_passed (sets_of one) (sets_of other) (listed_too one other a b) set) (still_passed (sets_of other) (sets_of one) (listed_too other one b a) set))
         ∙ sym (passed_sets other)
 
--- two tests that agree pass as many
-pub same_passed : (test other : List ℕ → Bool) → ((set : List ℕ) → test set ≡ other set) → (list : List Counted) → length (filter (λ c. test c.set) list) ≡ length (filter (λ c. other c.set) list)
-same_passed test other same list = ap length (filter_agree (λ c. test c.set) (λ c. other c.set) (λ c. same c.set) list)
-
--- ---- what levels' baskets are
-
-pub ranked_plain : (value : RankBaskets) → AreRankBaskets value → ArePlain value.baskets
-ranked_plain value are place m = let is = at_Member (IsRankBasket value.ranks) place value.baskets (recursion_from_All (IsRankBasket value.ranks) value.baskets are.places) m in (is.rises, is.weighs)
-
--- ---- the class of a rank
-
-module _ (level : Level) (rank : ℕ) (inner : Level) (is_level : IsLevel level) (is : IsBelow level rank inner)
-    (coded : ClassesByCodings) (met : is_frequent level.paths.baskets (Count level.least) (rank ∷ []) ≡ true) (listed : ClassesAreListed) (law : ConditionalSupports) where
-  abbrev baskets : List Weighted
-  baskets = level.paths.baskets
-
-  abbrev within : List Weighted
-  within = inner.paths.baskets
-
-  abbrev kept : List ℕ
-  kept = kept_ranks baskets level.least rank
-
+module _ (coding : Coding) (rank : ℕ) (listed : ClassesAreListed) where
   abbrev test : List ℕ → Bool
-  test set = has_tree baskets (Count level.least) set
+  test set = has_tree coding.baskets coding.minimum set
 
-  abbrev inner_test : List ℕ → Bool
-  inner_test set = has_tree within (Count level.least) set
+  trees_in : (list : List Counted) → ListsClass coding.baskets coding.minimum rank list → length (passed test list) ≡ class_trees coding rank
+  trees_in list lists = passed_as_many test coding.baskets coding.minimum rank list (class_of coding.baskets coding.minimum rank) lists (listed coding.baskets coding.minimum rank)
 
-  abbrev outer_set : Counted → Counted
-  outer_set c = with_rank rank (decoded_set kept c)
-
-  inner_plain : ArePlain within
-  inner_plain place m = (
-    (at_Member (IsCodedPlace kept) place within (recursion_from_All (IsCodedPlace kept) within is.coding.places) m).0,
-    at_Member HasWeight place within (recursion_from_All HasWeight within is.coding.weights) m,
-  )
-
-  inner_within : IsWithinRanks (length kept) within
-  inner_within place m = (at_Member (IsCodedPlace kept) place within (recursion_from_All (IsCodedPlace kept) within is.coding.places) m).1
-
-  abbrev IsInner : Counted → Type 0
-  IsInner c = IsNonemptySet c.set × (is_frequent within (Count level.least) c.set ≡ true) × (c.count ≡ support_of within c.set)
-
-  abbrev coding : Coding
-  coding = record { items = kept; minimum = Count level.least; baskets = within }
-
-  -- a set of the conditional database with the rank has a tree where there are several branches, and it has one within
-  tree_is : (c : Counted) → IsInner c → test (outer_set c).set ≡ (not (is_branch within) && inner_test c.set)
-  tree_is c sound =
-      let low = ranks_below coding is.coding c.set sound.1 in
-      let rises = placed_rise kept c.set (kept_rises baskets level.least rank) sound.0.0 low in
-      ap (λ l. test (l ++ rank ∷ [])) (rising-rising (map (λ k. get_or kept k 0) c.set) rises)
-      ∙ at c.set sound.0.1 (λ k m. low k (has-from_Member c.set k m))
+  -- a search makes the trees of the class
+  pub trees_are : (least : ℕ) → (is : IsOver coding (supports_in coding least)) → is_met (supports_in coding least) (rank ∷ []) ≡ true → 1 + work_at (of_rank (supports_in coding least) rank) ≡ class_trees coding rank
+  trees_are least is frequent =
+      let over = supports_in coding least in
+      let below = work_is_sum (is_met over) over.work rank (rank ∷ []) in
+      let all = sum_by-cons over.work (rank ∷ []) (sets_below (is_met over) rank (rank ∷ [])) in
+      omega (arith, below, all) ∙ counted_up (class_sets over rank) ∙ trees_in (map (counted_set is rank) (class_sets over rank)) (class_listed is rank frequent)
     where
-      at : (set : List ℕ) → set ≢ [] → ((k : ℕ) → Member k set → k < length kept) → test (map (λ k. get_or kept k 0) set ++ rank ∷ []) ≡ (not (is_branch within) && inner_test set)
-      at [] some low = absurd (some refl)
-      at (first ∷ others) some low =
-          outer_tree baskets within level.least rank law is.weights is.coding.distinct (ranked_plain level.paths is_level.ranked) inner_plain inner_within first others low
+      counted_up : (sets : List (List ℕ)) → sum_by (λ set. cond (test set) 1 0) sets ≡ length (passed test (map (λ set. record { set = set; count = support_of coding.baskets set }) sets))
+      counted_up [] = refl
+      counted_up (set ∷ sets) = sum_by-cons (λ set. cond (test set) 1 0) set sets ∙ one (test set) (counted_up sets)
+        where
+          rest : List Counted
+          rest = map (λ set. record { set = set; count = support_of coding.baskets set }) sets
 
-  abbrev outer_rest : List Counted → List Counted
-  outer_rest list = filter (λ c. test c.set) (map (with_rank rank) (map (decoded_set kept) list))
+          one : (b : Bool) → sum_by (λ set. cond (test set) 1 0) sets ≡ length (passed test rest)
+              → cond b 1 0 + sum_by (λ set. cond (test set) 1 0) sets ≡ length (cond b (record { set = set; count = support_of coding.baskets set } ∷ passed test rest) (passed test rest))
+          one true h = omega arith
+          one false h = h
 
-  abbrev outer_passed : List Counted → ℕ
-  outer_passed list = length (outer_rest list)
+  -- they are no more than its sets
+  pub trees_few : class_trees coding rank ≤ class_size coding rank
+  trees_few =
+      let both = length-filter_both (λ (c : Counted). test c.set) (λ (c : Counted). not (test c.set)) (λ c. refl) (class_of coding.baskets coding.minimum rank) in omega arith
 
-  within_passed : (list : List Counted) → AllByRecursion IsInner list → outer_passed list ≡ cond (is_branch within) 0 (length (filter (λ c. inner_test c.set) list))
-  within_passed [] all = none (is_branch within)
-    where
-      none : (b : Bool) → ◌≡◌ {A = ℕ} 0 (cond b 0 0)
-      none true = refl
-      none false = refl
-  within_passed (c ∷ list) all =
-      ap (λ b. length (cond b (outer_set c ∷ outer_rest list) (outer_rest list))) (tree_is c all.0) ∙ at (is_branch within) (inner_test c.set) (within_passed list all.1)
-    where
-      at : (one passes : Bool) → outer_passed list ≡ cond one 0 (length (filter (λ c. inner_test c.set) list))
-          → length (cond (not one && passes) (outer_set c ∷ outer_rest list) (outer_rest list)) ≡ cond one 0 (length (cond passes (c ∷ filter (λ c. inner_test c.set) list) (filter (λ c. inner_test c.set) list)))
-      at true passes rest = rest
-      at false true rest = omega arith
-      at false false rest = rest
-
-  -- the rank's own tree, and those within its conditional database
-  pub class_trees_are : rank_trees baskets level.least rank ≡ 1 + inner_trees within inner.least
-  class_trees_are =
-      let list = frequent_of within (Count inner.least) in
-      let once = frequent_once within (Count inner.least) in
-      let sound = recursion_from_All IsInner list (subst (λ n. ListsOnce within (Count n) list) is.least once).sound in
-      let lists = lists_class level rank inner is coded met list once in
-      let all = passed_as_many test baskets (Count level.least) rank (class_of baskets (Count level.least) rank) (class_with level rank inner is coded met list) (listed baskets (Count level.least) rank) lists in
-      let rest = within_passed list sound in
-      let own = ap (λ n. cond (is_branch within) 0 (length (filter (λ (c : Counted). has_tree within (Count n) c.set) list))) (sym is.least) in
-      omega (arith, all, rest, own)
-
--- a rank that is not frequent has no tree
-pub rare_trees : (baskets : List Weighted) (least rank : ℕ) (test : Bool) → ClassesAreListed → RareRanksHaveNoClass → test ≡ is_frequent baskets (Count least) (rank ∷ []) → test ≡ false
-    → rank_trees baskets least rank ≡ 0
-rare_trees baskets least rank test listed rare is not =
-    passed_as_many (λ set. has_tree baskets (Count least) set) baskets (Count least) rank (class_of baskets (Count least) rank) [] (listed baskets (Count least) rank) (rare baskets (Count least) rank (sym is ∙ not))
-
--- ---- the classes of all ranks
-
-pub more_trees : (baskets : List Weighted) (least rank : ℕ) → sum_by (rank_trees baskets least) (range_with_len 0 (rank + 1)) ≡ sum_by (rank_trees baskets least) (range_with_len 0 rank) + rank_trees baskets least rank
-more_trees baskets least rank =
-    let f = rank_trees baskets least in
-    ap (λ l. sum_by f l) (ap (range_with_len 0) (let e : rank + 1 ≡ suc rank = omega arith in e) ∙ range_more 0 rank)
-    ∙ sum_by-append f (range_with_len 0 rank) ((0 + rank) ∷ [])
-    ∙ ap (λ n. sum_by f (range_with_len 0 rank) + n) (sum_by-cons f (0 + rank) [] ∙ add-zero (f (0 + rank)) ∙ ap f (zero-add rank))
-
-module _ (all : ClassesAreAll) (listed : ClassesAreListed) (value : RankBaskets) (are : AreRankBaskets value) (least : ℕ) where
-  abbrev IsSoundHere : Counted → Type 0
-  IsSoundHere c = IsNonemptySet c.set × (is_frequent value.baskets (Count least) c.set ≡ true) × (c.count ≡ support_of value.baskets c.set)
-
-  pub trees_of_ranks : sum_by (rank_trees value.baskets least) (range_with_len 0 value.ranks) ≡ length (filter (λ c. has_tree value.baskets (Count least) c.set) (frequent_of value.baskets (Count least)))
-  trees_of_ranks =
-      let list = frequent_of value.baskets (Count least) in
-      classes_add_up (λ c. has_tree value.baskets (Count least) c.set) value.ranks list
-      (All-weaker IsSoundHere (EndsBelow value.ranks) (λ c sound. (
-        sound.0.1,
-        λ rank m. ranks_are_below all listed value are least rank
-            (Contains-from_Member rank (flat_map (λ place. place.basket) value.baskets)
-            (in_items value.baskets c.set (at_least_one (Count least) (support_of value.baskets c.set) (total_of value.baskets) sound.1) rank m)),
-      )) list (frequent_once value.baskets (Count least)).sound)
+  -- a rank that is not frequent has none
+  pub rare_trees : RareRanksHaveNoClass → is_frequent coding.baskets coding.minimum (rank ∷ []) ≡ false → class_trees coding rank ≡ 0
+  rare_trees none rare = sym (trees_in [] (none coding.baskets coding.minimum rank rare))

@@ -1,14 +1,17 @@
 -- Coded baskets in order, for FP-growth.
-use Rattle.std.specs.Prelude.{◌≡◌, ℕ, List, length}
-use Rattle.basket_ranks.specs.Codes.{Coding}
+use Rattle.std.specs.Prelude.{◌≡◌, ℕ, List, [], ◌∷◌, length, map}
+use Rattle.std.specs.List.{range_with_len}
+use Rattle.basket_ranks.specs.Codes.{IsCoding}
 use Rattle.basket_sets.specs.Minimum.{IsLeastSupport}
 use Rattle.basket_sets.specs.Support.{support_of, total_of}
-use Rattle.mine_baskets.specs.ListBaskets.{AreRankBaskets, HaveSameWeights, RankBaskets}
+use Rattle.mine_baskets.specs.ListBaskets.{AreRankBaskets}
+use Rattle.mine_fp.specs.declared.pattern_base.PatternBase.{PatternBase}
 
--- the baskets of a coding in order, with the least support that its minimum asks for
-pub record AreInForest (coding : Coding) (least : ℕ) (runs : RankBaskets) : Type 0 where
-  pub ranks : runs.ranks ≡ length coding.items
-  pub ranked : AreRankBaskets runs
-  pub weights : HaveSameWeights coding.baskets runs.baskets
-  pub supports : (set : List ℕ) → support_of runs.baskets set ≡ support_of coding.baskets set
-  pub least_is : IsLeastSupport coding.minimum (total_of coding.baskets) least
+-- the pattern base of the empty set: baskets with the supports of a coding, whose ranks are their own numbers
+pub record IsForest (all : PatternBase) : Type 0 where
+  pub coding : IsCoding all.coded.now
+  pub least : IsLeastSupport all.coded.now.minimum (total_of all.coded.now.baskets) all.least
+  pub count : all.paths.ranks ≡ length all.coded.now.items
+  pub ranked : AreRankBaskets all.paths
+  pub supports : (set : List ℕ) → support_of all.paths.baskets set ≡ support_of all.coded.now.baskets set
+  pub ranks : all.ranks.items ≡ map (λ rank. (rank, support_of all.paths.baskets (rank ∷ []))) (range_with_len 0 all.paths.ranks)

@@ -1,5 +1,4 @@
-pub mod Level
+pub mod PatternBase
 pub mod Forest
-pub mod Found
 pub mod Tree
 pub mod Trees

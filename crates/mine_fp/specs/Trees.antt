@@ -39,15 +39,6 @@ upper_parts (first ∷ second ∷ others) = (second ∷ others) ∷ upper_parts 
 abbrev pub has_tree : List Weighted → Minimum → List ℕ → Bool
 has_tree baskets minimum set = list_all (λ part. not (is_straight baskets minimum part)) (upper_parts set)
 
--- how many trees are made for the class of a rank, by a least support
-abbrev pub rank_trees : List Weighted → ℕ → ℕ → ℕ
-rank_trees baskets least rank = length (filter (λ c. has_tree baskets (Count least) c.set) (class_of baskets (Count least) rank))
-
--- how many trees are made below that of the baskets: none where it is a single branch
-abbrev pub inner_trees : List Weighted → ℕ → ℕ
-inner_trees baskets least =
-    if is_branch baskets then 0 else length (filter (λ c. has_tree baskets (Count least) c.set) (frequent_of baskets (Count least)))
-
 -- how many trees are made for a class of coded baskets
 abbrev pub class_trees : Coding → ℕ → ℕ
 class_trees coding rank = length (filter (λ c. has_tree coding.baskets coding.minimum c.set) (class_of coding.baskets coding.minimum rank))

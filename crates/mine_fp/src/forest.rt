@@ -7,13 +7,12 @@ ghost use Rattle.mine_baskets.specs.ListBaskets.{AreRankBaskets, HaveSameWeights
 ghost use Rattle.mine_classes.specs.Mined.{ListsClassItems, class_size};
 ghost use Rattle.mine_fp.specs.Trees.{class_trees};
 
-use crate::found::Found;
-use crate::level::Level;
-use crate::trees::Trees;
+use crate::pattern_base::PatternBase;
 use basket_core::{Coded, CountedSets, MineFault, Tally};
 use mine_baskets::ListBaskets;
-use mine_classes::laws::{classes_are_listed, deep_classes_are_large, lists_have_class_size};
+use mine_classes::laws::{classes_are_listed, conditional_supports, lists_have_class_size, rare_ranks_have_no_class};
 use mine_classes::{Paths, Runs, Tables};
+use mine_search::Class;
 use std::alloc::{AllocError, Global};
 use std::marker::Model;
 
@@ -21,22 +20,18 @@ use std::marker::Model;
 /// and each run of a rank is a node of it (Han, Pei and Yin 2000).
 #[derive(Debug, Drop)]
 pub struct Forest<'a> {
-    coded: &'a Coded,
-    level: Level,
+    all: PatternBase<'a>,
 }
 
 impl<'a> Model for Forest<'a> {
-    ghost use Rattle.std.specs.Prelude.{◌≡◌, [], None, length};
     ghost use Rattle.basket_ranks.specs.Codes.{Coding};
-    ghost use Rattle.mine_fp.specs.Forest.{AreInForest};
-    ghost use Rattle.mine_fp.specs.Level.{AreNames, items_of};
+    ghost use Rattle.mine_fp.specs.Forest.{IsForest};
 
     ghost Value = { Coding };
 
-    ghost view = { λ f. f.coded.now };
+    ghost view = { λ f. f.all.coded.now };
 
-    ghost invariant = { λ f. AreInForest f.coded.now f.level.least f.level.paths
-        × AreNames f.level × (items_of f.level ≡ f.coded.now.items) × (f.level.place ≡ None) × (f.level.depth ≡ 0) };
+    ghost invariant = { λ f. IsForest f.all };
 }
 
 impl<'a> Forest<'a> {
@@ -58,30 +53,27 @@ impl<'a> Forest<'a> {
     {
         // The baskets of a coding are light enough for a least support.
         let _ = coded.baskets();
-        let names = names_of(alloc, coded, &runs)?;
+        let ranks = all_ranks(alloc, &runs)?;
         Ok(Forest {
-            coded,
-            level: Level {
+            all: PatternBase {
+                coded,
                 paths: Paths::of_runs(runs),
-                names,
-                place: None,
-                depth: 0,
+                ranks,
                 least: coded.minimum().least(coded.total()),
             },
         })
     }
 }
 
-/// The item and the support of each rank.
-fn names_of(alloc: Global, coded: &Coded, runs: &Runs) -> Result<Vec<(u32, u64)>, AllocError>
-    requires { runs.now.ranks ≡ length coded.now.items }
-    ensures { IfOk result (λ names. names.items ≡ map (λ rank. (slice_index coded.now.items rank, support_of runs.now.baskets (rank ∷ []))) (range_with_len 0 (length coded.now.items))) }
+/// Each rank with its support.
+fn all_ranks(alloc: Global, runs: &Runs) -> Result<Vec<(u32, u64)>, AllocError>
+    ensures { IfOk result (λ ranks. ranks.items ≡ map (λ rank. (rank, support_of runs.now.baskets (rank ∷ []))) (range_with_len 0 runs.now.ranks)) }
 {
-    let mut names = Vec::with_capacity(alloc, coded.ranks() as usize)?;
-    for rank in 0..coded.ranks() {
-        names.push((coded.item(rank), runs.support(rank)))?;
+    let mut ranks = Vec::with_capacity(alloc, runs.ranks() as usize)?;
+    for rank in 0..runs.ranks() {
+        ranks.push((rank, runs.support(rank)))?;
     }
-    Ok(names)
+    Ok(ranks)
 }
 
 /// The sets of the class of a rank, as items, each once with its support (Han, Pei and Yin 2000),
@@ -106,12 +98,11 @@ pub fn fp_class<T: Tally>(
     ensures at_most { T.told_of tally.new ≤ T.told_of tally.old + class_size forest.now rank }
     ensures limit { T.limit_of tally.new ≡ T.limit_of tally.old }
 {
-    let mut tables = Tables::new(alloc, forest.coded.ranks())?;
+    let mut tables = Tables::new(alloc, forest.all.coded.ranks())?;
     fp_class_with(alloc, forest, &mut tables, rank, tally)
 }
 
 /// The class of a rank as `fp_class` finds it, with tables that are used again from class to class.
-#[tactic(auto, using(crate::proofs::ForestLemmas::forest_classes))]
 pub fn fp_class_with<T: Tally>(
     alloc: Global,
     forest: &Forest<'_>,
@@ -136,17 +127,21 @@ pub fn fp_class_with<T: Tally>(
     ensures places { OnOk result (tables.new.places ≡ tables.old.places) }
 {
     classes_are_listed();
-    deep_classes_are_large();
+    conditional_supports();
     lists_have_class_size();
-    // Nothing is read here: the calls bring their contracts, which say that the limit fits a word, and
-    // that the baskets are a coding's.
-    let _limit = tally.limit();
-    let _baskets = forest.coded.baskets();
-    let sets = CountedSets::new(alloc, forest.coded.items(), forest.coded.total())?;
-    let mut found = Found {
-        sets,
-        trees: Trees::new(),
+    rare_ranks_have_no_class();
+    let all = &forest.all;
+    let support = all.ranks[rank as usize].1;
+    if support < all.least {
+        let none = CountedSets::new(alloc, all.coded.items(), all.coded.total())?;
+        return Ok((none, 0));
+    }
+    let below = all.below(alloc, rank, tables)?;
+    let class = Class {
+        rank,
+        support,
+        below,
+        work: 1,
     };
-    forest.level.class(alloc, rank, tables, &mut found, tally)?;
-    Ok((found.sets, found.trees.number()))
+    class.list(alloc, all.coded, tables, tally)
 }

@@ -2,13 +2,10 @@
 //! databases, and read off if one is a single branch.
 #![tactic(auto)]
 
-mod branch;
 mod forest;
-mod found;
 pub mod laws;
-mod level;
+mod pattern_base;
 mod tree;
-mod trees;
 pub mod worked;
 
 pub use forest::{Forest, fp_class, fp_class_with};

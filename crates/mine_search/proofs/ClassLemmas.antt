@@ -1,78 +1,45 @@
--- The class of a rank, as a search lists it.
-use Rattle.std.proofs.Common.{◌≡◌, ℕ, ◌<◌, ◌≤◌, true, List, [], ◌∷◌, ◌++◌, length, leb, map, refl, sym, ap, ◌∙◌, subst, inl, inr, arith}
-use Rattle.std.specs.Cmp.Lexicographic.{pointwise}
-use Rattle.std.specs.List.{Contains, IsDistinct}
-use Rattle.std.specs.Prelude.{nat_eq}
-use Rattle.std.proofs.lemmas.Bool.{le-leb, leb-true}
-use Rattle.std.proofs.lemmas.List.{length-map}
-use Rattle.std.proofs.lemmas.List.Elements.{All-from_recursion}
-use Rattle.std.proofs.lemmas.Simd.{map-map}
+-- What a search for a class begins with.
+use Rattle.std.proofs.Common.{◌≡◌, ℕ, ◌<◌, ◌≤◌, Option, true, List, [], ◌∷◌, ◌++◌, get_or, length, map, sym, ap, ◌∙◌, inl, inr, arith}
+use Rattle.std.proofs.lemmas.Bool.{le-leb}
 use Rattle.basket_lists.specs.CountedSets.{set_at}
 use Rattle.basket_lists.proofs.theory.Places.{set_added}
-use Rattle.basket_ranks.specs.Codes.{Coding, IsCoding}
+use Rattle.basket_ranks.specs.Codes.{Coding}
 use Rattle.basket_sets.specs.declared.counted.Counted.{Counted}
-use Rattle.basket_sets.specs.Frequent.{IsNonemptySet, counted, is_frequent}
-use Rattle.basket_sets.specs.Itemset.{contains, rising}
-use Rattle.basket_sets.specs.Support.{support_of}
-use Rattle.basket_sets.proofs.theory.Members.{All-from_Member, Contains-from_Member, Member, Member-append_right, Member-map}
+use Rattle.basket_sets.specs.Itemset.{rising}
+use Rattle.basket_sets.proofs.theory.Members.{Member}
 use Rattle.basket_sets.proofs.theory.Rising.{contains_each}
-use Rattle.basket_sets.proofs.theory.Support.{support_falls}
-use Rattle.mine_classes.specs.Classes.{ListsClass, ends_in}
-use Rattle.mine_classes.specs.Mined.{ListsClassItems, ListsHaveClassSize, class_size}
 use Rattle.mine_search.specs.Class.{IsClass, IsOver, class_sets, of_rank}
 use Rattle.mine_search.specs.Node.{Node, Supports, is_met, sets_at}
 use Rattle.mine_search.specs.Search.{FindsAll, IsNode, Reached, found_at}
-use Rattle.mine_search.proofs.FoundLemmas.{class_complete, class_distinct, class_sound}
+use Rattle.mine_search.proofs.theory.Class.{support_less}
+
+-- the rank's set was found, and its node is there
+pub record IsFirst (over : Supports) (rank : ℕ) (sets : List Counted) : Type 0 where
+  pub first : sets ≡ found_at over (rank ∷ []) ∷ []
+  pub inner : IsNode (set_at sets 0) (of_rank over rank)
 
 module _ {coding : Coding} {over : Supports} (is : IsOver coding over) (rank : ℕ) where
-  abbrev sets : List (List ℕ)
-  sets = class_sets over rank
-
-  abbrev counted_set : List ℕ → Counted
-  counted_set set = record { set = set; count = over.support set }
-
-  tests : (set : List ℕ) → is_met over set ≡ is_frequent coding.baskets coding.minimum set
-  tests set = ap (leb over.least) (is.supports set) ∙ sym (is.least.met (support_of coding.baskets set) (support_falls coding.baskets set [] refl))
-
-  -- a set has no greater support than a part of it
-  pub support_less : (set subset : List ℕ) → contains set subset ≡ true → over.support set ≤ over.support subset
-  support_less set subset has = let one = is.supports set in let two = is.supports subset in let less = support_falls coding.baskets set subset has in omega arith
-
-  falls : (a b : List ℕ) → is_met over (a ++ b) ≡ true → is_met over b ≡ true
-  falls a b h = le-leb over.least (over.support b)
-      (let enough = leb-true over.least (over.support (a ++ b)) h in let less = support_less (a ++ b) b (contains_each (a ++ b) b (λ z m. Member-append_right z a b m)) in omega arith)
-
-  sets_of : map (λ (c : Counted). c.set) (map counted_set sets) ≡ sets
-  sets_of = map-map (λ (c : Counted). c.set) counted_set sets ∙ map_same sets
+  pub first_is : {before after : List Counted} {set : List ℕ} {item support : ℕ} → rank < length coding.items → before ≡ [] → after ≡ before ++ record { set = set; count = support } ∷ []
+      → set ≡ rising (item ∷ []) → item ≡ get_or coding.items rank 0 → support ≡ over.support (rank ∷ []) → IsFirst over rank after
+  first_is {before} {after} {set} {item} {support} inside none adds set_is item_is support_is =
+      let named = set_is ∙ (λ i. rising ((item_is ∙ ap (λ l. get_or l rank 0) (sym is.items)) i ∷ [])) in
+      record {
+        first = adds ∙ ap (λ l. l ++ record { set = set; count = support } ∷ []) none ∙ (λ k. record { set = named k; count = support_is k } ∷ []);
+        inner = record {
+          falls = λ one other others. support_less is rank (other ∷ one ∷ others) (other ∷ others) (contains_each (other ∷ one ∷ others) (other ∷ others) (λ z m. up one other others z m));
+          of_set = set_added before after (record { set = set; count = support }) 0 (sym (ap length none)) adds ∙ named;
+          few = (let most = is.known.few in let same = ap length is.items in omega arith);
+          within = (let same = ap length is.items in omega arith);
+        };
+      }
     where
-      map_same : (list : List (List ℕ)) → map (λ set. set) list ≡ list
-      map_same [] = refl
-      map_same (set ∷ list) = ap (λ l. set ∷ l) (map_same list)
+      up : (one other : ℕ) (others : List ℕ) (z : ℕ) → Member z (other ∷ others) → Member z (other ∷ one ∷ others)
+      up one other others z (inl e) = inl e
+      up one other others z (inr m) = inr (inr m)
 
-  abbrev IsOfClass : Counted → Type 0
-  IsOfClass c = IsNonemptySet c.set × (ends_in rank c.set ≡ true) × (is_frequent coding.baskets coding.minimum c.set ≡ true) × (c.count ≡ support_of coding.baskets c.set)
+  -- with what is found below it, that is the class
+  pub all_found : {before after : Reached} → IsFirst over rank before.sets → FindsAll before after (of_rank over rank) → after.sets ≡ map (found_at over) (class_sets over rank)
+  all_found first found = found.sets ∙ ap (λ l. l ++ map (found_at over) (sets_at (of_rank over rank))) first.first
 
-  module _ (frequent : is_met over (rank ∷ []) ≡ true) where
-    all_sound : (list : List (List ℕ)) → ((set : List ℕ) → Member set list → IsNonemptySet set × (ends_in rank set ≡ true) × (is_met over set ≡ true)) → (c : Counted) → Member c (map counted_set list) → IsOfClass c
-    all_sound [] each c m = absurd m
-    all_sound (set ∷ list) each c (inl e) = subst IsOfClass e (let s = each set (inl refl) in (s.0, s.1, sym (tests set) ∙ s.2, is.supports set))
-    all_sound (set ∷ list) each c (inr m) = all_sound list (λ one n. each one (inr n)) c m
-
-    class_listed : ListsClass coding.baskets coding.minimum rank (map counted_set sets)
-    class_listed = record {
-      distinct = subst (IsDistinct (pointwise nat_eq)) (sym sets_of) (class_distinct (is_met over) rank);
-      sound = All-from_recursion IsOfClass (map counted_set sets) (All-from_Member IsOfClass (map counted_set sets) (all_sound sets (class_sound (is_met over) rank frequent)));
-      complete = λ set n ends h. subst (λ count. Contains (map counted_set sets) (record { set = set; count = count })) (is.supports set)
-          (Contains-from_Member (counted_set set) (map counted_set sets) (Member-map counted_set set sets (class_complete (is_met over) falls rank set n.0 ends (tests set ∙ h))));
-    }
-
-    pub lists : (list : List Counted) → list ≡ map (found_at over) sets → ListsClassItems coding rank list
-    lists list named = record {
-      sets = map counted_set sets;
-      listed = class_listed;
-      decoded = named ∙ (λ i. map (λ set. record { set = decoded (is.items i) set; count = over.support set }) sets) ∙ sym (map-map _ counted_set sets);
-    }
-
-    -- as many sets are listed as the class has
-    pub as_many : ListsHaveClassSize → length sets ≡ class_size coding rank
-    as_many law = sym (length-map sets (found_at over)) ∙ law coding rank (map (found_at over) sets) (lists (map (found_at over) sets) refl)
+pub is_frequent_rank : {P : Type 0} {gives : P → Node → Type 0} {coding : Coding} {rank support : ℕ} {below : Option P} {over : Supports} → IsClass gives coding rank support below over → is_met over (rank ∷ []) ≡ true
+is_frequent_rank {P} {gives} {coding} {rank} {support} {below} {over} is = le-leb over.least (over.support (rank ∷ [])) (omega (arith, is.frequent, is.supported))

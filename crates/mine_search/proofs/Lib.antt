@@ -1,6 +1,5 @@
-mod WalkLemmas
+pub mod theory
 mod NodeLemmas
-mod FoundLemmas
 mod ClassLemmas
 mod StraightLemmas
 mod ReadLemmas

@@ -19,7 +19,7 @@ use Rattle.basket_sets.proofs.theory.Rising.{Member-from_has, has_place}
 use Rattle.mine_search.specs.Node.{Node, child, is_met, kept, sets_at, work_at}
 use Rattle.mine_search.specs.Search.{Adds, AreTooMany, FindsAll, GoesOn, IsDone, IsNode, IsOf, Reached, TellsAtMost, found_at}
 use Rattle.mine_search.specs.Walk.{kept_below}
-use Rattle.mine_search.proofs.WalkLemmas.{branch, branch_work, kept_before, kept_lower, kept_with, sets_are_branches, work_is_branches}
+use Rattle.mine_search.proofs.theory.Walk.{branch, branch_work, kept_before, kept_lower, kept_with, sets_are_branches, work_is_branches}
 
 -- a set that is added, with so much work
 pub adds_one : (one : Counted) (work : ℕ) (before after : Reached) → after.sets ≡ before.sets ++ one ∷ [] → after.work ≡ before.work + work → after.told ≡ before.told + 1 → after.is_over ≡ false

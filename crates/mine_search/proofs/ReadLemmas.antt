@@ -16,7 +16,7 @@ use Rattle.mine_search.specs.Straight.{IsStraight, between, chosen}
 use Rattle.mine_search.specs.Walk.{kept_below, sets_below}
 use Rattle.mine_search.proofs.NodeLemmas.{FindsPart, IsTurn, found_by, lower}
 use Rattle.mine_search.proofs.StraightLemmas.{choices, choose}
-use Rattle.mine_search.proofs.WalkLemmas.{branch_work, kept_before, kept_passes, sets_are_branches, work_is_branches}
+use Rattle.mine_search.proofs.theory.Walk.{branch_work, kept_before, kept_passes, sets_are_branches, work_is_branches}
 
 -- one more of the sets between two places
 pub chosen_more : (item support start from : ℕ) (old now new : List Counted) → start ≤ from → from < length old → now ≡ old ++ map (chosen item support) (between start from old)

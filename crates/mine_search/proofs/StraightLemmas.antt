@@ -12,7 +12,7 @@ use Rattle.mine_search.specs.Node.{Node, is_met}
 use Rattle.mine_search.specs.Search.{found_at}
 use Rattle.mine_search.specs.Straight.{IsStraight}
 use Rattle.mine_search.specs.Walk.{sets_below}
-use Rattle.mine_search.proofs.FoundLemmas.{front_below, split_last}
+use Rattle.mine_search.proofs.theory.Found.{front_below, split_last}
 
 -- ---- one more item, wherever it stands
 

@@ -1,6 +1,6 @@
 -- The class of a rank of coded baskets.
 use Rattle.std.specs.Prelude.{◌≡◌, ◌≤◌, ℕ, List, [], ◌∷◌, Option, Some, None}
-use Rattle.basket_ranks.specs.Codes.{Coding}
+use Rattle.basket_ranks.specs.Codes.{Coding, IsCoding}
 use Rattle.basket_sets.specs.Minimum.{IsLeastSupport}
 use Rattle.basket_sets.specs.Support.{support_of, total_of}
 use Rattle.mine_search.specs.Node.{Node, Supports, is_met, kept}
@@ -8,6 +8,7 @@ use Rattle.mine_search.specs.Walk.{sets_below}
 
 -- the supports of sets of ranks in coded baskets, with the work for each set
 pub record IsOver (coding : Coding) (over : Supports) : Type 0 where
+  pub known : IsCoding coding
   pub supports : (set : List ℕ) → over.support set ≡ support_of coding.baskets set
   pub least : IsLeastSupport coding.minimum (total_of coding.baskets) over.least
   pub items : over.items ≡ coding.items

@@ -1,15 +1,12 @@
 -- What a search below a node does.
-use Rattle.std.specs.Prelude.{◌≡◌, ◌≤◌, ◌<◌, ◌+◌, ◌*◌, ◌-◌, ◌^◌, ◌++◌, ℕ, Bool, false, IsTrue, List, ◌∷◌, ◌⊎◌, Err, OnOk, Result, length, map}
+use Rattle.std.specs.Prelude.{◌≡◌, ◌≤◌, ◌<◌, ◌+◌, ◌*◌, ◌++◌, ℕ, Bool, false, IsTrue, List, ◌∷◌, ◌⊎◌, Err, OnOk, Result, length, map}
 use Rattle.basket_core.specs.declared.fault.MineFault.{MineFault}
 use Rattle.basket_core.specs.declared.fault.MineFault.TheVariants.{TooMany}
 use Rattle.basket_sets.specs.declared.counted.Counted.{Counted}
 use Rattle.basket_ranks.specs.Codes.{MOST_RANKS, decoded}
+use Rattle.mine_classes.specs.Mined.{MOST_SET_WORK}
 use Rattle.mine_search.specs.declared.mined.Mined.{Mined}
 use Rattle.mine_search.specs.Node.{Node, Supports, sets_at, work_at}
-
--- how many steps are counted for each set that is found, at most
-abbrev pub MOST_SET_WORK : ℕ
-MOST_SET_WORK = 2 ^ 32 - 1
 
 -- a set of ranks as items, with its support
 abbrev pub found_at : Supports → List ℕ → Counted

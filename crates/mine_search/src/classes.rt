@@ -26,7 +26,6 @@ impl<P: Projected> Class<P> {
     /// The frequent sets whose greatest rank is this one, as items, each once with its support, and
     /// the work that they took (Zaki 2000). Each set is reported to the tally once it is known to be
     /// frequent. `TooMany` comes if the tally is over, or the class is longer than its limit.
-    #[tactic(auto, using(crate::proofs::ClassLemmas::class_steps))]
     pub fn list<T: Tally>(
         self,
         alloc: Global,
@@ -53,13 +52,19 @@ impl<P: Projected> Class<P> {
         ensures alone { self.below ≡ None → scratch.new ≡ scratch.old }
     {
         lists_have_class_size();
+        let Class {
+            rank,
+            support,
+            below,
+            work,
+        } = self;
         let mut mined = Mined::new(alloc, coded.items(), coded.total())?;
-        mined.work = self.work;
-        let set = Itemset::from_items(alloc, &[coded.item(self.rank)])?;
-        mined.add(set, self.support, tally)?;
-        if let Some(below) = self.below {
-            extend(alloc, &below, 0, scratch, &mut mined, tally)?;
-            below.give_back(scratch);
+        mined.work = work;
+        let set = Itemset::from_items(alloc, &[coded.item(rank)])?;
+        mined.add(set, support, tally)?;
+        if let Some(inner) = below {
+            extend(alloc, &inner, 0, scratch, &mut mined, tally)?;
+            inner.give_back(scratch);
         }
         Ok((mined.sets, mined.work))
     }

@@ -8,6 +8,4 @@ mod projected;
 mod search;
 
 pub use classes::Class;
-pub use mined::Mined;
 pub use projected::Projected;
-pub use search::extend;

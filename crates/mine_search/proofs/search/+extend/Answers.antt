@@ -115,8 +115,14 @@ loop-at-preserved g t c =
     let (known, first) = c.requires.given in
     record {
       lent = elim c.match-below.branch [
-        | in-Some+in_ok-extend w ↦ λ base h. subst (λ s. g.P.Projected.serves s base) (sym w.scratch-is) (w.give_back.ensures base (w.in_ok-extend.ensures.lent base (c.in_ok-below.ensures.lent base (c.loop-at.invariant.lent base h))))
-        | in_default w ↦ λ base h. subst (λ s. g.P.Projected.serves s base) (sym w.scratch-is) (c.in_ok-below.ensures.lent base (c.loop-at.invariant.lent base h))
+        | in-Some+in_ok-extend w ↦
+            (let wider = rw w.in-Some.is at c.in_ok-below.ensures.wider in
+            let both = g.met.P.Projected.used_twice c.args.base.now in
+            subst (λ s. g.P.Projected.keeps c.args.base.now c.args.scratch.now s) (sym w.scratch-is)
+            (both _ _ _ (both _ _ _ c.loop-at.invariant.lent c.in_ok-below.ensures.lent) (both _ _ _ (wider _ _ w.in_ok-extend.ensures.lent) (wider _ _ w.give_back.ensures))))
+        | in_default w ↦
+            subst (λ s. g.P.Projected.keeps c.args.base.now c.args.scratch.now s) (sym w.scratch-is)
+            (g.met.P.Projected.used_twice c.args.base.now _ _ _ c.loop-at.invariant.lent c.in_ok-below.ensures.lent)
       ];
       limit = elim c.match-below.branch [
         | in-Some+in_ok-extend w ↦ ap (λ tally. g.T.Tally.limit_of tally) w.tally-is ∙ w.extend.ensures.done.limit ∙ c.add_longer.ensures.limit ∙ c.loop-at.invariant.limit

@@ -1,7 +1,0 @@
-use Rattle.std.proofs.Common.{◌≡◌, ◌++◌, ℕ, drop, map, take}
-use Rattle.mine_classes.specs.Pairs.{named_pair}
-use Rattle.mine_fp.proofs.trees.rename.Given as goal
-
--- the pairs before the place have the items, the others are as they were
-abbrev pub invariant-loop-place : goal.invariant-loop-place
-invariant-loop-place l = l.pairs ≡ map (named_pair (map (λ (name : ℕ × ℕ). name.0) l.names)) (take l.place l.initial.pairs) ++ drop l.place l.initial.pairs

@@ -1,0 +1,120 @@
+//! The conditional pattern base of a set.
+ghost use Rattle.std.specs.Prelude.{◌≡◌, ◌≤◌, ◌<◌, [], IfNone, IfOk, IfSome, length, map, vec_len};
+ghost use Rattle.std.proofs.Common.{◌∙◌, refl, subst, sym};
+ghost use Rattle.basket_sets.specs.Counts.{AllBelow};
+ghost use Rattle.mine_classes.specs.Pairs.{named_pair, pairs_of};
+ghost use Rattle.mine_classes.specs.Paths.{is_branch};
+ghost use Rattle.mine_fp.specs.PatternBase.{HaveSlots, IsBase, IsBelow, KeepSlots, ranks_of};
+
+use basket_core::Coded;
+use mine_classes::{Paths, Tables};
+use mine_search::Projected;
+use std::alloc::{AllocError, Global};
+
+/// The conditional pattern base of a set (Han, Pei and Yin 2000): the paths of the ranks that are
+/// frequent together with it, which have numbers from 0 on there, and by number each of these ranks
+/// with the support of the set with it.
+#[derive(Debug, Drop)]
+pub struct PatternBase<'a> {
+    pub coded: &'a Coded,
+    pub paths: Paths,
+    pub ranks: Vec<(u32, u64)>,
+    pub least: u64,
+}
+
+impl<'a> PatternBase<'a> {
+    /// The pattern base of the set with the rank of a number, unless no rank is frequent together
+    /// with that set.
+    pub fn below(
+        &self,
+        alloc: Global,
+        number: u32,
+        tables: &mut Tables,
+    ) -> Result<Option<Self>, AllocError>
+        requires inside { number < self.now.paths.ranks }
+        requires long { vec_len self.now.ranks ≡ self.now.paths.ranks }
+        requires slots { HaveSlots tables.old self.now }
+        ensures none { IfOk result (λ below. IfNone below (pairs_of self.now.paths.baskets self.now.least number ≡ [])) }
+        ensures below { IfOk result (λ below. IfSome below (IsBelow self.now number)) }
+        ensures sums { tables.new.sums ≡ tables.old.sums }
+        ensures places { tables.new.places ≡ tables.old.places }
+    {
+        let mut ranks = self
+            .paths
+            .pairs(alloc, &mut tables.sums, number, self.least)?;
+        if ranks.is_empty() {
+            return Ok(None);
+        }
+        let places = &mut tables.places;
+        let conditional = self.paths.below(alloc, places, number, self.least, &ranks)?;
+        let paths = Paths::of(alloc, conditional)?;
+        rename(&mut ranks, &self.ranks);
+        Ok(Some(PatternBase {
+            paths,
+            ranks,
+            ..*self
+        }))
+    }
+}
+
+impl<'a> Projected for PatternBase<'a> {
+    type Scratch = Tables;
+
+    ghost gives = { IsBase };
+
+    ghost ranks = { ranks_of };
+
+    ghost serves = { HaveSlots };
+
+    ghost keeps = { λ base. KeepSlots };
+
+    ghost straight = { λ base. is_branch base.paths.baskets };
+
+    fn len(&self) -> usize {
+        self.ranks.len()
+    }
+
+    fn item(&self, at: usize) -> u32 {
+        self.coded.item(self.ranks[at].0)
+    }
+
+    fn support(&self, at: usize) -> u64 {
+        self.ranks[at].1
+    }
+
+    fn narrowed(
+        &self,
+        alloc: Global,
+        at: usize,
+        scratch: &mut Tables,
+        work: &mut u64,
+    ) -> Result<Option<Self>, AllocError> {
+        let below = self.below(alloc, at as u32, scratch)?;
+        *work += 1;
+        Ok(below)
+    }
+
+    fn is_straight(&self) -> bool {
+        self.paths.is_branch()
+    }
+
+    fn give_back(self, scratch: &mut Tables) {}
+
+    ghost ranks_are = { λ base node is. is.ranks };
+
+    ghost unused = { λ base tables. (refl, refl) };
+
+    ghost used_twice = { λ base first second third earlier later. (later.0 ∙ earlier.0, later.1 ∙ earlier.1) };
+
+    ghost lent_again = { λ base before after kept lent. record { sums = subst (λ n. base.paths.ranks ≤ n) (sym kept.0) lent.sums; places = subst (λ n. base.paths.ranks ≤ n) (sym kept.1) lent.places } };
+}
+
+/// Replaces each number by the rank that has it.
+fn rename(pairs: &mut [(u32, u64)], ranks: &[(u32, u64)])
+    requires { AllBelow (length ranks.now) (map (λ pair. pair.0) pairs.old) }
+    ensures { pairs.new ≡ map (named_pair (map (λ rank. rank.0) ranks.now)) pairs.old }
+{
+    for place in 0..pairs.len() {
+        pairs[place].0 = ranks[pairs[place].0 as usize].0;
+    }
+}
