@@ -78,7 +78,7 @@ module _ (coding : Coding) (least : ℕ) (all : List Weighted) (is : IsLeastSupp
   pub joins_are : (rank : ℕ) → RanksAreFrequent coding → rank < length coding.items → class_joins coding rank ≡ rank + work_at (of_rank (over coding least) rank)
   joins_are rank each here = class_joins_are coding rank each here ∙ (λ k. rank + work_below (set_joins (λ set. met set k)) (λ set. met set k) rank (rank ∷ []))
 
-  module _ {R : Type 0} {stands : List ℕ → List ℕ → List ℕ → R → Type 0} {base : Siblings R} {rank : ℕ} {baskets : List Weighted}
+  module _ {R : Type 0} (stands : List ℕ → List ℕ → List ℕ → R → Type 0) (base : Siblings R) (rank : ℕ) (baskets : List Weighted)
       (law : ConditionalSupports) (coding_is : IsCoding coding) (are : AreClassSiblings stands all least rank base.weights.value base.list.items baskets) where
     ranks : List ℕ
     ranks = kept_ranks all least rank

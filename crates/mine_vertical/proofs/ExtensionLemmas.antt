@@ -1,5 +1,5 @@
 -- The extensions of a node's set, and those of the set with one more rank.
-use Rattle.std.proofs.Common.{◌≡◌, ◌≢◌, ℕ, zero, suc, ◌+◌, ◌<◌, ◌≤◌, Bool, true, List, [], ◌∷◌, ◌++◌, length, get_or, take, map, cond, leb, refl, sym, ap, ◌∙◌, subst, inl, inr, arith, append_assoc}
+use Rattle.std.proofs.Common.{◌≡◌, ◌≢◌, ℕ, zero, suc, ◌+◌, ◌<◌, ◌≤◌, Bool, true, ◌&&◌, List, [], ◌∷◌, ◌++◌, length, get_or, take, map, cond, leb, refl, sym, ap, ◌∙◌, subst, inl, inr, arith, append_assoc}
 use Rattle.std.specs.Prelude.{All, nat_le}
 use Rattle.std.specs.List.{filter, list_all}
 use Rattle.std.proofs.lemmas.Bool.{le-leb, leb-true}
@@ -23,7 +23,7 @@ use Rattle.mine_vertical.specs.Siblings.{AreKept, AreOver, AreSiblings, IsSiblin
 
 -- ---- a sibling at a place
 
-module _ {R : Type 0} {base : Siblings R} (at : ℕ) (inside : at < base.kept) where
+module _ {R : Type 0} (base : Siblings R) (at : ℕ) (inside : at < base.kept) where
   enough : at < length base.list.items
   enough = omega (arith, inside, base.within)
 
@@ -34,7 +34,11 @@ module _ {R : Type 0} {base : Siblings R} (at : ℕ) (inside : at < base.kept) w
   pub ranks_before : map (λ (s : Sibling R). s.rank) (take at base.list.items) ≡ take at (ranks_in base)
   ranks_before = ap (map (λ (s : Sibling R). s.rank)) (sym before_is) ∙ sym (take-map (λ (s : Sibling R). s.rank) at (siblings_in base))
 
+  pub rows_before : (P : Sibling R → Type 0) → All P (siblings_in base) → All P (take at base.list.items)
+  rows_before P rows = subst (All P) before_is (All-take P at (siblings_in base) rows)
+
   module _ (sibling : Sibling R) (is : sibling ≡ get_or base.list.items at sibling) where
+    -- as many siblings as are kept
     kept_is_long : length (siblings_in base) ≡ base.kept
     kept_is_long = length-take-le base.kept base.list.items base.within
 
@@ -44,10 +48,9 @@ module _ {R : Type 0} {base : Siblings R} (at : ℕ) (inside : at < base.kept) w
     pub rank_at : get_or (ranks_in base) at 0 ≡ sibling.rank
     rank_at = get_or-map (λ (s : Sibling R). s.rank) (siblings_in base) at sibling 0 (omega (arith, kept_is_long, inside)) ∙ ap (λ (s : Sibling R). s.rank) sibling_at
 
-    pub row_at : {stands : List ℕ → List ℕ → List ℕ → R → Type 0} {baskets : List Weighted} {set : List ℕ} → All (IsSibling stands baskets set) (siblings_in base) → IsSibling stands baskets set sibling
-    row_at {stands} {baskets} {set} rows = subst (IsSibling stands baskets set) sibling_at (rows at sibling (omega (arith, kept_is_long, inside)))
+    pub row_at : (stands : List ℕ → List ℕ → List ℕ → R → Type 0) (baskets : List Weighted) (set : List ℕ) → All (IsSibling stands baskets set) (siblings_in base) → IsSibling stands baskets set sibling
+    row_at stands baskets set rows = subst (IsSibling stands baskets set) sibling_at (rows at sibling (omega (arith, kept_is_long, inside)))
 
--- as many as are kept
 pub as_long : {R : Type 0} (base : Siblings R) → length (ranks_in base) ≡ base.kept
 as_long {R} base = length-map (siblings_in base) (λ (s : Sibling R). s.rank) ∙ length-take-le base.kept base.list.items base.within
 
@@ -69,6 +72,9 @@ module _ {R : Type 0} {stands : List ℕ → List ℕ → List ℕ → R → Typ
 
   rank_has : has (ranks_in base) rank ≡ true
   rank_has = has_place (ranks_in base) at inside
+
+  pub support_at : node.over.support (rank ∷ node.set) ≡ support_of baskets (rank ∷ set)
+  support_at = is.supports rank [] (ap (λ b. b && true) rank_has)
 
   pub lower : rank < node.below
   lower = subst (λ n. n < node.below) (sym rank_is) (kept_lower test node.below node.set (get_or (kept node) at 0) (Member-from_has (kept node) (get_or (kept node) at 0) (has_place (kept node) at here)))
@@ -134,10 +140,7 @@ module _ {R : Type 0} {stands : List ℕ → List ℕ → List ℕ → R → Typ
     ranks = map (λ (s : Sibling R). s.rank) below
 
     pub ranks_are : ranks ≡ kept (child node rank)
-    ranks_are = are.ranks ∙ ap (filter frequent) (ranks_before {R} {base} at (omega (arith, inside, as_long base))) ∙ sym kept_is
-
-    pub ranks_rise : IsRising ranks
-    ranks_rise = subst IsRising (sym ranks_are) (kept_rises test rank (rank ∷ node.set))
+    ranks_are = are.ranks ∙ ap (filter frequent) (ranks_before base at (omega (arith, inside, as_long base))) ∙ sym kept_is
 
     part : (other : ℕ) → has ranks other ≡ true → has (ranks_in base) other ≡ true
     part other h = among other (Member-filter frequent other (take at (ranks_in base)) (subst (Member other) (ranks_are ∙ kept_is) (Member-from_has ranks other h))).0
@@ -167,18 +170,29 @@ module _ {R : Type 0} {stands : List ℕ → List ℕ → List ℕ → R → Typ
       supports = subst (λ l. GiveSupportsAt (child node rank) (map (λ (s : Sibling R). s.rank) l) baskets (rank ∷ set)) (sym same) supports_below;
     })
 
-    -- and so are those over a database that is made anew
-    pub anew_is : (made : Siblings R) (others : List Weighted) → made.coded ≡ base.coded → made.least ≡ base.least → AreOver stands ranks made.weights.value (siblings_in made) others
-        → GiveSupports baskets (rank ∷ set) ranks others → Extend stands made (child node rank)
-    anew_is made others coded least over gives = (others, [], record {
-      joined = subst (λ c. IsJoined c.now.items made.least (child node rank)) (sym coded) (subst (λ n. IsJoined base.coded.now.items n (child node rank)) (sym least) joined_below);
-      siblings = record { weighs = over.weighs; rows = over.rows };
-      ranks = over.ranks_are ∙ ranks_are;
-      supports = subst (λ l. GiveSupportsAt (child node rank) l others []) (sym over.ranks_are) supports;
-    })
-      where
-        supports : GiveSupportsAt (child node rank) ranks others []
-        supports first more h =
-            supports_below first more h
-            ∙ sym (gives (first ∷ more) (λ e. (let none = ap length e in absurd (omega arith))) ∙ ap (λ b. cond b (support_of baskets ((first ∷ more) ++ rank ∷ set)) 0) h)
-            ∙ ap (support_of others) (sym (append-nil (first ∷ more)))
+    -- as a list of siblings, and over a database that is made anew
+    module _ (list : List (Sibling R)) (same : list ≡ below) where
+      pub rises : IsRising (map (λ (s : Sibling R). s.rank) list)
+      rises = subst (λ l. IsRising (map (λ (s : Sibling R). s.rank) l)) (sym same) (subst IsRising (sym ranks_are) (kept_rises test rank (rank ∷ node.set)))
+
+      pub still : AreSiblings stands base.weights.value list baskets (rank ∷ set)
+      still = record { weighs = is.siblings.weighs; rows = subst (All (IsSibling stands baskets (rank ∷ set))) (sym same) are.rows }
+
+      pub anew_is : (made : Siblings R) (others : List Weighted) → made.coded ≡ base.coded → made.least ≡ base.least → AreOver stands (map (λ (s : Sibling R). s.rank) list) made.weights.value (siblings_in made) others
+          → ((baskets : List Weighted) (set : List ℕ) → AreSiblings stands base.weights.value list baskets set → GiveSupports baskets set (map (λ (s : Sibling R). s.rank) list) others)
+          → Extend stands made (child node rank)
+      anew_is made others coded least over gives = (others, [], record {
+        joined = subst (λ c. IsJoined c.now.items made.least (child node rank)) (sym coded) (subst (λ n. IsJoined base.coded.now.items n (child node rank)) (sym least) joined_below);
+        siblings = record { weighs = over.weighs; rows = over.rows };
+        ranks = over.ranks_are ∙ named ∙ ranks_are;
+        supports = subst (λ l. GiveSupportsAt (child node rank) l others []) (sym (over.ranks_are ∙ named)) supports;
+      })
+        where
+          named : map (λ (s : Sibling R). s.rank) list ≡ ranks
+          named = ap (map (λ (s : Sibling R). s.rank)) same
+
+          supports : GiveSupportsAt (child node rank) ranks others []
+          supports first more h =
+              supports_below first more h
+              ∙ sym (subst (λ l. GiveSupports baskets (rank ∷ set) l others) named (gives baskets (rank ∷ set) still) (first ∷ more) (λ e. (let none = ap length e in absurd (omega arith))) ∙ ap (λ b. cond b (support_of baskets ((first ∷ more) ++ rank ∷ set)) 0) h)
+              ∙ ap (support_of others) (sym (append-nil (first ∷ more)))

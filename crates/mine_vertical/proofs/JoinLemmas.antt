@@ -16,8 +16,8 @@ use Rattle.basket_sets.proofs.theory.Support.{subsets_are_frequent}
 use Rattle.basket_sets.proofs.theory.Ranges.{range_more}
 use Rattle.mine_classes.specs.Mined.{RanksAreFrequent}
 use Rattle.mine_search.specs.Walk.{kept_below, sets_below, work_below}
+use Rattle.mine_search.proofs.theory.Found.{from_sets, into_sets, only_below, sets_distinct}
 use Rattle.mine_vertical.specs.Joins.{ClassJoinsAddUp, SetsOfRanksAreAll, class_joins, is_join, sets_of_ranks}
-use Rattle.mine_vertical.proofs.FoundLemmas.{from_sets, into_sets, only_below, sets_distinct}
 
 -- how many sets of a list pass a test
 abbrev many : (List ℕ → Bool) → List (List ℕ) → ℕ

@@ -1,5 +1,4 @@
 mod CoverLemmas
-mod FoundLemmas
 mod SiblingLemmas
 mod RoomLemmas
 mod ExtensionLemmas

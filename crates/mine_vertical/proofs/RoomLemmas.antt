@@ -16,7 +16,10 @@ keeps_same at_rest base before after same = record {
   own = λ held. subst (λ (m : Vec Marks Global). (base.marks < length m.items) × HoldsAt (at_rest base.weights.value) m.items base.marks) (sym same) held;
 }
 
-module _ {R : Type 0} {at_rest : List ℕ → Marks → Type 0} {base : Siblings R} {before after : Room R} (serves : Serves at_rest before base) where
+pub keeps_both : {R : Type 0} {at_rest : List ℕ → Marks → Type 0} {base : Siblings R} {first second third : Room R} → Keeps at_rest base first second → Keeps at_rest base second third → Keeps at_rest base first third
+keeps_both one two = record { outer = λ place weights low held. two.outer place weights low (one.outer place weights low held); own = λ held. two.own (one.own held) }
+
+module _ {R : Type 0} (at_rest : List ℕ → Marks → Type 0) (base : Siblings R) (before after : Room R) (serves : Serves at_rest before base) where
   -- its own marks are changed
   pub keeps_own : (marks : Marks) → at_rest base.weights.value marks → after.marks.items ≡ set before.marks.items base.marks marks → Keeps at_rest base before after
   keeps_own marks rests are = record {
@@ -47,5 +50,5 @@ module _ {R : Type 0} {at_rest : List ℕ → Marks → Type 0} {base : Siblings
     pub serves_inner : (weights : List ℕ) → at_rest weights marks → AreAtRest at_rest after (base.marks + 1) weights
     serves_inner weights rests = (
       omega (arith, long),
-      λ d. subst (at_rest weights) (sym (ap (λ l. get_or l (base.marks + 1) d) are ∙ ap (get_or (take (base.marks + 1) before.marks.items ++ marks ∷ [])) (sym front) ∙ get_or-append_seam (take (base.marks + 1) before.marks.items) marks [] d)) rests,
+      λ d. subst (at_rest weights) (sym (ap (λ l. get_or l (base.marks + 1) d) are ∙ ap (λ n. get_or (take (base.marks + 1) before.marks.items ++ marks ∷ []) n d) (sym front) ∙ get_or-append_seam (take (base.marks + 1) before.marks.items) marks [] d)) rests,
     )
