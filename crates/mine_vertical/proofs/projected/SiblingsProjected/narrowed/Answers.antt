@@ -1,14 +1,12 @@
-use Rattle.std.proofs.Common.{◌≡◌, ◌+◌, ◌<◌, List, length, set, take, subst, sym, ap, ◌∙◌, refl, arith}
-use Rattle.std.proofs.lemmas.Result.{IfOk-weaker}
-use Rattle.mine_vertical.specs.declared.joins.Sibling.{Sibling}
-use Rattle.mine_vertical.specs.Projected.{AreAtRest, Keeps}
+use Rattle.std.proofs.Common.{set, take, subst, sym, ap, refl, arith}
+use Rattle.mine_vertical.specs.Projected.{AreAtRest}
 use Rattle.mine_vertical.proofs.ExtensionLemmas.{anew_is, below_is, few, none_below, rises, still, work_is}
 use Rattle.mine_vertical.proofs.RoomLemmas.{keeps_both, keeps_own, keeps_same}
 use Rattle.mine_vertical.proofs.projected.SiblingsProjected.narrowed.Goals as goal
 
 pub overflow_add-work : goal.overflow_add-work
 overflow_add-work g c =
-    let (node, baskets, set, is) = c.requires.given in
+    let (node, (baskets, set, is)) = c.requires.given in
     omega (arith, c.number.ensures, c.in_ok-kept.ensures.joins, c.none-joins.ensures, few is c.args.at c.requires.inside, c.requires.few)
 
 pub returns-then-kept-eq0-clause-none : goal.returns-then-kept-eq0-clause-none
@@ -21,23 +19,22 @@ returns-then-kept-eq0-clause-work g c = λ node (baskets, set, is).
 
 pub returns-then-kept-eq0-clause-little : goal.returns-then-kept-eq0-clause-little
 returns-then-kept-eq0-clause-little g c =
-    let (node, baskets, set, is) = c.requires.given in
+    let (node, (baskets, set, is)) = c.requires.given in
     omega (arith, c.number.ensures, c.in_ok-kept.ensures.joins, c.none-joins.ensures, few is c.args.at c.requires.inside)
 
 pub made_anew-requires-clause-rises : goal.made_anew-requires-clause-rises
 made_anew-requires-clause-rises g c =
-    let (node, baskets, set, is) = c.requires.given in
+    let (node, (baskets, set, is)) = c.requires.given in
     rises is c.args.at c.requires.inside (c.in_ok-kept.ensures.kept baskets set is.siblings) (take c.in_ok-kept.kept c.deref-2.result.now) (ap (take c.in_ok-kept.kept) c.deref-2.ensures.value)
 
 pub made_anew-requires-clause-rows : goal.made_anew-requires-clause-rows
 made_anew-requires-clause-rows g c =
-    let (node, baskets, set, is) = c.requires.given in
+    let (node, (baskets, set, is)) = c.requires.given in
     (baskets, _, still is c.args.at c.requires.inside (c.in_ok-kept.ensures.kept baskets set is.siblings) (take c.in_ok-kept.kept c.deref-2.result.now) (ap (take c.in_ok-kept.kept) c.deref-2.ensures.value))
 
 pub returns-in_default-clause-below : goal.returns-in_default-clause-below
 returns-in_default-clause-below g c = λ node (baskets, set, is).
-    let cloned = c.in_ok-clone.ensures.cases in
-    below_is is c.args.at c.requires.inside (c.in_ok-kept.ensures.kept baskets set is.siblings) _ refl refl ? refl
+    below_is is c.args.at c.requires.inside (c.in_ok-kept.ensures.kept baskets set is.siblings) _ refl refl c.in_ok-clone.ensures.cases refl
 
 pub returns-in_default-clause-work : goal.returns-in_default-clause-work
 returns-in_default-clause-work g c = λ node (baskets, set, is).
@@ -45,11 +42,13 @@ returns-in_default-clause-work g c = λ node (baskets, set, is).
 
 pub returns-in_default-clause-little : goal.returns-in_default-clause-little
 returns-in_default-clause-little g c =
-    let (node, baskets, set, is) = c.requires.given in
+    let (node, (baskets, set, is)) = c.requires.given in
     omega (arith, c.number.ensures, c.in_ok-kept.ensures.joins, c.none-joins.ensures, few is c.args.at c.requires.inside)
 
 pub returns-in_default-clause-inner : goal.returns-in_default-clause-inner
-returns-in_default-clause-inner g c = ?
+returns-in_default-clause-inner g c =
+    let own = keeps_own g.R.Row.at_rest c.args.self.now c.args.room.now _ c.requires.lent c.joined.new.marks c.in_ok-kept.ensures.marks (ap (λ m. set m.items c.args.self.now.marks c.joined.new.marks) c.list-list.ensures) in
+    subst (AreAtRest g.R.Row.at_rest c.made_anew.new.room c.args.self.now.marks) (sym c.in_ok-clone.ensures.cases) ((keeps_both own c.in_ok-anew.ensures.room).own c.requires.lent)
 
 pub returns-in_default-clause-lent : goal.returns-in_default-clause-lent
 returns-in_default-clause-lent g c =
@@ -69,7 +68,7 @@ returns-clause-work g c = λ node (baskets, set, is).
 
 pub returns-clause-little : goal.returns-clause-little
 returns-clause-little g c =
-    let (node, baskets, set, is) = c.requires.given in
+    let (node, (baskets, set, is)) = c.requires.given in
     omega (arith, c.number.ensures, c.in_ok-kept.ensures.joins, c.none-joins.ensures, few is c.args.at c.requires.inside)
 
 pub returns-clause-inner : goal.returns-clause-inner
