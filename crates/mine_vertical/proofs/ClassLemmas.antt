@@ -3,7 +3,7 @@ use Rattle.std.proofs.Common.{◌≡◌, ℕ, zero, suc, ◌+◌, ◌<◌, ◌�
 use Rattle.std.specs.Prelude.{All, Some, None, nat_le}
 use Rattle.std.specs.List.{filter, list_all, range_with_len}
 use Rattle.std.proofs.lemmas.Bool.{le-leb, leb-true, lt-leb, lt-ltb, true≢false}
-use Rattle.std.proofs.lemmas.List.{append-nil}
+use Rattle.std.proofs.lemmas.List.{append-nil, take_all}
 use Rattle.std.proofs.lemmas.List.Elements.{filter-append}
 use Rattle.basket_ranks.specs.Codes.{Coding, IsCoding, MOST_RANKS}
 use Rattle.basket_sets.specs.declared.weighted.Weighted.{Weighted}
@@ -24,11 +24,11 @@ use Rattle.mine_classes.specs.Conditional.{ConditionalSupports, is_kept}
 use Rattle.mine_classes.specs.Mined.{ListsClassItems, RanksAreFrequent}
 use Rattle.mine_classes.specs.Pairs.{kept_ranks}
 use Rattle.mine_search.specs.Class.{IsClass, of_rank}
-use Rattle.mine_search.specs.Node.{Supports, is_met, kept, work_at}
+use Rattle.mine_search.specs.Node.{Node, Supports, is_met, kept, work_at}
 use Rattle.mine_search.specs.Walk.{kept_below, work_below}
 use Rattle.mine_vertical.specs.declared.siblings.Siblings.{Siblings}
 use Rattle.mine_vertical.specs.declared.joins.Sibling.{Sibling}
-use Rattle.mine_vertical.specs.Projected.{Extend, GiveSupportsAt, siblings_in}
+use Rattle.mine_vertical.specs.Projected.{Extend, GiveSupportsAt, ranks_in, siblings_in}
 use Rattle.mine_vertical.specs.Joins.{class_joins}
 use Rattle.mine_vertical.specs.Siblings.{AreClassSiblings, IsSibling}
 use Rattle.mine_vertical.proofs.JoinLemmas.{class_joins_are, set_joins}
@@ -78,21 +78,24 @@ module _ (coding : Coding) (least : ℕ) (all : List Weighted) (is : IsLeastSupp
   pub joins_are : (rank : ℕ) → RanksAreFrequent coding → rank < length coding.items → class_joins coding rank ≡ rank + work_at (of_rank (over coding least) rank)
   joins_are rank each here = class_joins_are coding rank each here ∙ (λ k. rank + work_below (set_joins (λ set. met set k)) (λ set. met set k) rank (rank ∷ []))
 
-  module _ {R : Type 0} (stands : List ℕ → List ℕ → List ℕ → R → Type 0) (base : Siblings R) (rank : ℕ) (baskets : List Weighted)
-      (law : ConditionalSupports) (coding_is : IsCoding coding) (are : AreClassSiblings stands all least rank base.weights.value base.list.items baskets) where
-    ranks : List ℕ
+  module _ {R : Type 0} (stands : List ℕ → List ℕ → List ℕ → R → Type 0) (base : Siblings R) (rank : ℕ) (baskets : List Weighted) (made : List ℕ)
+      (law : ConditionalSupports) (known : IsCoding coding) (are : AreClassSiblings stands all least rank made base.list.items baskets) where
+    abbrev ranks : List ℕ
     ranks = kept_ranks all least rank
+
+    abbrev node : Node
+    node = of_rank (over coding least) rank
 
     lower : (other : ℕ) → Member other (range_with_len 0 rank) → other < rank
     lower other m = (let r = Member-range 0 rank other m in let high = r.1 in omega arith)
 
-    ranks_are : ranks ≡ kept (of_rank (over coding least) rank)
+    ranks_are : ranks ≡ kept node
     ranks_are =
         filter_members (is_kept all least rank) (λ other. is_met (over coding least) (other ∷ rank ∷ [])) (range_with_len 0 rank)
         (λ other m. ap (λ b. b && is_frequent all (Count least) (other ∷ rank ∷ [])) (lt-ltb other rank (lower other m)) ∙ tests (other ∷ rank ∷ []))
         ∙ sym (kept_is_filter (is_met (over coding least)) rank (rank ∷ []))
 
-    gives : GiveSupportsAt (of_rank (over coding least) rank) ranks baskets []
+    gives : GiveSupportsAt node ranks baskets []
     gives first more h =
         supports (first ∷ more ++ rank ∷ [])
         ∙ sym (ap (support_of baskets) (append-nil (first ∷ more)) ∙ are.same (first ∷ more) ∙ law all least rank (first ∷ more)
@@ -101,34 +104,41 @@ module _ (coding : Coding) (least : ℕ) (all : List Weighted) (is : IsLeastSupp
         each : (x : ℕ) → Member x (first ∷ more) → is_kept all least rank x ≡ true
         each x m = (Member-filter (is_kept all least rank) x (range_with_len 0 rank) (Member-from_has ranks x (each_of (has ranks) (first ∷ more) h x m))).1
 
-    pub extends : base.coded.now ≡ coding → base.least ≡ least → rank < length coding.items → siblings_in base ≡ base.list.items → Extend stands base (of_rank (over coding least) rank)
-    extends coded same here whole = (baskets, [], record {
-      joined = record {
-        least_is = sym same;
-        items_are = ap (λ (k : Coding). k.items) (sym coded);
-        few = subst (λ (k : Coding). length k.items < MOST_RANKS) (sym coded) coding_is.few;
-        within = subst (λ (k : Coding). rank ≤ length k.items) (sym coded) (omega arith);
-        falls = λ one other others. support_falls coding.baskets (other ∷ one ∷ others) (other ∷ others) (contains_each (other ∷ one ∷ others) (other ∷ others) (λ z m. up one other others z m));
-        works = λ one others. refl;
-      };
-      siblings = record { weighs = are.over.weighs; rows = subst (All (IsSibling stands baskets [])) (sym whole) are.over.rows };
-      ranks = ap (map (λ (s : Sibling R). s.rank)) whole ∙ are.over.ranks_are ∙ ranks_are;
-      supports = subst (λ l. GiveSupportsAt (of_rank (over coding least) rank) l baskets []) (sym (ap (map (λ (s : Sibling R). s.rank)) whole ∙ are.over.ranks_are)) gives;
-    })
-      where
-        up : (one other : ℕ) (others : List ℕ) (z : ℕ) → Member z (other ∷ others) → Member z (other ∷ one ∷ others)
-        up one other others z (inl e) = inl e
-        up one other others z (inr m) = inr (inr m)
+    module _ (coded : base.coded.now ≡ coding) (same : base.least ≡ least) (weigh : base.weights.value ≡ made) (long : length base.list.items ≤ base.kept) (here : rank < length coding.items) where
+      extends : Extend stands base node
+      extends = (baskets, [], record {
+        joined = record {
+          least_is = sym same;
+          items_are = ap (λ (k : Coding). k.items) (sym coded);
+          few = subst (λ (k : Coding). length k.items < MOST_RANKS) (sym coded) known.few;
+          within = subst (λ (k : Coding). rank ≤ length k.items) (sym coded) (omega arith);
+          falls = λ one other others. support_falls coding.baskets (other ∷ one ∷ others) (other ∷ others) (contains_each (other ∷ one ∷ others) (other ∷ others) (λ z m. up one other others z m));
+          works = λ one others. refl;
+        };
+        siblings = record { weighs = weigh ∙ are.over.weighs; rows = subst (All (IsSibling stands baskets [])) (sym whole) are.over.rows };
+        ranks = named ∙ ranks_are;
+        supports = subst (λ l. GiveSupportsAt node l baskets []) (sym named) gives;
+      })
+        where
+          whole : siblings_in base ≡ base.list.items
+          whole = take_all base.kept base.list.items long
 
-    pub class_is : (support : ℕ) → support ≡ support_of all (rank ∷ []) → least ≤ support → Extend stands base (of_rank (over coding least) rank)
-        → IsClass (Extend stands) coding rank support (Some base) (over coding least)
-    class_is support named enough extends = record {
-      over_coding = record { supports = λ set. refl; least = is; items = refl };
-      supported = named ∙ sym (supports (rank ∷ []));
-      frequent = enough;
-      some = λ inner e. subst (λ b. Extend stands b (of_rank (over coding least) rank)) (only base inner e) extends;
-      none = λ e. absurd (let none = e in cc);
-    }
-      where
-        only : (a b : Siblings R) → Some a ≡ Some b → a ≡ b
-        only a b e = cc
+          named : ranks_in base ≡ ranks
+          named = ap (map (λ (s : Sibling R). s.rank)) whole ∙ are.over.ranks_are
+
+          up : (one other : ℕ) (others : List ℕ) (z : ℕ) → Member z (other ∷ others) → Member z (other ∷ one ∷ others)
+          up one other others z (inl e) = inl e
+          up one other others z (inr m) = inr (inr m)
+
+      -- the class is one that a search lists
+      pub class_is : (support : ℕ) → support ≡ support_of all (rank ∷ []) → least ≤ support → IsClass (Extend stands) base.coded.now rank support (Some base) (over coding least)
+      class_is support named enough = subst (λ k. IsClass (Extend stands) k rank support (Some base) (over coding least)) (sym coded) (record {
+        over_coding = record { known = known; supports = λ set. refl; least = is; items = refl };
+        supported = named ∙ sym (supports (rank ∷ []));
+        frequent = enough;
+        some = λ inner e. subst (λ b. Extend stands b node) (only base inner e) extends;
+        none = λ e. absurd (let none = e in cc);
+      })
+        where
+          only : (a b : Siblings R) → Some a ≡ Some b → a ≡ b
+          only a b e = cc

@@ -1,10 +1,6 @@
-use Rattle.std.proofs.Common.{◌≡◌, ◌≤◌, length, subst, sym, ap, ◌∙◌, inl, inr, refl, arith}
-use Rattle.std.specs.Prelude.{Some}
+use Rattle.std.proofs.Common.{◌<◌, ◌≤◌, length, subst, inl, inr, refl, arith}
 use Rattle.std.proofs.lemmas.Result.{IfOk-weaker}
-use Rattle.std.proofs.lemmas.List.{take_all}
-use Rattle.basket_ranks.specs.Codes.{Coding}
-use Rattle.mine_search.specs.Class.{IsClass}
-use Rattle.mine_vertical.specs.Projected.{Extend}
+use Rattle.mine_classes.specs.Mined.{class_size}
 use Rattle.mine_vertical.proofs.ClassLemmas.{class_is, joins_are, over, rare_class, rare_rank}
 use Rattle.mine_vertical.proofs.eclat.eclat_class_with.Goals as goal
 
@@ -19,10 +15,32 @@ returns-then-support-least-clause-joins g c = λ each.
     (omega (arith, c.if-support-least.true, c.support-support.ensures)))
 
 pub list-requires-clause-class : goal.list-requires-clause-class
-list-requires-clause-class g c = ?
+list-requires-clause-class g c =
+    let coding = c.args.vertical.now in
+    let least = c.least-least.result in
+    let all = c.runs-runs.result.now.baskets in
+    let long : length c.in_ok-weights.siblings.items ≤ c.len.result = omega (arith, c.len.ensures) in
+    let (baskets, are) = c.in_ok-weights.ensures.siblings in (
+      over coding least,
+      class_is coding least all c.least-least.ensures c.runs-runs.ensures.weights g.R.Row.stands _ c.args.rank baskets c.in_ok-weights.weights c.conditional_supports.ensures c.coded-coded.ensures.coding are
+      c.coded-coded.ensures.coded refl c.in_ok-new.ensures.ok long c.requires.rank c.support-support.result c.support-support.ensures (omega (arith, c.if-support-least.false)),
+    )
 
 pub returns-clause-joins : goal.returns-clause-joins
-returns-clause-joins g c = ?
+returns-clause-joins g c =
+    let coding = c.args.vertical.now in
+    let least = c.least-least.result in
+    let all = c.runs-runs.result.now.baskets in
+    let long : length c.in_ok-weights.siblings.items ≤ c.len.result = omega (arith, c.len.ensures) in
+    let (baskets, are) = c.in_ok-weights.ensures.siblings in
+    IfOk-weaker c.list.result _ _ (λ mined work each.
+        let is = work (over coding least)
+        (class_is coding least all c.least-least.ensures c.runs-runs.ensures.weights g.R.Row.stands _ c.args.rank baskets c.in_ok-weights.weights c.conditional_supports.ensures c.coded-coded.ensures.coding are
+        c.coded-coded.ensures.coded refl c.in_ok-new.ensures.ok long c.requires.rank c.support-support.result c.support-support.ensures (omega (arith, c.if-support-least.false))) in
+        let joins = joins_are coding least all c.least-least.ensures c.runs-runs.ensures.weights c.args.rank each c.requires.rank in
+        omega (arith, is, joins, c.number.ensures, c.in_ok-weights.ensures.joins, c.none-joins.ensures)) c.list.ensures.work
 
 pub returns-clause-too_many : goal.returns-clause-too_many
-returns-clause-too_many g c = ?
+returns-clause-too_many g c = λ limit e.
+    let (same, why) = c.list.ensures.too_many limit e in
+    (same, elim why [ inl over ↦ inl over | inr less ↦ inr (subst (λ k. limit < class_size k c.args.rank) c.coded-coded.ensures.coded less) ])
