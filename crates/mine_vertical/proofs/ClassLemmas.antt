@@ -1,7 +1,7 @@
 -- The class of a rank, as a search begins it.
 use Rattle.std.proofs.Common.{◌≡◌, ℕ, zero, suc, ◌+◌, ◌<◌, ◌≤◌, Bool, true, false, ◌&&◌, List, [], ◌∷◌, ◌++◌, length, map, cond, leb, refl, sym, ap, ◌∙◌, subst, inl, inr, arith, zero-add}
-use Rattle.std.specs.Prelude.{All, Some, None, nat_le}
-use Rattle.std.specs.List.{filter, list_all, range_with_len}
+use Rattle.std.specs.Prelude.{All, Some, nat_le}
+use Rattle.std.specs.List.{filter, range_with_len}
 use Rattle.std.proofs.lemmas.Bool.{le-leb, leb-true, lt-leb, lt-ltb, true≢false}
 use Rattle.std.proofs.lemmas.List.{append-nil, take_all}
 use Rattle.std.proofs.lemmas.List.Elements.{filter-append}
@@ -106,19 +106,23 @@ module _ (coding : Coding) (least : ℕ) (all : List Weighted) (is : IsLeastSupp
 
     module _ (coded : base.coded.now ≡ coding) (same : base.least ≡ least) (weigh : base.weights.value ≡ made) (long : length base.list.items ≤ base.kept) (here : rank < length coding.items) where
       extends : Extend stands base node
-      extends = (baskets, [], record {
-        joined = record {
-          least_is = sym same;
-          items_are = ap (λ (k : Coding). k.items) (sym coded);
-          few = subst (λ (k : Coding). length k.items < MOST_RANKS) (sym coded) known.few;
-          within = subst (λ (k : Coding). rank ≤ length k.items) (sym coded) (omega arith);
-          falls = λ one other others. support_falls coding.baskets (other ∷ one ∷ others) (other ∷ others) (contains_each (other ∷ one ∷ others) (other ∷ others) (λ z m. up one other others z m));
-          works = λ one others. refl;
-        };
-        siblings = record { weighs = weigh ∙ are.over.weighs; rows = subst (All (IsSibling stands baskets [])) (sym whole) are.over.rows };
-        ranks = named ∙ ranks_are;
-        supports = subst (λ l. GiveSupportsAt node l baskets []) (sym named) gives;
-      })
+      extends = (
+        baskets,
+        [],
+        record {
+          joined = record {
+            least_is = sym same;
+            items_are = ap (λ (k : Coding). k.items) (sym coded);
+            few = subst (λ (k : Coding). length k.items < MOST_RANKS) (sym coded) known.few;
+            within = subst (λ (k : Coding). rank ≤ length k.items) (sym coded) (omega arith);
+            falls = λ one other others. support_falls coding.baskets (other ∷ one ∷ others) (other ∷ others) (contains_each (other ∷ one ∷ others) (other ∷ others) (λ z m. up one other others z m));
+            works = λ one others. refl;
+          };
+          siblings = record { weighs = weigh ∙ are.over.weighs; rows = subst (All (IsSibling stands baskets [])) (sym whole) are.over.rows };
+          ranks = named ∙ ranks_are;
+          supports = subst (λ l. GiveSupportsAt node l baskets []) (sym named) gives;
+        },
+      )
         where
           whole : siblings_in base ≡ base.list.items
           whole = take_all base.kept base.list.items long

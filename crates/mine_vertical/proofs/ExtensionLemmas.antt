@@ -1,9 +1,9 @@
 -- The extensions of a node's set, and those of the set with one more rank.
-use Rattle.std.proofs.Common.{◌≡◌, ◌≢◌, ℕ, zero, suc, ◌+◌, ◌<◌, ◌≤◌, Bool, true, ◌&&◌, List, [], ◌∷◌, ◌++◌, length, get_or, take, map, cond, leb, refl, sym, ap, ◌∙◌, subst, inl, inr, arith, append_assoc}
+use Rattle.std.proofs.Common.{◌≡◌, ℕ, zero, suc, ◌<◌, ◌≤◌, Bool, true, ◌&&◌, List, [], ◌∷◌, ◌++◌, length, get_or, take, map, cond, leb, sym, ap, ◌∙◌, subst, inl, inr, arith, append_assoc}
 use Rattle.std.specs.Prelude.{All, nat_le}
-use Rattle.std.specs.List.{filter, list_all}
+use Rattle.std.specs.List.{filter}
 use Rattle.std.proofs.lemmas.Bool.{le-leb, leb-true}
-use Rattle.std.proofs.lemmas.List.{append-nil, get_or-map, get_or-take, length-map, length-take-le, nil_from_length, take-map, take-take}
+use Rattle.std.proofs.lemmas.List.{append-nil, get_or-map, get_or-take, length-map, length-take-le, take-map, take-take}
 use Rattle.std.proofs.lemmas.List.Elements.{All-take}
 use Rattle.basket_sets.specs.declared.weighted.Weighted.{Weighted}
 use Rattle.basket_sets.specs.Itemset.{IsRising, has}
@@ -163,12 +163,16 @@ module _ {R : Type 0} {stands : List ℕ → List ℕ → List ℕ → R → Typ
 
     -- the siblings that are kept are its extensions
     pub below_is : (made : Siblings R) → made.coded ≡ base.coded → made.least ≡ base.least → made.weights.value ≡ base.weights.value → siblings_in made ≡ below → Extend stands made (child node rank)
-    below_is made coded least weights same = (baskets, rank ∷ set, record {
-      joined = subst (λ c. IsJoined c.now.items made.least (child node rank)) (sym coded) (subst (λ n. IsJoined base.coded.now.items n (child node rank)) (sym least) joined_below);
-      siblings = record { weighs = weights ∙ is.siblings.weighs; rows = subst (All (IsSibling stands baskets (rank ∷ set))) (sym same) are.rows };
-      ranks = ap (map (λ (s : Sibling R). s.rank)) same ∙ ranks_are;
-      supports = subst (λ l. GiveSupportsAt (child node rank) (map (λ (s : Sibling R). s.rank) l) baskets (rank ∷ set)) (sym same) supports_below;
-    })
+    below_is made coded least weights same = (
+      baskets,
+      rank ∷ set,
+      record {
+        joined = subst (λ c. IsJoined c.now.items made.least (child node rank)) (sym coded) (subst (λ n. IsJoined base.coded.now.items n (child node rank)) (sym least) joined_below);
+        siblings = record { weighs = weights ∙ is.siblings.weighs; rows = subst (All (IsSibling stands baskets (rank ∷ set))) (sym same) are.rows };
+        ranks = ap (map (λ (s : Sibling R). s.rank)) same ∙ ranks_are;
+        supports = subst (λ l. GiveSupportsAt (child node rank) (map (λ (s : Sibling R). s.rank) l) baskets (rank ∷ set)) (sym same) supports_below;
+      },
+    )
 
     -- as a list of siblings, and over a database that is made anew
     module _ (list : List (Sibling R)) (same : list ≡ below) where
@@ -181,12 +185,16 @@ module _ {R : Type 0} {stands : List ℕ → List ℕ → List ℕ → R → Typ
       pub anew_is : (made : Siblings R) (others : List Weighted) → made.coded ≡ base.coded → made.least ≡ base.least → AreOver stands (map (λ (s : Sibling R). s.rank) list) made.weights.value (siblings_in made) others
           → ((baskets : List Weighted) (set : List ℕ) → AreSiblings stands base.weights.value list baskets set → GiveSupports baskets set (map (λ (s : Sibling R). s.rank) list) others)
           → Extend stands made (child node rank)
-      anew_is made others coded least over gives = (others, [], record {
-        joined = subst (λ c. IsJoined c.now.items made.least (child node rank)) (sym coded) (subst (λ n. IsJoined base.coded.now.items n (child node rank)) (sym least) joined_below);
-        siblings = record { weighs = over.weighs; rows = over.rows };
-        ranks = over.ranks_are ∙ named ∙ ranks_are;
-        supports = subst (λ l. GiveSupportsAt (child node rank) l others []) (sym (over.ranks_are ∙ named)) supports;
-      })
+      anew_is made others coded least over gives = (
+        others,
+        [],
+        record {
+          joined = subst (λ c. IsJoined c.now.items made.least (child node rank)) (sym coded) (subst (λ n. IsJoined base.coded.now.items n (child node rank)) (sym least) joined_below);
+          siblings = record { weighs = over.weighs; rows = over.rows };
+          ranks = over.ranks_are ∙ named ∙ ranks_are;
+          supports = subst (λ l. GiveSupportsAt (child node rank) l others []) (sym (over.ranks_are ∙ named)) supports;
+        },
+      )
         where
           named : map (λ (s : Sibling R). s.rank) list ≡ ranks
           named = ap (map (λ (s : Sibling R). s.rank)) same

@@ -49,7 +49,13 @@ impl<'a, R: Row> Projected for Siblings<'a, R> {
     ) -> Result<Option<Self>, AllocError> {
         let mut list = room.list(alloc);
         let mut joins = Joins::none();
-        let kept = self.joined(alloc, at, &mut list, &mut room.marks[self.marks], &mut joins)?;
+        let kept = self.joined(
+            alloc,
+            at,
+            &mut list,
+            &mut room.marks[self.marks],
+            &mut joins,
+        )?;
         *work += joins.number();
         if kept == 0 {
             room.take_back(list);
@@ -147,7 +153,7 @@ impl<'a, R: Row> Siblings<'a, R> {
         ensures made { IfOk result (λ made. IfSome made (λ inner. (others : List Basket)
             × AreOver R.stands (map (λ sibling. sibling.rank) siblings.now) inner.weights.value (siblings_in inner) others
             × ((baskets : List Basket) (set : List ℕ) → AreSiblings R.stands self.now.weights.value siblings.now baskets set
-                → GiveSupports baskets set (map (λ sibling. sibling.rank) siblings.now) others))) }
+            → GiveSupports baskets set (map (λ sibling. sibling.rank) siblings.now) others))) }
         ensures served { IfOk result (λ made. IfSome made (Serves R.at_rest room.new)) }
         ensures wider { IfOk result (λ made. IfSome made (λ inner. self.now.marks < inner.marks)) }
         ensures room { OnOk result (Keeps R.at_rest self.now room.old room.new) }

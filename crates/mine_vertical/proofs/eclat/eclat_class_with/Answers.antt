@@ -23,7 +23,7 @@ list-requires-clause-class g c =
     let (baskets, are) = c.in_ok-weights.ensures.siblings in (
       over coding least,
       class_is coding least all c.least-least.ensures c.runs-runs.ensures.weights g.R.Row.stands _ c.args.rank baskets c.in_ok-weights.weights c.conditional_supports.ensures c.coded-coded.ensures.coding are
-      c.coded-coded.ensures.coded refl c.in_ok-new.ensures.ok long c.requires.rank c.support-support.result c.support-support.ensures (omega (arith, c.if-support-least.false)),
+          c.coded-coded.ensures.coded refl c.in_ok-new.ensures.ok long c.requires.rank c.support-support.result c.support-support.ensures (omega (arith, c.if-support-least.false)),
     )
 
 pub returns-clause-joins : goal.returns-clause-joins
@@ -34,11 +34,11 @@ returns-clause-joins g c =
     let long : length c.in_ok-weights.siblings.items ≤ c.len.result = omega (arith, c.len.ensures) in
     let (baskets, are) = c.in_ok-weights.ensures.siblings in
     IfOk-weaker c.list.result _ _ (λ mined work each.
-        let is = work (over coding least)
-        (class_is coding least all c.least-least.ensures c.runs-runs.ensures.weights g.R.Row.stands _ c.args.rank baskets c.in_ok-weights.weights c.conditional_supports.ensures c.coded-coded.ensures.coding are
-        c.coded-coded.ensures.coded refl c.in_ok-new.ensures.ok long c.requires.rank c.support-support.result c.support-support.ensures (omega (arith, c.if-support-least.false))) in
-        let joins = joins_are coding least all c.least-least.ensures c.runs-runs.ensures.weights c.args.rank each c.requires.rank in
-        omega (arith, is, joins, c.number.ensures, c.in_ok-weights.ensures.joins, c.none-joins.ensures)) c.list.ensures.work
+    let is = work (over coding least)
+    (class_is coding least all c.least-least.ensures c.runs-runs.ensures.weights g.R.Row.stands _ c.args.rank baskets c.in_ok-weights.weights c.conditional_supports.ensures c.coded-coded.ensures.coding are
+    c.coded-coded.ensures.coded refl c.in_ok-new.ensures.ok long c.requires.rank c.support-support.result c.support-support.ensures (omega (arith, c.if-support-least.false))) in
+    let joins = joins_are coding least all c.least-least.ensures c.runs-runs.ensures.weights c.args.rank each c.requires.rank in
+    omega (arith, is, joins, c.number.ensures, c.in_ok-weights.ensures.joins, c.none-joins.ensures)) c.list.ensures.work
 
 pub returns-clause-too_many : goal.returns-clause-too_many
 returns-clause-too_many g c = λ limit e.

@@ -27,12 +27,15 @@ join-requires-clause-rows g c =
     let i = c.loop-other.other-index in
     let other = c.other-item.result in
     let here = subst (λ l. i < length (take c.args.at l)) c.deref.ensures.value c.loop-other-test.true in
-    let at = c.other-item.is ∙ ap (λ l. get_or (take c.args.at l) i other) c.deref.ensures.value in
-    (baskets, set, record {
-      weighs = c.deref-weights.ensures ∙ are.weighs;
-      first_is = row_at base c.args.at c.requires.inside c.index-sibling.result.now c.index-sibling.ensures g.R.Row.stands baskets set are.rows;
-      second_is = subst (IsSibling g.R.Row.stands baskets set) (sym at) (rows_before base c.args.at c.requires.inside (IsSibling g.R.Row.stands baskets set) are.rows i other here);
-    })
+    let at = c.other-item.is ∙ ap (λ l. get_or (take c.args.at l) i other) c.deref.ensures.value in (
+      baskets,
+      set,
+      record {
+        weighs = c.deref-weights.ensures ∙ are.weighs;
+        first_is = row_at base c.args.at c.requires.inside c.index-sibling.result.now c.index-sibling.ensures g.R.Row.stands baskets set are.rows;
+        second_is = subst (IsSibling g.R.Row.stands baskets set) (sym at) (rows_before base c.args.at c.requires.inside (IsSibling g.R.Row.stands baskets set) are.rows i other here);
+      },
+    )
 
 pub loop-other-preserved : goal.loop-other-preserved
 loop-other-preserved g c =
