@@ -25,7 +25,7 @@ abbrev pub GiveSupportsAt : Node → List ℕ → List Weighted → List ℕ →
 GiveSupportsAt node ranks baskets set = (rank : ℕ) (more : List ℕ) → IsTrue (list_all (has ranks) (rank ∷ more))
     → node.over.support (rank ∷ more ++ node.set) ≡ support_of baskets (rank ∷ more ++ set)
 
--- a node of a search whose work are joins: each rank is joined with the lower ones with which the others are frequent
+-- a node of a search whose work is joins: each rank is joined with the lower ones with which the others are frequent
 pub record IsJoined (items : List ℕ) (least : ℕ) (node : Node) : Type 0 where
   pub least_is : node.over.least ≡ least
   pub items_are : node.over.items ≡ items
