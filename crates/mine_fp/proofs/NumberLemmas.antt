@@ -1,33 +1,30 @@
 -- Pattern bases, whose ranks have numbers of their own.
-use Rattle.std.proofs.Common.{◌≡◌, ℕ, ◌<◌, ◌≤◌, Bool, true, false, ◌&&◌, List, [], ◌∷◌, ◌++◌, cond, leb, ltb, get_or, length, map, refl, sym, ap, ◌∙◌, subst, inl, inr, arith, append_assoc}
-use Rattle.std.specs.List.{list_all, range_with_len}
-use Rattle.std.proofs.lemmas.Bool.{and_from, and_parts, cases_order, le-leb, leb-true, lt-ltb, ltb-true}
+use Rattle.std.proofs.Common.{◌≡◌, ℕ, ◌<◌, ◌≤◌, Bool, true, false, ◌&&◌, List, [], ◌∷◌, ◌++◌, leb, get_or, length, map, refl, sym, ap, ◌∙◌, subst, inl, inr, arith, append_assoc}
+use Rattle.std.specs.List.{range_with_len}
+use Rattle.std.proofs.lemmas.Bool.{cases_order, le-leb, leb-true, lt-ltb}
 use Rattle.std.proofs.lemmas.List.{get_or-map, get_or_default, length-map, map-append}
 use Rattle.std.proofs.lemmas.List.Elements.{recursion_from_All}
-use Rattle.std.proofs.lemmas.Simd.{map-map}
 use Rattle.basket_ranks.specs.Codes.{Coding, IsCodedPlace, IsCoding}
 use Rattle.basket_sets.specs.declared.weighted.Weighted.{Weighted}
 use Rattle.basket_sets.specs.declared.minimum.Minimum.TheVariants.{Count}
 use Rattle.basket_sets.specs.Counts.{AllBelow}
 use Rattle.basket_sets.specs.Database.{HasWeight}
 use Rattle.basket_sets.specs.Frequent.{is_frequent}
-use Rattle.basket_sets.specs.Itemset.{IsRising, contains, has}
+use Rattle.basket_sets.specs.Itemset.{IsRising, has}
 use Rattle.basket_sets.specs.Minimum.{IsLeastSupport}
 use Rattle.basket_sets.specs.Support.{support_of, total_of}
 use Rattle.basket_sets.proofs.theory.Members.{Contains-from_Member, Member, Member-append, Member-filter, Member-from_map, Member-map, at_Member}
-use Rattle.basket_sets.proofs.theory.Ranges.{Member-into_range, Member-range}
-use Rattle.basket_sets.proofs.theory.Rising.{Member-from_has, cons_rises, contains_each, first_below, has-from_Member, has_each, nil_rises, rest_rises, same_rising, same_test}
+use Rattle.basket_sets.proofs.theory.Ranges.{Member-range}
+use Rattle.basket_sets.proofs.theory.Rising.{Member-from_has, cons_rises, contains_each, first_below, has-from_Member, nil_rises, rest_rises, same_rising}
 use Rattle.basket_sets.proofs.theory.Support.{support_falls}
-use Rattle.basket_sets.proofs.theory.Tests.{Member-at, all_of, each_of, rising_at}
+use Rattle.basket_sets.proofs.theory.Tests.{Member-at, rising_at}
 use Rattle.mine_classes.specs.Conditional.{ConditionalSupports, is_kept}
 use Rattle.mine_classes.specs.Pairs.{kept_ranks, named_pair, pairs_of}
-use Rattle.mine_classes.specs.Paths.{is_branch}
 use Rattle.mine_classes.proofs.theory.Kept.{Member-kept, kept_rises, kept_below as below_kept, pair_ranks as first_ranks}
 use Rattle.mine_fp.specs.declared.pattern_base.PatternBase.{PatternBase}
 use Rattle.mine_fp.specs.PatternBase.{IsBelow, IsNumbered, named, ranks_of, supports_in}
-use Rattle.mine_fp.specs.Trees.{is_straight}
-use Rattle.mine_fp.proofs.InnerLemmas.{ranked_plain, support_below}
-use Rattle.mine_fp.proofs.StraightLemmas.{ArePlain, flat_from_straight, has_more_too, same_support, straight_from_flat}
+use Rattle.mine_fp.proofs.InnerLemmas.{support_below}
+use Rattle.mine_fp.proofs.StraightLemmas.{ArePlain}
 use Rattle.mine_search.specs.Node.{Node, child, is_met, kept}
 use Rattle.mine_search.proofs.theory.Walk.{kept_has, kept_lower, kept_passes, kept_rises as walk_rises}
 
@@ -56,13 +53,13 @@ module _ {base : PatternBase} {node : Node} (is : IsNumbered base node) where
   abbrev ranks : List ℕ
   ranks = ranks_of base
 
-  abbrev rank_of : ℕ → ℕ
+  abbrev pub rank_of : ℕ → ℕ
   rank_of number = get_or ranks number 0
 
   abbrev count : ℕ
   count = length ranks
 
-  plain : ArePlain coding.baskets
+  pub plain : ArePlain coding.baskets
   plain = coding_plain coding is.coding
 
   -- what is frequent in the search is frequent in the coding
@@ -70,7 +67,7 @@ module _ {base : PatternBase} {node : Node} (is : IsNumbered base node) where
   tests set =
       ap (λ over. is_met over set) is.over ∙ sym (is.least.met (support_of coding.baskets set) (support_falls coding.baskets set [] refl))
 
-  support_numbers : (numbers : List ℕ) → AllBelow count numbers → support_of coding.baskets (named ranks numbers ++ node.set) ≡ support_of paths numbers
+  pub support_numbers : (numbers : List ℕ) → AllBelow count numbers → support_of coding.baskets (named ranks numbers ++ node.set) ≡ support_of paths numbers
   support_numbers numbers low = is.supports numbers (subst (λ n. AllBelow n numbers) is.long low)
 
   -- a test of numbers by the paths is one of their ranks by the coding
@@ -86,27 +83,27 @@ module _ {base : PatternBase} {node : Node} (is : IsNumbered base node) where
       one_test false true h = h refl
       one_test false false h = refl
 
-  none_below : AllBelow count []
+  pub none_below : AllBelow count []
   none_below j h = absurd cc
 
-  more_below : (k : ℕ) (numbers : List ℕ) → k < count → AllBelow count numbers → AllBelow count (k ∷ numbers)
+  pub more_below : (k : ℕ) (numbers : List ℕ) → k < count → AllBelow count numbers → AllBelow count (k ∷ numbers)
   more_below k numbers here low j h = at (Member-from_has (k ∷ numbers) j h)
     where
       at : Member j (k ∷ numbers) → j < count
       at (inl e) = subst (λ n. n < count) e here
       at (inr m) = low j (has-from_Member numbers j m)
 
-  ranks_less : (i j : ℕ) → i < j → j < count → rank_of i < rank_of j
+  pub ranks_less : (i j : ℕ) → i < j → j < count → rank_of i < rank_of j
   ranks_less i j less here = rising_at ranks i j is.rises less here
 
-  numbers_less : (i j : ℕ) → i < count → j < count → rank_of i < rank_of j → i < j
+  pub numbers_less : (i j : ℕ) → i < count → j < count → rank_of i < rank_of j → i < j
   numbers_less i j here there less = elim (cases_order i j) [
     | inl same ↦ absurd (omega (arith, less, ap rank_of same))
     | inr (inl before) ↦ before
     | inr (inr after) ↦ (let more = ranks_less j i after here in absurd (omega arith))
   ]
 
-  number_of : (rank : ℕ) → rank < node.below → is_met node.over (rank ∷ node.set) ≡ true → (k : ℕ) × (k < count) × (rank_of k ≡ rank)
+  pub number_of : (rank : ℕ) → rank < node.below → is_met node.over (rank ∷ node.set) ≡ true → (k : ℕ) × (k < count) × (rank_of k ≡ rank)
   number_of rank less h =
       let c = Contains-from_Member rank ranks (Member-from_has ranks rank (is.all rank less h)) in (c.0, c.1, get_or_default ranks c.0 0 rank c.1 ∙ c.2)
 
@@ -136,7 +133,7 @@ module _ {base : PatternBase} {node : Node} (is : IsNumbered base node) where
     chosen_are = same_rising (map rank_of chosen) (kept (child node rank)) (ranks_rise ranks chosen is.rises (kept_rises paths base.least number) chosen_low) (walk_rises test rank (rank ∷ node.set))
         (λ z m. let d = Member-from_map rank_of z chosen m in
         let inside = Member-filter (is_kept paths base.least number) d.0 (range_with_len 0 number) d.1 in
-        let less = (Member-range 0 number d.0 inside.0).1 in
+        let less : d.0 < number = let p = (Member-range 0 number d.0 inside.0).1 in omega arith in
         subst (λ r. Member r (kept (child node rank))) d.2
         (kept_has test rank (rank ∷ node.set) (rank_of d.0) (ranks_less d.0 number less here) (sym (chosen_test d.0 less) ∙ inside.1)))
         (λ z m. let less = kept_lower test rank (rank ∷ node.set) z m in

@@ -1,11 +1,11 @@
 -- Pattern bases of nodes: their single branches and trees.
-use Rattle.std.proofs.Common.{◌≡◌, ℕ, ◌<◌, ◌≤◌, Bool, true, false, not, ◌&&◌, List, [], ◌∷◌, ◌++◌, cond, ltb, get_or, length, map, refl, sym, ap, ◌∙◌, subst, inl, inr, arith}
+use Rattle.std.proofs.Common.{◌≡◌, ℕ, ◌<◌, ◌≤◌, Bool, true, false, not, ◌&&◌, List, [], ◌∷◌, ◌++◌, cond, ltb, get_or, length, map, Option, None, Some, refl, sym, ap, ◌∙◌, subst, inl, inr, arith}
 use Rattle.std.specs.List.{list_all, range_with_len}
+use Rattle.std.specs.Prelude.{IfNone}
 use Rattle.std.proofs.lemmas.Bool.{and_from, and_parts, lt-ltb, ltb-true}
-use Rattle.std.proofs.lemmas.List.{get_or-map, length-map}
+use Rattle.std.proofs.lemmas.List.{get_or-map, get_or_default, length-map}
 use Rattle.std.proofs.lemmas.List.Elements.{recursion_from_All}
 use Rattle.basket_sets.specs.declared.weighted.Weighted.{Weighted}
-use Rattle.basket_sets.specs.Counts.{AllBelow}
 use Rattle.basket_sets.specs.Frequent.{is_frequent}
 use Rattle.basket_sets.specs.Itemset.{contains, has}
 use Rattle.basket_sets.specs.Support.{support_of}
@@ -15,23 +15,30 @@ use Rattle.basket_sets.proofs.theory.Rising.{Member-from_has, contains_each, has
 use Rattle.basket_sets.proofs.theory.Tests.{Member-at, all_of, each_of}
 use Rattle.mine_baskets.specs.ListBaskets.{IsRankBasket}
 use Rattle.mine_classes.specs.Conditional.{ConditionalSupports}
-use Rattle.mine_classes.specs.Pairs.{pairs_of}
+use Rattle.mine_classes.specs.declared.tables.Tables.{Tables}
 use Rattle.mine_classes.specs.Paths.{is_branch}
+use Rattle.mine_classes.proofs.theory.Kept.{kept_short}
 use Rattle.mine_fp.specs.declared.pattern_base.PatternBase.{PatternBase}
-use Rattle.mine_fp.specs.PatternBase.{IsBase, IsBelow, ranks_of, supports_in}
+use Rattle.mine_fp.specs.PatternBase.{HaveSlots, IsBase, IsBelow, KeepSlots, ranks_of}
 use Rattle.mine_fp.specs.Trees.{has_tree, is_straight}
 use Rattle.mine_fp.proofs.InnerLemmas.{ranked_plain}
 use Rattle.mine_fp.proofs.NumberLemmas.{more_below, none_below, number_of, numbered_below, numbers_less, plain, rank_of, ranks_are_kept, ranks_less, support_numbers, supports_are_kept, tests}
 use Rattle.mine_fp.proofs.StraightLemmas.{flat_from_straight, has_lower, has_more_too, same_support, straight_from_flat}
-use Rattle.mine_search.specs.Node.{Node, child, is_met, kept, work_at}
+use Rattle.mine_search.specs.Node.{Node, child, is_met, kept}
 use Rattle.mine_search.specs.Straight.{IsStraight}
-use Rattle.mine_search.proofs.theory.Walk.{kept_lower, kept_passes, no_work_below}
+use Rattle.mine_search.proofs.theory.Walk.{kept_few, kept_lower, kept_passes, no_work_below}
 
 -- in a single branch a basket that has a rank has each lower one
 branch_has : (baskets : List Weighted) → is_branch baskets ≡ true → (place : Weighted) → Member place baskets → (i j : ℕ) → i < j → Member j place.basket → Member i place.basket
 branch_has baskets h place m i j less n =
     let full = each_of (λ (p : Weighted). list_all (λ r. contains p.basket (range_with_len 0 r)) p.basket) baskets h place m in
     has_each place.basket (range_with_len 0 j) (each_of (λ r. contains place.basket (range_with_len 0 r)) place.basket full j n) i (Member-into_range 0 j i (omega arith) (omega arith))
+
+-- tables with a slot for each rank have one for each that is kept
+pub slots_below : {base below : PatternBase} {number : ℕ} {before after : Tables} → IsBelow base number below → number < base.paths.ranks → HaveSlots before base → KeepSlots before after → HaveSlots after below
+slots_below {base} {below} {number} is less slots kept =
+    let short = kept_short base.paths.baskets base.least number in
+    record { sums = omega (arith, is.conditional.ranks, short, less, slots.sums, kept.0); places = omega (arith, is.conditional.ranks, short, less, slots.places, kept.1) }
 
 module _ {base : PatternBase} {node : Node} (is : IsBase base node) where
   abbrev baskets : List Weighted
@@ -78,24 +85,35 @@ module _ {base : PatternBase} {node : Node} (is : IsBase base node) where
   -- ---- the rank of a number, and the support of the set with it
 
   module _ (at : ℕ) (inside : at < length (ranks_of base)) where
+    -- what stands at the number's place
+    entry : {one : ℕ × ℕ} → one ≡ get_or base.ranks.items at one → one ≡ get_or base.ranks.items at (0, 0)
+    entry {one} is_at = is_at ∙ sym (get_or_default base.ranks.items at (0, 0) one (omega (arith, inside, length-map base.ranks.items (λ (pair : ℕ × ℕ). pair.0))))
+
+    pub entry_rank : {one : ℕ × ℕ} → one ≡ get_or base.ranks.items at one → one.0 ≡ get_or (ranks_of base) at 0
+    entry_rank {one} is_at = ap (λ (pair : ℕ × ℕ). pair.0) (entry is_at)
+        ∙ sym (get_or-map (λ (pair : ℕ × ℕ). pair.0) base.ranks.items at (0, 0) 0 (omega (arith, inside, length-map base.ranks.items (λ (pair : ℕ × ℕ). pair.0))))
+
     pub rank_known : get_or (ranks_of base) at 0 < length base.coded.now.items
     rank_known = let less = is.numbered.low (get_or (ranks_of base) at 0) (has-from_Member (ranks_of base) (get_or (ranks_of base) at 0) (Member-at (ranks_of base) at inside)) in let most = is.numbered.known in omega arith
 
-    pub support_is : (get_or base.ranks.items at (0, 0)).1 ≡ node.over.support (get_or (ranks_of base) at 0 ∷ node.set)
-    support_is =
+    pub entry_support : {one : ℕ × ℕ} → one ≡ get_or base.ranks.items at one → one.1 ≡ node.over.support (get_or (ranks_of base) at 0 ∷ node.set)
+    entry_support {one} is_at =
         let here : at < length base.ranks.items = omega (arith, inside, length-map base.ranks.items (λ (pair : ℕ × ℕ). pair.0)) in
         let there : at < length (kept node) = subst (λ l. at < length l) is.ranks inside in
-        sym (get_or-map (λ (pair : ℕ × ℕ). pair.1) base.ranks.items at (0, 0) 0 here)
+        ap (λ (pair : ℕ × ℕ). pair.1) (entry is_at) ∙ sym (get_or-map (λ (pair : ℕ × ℕ). pair.1) base.ranks.items at (0, 0) 0 here)
         ∙ ap (λ l. get_or l at 0) is.supports
         ∙ get_or-map (λ r. support_of baskets (r ∷ node.set)) (kept node) at 0 0 there
         ∙ (λ i. (sym is.numbered.over i).support (get_or (sym is.ranks i) at 0 ∷ node.set))
+
+  pub few_ranks : length (ranks_of base) ≤ 4294967295
+  few_ranks = omega (arith, ap length is.ranks, kept_few (is_met node.over) node.below node.set, is.numbered.known, is.numbered.coding.few)
 
   -- ---- single branches
 
   into_branch : straight ≡ true → is_branch paths ≡ true
   into_branch h = all_of (λ (p : Weighted). list_all (λ r. contains p.basket (range_with_len 0 r)) p.basket) paths (λ place m.
       all_of (λ r. contains place.basket (range_with_len 0 r)) place.basket (λ j n. contains_each place.basket (range_with_len 0 j) (λ i less_m.
-      let less = (Member-range 0 j i less_m).1 in
+      let less : i < j = let p = (Member-range 0 j i less_m).1 in omega arith in
       let low = (at_Member (IsRankBasket base.paths.ranks) place paths (recursion_from_All (IsRankBasket base.paths.ranks) paths is.numbered.ranked.places) m).below j (has-from_Member place.basket j n) in
       let there : j < length (ranks_of base) = subst (λ c. j < c) (sym is.numbered.long) low in
       let here : i < length (ranks_of base) = omega arith in
@@ -175,3 +193,8 @@ module _ {base : PatternBase} {node : Node} (is : IsBase base node) where
       first = (node.set, refl);
       tree = subst (λ c. has_tree c.now.baskets c.now.minimum (rank_of is.numbered number ∷ node.set) ≡ true) (sym is_below.coded) (tree_more (rank_of is.numbered number));
     }
+
+-- what follows if there is no value
+pub none_then : {X : Type 0} (o : Option X) {P Q : Type 0} → IfNone o P → (P → Q) → IfNone o Q
+none_then None h f = f h
+none_then (Some x) h f = h

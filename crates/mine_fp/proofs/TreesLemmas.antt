@@ -1,5 +1,5 @@
 -- The trees of a class, by any list of it.
-use Rattle.std.proofs.Common.{◌≡◌, ◌≢◌, ℕ, ◌+◌, ◌≤◌, Bool, true, false, not, List, [], ◌∷◌, filter, length, map, cond, refl, sym, ap, ◌∙◌, subst, arith}
+use Rattle.std.proofs.Common.{◌≡◌, ◌≢◌, ℕ, ◌+◌, ◌≤◌, Bool, true, false, not, List, [], ◌∷◌, filter, length, map, cond, nat_eq, refl, sym, ◌∙◌, subst, arith, zero-add}
 use Rattle.std.specs.Cmp.Lexicographic.{bytes_decides, nat_list_eq_equiv, pointwise}
 use Rattle.std.specs.List.{IsDistinct, list_any, sum_by}
 use Rattle.std.proofs.lemmas.List.Elements.{recursion_from_All}
@@ -94,7 +94,7 @@ module _ (coding : Coding) (rank : ℕ) (listed : ClassesAreListed) where
           one : (b : Bool) → sum_by (λ set. cond (test set) 1 0) sets ≡ length (passed test rest)
               → cond b 1 0 + sum_by (λ set. cond (test set) 1 0) sets ≡ length (cond b (record { set = set; count = support_of coding.baskets set } ∷ passed test rest) (passed test rest))
           one true h = omega arith
-          one false h = h
+          one false h = zero-add (sum_by (λ set. cond (test set) 1 0) sets) ∙ h
 
   -- they are no more than its sets
   pub trees_few : class_trees coding rank ≤ class_size coding rank

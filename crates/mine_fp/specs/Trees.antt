@@ -4,11 +4,9 @@ use Rattle.std.specs.List.{flat_map, list_all, range_with_len, sum_by}
 use Rattle.basket_ranks.specs.Codes.{Coding, IsCoding}
 use Rattle.basket_sets.specs.declared.weighted.Weighted.{Weighted}
 use Rattle.basket_sets.specs.declared.minimum.Minimum.{Minimum}
-use Rattle.basket_sets.specs.declared.minimum.Minimum.TheVariants.{Count}
 use Rattle.basket_sets.specs.Frequent.{frequent_of, is_frequent}
 use Rattle.basket_sets.specs.Itemset.{contains}
 use Rattle.mine_classes.specs.Classes.{class_of}
-use Rattle.mine_classes.specs.Paths.{is_branch}
 use Rattle.mine_fp.specs.Tree.{begins}
 
 -- whether a rank is below the least of a set, and frequent together with it

@@ -10,7 +10,9 @@ ghost use Rattle.mine_fp.specs.Trees.{class_trees};
 use crate::pattern_base::PatternBase;
 use basket_core::{Coded, CountedSets, MineFault, Tally};
 use mine_baskets::ListBaskets;
-use mine_classes::laws::{classes_are_listed, conditional_supports, lists_have_class_size, rare_ranks_have_no_class};
+use mine_classes::laws::{
+    classes_are_listed, conditional_supports, lists_have_class_size, rare_ranks_have_no_class,
+};
 use mine_classes::{Paths, Runs, Tables};
 use mine_search::Class;
 use std::alloc::{AllocError, Global};

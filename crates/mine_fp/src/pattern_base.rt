@@ -7,6 +7,7 @@ ghost use Rattle.mine_classes.specs.Paths.{is_branch};
 ghost use Rattle.mine_fp.specs.PatternBase.{HaveSlots, IsBase, IsBelow, KeepSlots, ranks_of};
 
 use basket_core::Coded;
+use mine_classes::laws::conditional_supports;
 use mine_classes::{Paths, Tables};
 use mine_search::Projected;
 use std::alloc::{AllocError, Global};
@@ -89,6 +90,7 @@ impl<'a> Projected for PatternBase<'a> {
         scratch: &mut Tables,
         work: &mut u64,
     ) -> Result<Option<Self>, AllocError> {
+        conditional_supports();
         let below = self.below(alloc, at as u32, scratch)?;
         *work += 1;
         Ok(below)

@@ -1,5 +1,5 @@
 -- What a search for a class begins with.
-use Rattle.std.proofs.Common.{◌≡◌, ℕ, ◌<◌, ◌≤◌, Option, true, List, [], ◌∷◌, ◌++◌, get_or, length, map, sym, ap, ◌∙◌, inl, inr, arith}
+use Rattle.std.proofs.Common.{◌≡◌, ℕ, ◌<◌, Option, true, List, [], ◌∷◌, ◌++◌, get_or, length, map, sym, ap, ◌∙◌, inl, inr, arith}
 use Rattle.std.proofs.lemmas.Bool.{le-leb}
 use Rattle.basket_lists.specs.CountedSets.{set_at}
 use Rattle.basket_lists.proofs.theory.Places.{set_added}

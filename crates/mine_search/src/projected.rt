@@ -71,6 +71,7 @@ pub trait Projected: Drop + Sized {
 
     /// Whether its ranks are those of a single branch, from which the sets are read off.
     fn is_straight(&self) -> bool
+        requires given { (node : Node) × gives self.now node }
         ensures straight { result ≡ straight self.now }
         ensures branch { IsTrue result → (node : Node) → gives self.now node → IsStraight node };
 

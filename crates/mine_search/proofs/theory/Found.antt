@@ -3,13 +3,12 @@ use Rattle.std.proofs.Common.{◌≡◌, ◌≢◌, ℕ, zero, suc, ◌<◌, ◌
 use Rattle.std.specs.Prelude.{nat_eq}
 use Rattle.std.specs.Cmp.Lexicographic.{pointwise, bytes_decides}
 use Rattle.std.specs.List.{IsDistinct}
-use Rattle.std.proofs.lemmas.Bool.{cases_Bool, cases_eq, eq-eqb, eqb-true, le-leb, leb-true, true≢false}
-use Rattle.std.proofs.lemmas.List.Elements.{All-from_recursion}
+use Rattle.std.proofs.lemmas.Bool.{cases_Bool, cases_eq, eq-eqb, eqb-true, true≢false}
 use Rattle.basket_sets.specs.Frequent.{IsNonemptySet}
 use Rattle.mine_classes.specs.Classes.{ends_in}
-use Rattle.basket_sets.specs.Itemset.{IsRising, contains}
-use Rattle.basket_sets.proofs.theory.Members.{Contains-from_Member, Member, All-from_Member, at_Member, Member-append, Member-append_left, Member-append_right}
-use Rattle.basket_sets.proofs.theory.Rising.{contains_each, nil_rises, cons_rises, first_below, rest_rises}
+use Rattle.basket_sets.specs.Itemset.{IsRising}
+use Rattle.basket_sets.proofs.theory.Members.{Member, All-from_Member, at_Member, Member-append, Member-append_left, Member-append_right}
+use Rattle.basket_sets.proofs.theory.Rising.{nil_rises, cons_rises, first_below, rest_rises}
 use Rattle.mine_search.specs.Walk.{sets_below}
 
 apart : (a b : List ℕ) → a ≢ b → pointwise nat_eq a b ≡ false

@@ -1,6 +1,9 @@
-use Rattle.std.proofs.Common.{◌<◌, ◌∙◌, ◌≡◌, get_or, length, map, sym, ap, subst, arith}
-use Rattle.std.proofs.lemmas.List.{get_or-map, length-map}
-use Rattle.basket_sets.proofs.theory.Tests.{Member-at}
-use Rattle.basket_sets.proofs.theory.Rising.{has-from_Member}
-use Rattle.mine_fp.specs.PatternBase.{ranks_of}
+use Rattle.std.proofs.Common.{◌∙◌, get_or, sym, arith}
+use Rattle.mine_fp.proofs.PatternLemmas.{entry_rank, rank_known}
 use Rattle.mine_fp.proofs.pattern_base.PatternBaseProjected.item.Goals as goal
+
+pub item-requires : goal.item-requires
+item-requires c = let (node, is) = c.requires.given in omega (arith, rank_known is c.args.at c.requires.inside, entry_rank is c.args.at c.requires.inside c.index.ensures)
+
+pub returns : goal.returns
+returns c = λ node is. c.item.ensures ∙ (λ i. get_or ((sym is.numbered.over i).items) (entry_rank is c.args.at c.requires.inside c.index.ensures i) 0)

@@ -1,0 +1,64 @@
+use Rattle.std.proofs.Common.{◌≡◌, ◌<◌, ◌≤◌, ◌∷◌, ◌∙◌, [], false, ap, length, subst, sym, arith}
+use Rattle.std.proofs.lemmas.Result.{IfOk-weaker}
+use Rattle.basket_ranks.specs.Codes.{Coding}
+use Rattle.basket_sets.specs.Frequent.{is_frequent}
+use Rattle.mine_classes.specs.Mined.{class_size}
+use Rattle.mine_fp.specs.PatternBase.{HaveSlots, supports_in}
+use Rattle.mine_fp.specs.Trees.{class_trees}
+use Rattle.mine_fp.proofs.ForestLemmas.{class_of_rank, entries, entry_support, rare, trees_made}
+use Rattle.mine_fp.proofs.PatternLemmas.{slots_below}
+use Rattle.mine_fp.proofs.TreesLemmas.{rare_trees, trees_few}
+use Rattle.mine_fp.proofs.forest.fp_class_with.Goals as goal
+
+pub index-requires : goal.index-requires
+index-requires g c =
+    let all = c.forest.inside.all in
+    omega (arith, c.requires.rank, ap (λ (v : Coding). length v.items) c.forest.view_is, entries c.forest.invariant, c.forest.invariant.count, all.ranks.ok.0)
+
+pub returns-then-support-all-clause-listed : goal.returns-then-support-all-clause-listed
+returns-then-support-all-clause-listed g c =
+    let here = subst (λ (v : Coding). c.args.rank < length v.items) (sym c.forest.view_is) c.requires.rank in
+    let not = rare c.forest.invariant c.args.rank (omega (arith, c.if-support-all.true, entry_support c.forest.invariant c.args.rank here c.index.ensures)) in
+    record {
+      sets = [];
+      listed = c.rare_ranks_have_no_class.ensures c.args.forest.now.baskets c.args.forest.now.minimum c.args.rank
+          (subst (λ (v : Coding). is_frequent v.baskets v.minimum (c.args.rank ∷ []) ≡ false) c.forest.view_is not);
+      decoded = c.in_ok-none.ensures;
+    }
+
+pub returns-then-support-all-clause-trees : goal.returns-then-support-all-clause-trees
+returns-then-support-all-clause-trees g c =
+    let here = subst (λ (v : Coding). c.args.rank < length v.items) (sym c.forest.view_is) c.requires.rank in
+    let not = rare c.forest.invariant c.args.rank (omega (arith, c.if-support-all.true, entry_support c.forest.invariant c.args.rank here c.index.ensures)) in
+    sym (subst (λ (v : Coding). class_trees v c.args.rank ≡ 0) c.forest.view_is (rare_trees c.forest.inside.all.coded.now c.args.rank c.classes_are_listed.ensures c.rare_ranks_have_no_class.ensures not))
+
+pub below-requires-clause-long : goal.below-requires-clause-long
+below-requires-clause-long g c = omega (arith, entries c.forest.invariant, c.forest.inside.all.ranks.ok.0)
+
+pub list-requires-clause-class : goal.list-requires-clause-class
+list-requires-clause-class g c =
+    let here = subst (λ (v : Coding). c.args.rank < length v.items) (sym c.forest.view_is) c.requires.rank in (
+      supports_in c.forest.inside.all.coded.now c.forest.inside.all.least,
+      class_of_rank c.forest.invariant c.args.rank here c.conditional_supports.ensures c.index.ensures (omega (arith, c.if-support-all.false)) c.in_ok-below.ensures.none c.in_ok-below.ensures.below,
+    )
+
+pub list-requires-clause-lent : goal.list-requires-clause-lent
+list-requires-clause-lent g c = λ inner e.
+    let all = c.forest.inside.all in
+    let same = ap (λ (v : Coding). length v.items) c.forest.view_is in
+    let slots : HaveSlots c.args.tables.now all = record { sums = omega (arith, c.requires.sums, same, c.forest.invariant.count); places = omega (arith, c.requires.places, same, c.forest.invariant.count) } in
+    slots_below (rw e at c.in_ok-below.ensures.below) (omega (arith, c.requires.rank, same, c.forest.invariant.count)) slots (c.below.ensures.sums, c.below.ensures.places)
+
+pub returns-clause-trees : goal.returns-clause-trees
+returns-clause-trees g c =
+    let all = c.forest.inside.all in
+    let here = subst (λ (v : Coding). c.args.rank < length v.items) (sym c.forest.view_is) c.requires.rank in
+    let over = supports_in all.coded.now all.least in
+    let class = class_of_rank c.forest.invariant c.args.rank here c.conditional_supports.ensures c.index.ensures (omega (arith, c.if-support-all.false)) c.in_ok-below.ensures.none c.in_ok-below.ensures.below in
+    let made = trees_made c.forest.invariant c.args.rank here c.classes_are_listed.ensures c.index.ensures (omega (arith, c.if-support-all.false)) in
+    IfOk-weaker c.list.result _ (λ mined. mined.1 ≡ class_trees c.args.forest.now c.args.rank) (λ mined work. work over class ∙ made ∙ ap (λ (v : Coding). class_trees v c.args.rank) c.forest.view_is) c.list.ensures.work
+
+pub returns-clause-few : goal.returns-clause-few
+returns-clause-few g c =
+    let few = trees_few c.args.forest.now c.args.rank c.classes_are_listed.ensures in
+    IfOk-weaker c.list.result (λ mined. mined.1 ≡ class_trees c.args.forest.now c.args.rank) (λ mined. mined.1 ≤ class_size c.args.forest.now c.args.rank) (λ mined made. omega (arith, made, few)) (returns-clause-trees g c)
