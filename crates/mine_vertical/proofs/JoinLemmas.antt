@@ -1,28 +1,23 @@
 -- The joins of a class, and of all classes.
-use Rattle.std.proofs.Common.{◌≡◌, ◌≢◌, ℕ, zero, suc, ◌+◌, ◌<◌, ◌≤◌, Bool, true, false, ◌&&◌, List, [], ◌∷◌, ◌++◌, length, cond, leb, ltb, refl, sym, ap, ◌∙◌, subst, inl, inr, arith, length-append, zero-add}
-use Rattle.std.specs.List.{filter, list_all, range_with_len, sum_by}
-use Rattle.std.proofs.lemmas.Bool.{and_from, cases_Bool, lt-ltb, true≢false}
+use Rattle.std.proofs.Common.{◌≡◌, ◌≢◌, ℕ, zero, suc, ◌+◌, ◌<◌, Bool, true, false, ◌&&◌, List, [], ◌∷◌, ◌++◌, length, cond, refl, sym, ap, ◌∙◌, subst, inl, inr, arith, length-append, zero-add}
+use Rattle.std.specs.List.{filter, range_with_len, sum_by}
+use Rattle.std.proofs.lemmas.Bool.{cases_Bool, true≢false}
 use Rattle.std.proofs.lemmas.List.{append-nil}
 use Rattle.std.proofs.lemmas.List.Elements.{All-from_recursion, filter-append}
 use Rattle.std.proofs.lemmas.List.Sums.{sum_by-append, sum_by-cons}
 use Rattle.basket_ranks.specs.Codes.{Coding}
 use Rattle.basket_sets.specs.declared.weighted.Weighted.{Weighted}
 use Rattle.basket_sets.specs.declared.minimum.Minimum.{Minimum}
-use Rattle.basket_sets.specs.declared.minimum.Minimum.TheVariants.{Count}
 use Rattle.basket_sets.specs.Frequent.{IsNonemptySet, is_frequent}
 use Rattle.basket_sets.specs.Itemset.{AllBelow}
-use Rattle.basket_sets.specs.Support.{support_of}
-use Rattle.basket_sets.proofs.theory.Members.{Member, All-from_Member, Contains-from_Member, Member-append_left, Member-append_right}
+use Rattle.basket_sets.proofs.theory.Members.{Member, All-from_Member, Contains-from_Member}
 use Rattle.basket_sets.proofs.theory.Rising.{Member-from_has, has-from_Member, nil_rises, contains_each}
 use Rattle.basket_sets.proofs.theory.Support.{subsets_are_frequent}
 use Rattle.basket_sets.proofs.theory.Ranges.{range_more}
-use Rattle.basket_sets.proofs.theory.Tests.{all_of}
-use Rattle.mine_classes.specs.Conditional.{ConditionalSupports, conditional, is_kept}
 use Rattle.mine_classes.specs.Mined.{RanksAreFrequent}
+use Rattle.mine_search.specs.Walk.{kept_below, sets_below, work_below}
+use Rattle.mine_search.proofs.theory.Found.{from_sets, into_sets, only_below, sets_distinct}
 use Rattle.mine_vertical.specs.Joins.{ClassJoinsAddUp, SetsOfRanksAreAll, class_joins, is_join, sets_of_ranks}
-use Rattle.mine_vertical.specs.Search.{is_met}
-use Rattle.mine_vertical.specs.Walk.{joins_below, kept_below, sets_below}
-use Rattle.mine_vertical.proofs.FoundLemmas.{from_sets, into_sets, only_below, sets_distinct}
 
 -- how many sets of a list pass a test
 abbrev many : (List ℕ → Bool) → List (List ℕ) → ℕ
@@ -40,6 +35,11 @@ many-cons p x xs = at (p x)
     at : (b : Bool) → length (cond b (x ∷ filter p xs) (filter p xs)) ≡ one_if b + length (filter p xs)
     at true = omega arith
     at false = omega arith
+
+-- the joins of a set's least rank with the lower ranks with which the others are frequent
+abbrev pub set_joins : (List ℕ → Bool) → List ℕ → ℕ
+set_joins test [] = 0
+set_joins test (rank ∷ set) = length (kept_below test rank set)
 
 module _ (baskets : List Weighted) (minimum : Minimum) where
   abbrev frequent : List ℕ → Bool
@@ -81,7 +81,7 @@ module _ (baskets : List Weighted) (minimum : Minimum) where
 
   -- those that extend a frequent set: with each rank that extends the set without its least rank, and those that extend its extensions
   joins_are : (below first : ℕ) (others : List ℕ) → frequent (first ∷ others) ≡ true
-      → joins below (first ∷ others) ≡ length (kept_below frequent below others) + joins_below frequent below (first ∷ others)
+      → joins below (first ∷ others) ≡ length (kept_below frequent below others) + work_below (set_joins frequent) frequent below (first ∷ others)
   joins_are zero first others h = refl
   joins_are (suc rank) first others h =
       let set : List ℕ = first ∷ others in
@@ -92,8 +92,8 @@ module _ (baskets : List Weighted) (minimum : Minimum) where
       let kept = kept_more rank others in omega arith
     where
       at : (b : Bool) → frequent (rank ∷ first ∷ others) ≡ b
-          → (frequent (rank ∷ first ∷ others) ≡ true → joins rank (rank ∷ first ∷ others) ≡ length (kept_below frequent rank (first ∷ others)) + joins_below frequent rank (rank ∷ first ∷ others))
-          → joins rank (rank ∷ first ∷ others) ≡ cond b (length (kept_below frequent rank (first ∷ others)) + joins_below frequent rank (rank ∷ first ∷ others)) 0
+          → (frequent (rank ∷ first ∷ others) ≡ true → joins rank (rank ∷ first ∷ others) ≡ length (kept_below frequent rank (first ∷ others)) + work_below (set_joins frequent) frequent rank (rank ∷ first ∷ others))
+          → joins rank (rank ∷ first ∷ others) ≡ cond b (length (kept_below frequent rank (first ∷ others)) + work_below (set_joins frequent) frequent rank (rank ∷ first ∷ others)) 0
       at true e deeper = deeper e
       at false e deeper = none rank rank (first ∷ others) e
 
@@ -104,71 +104,9 @@ module _ (baskets : List Weighted) (minimum : Minimum) where
       let more = kept_more rank [] in
       let last = ap one_if (each rank (omega arith)) in omega arith
 
--- ---- the joins of a class in its conditional database
-
-module _ (law : ConditionalSupports) (all : List Weighted) (least rank : ℕ) (baskets : List Weighted) (same : (set : List ℕ) → support_of baskets set ≡ support_of (conditional least all rank) set)
-    (others : List Weighted) (minimum : Minimum) (tests : (set : List ℕ) → is_frequent all (Count least) set ≡ is_frequent others minimum set) where
-  -- a set is frequent there where it is frequent with the rank
-  same_test : (set : List ℕ) → ((item : ℕ) → Member item set → item < rank) → is_met baskets least set ≡ is_frequent others minimum (set ++ rank ∷ [])
-  same_test set lower =
-      ap (λ n. leb 1 n && leb least n) (same set ∙ law all least rank set)
-      ∙ at (list_all (is_kept all least rank) set) refl
-      ∙ tests (set ++ rank ∷ [])
-    where
-      frequent : Bool
-      frequent = is_frequent all (Count least) (set ++ rank ∷ [])
-
-      kept : is_frequent all (Count least) (set ++ rank ∷ []) ≡ true → list_all (is_kept all least rank) set ≡ true
-      kept h = all_of (is_kept all least rank) set (λ item m. and_from (ltb item rank) (is_frequent all (Count least) (item ∷ rank ∷ [])) (lt-ltb item rank (lower item m))
-          (subsets_are_frequent all (Count least) (set ++ rank ∷ []) (item ∷ rank ∷ []) (contains_each (set ++ rank ∷ []) (item ∷ rank ∷ []) (λ z n. pair item m z n)) h))
-        where
-          pair : (item : ℕ) → Member item set → (z : ℕ) → Member z (item ∷ rank ∷ []) → Member z (set ++ rank ∷ [])
-          pair item m z (inl e) = subst (λ y. Member y (set ++ rank ∷ [])) e (Member-append_left item set (rank ∷ []) m)
-          pair item m z (inr n) = Member-append_right z set (rank ∷ []) n
-
-      at : (b : Bool) → list_all (is_kept all least rank) set ≡ b
-          → (leb 1 (cond b (support_of all (set ++ rank ∷ [])) 0) && leb least (cond b (support_of all (set ++ rank ∷ [])) 0)) ≡ is_frequent all (Count least) (set ++ rank ∷ [])
-      at true e = refl
-      at false e = sym (rare (is_frequent all (Count least) (set ++ rank ∷ [])) refl)
-        where
-          rare : (b : Bool) → is_frequent all (Count least) (set ++ rank ∷ []) ≡ b → b ≡ false
-          rare true h = absurd (true≢false (sym (kept h) ∙ e))
-          rare false h = refl
-
-  with_lower : (first : ℕ) (set : List ℕ) → first < rank → ((item : ℕ) → Member item set → item < rank) → (item : ℕ) → Member item (first ∷ set) → item < rank
-  with_lower first set less lower item (inl e) = omega arith
-  with_lower first set less lower item (inr m) = lower item m
-
-  same_kept : (below : ℕ) → below ≤ rank → (set : List ℕ) → ((item : ℕ) → Member item set → item < rank)
-      → kept_below (is_met baskets least) below set ≡ kept_below (is_frequent others minimum) below (set ++ rank ∷ [])
-  same_kept zero within set lower = refl
-  same_kept (suc first) within set lower =
-      ap (λ l. l ++ cond (is_met baskets least (first ∷ set)) (first ∷ []) []) (same_kept first (omega arith) set lower)
-      ∙ ap (λ b. kept_below (is_frequent others minimum) first (set ++ rank ∷ []) ++ cond b (first ∷ []) []) (same_test (first ∷ set) (with_lower first set (omega arith) lower))
-
-  pub same_joins : (below : ℕ) → below ≤ rank → (set : List ℕ) → ((item : ℕ) → Member item set → item < rank)
-      → joins_below (is_met baskets least) below set ≡ joins_below (is_frequent others minimum) below (set ++ rank ∷ [])
-  same_joins zero within set lower = refl
-  same_joins (suc first) within set lower =
-      let one = same_joins first (omega arith) set lower in
-      let two = same_joins first (omega arith) (first ∷ set) (with_lower first set (omega arith) lower) in
-      let kept = ap length (same_kept first (omega arith) set lower) in
-      at (is_met baskets least (first ∷ set)) (is_frequent others minimum (first ∷ set ++ rank ∷ [])) (same_test (first ∷ set) (with_lower first set (omega arith) lower)) one two kept
-    where
-      at : (a b : Bool) → a ≡ b → joins_below (is_met baskets least) first set ≡ joins_below (is_frequent others minimum) first (set ++ rank ∷ [])
-          → joins_below (is_met baskets least) first (first ∷ set) ≡ joins_below (is_frequent others minimum) first (first ∷ set ++ rank ∷ [])
-          → length (kept_below (is_met baskets least) first set) ≡ length (kept_below (is_frequent others minimum) first (set ++ rank ∷ []))
-          → joins_below (is_met baskets least) first set + cond a (length (kept_below (is_met baskets least) first set) + joins_below (is_met baskets least) first (first ∷ set)) 0
-          ≡ joins_below (is_frequent others minimum) first (set ++ rank ∷ [])
-          + cond b (length (kept_below (is_frequent others minimum) first (set ++ rank ∷ [])) + joins_below (is_frequent others minimum) first (first ∷ set ++ rank ∷ [])) 0
-      at true true e one two kept = omega arith
-      at false false e one two kept = omega arith
-      at true false e one two kept = absurd (true≢false e)
-      at false true e one two kept = absurd (true≢false (sym e))
-
 -- the joins of a class: with each rank below, and those that the search makes
 pub class_joins_are : (coding : Coding) (rank : ℕ) → RanksAreFrequent coding → rank < length coding.items
-    → class_joins coding rank ≡ rank + joins_below (is_frequent coding.baskets coding.minimum) rank (rank ∷ [])
+    → class_joins coding rank ≡ rank + work_below (set_joins (is_frequent coding.baskets coding.minimum)) (is_frequent coding.baskets coding.minimum) rank (rank ∷ [])
 class_joins_are coding rank each here =
     let one = joins_are coding.baskets coding.minimum rank rank [] (each rank here) in
     let pairs = all_kept coding.baskets coding.minimum rank (λ r less. each r (omega arith)) in omega arith

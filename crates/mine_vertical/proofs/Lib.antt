@@ -1,10 +1,7 @@
 mod CoverLemmas
-mod WalkLemmas
-mod SearchLemmas
-mod NodeLemmas
-mod FoundLemmas
 mod SiblingLemmas
+mod RoomLemmas
+mod ExtensionLemmas
 mod ClassLemmas
 mod JoinLemmas
-mod RemadeLemmas
 mod PlacesLemmas

@@ -1,34 +1,25 @@
--- The siblings that a class begins with.
-use Rattle.std.proofs.Common.{◌≡◌, ℕ, zero, suc, ◌+◌, ◌<◌, ◌≤◌, Bool, true, false, ◌&&◌, List, [], ◌∷◌, ◌++◌, length, get_or, map, cond, leb, ltb, refl, sym, ap, ◌∙◌, subst, inl, inr, arith, zero-add}
-use Rattle.std.specs.Prelude.{All, nat_eq, sum}
-use Rattle.std.specs.List.{AllByRecursion, IsDistinct, filter, list_all, range_with_len, slice_range, sum_by}
-use Rattle.std.proofs.lemmas.Bool.{and_parts, cases_Bool, ltb-true}
-use Rattle.std.proofs.lemmas.List.{get_or-map, length-map}
-use Rattle.std.proofs.lemmas.List.Elements.{filter-append}
-use Rattle.std.proofs.lemmas.List.Sums.{sum-map, sum_by-cons}
+-- Siblings: those of the ranks of a database, and those that are joined.
+use Rattle.std.proofs.Common.{◌≡◌, ℕ, zero, suc, ◌+◌, ◌<◌, ◌≤◌, Bool, true, ◌&&◌, List, [], ◌∷◌, ◌++◌, length, get_or, take, map, cond, refl, sym, ap, ◌∙◌, subst, arith}
+use Rattle.std.specs.Prelude.{All, nat_eq, nat_le, sum}
+use Rattle.std.specs.List.{AllByRecursion, IsDistinct, filter, range_with_len}
+use Rattle.std.proofs.lemmas.Bool.{le-leb, lt-leb}
+use Rattle.std.proofs.lemmas.List.{append-nil, get_or-map, length-map, map-append, take_more}
+use Rattle.std.proofs.lemmas.List.Elements.{All-push, filter-append}
+use Rattle.std.proofs.lemmas.List.Sums.{sum-map}
 use Rattle.basket_ranks.specs.Codes.{IsCodedPlace, decoded, decoded_place}
 use Rattle.basket_ranks.proofs.theory.Coding.{into_decoded}
 use Rattle.basket_ranks.proofs.theory.Decoding.{rank_from_decoded}
 use Rattle.basket_sets.specs.declared.weighted.Weighted.{Weighted}
-use Rattle.basket_sets.specs.declared.minimum.Minimum.TheVariants.{Count}
 use Rattle.basket_sets.specs.Database.{HasWeight, weighted}
-use Rattle.basket_sets.specs.Frequent.{is_frequent}
 use Rattle.basket_sets.specs.Itemset.{AllBelow, IsRising, contains, has}
 use Rattle.basket_sets.specs.Support.{support_of, total_of}
-use Rattle.basket_sets.proofs.theory.Members.{Member}
 use Rattle.basket_sets.proofs.theory.Rising.{Member-from_has, has-from_Member, same_test}
-use Rattle.basket_sets.proofs.theory.Support.{at_least_one, support-cons}
-use Rattle.basket_sets.proofs.theory.Tests.{each_of}
-use Rattle.basket_sets.proofs.theory.Ranges.{Member-range, filter_members, range_more}
-use Rattle.mine_baskets.specs.declared.span.Span.{Span}
-use Rattle.mine_classes.specs.Conditional.{ConditionalSupports, conditional, is_kept}
-use Rattle.mine_baskets.specs.ListBaskets.{weight_where}
-use Rattle.mine_classes.specs.Pairs.{kept_ranks}
-use Rattle.mine_classes.specs.Runs.{below}
-use Rattle.mine_baskets.specs.Span.{baskets_at}
+use Rattle.basket_sets.proofs.theory.Ranges.{Member-range, filter_members}
 use Rattle.mine_baskets.specs.Covers.{basket_at, cover_of, weights_of}
-use Rattle.mine_vertical.specs.Search.{is_met}
-use Rattle.mine_vertical.specs.Walk.{kept_below}
+use Rattle.mine_rows.specs.Cover.{common}
+use Rattle.mine_vertical.specs.declared.joins.Sibling.{Sibling}
+use Rattle.mine_vertical.specs.Siblings.{AreKept, ArePair, IsSibling}
+use Rattle.mine_vertical.proofs.CoverLemmas.{common_cover}
 
 -- ---- baskets of places in a list of ranks, and of these ranks
 
@@ -78,53 +69,46 @@ weights_some baskets all k d here =
 pub weights_weigh : (baskets : List Weighted) → sum (weights_of baskets) ≡ total_of baskets
 weights_weigh baskets = sum-map (λ (p : Weighted). p.weight) baskets
 
-spans_weigh : (ranks : List ℕ) (spans : List Span) → weight_where (λ basket. true) (baskets_at ranks spans) ≡ sum_by (λ (s : Span). s.weight) spans
-spans_weigh ranks [] = refl
-spans_weigh ranks (s ∷ spans) =
-    sum_by-cons (λ (p : Weighted). p.weight) (weighted (slice_range ranks s.start s.end) s.weight) (baskets_at ranks spans)
-    ∙ ap (λ n. s.weight + n) (spans_weigh ranks spans) ∙ sym (sum_by-cons (λ (x : Span). x.weight) s spans)
+-- ---- siblings that are joined
 
--- ---- the support of a rank
+module _ {R : Type 0} (stands : List ℕ → List ℕ → List ℕ → R → Type 0) (weights : List ℕ) (baskets : List Weighted) (set : List ℕ) where
+  -- a row that is made of two siblings' rows
+  pub joined_stands : (sibling other : Sibling R) (row : R) → ArePair stands weights sibling other baskets set
+      → ((parent first second : List ℕ) → stands weights parent first sibling.row → stands weights parent second other.row → stands weights first (common first second) row)
+      → stands (weights_of baskets) (cover_of baskets (sibling.rank ∷ set)) (cover_of baskets (other.rank ∷ sibling.rank ∷ set)) row
+  joined_stands sibling other row pair made =
+      let parent = cover_of baskets set in
+      let first = cover_of baskets (sibling.rank ∷ set) in
+      let second = cover_of baskets (other.rank ∷ set) in
+      subst (λ cover. stands (weights_of baskets) first cover row) (common_cover baskets set sibling.rank other.rank)
+      (subst (λ w. stands w first (common first second) row) pair.weighs
+      (made parent first second (subst (λ w. stands w parent first sibling.row) (sym pair.weighs) pair.first_is) (subst (λ w. stands w parent second other.row) (sym pair.weighs) pair.second_is)))
 
-below_weighs : (rank : ℕ) (baskets : List Weighted) → weight_where (λ basket. true) (below rank baskets) ≡ support_of baskets (rank ∷ [])
-below_weighs rank [] = refl
-below_weighs rank (place ∷ places) = at (below_weighs rank places) (has place.basket rank) ∙ sym (support-cons place places (rank ∷ []))
-  where
-    lows : List ℕ
-    lows = filter (λ other. ltb other rank) place.basket
+module _ {R : Type 0} (stands : List ℕ → List ℕ → List ℕ → R → Type 0) (least rank : ℕ) (others below : List (Sibling R)) (baskets : List Weighted) (set : List ℕ) (i : ℕ) (other : Sibling R)
+    (here : i < length others) (at : other ≡ get_or others i other) (before : AreKept stands least rank (take i others) below baskets set) where
+  abbrev test : ℕ → Bool
+  test other = nat_le least (support_of baskets (other ∷ rank ∷ set))
 
-    at : weight_where (λ basket. true) (below rank places) ≡ support_of places (rank ∷ []) → (h : Bool) → weight_where (λ basket. true) (cond h (weighted lows place.weight ∷ []) [] ++ below rank places) ≡ cond (h && true) place.weight 0 + support_of places (rank ∷ [])
-    at rest true = sum_by-cons (λ (p : Weighted). p.weight) (weighted lows place.weight) (below rank places) ∙ ap (λ n. place.weight + n) rest
-    at rest false = rest ∙ sym (zero-add (support_of places (rank ∷ [])))
+  abbrev ranks : List (Sibling R) → List ℕ
+  ranks siblings = map (λ (o : Sibling R). o.rank) siblings
 
--- ---- the ranks that are kept
+  more : filter test (ranks (take (i + 1) others)) ≡ filter test (ranks (take i others)) ++ cond (test other.rank) (other.rank ∷ []) []
+  more =
+      ap (λ l. filter test (ranks l)) (take_more others i other here ∙ ap (λ o. take i others ++ o ∷ []) (sym at))
+      ∙ ap (filter test) (map-append (λ (o : Sibling R). o.rank) (take i others) (other ∷ [])) ∙ filter-append test (ranks (take i others)) (other.rank ∷ [])
 
-kept_is_filter : (test : List ℕ → Bool) (n : ℕ) → kept_below test n [] ≡ filter (λ x. test (x ∷ [])) (range_with_len 0 n)
-kept_is_filter test zero = refl
-kept_is_filter test (suc n) =
-    ap (λ l. l ++ cond (test (n ∷ [])) (n ∷ []) []) (kept_is_filter test n)
-    ∙ sym (ap (filter (λ x. test (x ∷ []))) (range_more 0 n ∙ ap (λ k. range_with_len 0 n ++ k ∷ []) (zero-add n)) ∙ filter-append (λ x. test (x ∷ [])) (range_with_len 0 n) (n ∷ []))
+  -- one more sibling is kept or not
+  pub kept_more : (both : Sibling R) → both.rank ≡ other.rank → IsSibling stands baskets (rank ∷ set) both → least ≤ support_of baskets (other.rank ∷ rank ∷ set)
+      → AreKept stands least rank (take (i + 1) others) (below ++ both ∷ []) baskets set
+  kept_more both same is enough = record {
+    ranks = map-append (λ (o : Sibling R). o.rank) below (both ∷ []) ∙ ap (λ l. l ++ both.rank ∷ []) before.ranks ∙ ap (λ r. filter test (ranks (take i others)) ++ r ∷ []) same
+        ∙ sym (more ∙ ap (λ b. filter test (ranks (take i others)) ++ cond b (other.rank ∷ []) []) (le-leb least (support_of baskets (other.rank ∷ rank ∷ set)) enough));
+    rows = All-push (IsSibling stands baskets (rank ∷ set)) below both before.rows is;
+  }
 
-module _ (law : ConditionalSupports) (all : List Weighted) (least rank : ℕ) (baskets : List Weighted) (same : (set : List ℕ) → support_of baskets set ≡ support_of (conditional least all rank) set) where
-  kept_support : (set : List ℕ) → support_of baskets set ≡ cond (list_all (is_kept all least rank) set) (support_of all (set ++ rank ∷ [])) 0
-  kept_support set = same set ∙ law all least rank set
-
-  kept_test : (x : ℕ) → is_met baskets least (x ∷ []) ≡ is_kept all least rank x
-  kept_test x = ap (λ n. leb 1 n && leb least n) (kept_support (x ∷ [])) ∙ at (is_kept all least rank x) refl
-    where
-      at : (b : Bool) → is_kept all least rank x ≡ b → (leb 1 (cond (b && true) (support_of all (x ∷ rank ∷ [])) 0) && leb least (cond (b && true) (support_of all (x ∷ rank ∷ [])) 0)) ≡ b
-      at true h = (and_parts (ltb x rank) (is_frequent all (Count least) (x ∷ rank ∷ [])) h).1
-      at false h = refl
-
-  pub kept_is : kept_ranks all least rank ≡ kept_below (is_met baskets least) rank []
-  kept_is = sym (kept_is_filter (is_met baskets least) rank
-      ∙ filter_members (λ x. is_met baskets least (x ∷ [])) (is_kept all least rank) (range_with_len 0 rank) (λ x m. kept_test x))
-
-  -- the frequent sets have only ranks below
-  pub lower : (set : List ℕ) (item : ℕ) → is_met baskets least set ≡ true → Member item set → item < rank
-  lower set item h m = elim (cases_Bool (list_all (is_kept all least rank) set)) [
-    | inl e ↦ ltb-true item rank (and_parts (ltb item rank) (is_frequent all (Count least) (item ∷ rank ∷ [])) (each_of (is_kept all least rank) set e item m)).0
-    | inr e ↦
-        (let none = kept_support set ∙ ap (λ b. cond b (support_of all (set ++ rank ∷ [])) 0) e in
-        let some = at_least_one (Count least) (support_of baskets set) (total_of baskets) h in absurd (omega arith))
-  ]
+  pub dropped_more : support_of baskets (other.rank ∷ rank ∷ set) < least → AreKept stands least rank (take (i + 1) others) below baskets set
+  dropped_more rare = record {
+    ranks = before.ranks
+        ∙ sym (more ∙ ap (λ b. filter test (ranks (take i others)) ++ cond b (other.rank ∷ []) []) (lt-leb least (support_of baskets (other.rank ∷ rank ∷ set)) rare) ∙ append-nil (filter test (ranks (take i others))));
+    rows = before.rows;
+  }

@@ -7,7 +7,7 @@ use Rattle.basket_sets.specs.declared.weighted.Weighted.{Weighted}
 use Rattle.basket_sets.specs.declared.minimum.Minimum.{Minimum}
 use Rattle.basket_sets.specs.Frequent.{IsNonemptySet, is_frequent}
 use Rattle.basket_sets.specs.Itemset.{AllBelow}
-use Rattle.mine_vertical.specs.Walk.{sets_below}
+use Rattle.mine_search.specs.Walk.{sets_below}
 
 -- whether a set is that of a join: it has two or more ranks, and both without its least rank and without its second least one it is frequent
 abbrev pub is_join : List Weighted → Minimum → List ℕ → Bool

@@ -1,6 +1,5 @@
-pub mod Walk
-pub mod Search
 pub mod Vertical
 pub mod Siblings
+pub mod Projected
 pub mod Joins
 pub mod Remade

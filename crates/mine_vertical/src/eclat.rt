@@ -4,19 +4,17 @@ ghost use Rattle.basket_core.specs.declared.fault.MineFault.TheVariants.{TooMany
 ghost use Rattle.mine_vertical.specs.Joins.{class_joins};
 ghost use Rattle.mine_classes.specs.Mined.{ListsClassItems, MOST_SET_WORK, RanksAreFrequent, class_size};
 
-use crate::mined::Mined;
+use crate::joins::Joins;
 use crate::room::Room;
-use crate::search::{Progress, Search};
-use crate::siblings::class_siblings;
+use crate::siblings::{Siblings, class_siblings};
 use crate::vertical::Vertical;
-use basket_core::{CountedSets, Itemset, MineFault, Tally};
+use basket_core::{CountedSets, MineFault, Tally};
 use mine_classes::Tables;
-use mine_classes::laws::{
-    classes_are_conditional, conditional_supports, lists_have_class_size, rare_ranks_have_no_class,
-    supports_settle_frequent,
-};
+use mine_classes::laws::{conditional_supports, rare_ranks_have_no_class};
 use mine_rows::Row;
+use mine_search::Class;
 use std::alloc::Global;
+use std::rc::Rc;
 
 /// The frequent sets of a class, those whose greatest rank is the rank, as items, and how many
 /// joins were made for them (Zaki 2000). Each set is reported to the tally once it is known to be
@@ -68,32 +66,33 @@ pub fn eclat_class_with<R: Row, T: Tally>(
     ensures sums { tables.new.sums ≡ tables.old.sums }
     ensures places { tables.new.places ≡ tables.old.places }
 {
-    lists_have_class_size();
     conditional_supports();
-    supports_settle_frequent();
-    classes_are_conditional();
     rare_ranks_have_no_class();
     let coded = vertical.coded();
-    let mut mined = Mined::new(alloc, coded.items(), coded.total())?;
     let least = vertical.least();
     let runs = vertical.runs();
     let support = runs.support(rank);
     if support < least {
-        return Ok((mined.sets, 0));
+        let none = CountedSets::new(alloc, coded.items(), coded.total())?;
+        return Ok((none, 0));
     }
-    let set = Itemset::from_items(alloc, &[coded.item(rank)])?;
-    mined.add(set, support, tally)?;
-    let joins = &mut mined.joins;
-    let (weights, siblings) = class_siblings::<R>(alloc, runs, tables, joins, rank, least)?;
-    let search = Search {
-        alloc,
+    let mut joins = Joins::none();
+    let (weights, siblings) = class_siblings::<R>(alloc, runs, tables, &mut joins, rank, least)?;
+    let mut room = Room::new(alloc);
+    room.add_marks(alloc, 0, &weights)?;
+    let below = Siblings {
         coded,
-        weights: &weights,
         least,
+        weights: Rc::new(alloc, weights)?,
+        marks: 0,
+        kept: siblings.len(),
+        list: siblings,
     };
-    let room = Room::new(alloc, &weights)?;
-    let mut progress = Progress { mined, room };
-    search.extend(&siblings, 0, &mut progress, tally)?;
-    let joins = progress.mined.joins.number();
-    Ok((progress.mined.sets, joins))
+    let class = Class {
+        rank,
+        support,
+        below: Some(below),
+        work: joins.number(),
+    };
+    class.list(alloc, coded, &mut room, tally)
 }

@@ -6,7 +6,7 @@ ghost use Rattle.basket_sets.specs.Support.{support_of};
 ghost use Rattle.mine_classes.specs.Pairs.{pairs_of};
 ghost use Rattle.mine_baskets.specs.Covers.{cover_of, weights_of};
 ghost use Rattle.mine_rows.specs.Cover.{IsAdded, all_places};
-ghost use Rattle.mine_vertical.specs.Search.{ArePair, IsSibling};
+ghost use Rattle.mine_vertical.specs.Siblings.{ArePair, IsSibling};
 
 use mine_classes::{Runs, Sums};
 use mine_rows::{Marks, Row, Weights};

@@ -1,15 +1,14 @@
-//! Eclat (Zaki 2000): a class is mined alone, depth first, over the places of its conditional
-//! database. A row represents the places whose baskets contain a set; `remade` makes the database
-//! of a set anew if that is smaller.
+//! Eclat (Zaki 2000): a class is mined alone, by the search of `mine_search`, over the places of its
+//! conditional database. A row represents the places whose baskets contain a set; `remade` makes the
+//! database of a set anew if that is smaller.
 #![tactic(auto)]
 
 mod eclat;
 mod joins;
 pub mod laws;
-mod mined;
+mod projected;
 mod remade;
 mod room;
-mod search;
 mod siblings;
 mod vertical;
 pub mod worked;

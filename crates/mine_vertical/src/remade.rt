@@ -9,8 +9,7 @@ ghost use Rattle.mine_baskets.specs.declared.words.Word.{Word as Bits};
 ghost use Rattle.mine_baskets.specs.Words.{word_places};
 ghost use Rattle.mine_baskets.specs.Covers.{weights_of};
 ghost use Rattle.mine_vertical.specs.Remade.{AreBitsOf, GiveSupports, HaveSameNonempty, bit_places};
-ghost use Rattle.mine_vertical.specs.Search.{IsSibling};
-ghost use Rattle.mine_vertical.specs.Siblings.{AreOver};
+ghost use Rattle.mine_vertical.specs.Siblings.{AreOver, AreSiblings, IsSibling};
 
 use crate::joins::Sibling;
 use crate::siblings::siblings_of;
@@ -78,9 +77,9 @@ pub fn remade<R: Row>(
     is_large: bool,
 ) -> Result<Option<(Weights, Vec<Sibling<R>>)>, AllocError>
     requires rises { IsRising (map (λ sibling. sibling.rank) siblings.now) }
-    requires rows { (baskets : List Basket) × (set : List ℕ) × (weights.now ≡ weights_of baskets) × All (IsSibling R.stands baskets set) siblings.now }
+    requires rows { (baskets : List Basket) × (set : List ℕ) × AreSiblings R.stands weights.now siblings.now baskets set }
     ensures { IfOk result (λ found. IfSome found (λ made. (others : List Basket) × AreOver R.stands (map (λ sibling. sibling.rank) siblings.now) made.0 made.1.items others
-        × ((baskets : List Basket) (set : List ℕ) → weights.now ≡ weights_of baskets → All (IsSibling R.stands baskets set) siblings.now → GiveSupports baskets set (map (λ sibling. sibling.rank) siblings.now) others))) }
+        × ((baskets : List Basket) (set : List ℕ) → AreSiblings R.stands weights.now siblings.now baskets set → GiveSupports baskets set (map (λ sibling. sibling.rank) siblings.now) others))) }
 {
     if !is_large || siblings.len() > WORD_RANKS {
         return Ok(None);

@@ -1,26 +1,43 @@
 //! Room that a class uses again from join to join.
-ghost use Rattle.std.specs.Prelude.{◌≡◌, IfOk};
+ghost use Rattle.std.specs.Prelude.{◌≡◌, ◌≤◌, ◌<◌, ◌++◌, [], ◌∷◌, IfOk, OnOk, length, take};
 
 use crate::joins::Sibling;
 use mine_rows::{Marks, Row, Weights};
 use std::alloc::{AllocError, Global};
 
-/// A table to mark places in, and lists of siblings that are not needed any more.
+/// Tables to mark places in, one for each database that the search is within, and lists of siblings
+/// that are not needed any more.
 #[derive(Drop)]
 pub struct Room<R> {
-    pub marks: Marks,
+    pub marks: Vec<Marks>,
     pub lists: Vec<Vec<Sibling<R>>>,
 }
 
 impl<R: Row> Room<R> {
-    /// Marks of the weights, and no lists.
-    pub fn new(alloc: Global, weights: &Weights) -> Result<Self, AllocError>
-        ensures { IfOk result (λ room. R.at_rest weights.now room.marks) }
+    /// No marks and no lists.
+    pub fn new(alloc: Global) -> Self
+        ensures { result.marks.items ≡ [] }
     {
-        Ok(Room {
-            marks: R::new_marks(alloc, weights)?,
+        Room {
+            marks: Vec::new(alloc),
             lists: Vec::new(alloc),
-        })
+        }
+    }
+
+    /// Marks over the weights of a database, beside those of so many databases that it lies within.
+    pub fn add_marks(
+        &mut self,
+        alloc: Global,
+        outer: usize,
+        weights: &Weights,
+    ) -> Result<(), AllocError>
+        requires { outer ≤ length self.old.marks.items }
+        ensures { OnOk result ((marks : Marks) × R.at_rest weights.now marks × (self.new.marks.items ≡ take outer self.old.marks.items ++ marks ∷ [])) }
+    {
+        let marks = R::new_marks(alloc, weights)?;
+        self.marks.truncate(outer);
+        self.marks.push(marks)?;
+        Ok(())
     }
 
     /// A list whose siblings may be written over.
@@ -39,4 +56,20 @@ impl<R: Row> Room<R> {
     {
         let _ = self.lists.push(list);
     }
+}
+
+/// Makes sure that a list has a sibling at a place.
+pub fn make_place<R: Row>(
+    alloc: Global,
+    list: &mut Vec<Sibling<R>>,
+    place: usize,
+) -> Result<(), AllocError>
+    requires { place ≤ length list.old.items }
+    ensures within { OnOk result (place < length list.new.items) }
+    ensures before { OnOk result (take place list.new.items ≡ take place list.old.items) }
+{
+    if place == list.len() {
+        list.push(Sibling::empty(alloc))?;
+    }
+    Ok(())
 }

@@ -1,4 +1,4 @@
-//! The siblings that a class begins with: the ranks that are frequent together with its rank.
+//! Siblings: the extensions of a set. A class begins with those of its rank.
 ghost use Rattle.std.specs.Prelude.{◌≡◌, ◌≤◌, ◌<◌, ◌+◌, List, All, IfOk, OnOk, length, map};
 ghost use Rattle.basket_ranks.specs.Codes.{IsCoding, decoded_place};
 ghost use Rattle.basket_sets.specs.declared.minimum.Minimum.TheVariants.{Count};
@@ -12,10 +12,25 @@ ghost use Rattle.mine_classes.specs.Paths.{IsConditional};
 ghost use Rattle.mine_vertical.specs.Siblings.{AreClassSiblings, AreOver};
 
 use crate::joins::{Joins, Sibling};
-use mine_classes::laws::conditional_supports;
+use basket_core::Coded;
 use mine_classes::{Conditional, Places, Runs, Tables, ranks_of};
 use mine_rows::{Row, Weights};
 use std::alloc::{AllocError, Global};
+use std::rc::Rc;
+
+/// The ranks that extend a set and stay frequent: the first siblings of a list, over weights. The
+/// others of the list may be written over.
+#[derive(Drop)]
+pub struct Siblings<'a, R> {
+    pub coded: &'a Coded,
+    pub least: u64,
+    pub weights: Rc<Weights>,
+    /// Which marks of the room are over the weights.
+    pub marks: usize,
+    pub list: Vec<Sibling<R>>,
+    pub kept: usize,
+    ghost within: { kept ≤ length list.items },
+}
 
 /// The conditional database of a rank with these pairs, its baskets merged: each gets a place in the covers.
 fn conditional_of(
@@ -96,7 +111,6 @@ pub fn class_siblings<R: Row>(
     ensures sums { tables.new.sums ≡ tables.old.sums }
     ensures places { tables.new.places ≡ tables.old.places }
 {
-    conditional_supports();
     let pairs = joins.pairs(alloc, runs, &mut tables.sums, rank, least)?;
     let kept = ranks_of(alloc, &pairs)?;
     let places = &mut tables.places;

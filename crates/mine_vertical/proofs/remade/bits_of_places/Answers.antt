@@ -1,12 +1,11 @@
 use Rattle.std.proofs.Common.{◌≡◌, ℕ, ◌-◌, ◌^◌, ◌<◌, ◌≤◌, ◌∷◌, ◌++◌, List, false, take, drop, get_or, length, map, subst, ap, sym, arith, ◌∙◌}
 use Rattle.std.specs.Prelude.{All}
-use Rattle.std.proofs.lemmas.List.{get_or-map, length-replicate, take_at}
+use Rattle.std.proofs.lemmas.List.{get_or-map, length-map, length-replicate, take_at}
 use Rattle.basket_sets.specs.declared.weighted.Weighted.{Weighted}
 use Rattle.mine_baskets.specs.Words.{has_rank}
 use Rattle.mine_baskets.specs.Covers.{cover_of, weights_of}
 use Rattle.mine_rows.specs.Cover.{IsAdded}
-use Rattle.mine_vertical.specs.Search.{IsSibling}
-use Rattle.mine_vertical.proofs.NodeLemmas.{as_many}
+use Rattle.mine_vertical.specs.Siblings.{IsSibling}
 use Rattle.mine_vertical.proofs.PlacesLemmas.{bits_clear, bits_more, none_yet}
 use Rattle.mine_vertical.proofs.remade.bits_of_places.Goals as goal
 
@@ -61,7 +60,7 @@ loop-at-preserved g c =
 
 pub returns : goal.returns
 returns g c = λ baskets set long all.
-    let many = as_many c.args.siblings.now in
+    let many = length-map c.args.siblings.now (λ s. s.rank) in
     let last = c.loop-at-test.false in
     record {
       long = c.loop-at.invariant.long ∙ sym long;

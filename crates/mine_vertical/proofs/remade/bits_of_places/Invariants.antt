@@ -4,7 +4,7 @@ use Rattle.basket_sets.specs.declared.weighted.Weighted.{Weighted}
 use Rattle.basket_sets.specs.Itemset.{has}
 use Rattle.mine_baskets.specs.Words.{has_rank}
 use Rattle.mine_baskets.specs.Covers.{cover_of, weights_of}
-use Rattle.mine_vertical.specs.Search.{IsSibling}
+use Rattle.mine_vertical.specs.Siblings.{IsSibling}
 use Rattle.mine_vertical.proofs.remade.bits_of_places.Given as goal
 
 abbrev pub invariant-loop-at : goal.invariant-loop-at

@@ -14,11 +14,14 @@ use Rattle.mine_vertical.specs.Siblings.{AreOver}
 use Rattle.mine_vertical.proofs.PlacesLemmas.{nothing_in, supports_are}
 use Rattle.mine_vertical.proofs.remade.remade.Goals as goal
 
+pub bits_of_places-requires-clause-rows : goal.bits_of_places-requires-clause-rows
+bits_of_places-requires-clause-rows g c = let (baskets, set, are) = c.requires.rows in (baskets, set, sym (ap length are.weighs) ∙ sym c.places.ensures, are.rows)
+
 pub words_of_places-requires : goal.words_of_places-requires
 words_of_places-requires g c =
-    let (baskets, set, weigh, all) = c.requires.rows in
+    let (baskets, set, are) = c.requires.rows in
     let made = rw c.in-Some.is at c.in_ok-bits.ensures in
-    ap length c.deref.ensures.value ∙ (made baskets set (sym (ap length weigh) ∙ sym c.places.ensures) all).long ∙ sym (ap length weigh)
+    ap length c.deref.ensures.value ∙ (made baskets set (sym (ap length are.weighs) ∙ sym c.places.ensures) are.rows).long ∙ sym (ap length are.weighs)
 
 pub siblings_of-requires-clause-coding : goal.siblings_of-requires-clause-coding
 siblings_of-requires-clause-coding g c =
@@ -41,14 +44,14 @@ returns g c =
     let kept_are : kept ≡ ranks = c.deref-2.ensures.value ∙ c.in_ok-kept.ensures in (
       others,
       subst (λ k. AreOver g.R.Row.stands k c.in_ok-siblings_of.field-0.0 c.in_ok-siblings_of.field-0.1.items others) kept_are c.in_ok-siblings_of.ensures,
-      λ baskets set weigh all more some.
+      λ baskets set given more some.
           let test : List ℕ → Bool = λ basket. contains (decoded kept basket) more in
           let is = subst (λ k. AreBitsOf baskets set k bits) (sym kept_are)
-          (subst (λ b. AreBitsOf baskets set ranks b) (sym c.deref.ensures.value) (made baskets set (sym (ap length weigh) ∙ sym c.places.ensures) all)) in
+          (subst (λ b. AreBitsOf baskets set ranks b) (sym c.deref.ensures.value) (made baskets set (sym (ap length given.weighs) ∙ sym c.places.ensures) given.rows)) in
           changed_weight (λ basket. contains basket more) (decoded kept) merged ∙ sym (c.in_ok-merged.ensures.weights test)
           ∙ ap (λ n. weight_where test (word_places n c.in_ok-words.words.items)) count
           ∙ sym (c.in_ok-words.ensures.weights (length kept) test (nothing_in kept more some))
-          ∙ ap (λ w. weight_where test (bit_places (length kept) bits w)) weigh
+          ∙ ap (λ w. weight_where test (bit_places (length kept) bits w)) given.weighs
           ∙ supports_are baskets set kept bits is more some
           ∙ ap (λ k. cond (list_all (has k) more) (support_of baskets (more ++ set)) 0) kept_are,
     )

@@ -8,7 +8,7 @@ use Rattle.basket_sets.specs.Support.{support_of}
 use Rattle.mine_classes.specs.Conditional.{conditional, conditional_baskets}
 use Rattle.mine_classes.specs.Pairs.{kept_ranks, pairs_of}
 use Rattle.mine_classes.proofs.theory.Kept.{conditional_coding, pair_ranks}
-use Rattle.mine_vertical.proofs.SiblingLemmas.{kept_is}
+use Rattle.mine_vertical.specs.Siblings.{AreOver}
 use Rattle.mine_vertical.proofs.siblings.class_siblings.Goals as goal
 
 -- the ranks that are kept
@@ -37,8 +37,4 @@ returns-clause-siblings g c =
     let decoded : List Weighted = map (decoded_place kept) baskets in
     let same : (set : List ℕ) → support_of decoded set ≡ support_of (conditional c.args.least all c.args.rank) set =
     λ set. ap (λ k. support_of (map (decoded_place k) baskets) set) is ∙ sym (c.in_ok-conditional.ensures.merged.weights (λ basket. contains basket set)) in
-    let ranks = is ∙ kept_is c.conditional_supports.ensures all c.args.least c.args.rank decoded same in
-    IfOk-weaker c.siblings_of.result _ _ (λ made are. (
-      decoded,
-      record { same = same; weighs = are.weighs; ranks = are.ranks_are ∙ ranks; rows = are.rows },
-    )) c.siblings_of.ensures
+    IfOk-weaker c.siblings_of.result _ _ (λ made are. (decoded, record { same = same; over = subst (λ k. AreOver g.R.Row.stands k made.0 made.1.items decoded) is are })) c.siblings_of.ensures

@@ -8,7 +8,7 @@ use Rattle.basket_ranks.specs.Codes.{IsCodedPlace, decoded_place}
 use Rattle.mine_baskets.specs.Covers.{cover_of, weights_of}
 use Rattle.mine_classes.specs.Conditional.{conditional_baskets}
 use Rattle.mine_rows.specs.Cover.{IsCover, all_places}
-use Rattle.mine_vertical.specs.Search.{IsSibling}
+use Rattle.mine_vertical.specs.Siblings.{IsSibling}
 use Rattle.mine_vertical.proofs.CoverLemmas.{cover_covers, cover_of_none}
 use Rattle.mine_vertical.proofs.SiblingLemmas.{decoded_cover, decoded_weights}
 use Rattle.mine_vertical.proofs.siblings.siblings_of.Goals as goal

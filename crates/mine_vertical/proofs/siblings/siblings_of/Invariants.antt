@@ -2,7 +2,7 @@ use Rattle.std.proofs.Common.{◌≡◌, [], map, take}
 use Rattle.std.specs.Prelude.{All}
 use Rattle.basket_ranks.specs.Codes.{decoded_place}
 use Rattle.mine_classes.specs.Conditional.{conditional_baskets}
-use Rattle.mine_vertical.specs.Search.{IsSibling}
+use Rattle.mine_vertical.specs.Siblings.{IsSibling}
 use Rattle.mine_vertical.proofs.siblings.siblings_of.Given as goal
 
 abbrev pub invariant-loop-place : goal.invariant-loop-place

@@ -1,0 +1,54 @@
+-- What a room keeps.
+use Rattle.std.proofs.Common.{◌≡◌, ℕ, ◌+◌, ◌<◌, List, [], ◌∷◌, ◌++◌, length, get_or, set, take, sym, ap, ◌∙◌, subst, arith, length-append}
+use Rattle.std.specs.declared.alloc.Global.{Global}
+use Rattle.std.specs.declared.vec.Vec.{Vec}
+use Rattle.std.specs.List.{HoldsAt}
+use Rattle.std.proofs.lemmas.List.{get_or-set_other, get_or-set_same, get_or-take, get_or_append_left, length-set, length-take-le}
+use Rattle.std.proofs.Math.Seq.{get_or-append_seam}
+use Rattle.mine_rows.specs.declared.marks.Marks.{Marks}
+use Rattle.mine_vertical.specs.declared.siblings.Siblings.{Siblings}
+use Rattle.mine_vertical.specs.declared.room.Room.{Room}
+use Rattle.mine_vertical.specs.Projected.{AreAtRest, Keeps, Serves}
+
+pub keeps_same : {R : Type 0} (at_rest : List ℕ → Marks → Type 0) (base : Siblings R) (before after : Room R) → after.marks ≡ before.marks → Keeps at_rest base before after
+keeps_same at_rest base before after same = record {
+  outer = λ place weights low held. subst (λ (m : Vec Marks Global). (place < length m.items) × HoldsAt (at_rest weights) m.items place) (sym same) held;
+  own = λ held. subst (λ (m : Vec Marks Global). (base.marks < length m.items) × HoldsAt (at_rest base.weights.value) m.items base.marks) (sym same) held;
+}
+
+pub keeps_both : {R : Type 0} {at_rest : List ℕ → Marks → Type 0} {base : Siblings R} {first second third : Room R} → Keeps at_rest base first second → Keeps at_rest base second third → Keeps at_rest base first third
+keeps_both one two = record { outer = λ place weights low held. two.outer place weights low (one.outer place weights low held); own = λ held. two.own (one.own held) }
+
+module _ {R : Type 0} (at_rest : List ℕ → Marks → Type 0) (base : Siblings R) (before after : Room R) (serves : Serves at_rest before base) where
+  -- its own marks are changed
+  pub keeps_own : (marks : Marks) → at_rest base.weights.value marks → after.marks.items ≡ set before.marks.items base.marks marks → Keeps at_rest base before after
+  keeps_own marks rests are = record {
+    outer = λ place weights low held. (omega (arith, held.0, long), λ d. subst (at_rest weights) (sym (ap (λ l. get_or l place d) are ∙ get_or-set_other before.marks.items base.marks place marks d (omega arith))) (held.1 d));
+    own = λ held. (omega (arith, held.0, long), λ d. subst (at_rest base.weights.value) (sym (ap (λ l. get_or l base.marks d) are ∙ get_or-set_same before.marks.items base.marks marks d held.0)) rests);
+  }
+    where
+      long : length after.marks.items ≡ length before.marks.items
+      long = ap length are ∙ length-set before.marks.items base.marks marks
+
+  -- marks are added beside its own
+  module _ (marks : Marks) (are : after.marks.items ≡ take (base.marks + 1) before.marks.items ++ marks ∷ []) where
+    front : length (take (base.marks + 1) before.marks.items) ≡ base.marks + 1
+    front = length-take-le (base.marks + 1) before.marks.items (omega (arith, serves.0))
+
+    long : length after.marks.items ≡ base.marks + 2
+    long = omega (arith, ap length are, length-append (take (base.marks + 1) before.marks.items) (marks ∷ []), front)
+
+    same : (place : ℕ) (d : Marks) → place < base.marks + 1 → get_or after.marks.items place d ≡ get_or before.marks.items place d
+    same place d low = ap (λ l. get_or l place d) are ∙ get_or_append_left (take (base.marks + 1) before.marks.items) (marks ∷ []) d place (omega (arith, low, front)) ∙ get_or-take (base.marks + 1) before.marks.items place d low
+
+    pub keeps_beside : Keeps at_rest base before after
+    keeps_beside = record {
+      outer = λ place weights low held. (omega (arith, low, long), λ d. subst (at_rest weights) (sym (same place d (omega (arith, low)))) (held.1 d));
+      own = λ held. (omega (arith, long), λ d. subst (at_rest base.weights.value) (sym (same base.marks d (omega arith))) (held.1 d));
+    }
+
+    pub serves_inner : (weights : List ℕ) → at_rest weights marks → AreAtRest at_rest after (base.marks + 1) weights
+    serves_inner weights rests = (
+      omega (arith, long),
+      λ d. subst (at_rest weights) (sym (ap (λ l. get_or l (base.marks + 1) d) are ∙ ap (λ n. get_or (take (base.marks + 1) before.marks.items ++ marks ∷ []) n d) (sym front) ∙ get_or-append_seam (take (base.marks + 1) before.marks.items) marks [] d)) rests,
+    )

@@ -1,0 +1,87 @@
+use Rattle.std.proofs.Common.{set, take, subst, sym, ap, refl, arith}
+use Rattle.mine_vertical.specs.Projected.{AreAtRest}
+use Rattle.mine_vertical.proofs.ExtensionLemmas.{anew_is, below_is, few, none_below, rises, still, work_is}
+use Rattle.mine_vertical.proofs.RoomLemmas.{keeps_both, keeps_own, keeps_same}
+use Rattle.mine_vertical.proofs.projected.SiblingsProjected.narrowed.Goals as goal
+
+pub overflow_add-work : goal.overflow_add-work
+overflow_add-work g c =
+    let (node, (baskets, set, is)) = c.requires.given in
+    omega (arith, c.number.ensures, c.in_ok-kept.ensures.joins, c.none-joins.ensures, few is c.args.at c.requires.inside, c.requires.few)
+
+pub returns-then-kept-eq0-clause-none : goal.returns-then-kept-eq0-clause-none
+returns-then-kept-eq0-clause-none g c = λ node (baskets, set, is).
+    none_below is c.args.at c.requires.inside (c.in_ok-kept.ensures.kept baskets set is.siblings) (ap (λ n. take n c.joined.new.list.items) c.if-kept-eq0.true)
+
+pub returns-then-kept-eq0-clause-work : goal.returns-then-kept-eq0-clause-work
+returns-then-kept-eq0-clause-work g c = λ node (baskets, set, is).
+    omega (arith, c.number.ensures, c.in_ok-kept.ensures.joins, c.none-joins.ensures, work_is is c.args.at c.requires.inside)
+
+pub returns-then-kept-eq0-clause-little : goal.returns-then-kept-eq0-clause-little
+returns-then-kept-eq0-clause-little g c =
+    let (node, (baskets, set, is)) = c.requires.given in
+    omega (arith, c.number.ensures, c.in_ok-kept.ensures.joins, c.none-joins.ensures, few is c.args.at c.requires.inside)
+
+pub made_anew-requires-clause-rises : goal.made_anew-requires-clause-rises
+made_anew-requires-clause-rises g c =
+    let (node, (baskets, set, is)) = c.requires.given in
+    rises is c.args.at c.requires.inside (c.in_ok-kept.ensures.kept baskets set is.siblings) (take c.in_ok-kept.kept c.deref-2.result.now) (ap (take c.in_ok-kept.kept) c.deref-2.ensures.value)
+
+pub made_anew-requires-clause-rows : goal.made_anew-requires-clause-rows
+made_anew-requires-clause-rows g c =
+    let (node, (baskets, set, is)) = c.requires.given in
+    (baskets, _, still is c.args.at c.requires.inside (c.in_ok-kept.ensures.kept baskets set is.siblings) (take c.in_ok-kept.kept c.deref-2.result.now) (ap (take c.in_ok-kept.kept) c.deref-2.ensures.value))
+
+pub returns-in_default-clause-below : goal.returns-in_default-clause-below
+returns-in_default-clause-below g c = λ node (baskets, set, is).
+    below_is is c.args.at c.requires.inside (c.in_ok-kept.ensures.kept baskets set is.siblings) _ refl refl c.in_ok-clone.ensures.cases refl
+
+pub returns-in_default-clause-work : goal.returns-in_default-clause-work
+returns-in_default-clause-work g c = λ node (baskets, set, is).
+    omega (arith, c.number.ensures, c.in_ok-kept.ensures.joins, c.none-joins.ensures, work_is is c.args.at c.requires.inside)
+
+pub returns-in_default-clause-little : goal.returns-in_default-clause-little
+returns-in_default-clause-little g c =
+    let (node, (baskets, set, is)) = c.requires.given in
+    omega (arith, c.number.ensures, c.in_ok-kept.ensures.joins, c.none-joins.ensures, few is c.args.at c.requires.inside)
+
+pub returns-in_default-clause-inner : goal.returns-in_default-clause-inner
+returns-in_default-clause-inner g c =
+    let own = keeps_own g.R.Row.at_rest c.args.self.now c.args.room.now _ c.requires.lent c.joined.new.marks c.in_ok-kept.ensures.marks (ap (λ m. set m.items c.args.self.now.marks c.joined.new.marks) c.list-list.ensures) in
+    subst (AreAtRest g.R.Row.at_rest c.made_anew.new.room c.args.self.now.marks) (sym c.in_ok-clone.ensures.cases) ((keeps_both own c.in_ok-anew.ensures.room).own c.requires.lent)
+
+pub returns-in_default-clause-lent : goal.returns-in_default-clause-lent
+returns-in_default-clause-lent g c =
+    let own = keeps_own g.R.Row.at_rest c.args.self.now c.args.room.now _ c.requires.lent c.joined.new.marks c.in_ok-kept.ensures.marks (ap (λ m. set m.items c.args.self.now.marks c.joined.new.marks) c.list-list.ensures) in
+    keeps_both own c.in_ok-anew.ensures.room
+
+pub returns-clause-below : goal.returns-clause-below
+returns-clause-below g c = λ node (baskets, set, is).
+    let same = rw c.in-Some.is at c.in_ok-anew.ensures.same in
+    let (others, over, gives) = rw c.in-Some.is at c.in_ok-anew.ensures.made in
+    anew_is is c.args.at c.requires.inside (c.in_ok-kept.ensures.kept baskets set is.siblings) (take c.in_ok-kept.kept c.deref-2.result.now) (ap (take c.in_ok-kept.kept) c.deref-2.ensures.value)
+    c.in-Some.anew others same.0 same.1 over gives
+
+pub returns-clause-work : goal.returns-clause-work
+returns-clause-work g c = λ node (baskets, set, is).
+    omega (arith, c.number.ensures, c.in_ok-kept.ensures.joins, c.none-joins.ensures, work_is is c.args.at c.requires.inside)
+
+pub returns-clause-little : goal.returns-clause-little
+returns-clause-little g c =
+    let (node, (baskets, set, is)) = c.requires.given in
+    omega (arith, c.number.ensures, c.in_ok-kept.ensures.joins, c.none-joins.ensures, few is c.args.at c.requires.inside)
+
+pub returns-clause-inner : goal.returns-clause-inner
+returns-clause-inner g c =
+    let served = rw c.in-Some.is at c.in_ok-anew.ensures.served in
+    (keeps_same g.R.Row.at_rest c.in-Some.anew c.made_anew.new.room c.take_back-2.new.self c.take_back-2.ensures).own served
+
+pub returns-clause-lent : goal.returns-clause-lent
+returns-clause-lent g c =
+    let own = keeps_own g.R.Row.at_rest c.args.self.now c.args.room.now _ c.requires.lent c.joined.new.marks c.in_ok-kept.ensures.marks (ap (λ m. set m.items c.args.self.now.marks c.joined.new.marks) c.list-list.ensures) in
+    keeps_both own (keeps_both c.in_ok-anew.ensures.room (keeps_same g.R.Row.at_rest c.args.self.now c.made_anew.new.room c.take_back-2.new.self c.take_back-2.ensures))
+
+pub returns-clause-wider : goal.returns-clause-wider
+returns-clause-wider g c = λ before after keeps.
+    let wider = rw c.in-Some.is at c.in_ok-anew.ensures.wider in
+    record { outer = λ place weights low held. keeps.outer place weights (omega arith) held; own = λ held. keeps.outer c.args.self.now.marks c.args.self.now.weights.value wider held }
