@@ -1,7 +1,7 @@
 //! The items that sets have, each with a number.
-ghost use Rattle.std.specs.Prelude.{◌≡◌, ◌<◌, ◌≤◌, ℕ, false, IfOk, IsTrue, MatchOption, OnOk, filter, length, nat_le, slice_index};
+ghost use Rattle.std.specs.Prelude.{◌≡◌, ◌<◌, ◌≤◌, ℕ, false, IfOk, IsTrue, MatchOption, OnOk, length, slice_index};
 ghost use Rattle.basket_sets.specs.Itemset.{IsRising, has};
-ghost use Rattle.mine_apriori.specs.UsedItems.{AreUsed};
+ghost use Rattle.mine_apriori.specs.UsedItems.{AreNumbers, AreUsed};
 
 use basket_core::Itemset;
 use std::alloc::{AllocError, Global};
@@ -52,20 +52,17 @@ impl UsedItems {
         self.items.items()
     }
 
-    /// Whether at least this many of some items are used.
-    pub fn has_at_least(&self, items: &[u32], least: usize) -> bool
-        ensures { result ≡ nat_le least (length (filter (has self.now) items.now)) }
+    /// Puts the numbers of those of some items that are used into a list. The memory of the list is used again.
+    pub fn put_numbers(&self, items: &[u32], numbers: &mut Vec<usize>) -> Result<(), AllocError>
+        ensures { OnOk result (AreNumbers self.now items.now numbers.new.items) }
     {
-        let mut missing = least;
+        numbers.clear();
         for item in items {
-            if missing == 0 {
-                return true;
-            }
-            if self.number(*item).is_some() {
-                missing -= 1;
+            if let Some(number) = self.number(*item) {
+                numbers.push(number)?;
             }
         }
-        missing == 0
+        Ok(())
     }
 
     /// The number of an item, if it is used.
