@@ -11,6 +11,7 @@ mod LookUpLemmas
 mod SearchLemmas
 mod LevelsLemmas
 mod PairLemmas
+mod LesserLemmas
 mod WorkLemmas
 mod ItemLemmas
 mod OnesLemmas
