@@ -25,7 +25,7 @@ use Rattle.basket_sets.specs.Subsets.{subsets_of_size}
 use Rattle.basket_sets.specs.Support.{items_of, support_of, total_of}
 use Rattle.basket_sets.proofs.theory.Members.{Member, All-from_Member, Member-append, Member-append_left, Member-append_right, Member-filter, Member-from_filter, Member-from_map, Member-map, at_Member, sorted_map}
 use Rattle.basket_sets.proofs.theory.Ranges.{Member-into_range, Member-range, filter_members, filtered_range_rises}
-use Rattle.basket_sets.proofs.theory.Rising.{cons_rises, first_below, has-from_Member, nil_rises}
+use Rattle.basket_sets.proofs.theory.Rising.{first_below, has-from_Member}
 use Rattle.basket_sets.proofs.theory.Sorting.{sorted_is}
 use Rattle.basket_sets.proofs.theory.Subsets.{of_size_sorted}
 use Rattle.basket_sets.proofs.theory.Support.{support_falls}
@@ -33,11 +33,13 @@ use Rattle.mine_classes.specs.Conditional.{is_kept}
 use Rattle.mine_classes.specs.Pairs.{ArePairs, lists_of, pairs_of}
 use Rattle.mine_apriori.specs.declared.pairs.Pair.{Pair}
 use Rattle.mine_apriori.specs.Levels.{level_of}
+use Rattle.mine_apriori.proofs.JoinLemmas.{rises_behind}
+use Rattle.mine_apriori.proofs.LesserLemmas.{single_rises}
 use Rattle.mine_apriori.proofs.LevelsLemmas.{from_level, into_level, items_rise}
 
 -- ---- a least support
 
-pub least_tests : (coding : Coding) (least : ℕ) → IsLeastSupport coding.minimum (total_of coding.baskets) least → (set : List ℕ)
+least_tests : (coding : Coding) (least : ℕ) → IsLeastSupport coding.minimum (total_of coding.baskets) least → (set : List ℕ)
     → is_frequent coding.baskets (Count least) set ≡ is_frequent coding.baskets coding.minimum set
 least_tests coding least settles set =
     one_test (leb 1 (support_of coding.baskets set)) (leb least (support_of coding.baskets set))
@@ -51,9 +53,6 @@ least_tests coding least settles set =
 
 -- ---- pairs as they are given
 
-pub list_at : {X : Type 0} (lists : List (Vec X Global)) (k : ℕ) (d : Vec X Global) → k < length lists → get_or (lists_of lists) k [] ≡ (get_or lists k d).items
-list_at {X} lists k d below = get_or-map (λ (v : Vec X Global). v.items) lists k d [] below
-
 -- a set of two ranks as a pair
 abbrev pub pair_of : List Weighted → List ℕ → Pair
 pair_of baskets set = record { ranks = set; count = support_of baskets set }
@@ -62,12 +61,9 @@ pair_of baskets set = record { ranks = set; count = support_of baskets set }
 abbrev pub pair_with : ℕ → ℕ × ℕ → Pair
 pair_with greater pair = record { ranks = pair.0 ∷ greater ∷ []; count = pair.1 }
 
-pub ranks_again : (baskets : List Weighted) (sets : List (List ℕ)) → map (λ (pair : Pair). pair.ranks) (map (pair_of baskets) sets) ≡ sets
+ranks_again : (baskets : List Weighted) (sets : List (List ℕ)) → map (λ (pair : Pair). pair.ranks) (map (pair_of baskets) sets) ≡ sets
 ranks_again baskets [] = refl
 ranks_again baskets (set ∷ sets) = ap (λ l. set ∷ l) (ranks_again baskets sets)
-
-pub pair_rises : (lesser greater : ℕ) → lesser < greater → IsRising (lesser ∷ greater ∷ [])
-pair_rises lesser greater less = cons_rises lesser (greater ∷ []) (λ y m. elim m [ inl e ↦ subst (λ z. lesser < z) e less | inr none ↦ absurd none ]) (cons_rises greater [] (λ y m. absurd m) nil_rises)
 
 module _ (coding : Coding) where
   abbrev passes : List ℕ → Bool
@@ -92,7 +88,7 @@ module _ (coding : Coding) where
   pub pairs_here : (lists : List (Vec (ℕ × ℕ) Global)) (are : ArePairs coding (lists_of lists)) (greater : ℕ) (d : Vec (ℕ × ℕ) Global) → greater < length lists
       → (get_or lists greater d).items ≡ map (λ lesser. (lesser, support_of coding.baskets (lesser ∷ greater ∷ []))) (lesser_of greater)
   pairs_here lists are greater d below =
-      sym (list_at lists greater d below) ∙ ap (λ l. get_or l greater []) are.pairs
+      sym (get_or-map (λ (v : Vec (ℕ × ℕ) Global). v.items) lists greater d [] below) ∙ ap (λ l. get_or l greater []) are.pairs
       ∙ get_or-map-range_with_len (pairs_of coding.baskets are.least) 0 (length coding.items) greater greater [] (omega (arith, below, pairs_long lists are)) (omega arith)
       ∙ ap (map (λ lesser. (lesser, support_of coding.baskets (lesser ∷ greater ∷ []))))
       (filter_members (is_kept coding.baskets are.least greater) (λ lesser. passes (lesser ∷ greater ∷ [])) (range_with_len 0 greater) (λ lesser m.
@@ -178,7 +174,7 @@ module _ (coding : Coding) where
       (IsPermutation-map (λ (pair : Pair). pair.ranks) pairs sorted moved))
       up pairs_sorted
       (λ set m. let p = from_below count set m in
-      into_level coding 2 set (subst IsRising p.2 (pair_rises p.0 p.1 p.3)) (ap length (sym p.2)) p.5)
+      into_level coding 2 set (subst IsRising p.2 (rises_behind [] p.0 p.1 (single_rises p.0) p.3)) (ap length (sym p.2)) p.5)
       (λ set m. let s = from_level coding 2 set m in pair set s.0.rises s.0.sized s.1)
     where
       count : ℕ

@@ -15,7 +15,7 @@ use basket_core::Coded;
 use std::alloc::{AllocError, Global};
 
 /// Two ranks, the lesser one first, and the support of the pair.
-#[derive(Clone, Copy, Debug)]
+#[derive(Drop)]
 pub struct Pair {
     pub ranks: [u32; 2],
     pub count: u64,
