@@ -35,6 +35,10 @@ use Rattle.basket_sets.proofs.theory.Without.{all_pass, each_passes}
 
 -- ---- what a candidate is
 
+nonempty : (set : List ℕ) → 1 ≤ length set → set ≢ []
+nonempty [] low e = omega arith
+nonempty (item ∷ set) low e = let no : item ∷ set ≡ [] = e in cc
+
 module _ (baskets : List Weighted) (minimum : Minimum) where
   abbrev passes : List ℕ → Bool
   passes set = is_frequent baskets minimum set
@@ -78,15 +82,11 @@ module _ (baskets : List Weighted) (minimum : Minimum) where
   into_all set one =
       let within = λ (item : ℕ) (m : Member item set). let f = in_frequent set one item m in frequent_items baskets minimum f.0 f.1 item f.2 in
       Member-from_filter (is_candidate baskets minimum) set (subsets_of (items_of baskets))
-      (Member-subsets (items_of baskets) set up one.rises (some set one.some) within)
+      (Member-subsets (items_of baskets) set up one.rises (nonempty set (omega (arith, one.some))) within)
       (and_from (leb 2 (length set)) (list_all passes (subsets_of_size (length set - 1) set)) (le-leb 2 (length set) one.some)
       (all_pass passes (subsets_of_size (length set - 1) set) (λ subset m.
       let s = IsSubset-from_Member (length set - 1) set subset one.rises m in
       one.subsets subset s.rises (omega (arith, s.sized, one.some)) s.within)))
-    where
-      some : (set : List ℕ) → 2 ≤ length set → set ≢ []
-      some [] low e = omega arith
-      some (item ∷ set) low e = let no : item ∷ set ≡ [] = e in cc
 
   pub candidates_sorted : IsStrictlySortedBy report_order (all_candidates baskets minimum)
   candidates_sorted = IsStrictlySortedBy-filter report_order (is_candidate baskets minimum) (subsets_of (items_of baskets)) (subsets_sorted (items_of baskets) up)
@@ -104,14 +104,10 @@ candidates_by_sets one other minimum same =
       rises = is.rises;
       some = is.some;
       subsets = λ subset rises sized within.
-          let listed = subst (λ l. Contains l (counted one subset)) same ((lists_frequent one minimum).complete subset (rises, some subset (omega (arith, sized, is.some))) (is.subsets subset rises sized within)) in
+          let listed = subst (λ l. Contains l (counted one subset)) same ((lists_frequent one minimum).complete subset (rises, nonempty subset (omega (arith, sized, is.some))) (is.subsets subset rises sized within)) in
           (at_Member (IsSound other minimum) (counted one subset) (frequent_of other minimum)
           (recursion_from_All (IsSound other minimum) (frequent_of other minimum) (lists_frequent other minimum).sound) (Member-from_Contains (counted one subset) (frequent_of other minimum) listed)).1;
     }
-      where
-        some : (set : List ℕ) → 1 ≤ length set → set ≢ []
-        some [] low e = omega arith
-        some (item ∷ set) low e = let no : item ∷ set ≡ [] = e in cc
 
 -- ---- ranks and items
 

@@ -11,7 +11,7 @@ use crate::used_items::UsedItems;
 use std::alloc::{AllocError, Global};
 
 /// For each item that is used a row with a bit for each basket of a block, which is one if the basket has the item.
-#[derive(Debug, Drop)]
+#[derive(Drop)]
 pub struct Rows {
     /// How many words a row has.
     words: usize,
