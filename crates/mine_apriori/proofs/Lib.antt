@@ -13,6 +13,7 @@ mod LevelsLemmas
 mod PairLemmas
 mod LesserLemmas
 mod WorkLemmas
+mod AllCandidateLemmas
 mod ItemLemmas
 mod OnesLemmas
 mod PlaceLemmas
