@@ -71,13 +71,6 @@ impl<'a> Block<'a> {
         })
     }
 
-    /// How many baskets the block is made of.
-    pub fn len(&self) -> usize
-        ensures { result ≡ length self.now.baskets.now }
-    {
-        self.baskets.len()
-    }
-
     /// The prefix without items, from which those of sets are found.
     pub fn prefixes(&self) -> Result<Prefixes, AllocError>
         ensures { IfOk result (λ prefixes. (items : List ℕ) → ArePrefixes (needed self.now.used.now self.now.least self.now.baskets.now) items prefixes.lists.items) }

@@ -71,7 +71,10 @@ impl UsedItems {
         ensures { MatchOption result (has self.now item ≡ false) (λ number. (number < length self.now) × (slice_index self.now number ≡ item)) }
     {
         let items = self.items.items();
-        let hint = hint_for(&self.hints, item, items.len());
+        let hint = match self.hints.get(item as usize) {
+            Some(hint) => *hint as usize,
+            None => items.len(),
+        };
         if hint < items.len() && items[hint] == item {
             return Some(hint);
         }
@@ -122,15 +125,6 @@ fn are_above(items: &[u32], item: u32, place: usize) -> bool
         return true;
     }
     item < items[place]
-}
-
-/// The hint for an item, or else a given number.
-#[inline]
-fn hint_for(hints: &[u32], item: u32, otherwise: usize) -> usize {
-    match hints.get(item as usize) {
-        Some(hint) => *hint as usize,
-        None => otherwise,
-    }
 }
 
 /// Adds the items of the sets.
