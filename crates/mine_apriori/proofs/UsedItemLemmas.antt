@@ -1,8 +1,9 @@
 -- Whether an item is among rising ones, and its number.
-use Rattle.std.proofs.Common.{◌≡◌, ◌≢◌, ℕ, ◌<◌, ◌≤◌, ◌+◌, false, List, [], ◌∷◌, ◌++◌, append-nil, cond, filter, length, get_or, take, inl, inr, ap, subst, sym, ◌∙◌, arith}
+use Rattle.std.proofs.Common.{◌≡◌, ◌≢◌, ℕ, ◌<◌, ◌≤◌, ◌+◌, ◌-◌, false, List, [], ◌∷◌, ◌++◌, append-nil, cond, filter, length, get_or, take, inl, inr, ap, subst, sym, ◌∙◌, arith}
 use Rattle.std.proofs.lemmas.Bool.{cases_Bool, cases_eq, cases_lt}
 use Rattle.std.proofs.lemmas.List.{get_or_default, map-append, take_more}
 use Rattle.std.proofs.lemmas.List.Elements.{All-push, filter-append, recursion_from_All}
+use Rattle.std.proofs.lemmas.Map.Keys.{non_decreasing_from_sorted}
 use Rattle.basket_sets.specs.Itemset.{IsRising, has, rising}
 use Rattle.basket_sets.proofs.theory.Members.{Member, Contains-from_Member, Member-filter, Member-from_filter, Member-from_map, Member-map, at_Member}
 use Rattle.basket_sets.proofs.theory.Rising.{Member-from_has, Member-into_rising, Member-rising, has-from_Member, has_place, same_test}
@@ -22,6 +23,13 @@ missing items item place below above = nowhere items item (λ k within e. elim (
   | inl less ↦ let l = below k less within in absurd (omega arith)
   | inr le ↦ let l = above k le within in absurd (omega arith)
 ])
+
+-- of rising items only those beside the place need to be looked at
+pub missing_at : (items : List ℕ) (item place : ℕ) → IsRising items → place ≤ length items → (0 < place → get_or items (place - 1) 0 < item)
+    → (place < length items → item < get_or items place 0) → has items item ≡ false
+missing_at items item place up short before after = missing items item place
+    (λ k low here. let less = before (omega arith) in let le = non_decreasing_from_sorted items up k (place - 1) 0 (omega arith) (omega arith) in omega arith)
+    (λ k from here. let less = after (omega arith) in let le = non_decreasing_from_sorted items up place k 0 from here in omega arith)
 
 pub has_rising : (numbers : List ℕ) (item : ℕ) → has (rising numbers) item ≡ has numbers item
 has_rising numbers item = same_test (has (rising numbers) item) (has numbers item)

@@ -94,37 +94,16 @@ fn is_missing(items: &[u32], item: u32, place: usize) -> bool
     requires { IsRising items.now }
     ensures { IsTrue result → has items.now item ≡ false }
 {
-    if !are_below(items, item, place) {
-        return false;
-    }
-    are_above(items, item, place)
-}
-
-/// Whether all items before a place are below an item.
-#[inline]
-fn are_below(items: &[u32], item: u32, place: usize) -> bool
-    requires { IsRising items.now }
-    ensures { IsTrue result → (k : ℕ) → k < place → k < length items.now → slice_index items.now k < item }
-{
-    if place == 0 {
-        return true;
-    }
     if place > items.len() {
         return false;
     }
-    items[place - 1] < item
-}
-
-/// Whether all items from a place on are above an item.
-#[inline]
-fn are_above(items: &[u32], item: u32, place: usize) -> bool
-    requires { IsRising items.now }
-    ensures { IsTrue result → (k : ℕ) → place ≤ k → k < length items.now → item < slice_index items.now k }
-{
-    if place >= items.len() {
-        return true;
+    if place > 0 && items[place - 1] >= item {
+        return false;
     }
-    item < items[place]
+    if place < items.len() {
+        return item < items[place];
+    }
+    true
 }
 
 /// Adds the items of the sets.
