@@ -1,5 +1,5 @@
 -- The joins of a list of sets are its candidates, and what the candidates are.
-use Rattle.std.proofs.Common.{◌≡◌, ℕ, ◌<◌, Bool, true, false, List, [], ◌∷◌, ◌++◌, length, take, get_or, filter, cond, flat_map, refl, sym, ap, ◌∙◌, subst, inl, inr, arith, suc}
+use Rattle.std.proofs.Common.{◌≡◌, ℕ, ◌<◌, Bool, true, false, List, [], ◌∷◌, ◌++◌, length, take, get_or, cond, flat_map, refl, sym, ap, ◌∙◌, subst, inl, inr, arith, suc}
 use Rattle.std.specs.declared.cmp.Ordering.TheVariants.{Less}
 use Rattle.std.specs.Ordering.{nat_cmp}
 use Rattle.std.specs.Cmp.Lexicographic.{slice_cmp, nat_list_cmp_total, bytes_decides}
@@ -10,12 +10,12 @@ use Rattle.std.proofs.lemmas.List.Kept.{IsStrictlySortedBy-filter}
 use Rattle.basket_sets.specs.Itemset.{IsRising, without}
 use Rattle.basket_sets.specs.Subsets.{subsets_of_size}
 use Rattle.basket_sets.proofs.theory.Members.{Member, Member-append, Member-append_left, Member-append_right, Member-filter, Member-from_filter, All-from_Member, first_is_less, rest_is_sorted, not_both_less, same_members, sorted_append}
-use Rattle.basket_sets.proofs.theory.Rising.{rising-rises, Member-into_rising}
+use Rattle.basket_sets.proofs.theory.Rising.{rising-rises}
 use Rattle.basket_sets.proofs.theory.Subsets.{IsSubset, IsSubset-from_Member, Member-from_IsSubset, of_size_sorted}
 use Rattle.mine_apriori.specs.Candidates.{items_in, is_one_of, has_subsets, candidates_of}
 use Rattle.mine_apriori.specs.Join.{share_front, join, joined_with, joined_from}
 use Rattle.mine_apriori.proofs.JoinLemmas.{ends_of, parted, length_front, without_second, without_first, shares, joins, shared, less_last, last_less, less_longer, between, rises_behind, rising_ends}
-use Rattle.mine_apriori.proofs.PruneLemmas.{Member-from_is_one_of, Member-without}
+use Rattle.mine_apriori.proofs.PruneLemmas.{Member-from_is_one_of, Member-without, in_items, of_size, of_size_is}
 use Rattle.basket_sets.proofs.theory.Without.{each_passes}
 
 -- each member of the list has so many items
@@ -170,23 +170,6 @@ find_from last sets set other (first ∷ others) sized up less same kept (inr m)
 find_from last sets set other (first ∷ others) sized up less same kept (inr m) (inr n) =
     Member-append_right (join last set other) (joined_with last sets first others) (joined_from last sets others)
     (find_from last sets set other others (λ x k. sized x (inr k)) (rest_is_sorted nat_list_cmp_total first others up) less same kept m n)
-
--- ---- items
-
-Member-items : (sets : List (List ℕ)) (set : List ℕ) (item : ℕ) → Member set sets → Member item set → Member item (flat_map (λ s. s) sets)
-Member-items [] set item m n = absurd m
-Member-items (first ∷ sets) set item (inl e) n = Member-append_left item first (flat_map (λ s. s) sets) (subst (Member item) (sym e) n)
-Member-items (first ∷ sets) set item (inr m) n = Member-append_right item first (flat_map (λ s. s) sets) (Member-items sets set item m n)
-
-pub in_items : (sets : List (List ℕ)) (set : List ℕ) (item : ℕ) → Member set sets → Member item set → Member item (items_in sets)
-in_items sets set item m n = Member-into_rising (flat_map (λ s. s) sets) item (Member-items sets set item m n)
-
--- the candidates where the size is known
-abbrev pub of_size : ℕ → List (List ℕ) → List (List ℕ)
-of_size size sets = filter (has_subsets size sets) (subsets_of_size (suc size) (items_in sets))
-
-pub of_size_is : (size : ℕ) (first : List ℕ) (others : List (List ℕ)) → length first ≡ size → candidates_of (first ∷ others) ≡ of_size size (first ∷ others)
-of_size_is size first others e = ap (λ n. of_size n (first ∷ others)) e
 
 -- ---- the joins are the candidates
 

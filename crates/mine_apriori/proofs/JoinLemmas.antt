@@ -103,7 +103,7 @@ less_longer (x ∷ a) [] u v e h = absurd (omega (arith, e))
 less_longer (x ∷ a) (y ∷ b) u v e h =
     then_less (nat_cmp x y) (slice_cmp nat_cmp a b) (slice_cmp nat_cmp (a ++ u) (b ++ v)) (less_longer a b u v (omega (arith, e))) h
 
-first_at_most : (x y : ℕ) (o : Ordering) → ordering_then (nat_cmp x y) o ≡ Less → x ≤ y
+pub first_at_most : (x y : ℕ) (o : Ordering) → ordering_then (nat_cmp x y) o ≡ Less → x ≤ y
 first_at_most x y o h = grind (arith, nat_tests)
 
 -- what stands between two sets that share their front shares it

@@ -1,7 +1,7 @@
 -- The candidates of a level, one set after another.
-use Rattle.std.proofs.Common.{◌≡◌, ℕ, zero, suc, ◌+◌, ◌<◌, Bool, true, false, eqb, List, [], ◌∷◌, ◌++◌, length, take, drop, filter, map, get_or, cond, append_assoc, append-nil, refl, sym, ap, ◌∙◌, subst, inr, arith}
+use Rattle.std.proofs.Common.{◌≡◌, ℕ, zero, suc, ◌+◌, ◌<◌, Bool, true, false, eqb, List, [], ◌∷◌, ◌++◌, length, take, drop, filter, get_or, cond, append_assoc, append-nil, refl, sym, ap, ◌∙◌, subst, inr, arith}
 use Rattle.std.specs.Cmp.Lexicographic.{slice_cmp}
-use Rattle.std.specs.List.{All, range_with_len}
+use Rattle.std.specs.List.{All}
 use Rattle.std.specs.List.Sorted.{IsStrictlySortedBy}
 use Rattle.std.specs.Ordering.{nat_cmp}
 use Rattle.std.proofs.lemmas.Bool.{eqb-true, true≢false}
@@ -10,15 +10,14 @@ use Rattle.std.proofs.lemmas.List.{drop_more, get_or-map, length-map, take_more}
 use Rattle.std.proofs.lemmas.List.Elements.{All-from_recursion, filter-append}
 use Rattle.basket_sets.specs.Itemset.{IsRising, has, without}
 use Rattle.basket_sets.specs.Order.{IsInReportOrder}
-use Rattle.basket_sets.proofs.theory.Members.{Member, Member-append_left, Member-append_right, Member-from_map, Member-map, All-from_Member, Contains-from_Member, sorted_map}
-use Rattle.basket_sets.proofs.theory.Ranges.{filter_members, range_rises}
-use Rattle.basket_sets.proofs.theory.Rising.{Member-from_has, has-from_Member, has_place, lt-from_Less}
+use Rattle.basket_sets.proofs.theory.Members.{Member, Member-append_left, Member-append_right, Member-map, Contains-from_Member}
+use Rattle.basket_sets.proofs.theory.Ranges.{filter_members}
+use Rattle.basket_sets.proofs.theory.Rising.{Member-from_has, has-from_Member, has_place}
 use Rattle.mine_apriori.specs.Candidates.{is_one_of, has_subsets, candidates_of}
 use Rattle.mine_apriori.specs.Extensions.{AreGrouped, Group, extend, lists_of, sets_of, prefixes_of, has_items, is_some}
 use Rattle.mine_apriori.specs.Join.{AreParts, has_parts, joined_group, joined_groups}
 use Rattle.mine_apriori.specs.Sizes.{AreOfSize}
 use Rattle.mine_apriori.proofs.ExtensionLemmas.{looked_up, missing}
-use Rattle.mine_apriori.proofs.JoinLemmas.{less_last}
 use Rattle.mine_apriori.proofs.JoinedLemmas.{all_joined, filter_both, level_joined, parts_decide}
 use Rattle.mine_apriori.proofs.LawLemmas.{size_at}
 use Rattle.mine_apriori.proofs.PruneLemmas.{is_one_of-from_Member}
@@ -157,13 +156,4 @@ one_grouped items = record {
   size = 0;
   sized = All-from_recursion (λ set. length set ≡ 0) ([] ∷ []) (refl, tt);
   sorted = (tt, tt);
-}
-
-pub singles_grouped : (groups : List Group) (count : ℕ) → prefixes_of groups ≡ map (λ rank. rank ∷ []) (range_with_len 0 count) → AreGrouped groups
-singles_grouped groups count are = record {
-  size = 1;
-  sized = subst (AreOfSize 1) (sym are) (All-from_recursion (λ set. length set ≡ 1) _ (All-from_Member (λ set. length set ≡ 1) _ (λ set m.
-      let r = Member-from_map (λ (rank : ℕ). rank ∷ []) set (range_with_len 0 count) m in ap length (sym r.2))));
-  sorted = subst (IsStrictlySortedBy (slice_cmp nat_cmp)) (sym are)
-      (sorted_map nat_cmp (slice_cmp nat_cmp) (λ rank. rank ∷ []) (range_with_len 0 count) (λ x y less. less_last [] x y (lt-from_Less x y less)) (range_rises 0 count));
 }

@@ -14,8 +14,7 @@ use Rattle.basket_sets.proofs.theory.Subsets.{IsSubset, IsSubset-from_Member, Me
 use Rattle.mine_apriori.specs.Candidates.{items_in, is_one_of, has_subsets, candidates_of, IsCandidate, CandidatesAreExact, CandidatesAreInReportOrder, CandidatesAreOneLarger}
 use Rattle.mine_apriori.specs.Sizes.{AreOfSize}
 use Rattle.mine_apriori.proofs.JoinLemmas.{ends_of, without_second, without_first}
-use Rattle.mine_apriori.proofs.PruneLemmas.{Member-from_is_one_of, is_one_of-from_Member, Member-without}
-use Rattle.mine_apriori.proofs.CandidateLemmas.{of_size_is, in_items}
+use Rattle.mine_apriori.proofs.PruneLemmas.{Member-from_is_one_of, is_one_of-from_Member, Member-without, in_items, of_size_is}
 use Rattle.basket_sets.proofs.theory.Without.{all_pass, each_passes}
 
 items_rise : (sets : List (List ℕ)) → IsRising (items_in sets)

@@ -3,7 +3,7 @@ use Rattle.std.proofs.Common.{◌≡◌, ◌≢◌, ℕ, ◌+◌, ◌<◌, ◌�
 use Rattle.std.specs.Cmp.Lexicographic.{slice_cmp}
 use Rattle.std.specs.Ordering.{nat_cmp}
 use Rattle.std.specs.List.{All, filter, flat_map, range_with_len}
-use Rattle.std.proofs.lemmas.List.{append-nil, length-append, length-map, map-append, get_or_default}
+use Rattle.std.proofs.lemmas.List.{append-nil, length-append, length-map, map-append, map-id, get_or_default}
 use Rattle.std.proofs.lemmas.List.Elements.{filter-append}
 use Rattle.std.proofs.lemmas.List.FromFn.{length-range_with_len}
 use Rattle.std.proofs.lemmas.List.Kept.{IsStrictlySortedBy-filter}
@@ -222,10 +222,6 @@ module _ (coding : Coding) where
 
   pub first_ranks : map (λ entry. entry.0) (item_supports coding.baskets) ≡ items
   first_ranks = map-map (λ (entry : ℕ × ℕ). entry.0) (λ x. (x, support_of coding.baskets (x ∷ []))) items ∙ map-id items
-    where
-      map-id : (l : List ℕ) → map (λ x. x) l ≡ l
-      map-id [] = refl
-      map-id (x ∷ l) = ap (λ r. x ∷ r) (map-id l)
 
   pub first_level : filter passes (map (λ rank. rank ∷ []) items) ≡ level_of coding 1
   first_level = ap (filter passes) (sym (one_item items))
@@ -241,11 +237,6 @@ module _ (coding : Coding) where
       again : (sets : List (List ℕ)) → filter passes (filter passes sets) ≡ filter passes sets
       again [] = refl
       again (set ∷ sets) = step set (filter passes sets) (passes set) refl (again sets)
-
--- `asked` are the candidates of a level
-module _ (coding : Coding) (size : ℕ) (some : 1 ≤ size) (asked : List (List ℕ)) (is_asked : asked ≡ asked_of coding size) where
-  pub next : filter (is_frequent coding.baskets coding.minimum) asked ≡ level_of coding (size + 1)
-  next = ap (filter (is_frequent coding.baskets coding.minimum)) is_asked ∙ next_level coding size some
 
 -- one level more is found
 pub found_next : (coding : Coding) (size : ℕ) (old new : List Counted) (sets : List (List ℕ)) → AreFound coding size old → sets ≡ level_of coding (size + 1) → new ≡ old ++ decoded_sets coding sets → AreFound coding (size + 1) new

@@ -11,7 +11,9 @@ mod LookUpLemmas
 mod SearchLemmas
 mod LevelsLemmas
 mod PairLemmas
+mod LesserLemmas
 mod WorkLemmas
+mod AllCandidateLemmas
 mod ItemLemmas
 mod OnesLemmas
 mod PlaceLemmas

@@ -2,6 +2,7 @@
 use Rattle.std.proofs.Common.{◌≡◌, ℕ, zero, suc, ◌+◌, ◌*◌, ◌/◌, ◌%◌, ◌<◌, ◌≤◌, ◌^◌, Bool, true, false, ◌&&◌, List, [], ◌∷◌, ◌++◌, length, take, drop, get_or, ◌-◌, cond, eqb, refl, sym, ap, ◌∙◌, subst, inl, inr, arith, min, w64}
 use Rattle.std.specs.Prelude.{bit_and, bit_or, count_ones}
 use Rattle.std.specs.Int.{bit_at, trailing_zeros}
+use Rattle.std.proofs.Math.Bool.{and-true, and_assoc as all_three}
 use Rattle.std.proofs.Math.ListN.{set}
 use Rattle.std.proofs.Math.Nat.{add-mul, zero-mul, one-mul}
 use Rattle.std.proofs.lemmas.List.{take-append-drop}
@@ -128,17 +129,9 @@ has_both r row place =
     let j : ℕ = place % 64 in let a : ℕ = r (place / 64) in let b : ℕ = row (place / 64) in
     ap (λ n. eqb n 1) (bit_at_and a b j) ∙ both_low (bit_at a j) (bit_at b j) (bit_at-lt a j) (bit_at-lt b j)
 
-and_last : (b : Bool) → (b && true) ≡ b
-and_last true = refl
-and_last false = refl
-
-and_regroup : (a b c : Bool) → (a && (b && c)) ≡ ((a && b) && c)
-and_regroup true b c = refl
-and_regroup false b c = refl
-
 contains_push : (basket items : List ℕ) (item : ℕ) → contains basket (items ++ item ∷ []) ≡ (contains basket items && has basket item)
-contains_push basket [] item = and_last (has basket item)
-contains_push basket (x ∷ items) item = ap (λ b. has basket x && b) (contains_push basket items item) ∙ and_regroup (has basket x) (contains basket items) (has basket item)
+contains_push basket [] item = and-true (has basket item)
+contains_push basket (x ∷ items) item = ap (λ b. has basket x && b) (contains_push basket items item) ∙ sym (all_three (has basket x) (contains basket items) (has basket item))
 
 both_conds : (holds has_item in_row : Bool) (weight : ℕ) → cond (has_item && in_row) (cond holds weight 0) 0 ≡ cond in_row (cond (holds && has_item) weight 0) 0
 both_conds true true true weight = refl

@@ -1,11 +1,12 @@
 -- The subsets of a set with one item less are the set without one of its places.
-use Rattle.std.proofs.Common.{◌≡◌, ℕ, ◌<◌, ◌≤◌, true, ◌||◌, List, [], ◌∷◌, length, map, refl, sym, ap, ◌∙◌, subst, inl, inr, arith, zero, suc}
+use Rattle.std.proofs.Common.{◌≡◌, ℕ, ◌<◌, ◌≤◌, true, ◌||◌, List, [], ◌∷◌, filter, flat_map, length, map, refl, sym, ap, ◌∙◌, subst, inl, inr, arith, zero, suc}
 use Rattle.std.specs.Cmp.Lexicographic.{pointwise, bytes_decides}
 use Rattle.std.specs.Prelude.{nat_eq}
 use Rattle.std.proofs.lemmas.Bool.{or_cases, cases_Bool, cases_lt, true≢false}
 use Rattle.basket_sets.specs.Subsets.{subsets_of_size}
 use Rattle.basket_sets.proofs.theory.Members.{Member, Member-append, Member-append_left, Member-append_right, Member-map, Member-from_map}
-use Rattle.mine_apriori.specs.Candidates.{is_one_of, has_subsets}
+use Rattle.basket_sets.proofs.theory.Rising.{Member-into_rising}
+use Rattle.mine_apriori.specs.Candidates.{candidates_of, has_subsets, is_one_of, items_in}
 use Rattle.mine_apriori.specs.Join.{IsJoin}
 use Rattle.basket_sets.specs.Itemset.{without}
 use Rattle.basket_sets.proofs.theory.Without.{all_pass}
@@ -92,3 +93,20 @@ has_all last sets set is each = all_pass (is_one_of sets) (subsets_of_size (suc 
         | inr most ↦ (let e : suc last ≡ place = omega arith in subst (λ p. is_one_of sets (without p set) ≡ true) e is.first)
       ]
     ]
+
+-- ---- the items of sets
+
+Member-items : (sets : List (List ℕ)) (set : List ℕ) (item : ℕ) → Member set sets → Member item set → Member item (flat_map (λ s. s) sets)
+Member-items [] set item m n = absurd m
+Member-items (first ∷ sets) set item (inl e) n = Member-append_left item first (flat_map (λ s. s) sets) (subst (Member item) (sym e) n)
+Member-items (first ∷ sets) set item (inr m) n = Member-append_right item first (flat_map (λ s. s) sets) (Member-items sets set item m n)
+
+pub in_items : (sets : List (List ℕ)) (set : List ℕ) (item : ℕ) → Member set sets → Member item set → Member item (items_in sets)
+in_items sets set item m n = Member-into_rising (flat_map (λ s. s) sets) item (Member-items sets set item m n)
+
+-- the candidates where the size is known
+abbrev pub of_size : ℕ → List (List ℕ) → List (List ℕ)
+of_size size sets = filter (has_subsets size sets) (subsets_of_size (suc size) (items_in sets))
+
+pub of_size_is : (size : ℕ) (first : List ℕ) (others : List (List ℕ)) → length first ≡ size → candidates_of (first ∷ others) ≡ of_size size (first ∷ others)
+of_size_is size first others e = ap (λ n. of_size n (first ∷ others)) e

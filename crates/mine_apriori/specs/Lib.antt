@@ -4,7 +4,6 @@ pub mod Extensions
 pub mod Join
 pub mod Search
 pub mod Shard
-pub mod Partners
 pub mod Work
 pub mod Levels
 pub mod Places

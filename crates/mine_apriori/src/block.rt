@@ -46,15 +46,16 @@ impl<'a> Block<'a> {
         ensures used { IfOk result (λ block. (block.used.now ≡ used.now) × (block.least ≡ least)) }
     {
         let mut rows = Rows::with_room(alloc, used, most.min(baskets.len()))?;
-        let mut places = Vec::new(alloc);
+        let (mut places, mut numbers) = (Vec::new(alloc), Vec::new(alloc));
         let (mut read, mut len, mut start) = (0, 0, 0);
         while read < baskets.len() && len < most {
             let basket = &baskets[read];
-            if used.has_at_least(basket.basket.items(), least) {
+            used.put_numbers(basket.basket.items(), &mut numbers)?;
+            if numbers.len() >= least {
                 if len % WORD == 0 {
                     start = places.len();
                 }
-                rows.push(used, len, basket);
+                rows.push(len, &numbers);
                 add_place(&mut places, start, len, basket.weight)?;
                 len += 1;
             }
@@ -68,13 +69,6 @@ impl<'a> Block<'a> {
             rows,
             places,
         })
-    }
-
-    /// How many baskets the block is made of.
-    pub fn len(&self) -> usize
-        ensures { result ≡ length self.now.baskets.now }
-    {
-        self.baskets.len()
     }
 
     /// The prefix without items, from which those of sets are found.

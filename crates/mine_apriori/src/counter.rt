@@ -113,7 +113,7 @@ impl<'a> RowCounter<'a> {
             block.add(prefix.items(), items.items(), &mut shared, start, counts)?;
             start += items.len();
         }
-        Ok(block.len())
+        Ok(block.baskets.len())
     }
 }
 

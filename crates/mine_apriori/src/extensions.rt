@@ -75,16 +75,6 @@ impl Extensions {
         requires items { IsRising items.now }
         ensures { IfOk result (λ more. more ≡ self ++ record { prefix = prefix.now; items = items.now } ∷ []) }
     {
-        self.with(
-            Itemset::from_items(alloc, prefix)?,
-            Itemset::from_items(alloc, items)?,
-        )
-    }
-
-    /// The sets, and then those of one more prefix.
-    fn with(self, prefix: Itemset, items: Itemset) -> Result<Self, AllocError>
-        ensures { IfOk result (λ more. more ≡ self ++ record { prefix = prefix; items = items } ∷ []) }
-    {
         let Extensions {
             mut prefixes,
             mut lists,
@@ -93,8 +83,8 @@ impl Extensions {
         let Some(len) = len.checked_add(items.len()) else {
             return Err(AllocError);
         };
-        prefixes.push(prefix)?;
-        lists.push(items)?;
+        prefixes.push(Itemset::from_items(alloc, prefix)?)?;
+        lists.push(Itemset::from_items(alloc, items)?)?;
         Ok(Extensions {
             prefixes,
             lists,

@@ -1,8 +1,7 @@
 //! The first level of Apriori, and the second, which is made of pairs.
-ghost use Rattle.std.specs.Prelude.{◌≡◌, ◌≤◌, ℕ, Err, IfOk, OnOk, length, map};
+ghost use Rattle.std.specs.Prelude.{◌≡◌, ℕ, Err, IfOk, OnOk};
 ghost use Rattle.basket_core.specs.declared.fault.MineFault.TheVariants.{TooMany};
 ghost use Rattle.basket_ranks.specs.Codes.{IsCoding};
-ghost use Rattle.basket_sets.specs.Support.{support_of};
 ghost use Rattle.mine_apriori.specs.Extensions.{AreGrouped, sets_of};
 ghost use Rattle.mine_apriori.specs.Levels.{AreFound, AreTooMany, level_of};
 ghost use Rattle.mine_classes.specs.Pairs.{ArePairs, lists_of};
@@ -10,7 +9,7 @@ ghost use Rattle.mine_classes.specs.Pairs.{ArePairs, lists_of};
 use crate::extensions::Extensions;
 use crate::frequent::add_frequent;
 use crate::levels::{Known, Levels};
-use crate::partners::by_lesser;
+use crate::pairs::{pair_sets, sorted_pairs};
 use basket_core::{Coded, CountedSets, MineFault, count_items};
 use mine_classes::pair_count;
 use std::alloc::{AllocError, Global};
@@ -33,31 +32,6 @@ pub fn frequent_ranks(alloc: Global, coded: &Coded) -> Result<(CountedSets, Exte
     let mut found = CountedSets::new(alloc, coded.items(), coded.total())?;
     let level = add_frequent(alloc, coded, &sets, &counts, &mut found)?;
     Ok((found, level))
-}
-
-/// The pairs of each rank with greater ones, and their supports.
-fn pair_sets(
-    alloc: Global,
-    coded: &Coded,
-    pairs: &[Vec<(u32, u64)>],
-) -> Result<(Extensions, Vec<u64>), AllocError>
-    requires coding { IsCoding coded.now }
-    requires pairs { ArePairs coded.now (lists_of pairs.now) }
-    ensures sets { IfOk result (λ sets. sets_of sets.0 ≡ level_of coded.now 2) }
-    ensures grouped { IfOk result (λ sets. AreGrouped sets.0) }
-    ensures counts { IfOk result (λ sets. sets.1.items ≡ map (support_of coded.now.baskets) (level_of coded.now 2)) }
-{
-    let mut sets = Extensions::new(alloc);
-    let mut counts = Vec::new(alloc);
-    for (rank, pairs) in by_lesser(alloc, pairs)?.iter().enumerate() {
-        let mut greater = Vec::with_capacity(alloc, pairs.len())?;
-        for (other, count) in pairs {
-            greater.push(*other)?;
-            counts.push(*count)?;
-        }
-        sets = sets.with_items(alloc, &[rank as u32], &greater)?;
-    }
-    Ok((sets, counts))
 }
 
 /// The frequent items, from which a search goes on once the frequent pairs are known.
@@ -115,7 +89,8 @@ impl<'a> FirstLevel<'a> {
             mut found,
         } = self;
         let counted = pair_count(found.len() as u32) as u64;
-        let (sets, counts) = pair_sets(alloc, coded, pairs)?;
+        let pairs = sorted_pairs(alloc, coded, pairs)?;
+        let (sets, counts) = pair_sets(alloc, &pairs)?;
         let level = add_frequent(alloc, coded, &sets, &counts, &mut found)?;
         let known = Known {
             coded,

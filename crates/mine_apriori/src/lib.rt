@@ -5,7 +5,7 @@
 //! extend them. `join` makes candidates by the `intersection` of lists of items, which `search` looks up. `shard` counts
 //! sets by a `counter`: in each `block` of baskets the `used_items` have `rows` of bits, and the `places` of the baskets
 //! that contain a set are found from those of its `prefixes` (`block_counts`). `frequent` keeps the frequent sets. The
-//! second level is made of the frequent pairs, which `partners` puts in order.
+//! second level is made of the frequent `pairs`.
 #![tactic(auto)]
 
 mod block;
@@ -18,7 +18,7 @@ mod intersection;
 mod join;
 pub mod laws;
 mod levels;
-mod partners;
+mod pairs;
 mod places;
 mod prefixes;
 mod rows;

@@ -9,7 +9,7 @@ use std::alloc::AllocError;
 pub const WORD: usize = 64;
 
 /// Places of one weight that have their bits in one word.
-#[derive(Clone, Copy, Debug)]
+#[derive(Clone, Copy)]
 pub struct Places {
     pub word: usize,
     pub bits: u64,

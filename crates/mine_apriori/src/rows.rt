@@ -1,17 +1,17 @@
 //! Rows of bits of a block of baskets.
-ghost use Rattle.std.specs.Prelude.{◌≡◌, ◌≤◌, ◌<◌, ◌+◌, ◌*◌, ◌++◌, ◌∷◌, ◌==◌, ◌&&◌, ◌||◌, [], ℕ, List, IfOk, length, slice_index};
-ghost use Rattle.basket_sets.specs.Itemset.{has};
+ghost use Rattle.std.specs.Prelude.{◌≡◌, ◌≤◌, ◌<◌, ◌+◌, ◌*◌, ◌++◌, ◌∷◌, ◌==◌, ◌&&◌, ◌||◌, [], ℕ, All, List, IfOk, OnOk, length, slice_index};
+ghost use Rattle.basket_sets.specs.Itemset.{IsRising, has};
 ghost use Rattle.basket_sets.specs.declared.weighted.Weighted.{Weighted as Place};
 ghost use Rattle.mine_apriori.specs.Places.{IsRowOf};
 ghost use Rattle.mine_apriori.specs.Rows.{AreRows, bit_in};
+ghost use Rattle.mine_apriori.specs.UsedItems.{AreNumbers};
 
 use crate::places::WORD;
 use crate::used_items::UsedItems;
-use basket_core::Weighted;
 use std::alloc::{AllocError, Global};
 
 /// For each item that is used a row with a bit for each basket of a block, which is one if the basket has the item.
-#[derive(Debug, Drop)]
+#[derive(Drop)]
 pub struct Rows {
     /// How many words a row has.
     words: usize,
@@ -24,6 +24,7 @@ impl Rows {
     pub fn with_room(alloc: Global, used: &UsedItems, baskets: usize) -> Result<Self, AllocError>
         ensures rows { IfOk result (AreRows used.now []) }
         ensures room { IfOk result (λ rows. baskets ≤ rows.words * 64) }
+        ensures rising { OnOk result (IsRising used.now) }
     {
         let words = baskets.div_ceil(WORD);
         let Some(len) = used.items().len().checked_mul(words) else {
@@ -33,20 +34,15 @@ impl Rows {
         Ok(Rows { words, bits })
     }
 
-    /// Adds a basket, whose place is the number of those before it.
-    pub fn push(&mut self, used: &UsedItems, place: usize, basket: &Weighted)
-        requires rows { (before : List Place) × (place ≡ length before) × AreRows used.now before self.old }
+    /// Adds a basket, whose place is the number of those before it, by the numbers of its used items.
+    pub fn push(&mut self, place: usize, numbers: &[usize])
+        requires rows { (used : List ℕ) × (before : List Place) × AreRows used before self.old × All (λ number. number < length used) numbers.now }
         requires room { place < self.old.words * 64 }
-        ensures rows { (before : List Place) → place ≡ length before → AreRows used.now before self.old → AreRows used.now (before ++ basket.now ∷ []) self.new }
+        ensures rows { (used : List ℕ) (before : List Place) (basket : Place) → IsRising used → place ≡ length before → AreRows used before self.old
+            → AreNumbers used basket.basket numbers.now → AreRows used (before ++ basket ∷ []) self.new }
         ensures room { self.new.words ≡ self.old.words }
     {
-        mark(
-            &mut self.bits,
-            self.words,
-            used,
-            place,
-            basket.basket.items(),
-        );
+        mark(&mut self.bits, self.words, place, numbers);
     }
 
     /// The row of an item by its number.
@@ -60,27 +56,14 @@ impl Rows {
     }
 }
 
-/// Sets the bit of a place in the row of each item that is used.
-fn mark(bits: &mut [u64], words: usize, used: &UsedItems, place: usize, items: &[u32])
-    requires long { length bits.old ≡ length used.now * words }
+/// Sets the bit of a place in the rows of some numbers.
+fn mark(bits: &mut [u64], words: usize, place: usize, numbers: &[usize])
+    requires long { All (λ number. number * words + words ≤ length bits.old) numbers.now }
     requires within { place < words * 64 }
-    ensures { (number other : ℕ) → number < length used.now → other < words * 64
-        → bit_in bits.new words number other ≡ (bit_in bits.old words number other || (other == place) && has items.now (slice_index used.now number)) }
+    ensures { (number other : ℕ) → other < words * 64
+        → bit_in bits.new words number other ≡ (bit_in bits.old words number other || (other == place) && has numbers.now number) }
 {
-    for item in items {
-        set_bit(bits, words, used, place, *item);
-    }
-}
-
-/// Sets the bit of a place in the row of an item, if it is used.
-fn set_bit(bits: &mut [u64], words: usize, used: &UsedItems, place: usize, item: u32)
-    requires long { length bits.old ≡ length used.now * words }
-    requires within { place < words * 64 }
-    ensures { (number other : ℕ) → number < length used.now → other < words * 64
-        → bit_in bits.new words number other ≡ (bit_in bits.old words number other || (other == place) && (item == slice_index used.now number)) }
-{
-    let _rises = used.items();
-    if let Some(number) = used.number(item) {
-        bits[number * words + place / WORD] |= 1 << (place % WORD);
+    for number in numbers {
+        bits[*number * words + place / WORD] |= 1 << (place % WORD);
     }
 }

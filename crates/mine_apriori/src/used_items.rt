@@ -1,7 +1,7 @@
 //! The items that sets have, each with a number.
-ghost use Rattle.std.specs.Prelude.{◌≡◌, ◌<◌, ◌≤◌, ℕ, false, IfOk, IsTrue, MatchOption, OnOk, filter, length, nat_le, slice_index};
+ghost use Rattle.std.specs.Prelude.{◌≡◌, ◌<◌, ◌≤◌, ℕ, false, IfOk, IsTrue, MatchOption, OnOk, length, slice_index};
 ghost use Rattle.basket_sets.specs.Itemset.{IsRising, has};
-ghost use Rattle.mine_apriori.specs.UsedItems.{AreUsed};
+ghost use Rattle.mine_apriori.specs.UsedItems.{AreNumbers, AreUsed};
 
 use basket_core::Itemset;
 use std::alloc::{AllocError, Global};
@@ -52,20 +52,17 @@ impl UsedItems {
         self.items.items()
     }
 
-    /// Whether at least this many of some items are used.
-    pub fn has_at_least(&self, items: &[u32], least: usize) -> bool
-        ensures { result ≡ nat_le least (length (filter (has self.now) items.now)) }
+    /// Puts the numbers of those of some items that are used into a list. The memory of the list is used again.
+    pub fn put_numbers(&self, items: &[u32], numbers: &mut Vec<usize>) -> Result<(), AllocError>
+        ensures { OnOk result (AreNumbers self.now items.now numbers.new.items) }
     {
-        let mut missing = least;
+        numbers.clear();
         for item in items {
-            if missing == 0 {
-                return true;
-            }
-            if self.number(*item).is_some() {
-                missing -= 1;
+            if let Some(number) = self.number(*item) {
+                numbers.push(number)?;
             }
         }
-        missing == 0
+        Ok(())
     }
 
     /// The number of an item, if it is used.
@@ -74,7 +71,10 @@ impl UsedItems {
         ensures { MatchOption result (has self.now item ≡ false) (λ number. (number < length self.now) × (slice_index self.now number ≡ item)) }
     {
         let items = self.items.items();
-        let hint = hint_for(&self.hints, item, items.len());
+        let hint = match self.hints.get(item as usize) {
+            Some(hint) => *hint as usize,
+            None => items.len(),
+        };
         if hint < items.len() && items[hint] == item {
             return Some(hint);
         }
@@ -94,46 +94,16 @@ fn is_missing(items: &[u32], item: u32, place: usize) -> bool
     requires { IsRising items.now }
     ensures { IsTrue result → has items.now item ≡ false }
 {
-    if !are_below(items, item, place) {
-        return false;
-    }
-    are_above(items, item, place)
-}
-
-/// Whether all items before a place are below an item.
-#[inline]
-fn are_below(items: &[u32], item: u32, place: usize) -> bool
-    requires { IsRising items.now }
-    ensures { IsTrue result → (k : ℕ) → k < place → k < length items.now → slice_index items.now k < item }
-{
-    if place == 0 {
-        return true;
-    }
     if place > items.len() {
         return false;
     }
-    items[place - 1] < item
-}
-
-/// Whether all items from a place on are above an item.
-#[inline]
-fn are_above(items: &[u32], item: u32, place: usize) -> bool
-    requires { IsRising items.now }
-    ensures { IsTrue result → (k : ℕ) → place ≤ k → k < length items.now → item < slice_index items.now k }
-{
-    if place >= items.len() {
-        return true;
+    if place > 0 && items[place - 1] >= item {
+        return false;
     }
-    item < items[place]
-}
-
-/// The hint for an item, or else a given number.
-#[inline]
-fn hint_for(hints: &[u32], item: u32, otherwise: usize) -> usize {
-    match hints.get(item as usize) {
-        Some(hint) => *hint as usize,
-        None => otherwise,
+    if place < items.len() {
+        return item < items[place];
     }
+    true
 }
 
 /// Adds the items of the sets.

@@ -149,4 +149,4 @@ returns-clause-added c k inside within =
     c.loop-number.invariant.added k (omega (arith, here, all))
     ∙ ap (λ n. get_or c.args.counts.now k 0 + n)
     (ap (λ (l : List (List ℕ)). support_of (placed block) (get_or l k [])) (sym c.self.view_is) ∙ supports
-    ∙ (λ i. support_of ((c.in_ok-block.ensures.baskets ∙ ap (λ n. take n c.args.baskets.now) (sym c.len.ensures)) i) (get_or (c.self.view_is i) k [])))
+    ∙ (λ i. support_of (c.in_ok-block.ensures.baskets i) (get_or (c.self.view_is i) k [])))

@@ -1,5 +1,8 @@
 use Rattle.std.proofs.Common.{◌≡◌, ◌-◌, ◌*◌, ◌/◌, filter, length, map, sym, ap, subst, ◌∙◌, arith}
+use Rattle.std.specs.Cmp.Lexicographic.{slice_cmp}
 use Rattle.std.specs.List.{All}
+use Rattle.std.specs.List.Sorted.{IsStrictlySortedBy}
+use Rattle.std.specs.Ordering.{nat_cmp}
 use Rattle.std.proofs.lemmas.List.{length-map}
 use Rattle.basket_ranks.specs.Codes.{decoded_set}
 use Rattle.basket_sets.specs.Frequent.{counted, is_frequent}
@@ -7,30 +10,48 @@ use Rattle.basket_sets.specs.Itemset.{IsRising}
 use Rattle.basket_sets.specs.Support.{support_of}
 use Rattle.mine_apriori.specs.Extensions.{AreGrouped, sets_of}
 use Rattle.mine_apriori.specs.Levels.{level_of, levels_up_to}
+use Rattle.mine_apriori.specs.Sizes.{AreOfSize}
+use Rattle.mine_apriori.specs.declared.pairs.Pair.{Pair}
 use Rattle.mine_apriori.proofs.ExtensionLemmas.{kept_sets}
 use Rattle.mine_apriori.proofs.JoinedLemmas.{kept_grouped}
-use Rattle.mine_apriori.proofs.LevelsLemmas.{found_next, level_again, level_rises}
+use Rattle.mine_apriori.proofs.LevelsLemmas.{found_next, level_again, level_rises, level_sized}
+use Rattle.mine_apriori.proofs.PairLemmas.{pairs_sorted}
 use Rattle.mine_apriori.proofs.WorkLemmas.{pair_count}
 use Rattle.mine_apriori.proofs.first_level.FirstLevel.with_pairs.Goals as goal
+use Rattle.mine_apriori.proofs.first_level.FirstLevel.with_pairs.Goals.{In_ok-sets}
+
+pub pair_sets-requires : goal.pair_sets-requires
+pair_sets-requires c =
+    let ranks = ap (map (λ (pair : Pair). pair.ranks)) c.deref.ensures.value ∙ c.in_ok-pairs.ensures.ranks in
+    record {
+      two = subst (AreOfSize 2) (sym ranks) (level_sized c.self.inside.coded.now 2);
+      sorted = subst (IsStrictlySortedBy (slice_cmp nat_cmp)) (sym ranks) (pairs_sorted c.self.inside.coded.now);
+    }
+
+-- the sets are the second level
+level_is : (c : In_ok-sets) → sets_of c.in_ok-sets.sets ≡ level_of c.self.inside.coded.now 2
+level_is c = c.in_ok-sets.ensures.sets ∙ ap (map (λ (pair : Pair). pair.ranks)) c.deref.ensures.value ∙ c.in_ok-pairs.ensures.ranks
 
 pub add_frequent-requires-clause-rising : goal.add_frequent-requires-clause-rising
-add_frequent-requires-clause-rising c = subst (All IsRising) (sym c.in_ok-sets.ensures.sets) (level_rises c.self.inside.coded.now 2)
+add_frequent-requires-clause-rising c = subst (All IsRising) (sym (level_is (goal.at.add_frequent-requires-clause-rising c).In_ok-sets)) (level_rises c.self.inside.coded.now 2)
 
 pub add_frequent-requires-clause-counts : goal.add_frequent-requires-clause-counts
-add_frequent-requires-clause-counts c = c.deref.ensures.value ∙ c.in_ok-sets.ensures.counts ∙ ap (map (support_of c.self.inside.coded.now.baskets)) (sym c.in_ok-sets.ensures.sets)
+add_frequent-requires-clause-counts c =
+    c.deref-2.ensures.value ∙ c.in_ok-sets.ensures.counts ∙ ap (map (λ (pair : Pair). pair.count)) c.deref.ensures.value ∙ c.in_ok-pairs.ensures.counts
+    ∙ ap (map (support_of c.self.inside.coded.now.baskets)) (sym (level_is (goal.at.add_frequent-requires-clause-counts c).In_ok-sets))
 
 pub ask-requires-clause-found : goal.ask-requires-clause-found
 ask-requires-clause-found c =
     let coding = c.self.inside.coded.now in
     let passes = is_frequent coding.baskets coding.minimum in
     found_next coding 1 c.self.inside.found c.add_frequent.new.found (filter passes (sets_of c.in_ok-sets.sets)) c.self.invariant.1
-    (ap (filter passes) c.in_ok-sets.ensures.sets ∙ level_again coding 2) c.in_ok-level.ensures.found
+    (ap (filter passes) (level_is (goal.at.ask-requires-clause-found c).In_ok-sets) ∙ level_again coding 2) c.in_ok-level.ensures.found
 
 pub ask-requires-clause-level : goal.ask-requires-clause-level
 ask-requires-clause-level c =
     let coding = c.self.inside.coded.now in
     let passes = is_frequent coding.baskets coding.minimum in
-    ap sets_of c.in_ok-level.ensures.level ∙ kept_sets passes c.in_ok-sets.sets ∙ ap (filter passes) c.in_ok-sets.ensures.sets ∙ level_again coding 2
+    ap sets_of c.in_ok-level.ensures.level ∙ kept_sets passes c.in_ok-sets.sets ∙ ap (filter passes) (level_is (goal.at.ask-requires-clause-level c).In_ok-sets) ∙ level_again coding 2
 
 pub ask-requires-clause-grouped : goal.ask-requires-clause-grouped
 ask-requires-clause-grouped c =

@@ -9,7 +9,7 @@ use Rattle.mine_apriori.specs.Extensions.{AreGrouped, sets_of}
 use Rattle.mine_apriori.specs.Levels.{asked_of, wanted}
 use Rattle.mine_apriori.proofs.ExtensionLemmas.{kept_sets}
 use Rattle.mine_apriori.proofs.JoinedLemmas.{kept_grouped}
-use Rattle.mine_apriori.proofs.LevelsLemmas.{asked_few, asked_rise, found_next, next}
+use Rattle.mine_apriori.proofs.LevelsLemmas.{asked_few, asked_rise, found_next, next_level}
 use Rattle.mine_apriori.proofs.levels.Levels.answer.Goals as goal
 
 pub add_frequent-requires-clause-rising : goal.add_frequent-requires-clause-rising
@@ -33,14 +33,14 @@ ask-requires-clause-found c =
     let knows = c.self.invariant.1 in
     let passes = is_frequent coding.baskets coding.minimum in
     found_next coding c.self.inside.size c.self.inside.found c.add_frequent.new.found (filter passes (sets_of c.self.inside.asked)) knows.found_all
-    (next coding c.self.inside.size knows.some (sets_of c.self.inside.asked) knows.asked) c.in_ok-level.ensures.found
+    (ap (filter passes) knows.asked ∙ next_level coding c.self.inside.size knows.some) c.in_ok-level.ensures.found
 
 pub ask-requires-clause-level : goal.ask-requires-clause-level
 ask-requires-clause-level c =
     let coding = c.self.inside.coded.now in
     let knows = c.self.invariant.1 in
     ap sets_of c.in_ok-level.ensures.level ∙ kept_sets (is_frequent coding.baskets coding.minimum) c.self.inside.asked
-    ∙ next coding c.self.inside.size knows.some (sets_of c.self.inside.asked) knows.asked
+    ∙ ap (filter (is_frequent coding.baskets coding.minimum)) knows.asked ∙ next_level coding c.self.inside.size knows.some
 
 pub ask-requires-clause-grouped : goal.ask-requires-clause-grouped
 ask-requires-clause-grouped c =
