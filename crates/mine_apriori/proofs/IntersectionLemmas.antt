@@ -1,11 +1,9 @@
 -- The items that two rising lists share.
-use Rattle.std.proofs.Common.{◌≡◌, ℕ, zero, suc, drop, ◌+◌, ◌<◌, ◌≤◌, Bool, true, false, List, [], ◌∷◌, ◌++◌, length, take, filter, get_or, cond, append-nil, append_assoc, sym, ap, ◌∙◌, subst, inl, inr, arith}
-use Rattle.std.proofs.lemmas.Bool.{cases_lt}
+use Rattle.std.proofs.Common.{◌≡◌, ℕ, zero, suc, drop, ◌+◌, ◌<◌, Bool, true, false, List, [], ◌∷◌, ◌++◌, length, take, filter, get_or, cond, append-nil, append_assoc, sym, ap, ◌∙◌}
 use Rattle.std.proofs.lemmas.List.{take_more}
 use Rattle.std.proofs.lemmas.List.Elements.{filter-append}
 use Rattle.basket_sets.specs.Itemset.{IsRising, has}
 use Rattle.basket_sets.proofs.theory.Rising.{has_place, rest_rises}
-use Rattle.basket_sets.proofs.theory.Tests.{rising_at}
 use Rattle.mine_apriori.proofs.UsedItemLemmas.{missing}
 
 -- ---- one item more
@@ -27,13 +25,7 @@ pub shared_not : (others items shared : List ℕ) (i next : ℕ) → IsRising ot
     → (next < length others → get_or items i 0 < get_or others next 0)
     → shared ++ filter (has others) (take i items) ≡ shared ++ filter (has others) (take (i + 1) items)
 shared_not others items shared i next up below before after =
-    sym (append-nil (shared ++ filter (has others) (take i items))) ∙ shared_step others items shared i false below (missing others (get_or items i 0) next before above)
-  where
-    above : (k : ℕ) → next ≤ k → k < length others → get_or items i 0 < get_or others k 0
-    above k from within = elim (cases_lt next k) [
-      | inl less ↦ (let r = rising_at others next k up less within in let a = after (omega arith) in omega arith)
-      | inr more ↦ (let e : next ≡ k = omega arith in subst (λ n. get_or items i 0 < get_or others n 0) e (after (omega arith)))
-    ]
+    sym (append-nil (shared ++ filter (has others) (take i items))) ∙ shared_step others items shared i false below (missing others (get_or items i 0) next up before after)
 
 -- what is left of rising items rises
 pub drop_rises : (k : ℕ) (items : List ℕ) → IsRising items → IsRising (drop k items)

@@ -16,20 +16,19 @@ nowhere items item none = elim (cases_Bool (has items item)) [
   | inr e ↦ e
 ]
 
--- an item is missing that is above all before a place and below all from it on
-pub missing : (items : List ℕ) (item place : ℕ) → ((k : ℕ) → k < place → k < length items → get_or items k 0 < item)
-    → ((k : ℕ) → place ≤ k → k < length items → item < get_or items k 0) → has items item ≡ false
-missing items item place below above = nowhere items item (λ k within e. elim (cases_lt k place) [
+-- an item is missing from rising ones that is above all before a place and below what stands at it
+pub missing : (items : List ℕ) (item place : ℕ) → IsRising items → ((k : ℕ) → k < place → k < length items → get_or items k 0 < item)
+    → (place < length items → item < get_or items place 0) → has items item ≡ false
+missing items item place up below after = nowhere items item (λ k within e. elim (cases_lt k place) [
   | inl less ↦ let l = below k less within in absurd (omega arith)
-  | inr le ↦ let l = above k le within in absurd (omega arith)
+  | inr le ↦ let l = after (omega arith) in let more = non_decreasing_from_sorted items up place k 0 le within in absurd (omega arith)
 ])
 
--- of rising items only those beside the place need to be looked at
+-- only what stands before the place and at it needs to be looked at
 pub missing_at : (items : List ℕ) (item place : ℕ) → IsRising items → place ≤ length items → (0 < place → get_or items (place - 1) 0 < item)
     → (place < length items → item < get_or items place 0) → has items item ≡ false
-missing_at items item place up short before after = missing items item place
-    (λ k low here. let less = before (omega arith) in let le = non_decreasing_from_sorted items up k (place - 1) 0 (omega arith) (omega arith) in omega arith)
-    (λ k from here. let less = after (omega arith) in let le = non_decreasing_from_sorted items up place k 0 from here in omega arith)
+missing_at items item place up short before after = missing items item place up
+    (λ k low here. let less = before (omega arith) in let le = non_decreasing_from_sorted items up k (place - 1) 0 (omega arith) (omega arith) in omega arith) after
 
 pub has_rising : (numbers : List ℕ) (item : ℕ) → has (rising numbers) item ≡ has numbers item
 has_rising numbers item = same_test (has (rising numbers) item) (has numbers item)
