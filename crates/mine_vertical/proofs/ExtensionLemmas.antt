@@ -125,6 +125,10 @@ module _ {R : Type 0} {stands : List ℕ → List ℕ → List ℕ → R → Typ
           both other m x (inr (inl e)) = subst (λ y. has (ranks_in base) y ≡ true) e rank_has
           both other m x (inr (inr k)) = absurd k
 
+  -- with the first rank none is
+  pub none_first : at ≡ 0 → kept (child node rank) ≡ []
+  none_first first = kept_is ∙ ap (λ n. filter frequent (take n (ranks_in base))) first
+
   joined_below : IsJoined base.coded.now.items base.least (child node rank)
   joined_below = record {
     least_is = is.joined.least_is;

@@ -47,6 +47,10 @@ impl<'a, R: Row> Projected for Siblings<'a, R> {
         room: &mut Room<R>,
         work: &mut u64,
     ) -> Result<Option<Self>, AllocError> {
+        // The first sibling is joined with none.
+        if at == 0 {
+            return Ok(None);
+        }
         let mut list = room.list(alloc);
         let mut joins = Joins::none();
         let kept = self.joined(
@@ -120,9 +124,6 @@ impl<'a, R: Row> Siblings<'a, R> {
         ensures marks { OnOk result (R.at_rest self.now.weights.value marks.new) }
     {
         let mut kept = 0;
-        if at == 0 {
-            return Ok(kept);
-        }
         let weights = &*self.weights;
         let sibling = &self.list[at];
         sibling.mark(marks, weights);

@@ -1,8 +1,14 @@
 use Rattle.std.proofs.Common.{set, take, subst, sym, ap, refl, arith}
 use Rattle.mine_vertical.specs.Projected.{AreAtRest}
-use Rattle.mine_vertical.proofs.ExtensionLemmas.{anew_is, below_is, few, none_below, rises, still, work_is}
+use Rattle.mine_vertical.proofs.ExtensionLemmas.{anew_is, below_is, few, none_below, none_first, rises, still, work_is}
 use Rattle.mine_vertical.proofs.RoomLemmas.{keeps_both, keeps_own, keeps_same}
 use Rattle.mine_vertical.proofs.projected.SiblingsProjected.narrowed.Goals as goal
+
+pub returns-then-at-eq0-clause-none : goal.returns-then-at-eq0-clause-none
+returns-then-at-eq0-clause-none g c = λ node (baskets, set, is). none_first is c.args.at c.requires.inside c.if-at-eq0.true
+
+pub returns-then-at-eq0-clause-work : goal.returns-then-at-eq0-clause-work
+returns-then-at-eq0-clause-work g c = λ node (baskets, set, is). omega (arith, work_is is c.args.at c.requires.inside, c.if-at-eq0.true)
 
 pub overflow_add-work : goal.overflow_add-work
 overflow_add-work g c =
