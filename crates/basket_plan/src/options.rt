@@ -73,9 +73,10 @@ fn arg_of<'a>(alloc: Global, taken: Taken) -> Arg<'a>
         Taken::Required(name, value) => option(alloc, name, value).required(true),
         Taken::Choice(name, value, default) => choice(alloc, name, value, default),
         Taken::Flag(name) => Arg::new(alloc, name).long(name).action(ArgAction::SetTrue),
-        Taken::Number(name, value, most, default) => choice(
-            alloc, name, value, default,
-        ).value_parser(ValueParser::unsigned(1, u64::from(most))),
+        Taken::Number(name, value, most, default) => {
+            let parser = ValueParser::unsigned(1, u64::from(most));
+            choice(alloc, name, value, default).value_parser(parser)
+        }
         Taken::Positional(name, value) => Arg::new(alloc, name).value_name(value),
     }
 }
@@ -88,8 +89,8 @@ fn option<'a>(alloc: Global, name: &'a str, value: &'a str) -> Arg<'a>
     Arg::new(alloc, name).long(name).value_name(value)
 }
 
-/// An option whose value is one of some names. Which these are is checked with the other values: with
-/// `clap`'s own list of names the plan would depend on their addresses.
+/// An option, and its value if it isn't given. `clap` has no list of the names that a value may be: with
+/// one the plan would depend on their addresses.
 fn choice<'a>(alloc: Global, name: &'a str, value: &'a str, default: &'a str) -> Arg<'a>
     ensures rule { rule_of result ≡ choice name.now default.now }
     ensures local { result.global ≡ false }
