@@ -3,21 +3,8 @@
 /// The version of the program, which packages and the manual page take over.
 pub const VERSION: &str = "1.1.0";
 
-/// The help of the command of a name, and for any other name that of the command line.
-pub fn of(name: &str) -> &'static str {
-    match name {
-        "items" => ITEMS,
-        "sets" => SETS,
-        "closed" => CLOSED,
-        "maximal" => MAXIMAL,
-        "rules" => RULES,
-        "count" => COUNT,
-        _ => MAIN,
-    }
-}
-
 /// The help of the command line without a command.
-const MAIN: &str = "\
+pub const MAIN: &str = "\
 Finds what is bought together: frequent items, frequent itemsets and association rules, with
 exact counts and exact fractions.
 
@@ -111,7 +98,7 @@ Options:
     };
 }
 
-const ITEMS: &str = help!(
+pub const ITEMS: &str = help!(
     "Lists the items that are in enough baskets, each with the number of those baskets, its count.",
     "items --min M",
     "",
@@ -124,7 +111,7 @@ Example:
   2 (3)"
 );
 
-const SETS: &str = help!(
+pub const SETS: &str = help!(
     "Lists the sets of items that are in enough baskets, each with the number of those baskets,
 its count.",
     "sets --min M",
@@ -142,7 +129,7 @@ Examples:
   2,milk"
 );
 
-const CLOSED: &str = help!(
+pub const CLOSED: &str = help!(
     "Lists the sets that `sets` lists and of which no larger set has the same count.",
     "closed --min M",
     "",
@@ -155,7 +142,7 @@ Example:
   1 2 (2)"
 );
 
-const MAXIMAL: &str = help!(
+pub const MAXIMAL: &str = help!(
     "Lists the sets that `sets` lists and of which no larger set is in enough baskets.",
     "maximal --min M",
     "",
@@ -167,7 +154,7 @@ Example:
   1 2 (2)"
 );
 
-const RULES: &str = help!(
+pub const RULES: &str = help!(
     "Lists the rules between sets of items whose union is in enough baskets and that hold often
 enough.",
     "rules --min M --conf C",
@@ -185,7 +172,7 @@ Example:
   1 => 2 (2) 1/1 1/1"
 );
 
-const COUNT: &str = "\
+pub const COUNT: &str = "\
 Counts, for each set that you give, the baskets that have all its items.
 
 Usage: basket count --sets SETS [OPTIONS] [FILE]

@@ -2,5 +2,6 @@ pub mod Share
 pub mod Placed
 pub mod Counting
 pub mod Pieces
+pub mod Supports
 pub mod RoundTally
 pub mod Classes

@@ -1,4 +1,2 @@
-mod SupportLemmas
-mod LevelLemmas
 mod RunLemmas
 mod PlaceLemmas

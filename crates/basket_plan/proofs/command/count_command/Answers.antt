@@ -1,0 +1,15 @@
+use Rattle.std.proofs.Common.{◌∙◌, ap}
+use Rattle.std.proofs.lemmas.Result.{IfOk-weaker}
+use Rattle.clap.specs.Simple.{app_of_fields}
+use Rattle.basket_plan.proofs.CommandLemmas.{taken_more}
+use Rattle.basket_plan.proofs.command.count_command.Goals as goal
+
+pub returns-clause-options : goal.returns-clause-options
+returns-clause-options c =
+    let bare = ap app_of_fields c.override_help-command.ensures ∙ c.new.ensures.app in
+    IfOk-weaker c.with_options.result _ _ (λ command added. taken_more bare added) c.with_options.ensures.options
+
+pub returns-clause-local : goal.returns-clause-local
+returns-clause-local c =
+    let bare = ap (λ f. f.has_globals) c.override_help-command.ensures ∙ c.new.ensures.local in
+    IfOk-weaker c.with_options.result _ _ (λ command added. added bare) c.with_options.ensures.local
