@@ -1,17 +1,18 @@
 -- The options, the commands, and the whole line, as `clap` sees them.
-use Rattle.std.specs.Prelude.{◌≡◌, List, [], ◌∷◌, ◌++◌, ℕ, true, false, codes, fold, Some}
-use Rattle.clap.specs.Words.{App, Rule, Text, new_rule, with_rule}
+use Rattle.std.specs.Prelude.{◌≡◌, List, [], ◌∷◌, ℕ, true, false, codes, fold, Some}
+use Rattle.clap.specs.Words.{App, Rule, Text, new_app, new_rule, with_rule, with_subcommand}
 use Rattle.clap.specs.Simple.{new_shape}
 use Rattle.clap.specs.declared.builder.action.ArgAction.TheVariants as action
 use Rattle.clap.specs.declared.builder.value_parser.ValueParser.TheVariants as parser
 use Rattle.basket_plan.specs.Plan.{GREATEST_LIMIT}
+use Rattle.basket_plan.specs.declared.command.Listed.{Listed}
 use Rattle.basket_plan.specs.declared.options.Taken.{Taken}
 use Rattle.basket_plan.specs.declared.options.Taken.TheVariants as taken
 use Rattle.basket_plan.specs.declared.plan.TheConstants.{MOST_PIECES, MOST_WORKERS}
 
 -- the option `--name`, which takes one value
 abbrev pub option : Text → Rule
-option name = record (new_rule name) { long = Some name; value_names = 1; action = Some action.Set }
+option name = record (new_rule name) { long = Some name; value_names = 1 }
 
 -- an option that has to be given
 abbrev pub required : Text → Rule
@@ -31,7 +32,7 @@ number name most default = record (option name) { parser = Some (parser.Unsigned
 
 -- a value without the name of an option
 abbrev pub positional : Text → Rule
-positional name = record (new_rule name) { value_names = 1; action = Some action.Set }
+positional name = record (new_rule name) { value_names = 1 }
 
 -- the rule of what a command takes
 abbrev pub rule_of_taken : Taken → Rule
@@ -43,6 +44,13 @@ rule_of_taken (taken.Positional name value) = positional name.now
 
 abbrev pub with_taken : App → Taken → App
 with_taken app taken = with_rule app (rule_of_taken taken)
+
+-- a command of the table, and the line with it
+abbrev pub listed_app : Listed → App
+listed_app listed = fold with_taken (fold with_taken (new_app listed.0.now) listed.1.now) listed.2.now
+
+abbrev pub with_listed : App → Listed → App
+with_listed app listed = with_subcommand app (listed_app listed).top
 
 -- a command that takes all that another one takes, and these after it
 pub record TakesMore (old : App) (more : List Taken) (new : App) : Type 0 where
@@ -93,13 +101,9 @@ bare_line = record {
   subs = [];
 }
 
--- the line with the commands whose options are all the same
-abbrev pub report_line : App
-report_line = record {
-  top = record bare_line.top { is_leaf = false };
-  subs = (command_app (codes "items")).top ∷ (command_app (codes "sets")).top ∷ (command_app (codes "closed")).top ∷ (command_app (codes "maximal")).top ∷ [];
-}
-
--- all commands
+-- the line with all commands
 abbrev pub command_line : App
-command_line = record report_line { subs = report_line.subs ++ rules_app.top ∷ count_app.top ∷ [] }
+command_line = record {
+  top = record bare_line.top { is_leaf = false };
+  subs = (command_app (codes "items")).top ∷ (command_app (codes "sets")).top ∷ (command_app (codes "closed")).top ∷ (command_app (codes "maximal")).top ∷ rules_app.top ∷ count_app.top ∷ [];
+}

@@ -1,18 +1,31 @@
 //! The command line.
-ghost use Rattle.std.specs.Prelude.{◌≡◌, ◌≢◌, IfErr, IfOk, codes, false, map};
-ghost use Rattle.clap.specs.Words.{app_of, kind_of, with_subcommand};
+ghost use Rattle.std.specs.Prelude.{◌≡◌, ◌≢◌, IfErr, IfOk, false, fold, map};
+ghost use Rattle.clap.specs.Words.{app_of, kind_of};
 ghost use Rattle.clap.specs.declared.builder.command.Command.TheViews.{out-Command as fields_of};
 ghost use Rattle.basket_plan.specs.declared.command.PlanFault.TheVariants.{Memory};
-ghost use Rattle.basket_plan.specs.Options.{bare_line, command_app, command_line, count_app, report_line, rules_app};
+ghost use Rattle.basket_plan.specs.Options.{bare_line, command_line, listed_app, with_listed};
 ghost use Rattle.basket_plan.specs.Command.{asks_help, invocation_of_plain, invocation_of_words, is_help_kind, is_help, plain_asks_help, plain_words};
 ghost use Rattle.basket_plan.specs.Status.{plan_status_of};
 
 use crate::help;
 use crate::invocation::{Invocation, invocation_from};
-use crate::options::{COUNT, REPORT, required, with_options};
+use crate::options::{CONFIDENCE, COUNT, REPORT, Taken, with_options};
 use clap::error::ErrorKind;
 use clap::{Command, Error};
 use std::alloc::{AllocError, Global};
+
+/// A command: its name, what it takes as others do, and what only it takes.
+#[derive(Clone, Copy)]
+pub struct Listed(&'static str, &'static [Taken], &'static [Taken]);
+
+const COMMANDS: [Listed; 6] = [
+    Listed("items", &REPORT, &[]),
+    Listed("sets", &REPORT, &[]),
+    Listed("closed", &REPORT, &[]),
+    Listed("maximal", &REPORT, &[]),
+    Listed("rules", &REPORT, &CONFIDENCE),
+    Listed("count", &COUNT, &[]),
+];
 
 /// Why words of a command line make no plan.
 #[derive(Debug, Drop)]
@@ -82,71 +95,40 @@ fn invocation_of_plain<'a>(alloc: Global, words: &'a [&'a str]) -> Result<Invoca
 fn command_line<'a>(alloc: Global) -> Result<Command<'a>, AllocError>
     ensures { IfOk result (λ command. app_of command ≡ command_line) }
 {
-    report_line(alloc)?
-        .subcommand(rules_command(alloc)?)?
-        .subcommand(count_command(alloc)?)
-}
-
-/// The command line with the commands whose options are all the same.
-fn report_line<'a>(alloc: Global) -> Result<Command<'a>, AllocError>
-    ensures { IfOk result (λ command. app_of command ≡ report_line) }
-{
-    let line = bare_line(alloc)?;
-    let line = with_command(alloc, line, "items", help::ITEMS)?;
-    let line = with_command(alloc, line, "sets", help::SETS)?;
-    let line = with_command(alloc, line, "closed", help::CLOSED)?;
-    with_command(alloc, line, "maximal", help::MAXIMAL)
-}
-
-fn with_command<'a>(
-    alloc: Global,
-    line: Command<'a>,
-    name: &'a str,
-    help: &'a str,
-) -> Result<Command<'a>, AllocError>
-    ensures { IfOk result (λ command. app_of command ≡ with_subcommand (app_of line.entry) (command_app name.now).top) }
-{
-    line.subcommand(command(alloc, name, help)?)
+    line_with(alloc, &COMMANDS)
 }
 
 /// The command line without its commands.
 fn bare_line<'a>(alloc: Global) -> Result<Command<'a>, AllocError>
     ensures { IfOk result (λ command. app_of command ≡ bare_line) }
 {
-    Ok(
-        Command::new(alloc, "basket")
-            .no_binary_name(true)
-            .bin_name("basket")?
-            .version(help::VERSION)
-            .override_help(help::MAIN)
-            .subcommand_required(true)
-            .disable_help_subcommand(true),
-    )
+    Command::new(alloc, "basket")
+        .no_binary_name(true)
+        .version(help::VERSION)
+        .override_help(help::of("basket"))
+        .subcommand_required(true)
+        .disable_help_subcommand(true)
+        .bin_name("basket")
 }
 
-/// A command with its options, which are the same for all except `count`.
-fn command<'a>(alloc: Global, name: &'a str, help: &'a str) -> Result<Command<'a>, AllocError>
-    ensures options { IfOk result (λ command. app_of command ≡ command_app name.now) }
-    ensures local { IfOk result (λ command. (fields_of command).has_globals ≡ false) }
+/// The command line with these commands.
+fn line_with<'a>(alloc: Global, commands: &[Listed]) -> Result<Command<'a>, AllocError>
+    ensures { IfOk result (λ line. app_of line ≡ fold with_listed bare_line commands.now) }
 {
-    let command = Command::new(alloc, name).override_help(help);
-    with_options(alloc, command, &REPORT)
+    let mut line = bare_line(alloc)?;
+    for listed in commands {
+        line = line.subcommand(command(alloc, *listed)?)?;
+    }
+    Ok(line)
 }
 
-fn rules_command<'a>(alloc: Global) -> Result<Command<'a>, AllocError>
-    ensures options { IfOk result (λ command. app_of command ≡ rules_app) }
+fn command<'a>(alloc: Global, listed: Listed) -> Result<Command<'a>, AllocError>
+    ensures options { IfOk result (λ command. app_of command ≡ listed_app listed) }
     ensures local { IfOk result (λ command. (fields_of command).has_globals ≡ false) }
 {
-    command(alloc, "rules", help::RULES)?.arg(required(alloc, "conf", "C"))
-}
-
-/// The command that counts given sets.
-fn count_command<'a>(alloc: Global) -> Result<Command<'a>, AllocError>
-    ensures options { IfOk result (λ command. app_of command ≡ count_app) }
-    ensures local { IfOk result (λ command. (fields_of command).has_globals ≡ false) }
-{
-    let command = Command::new(alloc, "count").override_help(help::COUNT);
-    with_options(alloc, command, &COUNT)
+    let Listed(name, options, own) = listed;
+    let command = Command::new(alloc, name).override_help(help::of(name));
+    with_options(alloc, with_options(alloc, command, options)?, own)
 }
 
 fn fault_of(alloc: Global, error: &Error) -> PlanFault

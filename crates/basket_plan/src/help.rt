@@ -3,8 +3,21 @@
 /// The version of the program, which packages and the manual page take over.
 pub const VERSION: &str = "1.1.0";
 
+/// The help of the command of a name, and for any other name that of the command line.
+pub fn of(name: &str) -> &'static str {
+    match name {
+        "items" => ITEMS,
+        "sets" => SETS,
+        "closed" => CLOSED,
+        "maximal" => MAXIMAL,
+        "rules" => RULES,
+        "count" => COUNT,
+        _ => MAIN,
+    }
+}
+
 /// The help of the command line without a command.
-pub const MAIN: &str = "\
+const MAIN: &str = "\
 Finds what is bought together: frequent items, frequent itemsets and association rules, with
 exact counts and exact fractions.
 
@@ -98,7 +111,7 @@ Options:
     };
 }
 
-pub const ITEMS: &str = help!(
+const ITEMS: &str = help!(
     "Lists the items that are in enough baskets, each with the number of those baskets, its count.",
     "items --min M",
     "",
@@ -111,7 +124,7 @@ Example:
   2 (3)"
 );
 
-pub const SETS: &str = help!(
+const SETS: &str = help!(
     "Lists the sets of items that are in enough baskets, each with the number of those baskets,
 its count.",
     "sets --min M",
@@ -129,7 +142,7 @@ Examples:
   2,milk"
 );
 
-pub const CLOSED: &str = help!(
+const CLOSED: &str = help!(
     "Lists the sets that `sets` lists and of which no larger set has the same count.",
     "closed --min M",
     "",
@@ -142,7 +155,7 @@ Example:
   1 2 (2)"
 );
 
-pub const MAXIMAL: &str = help!(
+const MAXIMAL: &str = help!(
     "Lists the sets that `sets` lists and of which no larger set is in enough baskets.",
     "maximal --min M",
     "",
@@ -154,7 +167,7 @@ Example:
   1 2 (2)"
 );
 
-pub const RULES: &str = help!(
+const RULES: &str = help!(
     "Lists the rules between sets of items whose union is in enough baskets and that hold often
 enough.",
     "rules --min M --conf C",
@@ -172,7 +185,7 @@ Example:
   1 => 2 (2) 1/1 1/1"
 );
 
-pub const COUNT: &str = "\
+const COUNT: &str = "\
 Counts, for each set that you give, the baskets that have all its items.
 
 Usage: basket count --sets SETS [OPTIONS] [FILE]

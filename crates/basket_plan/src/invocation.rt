@@ -2,7 +2,7 @@
 ghost use Rattle.std.specs.Prelude.{◌≡◌, ◌≢◌, IfErr, IfOk, false, option_map};
 ghost use Rattle.std.specs.String.{string_bytes};
 ghost use Rattle.clap.specs.Words.{found_of, rows_of, subcommand_rows_of};
-ghost use Rattle.basket_plan.specs.Command.{count_invocation_of_rows, invocation_of_command, invocation_of_rows, is_help, report_of_rows};
+ghost use Rattle.basket_plan.specs.Command.{count_invocation_of_rows, invocation_of_command, is_help, report_of_rows};
 
 use crate::command::PlanFault;
 use crate::count_plan::CountPlan;
@@ -78,19 +78,6 @@ pub fn invocation_from(alloc: Global, matches: &ArgMatches<'_>) -> Result<Invoca
     let Some((name, options)) = matches.subcommand() else {
         return Err(usage(alloc, "basket: no command\n"));
     };
-    invocation_in(alloc, name, options)
-}
-
-/// What the command of a name with its options asks for.
-fn invocation_in(
-    alloc: Global,
-    name: &str,
-    options: &ArgMatches<'_>,
-) -> Result<Invocation, PlanFault>
-    ensures made { IfOk result (λ invocation. invocation_of_rows name.now (rows_of (found_of options.now)) ≡ Some invocation) }
-    ensures refused { IfErr result (λ fault. fault ≢ PlanFault.Memory → invocation_of_rows name.now (rows_of (found_of options.now)) ≡ None) }
-    ensures help { IfErr result (λ fault. is_help fault ≡ false) }
-{
     match name {
         "count" => counting(alloc, options),
         _ => reporting(alloc, name, options),

@@ -2,7 +2,7 @@
 ghost use Rattle.std.specs.Prelude.{◌≡◌, IfOk, false};
 ghost use Rattle.clap.specs.Words.{app_of, rule_of};
 ghost use Rattle.clap.specs.declared.builder.command.Command.TheViews.{out-Command as fields_of};
-ghost use Rattle.basket_plan.specs.Options.{TakesMore, choice, flag, number, positional, required, rule_of_taken};
+ghost use Rattle.basket_plan.specs.Options.{TakesMore, choice, option, rule_of_taken};
 
 use crate::plan::{MOST_PIECES, MOST_WORKERS};
 use clap::builder::ValueParser;
@@ -33,6 +33,9 @@ pub const REPORT: [Taken; 10] = [
     Taken::Number("pieces", "P", MOST_PIECES, "16"),
     Taken::Positional("file", "FILE"),
 ];
+
+/// What only `rules` takes.
+pub const CONFIDENCE: [Taken; 1] = [Taken::Required("conf", "C")];
 
 /// What `count` takes.
 pub const COUNT: [Taken; 8] = [
@@ -67,65 +70,30 @@ fn arg_of<'a>(alloc: Global, taken: Taken) -> Arg<'a>
     ensures local { result.global ≡ false }
 {
     match taken {
-        Taken::Required(name, value) => required(alloc, name, value),
+        Taken::Required(name, value) => option(alloc, name, value).required(true),
         Taken::Choice(name, value, default) => choice(alloc, name, value, default),
-        Taken::Flag(name) => flag(alloc, name),
-        Taken::Number(name, value, most, default) => number(alloc, name, value, most, default),
-        Taken::Positional(name, value) => positional(alloc, name, value),
+        Taken::Flag(name) => Arg::new(alloc, name).long(name).action(ArgAction::SetTrue),
+        Taken::Number(name, value, most, default) => {
+            let parser = ValueParser::unsigned(1, u64::from(most));
+            choice(alloc, name, value, default).value_parser(parser)
+        }
+        Taken::Positional(name, value) => Arg::new(alloc, name).value_name(value),
     }
 }
 
-/// An option that has to be given.
-pub fn required<'a>(alloc: Global, name: &'a str, value: &'a str) -> Arg<'a>
-    ensures rule { rule_of result ≡ required name.now }
+/// An option with a value.
+fn option<'a>(alloc: Global, name: &'a str, value: &'a str) -> Arg<'a>
+    ensures rule { rule_of result ≡ option name.now }
     ensures local { result.global ≡ false }
 {
-    Arg::new(alloc, name)
-        .long(name)
-        .value_name(value)
-        .required(true)
-        .action(ArgAction::Set)
+    Arg::new(alloc, name).long(name).value_name(value)
 }
 
-/// An option whose value is one of some names. Which these are is checked with the other values: with
-/// `clap`'s own list of names the plan would depend on their addresses.
+/// An option, and its value if it isn't given. `clap` has no list of the names that a value may be: with
+/// one the plan would depend on their addresses.
 fn choice<'a>(alloc: Global, name: &'a str, value: &'a str, default: &'a str) -> Arg<'a>
     ensures rule { rule_of result ≡ choice name.now default.now }
     ensures local { result.global ≡ false }
 {
-    Arg::new(alloc, name)
-        .long(name)
-        .value_name(value)
-        .default_value(default)
-        .action(ArgAction::Set)
-}
-
-fn flag<'a>(alloc: Global, name: &'a str) -> Arg<'a>
-    ensures rule { rule_of result ≡ flag name.now }
-    ensures local { result.global ≡ false }
-{
-    Arg::new(alloc, name).long(name).action(ArgAction::SetTrue)
-}
-
-/// An option whose value is a whole number from 1 to the greatest.
-fn number<'a>(alloc: Global, name: &'a str, value: &'a str, most: u32, default: &'a str) -> Arg<'a>
-    ensures rule { rule_of result ≡ number name.now most default.now }
-    ensures local { result.global ≡ false }
-{
-    Arg::new(alloc, name)
-        .long(name)
-        .value_name(value)
-        .value_parser(ValueParser::unsigned(1, u64::from(most)))
-        .default_value(default)
-        .action(ArgAction::Set)
-}
-
-/// A value without the name of an option, which may be left out.
-fn positional<'a>(alloc: Global, name: &'a str, value: &'a str) -> Arg<'a>
-    ensures rule { rule_of result ≡ positional name.now }
-    ensures local { result.global ≡ false }
-{
-    Arg::new(alloc, name)
-        .value_name(value)
-        .action(ArgAction::Set)
+    option(alloc, name, value).default_value(default)
 }

@@ -1,9 +1,7 @@
+pub mod theory
 mod Placing
-mod Claims
 mod Parts
 mod Shares
-mod SupportLemmas
 mod Numbers
 mod Ranks
 mod Sharing
-mod LevelLemmas

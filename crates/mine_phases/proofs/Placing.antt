@@ -17,6 +17,7 @@ use Rattle.mine_round.specs.Totals.{HoldsNumbersBelow}
 use Rattle.mine_phases.specs.Pieces.{parts_of}
 use Rattle.mine_phases.specs.Placed.{HaveRoom, filled, placed}
 use Rattle.mine_phases.specs.Share.{numbers_of}
+use Rattle.mine_phases.proofs.theory.Seats.{sum_by-flat_map}
 
 -- ---- how often a piece stands in a list
 
@@ -60,14 +61,6 @@ pub times_all : (n x : ℕ) → times x (range_with_len 0 n) ≡ once_below n x
 times_all n x = times-range 0 n x (omega arith) ∙ ap (λ k. once_below k x) (zero-add n)
 
 -- ---- the parts of all pieces
-
-pub sum_by-map : {X Y : Type 0} (f : Y → ℕ) (g : X → Y) (xs : List X) → sum_by f (map g xs) ≡ sum_by (λ x. f (g x)) xs
-sum_by-map f g [] = refl
-sum_by-map f g (x ∷ xs) = sum_by-cons f (g x) (map g xs) ∙ ap (λ n. f (g x) + n) (sum_by-map f g xs) ∙ sym (sum_by-cons (λ y. f (g y)) x xs)
-
-pub sum_by-flat_map : {X Y : Type 0} (f : Y → ℕ) (g : X → List Y) (xs : List X) → sum_by f (flat_map g xs) ≡ sum_by (λ x. sum_by f (g x)) xs
-sum_by-flat_map f g [] = refl
-sum_by-flat_map f g (x ∷ xs) = sum_by-append f (g x) (flat_map g xs) ∙ ap (λ n. sum_by f (g x) + n) (sum_by-flat_map f g xs) ∙ sym (sum_by-cons (λ y. sum_by f (g y)) x xs)
 
 -- where each piece is claimed once, a sum over their parts is the sum over all parts
 sum_of_parts : (f : ℕ → ℕ) (parts pieces : ℕ) (claimed : List ℕ) → 1 ≤ pieces → IsPermutation claimed (range_with_len 0 pieces)

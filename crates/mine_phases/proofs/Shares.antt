@@ -1,13 +1,11 @@
 -- What the shares of all workers are together, where each has its values.
-use Rattle.std.proofs.Common.{◌≡◌, ℕ, ◌<◌, ◌≤◌, List, [], ◌∷◌, ◌++◌, map, length, replicate, Ok, Err, Some, None, Result, refl, ap, sym, ◌∙◌, subst, arith}
+use Rattle.std.proofs.Common.{◌≡◌, ℕ, ◌<◌, ◌≤◌, List, [], ◌∷◌, ◌++◌, map, length, replicate, Ok, Some, None, refl, ap, sym, ◌∙◌, subst, arith}
 use Rattle.std.specs.Prelude.{All, Any, IfOk, IsPermutation, Vec}
 use Rattle.std.specs.Global.{Global}
-use Rattle.std.specs.List.{flat_map, range_with_len, sum_by}
+use Rattle.std.specs.List.{flat_map, range_with_len}
 use Rattle.std.proofs.lemmas.List.{length-map, length-replicate}
 use Rattle.std.proofs.lemmas.List.Concat.{flat_map-append}
-use Rattle.std.proofs.lemmas.List.Elements.{All-append, All-cons, All-head, All-map, All-nil, All-same, All-tail}
-use Rattle.std.proofs.lemmas.List.Sums.{sum_by-cons}
-use Rattle.basket_core.specs.declared.fault.MineFault.{MineFault}
+use Rattle.std.proofs.lemmas.List.Elements.{All-append, All-head, All-nil, All-tail}
 use Rattle.mine_round.specs.RoundView.{RoundView}
 use Rattle.mine_round.specs.SeatView.{SeatView}
 use Rattle.mine_round.specs.Totals.{HoldsNumbersBelow, claimed_by}
@@ -73,40 +71,3 @@ module _ {X : Type 0} (is_value : ℕ → X → Type 0) (parts : ℕ → List �
           count = long;
           each = λ part value below. each_value (λ value. is_value value.0 value.1) (replicate count None) count placed_all values refl is (together shares lists all says).each part value (omega (arith, long, below));
         }
-
--- ---- shares of seats alone
-
--- the seats are of the round that the seats of the shares are of
-pub all_own : {V : Type 0} (round : RoundView) (shares : List (Share V)) (seats : List SeatView) → seats ≡ map (λ share. share.seat) shares → All (λ share. share.seat.round ≡ round.id) shares
-    → All (λ seat. seat.round ≡ round.id) seats
-all_own round shares seats are own = All-same (λ (s : SeatView). s.round ≡ round.id) _ _ are (All-map (λ (s : SeatView). s.round ≡ round.id) (λ share. share.seat) shares own)
-
-module _ {V : Type 0} (P : SeatView → Type 0) where
-  abbrev pub Ends : Share V → Type 0
-  Ends share = IfOk share.values (λ _. P share.seat)
-
-  ends_at : (seat : SeatView) (value : V) (values : Result V MineFault) → Ok value ≡ values → IfOk values (λ _. P seat) → P seat
-  ends_at seat value (Ok other) e h = h
-  ends_at seat value (Err fault) e h = absurd cc
-
-  -- where each worker came to its end, it holds of each seat
-  pub each_seat : (shares : List (Share V)) (done : List V) → map Ok done ≡ map (λ share. share.values) shares → All Ends shares → All P (map (λ share. share.seat) shares)
-  each_seat [] done e ends = All-nil P
-  each_seat (share ∷ shares) [] e ends = absurd cc
-  each_seat (share ∷ shares) (value ∷ done) e ends =
-      let head : Ok value ≡ share.values = cc in
-      let tail : map Ok done ≡ map (λ share. share.values) shares = cc in
-      All-cons P share.seat (map (λ share. share.seat) shares) (ends_at share.seat value share.values head (All-head Ends share shares ends)) (each_seat shares done tail (All-tail Ends share shares ends))
-
--- where it holds of each of some seats, it holds of one
-pub some_seat : (P Q : SeatView → Type 0) → ((seat : SeatView) → P seat → Q seat) → (seats : List SeatView) → 1 ≤ length seats → All P seats → Any Q seats
-some_seat P Q weaker [] some all = absurd (omega arith)
-some_seat P Q weaker (seat ∷ seats) some all = (0, seat, omega arith, refl, weaker seat (All-head P seat seats all))
-
--- where no seat has more of one number than of another, all seats have no more of it
-pub sums_at_most : (f g : SeatView → ℕ) (seats : List SeatView) → All (λ seat. f seat ≤ g seat) seats → sum_by f seats ≤ sum_by g seats
-sums_at_most f g [] each = omega arith
-sums_at_most f g (seat ∷ seats) each =
-    let first = All-head (λ (s : SeatView). f s ≤ g s) seat seats each in
-    let rest = sums_at_most f g seats (All-tail (λ (s : SeatView). f s ≤ g s) seat seats each) in
-    omega (arith, first, rest, sum_by-cons f seat seats, sum_by-cons g seat seats)

@@ -21,9 +21,9 @@ use Rattle.mine_phases.specs.Classes.{HasLargeClass, IsClassShare, IsMined, IsWo
 use Rattle.mine_phases.specs.Pieces.{HasEach}
 use Rattle.mine_phases.specs.Share.{fault_after, fault_of}
 use Rattle.mine_phases.proofs.Numbers.{sum_fits, sum_more}
-use Rattle.mine_phases.proofs.Placing.{sum_by-flat_map, times_all}
+use Rattle.mine_phases.proofs.theory.Seats.{sum_by-flat_map, sums_at_most}
+use Rattle.mine_phases.proofs.Placing.{times_all}
 use Rattle.mine_phases.proofs.Ranks.{sum_of_ranks}
-use Rattle.mine_phases.proofs.Shares.{sums_at_most}
 
 -- ---- the fault to tell
 

@@ -2,6 +2,5 @@ pub mod Share
 pub mod Placed
 pub mod Counting
 pub mod Pieces
-pub mod Supports
 pub mod RoundTally
 pub mod Classes

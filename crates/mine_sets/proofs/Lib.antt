@@ -1,2 +1,4 @@
+mod SupportLemmas
+mod LevelLemmas
 mod RunLemmas
 mod PlaceLemmas

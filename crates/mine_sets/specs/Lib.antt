@@ -1,2 +1,3 @@
+pub mod Supports
 pub mod Asked
 pub mod Placed

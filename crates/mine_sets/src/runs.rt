@@ -3,8 +3,9 @@ ghost use Rattle.std.specs.Prelude.{◌≡◌, ◌≤◌, IfOk, length, map, tak
 ghost use Rattle.basket_sets.specs.Support.{support_of};
 ghost use Rattle.mine_apriori.specs.Sizes.{AreOfSize};
 
+use crate::level::count_level;
 use basket_sets::{Database, Itemset};
-use mine_phases::{Cutting, Gate, count_level};
+use mine_phases::{Cutting, Gate};
 use std::alloc::{AllocError, Global};
 use std::thread::Threads;
 

@@ -1,14 +1,27 @@
-use Rattle.std.proofs.Common.{◌∙◌}
+use Rattle.std.specs.Prelude.{codes}
+use Rattle.std.proofs.Common.{◌∙◌, ap}
 use Rattle.std.proofs.lemmas.Result.{IfErr-weaker, IfOk-weaker}
-use Rattle.basket_plan.proofs.CommandLemmas.{entered}
+use Rattle.clap.specs.Words.{found_of, rows_of}
+use Rattle.basket_plan.specs.Command.{invocation_of_rows}
+use Rattle.basket_plan.proofs.CommandLemmas.{entered, skips}
 use Rattle.basket_plan.proofs.invocation.invocation_from.Goals as goal
 
-pub returns-clause-made : goal.returns-clause-made
-returns-clause-made c =
-    let enters = entered c.args.matches.now _ _ c.in-Some.ensures.name c.in-Some.ensures.rows in
-    IfOk-weaker c.invocation_in.result _ _ (λ invocation made. enters ∙ made) c.invocation_in.ensures.made
+pub returns-in-count-clause-made : goal.returns-in-count-clause-made
+returns-in-count-clause-made c =
+    let enters = entered c.args.matches.now _ _ c.in-Some.ensures.name c.in-Some.ensures.rows ∙ ap (λ name. invocation_of_rows name (rows_of (found_of c.in-Some.options.now))) c.in-count.is in
+    IfOk-weaker c.counting.result _ _ (λ invocation made. enters ∙ made) c.counting.ensures.made
 
-pub returns-clause-refused : goal.returns-clause-refused
-returns-clause-refused c =
-    let enters = entered c.args.matches.now _ _ c.in-Some.ensures.name c.in-Some.ensures.rows in
-    IfErr-weaker c.invocation_in.result _ _ (λ fault refused other. enters ∙ refused other) c.invocation_in.ensures.refused
+pub returns-in-count-clause-refused : goal.returns-in-count-clause-refused
+returns-in-count-clause-refused c =
+    let enters = entered c.args.matches.now _ _ c.in-Some.ensures.name c.in-Some.ensures.rows ∙ ap (λ name. invocation_of_rows name (rows_of (found_of c.in-Some.options.now))) c.in-count.is in
+    IfErr-weaker c.counting.result _ _ (λ fault refused other. enters ∙ refused other) c.counting.ensures.refused
+
+pub returns-in_default-name-clause-made : goal.returns-in_default-name-clause-made
+returns-in_default-name-clause-made c =
+    let enters = entered c.args.matches.now _ _ c.in-Some.ensures.name c.in-Some.ensures.rows ∙ skips _ (codes "count") _ _ c.in_default-name.not-count in
+    IfOk-weaker c.reporting.result _ _ (λ invocation made. enters ∙ made) c.reporting.ensures.made
+
+pub returns-in_default-name-clause-refused : goal.returns-in_default-name-clause-refused
+returns-in_default-name-clause-refused c =
+    let enters = entered c.args.matches.now _ _ c.in-Some.ensures.name c.in-Some.ensures.rows ∙ skips _ (codes "count") _ _ c.in_default-name.not-count in
+    IfErr-weaker c.reporting.result _ _ (λ fault refused other. enters ∙ refused other) c.reporting.ensures.refused

@@ -12,7 +12,8 @@ use Rattle.mine_phases.specs.declared.share.Share.{Share}
 use Rattle.mine_phases.specs.Classes.{IsClassShare, IsMined, ToldAll, claimed_size, ranks_of}
 use Rattle.mine_phases.specs.Pieces.{HasEach}
 use Rattle.mine_phases.specs.Share.{fault_of}
-use Rattle.mine_phases.proofs.Shares.{all_claimed, all_own, each_seat, have_each, hold_numbers}
+use Rattle.mine_phases.proofs.theory.Seats.{all_own, each_seat}
+use Rattle.mine_phases.proofs.Shares.{all_claimed, have_each, hold_numbers}
 use Rattle.mine_phases.proofs.Sharing.{no_more_than_limit, ranks_once, too_many_are}
 use Rattle.mine_phases.proofs.classes.mined_classes.Goals as goal
 

@@ -4,7 +4,8 @@ use Rattle.mine_round.specs.Lawful.{once_below}
 use Rattle.mine_round.specs.SeatView.{SeatView}
 use Rattle.mine_phases.specs.Pieces.{HasEach, parts_of}
 use Rattle.mine_phases.proofs.Placing.{parts_once}
-use Rattle.mine_phases.proofs.Shares.{all_own, have_each, hold_numbers}
+use Rattle.mine_phases.proofs.theory.Seats.{all_own}
+use Rattle.mine_phases.proofs.Shares.{have_each, hold_numbers}
 use Rattle.mine_phases.proofs.pieces.by_pieces.Goals as goal
 
 pub by_workers-requires-clause-accepted : goal.by_workers-requires-clause-accepted

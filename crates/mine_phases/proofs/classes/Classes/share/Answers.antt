@@ -10,7 +10,7 @@ use Rattle.mine_round.specs.Record.{with_piece}
 use Rattle.mine_round.specs.SeatView.{SeatView}
 use Rattle.mine_phases.specs.Classes.{claimed_size, ranks_of}
 use Rattle.mine_phases.specs.RoundTally.{still}
-use Rattle.mine_phases.proofs.Claims.{behind, behind-le, behind_push}
+use Rattle.mine_phases.proofs.theory.Claims.{behind, behind-le, behind_push}
 use Rattle.mine_phases.proofs.classes.Classes.share.Goals as goal
 
 -- what a seat has claimed that looked at the counter, claimed a piece and told of it

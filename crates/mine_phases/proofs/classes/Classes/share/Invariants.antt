@@ -4,7 +4,7 @@ use Rattle.std.specs.List.{flat_map, sum_by}
 use Rattle.mine_phases.specs.Classes.{IsMined, claimed_size, ranks_of}
 use Rattle.mine_phases.specs.RoundTally.{CountsSets}
 use Rattle.mine_phases.specs.Share.{numbers_of}
-use Rattle.mine_phases.proofs.Claims.{behind}
+use Rattle.mine_phases.proofs.theory.Claims.{behind}
 use Rattle.mine_phases.proofs.classes.Classes.share.Given as goal
 
 abbrev pub invariant-loop-alloc : goal.invariant-loop-alloc

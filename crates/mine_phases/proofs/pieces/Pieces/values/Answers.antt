@@ -3,7 +3,7 @@ use Rattle.std.specs.List.{flat_map}
 use Rattle.std.proofs.lemmas.List.{append-nil}
 use Rattle.std.proofs.lemmas.List.Concat.{flat_map-append}
 use Rattle.mine_phases.specs.Pieces.{parts_of}
-use Rattle.mine_phases.proofs.Claims.{behind, behind-le, behind_push}
+use Rattle.mine_phases.proofs.theory.Claims.{behind, behind-le, behind_push}
 use Rattle.mine_phases.proofs.pieces.Pieces.values.Goals as goal
 
 pub loop-piece-smaller : goal.loop-piece-smaller

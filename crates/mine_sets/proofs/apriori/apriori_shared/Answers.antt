@@ -2,7 +2,7 @@ use Rattle.std.proofs.Common.{◌≢◌, [], length, sym, ap, ◌∙◌, arith}
 use Rattle.std.proofs.lemmas.Bool.{true≢false}
 use Rattle.basket_sets.specs.Support.{items_of}
 use Rattle.mine_apriori.specs.Levels.{asked_of}
-use Rattle.mine_phases.proofs.apriori.apriori_shared.Goals as goal
+use Rattle.mine_sets.proofs.apriori.apriori_shared.Goals as goal
 
 pub loop-cutting-smaller : goal.loop-cutting-smaller
 loop-cutting-smaller g c =

@@ -3,6 +3,7 @@ use Rattle.std.proofs.Common.{◌≡◌, ℕ, zero, suc, ◌+◌, ◌-◌, ◌^�
 use Rattle.std.specs.Prelude.{All, Any, IsPermutation, slice_index}
 use Rattle.std.specs.List.{range_with_len, sum_by}
 use Rattle.std.proofs.lemmas.List.{get_or-map, length-map, length-replicate}
+use Rattle.std.proofs.lemmas.List.Elements.{All-head}
 use Rattle.std.proofs.lemmas.List.Folds.{flat_map-map}
 use Rattle.std.proofs.lemmas.List.Sorted.{sum_by-IsPermutation}
 use Rattle.std.proofs.lemmas.List.Sums.{sum_by-take-le, sum_by_push}
@@ -14,11 +15,10 @@ use Rattle.basket_sets.specs.Database.{MOST_WEIGHT}
 use Rattle.basket_sets.specs.Support.{support_of, total_of, weight_at}
 use Rattle.mine_round.specs.SeatView.{SeatView}
 use Rattle.mine_round.specs.Totals.{added_by, claimed_by}
-use Rattle.mine_phases.specs.Supports.{AddsSupports, part_support}
+use Rattle.mine_sets.specs.Supports.{AddsSupports, part_support}
 use Rattle.mine_phases.specs.declared.share.Share.{Share}
-use Rattle.mine_phases.proofs.Claims.{behind, behind-le, behind_push}
-use Rattle.mine_phases.proofs.Placing.{sum_by-flat_map, sum_by-map}
-use Rattle.mine_phases.proofs.Shares.{Ends, each_seat, some_seat, sums_at_most}
+use Rattle.mine_phases.proofs.theory.Claims.{behind, behind-le, behind_push}
+use Rattle.mine_phases.proofs.theory.Seats.{Ends, each_seat, sum_by-flat_map, sum_by-map, sums_at_most}
 
 module _ (baskets : List Weighted) (pieces : ℕ) (set : List ℕ) where
   -- the support in the baskets before a part
@@ -114,6 +114,11 @@ module _ (baskets : List Weighted) (pieces : ℕ) (sets : List (List ℕ)) (clai
   }
 
 -- ---- what all seats added
+
+-- where it holds of each of some seats, it holds of one
+some_seat : (P Q : SeatView → Type 0) → ((seat : SeatView) → P seat → Q seat) → (seats : List SeatView) → 1 ≤ length seats → All P seats → Any Q seats
+some_seat P Q weaker [] some all = absurd (omega arith)
+some_seat P Q weaker (seat ∷ seats) some all = (0, seat, omega arith, refl, weaker seat (All-head P seat seats all))
 
 seats_added : (baskets : List Weighted) (pieces : ℕ) (sets : List (List ℕ)) (k : ℕ) → k < length sets → (seats : List SeatView) → All (AddsSupports baskets pieces sets) seats
     → added_by seats k ≡ sum_by (part_support baskets pieces (get_or sets k [])) (claimed_by seats)

@@ -1,8 +1,8 @@
 use Rattle.std.proofs.Common.{◌≡◌, ◌≤◌, ◌-◌, length}
 use Rattle.std.specs.Prelude.{replicate}
-use Rattle.mine_phases.proofs.Claims.{behind}
-use Rattle.mine_phases.proofs.SupportLemmas.{HasAdded}
-use Rattle.mine_phases.proofs.supports.Counting.add_supports.Given as goal
+use Rattle.mine_phases.proofs.theory.Claims.{behind}
+use Rattle.mine_sets.proofs.SupportLemmas.{HasAdded}
+use Rattle.mine_sets.proofs.supports.Counting.add_supports.Given as goal
 
 abbrev pub invariant-loop-piece : goal.invariant-loop-piece
 invariant-loop-piece g l = record {

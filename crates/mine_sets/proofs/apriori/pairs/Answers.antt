@@ -1,7 +1,7 @@
 use Rattle.std.proofs.Common.{subst, sym}
 use Rattle.std.proofs.lemmas.Result.{IfOk-weaker}
 use Rattle.mine_classes.specs.Pairs.{ArePairs, lists_of}
-use Rattle.mine_phases.proofs.apriori.pairs.Goals as goal
+use Rattle.mine_sets.proofs.apriori.pairs.Goals as goal
 
 pub returns : goal.returns
 returns g c =

@@ -2,14 +2,12 @@
 ghost use Rattle.std.specs.Prelude.{◌≡◌, ◌≤◌, ◌<◌, IfOk, length, map};
 ghost use Rattle.basket_sets.specs.Database.{MOST_WEIGHT};
 ghost use Rattle.basket_sets.specs.Support.{support_of, total_of};
-ghost use Rattle.mine_phases.specs.Supports.{AddsSupports, IsSupportShare};
+ghost use Rattle.mine_sets.specs.Supports.{AddsSupports, IsSupportShare};
 ghost use Rattle.mine_round.specs.Record.{unused};
 
-use crate::gate::Gate;
-use crate::phase::Phase;
-use crate::share::{Share, add_counts, by_workers, claim_piece};
 use basket_core::{MineFault, Weighted, shard};
 use mine_apriori::RowCounter;
+use mine_phases::{Gate, Phase, Share, add_counts, by_workers, claim_piece};
 use mine_round::{Round, RoundSeat};
 use std::alloc::{AllocError, Global};
 use std::thread::Threads;

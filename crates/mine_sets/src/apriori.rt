@@ -7,14 +7,11 @@ ghost use Rattle.mine_apriori.specs.Levels.{AreTooMany};
 ghost use Rattle.mine_classes.specs.Pairs.{ArePairs, lists_of};
 ghost use Rattle.mine_apriori.specs.Work.{candidate_count};
 
-use crate::cutting::Cutting;
-use crate::gate::Gate;
 use crate::level::count_candidates;
-use crate::pairs::count_pairs;
-use crate::triangle::triangle_pairs;
 use basket_core::{Coded, Frequent, MineFault};
 use mine_apriori::FirstLevel;
 use mine_classes::{is_small_triangle, runs_with_least};
+use mine_phases::{Cutting, Gate, count_pairs, triangle_pairs};
 use std::alloc::{AllocError, Global};
 use std::thread::Threads;
 

@@ -1,8 +1,8 @@
 use Rattle.std.proofs.Common.{map, ap, ◌∙◌}
 use Rattle.std.proofs.lemmas.Result.{IfOk-weaker}
 use Rattle.basket_sets.specs.Support.{support_of}
-use Rattle.mine_phases.proofs.LevelLemmas.{all_some}
-use Rattle.mine_phases.proofs.level.count_level.Goals as goal
+use Rattle.mine_sets.proofs.LevelLemmas.{all_some}
+use Rattle.mine_sets.proofs.level.count_level.Goals as goal
 
 pub returns : goal.returns
 returns g c =

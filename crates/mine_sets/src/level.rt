@@ -5,12 +5,10 @@ ghost use Rattle.basket_sets.specs.Support.{support_of, total_of};
 ghost use Rattle.mine_apriori.specs.Extensions.{sets_of};
 ghost use Rattle.mine_apriori.specs.Sizes.{AreOfOneSize};
 
-use crate::cutting::Cutting;
-use crate::gate::Gate;
-use crate::phase::Phase;
 use crate::supports::count_supports;
 use basket_core::{Itemset, Weighted};
 use mine_apriori::{Extensions, RowCounter};
+use mine_phases::{Cutting, Gate, Phase};
 use std::alloc::{AllocError, Global};
 use std::thread::Threads;
 

@@ -1,6 +1,6 @@
 use Rattle.std.proofs.Common.{◌≡◌, ◌-◌, length}
 use Rattle.basket_sets.specs.Support.{items_of}
-use Rattle.mine_phases.proofs.apriori.apriori_shared.Given as goal
+use Rattle.mine_sets.proofs.apriori.apriori_shared.Given as goal
 
 abbrev pub invariant-loop-cutting : goal.invariant-loop-cutting
 invariant-loop-cutting g l = record {

@@ -1,10 +1,11 @@
 use Rattle.std.proofs.Common.{◌≡◌, ap, sym, ◌∙◌, refl, subst, arith, length, get_or, replicate, slice_index, []}
+use Rattle.std.specs.Prelude.{slice_range}
 use Rattle.std.proofs.lemmas.List.{take_at}
+use Rattle.basket_ranks.specs.Shards.{shard_of}
 use Rattle.basket_sets.specs.Support.{support_of, total_of}
-use Rattle.mine_phases.proofs.Claims.{behind, behind-le, behind_push}
-use Rattle.mine_phases.proofs.Parts.{part_is}
-use Rattle.mine_phases.proofs.SupportLemmas.{HasAdded, added_fits, index_zero, nothing_added, part_added, part_fits}
-use Rattle.mine_phases.proofs.supports.Counting.add_supports.Goals as goal
+use Rattle.mine_phases.proofs.theory.Claims.{behind, behind-le, behind_push}
+use Rattle.mine_sets.proofs.SupportLemmas.{HasAdded, added_fits, index_zero, nothing_added, part_added, part_fits}
+use Rattle.mine_sets.proofs.supports.Counting.add_supports.Goals as goal
 
 pub loop-piece-init : goal.loop-piece-init
 loop-piece-init g c =
@@ -24,7 +25,7 @@ add-requires-clause-light g c k below =
     let sets = c.args.self.now.counter.now in
     let pieces = c.args.self.now.phase.now.cutting.pieces in
     let piece = c.in-Some.piece in
-    let part = part_is baskets _ _ piece pieces _ refl c.shard-start.ensures.start c.shard-start.ensures.end in
+    let part : slice_range baskets c.shard-start.result.0 c.shard-start.result.1 ≡ shard_of piece pieces baskets = λ i. slice_range baskets (c.shard-start.ensures.start i) (c.shard-start.ensures.end i) in
     let now = c.deref_mut.ensures.value in
     let fits = part_fits baskets pieces sets c.loop-piece.seat.held.claimed c.loop-piece.counts.items piece c.args.self.now.phase.now.cutting.some_pieces.0 c.in-Some.ensures.rises c.loop-piece.invariant.counted
     c.requires.light k (omega (arith, below, ap length now)) in
@@ -48,7 +49,7 @@ loop-piece-preserved g c =
     let claim = c.in-Some.ensures.piece.1 in
     let high = ap (λ h. behind h.claimed) claim ∙ behind_push before.claimed piece c.in-Some.ensures.rises in
     let within = c.in-Some.ensures.piece.0 in
-    let part = part_is baskets _ _ piece pieces _ refl c.shard-start.ensures.start c.shard-start.ensures.end in
+    let part : slice_range baskets c.shard-start.result.0 c.shard-start.result.1 ≡ shard_of piece pieces baskets = λ i. slice_range baskets (c.shard-start.ensures.start i) (c.shard-start.ensures.end i) in
     let value = c.deref_mut.ensures.value in
     let new = c.add.new.counts in
     let same : length new ≡ length c.loop-piece.counts.items = c.add.auto.counts ∙ ap length value in
