@@ -1,5 +1,4 @@
 pub mod theory
-mod EntryLemmas
 mod MergedLemmas
 mod BitRankLemmas
 mod WordLemmas

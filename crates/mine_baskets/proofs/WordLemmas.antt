@@ -71,6 +71,17 @@ words_ranked count words some light = record {
     none : Word
     none = record { bits = 0; weight = 0 }
 
+-- and words are so many and so heavy as their baskets are
+module _ (count : ℕ) (words : List Word) (are : AreRankBaskets (record { ranks = count; baskets = word_places count words })) where
+  pub some_words : All (λ (word : Word). 1 ≤ word.weight) words
+  some_words i d here =
+      let is = are.places i (word_place count d) (omega (arith, here, length-map words (word_place count))) in
+      let same = ap (λ (p : Weighted). p.weight) (get_or-map (word_place count) words i d (word_place count d) here) in
+      omega (arith, is.weighs, same)
+
+  pub light_words : sum_by (λ (word : Word). word.weight) words ≤ MOST_WEIGHT
+  light_words = subst (λ n. n ≤ MOST_WEIGHT) (word_sum (weigh (λ basket. contains basket [])) count words) are.light
+
 -- one word more of a list
 pub next_word : (count : ℕ) (words : List Word) (i : ℕ) (d : Word) → i < length words
     → word_places count (take i words) ++ word_place count (get_or words i d) ∷ [] ≡ word_places count (take (i + 1) words)

@@ -5,10 +5,8 @@ ghost use Rattle.basket_sets.specs.Itemset.{IsRising};
 ghost use Rattle.mine_baskets.specs.Covers.{AreCovers, HasPlace, covers_in};
 ghost use Rattle.mine_baskets.specs.ListBaskets.{AreRankBaskets};
 ghost use Rattle.mine_baskets.specs.Span.{IsWithin, baskets_at};
-ghost use Rattle.mine_baskets.specs.Words.{ranks_in, word_places};
 
 use crate::span::Span;
-use crate::words::{WORD_RANKS, Word};
 use std::alloc::{AllocError, Global};
 
 /// How often each rank below a number occurs in a list: how much room its cover needs.
@@ -19,24 +17,6 @@ fn rank_counts(alloc: Global, count: usize, ranks: &[u32]) -> Result<Vec<usize>,
     for rank in ranks {
         if let Some(times) = counts.get_mut(*rank as usize) {
             *times = times.saturating_add(1);
-        }
-    }
-    Ok(counts)
-}
-
-/// How often each rank below a number occurs in words.
-fn word_counts(alloc: Global, count: u32, words: &[Word]) -> Result<Vec<usize>, AllocError>
-    ensures { IfOk result (λ counts. length counts.items ≡ count) }
-{
-    let mut counts = vec![in alloc; 0usize; count as usize]?;
-    for word in words {
-        let mut rest = word.bits;
-        while rest != 0 {
-            let rank = 63 - rest.trailing_zeros();
-            if let Some(times) = counts.get_mut(rank as usize) {
-                *times = times.saturating_add(1);
-            }
-            rest &= rest - 1;
         }
     }
     Ok(counts)
@@ -66,24 +46,6 @@ fn add_place(covers: &mut [Vec<u32>], place: u32, basket: &[u32]) -> Result<(), 
     Ok(())
 }
 
-/// Adds a place to the covers of the ranks of a basket that is the bits of a word.
-fn add_word_place(covers: &mut [Vec<u32>], place: u32, bits: u64) -> Result<(), AllocError>
-    requires { length covers.old ≤ WORD_RANKS }
-    ensures { OnOk result (HasPlace place (ranks_in (length covers.old) bits) (covers_in covers.old) (covers_in covers.new)) }
-{
-    let mut rest = bits;
-    while rest != 0 {
-        let bit = rest.ilog2();
-        let rank = (63 - bit) as usize;
-        if rank >= covers.len() {
-            return Ok(());
-        }
-        covers[rank].push(place)?;
-        rest -= 1 << bit;
-    }
-    Ok(())
-}
-
 /// The cover of each rank below a number, in one pass over baskets that are parts of a list. More
 /// than 4,294,967,295 baskets count as out of memory.
 pub fn covers_of_lists(
@@ -103,26 +65,6 @@ pub fn covers_of_lists(
     let mut covers = no_covers(alloc, &counts)?;
     for (place, basket) in baskets.iter().enumerate() {
         add_place(&mut covers, place as u32, basket.of(ranks))?;
-    }
-    Ok(covers)
-}
-
-/// The cover of each rank below a number, in one pass over baskets that are words.
-pub fn covers_of_words(
-    alloc: Global,
-    count: u32,
-    words: &[Word],
-) -> Result<Vec<Vec<u32>>, AllocError>
-    requires { count ≤ WORD_RANKS }
-    ensures { IfOk result (λ covers. AreCovers (record { ranks = count; baskets = word_places count words.now }) covers.items) }
-{
-    if words.len() > u32::MAX as usize {
-        return Err(AllocError);
-    }
-    let counts = word_counts(alloc, count, words)?;
-    let mut covers = no_covers(alloc, &counts)?;
-    for (place, word) in words.iter().enumerate() {
-        add_word_place(&mut covers, place as u32, word.bits)?;
     }
     Ok(covers)
 }

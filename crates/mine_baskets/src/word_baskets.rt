@@ -7,9 +7,8 @@ ghost use Rattle.mine_baskets.specs.Covers.{AreCovers, weights_of};
 ghost use Rattle.mine_baskets.specs.ListBaskets.{AreRankBaskets, HaveSameWeights};
 ghost use Rattle.mine_baskets.specs.Words.{AreInOrder, rank_bits, word_places};
 
-use crate::covers::covers_of_words;
 use crate::list_baskets::ListBaskets;
-use crate::words::{WORD_RANKS, Word, add, bit_of, merged};
+use crate::words::{WORD_RANKS, Word, bit_of, merged};
 use basket_ranks::Coded;
 use basket_sets::Weighted;
 use std::alloc::{AllocError, Global};
@@ -101,7 +100,7 @@ impl WordBaskets {
     pub fn covers(&self, alloc: Global) -> Result<Vec<Vec<u32>>, AllocError>
         ensures { IfOk result (λ covers. AreCovers self.now covers.items) }
     {
-        covers_of_words(alloc, self.count, &self.words)
+        self.lists(alloc)?.covers(alloc)
     }
 
     /// The words, in order.
@@ -115,19 +114,17 @@ impl WordBaskets {
     }
 }
 
-/// Baskets of this many ranks as words, equal neighbours merged.
+/// Baskets of this many ranks as words.
 fn words_of_ranks(alloc: Global, count: u32, baskets: &[Weighted]) -> Result<Vec<Word>, AllocError>
     requires few { count ≤ WORD_RANKS }
     requires ranked { AreRankBaskets (record { ranks = count; baskets = baskets.now }) }
-    ensures some { IfOk result (λ words. All (λ (word : Bits). 1 ≤ word.weight) words.items) }
-    ensures light { IfOk result (λ words. sum_by (λ (word : Bits). word.weight) words.items ≤ MOST_WEIGHT) }
-    ensures weights { IfOk result (λ words. HaveSameWeights baskets.now (word_places count words.items)) }
+    ensures { IfOk result (λ words. word_places count words.items ≡ baskets.now) }
 {
     let mut words = Vec::with_capacity(alloc, baskets.len())?;
     for place in baskets {
         let bits = bits_of_ranks(place.basket.items());
         let weight = place.weight;
-        add(&mut words, Word { bits, weight })?;
+        words.push(Word { bits, weight })?;
     }
     Ok(words)
 }
