@@ -66,19 +66,6 @@ pub fimi_fails : (say : List Weighted → Contents) (left after : Option (List �
 fimi_fails say left after (Ok baskets) h = tt
 fimi_fails say left after (Err fault) h = h
 
--- a fault stays where something follows
-pub refused : {A B : Type 0} (next : A → Result B ReadFault) (left : Option (List ℕ)) (said : List ℕ → Result A ReadFault) (fault : ReadFault)
-    → IfSome left (λ bytes. Answers (Err fault) (said bytes)) → IfSome left (λ bytes. Answers (Err fault) (where_read next (said bytes)))
-refused next None said fault h = tt
-refused next (Some bytes) said fault h = λ other. ap (where_read next) (h other)
-
--- what was read is followed by an answer
-pub followed : {A B : Type 0} (next : A → Result B ReadFault) (left : Option (List ℕ)) (said : List ℕ → Result A ReadFault) (read : A) (answer : Result B ReadFault)
-    → IfSome left (λ bytes. Answers (Ok read) (said bytes)) → Answers answer (next read) → IfSome left (λ bytes. Answers answer (where_read next (said bytes)))
-followed next None said read answer h then = tt
-followed next (Some bytes) said read (Ok b) h then = ap (where_read next) h ∙ then
-followed next (Some bytes) said read (Err fault) h then = λ other. ap (where_read next) h ∙ then other
-
 -- ---- counted sets
 
 pub counts_refused : (left : Option (List ℕ)) (fault : ReadFault) → IfSome left (λ bytes. CountsAnswers {X = CountedLine} {A = Global} (Err fault) (counts_of bytes))

@@ -1,19 +1,20 @@
 -- From what reading, mining and writing ensure to what a run ensures.
-use Rattle.std.proofs.Common.{◌≡◌, ◌≢◌, ◌≤◌, ℕ, List, Option, Some, None, Result, Ok, Err, Bool, true, false, length, take, refl, sym, ap, subst, ◌∙◌}
+use Rattle.std.proofs.Common.{◌≡◌, ◌≤◌, ℕ, List, [], Option, Some, None, Result, Ok, Err, Bool, true, false, length, take, refl, sym, ap, subst, ◌∙◌}
 use Rattle.std.proofs.lemmas.Bool.{false≢true}
-use Rattle.std.specs.Prelude.{IfSome, IsErr}
+use Rattle.std.specs.Prelude.{IfErr, IfOk, IfSome, IsErr}
 use Rattle.std.specs.Io.KnownBytes.{Appends}
 use Rattle.basket_core.specs.declared.fault.MineFault.{MineFault}
-use Rattle.basket_core.specs.declared.fault.MineFault.TheVariants.{Memory}
 use Rattle.basket_read.specs.declared.fault.ReadFault.{ReadFault}
 use Rattle.basket_read.specs.declared.fault.ReadFault.TheVariants.{Read}
-use Rattle.basket.specs.Contents.{Answers}
-use Rattle.basket.specs.Input.{Said, said_of}
+use Rattle.basket.specs.Contents.{Answers, contents_of}
+use Rattle.basket.specs.declared.contents.Contents.{Contents}
+use Rattle.basket.specs.declared.made.Made.{Made}
+use Rattle.basket.specs.Made.{made_text}
 use Rattle.basket.specs.declared.fault.RunFault.{RunFault}
 use Rattle.basket.specs.declared.fault.RunFault.TheVariants.{Input, Sets, Uncounted, Mine, Write}
 use Rattle.basket.specs.Outcome.{outcome, outcome_of, outcome_for, of_mining}
 use Rattle.basket_plan.specs.Plan.{Question}
-use Rattle.basket.specs.Engine.{FailsInput, IsOutcomeFault, IsReadable, MakesReport, RefusesInput, RefusesSets, WritesFront, WritesReport}
+use Rattle.basket.specs.Engine.{FailsInput, IsContentsFault, IsOutcomeFault, IsReadable, MakesReport, RefusesInput, RefusesSets, WritesFront, WritesReport}
 
 abbrev input_fault : ReadFault → Result Unit RunFault → ReadFault
 input_fault other (Err (Input fault)) = fault
@@ -50,13 +51,7 @@ not_failed false x err = refl
 
 -- ---- the outcome for an input
 
--- the report for an input is that of what the reader had left
-pub report_is : (left : Option (List ℕ)) (question : Question) (said : Said) (text : List ℕ)
-    → IfSome left (λ bytes. Answers (Ok said) (said_of question bytes)) → outcome_for said question ≡ Ok text → IfSome left (λ bytes. outcome bytes question ≡ Ok text)
-report_is None question said text read made = tt
-report_is (Some bytes) question said text read made = ap (λ a. outcome_of a question) read ∙ ap of_mining made
-
-pub refuses_input : (left : Option (List ℕ)) (question : Question) (fault : ReadFault) → IfSome left (λ bytes. Answers (Err fault) (said_of question bytes)) → RefusesInput left question fault
+pub refuses_input : (left : Option (List ℕ)) (question : Question) (fault : ReadFault) → IfSome left (λ bytes. Answers (Err fault) (contents_of question.layout [] bytes)) → RefusesInput left question fault
 refuses_input None question fault read = tt
 refuses_input (Some bytes) question fault read = λ other. ap (λ a. outcome_of a question) (read other)
 
@@ -65,12 +60,23 @@ pub mined_is_readable : (mined : Result (List ℕ) MineFault) → IsReadable (of
 mined_is_readable (Ok text) = λ fault is. cc
 mined_is_readable (Err fault) = λ other is. cc
 
-pub refuses_sets : (left : Option (List ℕ)) (question : Question) (said : Said) (fault : MineFault)
-    → IfSome left (λ bytes. Answers (Ok said) (said_of question bytes)) → (fault ≢ Memory → outcome_for said question ≡ Err fault) → RefusesSets left question fault
-refuses_sets None question said fault read refused = tt
-refuses_sets (Some bytes) question said fault read refused =
-    let mined = ap (λ a. outcome_of a question) read in
-    (subst IsReadable (sym mined) (mined_is_readable (outcome_for said question)), λ other. mined ∙ ap of_mining (refused other))
+-- what comes of contents that were read
+pub contents_make : (left after : Option (List ℕ)) (question : Question) (contents : Contents) (result : Result Made RunFault)
+    → IfSome left (λ bytes. Answers (Ok contents) (contents_of question.layout [] bytes))
+    → IfOk result (λ made. outcome_for contents question ≡ Ok (made_text made)) → IfErr result (IsContentsFault (outcome_for contents question))
+    → MakesReport question left after false result
+contents_make None after question contents (Ok made) read is fault = (refl, tt)
+contents_make (Some bytes) after question contents (Ok made) read is fault = (refl, ap (λ a. outcome_of a question) read ∙ is)
+contents_make None after question contents (Err (Input found)) read is fault = (λ working. tt, λ broken. absurd (false≢true broken), λ same. absurd (fault.1 same))
+contents_make (Some bytes) after question contents (Err (Input found)) read is fault =
+    (λ working other. ap (λ a. outcome_of a question) read ∙ fault.0 other, λ broken. absurd (false≢true broken), λ same. absurd (fault.1 same))
+contents_make None after question contents (Err (Mine found)) read is fault = (refl, tt)
+contents_make (Some bytes) after question contents (Err (Mine found)) read is fault =
+    let same = ap (λ a. outcome_of a question) read in
+    (refl, (subst IsReadable (sym same) fault.0, λ other. same ∙ fault.1 other))
+contents_make left after question contents (Err (Sets found)) read is fault = absurd fault
+contents_make left after question contents (Err (Uncounted nth)) read is fault = absurd fault
+contents_make left after question contents (Err Write) read is fault = absurd fault
 
 -- ---- what is written of a report that was made, and what is told where none was
 

@@ -20,9 +20,8 @@ use Rattle.basket_sets.specs.Support.{total_of}
 use Rattle.basket.specs.declared.fault.RunFault.TheVariants.{Input}
 use Rattle.basket.specs.Engine.{IsReadable, MakesReport, RefusesInput, RefusesSets}
 use Rattle.basket.specs.declared.contents.Contents.TheVariants as contents
-use Rattle.basket.specs.Contents.{FailsIn, by_numbers, contents_in, where_read, wording_with}
-use Rattle.basket.specs.Input.{OfBaskets, said_for}
-use Rattle.basket.specs.Outcome.{are_too_many, of_mining, outcome, outcome_for, outcome_of, text_of}
+use Rattle.basket.specs.Contents.{FailsIn, by_numbers, contents_in, wording_with}
+use Rattle.basket.specs.Outcome.{are_too_many, report_of_baskets, of_mining, outcome, outcome_of, text_of}
 use Rattle.basket.proofs.EngineLemmas.{mined_is_readable}
 
 -- ---- counts of two lists of baskets
@@ -45,20 +44,20 @@ counts_refuse left after question fault failed form exact fails read = (
   where
     refused : (left : Option (List ℕ)) → IfSome left (λ bytes. Counts (Err fault) (fimi_of bytes)) → RefusesInput left question fault
     refused None h = tt
-    refused (Some bytes) h = λ other. ap (λ f. outcome_of (where_read (said_for question) (contents_in f question.layout [] bytes)) question) form ∙ ap (λ r. outcome_of (where_read (said_for question) (by_numbers contents.Baskets r)) question) (h other)
+    refused (Some bytes) h = λ other. ap (λ f. outcome_of (contents_in f question.layout [] bytes) question) form ∙ ap (λ r. outcome_of (by_numbers contents.Baskets r) question) (h other)
 
 -- the outcome for the baskets of the input
 fimi_outcome : (bytes : List ℕ) (question : Question) (baskets : List Weighted) → question.layout.form ≡ Fimi → fimi_of bytes ≡ Ok baskets
-    → outcome bytes question ≡ of_mining (outcome_for (OfBaskets baskets None) question)
+    → outcome bytes question ≡ of_mining (report_of_baskets baskets None question)
 fimi_outcome bytes question baskets form is =
-    ap (λ f. outcome_of (where_read (said_for question) (contents_in f question.layout [] bytes)) question) form ∙ ap (λ r. outcome_of (where_read (said_for question) (by_numbers contents.Baskets r)) question) is
+    ap (λ f. outcome_of (contents_in f question.layout [] bytes) question) form ∙ ap (λ r. outcome_of (by_numbers contents.Baskets r) question) is
 
 -- memory may be out only if the input has no fault
 pub memory_refuses : (left : Option (List ℕ)) (question : Question) (counts : ItemCounts) → question.layout.form ≡ Fimi
     → IfSome left (λ bytes. Counts (Ok counts) (fimi_of bytes)) → RefusesSets left question Memory
 memory_refuses None question counts form read = tt
 memory_refuses (Some bytes) question counts form (baskets, is, counted) =
-    (subst IsReadable (sym (fimi_outcome bytes question baskets form is)) (mined_is_readable (outcome_for (OfBaskets baskets None) question)), λ other. absurd (other refl))
+    (subst IsReadable (sym (fimi_outcome bytes question baskets form is)) (mined_is_readable (report_of_baskets baskets None question)), λ other. absurd (other refl))
 
 -- the report of the counts is that of the input
 pub counts_report : (left : Option (List ℕ)) (question : Question) (counts : ItemCounts) (report : List ℕ) → question.ask ≡ Items → question.layout.form ≡ Fimi

@@ -48,6 +48,12 @@ MakesReport question left after failed (Err (Sets fault)) = ⊥
 MakesReport question left after failed (Err (Uncounted nth)) = ⊥
 MakesReport question left after failed (Err Write) = ⊥
 
+-- the fault of what an input says is that of its outcome, except if memory is out
+abbrev pub IsContentsFault : Result (List ℕ) RunFault → RunFault → Type 0
+IsContentsFault outcome (Input fault) = (fault ≢ Memory → outcome ≡ Err (Input fault)) × (fault ≢ Read)
+IsContentsFault outcome (Mine fault) = IsReadable outcome × (fault ≢ mine.Memory → outcome ≡ Err (Mine fault))
+IsContentsFault outcome _ = ⊥
+
 -- the outcome is that fault, except if memory is out, which is a fault of mining only if the input has none
 abbrev pub IsOutcomeFault : Result (List ℕ) RunFault → RunFault → Type 0
 IsOutcomeFault outcome (Input fault) = fault ≢ Memory → outcome ≡ Err (Input fault)

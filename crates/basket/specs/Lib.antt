@@ -1,6 +1,5 @@
 pub mod Contents
 pub mod Counted
-pub mod Input
 pub mod Status
 pub mod Classes
 pub mod Mining

@@ -1,5 +1,5 @@
 -- What a run over an input is to write, or why it writes nothing.
-use Rattle.std.specs.Prelude.{ℕ, Bool, false, List, Result, Ok, Err, filter, length, nat_lt, ◌==◌, if◌then◌else◌}
+use Rattle.std.specs.Prelude.{ℕ, Bool, false, List, [], Option, Result, Ok, Err, filter, length, nat_lt, ◌==◌, if◌then◌else◌}
 use Rattle.basket_core.specs.Listing.{Listing}
 use Rattle.basket_core.specs.declared.fault.MineFault.{MineFault}
 use Rattle.basket_core.specs.declared.fault.MineFault.TheVariants.{TooMany}
@@ -15,8 +15,10 @@ use Rattle.basket.specs.declared.fault.RunFault.{RunFault}
 use Rattle.basket.specs.declared.fault.RunFault.TheVariants.{Input, Mine}
 use Rattle.basket_plan.specs.declared.plan.Ask.{Ask}
 use Rattle.basket_plan.specs.declared.plan.Ask.TheVariants.{Items, Sets, Closed, Maximal, Rules}
-use Rattle.basket.specs.Contents.{wording_with}
-use Rattle.basket.specs.Input.{Said, OfBaskets, OfCounts, said_of}
+use Rattle.basket.specs.declared.contents.Contents.{Contents}
+use Rattle.basket.specs.declared.contents.Contents.TheVariants as contents
+use Rattle.basket.specs.Contents.{contents_of, wording_with}
+use Rattle.basket.specs.Counted.{listing_in}
 use Rattle.basket_plan.specs.Plan.{Question}
 
 -- the text of what is asked for
@@ -44,12 +46,14 @@ abbrev pub are_too_many_in : Ask → Listing → ℕ → Bool
 are_too_many_in Items listing limit = false
 are_too_many_in _ listing limit = nat_lt limit (length listing.sets)
 
--- the outcome for what an input says: the text of what is asked for, unless there are more frequent sets than the limit
-abbrev pub outcome_for : Said → Question → Result (List ℕ) MineFault
-outcome_for (OfBaskets baskets names) question =
+-- the text of what is asked for, unless there are more frequent sets than the limit; of CSV with the names of the items
+abbrev pub report_of_baskets : List Weighted → Option (List (List ℕ)) → Question → Result (List ℕ) MineFault
+report_of_baskets baskets names question =
     if are_too_many question.ask baskets question.minimum question.limit then Err (TooMany question.limit)
     else Ok (text_of (wording_with question.layout.separator names) question.ask baskets question.minimum)
-outcome_for (OfCounts listing names) question =
+
+abbrev pub report_of_listing : Listing → Option (List (List ℕ)) → Question → Result (List ℕ) MineFault
+report_of_listing listing names question =
     if are_too_many_in question.ask listing question.limit then Err (TooMany question.limit)
     else Ok (text_in (wording_with question.layout.separator names) question.ask listing)
 
@@ -57,11 +61,20 @@ abbrev pub of_mining : Result (List ℕ) MineFault → Result (List ℕ) RunFaul
 of_mining (Ok text) = Ok text
 of_mining (Err fault) = Err (Mine fault)
 
+abbrev pub of_listing : Result Listing ReadFault → Option (List (List ℕ)) → Question → Result (List ℕ) RunFault
+of_listing (Ok listing) names question = of_mining (report_of_listing listing names question)
+of_listing (Err fault) names question = Err (Input fault)
+
+-- the outcome for what an input says
+abbrev pub outcome_for : Contents → Question → Result (List ℕ) RunFault
+outcome_for (contents.Baskets baskets names) question = of_mining (report_of_baskets baskets names question)
+outcome_for (contents.Counts lines names) question = of_listing (listing_in question lines) names question
+
 -- the outcome for what an input says, or for its fault
-abbrev pub outcome_of : Result Said ReadFault → Question → Result (List ℕ) RunFault
-outcome_of (Ok said) question = of_mining (outcome_for said question)
+abbrev pub outcome_of : Result Contents ReadFault → Question → Result (List ℕ) RunFault
+outcome_of (Ok contents) question = outcome_for contents question
 outcome_of (Err fault) question = Err (Input fault)
 
 -- the outcome for an input: the text of what is asked for, or a fault
 abbrev pub outcome : List ℕ → Question → Result (List ℕ) RunFault
-outcome bytes question = outcome_of (said_of question bytes) question
+outcome bytes question = outcome_of (contents_of question.layout [] bytes) question

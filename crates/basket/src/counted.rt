@@ -4,8 +4,7 @@ ghost use Rattle.basket_core.specs.declared.fault.MineFault.{MineFault as Mining
 ghost use Rattle.basket.specs.Contents.{Answers};
 ghost use Rattle.basket.specs.Counted.{IsWhole, gap_in, listing_in, needs_subsets, needs_total};
 ghost use Rattle.basket.specs.Made.{made_text};
-ghost use Rattle.basket.specs.Outcome.{outcome_for};
-ghost use Rattle.basket.specs.Input.{OfCounts};
+ghost use Rattle.basket.specs.Outcome.{report_of_listing};
 
 use crate::contents::style_of;
 use crate::made::Made;
@@ -66,8 +65,8 @@ pub fn report_listing(
     plan: &Plan,
 ) -> Result<Made, MineFault>
     requires { IsWhole plan.now.question.ask frequent }
-    ensures ok { IfOk result (λ made. outcome_for (OfCounts frequent names.now) plan.now.question ≡ Ok (made_text made)) }
-    ensures err { (fault : MiningFault) → result ≡ Err fault → fault ≢ MineFault.Memory → outcome_for (OfCounts frequent names.now) plan.now.question ≡ Err fault }
+    ensures ok { IfOk result (λ made. report_of_listing frequent names.now plan.now.question ≡ Ok (made_text made)) }
+    ensures err { (fault : MiningFault) → result ≡ Err fault → fault ≢ MineFault.Memory → report_of_listing frequent names.now plan.now.question ≡ Err fault }
 {
     let style = style_of(names, plan.layout().separator);
     let limit = plan.limit();

@@ -2,15 +2,13 @@ ghost use Rattle.std.specs.Prelude.{◌≡◌, ◌≢◌, ◌↔◌, true, false
 ghost use Rattle.std.specs.Io.KnownBytes.{Keeps};
 ghost use Rattle.basket_core.specs.declared.fault.MineFault.{MineFault as MiningFault};
 ghost use Rattle.basket_read.specs.declared.fault.ReadFault.{ReadFault as InputFault};
-ghost use Rattle.basket.specs.Engine.{MakesReport, WritesReport, WritesFront, RefusesInput, RefusesSets, FailsInput};
-ghost use Rattle.basket.specs.Input.{IsWholeInput, OfBaskets, said_by};
+ghost use Rattle.basket.specs.Engine.{IsContentsFault, MakesReport, WritesReport, WritesFront, RefusesInput, RefusesSets, FailsInput};
 ghost use Rattle.basket.specs.Made.{made_text};
-ghost use Rattle.basket.specs.Outcome.{outcome_for};
+ghost use Rattle.basket.specs.Outcome.{report_of_baskets, outcome_for};
 
-use crate::contents::style_of;
-use crate::counted::report_listing;
+use crate::contents::{Contents, style_of};
+use crate::counted::{listing, report_listing};
 use crate::fault::RunFault;
-use crate::input::Input;
 use crate::items::report_items;
 use crate::made::Made;
 use crate::mining::{cutting, mine_in_place};
@@ -92,30 +90,31 @@ fn report_input<R: RandomSource + Threads + Sync, S: Source>(
     requires { S.has_failed reader.old ≡ false }
     ensures { MakesReport plan.now.question (S.left reader.old) (S.left reader.new) (S.has_failed reader.new) result }
 {
-    let input = match Input::read(rt, alloc, plan, reader) {
-        Ok(input) => input,
-        Err(fault) => return Err(RunFault::Input(fault)),
-    };
-    match report_read(rt, alloc, input, plan) {
-        Ok(made) => Ok(made),
-        Err(fault) => Err(RunFault::Mine(fault)),
+    let names = Names::none(alloc);
+    match Contents::read(rt, alloc, plan.layout(), names, plan.workers(), reader) {
+        Ok(contents) => report_contents(rt, alloc, contents, plan),
+        Err(fault) => Err(RunFault::Input(fault)),
     }
 }
 
 /// The report that the plan asks for over what an input says.
-fn report_read<R: Threads + Sync>(
+fn report_contents<R: Threads + Sync>(
     rt: &R,
     alloc: Global,
-    input: Input,
+    contents: Contents,
     plan: &Plan,
-) -> Result<Made, MineFault>
-    requires { IsWholeInput plan.now.question.ask input }
-    ensures ok { IfOk result (λ made. outcome_for (said_by input) plan.now.question ≡ Ok (made_text made)) }
-    ensures err { (fault : MiningFault) → result ≡ Err fault → fault ≢ MineFault.Memory → outcome_for (said_by input) plan.now.question ≡ Err fault }
+) -> Result<Made, RunFault>
+    ensures ok { IfOk result (λ made. outcome_for contents plan.now.question ≡ Ok (made_text made)) }
+    ensures err { IfErr result (IsContentsFault (outcome_for contents plan.now.question)) }
 {
-    match input {
-        Input::Baskets(database, names) => report_baskets(rt, alloc, database, &names, plan),
-        Input::Counts(frequent, names) => report_listing(alloc, frequent, &names, plan),
+    match contents {
+        Contents::Baskets(database, names) => {
+            Ok(report_baskets(rt, alloc, database, &names, plan)?)
+        }
+        Contents::Counts(together, names) => match listing(alloc, plan, &together) {
+            Ok(frequent) => Ok(report_listing(alloc, frequent, &names, plan)?),
+            Err(fault) => Err(RunFault::Input(fault)),
+        },
     }
 }
 
@@ -127,8 +126,8 @@ fn report_baskets<R: Threads + Sync>(
     names: &Option<Names>,
     plan: &Plan,
 ) -> Result<Made, MineFault>
-    ensures ok { IfOk result (λ made. outcome_for (OfBaskets database names.now) plan.now.question ≡ Ok (made_text made)) }
-    ensures err { (fault : MiningFault) → result ≡ Err fault → fault ≢ MineFault.Memory → outcome_for (OfBaskets database names.now) plan.now.question ≡ Err fault }
+    ensures ok { IfOk result (λ made. report_of_baskets database names.now plan.now.question ≡ Ok (made_text made)) }
+    ensures err { (fault : MiningFault) → result ≡ Err fault → fault ≢ MineFault.Memory → report_of_baskets database names.now plan.now.question ≡ Err fault }
 {
     let style = style_of(names, plan.layout().separator);
     let workers = plan.workers();

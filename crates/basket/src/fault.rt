@@ -28,6 +28,14 @@ pub enum RunFault {
     Write,
 }
 
+impl From<MineFault> for RunFault {
+    ghost from_gives = { λ found fault. fault ≡ Mine found };
+
+    fn from(fault: MineFault) -> Self {
+        RunFault::Mine(fault)
+    }
+}
+
 impl From<AllocError> for RunFault {
     ghost from_gives = { λ _ fault. fault ≡ Mine Memory };
 

@@ -8,7 +8,6 @@ mod count;
 mod counted;
 mod engine;
 mod fault;
-mod input;
 mod items;
 mod made;
 mod memory;

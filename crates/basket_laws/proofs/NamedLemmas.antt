@@ -1,7 +1,7 @@
 -- Questions to counts of parts by names.
 use Rattle.std.proofs.Common.{◌≢◌, ◌≤◌, ◌∙◌, ℕ, [], ◌∷◌, List, Some, ap, map, refl, subst, sym}
-use Rattle.basket.specs.Input.{OfBaskets}
-use Rattle.basket.specs.Outcome.{of_mining, outcome_for}
+use Rattle.basket.specs.declared.contents.Contents.TheVariants as contents
+use Rattle.basket.specs.Outcome.{outcome_for}
 use Rattle.basket_csv.specs.Csv.{baskets_in}
 use Rattle.basket_parts.specs.Laws.{TogetherKeepsCounts, TogetherKeepsFrequent, TogetherKeepsSets}
 use Rattle.basket_sets.specs.declared.weighted.Weighted.{Weighted}
@@ -21,4 +21,4 @@ named_parts_answer_as_the_whole keeps_sets keeps_counts keeps_frequent weighted 
     let whole = named_parts_are_parts weighted parts in
     answers_by_names keeps_sets keeps_counts keeps_frequent (named_parts weighted names parts) share sets lines rise have said (some_named parts (baskets_in weighted names) some)
     (subst (λ b. total_of b ≤ MOST_WEIGHT) (sym whole) light) question names bytes read
-    ∙ ap (λ b. of_mining (outcome_for (OfBaskets b (Some names)) (of_named_counts_at question share))) whole
+    ∙ ap (λ b. outcome_for (contents.Baskets b (Some names)) (of_named_counts_at question share)) whole

@@ -6,9 +6,8 @@ use Rattle.std.proofs.lemmas.Bool.Decides.{nat_tests}
 use Rattle.std.proofs.lemmas.List.Elements.{recursion_from_All}
 use Rattle.basket.specs.Counted.{gap_in, listing_in, needs_subsets, needs_total, unless_fault}
 use Rattle.basket.specs.Contents.{by_names, by_numbers, named_together_of, where_read, with_names, wording_with}
-use Rattle.basket.specs.Input.{OfBaskets, OfCounts, listed as as_said, said_for}
 use Rattle.basket.specs.declared.contents.Contents.TheVariants as contents
-use Rattle.basket.specs.Outcome.{of_mining, outcome, outcome_for, outcome_of}
+use Rattle.basket.specs.Outcome.{report_of_listing, report_of_baskets, of_listing, of_mining, outcome, outcome_for, outcome_of}
 use Rattle.basket_core.specs.declared.fault.MineFault.TheVariants.{TooMany}
 use Rattle.basket_core.specs.Listing.{Listing}
 use Rattle.basket_counts.specs.Counts.{counts_of}
@@ -69,7 +68,7 @@ module _ (whole : List Weighted) (question : Question) where
   abbrev listing : Listing
   listing = record { sets = frequent_of whole question.minimum; total = total_of whole }
 
-  same_text : (names : Option (List (List ℕ))) (ask : Ask) → question.ask ≡ ask → outcome_for (OfCounts listing names) question ≡ outcome_for (OfBaskets whole names) question
+  same_text : (names : Option (List (List ℕ))) (ask : Ask) → question.ask ≡ ask → report_of_listing listing names question ≡ report_of_baskets whole names question
   same_text names Items is = rw is refl
   same_text names Sets is = rw is refl
   same_text names Closed is = rw is (ap (λ sets. cond (nat_lt question.limit (length (frequent_of whole question.minimum))) (Err (TooMany question.limit)) (Ok (report_of (wording_with question.layout.separator names) sets))) (sym (list_decides_closed whole question.minimum)))
@@ -168,11 +167,11 @@ module _
         none : gap_in asked (together lines) ≡ None
         none = none_where (needs_subsets question.ask)
 
-    answers : (bytes : List ℕ) → counts_of bytes ≡ Ok lines → outcome bytes asked ≡ of_mining (outcome_for (OfBaskets whole None) asked)
+    answers : (bytes : List ℕ) → counts_of bytes ≡ Ok lines → outcome bytes asked ≡ outcome_for (contents.Baskets whole None) asked
     answers bytes read =
-        ap (λ r. outcome_of (where_read (said_for asked) (by_numbers contents.Counts (where_read together_of r))) asked) read
-        ∙ ap (λ r. outcome_of (where_read (said_for asked) (by_numbers contents.Counts r)) asked) not_heavy
-        ∙ ap (λ r. outcome_of (as_said None r) asked) same_listing
+        ap (λ r. outcome_of (by_numbers contents.Counts (where_read together_of r)) asked) read
+        ∙ ap (λ r. outcome_of (by_numbers contents.Counts r) asked) not_heavy
+        ∙ ap (λ r. of_listing r None asked) same_listing
         ∙ ap of_mining (same_text whole asked None question.ask refl)
 
     abbrev asked_by_names : Question
@@ -180,11 +179,11 @@ module _
 
     -- the same of lines by names
     pub answers_by_names : (names : List (List ℕ)) (bytes : List ℕ) → named_counts_of question.layout.separator question.layout.header [] bytes ≡ Ok (lines, names)
-        → outcome bytes asked_by_names ≡ of_mining (outcome_for (OfBaskets whole (Some names)) asked_by_names)
+        → outcome bytes asked_by_names ≡ outcome_for (contents.Baskets whole (Some names)) asked_by_names
     answers_by_names names bytes read =
-        ap (λ r. outcome_of (where_read (said_for asked_by_names) (by_names contents.Counts (where_read named_together_of r))) asked_by_names) read
-        ∙ ap (λ r. outcome_of (where_read (said_for asked_by_names) (by_names contents.Counts (with_names names r))) asked_by_names) not_heavy
-        ∙ ap (λ r. outcome_of (as_said (Some names) r) asked_by_names) same_listing
+        ap (λ r. outcome_of (by_names contents.Counts (where_read named_together_of r)) asked_by_names) read
+        ∙ ap (λ r. outcome_of (by_names contents.Counts (with_names names r)) asked_by_names) not_heavy
+        ∙ ap (λ r. of_listing r (Some names) asked_by_names) same_listing
         ∙ ap of_mining (same_text whole asked_by_names (Some names) question.ask refl)
 
 pub parts_answer_as_the_whole : TogetherKeepsSets → TogetherKeepsCounts → TogetherKeepsFrequent → PartsAnswerAsTheWhole

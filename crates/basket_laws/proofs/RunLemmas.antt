@@ -5,8 +5,7 @@ use Rattle.basket.specs.declared.fault.RunFault.{RunFault}
 use Rattle.basket.specs.declared.contents.Contents.TheVariants as contents
 use Rattle.basket.specs.Contents.{by_numbers, where_read, with_names}
 use Rattle.basket.specs.Count.{count_outcome, of_asked, of_contents}
-use Rattle.basket.specs.Input.{OfBaskets, said_for}
-use Rattle.basket.specs.Outcome.{of_mining, outcome, outcome_for, outcome_of}
+use Rattle.basket.specs.Outcome.{outcome, outcome_for, outcome_of}
 use Rattle.basket_counts.specs.Counts.{sets_of_bytes}
 use Rattle.basket_parts.specs.Laws.{TogetherKeepsCounts, TogetherKeepsFrequent, TogetherKeepsSets}
 use Rattle.basket_plan.specs.declared.layout.Form.TheVariants.{Fimi}
@@ -74,5 +73,5 @@ runs_over_parts_agree fronts_are_good good_is_faultless lines_say_theirs keeps_s
     ap (λ text. outcome text (of_counts_at question share)) same
     ∙ parts_answer_as_the_whole keeps_sets keeps_counts keeps_frequent parts share sets question (some_parts fronts last parts cut.1)
     (subst (λ b. total_of b ≤ MOST_WEIGHT) (sym whole) light) rise (have parts cut.1).0 (have parts cut.1).1 (subst (λ text. length text ≤ MOST_BYTES) same few)
-    ∙ ap (λ b. of_mining (outcome_for (OfBaskets b None) (of_counts_at question share))) whole
-    ∙ sym (ap (λ r. outcome_of (where_read (said_for (of_baskets_at question share)) (by_numbers contents.Baskets r)) (of_baskets_at question share)) good)
+    ∙ ap (λ b. outcome_for (contents.Baskets b None) (of_counts_at question share)) whole
+    ∙ sym (ap (λ r. outcome_of (by_numbers contents.Baskets r) (of_baskets_at question share)) good)

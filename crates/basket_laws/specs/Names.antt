@@ -1,8 +1,8 @@
 -- Parts of baskets of names, counted apart and put together.
 use Rattle.std.specs.Prelude.{◌≡◌, ◌≢◌, ◌≤◌, ℕ, Bool, IsTrue, List, [], Some, Ok, All, map}
 use Rattle.std.specs.List.{Contains, flat_map}
-use Rattle.basket.specs.Input.{OfBaskets}
-use Rattle.basket.specs.Outcome.{of_mining, outcome, outcome_for}
+use Rattle.basket.specs.declared.contents.Contents.TheVariants as contents
+use Rattle.basket.specs.Outcome.{outcome, outcome_for}
 use Rattle.basket_csv.specs.Counts.{named_counts_of}
 use Rattle.basket_csv.specs.Csv.{all_names, baskets_in}
 use Rattle.basket_csv.specs.Names.{in_order}
@@ -47,4 +47,4 @@ NamedPartsAnswerAsTheWhole = (weighted : Bool) (parts : List (List (List (List �
     → map said_of lines ≡ counts_of_parts (named_parts weighted (names_of_parts weighted parts) parts) sets
     → named_counts_of question.layout.separator question.layout.header [] bytes ≡ Ok (lines, names_of_parts weighted parts)
     → outcome bytes (of_named_counts_at question share)
-    ≡ of_mining (outcome_for (OfBaskets (baskets_in weighted [] (all_records parts)) (Some (names_of_parts weighted parts))) (of_named_counts_at question share))
+    ≡ outcome_for (contents.Baskets (baskets_in weighted [] (all_records parts)) (Some (names_of_parts weighted parts))) (of_named_counts_at question share)

@@ -1,8 +1,8 @@
 -- The outcomes of questions to counts of parts.
 use Rattle.std.specs.Prelude.{◌≡◌, ◌≢◌, ◌≤◌, ℕ, IsTrue, List, [], None, length, All}
 use Rattle.std.specs.List.{Contains}
-use Rattle.basket.specs.Input.{OfBaskets}
-use Rattle.basket.specs.Outcome.{of_mining, outcome, outcome_for}
+use Rattle.basket.specs.declared.contents.Contents.TheVariants as contents
+use Rattle.basket.specs.Outcome.{outcome, outcome_for}
 use Rattle.basket_counts.specs.Laws.{IsWritten}
 use Rattle.basket_plan.specs.declared.layout.Form.{Form}
 use Rattle.basket_plan.specs.declared.layout.Form.TheVariants.{Counts}
@@ -32,4 +32,4 @@ PartsAnswerAsTheWhole = (parts : List (List Weighted)) (share : ℕ × ℕ) (set
     → parts ≢ [] → total_of (whole_of parts) ≤ MOST_WEIGHT → All IsRising sets
     → ((set : List ℕ) → IsNonemptySet set → IsTrue (is_frequent_in_some parts (Share share) set) → Contains sets set)
     → All IsWritten (counts_of_parts parts sets) → length (texts_of_parts parts sets) ≤ MOST_BYTES
-    → outcome (texts_of_parts parts sets) (of_counts_at question share) ≡ of_mining (outcome_for (OfBaskets (whole_of parts) None) (of_counts_at question share))
+    → outcome (texts_of_parts parts sets) (of_counts_at question share) ≡ outcome_for (contents.Baskets (whole_of parts) None) (of_counts_at question share)

@@ -1,23 +1,29 @@
-use Rattle.std.proofs.Common.{Err, ap, refl}
-use Rattle.basket.specs.Input.{said_by}
-use Rattle.basket.proofs.EngineLemmas.{not_failed, refuses_input, refuses_sets, report_is}
+use Rattle.std.proofs.Common.{Err, Ok, List, [], ℕ, ap, subst, sym}
+use Rattle.std.specs.Prelude.{IfSome}
+use Rattle.basket_plan.specs.declared.layout.Layout.{Layout}
+use Rattle.basket.specs.Contents.{Answers, FailsIn, contents_of}
+use Rattle.basket.specs.Engine.{MakesReport}
+use Rattle.basket.proofs.EngineLemmas.{contents_make, not_failed, refuses_input}
 use Rattle.basket.proofs.engine.report_input.Goals as goal
 
 pub returns-in-Err : goal.returns-in-Err
-returns-in-Err g c = (
-  λ working. refuses_input (g.S.Source.left c.args.reader.now) c.args.plan.now.question c.in-Err.fault (c.in-Err.ensures.exact working),
-  λ failed. c.in-Err.ensures.failed failed,
-  λ is. c.in-Err.ensures.read_is_failed (ap Err is),
-)
+returns-in-Err g c =
+    let left = g.S.Source.left c.args.reader.now in
+    let fault = c.in-Err.fault in (
+      λ working. refuses_input left c.args.plan.now.question fault
+          (subst (λ (layout : Layout). IfSome left (λ bytes. Answers (Err fault) (contents_of layout [] bytes))) c.layout.ensures
+          (subst (λ (known : List (List ℕ)). IfSome left (λ bytes. Answers (Err fault) (contents_of c.layout.result known bytes))) c.none-names.ensures (c.in-Err.ensures.exact working))),
+      λ failed. subst (λ (layout : Layout). FailsIn layout.form left (g.S.Source.left c.read.new.reader) fault) c.layout.ensures (c.in-Err.ensures.failed failed),
+      λ is. c.in-Err.ensures.read_is_failed (ap Err is),
+    )
 
-pub returns-in-Ok-report_read : goal.returns-in-Ok-report_read
-returns-in-Ok-report_read g c =
-    let said = said_by c.in-Ok.input in
-    let working = not_failed _ said c.in-Ok.ensures.failed_is_err in
-    (working, report_is (g.S.Source.left c.args.reader.now) c.args.plan.now.question said _ (c.in-Ok.ensures.exact working) c.in-Ok-report_read.ensures.ok)
-
-pub returns-in-Err-report_read : goal.returns-in-Err-report_read
-returns-in-Err-report_read g c =
-    let said = said_by c.in-Ok.input in
-    let working = not_failed _ said c.in-Ok.ensures.failed_is_err in
-    (working, refuses_sets (g.S.Source.left c.args.reader.now) c.args.plan.now.question said c.in-Err-report_read.fault (c.in-Ok.ensures.exact working) (c.in-Err-report_read.ensures.err c.in-Err-report_read.fault refl))
+pub returns-in-Ok : goal.returns-in-Ok
+returns-in-Ok g c =
+    let left = g.S.Source.left c.args.reader.now in
+    let contents = c.in-Ok.contents in
+    let question = c.args.plan.now.question in
+    let working = not_failed _ contents c.in-Ok.ensures.failed_is_err in
+    let read = subst (λ (layout : Layout). IfSome left (λ bytes. Answers (Ok contents) (contents_of layout [] bytes))) c.layout.ensures
+        (subst (λ (known : List (List ℕ)). IfSome left (λ bytes. Answers (Ok contents) (contents_of c.layout.result known bytes))) c.none-names.ensures (c.in-Ok.ensures.exact working)) in
+    subst (λ failed. MakesReport question left (g.S.Source.left c.read.new.reader) failed c.report_contents.result) (sym working)
+    (contents_make left (g.S.Source.left c.read.new.reader) question contents c.report_contents.result read c.report_contents.ensures.ok c.report_contents.ensures.err)
