@@ -9,10 +9,10 @@ use Rattle.basket.specs.declared.contents.Contents.TheVariants as contents
 use Rattle.basket_sets.specs.declared.counted.Counted.{Counted}
 use Rattle.basket.specs.declared.fault.RunFault.{RunFault}
 use Rattle.basket.specs.declared.fault.RunFault.TheVariants.{Input, Sets, Uncounted, Mine, Write}
-use Rattle.basket.specs.declared.made.Made.{Made}
+use Rattle.basket.specs.declared.prepared.PreparedReport.{PreparedReport}
 use Rattle.basket.specs.Contents.{Answers, AskedAnswers, asked_in, contents_of}
 use Rattle.basket.specs.Count.{AreReadable, AreReadableSets, IsCountsFault, MakesCounts, OfBoth, count_outcome, counted_in, counts_in, counts_over, first_uncounted, of_asked, of_contents, text_of_counts, unless_uncounted}
-use Rattle.basket.specs.Made.{made_text}
+use Rattle.basket.specs.Prepared.{prepared_text}
 use Rattle.mine_sets.specs.Asked.{asked_of}
 
 -- ---- sums of counts
@@ -110,9 +110,9 @@ module _ (layout : Layout) (asked : Option (List ℕ)) (sets names : List (List 
         go (Some s) None is = tt
         go (Some s) (Some bytes) is = subst AreReadable (sym is) (counts_are_readable layout (asked_of sets) contents)
 
-    pub counts_make : (result : Result Made RunFault) → MatchResult result (λ made. counts_in layout (asked_of sets) contents ≡ Ok (made_text made)) (IsCountsFault (counts_in layout (asked_of sets) contents))
+    pub counts_make : (result : Result PreparedReport RunFault) → MatchResult result (λ made. counts_in layout (asked_of sets) contents ≡ Ok (prepared_text made)) (IsCountsFault (counts_in layout (asked_of sets) contents))
         → MakesCounts layout asked asked_failed left after failed result
-    counts_make (Ok made) is = (told (Ok (made_text made)) is, asked_works, works)
+    counts_make (Ok made) is = (told (Ok (prepared_text made)) is, asked_works, works)
     counts_make (Err (Uncounted nth)) is = ((told (Err (Uncounted nth)) is, asked_works, works), λ e. cc)
     counts_make (Err (Mine fault)) is = ((is, asked_works, works, readable), λ e. cc)
     counts_make (Err (Input fault)) is = absurd is

@@ -8,8 +8,8 @@ use Rattle.basket_read.specs.declared.fault.ReadFault.{ReadFault}
 use Rattle.basket_read.specs.declared.fault.ReadFault.TheVariants.{Read}
 use Rattle.basket.specs.Contents.{Answers, contents_of}
 use Rattle.basket.specs.declared.contents.Contents.{Contents}
-use Rattle.basket.specs.declared.made.Made.{Made}
-use Rattle.basket.specs.Made.{made_text}
+use Rattle.basket.specs.declared.prepared.PreparedReport.{PreparedReport}
+use Rattle.basket.specs.Prepared.{prepared_text}
 use Rattle.basket.specs.declared.fault.RunFault.{RunFault}
 use Rattle.basket.specs.declared.fault.RunFault.TheVariants.{Input, Sets, Uncounted, Mine, Write}
 use Rattle.basket.specs.Outcome.{outcome, outcome_of, outcome_for, of_mining}
@@ -61,9 +61,9 @@ mined_is_readable (Ok text) = λ fault is. cc
 mined_is_readable (Err fault) = λ other is. cc
 
 -- what comes of contents that were read
-pub contents_make : (left after : Option (List ℕ)) (question : Question) (contents : Contents) (result : Result Made RunFault)
+pub contents_make : (left after : Option (List ℕ)) (question : Question) (contents : Contents) (result : Result PreparedReport RunFault)
     → IfSome left (λ bytes. Answers (Ok contents) (contents_of question.layout [] bytes))
-    → IfOk result (λ made. outcome_for contents question ≡ Ok (made_text made)) → IfErr result (IsContentsFault (outcome_for contents question))
+    → IfOk result (λ made. outcome_for contents question ≡ Ok (prepared_text made)) → IfErr result (IsContentsFault (outcome_for contents question))
     → MakesReport question left after false result
 contents_make None after question contents (Ok made) read is fault = (refl, tt)
 contents_make (Some bytes) after question contents (Ok made) read is fault = (refl, ap (λ a. outcome_of a question) read ∙ is)

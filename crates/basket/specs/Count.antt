@@ -14,9 +14,9 @@ use Rattle.basket.specs.declared.contents.Contents.{Contents}
 use Rattle.basket.specs.declared.contents.Contents.TheVariants as contents
 use Rattle.basket.specs.declared.fault.RunFault.{RunFault}
 use Rattle.basket.specs.declared.fault.RunFault.TheVariants.{Input, Sets, Uncounted, Mine, Write}
-use Rattle.basket.specs.declared.made.Made.{Made}
+use Rattle.basket.specs.declared.prepared.PreparedReport.{PreparedReport}
 use Rattle.basket.specs.Contents.{FailsIn, asked_in, contents_of, wording_with}
-use Rattle.basket.specs.Made.{made_text}
+use Rattle.basket.specs.Prepared.{prepared_text}
 use Rattle.mine_sets.specs.Asked.{asked_of}
 
 -- ---- what is written
@@ -101,9 +101,9 @@ IsCountFault layout asked asked_failed left after failed (Mine fault) =
 IsCountFault layout asked asked_failed left after failed Write = (asked_failed ≡ false) × (failed ≡ false)
 
 -- what comes of the readers: the counts, or why there are none
-abbrev pub MakesCounts : Layout → Option (List ℕ) → Bool → Option (List ℕ) → Option (List ℕ) → Bool → Result Made RunFault → Type 0
+abbrev pub MakesCounts : Layout → Option (List ℕ) → Bool → Option (List ℕ) → Option (List ℕ) → Bool → Result PreparedReport RunFault → Type 0
 MakesCounts layout asked asked_failed left after failed (Ok made) =
-    OfBoth asked left (λ sets bytes. count_outcome layout sets bytes ≡ Ok (made_text made)) × (asked_failed ≡ false) × (failed ≡ false)
+    OfBoth asked left (λ sets bytes. count_outcome layout sets bytes ≡ Ok (prepared_text made)) × (asked_failed ≡ false) × (failed ≡ false)
 MakesCounts layout asked asked_failed left after failed (Err fault) = IsCountFault layout asked asked_failed left after failed fault × (fault ≢ Write)
 
 -- why there are no counts of sets over what an input says: one has none, or memory is wanting

@@ -7,9 +7,9 @@ use Rattle.basket_core.specs.declared.fault.MineFault.{MineFault}
 use Rattle.basket_core.specs.declared.fault.MineFault.TheVariants as mine
 use Rattle.basket.specs.declared.fault.RunFault.{RunFault}
 use Rattle.basket.specs.declared.fault.RunFault.TheVariants.{Input, Sets, Uncounted, Mine, Write}
-use Rattle.basket.specs.declared.made.Made.{Made}
+use Rattle.basket.specs.declared.prepared.PreparedReport.{PreparedReport}
 use Rattle.basket.specs.Contents.{FailsIn}
-use Rattle.basket.specs.Made.{made_text}
+use Rattle.basket.specs.Prepared.{prepared_text}
 use Rattle.basket.specs.Outcome.{outcome}
 use Rattle.basket_plan.specs.Plan.{Question}
 
@@ -39,8 +39,8 @@ abbrev pub FailsInput : Option (List ℕ) → Question → Option (List ℕ) →
 FailsInput left question after fault = FailsIn question.layout.form left after fault
 
 -- what comes of a reader: the report of what it had left, or why there is none
-abbrev pub MakesReport : Question → Option (List ℕ) → Option (List ℕ) → Bool → Result Made RunFault → Type 0
-MakesReport question left after failed (Ok made) = (failed ≡ false) × IfSome left (λ bytes. outcome bytes question ≡ Ok (made_text made))
+abbrev pub MakesReport : Question → Option (List ℕ) → Option (List ℕ) → Bool → Result PreparedReport RunFault → Type 0
+MakesReport question left after failed (Ok made) = (failed ≡ false) × IfSome left (λ bytes. outcome bytes question ≡ Ok (prepared_text made))
 MakesReport question left after failed (Err (Input fault)) =
     (failed ≡ false → RefusesInput left question fault) × (failed ≡ true → FailsInput left question after fault) × (fault ≡ Read → failed ≡ true)
 MakesReport question left after failed (Err (Mine fault)) = (failed ≡ false) × RefusesSets left question fault

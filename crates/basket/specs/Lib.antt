@@ -5,6 +5,6 @@ pub mod Classes
 pub mod Mining
 pub mod Outcome
 pub mod Worked
-pub mod Made
+pub mod Prepared
 pub mod Engine
 pub mod Count

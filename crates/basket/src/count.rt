@@ -5,13 +5,13 @@ ghost use Rattle.basket_read.specs.declared.fault.ReadFault.{ReadFault as InputF
 ghost use Rattle.basket_report.specs.Report.{report_of};
 ghost use Rattle.basket.specs.Contents.{wording_with};
 ghost use Rattle.basket.specs.Count.{IsCountFault, IsCountsFault, IsSumsFault, MakesCounts, WritesCounts, WritesCountsFront, counts_in, counts_over};
-ghost use Rattle.basket.specs.Made.{made_text};
+ghost use Rattle.basket.specs.Prepared.{prepared_text};
 ghost use Rattle.mine_sets.specs.Asked.{asked_of};
 
 use crate::asked::read_asked;
 use crate::contents::{Contents, style_of};
 use crate::fault::RunFault;
-use crate::made::Made;
+use crate::prepared::PreparedReport;
 use basket_core::{Counted, CountedSets, Itemset, Sink, Source};
 use basket_csv::Names;
 use basket_parts::Together;
@@ -69,7 +69,7 @@ fn counts<R: RandomSource + Threads + Sync, S: Source, T: Source>(
     plan: &CountPlan,
     sets: &mut S,
     reader: &mut T,
-) -> Result<Made, RunFault>
+) -> Result<PreparedReport, RunFault>
     requires sets { S.has_failed sets.old ≡ false }
     requires reader { T.has_failed reader.old ≡ false }
     ensures { MakesCounts plan.now.layout (S.left sets.old) (S.has_failed sets.new) (T.left reader.old) (T.left reader.new) (T.has_failed reader.new) result }
@@ -92,9 +92,9 @@ fn counted<R: RandomSource + Threads + Sync>(
     plan: &CountPlan,
     sets: Vec<Itemset>,
     contents: Contents,
-) -> Result<Made, RunFault>
+) -> Result<PreparedReport, RunFault>
     ensures { let answer = counts_in plan.now.layout (asked_of sets.items) contents in
-        MatchResult result (λ made. answer ≡ Ok (made_text made)) (IsCountsFault answer) }
+        MatchResult result (λ made. answer ≡ Ok (prepared_text made)) (IsCountsFault answer) }
 {
     match contents {
         Contents::Baskets(database, names) => {
@@ -119,12 +119,12 @@ fn listed(
     counted: &[Counted],
     names: &Option<Names>,
     plan: &CountPlan,
-) -> Result<Made, AllocError>
-    ensures { IfOk result (λ made. made_text made ≡ report_of (wording_with plan.now.layout.separator names.now) counted.now) }
+) -> Result<PreparedReport, AllocError>
+    ensures { IfOk result (λ made. prepared_text made ≡ report_of (wording_with plan.now.layout.separator names.now) counted.now) }
 {
     let list = CountedSets::of_sets(alloc, counted)?;
     let style = style_of(names, plan.layout().separator);
-    Made::of_sets(alloc, list, style, plan.workers())
+    PreparedReport::of_sets(alloc, list, style, plan.workers())
 }
 
 /// The sets with the sums of their counts, or the first set without a count.

@@ -3,11 +3,11 @@ ghost use Rattle.std.specs.Prelude.{◌≡◌, ◌≢◌, ◌==◌, Ok, Err, IfO
 ghost use Rattle.basket_core.specs.declared.fault.MineFault.{MineFault as MiningFault};
 ghost use Rattle.basket.specs.Contents.{Answers};
 ghost use Rattle.basket.specs.Counted.{IsWhole, gap_in, listing_in, needs_subsets, needs_total};
-ghost use Rattle.basket.specs.Made.{made_text};
+ghost use Rattle.basket.specs.Prepared.{prepared_text};
 ghost use Rattle.basket.specs.Outcome.{report_of_listing};
 
 use crate::contents::style_of;
-use crate::made::Made;
+use crate::prepared::PreparedReport;
 use basket_core::{CountedSets, Frequent, MineFault};
 use basket_csv::Names;
 use basket_parts::Together;
@@ -63,9 +63,9 @@ pub fn report_listing(
     frequent: Frequent,
     names: &Option<Names>,
     plan: &Plan,
-) -> Result<Made, MineFault>
+) -> Result<PreparedReport, MineFault>
     requires { IsWhole plan.now.question.ask frequent }
-    ensures ok { IfOk result (λ made. report_of_listing frequent names.now plan.now.question ≡ Ok (made_text made)) }
+    ensures ok { IfOk result (λ made. report_of_listing frequent names.now plan.now.question ≡ Ok (prepared_text made)) }
     ensures err { (fault : MiningFault) → result ≡ Err fault → fault ≢ MineFault.Memory → report_of_listing frequent names.now plan.now.question ≡ Err fault }
 {
     let style = style_of(names, plan.layout().separator);
@@ -73,18 +73,18 @@ pub fn report_listing(
     let workers = plan.workers();
     if let Ask::Items = plan.ask() {
         let items = single_items(alloc, frequent.sets())?;
-        return Ok(Made::of_sets(alloc, items, style, workers)?);
+        return Ok(PreparedReport::of_sets(alloc, items, style, workers)?);
     }
     if frequent.sets().len() > limit as usize {
         return Err(MineFault::TooMany { limit });
     }
     match plan.ask() {
-        Ask::Items | Ask::Sets => Ok(Made::of_sets(alloc, frequent.into_sets(), style, workers)?),
-        Ask::Closed => Ok(Made::of_closed(alloc, frequent, style, workers)?),
-        Ask::Maximal => Ok(Made::of_maximal(alloc, frequent, style, workers)?),
+        Ask::Items | Ask::Sets => Ok(PreparedReport::of_sets(alloc, frequent.into_sets(), style, workers)?),
+        Ask::Closed => Ok(PreparedReport::of_closed(alloc, frequent, style, workers)?),
+        Ask::Maximal => Ok(PreparedReport::of_maximal(alloc, frequent, style, workers)?),
         Ask::Rules(confidence) => {
             let frequent = frequent.unpacked(alloc)?;
-            Ok(Made::Text(rules_report(alloc, &frequent, confidence, style)?))
+            Ok(PreparedReport::Text(rules_report(alloc, &frequent, confidence, style)?))
         }
     }
 }

@@ -3,14 +3,14 @@ ghost use Rattle.std.specs.Io.KnownBytes.{Keeps};
 ghost use Rattle.basket_core.specs.declared.fault.MineFault.{MineFault as MiningFault};
 ghost use Rattle.basket_read.specs.declared.fault.ReadFault.{ReadFault as InputFault};
 ghost use Rattle.basket.specs.Engine.{IsContentsFault, MakesReport, WritesReport, WritesFront, RefusesInput, RefusesSets, FailsInput};
-ghost use Rattle.basket.specs.Made.{made_text};
+ghost use Rattle.basket.specs.Prepared.{prepared_text};
 ghost use Rattle.basket.specs.Outcome.{report_of_baskets, outcome_for};
 
 use crate::contents::{Contents, style_of};
 use crate::counted::{listing, report_listing};
 use crate::fault::RunFault;
 use crate::items::report_items;
-use crate::made::Made;
+use crate::prepared::PreparedReport;
 use crate::mining::{cutting, mine_in_place};
 use basket_core::{Database, MineFault, Sink, Source};
 use basket_csv::Names;
@@ -70,7 +70,7 @@ pub fn reported<R: RandomSource + Threads + Sync, S: Source>(
     alloc: Global,
     plan: &Plan,
     reader: &mut S,
-) -> Result<Made, RunFault>
+) -> Result<PreparedReport, RunFault>
     requires { S.has_failed reader.old ≡ false }
     ensures { MakesReport plan.now.question (S.left reader.old) (S.left reader.new) (S.has_failed reader.new) result }
 {
@@ -86,7 +86,7 @@ fn report_input<R: RandomSource + Threads + Sync, S: Source>(
     alloc: Global,
     plan: &Plan,
     reader: &mut S,
-) -> Result<Made, RunFault>
+) -> Result<PreparedReport, RunFault>
     requires { S.has_failed reader.old ≡ false }
     ensures { MakesReport plan.now.question (S.left reader.old) (S.left reader.new) (S.has_failed reader.new) result }
 {
@@ -103,8 +103,8 @@ fn report_contents<R: Threads + Sync>(
     alloc: Global,
     contents: Contents,
     plan: &Plan,
-) -> Result<Made, RunFault>
-    ensures ok { IfOk result (λ made. outcome_for contents plan.now.question ≡ Ok (made_text made)) }
+) -> Result<PreparedReport, RunFault>
+    ensures ok { IfOk result (λ made. outcome_for contents plan.now.question ≡ Ok (prepared_text made)) }
     ensures err { IfErr result (IsContentsFault (outcome_for contents plan.now.question)) }
 {
     match contents {
@@ -125,8 +125,8 @@ fn report_baskets<R: Threads + Sync>(
     database: Database,
     names: &Option<Names>,
     plan: &Plan,
-) -> Result<Made, MineFault>
-    ensures ok { IfOk result (λ made. report_of_baskets database names.now plan.now.question ≡ Ok (made_text made)) }
+) -> Result<PreparedReport, MineFault>
+    ensures ok { IfOk result (λ made. report_of_baskets database names.now plan.now.question ≡ Ok (prepared_text made)) }
     ensures err { (fault : MiningFault) → result ≡ Err fault → fault ≢ MineFault.Memory → report_of_baskets database names.now plan.now.question ≡ Err fault }
 {
     let style = style_of(names, plan.layout().separator);
@@ -135,24 +135,24 @@ fn report_baskets<R: Threads + Sync>(
         Ask::Items => {
             let counts = count_shared(rt, alloc, database.baskets(), cutting(plan), &Open)?;
             let minimum = plan.minimum();
-            Ok(Made::Text(items_report(alloc, &counts, minimum, database.total(), style)?))
+            Ok(PreparedReport::Text(items_report(alloc, &counts, minimum, database.total(), style)?))
         }
         Ask::Sets => {
             let (frequent, _) = mine_in_place(rt, alloc, database, plan, &Open)?;
-            Ok(Made::of_sets(alloc, frequent.into_sets(), style, workers)?)
+            Ok(PreparedReport::of_sets(alloc, frequent.into_sets(), style, workers)?)
         }
         Ask::Closed => {
             let (frequent, _) = mine_in_place(rt, alloc, database, plan, &Open)?;
-            Ok(Made::of_closed(alloc, frequent, style, workers)?)
+            Ok(PreparedReport::of_closed(alloc, frequent, style, workers)?)
         }
         Ask::Maximal => {
             let (frequent, _) = mine_in_place(rt, alloc, database, plan, &Open)?;
-            Ok(Made::of_maximal(alloc, frequent, style, workers)?)
+            Ok(PreparedReport::of_maximal(alloc, frequent, style, workers)?)
         }
         Ask::Rules(confidence) => {
             let (frequent, _) = mine_in_place(rt, alloc, database, plan, &Open)?;
             let frequent = frequent.unpacked(alloc)?;
-            Ok(Made::Text(rules_report(alloc, &frequent, confidence, style)?))
+            Ok(PreparedReport::Text(rules_report(alloc, &frequent, confidence, style)?))
         }
     }
 }

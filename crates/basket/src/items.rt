@@ -8,7 +8,7 @@ ghost use Rattle.basket_sets.specs.Frequent.{frequent_items_of};
 ghost use Rattle.basket.specs.Engine.{MakesReport};
 
 use crate::fault::RunFault;
-use crate::made::Made;
+use crate::prepared::PreparedReport;
 use crate::mining::cutting;
 use basket_core::{MineFault, Source, add_counts};
 use basket_plan::{Ask, Form, Plan};
@@ -24,7 +24,7 @@ pub fn report_items<R: Threads + Sync, S: Source>(
     alloc: Global,
     plan: &Plan,
     reader: &mut S,
-) -> Result<Made, RunFault>
+) -> Result<PreparedReport, RunFault>
     requires reader { S.has_failed reader.old ≡ false }
     requires items { plan.now.question.ask ≡ Ask.Items }
     requires lines { plan.now.question.layout.form ≡ Form.Fimi }
@@ -35,7 +35,7 @@ pub fn report_items<R: Threads + Sync, S: Source>(
         Err(fault) => return Err(RunFault::Input(fault)),
     };
     match report_counts(rt, alloc, &counts, plan) {
-        Ok(report) => Ok(Made::Text(report)),
+        Ok(report) => Ok(PreparedReport::Text(report)),
         Err(AllocError) => Err(RunFault::Mine(MineFault::Memory)),
     }
 }

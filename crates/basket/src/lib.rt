@@ -9,7 +9,7 @@ mod counted;
 mod engine;
 mod fault;
 mod items;
-mod made;
+mod prepared;
 mod memory;
 mod merging;
 mod mining;

@@ -1,6 +1,6 @@
 use Rattle.std.proofs.Common.{◌∙◌, sym}
 use Rattle.std.proofs.lemmas.Result.{err_from_is_err_and}
-use Rattle.basket.specs.Made.{made_text}
+use Rattle.basket.specs.Prepared.{prepared_text}
 use Rattle.basket.proofs.EngineLemmas.{not_write, told_by_reader, told_failed, told_input, told_mine, told_read, write_is_no_mining, writes_front, writes_report}
 use Rattle.basket.proofs.engine.run.Goals as goal
 
@@ -32,11 +32,11 @@ returns-in-Err-clause-write g c = (
 )
 
 pub returns-in_err-write-clause-front : goal.returns-in_err-write-clause-front
-returns-in_err-write-clause-front g c is = writes_front (g.S.Source.left c.args.reader.now) c.args.plan.now.question _ _ (made_text c.in-Ok.made) c.in-Ok.ensures.1 c.in_err-write.ensures.err
+returns-in_err-write-clause-front g c is = writes_front (g.S.Source.left c.args.reader.now) c.args.plan.now.question _ _ (prepared_text c.in-Ok.made) c.in-Ok.ensures.1 c.in_err-write.ensures.err
 
 pub returns-in_err-write-clause-whole : goal.returns-in_err-write-clause-whole
 returns-in_err-write-clause-whole g c = λ is flush.
-    writes_report (g.S.Source.left c.args.reader.now) c.args.plan.now.question _ _ (made_text c.in-Ok.made) c.in-Ok.ensures.1 (c.in_err-write.ensures.whole flush)
+    writes_report (g.S.Source.left c.args.reader.now) c.args.plan.now.question _ _ (prepared_text c.in-Ok.made) c.in-Ok.ensures.1 (c.in_err-write.ensures.whole flush)
 
 pub returns-in_err-write-clause-mine : goal.returns-in_err-write-clause-mine
 returns-in_err-write-clause-mine g c = λ fault is.
@@ -44,4 +44,4 @@ returns-in_err-write-clause-mine g c = λ fault is.
     absurd (write_is_no_mining p.0 fault p.2 (sym p.1 ∙ is))
 
 pub returns-clause-report : goal.returns-clause-report
-returns-clause-report g c = writes_report (g.S.Source.left c.args.reader.now) c.args.plan.now.question _ _ (made_text c.in-Ok.made) c.in-Ok.ensures.1 c.in_ok-write.ensures.ok
+returns-clause-report g c = writes_report (g.S.Source.left c.args.reader.now) c.args.plan.now.question _ _ (prepared_text c.in-Ok.made) c.in-Ok.ensures.1 c.in_ok-write.ensures.ok

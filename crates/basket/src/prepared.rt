@@ -9,7 +9,7 @@ ghost use Rattle.basket_rules.specs.Consistency.{IsConsistent};
 ghost use Rattle.basket_rules.specs.Listed.{IsListingOf};
 ghost use Rattle.basket_sets.specs.declared.minimum.Minimum.{Minimum as Bound};
 ghost use Rattle.basket_sets.specs.declared.weighted.Weighted.{Weighted as Basket};
-ghost use Rattle.basket.specs.Made.{made_text};
+ghost use Rattle.basket.specs.Prepared.{prepared_text};
 
 use basket_core::{CountedSets, Failed, Frequent, MemSink, Sink};
 use basket_report::{SetLines, Style, sets_report, write_bytes};
@@ -19,12 +19,12 @@ use std::thread::Threads;
 
 /// A report: its text, or the sets whose lines are made while they are written.
 #[derive(Drop)]
-pub enum Made {
+pub enum PreparedReport {
     Text(Vec<u8>),
     Sets(CountedSets, SetLines),
 }
 
-impl Made {
+impl PreparedReport {
     /// The report of the sets, whose lines this many workers will make.
     pub fn of_sets(
         alloc: Global,
@@ -32,14 +32,14 @@ impl Made {
         style: Style<'_>,
         workers: u32,
     ) -> Result<Self, AllocError>
-        ensures { IfOk result (λ made. made_text made ≡ report_of (wording_of style.entry) sets) }
+        ensures { IfOk result (λ made. prepared_text made ≡ report_of (wording_of style.entry) sets) }
     {
         match style {
             Style::Numbers => {
                 let lines = SetLines::new(alloc, &sets, workers)?;
-                Ok(Made::Sets(sets, lines))
+                Ok(PreparedReport::Sets(sets, lines))
             }
-            Style::Names { .. } => Ok(Made::Text(sets_report(alloc, &sets, style)?)),
+            Style::Names { .. } => Ok(PreparedReport::Text(sets_report(alloc, &sets, style)?)),
         }
     }
 
@@ -50,11 +50,11 @@ impl Made {
         style: Style<'_>,
         workers: u32,
     ) -> Result<Self, AllocError>
-        ensures lists { IfOk result (λ made. IsConsistent frequent.sets → made_text made ≡ report_of (wording_of style.entry) (closed_in frequent.sets)) }
+        ensures lists { IfOk result (λ made. IsConsistent frequent.sets → prepared_text made ≡ report_of (wording_of style.entry) (closed_in frequent.sets)) }
         ensures baskets { IfOk result (λ made. (baskets : List Basket) (minimum : Bound) → IsListingOf baskets minimum frequent
-            → made_text made ≡ report_of (wording_of style.entry) (closed_of baskets minimum)) }
+            → prepared_text made ≡ report_of (wording_of style.entry) (closed_of baskets minimum)) }
     {
-        Made::of_sets(alloc, closed(alloc, &frequent)?, style, workers)
+        PreparedReport::of_sets(alloc, closed(alloc, &frequent)?, style, workers)
     }
 
     /// The report of the maximal sets among the frequent ones.
@@ -64,36 +64,36 @@ impl Made {
         style: Style<'_>,
         workers: u32,
     ) -> Result<Self, AllocError>
-        ensures lists { IfOk result (λ made. IsConsistent frequent.sets → made_text made ≡ report_of (wording_of style.entry) (maximal_in frequent.sets)) }
+        ensures lists { IfOk result (λ made. IsConsistent frequent.sets → prepared_text made ≡ report_of (wording_of style.entry) (maximal_in frequent.sets)) }
         ensures baskets { IfOk result (λ made. (baskets : List Basket) (minimum : Bound) → IsListingOf baskets minimum frequent
-            → made_text made ≡ report_of (wording_of style.entry) (maximal_of baskets minimum)) }
+            → prepared_text made ≡ report_of (wording_of style.entry) (maximal_of baskets minimum)) }
     {
-        Made::of_sets(alloc, maximal(alloc, &frequent)?, style, workers)
+        PreparedReport::of_sets(alloc, maximal(alloc, &frequent)?, style, workers)
     }
 
     /// Writes the report to its end and flushes. If the sink fails, it has taken a prefix of it,
     /// and all of it if only the flush failed.
     pub fn write<R: Threads + Sync, W: Sink>(self, rt: &R, writer: &mut W) -> Result<(), Failed>
         requires { W.has_failed writer.old ≡ false }
-        ensures ok { OnOk result (Appends (W.taken writer.old) (W.taken writer.new) (made_text self)) }
-        ensures err { OnErr result (TakesFront (W.taken writer.old) (W.taken writer.new) (made_text self)) }
-        ensures whole { W.ends_in_flush writer.new ≡ true → Appends (W.taken writer.old) (W.taken writer.new) (made_text self) }
+        ensures ok { OnOk result (Appends (W.taken writer.old) (W.taken writer.new) (prepared_text self)) }
+        ensures err { OnErr result (TakesFront (W.taken writer.old) (W.taken writer.new) (prepared_text self)) }
+        ensures whole { W.ends_in_flush writer.new ≡ true → Appends (W.taken writer.old) (W.taken writer.new) (prepared_text self) }
         ensures flushed { OnOk result (W.ends_in_flush writer.new ≡ true) }
         ensures failed { (W.has_failed writer.new ≡ false) ↔ IsOk result }
     {
         match self {
-            Made::Text(text) => write_all(writer, &text),
-            Made::Sets(sets, mut lines) => lines.write(rt, &sets, writer),
+            PreparedReport::Text(text) => write_all(writer, &text),
+            PreparedReport::Sets(sets, mut lines) => lines.write(rt, &sets, writer),
         }
     }
 
     /// The text of the report.
     pub fn into_text<R: Threads + Sync>(self, rt: &R, alloc: Global) -> Result<Vec<u8>, AllocError>
-        ensures { IfOk result (λ text. text.items ≡ made_text self) }
+        ensures { IfOk result (λ text. text.items ≡ prepared_text self) }
     {
         match self {
-            Made::Text(text) => Ok(text),
-            Made::Sets(sets, mut lines) => {
+            PreparedReport::Text(text) => Ok(text),
+            PreparedReport::Sets(sets, mut lines) => {
                 let mut sink = MemSink::unbounded(alloc);
                 match lines.write(rt, &sets, &mut sink) {
                     Ok(()) => Ok(sink.into_bytes()),
