@@ -4,6 +4,7 @@ ghost use Rattle.basket_ranks.specs.Codes.{frequent_of_coding};
 ghost use Rattle.basket_sets.specs.Support.{total_of};
 
 use basket_core::{Coded, Weighted};
+use basket_order::items_hash;
 use std::alloc::{AllocError, Global};
 
 /// So many baskets are looked at.
@@ -24,25 +25,14 @@ pub fn merged_if_it_pays(alloc: Global, coded: Coded) -> Result<Coded, AllocErro
     coded.merged(alloc)
 }
 
-/// Whether an eighth of the first baskets have the digest of another one of them.
+/// Whether an eighth of the first baskets have the hash of another one of them.
 fn repeat(alloc: Global, baskets: &[Weighted]) -> Result<bool, AllocError> {
     let sample = &baskets[..SAMPLE.min(baskets.len())];
-    let mut digests = Vec::with_capacity(alloc, sample.len())?;
+    let mut hashes = Vec::with_capacity(alloc, sample.len())?;
     for basket in sample {
-        digests.push(digest(basket.basket.items()))?;
+        hashes.push(items_hash(basket.basket.items()))?;
     }
-    digests.sort_unstable();
-    digests.dedup();
-    Ok(digests.len() <= sample.len() - sample.len() / 8)
-}
-
-/// A number for some items. Others may have the same.
-fn digest(items: &[u32]) -> u64 {
-    let mut digest = 0u64;
-    for item in items {
-        digest = digest
-            .wrapping_add(u64::from(*item) + 1)
-            .wrapping_mul(0x9e37_79b9_7f4a_7c15);
-    }
-    digest
+    hashes.sort_unstable();
+    hashes.dedup();
+    Ok(hashes.len() <= sample.len() - sample.len() / 8)
 }
