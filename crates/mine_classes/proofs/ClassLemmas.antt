@@ -1,9 +1,7 @@
--- A class is made of the conditional database of its rank, and the classes are together all frequent sets.
+-- The greatest rank of a set, and the class of a rank that is not frequent.
 use Rattle.std.proofs.Common.{◌≡◌, ◌≢◌, ℕ, true, false, List, [], ◌∷◌, ◌++◌, map, refl, sym, ap, ◌∙◌, subst, inl, inr}
-use Rattle.std.specs.Prelude.{nat_eq}
-use Rattle.std.specs.Cmp.Lexicographic.{pointwise, bytes_decides}
 use Rattle.std.specs.List.{IsDistinct}
-use Rattle.std.proofs.lemmas.Bool.{cases_Bool, eqb-true, eq-eqb, true≢false}
+use Rattle.std.proofs.lemmas.Bool.{eqb-true, eq-eqb, true≢false}
 use Rattle.std.proofs.lemmas.List.Elements.{All-from_recursion}
 use Rattle.basket_sets.specs.declared.counted.Counted.{Counted}
 use Rattle.basket_sets.specs.Frequent.{IsNonemptySet, is_frequent}
@@ -32,9 +30,6 @@ some_end (x ∷ y ∷ set) some = some_end (y ∷ set) (λ e. cc)
 
 pub Member-end : (rank : ℕ) (set : List ℕ) → ends_in rank set ≡ true → Member rank set
 Member-end rank set h = let p = front_of rank set h in subst (Member rank) (sym p.1) (Member-append_right rank p.0 (rank ∷ []) (inl refl))
-
-pub apart : (a b : List ℕ) → a ≢ b → pointwise nat_eq a b ≡ false
-apart a b differ = elim (cases_Bool (pointwise nat_eq a b)) [ inl e ↦ absurd (differ ((bytes_decides a b).0 e)) | inr e ↦ e ]
 
 abbrev pub sets : List Counted → List (List ℕ)
 sets list = map (λ c. c.set) list

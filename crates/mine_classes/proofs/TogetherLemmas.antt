@@ -1,5 +1,5 @@
 -- The classes are together all frequent sets, each once.
-use Rattle.std.proofs.Common.{◌≡◌, ℕ, ◌+◌, ◌<◌, ◌≤◌, Bool, true, false, List, [], ◌∷◌, ◌++◌, length, get_or, map, cond, refl, sym, ◌∙◌, subst, inl, inr, arith, zero, suc}
+use Rattle.std.proofs.Common.{◌≡◌, ℕ, ◌+◌, ◌<◌, ◌≤◌, Bool, true, false, List, [], ◌∷◌, length, get_or, map, cond, sym, ◌∙◌, subst, inl, inr, arith, zero, suc}
 use Rattle.std.specs.Prelude.{nat_eq}
 use Rattle.std.specs.Cmp.Lexicographic.{pointwise}
 use Rattle.std.specs.List.{AllByRecursion, IsDistinct, filter, flat_map}
@@ -16,19 +16,8 @@ use Rattle.basket_sets.proofs.theory.Rising.{has-from_Member}
 use Rattle.basket_sets.proofs.theory.Support.{at_least_one, in_items}
 use Rattle.basket_sets.proofs.theory.Frequent.{frequent_once}
 use Rattle.mine_classes.specs.Classes.{ends_in, class_of, ListsClass, ClassesAreListed, ClassesAreAll}
-use Rattle.mine_classes.proofs.ClassLemmas.{sets, Member-sets, Member-end, some_end, one_end, apart}
-
--- ---- lists of distinct elements
-
-distinct-append : {K : Type 0} (R : K → K → Bool) (xs ys : List K) → IsDistinct R xs → IsDistinct R ys
-    → ((x y : K) → Member x xs → Member y ys → R x y ≡ false) → IsDistinct R (xs ++ ys)
-unfolding IsDistinct
-distinct-append R [] ys a b across = b
-distinct-append R (x ∷ xs) ys a b across = (
-  All-from_Member (λ y. R x y ≡ false) (xs ++ ys)
-      (λ y m. elim (Member-append y xs ys m) [ inl n ↦ at_Member (λ z. R x z ≡ false) y xs a.0 n | inr n ↦ across x y (inl refl) n ]),
-  distinct-append R xs ys a.1 b (λ u v m n. across u v (inr m) n),
-)
+use Rattle.mine_classes.proofs.ClassLemmas.{sets, Member-sets, Member-end, some_end, one_end}
+use Rattle.mine_classes.proofs.theory.Lists.{apart, distinct-append}
 
 -- ---- the classes of a database
 

@@ -2,3 +2,5 @@
 pub mod Kept
 pub mod Branches
 pub mod Supports
+pub mod Mined
+pub mod Lists

@@ -11,3 +11,4 @@ pub mod Shift
 pub mod Paths
 pub mod Worked
 pub mod Mined
+pub mod Tables

@@ -1,9 +1,11 @@
 -- What a miner of classes returns, and what the results for all classes add up to.
-use Rattle.std.specs.Prelude.{◌≡◌, ◌<◌, ◌-◌, ◌^◌, ℕ, IsTrue, List, [], ◌∷◌, length, map, slice_index_or}
+use Rattle.std.specs.Prelude.{◌≡◌, ◌≤◌, ◌<◌, ◌+◌, ◌-◌, ◌*◌, ◌^◌, ◌⊎◌, ℕ, Bool, false, Err, IfOk, IsTrue, List, [], ◌∷◌, OnOk, Result, length, map, slice_index_or}
 use Rattle.std.specs.List.{flat_map, range_with_len, sum_by}
 use Rattle.basket_sets.specs.declared.weighted.Weighted.{Weighted}
 use Rattle.basket_sets.specs.declared.minimum.Minimum.{Minimum}
 use Rattle.basket_sets.specs.declared.counted.Counted.{Counted}
+use Rattle.basket_core.specs.declared.fault.MineFault.{MineFault}
+use Rattle.basket_core.specs.declared.fault.MineFault.TheVariants.{TooMany}
 use Rattle.basket_ranks.specs.Codes.{Coding, IsCoding, baskets_of, coding_of, decoded_set, frequent_of_coding, merged_coding}
 use Rattle.basket_sets.specs.Frequent.{ListsOnce, is_frequent}
 use Rattle.mine_classes.specs.Classes.{ListsClass, class_of}
@@ -21,6 +23,16 @@ class_size coding rank = length (class_of coding.baskets coding.minimum rank)
 -- how many steps a miner counts for each set that it finds, at most
 abbrev pub MOST_SET_WORK : ℕ
 MOST_SET_WORK = 2 ^ 32 - 1
+
+-- the class of a rank is listed, with a number of steps, and told to a tally; or the tally is over, the class is longer than its limit, or memory is out
+pub record MinesClass {T : Type 0} (told_of limit_of : T → ℕ) (is_over : T → Bool) (coding : Coding) (rank : ℕ) (before after : T) (result : Result (List Counted × ℕ) MineFault) : Type 0 where
+  pub listed : IfOk result (λ mined. ListsClassItems coding rank mined.0)
+  pub little : IfOk result (λ mined. mined.1 ≤ class_size coding rank * MOST_SET_WORK)
+  pub told : IfOk result (λ mined. told_of after ≡ told_of before + length mined.0)
+  pub going_on : OnOk result (is_over after ≡ false)
+  pub too_many : (limit : ℕ) → result ≡ Err (TooMany limit) → (limit ≡ limit_of before) × (IsTrue (is_over after) ⊎ (limit < class_size coding rank))
+  pub at_most : told_of after ≤ told_of before + class_size coding rank
+  pub limit : limit_of after ≡ limit_of before
 
 -- each rank is that of a frequent item
 abbrev pub RanksAreFrequent : Coding → Type 0

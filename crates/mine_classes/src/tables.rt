@@ -1,5 +1,6 @@
 //! What is used again from rank to rank.
-ghost use Rattle.std.specs.Prelude.{◌≡◌, IfOk};
+ghost use Rattle.std.specs.Prelude.{IfOk};
+ghost use Rattle.mine_classes.specs.Tables.{AreTablesOf};
 
 use crate::places::Places;
 use crate::sums::Sums;
@@ -15,8 +16,7 @@ pub struct Tables {
 impl Tables {
     /// The tables for this many ranks.
     pub fn new(alloc: Global, count: u32) -> Result<Self, AllocError>
-        ensures sums { IfOk result (λ tables. tables.sums ≡ count) }
-        ensures places { IfOk result (λ tables. tables.places ≡ count) }
+        ensures { IfOk result (AreTablesOf count) }
     {
         Ok(Tables {
             sums: Sums::new(alloc, count)?,

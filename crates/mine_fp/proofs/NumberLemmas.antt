@@ -1,5 +1,5 @@
 -- Pattern bases, whose ranks have numbers of their own.
-use Rattle.std.proofs.Common.{◌≡◌, ℕ, ◌<◌, ◌≤◌, Bool, true, false, ◌&&◌, List, [], ◌∷◌, ◌++◌, leb, get_or, length, map, refl, sym, ap, ◌∙◌, subst, inl, inr, arith, append_assoc}
+use Rattle.std.proofs.Common.{◌≡◌, ℕ, ◌<◌, ◌≤◌, Bool, true, ◌&&◌, List, [], ◌∷◌, ◌++◌, leb, get_or, length, map, refl, sym, ap, ◌∙◌, subst, inl, inr, arith, append_assoc}
 use Rattle.std.specs.List.{range_with_len}
 use Rattle.std.proofs.lemmas.Bool.{cases_order, le-leb, leb-true, lt-ltb}
 use Rattle.std.proofs.lemmas.List.{get_or-map, get_or_default, length-map, map-append}
@@ -15,12 +15,12 @@ use Rattle.basket_sets.specs.Minimum.{IsLeastSupport}
 use Rattle.basket_sets.specs.Support.{support_of, total_of}
 use Rattle.basket_sets.proofs.theory.Members.{Contains-from_Member, Member, Member-append, Member-filter, Member-from_map, Member-map, at_Member}
 use Rattle.basket_sets.proofs.theory.Ranges.{Member-range}
-use Rattle.basket_sets.proofs.theory.Rising.{Member-from_has, cons_rises, contains_each, first_below, has-from_Member, nil_rises, rest_rises, same_rising}
+use Rattle.basket_sets.proofs.theory.Rising.{Member-from_has, cons_rises, first_below, has-from_Member, nil_rises, rest_rises, same_rising}
 use Rattle.basket_sets.proofs.theory.Support.{support_falls}
 use Rattle.basket_sets.proofs.theory.Tests.{Member-at, rising_at}
 use Rattle.mine_classes.specs.Conditional.{ConditionalSupports, is_kept}
 use Rattle.mine_classes.specs.Pairs.{kept_ranks, named_pair, pairs_of}
-use Rattle.mine_classes.proofs.theory.Kept.{Member-kept, kept_rises, kept_below as below_kept, pair_ranks as first_ranks}
+use Rattle.mine_classes.proofs.theory.Kept.{Member-kept, met_alone, support_with, kept_rises, kept_below as below_kept, pair_ranks as first_ranks}
 use Rattle.mine_fp.specs.declared.pattern_base.PatternBase.{PatternBase}
 use Rattle.mine_fp.specs.PatternBase.{IsBelow, IsNumbered, named, ranks_of, supports_in}
 use Rattle.mine_fp.proofs.InnerLemmas.{support_below}
@@ -73,15 +73,9 @@ module _ {base : PatternBase} {node : Node} (is : IsNumbered base node) where
   -- a test of numbers by the paths is one of their ranks by the coding
   met_numbers : (numbers : List ℕ) → AllBelow count numbers → is_frequent paths (Count base.least) numbers ≡ is_met node.over (named ranks numbers ++ node.set)
   met_numbers numbers low =
-      one_test (leb 1 (support_of paths numbers)) (leb base.least (support_of paths numbers))
-      (λ h. let some = is.least.some in let high = leb-true base.least (support_of paths numbers) h in le-leb 1 (support_of paths numbers) (omega arith))
+      met_alone base.least (support_of paths numbers) is.least.some
       ∙ ap (leb base.least) (sym (support_numbers numbers low))
       ∙ sym (ap (λ over. is_met over (named ranks numbers ++ node.set)) is.over)
-    where
-      one_test : (a b : Bool) → (b ≡ true → a ≡ true) → (a && b) ≡ b
-      one_test true b h = refl
-      one_test false true h = h refl
-      one_test false false h = refl
 
   pub none_below : AllBelow count []
   none_below j h = absurd cc
@@ -146,13 +140,9 @@ module _ {base : PatternBase} {node : Node} (is : IsNumbered base node) where
         falls : (z : ℕ) → test (z ∷ rank ∷ node.set) ≡ true → test (z ∷ node.set) ≡ true
         falls z h =
             let over = is.over in
-            let less = support_falls coding.baskets (z ∷ rank ∷ node.set) (z ∷ node.set) (contains_each (z ∷ rank ∷ node.set) (z ∷ node.set) (λ x m. up x m)) in
+            let less = support_with coding.baskets rank z node.set in
             let enough = leb-true base.least (support_of coding.baskets (z ∷ rank ∷ node.set)) (sym (ap (λ o. is_met o (z ∷ rank ∷ node.set)) over) ∙ h) in
             ap (λ o. is_met o (z ∷ node.set)) over ∙ le-leb base.least (support_of coding.baskets (z ∷ node.set)) (omega arith)
-          where
-            up : (x : ℕ) → Member x (z ∷ node.set) → Member x (z ∷ rank ∷ node.set)
-            up x (inl e) = inl e
-            up x (inr m) = inr (inr m)
 
     -- without pairs there is none
     pub none_are_kept : pairs_of paths base.least number ≡ [] → kept (child node rank) ≡ []

@@ -1,10 +1,10 @@
 //! All coded baskets, for FP-growth.
-ghost use Rattle.std.specs.Prelude.{◌≡◌, ◌≤◌, ◌<◌, ◌+◌, ◌⊎◌, [], ◌∷◌, ℕ, List, Err, IfOk, IsTrue, OnOk, false, length, map, slice_index};
+ghost use Rattle.std.specs.Prelude.{◌≡◌, ◌≤◌, ◌<◌, [], ◌∷◌, ℕ, List, IfOk, OnOk, false, length, map};
 ghost use Rattle.std.specs.List.{range_with_len};
-ghost use Rattle.basket_core.specs.declared.fault.MineFault.TheVariants.{TooMany};
 ghost use Rattle.basket_sets.specs.Support.{support_of};
 ghost use Rattle.mine_baskets.specs.ListBaskets.{AreRankBaskets, HaveSameWeights};
-ghost use Rattle.mine_classes.specs.Mined.{ListsClassItems, class_size};
+ghost use Rattle.mine_classes.specs.Mined.{MinesClass, class_size};
+ghost use Rattle.mine_classes.specs.Tables.{AreTablesOf};
 ghost use Rattle.mine_fp.specs.Trees.{class_trees};
 
 use crate::pattern_base::PatternBase;
@@ -90,15 +90,9 @@ pub fn fp_class<T: Tally>(
 ) -> Result<(CountedSets, u64), MineFault>
     requires rank { rank < length forest.now.items }
     requires going { T.is_over tally.old ≡ false }
-    ensures listed { IfOk result (λ mined. ListsClassItems forest.now rank mined.0) }
+    ensures class { MinesClass T.told_of T.limit_of T.is_over forest.now rank tally.old tally.new result }
     ensures trees { IfOk result (λ mined. mined.1 ≡ class_trees forest.now rank) }
     ensures few { IfOk result (λ mined. mined.1 ≤ class_size forest.now rank) }
-    ensures told { IfOk result (λ mined. T.told_of tally.new ≡ T.told_of tally.old + length mined.0) }
-    ensures going_on { IfOk result (λ mined. T.is_over tally.new ≡ false) }
-    ensures too_many { (limit : ℕ) → result ≡ Err (TooMany limit) → (limit ≡ T.limit_of tally.old)
-        × (IsTrue (T.is_over tally.new) ⊎ (limit < class_size forest.now rank)) }
-    ensures at_most { T.told_of tally.new ≤ T.told_of tally.old + class_size forest.now rank }
-    ensures limit { T.limit_of tally.new ≡ T.limit_of tally.old }
 {
     let mut tables = Tables::new(alloc, forest.all.coded.ranks())?;
     fp_class_with(alloc, forest, &mut tables, rank, tally)
@@ -113,20 +107,12 @@ pub fn fp_class_with<T: Tally>(
     tally: &mut T,
 ) -> Result<(CountedSets, u64), MineFault>
     requires rank { rank < length forest.now.items }
-    requires sums { tables.old.sums ≡ length forest.now.items }
-    requires places { tables.old.places ≡ length forest.now.items }
+    requires tables { AreTablesOf (length forest.now.items) tables.old }
     requires going { T.is_over tally.old ≡ false }
-    ensures listed { IfOk result (λ mined. ListsClassItems forest.now rank mined.0) }
+    ensures class { MinesClass T.told_of T.limit_of T.is_over forest.now rank tally.old tally.new result }
     ensures trees { IfOk result (λ mined. mined.1 ≡ class_trees forest.now rank) }
     ensures few { IfOk result (λ mined. mined.1 ≤ class_size forest.now rank) }
-    ensures told { IfOk result (λ mined. T.told_of tally.new ≡ T.told_of tally.old + length mined.0) }
-    ensures going_on { IfOk result (λ mined. T.is_over tally.new ≡ false) }
-    ensures too_many { (limit : ℕ) → result ≡ Err (TooMany limit) → (limit ≡ T.limit_of tally.old)
-        × (IsTrue (T.is_over tally.new) ⊎ (limit < class_size forest.now rank)) }
-    ensures at_most { T.told_of tally.new ≤ T.told_of tally.old + class_size forest.now rank }
-    ensures limit { T.limit_of tally.new ≡ T.limit_of tally.old }
-    ensures sums { OnOk result (tables.new.sums ≡ tables.old.sums) }
-    ensures places { OnOk result (tables.new.places ≡ tables.old.places) }
+    ensures tables { OnOk result (AreTablesOf (length forest.now.items) tables.new) }
 {
     classes_are_listed();
     conditional_supports();

@@ -37,8 +37,7 @@ impl<'a> PatternBase<'a> {
         requires slots { HaveSlots tables.old self.now }
         ensures none { IfOk result (λ below. IfNone below (pairs_of self.now.paths.baskets self.now.least number ≡ [])) }
         ensures below { IfOk result (λ below. IfSome below (IsBelow self.now number)) }
-        ensures sums { tables.new.sums ≡ tables.old.sums }
-        ensures places { tables.new.places ≡ tables.old.places }
+        ensures kept { KeepSlots tables.old tables.new }
     {
         let mut ranks = self
             .paths

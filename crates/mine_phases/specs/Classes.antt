@@ -1,5 +1,5 @@
 -- Mining class by class, shared by workers.
-use Rattle.std.specs.Prelude.{◌≡◌, ◌≤◌, ◌<◌, ◌-◌, ◌*◌, ◌%◌, ◌==◌, ◌⊎◌, ℕ, List, Err, IfOk, Vec, filter, length, map, slice_index, sum}
+use Rattle.std.specs.Prelude.{◌≡◌, ◌≤◌, ◌<◌, ◌-◌, ◌*◌, ◌%◌, ◌==◌, ◌⊎◌, ℕ, All, List, Err, IfOk, Vec, filter, length, map, slice_index, sum}
 use Rattle.std.specs.Global.{Global}
 use Rattle.std.specs.List.{range_with_len, sum_by}
 use Rattle.basket_ranks.specs.Codes.{Coding}
@@ -39,6 +39,10 @@ pub record IsMined (coding : Coding) (is_work : ℕ → ℕ → Type 0) (rank : 
   pub listed : ListsClassItems coding rank class.0
   pub work : is_work rank class.1
   pub few : class.1 ≤ class_size coding rank * MOST_SET_WORK
+
+-- each of these is a rank with its class
+abbrev pub AreMined : Coding → (ℕ → ℕ → Type 0) → List (ℕ × (List Counted × ℕ)) → Type 0
+AreMined coding is_work values = All (λ value. IsMined coding is_work value.0 value.1) values
 
 -- a class alone has more sets than the limit
 pub record HasLargeClass (coding : Coding) (limit : ℕ) : Type 0 where

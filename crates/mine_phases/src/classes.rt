@@ -1,10 +1,11 @@
 //! The phase that mines class by class, with one limit over all workers.
-ghost use Rattle.std.specs.Prelude.{◌≡◌, ◌≤◌, ◌<◌, ◌+◌, ◌++◌, ◌⊎◌, ℕ, All, Err, IfOk, IsTrue, OnOk, false, length, slice_index};
+ghost use Rattle.std.specs.Prelude.{◌≡◌, ◌≤◌, ◌<◌, ◌+◌, ◌++◌, ◌⊎◌, ℕ, Err, IfOk, IsTrue, OnOk, false, length, slice_index};
 ghost use Rattle.basket_core.specs.declared.fault.MineFault.TheVariants.{TooMany};
 ghost use Rattle.basket_ranks.specs.Codes.{frequent_of_coding};
 ghost use Rattle.basket_core.specs.Listing.{listing_of};
+ghost use Rattle.mine_classes.specs.Tables.{AreTablesOf};
 ghost use Rattle.mine_round.specs.Record.{unused};
-ghost use Rattle.mine_phases.specs.Classes.{HasLargeClass, IsClassShare, IsMined, IsWorkOfAll, claimed_size, ranks_of};
+ghost use Rattle.mine_phases.specs.Classes.{AreMined, HasLargeClass, IsClassShare, IsMined, IsWorkOfAll, claimed_size, ranks_of};
 ghost use Rattle.mine_phases.specs.Pieces.{HasEach};
 ghost use Rattle.mine_phases.specs.RoundTally.{CountsSets, still};
 ghost use Rattle.mine_phases.specs.Share.{numbers_of};
@@ -41,13 +42,17 @@ impl<'a, G: Gate> Phase<'a, G> {
 
 /// The phase as its workers see it.
 #[derive(Drop)]
-struct Classes<'a, 'g, M, G> {
+struct Classes<'a, 'g, M: ClassMiner, G> {
     round: &'a Round,
     pieces: u32,
     ranks: u32,
     miner: &'a M,
     limit: u32,
     gate: &'g G,
+    ghost some_pieces: { 1 ≤ pieces },
+    ghost of_round: { round.now.pieces ≡ pieces },
+    ghost counter: { round.now.counters ≡ 1 },
+    ghost all_ranks: { ranks ≡ length (M.coding_of miner.now).items },
 }
 
 impl<M: ClassMiner, G: Gate> Classes<'_, '_, M, G> {
@@ -56,9 +61,6 @@ impl<M: ClassMiner, G: Gate> Classes<'_, '_, M, G> {
     fn share(&self, alloc: Global, worker: u32, seat: RoundSeat) -> Share<Vec<(u32, Class)>>
         requires own { seat.round ≡ self.now.round.now.id }
         requires unused { seat.held ≡ unused 1 1 }
-        requires pieces { (1 ≤ self.now.pieces) × (self.now.round.now.pieces ≡ self.now.pieces) }
-        requires counter { self.now.round.now.counters ≡ 1 }
-        requires ranks { self.now.ranks ≡ length (M.coding_of self.now.miner.now).items }
         ensures { IsClassShare self.now.round.now (M.coding_of self.now.miner.now) (M.is_work self.now.miner.now) self.now.limit self.now.pieces result }
     {
         let mut seat = seat;
@@ -96,17 +98,14 @@ impl<M: ClassMiner, G: Gate> Classes<'_, '_, M, G> {
         requires start { seat ≡ S.start }
         requires counts { CountsSets self.now.round.now seat }
         requires few { slice_index seat.held.seen 0 ≤ self.now.limit }
-        requires sums { tables.old.sums ≡ self.now.ranks }
-        requires places { tables.old.places ≡ self.now.ranks }
+        requires tables { AreTablesOf self.now.ranks tables.old }
         requires claimed { claimed < self.now.pieces }
-        requires ranks { self.now.ranks ≡ length (M.coding_of self.now.miner.now).items }
-        requires each { All (λ value. IsMined (M.coding_of self.now.miner.now) (M.is_work self.now.miner.now) value.0 value.1) values.old.items }
+        requires each { AreMined (M.coding_of self.now.miner.now) (M.is_work self.now.miner.now) values.old.items }
         ensures counts { CountsSets self.now.round.now result.0 }
         ensures same { still result.0 ≡ still seat }
-        ensures sums { OnOk result.1 (tables.new.sums ≡ tables.old.sums) }
-        ensures places { OnOk result.1 (tables.new.places ≡ tables.old.places) }
+        ensures tables { OnOk result.1 (AreTablesOf self.now.ranks tables.new) }
         ensures numbers { OnOk result.1 (numbers_of values.new.items ≡ numbers_of values.old.items ++ ranks_of (M.coding_of self.now.miner.now) self.now.pieces claimed) }
-        ensures each { OnOk result.1 (All (λ value. IsMined (M.coding_of self.now.miner.now) (M.is_work self.now.miner.now) value.0 value.1) values.new.items) }
+        ensures each { OnOk result.1 (AreMined (M.coding_of self.now.miner.now) (M.is_work self.now.miner.now) values.new.items) }
         ensures told { OnOk result.1 (slice_index result.0.held.added 0 ≡ slice_index seat.held.added 0 + claimed_size (M.coding_of self.now.miner.now) self.now.pieces claimed) }
         ensures at_most { slice_index result.0.held.added 0 ≤ slice_index seat.held.added 0 + claimed_size (M.coding_of self.now.miner.now) self.now.pieces claimed }
         ensures too_many { (most : ℕ) → result.1 ≡ Err (TooMany most)
@@ -129,21 +128,18 @@ impl<M: ClassMiner, G: Gate> Classes<'_, '_, M, G> {
         tally: &mut RoundTally<'_, S>,
     ) -> Result<(), MineFault>
         requires going { tally.old.over ≡ false }
-        requires sums { tables.old.sums ≡ self.now.ranks }
-        requires places { tables.old.places ≡ self.now.ranks }
+        requires tables { AreTablesOf self.now.ranks tables.old }
         requires claimed { claimed < self.now.pieces }
-        requires ranks { self.now.ranks ≡ length (M.coding_of self.now.miner.now).items }
-        requires each { All (λ value. IsMined (M.coding_of self.now.miner.now) (M.is_work self.now.miner.now) value.0 value.1) values.old.items }
+        requires each { AreMined (M.coding_of self.now.miner.now) (M.is_work self.now.miner.now) values.old.items }
         ensures numbers { OnOk result (numbers_of values.new.items ≡ numbers_of values.old.items ++ ranks_of (M.coding_of self.now.miner.now) self.now.pieces claimed) }
-        ensures each { OnOk result (All (λ value. IsMined (M.coding_of self.now.miner.now) (M.is_work self.now.miner.now) value.0 value.1) values.new.items) }
+        ensures each { OnOk result (AreMined (M.coding_of self.now.miner.now) (M.is_work self.now.miner.now) values.new.items) }
         ensures told { OnOk result (tally.new.told ≡ tally.old.told + claimed_size (M.coding_of self.now.miner.now) self.now.pieces claimed) }
         ensures going_on { OnOk result (tally.new.over ≡ false) }
         ensures too_many { (most : ℕ) → result ≡ Err (TooMany most)
             → (most ≡ tally.old.limit) × (IsTrue tally.new.over ⊎ HasLargeClass (M.coding_of self.now.miner.now) most) }
         ensures at_most { tally.new.told ≤ tally.old.told + claimed_size (M.coding_of self.now.miner.now) self.now.pieces claimed }
         ensures limit { tally.new.limit ≡ tally.old.limit }
-        ensures sums { OnOk result (tables.new.sums ≡ tables.old.sums) }
-        ensures places { OnOk result (tables.new.places ≡ tables.old.places) }
+        ensures tables { OnOk result (AreTablesOf self.now.ranks tables.new) }
     {
         lists_have_class_size();
         // The classes of the greatest ranks are the largest. So they are mined first, and each piece
@@ -198,7 +194,7 @@ fn mined_classes<'a, 'g, R: Threads + Sync, G: Gate + Sync, M: ClassMiner + Sync
         alloc,
         seats,
         &|job: (u32, RoundSeat)| -> Share<Vec<(u32, Class)>>
-            requires { (job.1.round ≡ lent.now.round.now.id) × (job.1.held ≡ unused 1 1) × (1 ≤ lent.now.pieces) × (lent.now.round.now.pieces ≡ lent.now.pieces) × (lent.now.round.now.counters ≡ 1) × (lent.now.ranks ≡ length (M.coding_of lent.now.miner.now).items) }
+            requires { (job.1.round ≡ lent.now.round.now.id) × (job.1.held ≡ unused 1 1) }
             ensures { IsClassShare lent.entry.now.round.now (M.coding_of lent.entry.now.miner.now) (M.is_work lent.entry.now.miner.now) lent.entry.now.limit lent.entry.now.pieces result }
         { lent.share(alloc, job.0, job.1) },
     )?;

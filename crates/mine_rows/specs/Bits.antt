@@ -15,7 +15,7 @@ shared_bits [] second = 0
 shared_bits (x ∷ xs) [] = 0
 shared_bits (x ∷ xs) (y ∷ ys) = count_ones (bit_and x y) + shared_bits xs ys
 
--- the same of words in chunks
+-- and if the words are in chunks
 abbrev pub shared_in_chunks : List (List ℕ) → List (List ℕ) → ℕ
 shared_in_chunks [] second = 0
 shared_in_chunks (x ∷ xs) [] = 0

@@ -1,17 +1,15 @@
 -- What a search for a class begins with.
-use Rattle.std.proofs.Common.{◌≡◌, ℕ, ◌<◌, Option, true, List, [], ◌∷◌, ◌++◌, get_or, length, map, sym, ap, ◌∙◌, inl, inr, arith}
+use Rattle.std.proofs.Common.{◌≡◌, ℕ, ◌<◌, Option, true, List, [], ◌∷◌, ◌++◌, get_or, length, map, sym, ap, ◌∙◌, arith}
 use Rattle.std.proofs.lemmas.Bool.{le-leb}
 use Rattle.basket_lists.specs.CountedSets.{set_at}
 use Rattle.basket_lists.proofs.theory.Places.{set_added}
 use Rattle.basket_ranks.specs.Codes.{Coding}
 use Rattle.basket_sets.specs.declared.counted.Counted.{Counted}
 use Rattle.basket_sets.specs.Itemset.{rising}
-use Rattle.basket_sets.proofs.theory.Members.{Member}
-use Rattle.basket_sets.proofs.theory.Rising.{contains_each}
+use Rattle.mine_classes.proofs.theory.Kept.{support_with}
 use Rattle.mine_search.specs.Class.{IsClass, IsOver, class_sets, of_rank}
 use Rattle.mine_search.specs.Node.{Node, Supports, is_met, sets_at}
 use Rattle.mine_search.specs.Search.{FindsAll, IsNode, Reached, found_at}
-use Rattle.mine_search.proofs.theory.Class.{support_less}
 
 -- the rank's set was found, and its node is there
 pub record IsFirst (over : Supports) (rank : ℕ) (sets : List Counted) : Type 0 where
@@ -26,16 +24,12 @@ module _ {coding : Coding} {over : Supports} (is : IsOver coding over) (rank : �
       record {
         first = adds ∙ ap (λ l. l ++ record { set = set; count = support } ∷ []) none ∙ (λ k. record { set = named k; count = support_is k } ∷ []);
         inner = record {
-          falls = λ one other others. support_less is rank (other ∷ one ∷ others) (other ∷ others) (contains_each (other ∷ one ∷ others) (other ∷ others) (λ z m. up one other others z m));
+          falls = λ one other others. omega (arith, support_with coding.baskets one other others, is.supports (other ∷ one ∷ others), is.supports (other ∷ others));
           of_set = set_added before after (record { set = set; count = support }) 0 (sym (ap length none)) adds ∙ named;
           few = (let most = is.known.few in let same = ap length is.items in omega arith);
           within = (let same = ap length is.items in omega arith);
         };
       }
-    where
-      up : (one other : ℕ) (others : List ℕ) (z : ℕ) → Member z (other ∷ others) → Member z (other ∷ one ∷ others)
-      up one other others z (inl e) = inl e
-      up one other others z (inr m) = inr (inr m)
 
   -- with what is found below it, that is the class
   pub all_found : {before after : Reached} → IsFirst over rank before.sets → FindsAll before after (of_rank over rank) → after.sets ≡ map (found_at over) (class_sets over rank)

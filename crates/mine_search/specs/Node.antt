@@ -2,7 +2,7 @@
 use Rattle.std.specs.Prelude.{ℕ, Bool, List, ◌∷◌, nat_le}
 use Rattle.mine_search.specs.Walk.{kept_below, sets_below, work_below}
 
--- the support of each set of ranks, the least support of a frequent set, the item of each rank, and the work of finding what extends each set
+-- the support of each set of ranks, the least support of a frequent set, the item of each rank, and the work that each set takes
 pub record Supports : Type 0 where
   pub support : List ℕ → ℕ
   pub least : ℕ

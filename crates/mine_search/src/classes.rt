@@ -1,7 +1,6 @@
 //! The class of a rank.
-ghost use Rattle.std.specs.Prelude.{◌≡◌, ◌≤◌, ◌<◌, ◌+◌, ◌*◌, ◌⊎◌, ℕ, Err, IfOk, IsTrue, None, OnOk, Some, false, length};
-ghost use Rattle.basket_core.specs.declared.fault.MineFault.TheVariants.{TooMany};
-ghost use Rattle.mine_classes.specs.Mined.{ListsClassItems, MOST_SET_WORK, class_size};
+ghost use Rattle.std.specs.Prelude.{◌≡◌, ◌≤◌, ◌<◌, ◌+◌, IfOk, None, OnOk, Some, false, length};
+ghost use Rattle.mine_classes.specs.Mined.{MOST_SET_WORK, MinesClass};
 ghost use Rattle.mine_search.specs.Class.{IsClass, of_rank};
 ghost use Rattle.mine_search.specs.Node.{Supports, work_at};
 
@@ -38,16 +37,9 @@ impl<P: Projected> Class<P> {
         requires lent { (inner : P) → self.below ≡ Some inner → P.serves scratch.old inner }
         requires few { self.work ≤ MOST_SET_WORK }
         requires going { T.is_over tally.old ≡ false }
-        ensures listed { IfOk result (λ mined. ListsClassItems coded.now self.rank mined.0) }
+        ensures class { MinesClass T.told_of T.limit_of T.is_over coded.now self.rank tally.old tally.new result }
         ensures work { IfOk result (λ mined. (over : Supports) → IsClass P.gives coded.now self.rank self.support self.below over
             → mined.1 ≡ self.work + work_at (of_rank over self.rank)) }
-        ensures little { IfOk result (λ mined. mined.1 ≤ class_size coded.now self.rank * MOST_SET_WORK) }
-        ensures told { IfOk result (λ mined. T.told_of tally.new ≡ T.told_of tally.old + length mined.0) }
-        ensures going_on { IfOk result (λ mined. T.is_over tally.new ≡ false) }
-        ensures too_many { (limit : ℕ) → result ≡ Err (TooMany limit) → (limit ≡ T.limit_of tally.old)
-            × (IsTrue (T.is_over tally.new) ⊎ (limit < class_size coded.now self.rank)) }
-        ensures at_most { T.told_of tally.new ≤ T.told_of tally.old + class_size coded.now self.rank }
-        ensures limit { T.limit_of tally.new ≡ T.limit_of tally.old }
         ensures lent { OnOk result ((inner : P) → self.below ≡ Some inner → P.keeps inner scratch.old scratch.new) }
         ensures alone { self.below ≡ None → scratch.new ≡ scratch.old }
     {

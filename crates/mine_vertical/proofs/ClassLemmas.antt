@@ -1,13 +1,12 @@
 -- The class of a rank, as a search begins it.
-use Rattle.std.proofs.Common.{◌≡◌, ℕ, zero, suc, ◌+◌, ◌<◌, ◌≤◌, Bool, true, false, ◌&&◌, List, [], ◌∷◌, ◌++◌, length, map, cond, leb, refl, sym, ap, ◌∙◌, subst, inl, inr, arith, zero-add}
+use Rattle.std.proofs.Common.{◌≡◌, ℕ, zero, suc, ◌+◌, ◌<◌, ◌≤◌, Bool, true, false, ◌&&◌, List, [], ◌∷◌, ◌++◌, length, map, cond, leb, refl, sym, ap, ◌∙◌, subst, arith, zero-add}
 use Rattle.std.specs.Prelude.{All, Some, nat_le}
 use Rattle.std.specs.List.{filter, range_with_len}
-use Rattle.std.proofs.lemmas.Bool.{le-leb, leb-true, lt-leb, lt-ltb, true≢false}
+use Rattle.std.proofs.lemmas.Bool.{lt-leb, lt-ltb, true≢false}
 use Rattle.std.proofs.lemmas.List.{append-nil, take_all}
 use Rattle.std.proofs.lemmas.List.Elements.{filter-append}
 use Rattle.basket_ranks.specs.Codes.{Coding, IsCoding, MOST_RANKS}
 use Rattle.basket_sets.specs.declared.weighted.Weighted.{Weighted}
-use Rattle.basket_sets.specs.declared.counted.Counted.{Counted}
 use Rattle.basket_sets.specs.declared.minimum.Minimum.TheVariants.{Count}
 use Rattle.basket_sets.specs.Frequent.{is_frequent}
 use Rattle.basket_sets.specs.Itemset.{contains, has}
@@ -15,14 +14,14 @@ use Rattle.basket_sets.specs.Minimum.{IsLeastSupport}
 use Rattle.basket_sets.specs.Support.{support_of, total_of}
 use Rattle.basket_sets.proofs.theory.Members.{Member, Member-filter}
 use Rattle.basket_sets.proofs.theory.Ranges.{Member-range, filter_members, range_more}
-use Rattle.basket_sets.proofs.theory.Rising.{Member-from_has, contains_each}
+use Rattle.basket_sets.proofs.theory.Rising.{Member-from_has}
 use Rattle.basket_sets.proofs.theory.Support.{support_falls}
 use Rattle.basket_sets.proofs.theory.Tests.{all_of, each_of}
 use Rattle.mine_baskets.specs.ListBaskets.{HaveSameWeights}
-use Rattle.mine_classes.specs.Classes.{RareRanksHaveNoClass}
 use Rattle.mine_classes.specs.Conditional.{ConditionalSupports, is_kept}
-use Rattle.mine_classes.specs.Mined.{ListsClassItems, RanksAreFrequent}
+use Rattle.mine_classes.specs.Mined.{RanksAreFrequent}
 use Rattle.mine_classes.specs.Pairs.{kept_ranks}
+use Rattle.mine_classes.proofs.theory.Kept.{met_alone, support_with}
 use Rattle.mine_search.specs.Class.{IsClass, of_rank}
 use Rattle.mine_search.specs.Node.{Node, Supports, is_met, kept, work_at}
 use Rattle.mine_search.specs.Walk.{kept_below, work_below}
@@ -51,28 +50,18 @@ module _ (coding : Coding) (least : ℕ) (all : List Weighted) (is : IsLeastSupp
   tests : (set : List ℕ) → is_frequent all (Count least) set ≡ is_met (over coding least) set
   tests set =
       ap (λ n. leb 1 n && leb least n) (sym (supports set))
-      ∙ one_test (leb 1 (support_of coding.baskets set)) (leb least (support_of coding.baskets set))
-      (λ h. let low = is.some in let high = leb-true least (support_of coding.baskets set) h in le-leb 1 (support_of coding.baskets set) (omega arith))
-    where
-      one_test : (a b : Bool) → (b ≡ true → a ≡ true) → (a && b) ≡ b
-      one_test true b h = refl
-      one_test false true h = h refl
-      one_test false false h = refl
+      ∙ met_alone least (support_of coding.baskets set) is.some
 
   met : (set : List ℕ) → is_frequent coding.baskets coding.minimum set ≡ is_met (over coding least) set
   met set = is.met (support_of coding.baskets set) (support_falls coding.baskets set [] refl)
 
   -- a rank of less support is not frequent
-  rare : (rank : ℕ) → support_of all (rank ∷ []) < least → is_frequent coding.baskets coding.minimum (rank ∷ []) ≡ false
+  pub rare : (rank : ℕ) → support_of all (rank ∷ []) < least → is_frequent coding.baskets coding.minimum (rank ∷ []) ≡ false
   rare rank less = met (rank ∷ []) ∙ lt-leb least (support_of coding.baskets (rank ∷ [])) (let same = supports (rank ∷ []) in omega arith)
 
   -- so it is none of a coding whose ranks are frequent
   pub rare_rank : (rank : ℕ) → RanksAreFrequent coding → rank < length coding.items → support_of all (rank ∷ []) < least → ⊥
   rare_rank rank each here less = true≢false (sym (each rank here) ∙ rare rank less)
-
-  -- and has no class
-  pub rare_class : RareRanksHaveNoClass → (rank : ℕ) (list : List Counted) → support_of all (rank ∷ []) < least → list ≡ [] → ListsClassItems coding rank list
-  rare_class law rank list less none = record { sets = []; listed = law coding.baskets coding.minimum rank (rare rank less); decoded = none }
 
   -- the joins of a class, with one for each rank below its rank, are the work of its search
   pub joins_are : (rank : ℕ) → RanksAreFrequent coding → rank < length coding.items → class_joins coding rank ≡ rank + work_at (of_rank (over coding least) rank)
@@ -115,7 +104,7 @@ module _ (coding : Coding) (least : ℕ) (all : List Weighted) (is : IsLeastSupp
             items_are = ap (λ (k : Coding). k.items) (sym coded);
             few = subst (λ (k : Coding). length k.items < MOST_RANKS) (sym coded) known.few;
             within = subst (λ (k : Coding). rank ≤ length k.items) (sym coded) (omega arith);
-            falls = λ one other others. support_falls coding.baskets (other ∷ one ∷ others) (other ∷ others) (contains_each (other ∷ one ∷ others) (other ∷ others) (λ z m. up one other others z m));
+            falls = support_with coding.baskets;
             works = λ one others. refl;
           };
           siblings = record { weighs = weigh ∙ are.over.weighs; rows = subst (All (IsSibling stands baskets [])) (sym whole) are.over.rows };
@@ -129,10 +118,6 @@ module _ (coding : Coding) (least : ℕ) (all : List Weighted) (is : IsLeastSupp
 
           named : ranks_in base ≡ ranks
           named = ap (map (λ (s : Sibling R). s.rank)) whole ∙ are.over.ranks_are
-
-          up : (one other : ℕ) (others : List ℕ) (z : ℕ) → Member z (other ∷ others) → Member z (other ∷ one ∷ others)
-          up one other others z (inl e) = inl e
-          up one other others z (inr m) = inr (inr m)
 
       -- the class is one that a search lists
       pub class_is : (support : ℕ) → support ≡ support_of all (rank ∷ []) → least ≤ support → IsClass (Extend stands) base.coded.now rank support (Some base) (over coding least)

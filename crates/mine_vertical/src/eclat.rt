@@ -1,8 +1,8 @@
 //! The class call.
-ghost use Rattle.std.specs.Prelude.{◌≡◌, ◌≤◌, ◌<◌, ◌+◌, ◌*◌, ℕ, ◌⊎◌, Err, IfOk, IsTrue, false, length};
-ghost use Rattle.basket_core.specs.declared.fault.MineFault.TheVariants.{TooMany};
+ghost use Rattle.std.specs.Prelude.{◌≡◌, ◌<◌, IfOk, false, length};
 ghost use Rattle.mine_vertical.specs.Joins.{class_joins};
-ghost use Rattle.mine_classes.specs.Mined.{ListsClassItems, MOST_SET_WORK, RanksAreFrequent, class_size};
+ghost use Rattle.mine_classes.specs.Mined.{MinesClass, RanksAreFrequent};
+ghost use Rattle.mine_classes.specs.Tables.{AreTablesOf};
 
 use crate::joins::Joins;
 use crate::room::Room;
@@ -27,15 +27,8 @@ pub fn eclat_class<R: Row, T: Tally>(
 ) -> Result<(CountedSets, u64), MineFault>
     requires rank { rank < length vertical.now.items }
     requires going { T.is_over tally.old ≡ false }
-    ensures listed { IfOk result (λ mined. ListsClassItems vertical.now rank mined.0) }
+    ensures class { MinesClass T.told_of T.limit_of T.is_over vertical.now rank tally.old tally.new result }
     ensures joins { IfOk result (λ mined. RanksAreFrequent vertical.now → mined.1 ≡ class_joins vertical.now rank) }
-    ensures few { IfOk result (λ mined. mined.1 ≤ class_size vertical.now rank * MOST_SET_WORK) }
-    ensures told { IfOk result (λ mined. T.told_of tally.new ≡ T.told_of tally.old + length mined.0) }
-    ensures going_on { IfOk result (λ mined. T.is_over tally.new ≡ false) }
-    ensures too_many { (limit : ℕ) → result ≡ Err (TooMany limit)
-        → (limit ≡ T.limit_of tally.old) × (IsTrue (T.is_over tally.new) ⊎ (limit < class_size vertical.now rank)) }
-    ensures at_most { T.told_of tally.new ≤ T.told_of tally.old + class_size vertical.now rank }
-    ensures limit { T.limit_of tally.new ≡ T.limit_of tally.old }
 {
     let mut tables = Tables::new(alloc, vertical.coded().ranks())?;
     eclat_class_with::<R, T>(alloc, vertical, &mut tables, rank, tally)
@@ -51,20 +44,11 @@ pub fn eclat_class_with<R: Row, T: Tally>(
     tally: &mut T,
 ) -> Result<(CountedSets, u64), MineFault>
     requires rank { rank < length vertical.now.items }
-    requires sums { tables.old.sums ≡ length vertical.now.items }
-    requires places { tables.old.places ≡ length vertical.now.items }
+    requires tables { AreTablesOf (length vertical.now.items) tables.old }
     requires going { T.is_over tally.old ≡ false }
-    ensures listed { IfOk result (λ mined. ListsClassItems vertical.now rank mined.0) }
+    ensures class { MinesClass T.told_of T.limit_of T.is_over vertical.now rank tally.old tally.new result }
     ensures joins { IfOk result (λ mined. RanksAreFrequent vertical.now → mined.1 ≡ class_joins vertical.now rank) }
-    ensures few { IfOk result (λ mined. mined.1 ≤ class_size vertical.now rank * MOST_SET_WORK) }
-    ensures told { IfOk result (λ mined. T.told_of tally.new ≡ T.told_of tally.old + length mined.0) }
-    ensures going_on { IfOk result (λ mined. T.is_over tally.new ≡ false) }
-    ensures too_many { (limit : ℕ) → result ≡ Err (TooMany limit)
-        → (limit ≡ T.limit_of tally.old) × (IsTrue (T.is_over tally.new) ⊎ (limit < class_size vertical.now rank)) }
-    ensures at_most { T.told_of tally.new ≤ T.told_of tally.old + class_size vertical.now rank }
-    ensures limit { T.limit_of tally.new ≡ T.limit_of tally.old }
-    ensures sums { tables.new.sums ≡ tables.old.sums }
-    ensures places { tables.new.places ≡ tables.old.places }
+    ensures tables { AreTablesOf (length vertical.now.items) tables.new }
 {
     conditional_supports();
     rare_ranks_have_no_class();

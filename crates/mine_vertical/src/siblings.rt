@@ -9,6 +9,7 @@ ghost use Rattle.mine_classes.specs.Conditional.{conditional_baskets};
 ghost use Rattle.mine_baskets.specs.Covers.{weights_of};
 ghost use Rattle.mine_classes.specs.Pairs.{pairs_of};
 ghost use Rattle.mine_classes.specs.Paths.{IsConditional};
+ghost use Rattle.mine_classes.specs.Tables.{AreTablesOf};
 ghost use Rattle.mine_vertical.specs.Siblings.{AreClassSiblings, AreOver};
 
 use crate::joins::{Joins, Sibling};
@@ -103,13 +104,11 @@ pub fn class_siblings<R: Row>(
     least: u64,
 ) -> Result<(Weights, Vec<Sibling<R>>), AllocError>
     requires rank { rank < runs.now.ranks }
-    requires sums { tables.old.sums ≡ runs.now.ranks }
-    requires places { tables.old.places ≡ runs.now.ranks }
+    requires tables { AreTablesOf runs.now.ranks tables.old }
     requires few { joins.old.number + rank ≤ 18446744073709551615 }
     ensures siblings { IfOk result (λ made. (baskets : List Basket) × AreClassSiblings R.stands runs.now.baskets least rank made.0 made.1.items baskets) }
     ensures joins { OnOk result (joins.new.number ≡ joins.old.number + rank) }
-    ensures sums { tables.new.sums ≡ tables.old.sums }
-    ensures places { tables.new.places ≡ tables.old.places }
+    ensures tables { AreTablesOf runs.now.ranks tables.new }
 {
     let pairs = joins.pairs(alloc, runs, &mut tables.sums, rank, least)?;
     let kept = ranks_of(alloc, &pairs)?;

@@ -1,7 +1,7 @@
 -- The ranks that a conditional database keeps.
-use Rattle.std.proofs.Common.{◌≡◌, ℕ, ◌<◌, ◌≤◌, Bool, true, List, [], ◌∷◌, length, map, ltb, refl, ap, subst, arith}
+use Rattle.std.proofs.Common.{◌≡◌, ℕ, ◌<◌, ◌≤◌, Bool, true, ◌&&◌, List, [], ◌∷◌, length, leb, map, ltb, refl, ap, ◌∙◌, subst, inl, inr, arith}
 use Rattle.std.specs.List.{range_with_len}
-use Rattle.std.proofs.lemmas.Bool.{and_parts, ltb-true}
+use Rattle.std.proofs.lemmas.Bool.{and_parts, le-leb, leb-true, ltb-true}
 use Rattle.std.proofs.lemmas.List.Elements.{All-weaker}
 use Rattle.std.proofs.lemmas.List.FromFn.{length-range_with_len}
 use Rattle.basket_ranks.specs.Codes.{IsCodedPlace, IsCoding, MOST_RANKS}
@@ -13,11 +13,23 @@ use Rattle.basket_sets.specs.Frequent.{is_frequent}
 use Rattle.basket_sets.specs.Itemset.{IsRising, has}
 use Rattle.basket_sets.specs.Support.{support_of}
 use Rattle.basket_sets.proofs.theory.Members.{Member, Member-filter, Member-from_filter}
-use Rattle.basket_sets.proofs.theory.Rising.{Member-from_has, has-from_Member, length-le-contains, rising_distinct, same_test}
+use Rattle.basket_sets.proofs.theory.Support.{support_falls}
+use Rattle.basket_sets.proofs.theory.Rising.{Member-from_has, contains_each, has-from_Member, length-le-contains, rising_distinct, same_test}
 use Rattle.basket_sets.proofs.theory.Ranges.{Member-into_range, filtered_range_rises, range_rises}
 use Rattle.mine_classes.specs.Conditional.{is_kept}
 use Rattle.mine_baskets.specs.ListBaskets.{AreRankBaskets, IsRankBasket, RankBaskets}
 use Rattle.mine_classes.specs.Pairs.{kept_ranks, pairs_of}
+
+-- what has a least support is in one basket or more
+pub met_alone : (least support : ℕ) → 1 ≤ least → (leb 1 support && leb least support) ≡ leb least support
+met_alone least support some =
+    same_test (leb 1 support && leb least support) (leb least support) (λ h. (and_parts (leb 1 support) (leb least support) h).1)
+    (λ h. let high = leb-true least support h in ap (λ b. b && leb least support) (le-leb 1 support (omega arith)) ∙ h)
+
+-- a set without one of its items has no smaller support
+pub support_with : (baskets : List Weighted) (one other : ℕ) (others : List ℕ) → support_of baskets (other ∷ one ∷ others) ≤ support_of baskets (other ∷ others)
+support_with baskets one other others =
+    support_falls baskets (other ∷ one ∷ others) (other ∷ others) (contains_each (other ∷ one ∷ others) (other ∷ others) (λ z m. elim m [ inl e ↦ inl e | inr n ↦ inr (inr n) ]))
 
 -- baskets of so many ranks are a coding of as many items that rise
 pub coding_of : (items : List ℕ) (least : ℕ) (value : RankBaskets) → IsRising items → length items < MOST_RANKS → AreRankBaskets value → value.ranks ≡ length items

@@ -1,38 +1,21 @@
 -- What a search finds: each set that passes the test, once.
 use Rattle.std.proofs.Common.{◌≡◌, ◌≢◌, ℕ, zero, suc, ◌<◌, ◌≤◌, Bool, true, false, List, [], ◌∷◌, ◌++◌, ◌⊎◌, length, cond, refl, sym, ap, ◌∙◌, subst, inl, inr, arith, append_assoc}
 use Rattle.std.specs.Prelude.{nat_eq}
-use Rattle.std.specs.Cmp.Lexicographic.{pointwise, bytes_decides}
+use Rattle.std.specs.Cmp.Lexicographic.{pointwise}
 use Rattle.std.specs.List.{IsDistinct}
-use Rattle.std.proofs.lemmas.Bool.{cases_Bool, cases_eq, eq-eqb, eqb-true, true≢false}
+use Rattle.std.proofs.lemmas.Bool.{cases_eq, eq-eqb, eqb-true, true≢false}
 use Rattle.basket_sets.specs.Frequent.{IsNonemptySet}
 use Rattle.mine_classes.specs.Classes.{ends_in}
 use Rattle.basket_sets.specs.Itemset.{IsRising}
-use Rattle.basket_sets.proofs.theory.Members.{Member, All-from_Member, at_Member, Member-append, Member-append_left, Member-append_right}
+use Rattle.basket_sets.proofs.theory.Members.{Member, All-from_Member, Member-append, Member-append_left, Member-append_right}
 use Rattle.basket_sets.proofs.theory.Rising.{nil_rises, cons_rises, first_below, rest_rises}
+use Rattle.mine_classes.proofs.theory.Lists.{apart, distinct-append, front_rises}
 use Rattle.mine_search.specs.Walk.{sets_below}
-
-apart : (a b : List ℕ) → a ≢ b → pointwise nat_eq a b ≡ false
-apart a b differ = elim (cases_Bool (pointwise nat_eq a b)) [ inl e ↦ absurd (differ ((bytes_decides a b).0 e)) | inr e ↦ e ]
-
--- lists without equal elements, none of which is in both
-distinct-append : (xs ys : List (List ℕ)) → IsDistinct (pointwise nat_eq) xs → IsDistinct (pointwise nat_eq) ys → ((a b : List ℕ) → Member a xs → Member b ys → a ≢ b) → IsDistinct (pointwise nat_eq) (xs ++ ys)
-unfolding IsDistinct
-distinct-append [] ys one two across = two
-distinct-append (x ∷ xs) ys one two across = (
-  All-from_Member (λ y. pointwise nat_eq x y ≡ false) (xs ++ ys)
-      (λ y m. elim (Member-append y xs ys m) [ inl n ↦ at_Member (λ z. pointwise nat_eq x z ≡ false) y xs one.0 n | inr n ↦ apart x y (across x y (inl refl) n) ]),
-  distinct-append xs ys one.1 two (λ a b m n. across a b (inr m) n),
-)
 
 -- the last of a list
 pub split_last : (x : ℕ) (xs : List ℕ) → (front : List ℕ) × (last : ℕ) × (x ∷ xs ≡ front ++ last ∷ [])
 split_last x [] = ([], x, refl)
 split_last x (y ∷ ys) = let (front, last, is) = split_last y ys in (x ∷ front, last, ap (λ l. x ∷ l) is)
-
-pub front_rises : (front : List ℕ) (last : ℕ) → IsRising (front ++ last ∷ []) → IsRising front
-front_rises [] last up = nil_rises
-front_rises (x ∷ front) last up =
-    cons_rises x front (λ y m. first_below x (front ++ last ∷ []) up y (Member-append_left y front (last ∷ []) m)) (front_rises front last (rest_rises x (front ++ last ∷ []) up))
 
 pub front_below : (front : List ℕ) (last : ℕ) → IsRising (front ++ last ∷ []) → (item : ℕ) → Member item front → item < last
 front_below [] last up item m = absurd m
@@ -143,12 +126,12 @@ module _ (test : List ℕ → Bool) where
   unfolding IsDistinct
   sets_distinct zero set up above = tt
   sets_distinct (suc rank) set up above =
-      distinct-append (sets_below test rank set) (by_rank (test (rank ∷ set)) rank set) (sets_distinct rank set up (λ y k. let low = above y k in omega arith))
+      distinct-append (pointwise nat_eq) (sets_below test rank set) (by_rank (test (rank ∷ set)) rank set) (sets_distinct rank set up (λ y k. let low = above y k in omega arith))
       (at (test (rank ∷ set)) (sets_distinct rank (rank ∷ set) (with_rises rank set up above) (with_above rank set above)))
-      (λ a b m n e. elim (only_below rank set a rank m (subst (Member rank) (sym e) (has_rank (test (rank ∷ set)) b n))) [
+      (λ a b m n. apart a b (λ e. elim (only_below rank set a rank m (subst (Member rank) (sym e) (has_rank (test (rank ∷ set)) b n))) [
         | inl k ↦ (let low = above rank k in absurd (omega arith))
         | inr less ↦ absurd (omega arith)
-      ])
+      ]))
     where
       at : (b : Bool) → IsDistinct (pointwise nat_eq) (sets_below test rank (rank ∷ set)) → IsDistinct (pointwise nat_eq) (by_rank b rank set)
       at true deeper = (

@@ -23,14 +23,7 @@ Mined = Share (Vec (ℕ × (List Counted × ℕ)) Global)
 
 pub by_workers-requires-clause-accepted : goal.by_workers-requires-clause-accepted
 by_workers-requires-clause-accepted g c κs within i seat below is =
-    let fresh = c.in_ok-round.ensures.unused i seat below in (
-      ap (λ (s : SeatView). s.round) is ∙ fresh.0,
-      ap (λ (s : SeatView). s.held) is ∙ fresh.1,
-      c.for_parts.result.cutting.some_pieces.0,
-      c.in_ok-round.ensures.round.0,
-      c.in_ok-round.ensures.round.1,
-      c.ranks-ranks.ensures ∙ ap (λ (k : Coding). length k.items) (sym c.requires.coding),
-    )
+    let fresh = c.in_ok-round.ensures.unused i seat below in (ap (λ (s : SeatView). s.round) is ∙ fresh.0, ap (λ (s : SeatView). s.held) is ∙ fresh.1)
 
 pub close-requires : goal.close-requires
 close-requires g c = record { own = all_own c.in_ok-round.round c.in_ok-seats.ensures.shares c.in_ok-seats.seats.items c.in_ok-seats.ensures.seats (λ k d below. (c.in_ok-seats.ensures.each k d below).call.met.1.of_ranks.own) }

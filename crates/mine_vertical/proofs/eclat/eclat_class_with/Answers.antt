@@ -1,13 +1,15 @@
-use Rattle.std.proofs.Common.{◌<◌, ◌≤◌, length, subst, inl, inr, refl, arith}
+use Rattle.std.proofs.Common.{◌≤◌, length, subst, refl, arith}
 use Rattle.std.proofs.lemmas.Result.{IfOk-weaker}
-use Rattle.mine_classes.specs.Mined.{class_size}
-use Rattle.mine_vertical.proofs.ClassLemmas.{class_is, joins_are, over, rare_class, rare_rank}
+use Rattle.basket_ranks.specs.Codes.{Coding}
+use Rattle.mine_classes.specs.Mined.{MinesClass}
+use Rattle.mine_classes.proofs.theory.Mined.{mining_none}
+use Rattle.mine_vertical.proofs.ClassLemmas.{class_is, joins_are, over, rare, rare_rank}
 use Rattle.mine_vertical.proofs.eclat.eclat_class_with.Goals as goal
 
-pub returns-then-support-least-clause-listed : goal.returns-then-support-least-clause-listed
-returns-then-support-least-clause-listed g c =
-    rare_class c.args.vertical.now c.least-least.result c.runs-runs.result.now.baskets c.least-least.ensures c.runs-runs.ensures.weights c.rare_ranks_have_no_class.ensures c.args.rank c.in_ok-none.none
-    (omega (arith, c.if-support-least.true, c.support-support.ensures)) c.in_ok-none.ensures
+pub returns-then-support-least-clause-class : goal.returns-then-support-least-clause-class
+returns-then-support-least-clause-class g c =
+    let not = rare c.args.vertical.now c.least-least.result c.runs-runs.result.now.baskets c.least-least.ensures c.runs-runs.ensures.weights c.args.rank (omega (arith, c.if-support-least.true, c.support-support.ensures)) in
+    mining_none c.rare_ranks_have_no_class.ensures not c.in_ok-none.ensures c.requires.going
 
 pub returns-then-support-least-clause-joins : goal.returns-then-support-least-clause-joins
 returns-then-support-least-clause-joins g c = λ each.
@@ -40,7 +42,5 @@ returns-clause-joins g c =
     let joins = joins_are coding least all c.least-least.ensures c.runs-runs.ensures.weights c.args.rank each c.requires.rank in
     omega (arith, is, joins, c.number.ensures, c.in_ok-weights.ensures.joins, c.none-joins.ensures)) c.list.ensures.work
 
-pub returns-clause-too_many : goal.returns-clause-too_many
-returns-clause-too_many g c = λ limit e.
-    let (same, why) = c.list.ensures.too_many limit e in
-    (same, elim why [ inl over ↦ inl over | inr less ↦ inr (subst (λ k. limit < class_size k c.args.rank) c.coded-coded.ensures.coded less) ])
+pub returns-clause-class : goal.returns-clause-class
+returns-clause-class g c = subst (λ (v : Coding). MinesClass g.T.Tally.told_of g.T.Tally.limit_of g.T.Tally.is_over v c.args.rank c.args.tally.now c.list.new.tally c.list.result) c.coded-coded.ensures.coded c.list.ensures.class

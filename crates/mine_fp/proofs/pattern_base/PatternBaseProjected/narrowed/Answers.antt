@@ -23,4 +23,4 @@ returns-clause-work c = λ node is.
 pub returns-clause-inner : goal.returns-clause-inner
 returns-clause-inner c = IfSome_then c.in_ok-below.below c.in_ok-below.ensures.below (λ below is_below.
     let (node, is) = c.requires.given in
-    slots_below is_below (subst (λ n. c.args.at < n) is.numbered.long c.requires.inside) c.requires.lent (c.below.ensures.sums, c.below.ensures.places))
+    slots_below is_below (subst (λ n. c.args.at < n) is.numbered.long c.requires.inside) c.requires.lent c.below.ensures.kept)

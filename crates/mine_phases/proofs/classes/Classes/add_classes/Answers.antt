@@ -29,8 +29,7 @@ loop-place-init g c =
     let coding : Coding = g.M.ClassMiner.coding_of c.args.self.now.miner.now in
     let none = first_ranks coding c.args.self.now.pieces c.args.claimed c.args.claimed c.requires.claimed refl in
     record {
-      sums = c.requires.sums;
-      places = c.requires.places;
+      tables = c.requires.tables;
       going = c.requires.going;
       limit = refl;
       turn = mod-eq_of_lt c.requires.claimed;
@@ -43,22 +42,22 @@ pub returns-in_err-class-clause-too_many : goal.returns-in_err-class-clause-too_
 returns-in_err-class-clause-too_many g c = λ most e.
     let p = err_from_is_err_and c.from_residual.result c.from_residual.ensures.1 in
     let fault : c.in_err-class.field-0.0 ≡ TooMany most = cc in
-    let (same, why) = c.in_err-class.ensures.too_many most (ap Err fault) in
+    let (same, why) = c.in_err-class.ensures.class.too_many most (ap Err fault) in
     let rank = c.args.self.now.ranks - 1 - c.loop-place.place in
-    let below : rank < length (g.M.ClassMiner.coding_of c.args.self.now.miner.now).items = omega (arith, c.loop-place-test.true, c.requires.ranks) in
+    let below : rank < length (g.M.ClassMiner.coding_of c.args.self.now.miner.now).items = omega (arith, c.loop-place-test.true, c.args.self.now.all_ranks) in
     (same ∙ c.loop-place.invariant.limit, elim why [ inl over ↦ inl over | inr less ↦ inr (record { rank = rank; within = below; large = less }) ])
 
 pub returns-in_err-class-clause-at_most : goal.returns-in_err-class-clause-at_most
 returns-in_err-class-clause-at_most g c =
     let was = c.loop-place.invariant in
-    let fits = class_fits (g.M.ClassMiner.coding_of c.args.self.now.miner.now) c.args.self.now.pieces c.args.claimed c.loop-place.place c.args.self.now.ranks was.turn c.requires.claimed c.requires.ranks c.loop-place-test.true in
-    omega (arith, fits, was.told, c.class.ensures.at_most)
+    let fits = class_fits (g.M.ClassMiner.coding_of c.args.self.now.miner.now) c.args.self.now.pieces c.args.claimed c.loop-place.place c.args.self.now.ranks was.turn c.requires.claimed c.args.self.now.all_ranks c.loop-place-test.true in
+    omega (arith, fits, was.told, c.class.ensures.class.at_most)
 
 pub returns-in_err-push-clause-at_most : goal.returns-in_err-push-clause-at_most
 returns-in_err-push-clause-at_most g c =
     let was = c.loop-place.invariant in
-    let fits = class_fits (g.M.ClassMiner.coding_of c.args.self.now.miner.now) c.args.self.now.pieces c.args.claimed c.loop-place.place c.args.self.now.ranks was.turn c.requires.claimed c.requires.ranks c.loop-place-test.true in
-    omega (arith, fits, was.told, c.class.ensures.at_most)
+    let fits = class_fits (g.M.ClassMiner.coding_of c.args.self.now.miner.now) c.args.self.now.pieces c.args.claimed c.loop-place.place c.args.self.now.ranks was.turn c.requires.claimed c.args.self.now.all_ranks c.loop-place-test.true in
+    omega (arith, fits, was.told, c.class.ensures.class.at_most)
 
 not_true : (b : Bool) → not b ≡ true → b ≡ false
 not_true true h = absurd cc
@@ -67,8 +66,8 @@ not_true false h = refl
 pub returns-then-not-look-clause-at_most : goal.returns-then-not-look-clause-at_most
 returns-then-not-look-clause-at_most g c =
     let was = c.loop-place.invariant in
-    let fits = class_fits (g.M.ClassMiner.coding_of c.args.self.now.miner.now) c.args.self.now.pieces c.args.claimed c.loop-place.place c.args.self.now.ranks was.turn c.requires.claimed c.requires.ranks c.loop-place-test.true in
-    omega (arith, fits, was.told, c.class.ensures.at_most, c.look.ensures.told)
+    let fits = class_fits (g.M.ClassMiner.coding_of c.args.self.now.miner.now) c.args.self.now.pieces c.args.claimed c.loop-place.place c.args.self.now.ranks was.turn c.requires.claimed c.args.self.now.all_ranks c.loop-place-test.true in
+    omega (arith, fits, was.told, c.class.ensures.class.at_most, c.look.ensures.told)
 
 pub loop-place-preserved : goal.loop-place-preserved
 loop-place-preserved g c =
@@ -78,22 +77,21 @@ loop-place-preserved g c =
     let place = c.loop-place.place in
     let rank = c.args.self.now.ranks - 1 - place in
     let was = c.loop-place.invariant in
-    let class = c.in_ok-class.ensures in
+    let class = c.in_ok-class.ensures.class in
     let pushed = c.in_ok-push.ensures.items in
     let size = c.lists_have_class_size.ensures coding rank c.in_ok-class.class.0 class.listed in
     let before = numbers_of c.args.values.now.items in
     let ranks = ranks_before coding pieces c.args.claimed place in
-    let next = next_rank coding pieces c.args.claimed place rank was.turn (omega (arith, c.loop-place-test.true, c.requires.ranks)) (rank_is c.args.self.now.ranks place coding c.requires.ranks) (omega (arith, c.requires.claimed)) in
+    let next = next_rank coding pieces c.args.claimed place rank was.turn (omega (arith, c.loop-place-test.true, c.args.self.now.all_ranks)) (rank_is c.args.self.now.ranks place coding c.args.self.now.all_ranks) (omega (arith, c.requires.claimed)) in
     let sum = ap (sum_by (class_size coding)) next ∙ sum_by_push (class_size coding) ranks rank in
     record {
-      sums = class.sums ∙ was.sums;
-      places = class.places ∙ was.places;
+      tables = (let made = c.in_ok-class.ensures.tables in (made.0 ∙ sym c.args.self.now.all_ranks, made.1 ∙ sym c.args.self.now.all_ranks));
       going = not_true _ (sym c.look.ensures.over ∙ c.if-not-look.false);
       limit = c.look.ensures.limit ∙ class.limit ∙ was.limit;
       turn = add-mod_right place pieces ∙ was.turn;
       numbers = ap numbers_of pushed ∙ map-append (λ (value : ℕ × (List Counted × ℕ)). value.0) c.loop-place.values.items _ ∙ ap (λ l. l ++ rank ∷ []) was.numbers
           ∙ append_assoc before ranks (rank ∷ []) ∙ ap (λ l. before ++ l) (sym next);
-      each = All-same Mined _ _ pushed (All-push Mined c.loop-place.values.items _ was.each (record { listed = class.listed; work = class.work; few = class.few }));
+      each = All-same Mined _ _ pushed (All-push Mined c.loop-place.values.items _ was.each (record { listed = class.listed; work = c.in_ok-class.ensures.work; few = class.little }));
       told = omega (arith, sum, size, was.told, class.told, c.look.ensures.told);
     }
 
@@ -101,12 +99,12 @@ pub returns-clause-numbers : goal.returns-clause-numbers
 returns-clause-numbers g c =
     let coding : Coding = g.M.ClassMiner.coding_of c.args.self.now.miner.now in
     c.loop-place.invariant.numbers
-    ∙ ap (λ l. numbers_of c.args.values.now.items ++ l) (all_ranks coding c.args.self.now.pieces c.args.claimed c.loop-place.place (omega (arith, c.loop-place-test.false, c.requires.ranks)))
+    ∙ ap (λ l. numbers_of c.args.values.now.items ++ l) (all_ranks coding c.args.self.now.pieces c.args.claimed c.loop-place.place (omega (arith, c.loop-place-test.false, c.args.self.now.all_ranks)))
 
 pub returns-clause-told : goal.returns-clause-told
 returns-clause-told g c =
     let coding : Coding = g.M.ClassMiner.coding_of c.args.self.now.miner.now in
-    let all = ap (sum_by (class_size coding)) (all_ranks coding c.args.self.now.pieces c.args.claimed c.loop-place.place (omega (arith, c.loop-place-test.false, c.requires.ranks))) in
+    let all = ap (sum_by (class_size coding)) (all_ranks coding c.args.self.now.pieces c.args.claimed c.loop-place.place (omega (arith, c.loop-place-test.false, c.args.self.now.all_ranks))) in
     omega (arith, all, c.loop-place.invariant.told)
 
 pub returns-clause-at_most : goal.returns-clause-at_most

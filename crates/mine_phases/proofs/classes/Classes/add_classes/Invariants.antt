@@ -1,21 +1,20 @@
 use Rattle.std.proofs.Common.{◌≡◌, ◌+◌, ◌-◌, ◌%◌, ◌++◌, false}
-use Rattle.std.specs.Prelude.{All}
 use Rattle.std.specs.List.{sum_by}
 use Rattle.mine_classes.specs.Mined.{class_size}
-use Rattle.mine_phases.specs.Classes.{IsMined}
+use Rattle.mine_classes.specs.Tables.{AreTablesOf}
+use Rattle.mine_phases.specs.Classes.{AreMined}
 use Rattle.mine_phases.specs.Share.{numbers_of}
 use Rattle.mine_phases.proofs.Ranks.{ranks_before}
 use Rattle.mine_phases.proofs.classes.Classes.add_classes.Given as goal
 
 abbrev pub invariant-loop-place : goal.invariant-loop-place
 invariant-loop-place g l = record {
-  sums : l.tables.sums ≡ l.self.ranks;
-  places : l.tables.places ≡ l.self.ranks;
+  tables : AreTablesOf l.self.ranks l.tables;
   going : l.tally.over ≡ false;
   limit : l.tally.limit ≡ l.initial.tally.limit;
   turn : l.place % l.self.pieces ≡ l.claimed;
   numbers : numbers_of l.values.items ≡ numbers_of l.initial.values.items ++ ranks_before (g.M.ClassMiner.coding_of l.self.miner.now) l.self.pieces l.claimed l.place;
-  each : All (λ value. IsMined (g.M.ClassMiner.coding_of l.self.miner.now) (g.M.ClassMiner.is_work l.self.miner.now) value.0 value.1) l.values.items;
+  each : AreMined (g.M.ClassMiner.coding_of l.self.miner.now) (g.M.ClassMiner.is_work l.self.miner.now) l.values.items;
   told : l.tally.told ≡ l.initial.tally.told + sum_by (class_size (g.M.ClassMiner.coding_of l.self.miner.now)) (ranks_before (g.M.ClassMiner.coding_of l.self.miner.now) l.self.pieces l.claimed l.place);
 }
 

@@ -27,7 +27,7 @@ loop-alloc-smaller g c =
     let claimed = claimed_next c.loop-alloc.seat c.are_over.new.seat c.claim_piece.new.seat c.mine-back.result.0 number c.are_over.ensures.same c.in-Some.ensures.piece.1 c.mine-back.ensures.same in
     let low = behind-le before number rises in
     let high = ap behind claimed ∙ behind_push before number rises in
-    omega (arith, low, high, c.in-Some.ensures.piece.0, c.requires.pieces.1)
+    omega (arith, low, high, c.in-Some.ensures.piece.0, c.args.self.now.of_round)
 
 pub loop-alloc-preserved : goal.loop-alloc-preserved
 loop-alloc-preserved g c =
@@ -46,9 +46,8 @@ loop-alloc-preserved g c =
     let sum = ap (sum_by size) claimed ∙ sum_by_push size before number in
     record {
       counts = c.mine-back.ensures.counts;
-      sums = (rw c.in_default-mined.is at c.mine-back.ensures.sums) ∙ was.sums;
-      places = (rw c.in_default-mined.is at c.mine-back.ensures.places) ∙ was.places;
-      within = omega (arith, high, c.in-Some.ensures.piece.0, c.requires.pieces.1);
+      tables = rw c.in_default-mined.is at c.mine-back.ensures.tables;
+      within = omega (arith, high, c.in-Some.ensures.piece.0, c.args.self.now.of_round);
       numbers = (rw c.in_default-mined.is at c.mine-back.ensures.numbers) ∙ ap (λ l. l ++ ranks number) was.numbers ∙ ap (λ l. flat_map ranks before ++ l) (sym (append-nil (ranks number)))
           ∙ sym (ap (flat_map ranks) claimed ∙ flat_map-append ranks before (number ∷ []));
       each = rw c.in_default-mined.is at c.mine-back.ensures.each;

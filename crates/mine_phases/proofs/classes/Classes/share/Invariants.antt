@@ -1,7 +1,7 @@
 use Rattle.std.proofs.Common.{◌≡◌, ◌≤◌, ◌-◌, slice_index}
-use Rattle.std.specs.Prelude.{All}
 use Rattle.std.specs.List.{flat_map, sum_by}
-use Rattle.mine_phases.specs.Classes.{IsMined, claimed_size, ranks_of}
+use Rattle.mine_classes.specs.Tables.{AreTablesOf}
+use Rattle.mine_phases.specs.Classes.{AreMined, claimed_size, ranks_of}
 use Rattle.mine_phases.specs.RoundTally.{CountsSets}
 use Rattle.mine_phases.specs.Share.{numbers_of}
 use Rattle.mine_phases.proofs.theory.Claims.{behind}
@@ -10,11 +10,10 @@ use Rattle.mine_phases.proofs.classes.Classes.share.Given as goal
 abbrev pub invariant-loop-alloc : goal.invariant-loop-alloc
 invariant-loop-alloc g l = record {
   counts : CountsSets l.self.round.now l.seat;
-  sums : l.tables.sums ≡ l.self.ranks;
-  places : l.tables.places ≡ l.self.ranks;
+  tables : AreTablesOf l.self.ranks l.tables;
   within : behind l.seat.held.claimed ≤ l.self.pieces;
   numbers : numbers_of l.values.items ≡ flat_map (ranks_of (g.M.ClassMiner.coding_of l.self.miner.now) l.self.pieces) l.seat.held.claimed;
-  each : All (λ value. IsMined (g.M.ClassMiner.coding_of l.self.miner.now) (g.M.ClassMiner.is_work l.self.miner.now) value.0 value.1) l.values.items;
+  each : AreMined (g.M.ClassMiner.coding_of l.self.miner.now) (g.M.ClassMiner.is_work l.self.miner.now) l.values.items;
   told : slice_index l.seat.held.added 0 ≡ sum_by (claimed_size (g.M.ClassMiner.coding_of l.self.miner.now) l.self.pieces) l.seat.held.claimed;
 }
 

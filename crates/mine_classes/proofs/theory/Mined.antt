@@ -1,0 +1,38 @@
+-- How a call that mines a class ends.
+use Rattle.std.proofs.Common.{◌≡◌, ℕ, ◌+◌, ◌<◌, ◌≤◌, Bool, false, List, [], ◌∷◌, length, Ok, Err, refl, sym, ap, subst, arith, ◌⊎◌}
+use Rattle.std.specs.Prelude.{IsTrue, Result}
+use Rattle.basket_core.specs.declared.fault.MineFault.{MineFault}
+use Rattle.basket_core.specs.declared.fault.MineFault.TheVariants.{TooMany}
+use Rattle.basket_ranks.specs.Codes.{Coding}
+use Rattle.basket_sets.specs.declared.counted.Counted.{Counted}
+use Rattle.basket_sets.specs.Frequent.{is_frequent}
+use Rattle.mine_classes.specs.Classes.{RareRanksHaveNoClass}
+use Rattle.mine_classes.specs.Mined.{MinesClass, class_size}
+
+module _ {T : Type 0} {told_of limit_of : T → ℕ} {is_over : T → Bool} {coding : Coding} {rank : ℕ} where
+  -- it fails
+  pub mining_fails : {before after : T} {result : Result (List Counted × ℕ) MineFault} {fault : MineFault} → result ≡ Err fault
+      → ((limit : ℕ) → fault ≡ TooMany limit → (limit ≡ limit_of before) × (IsTrue (is_over after) ⊎ (limit < class_size coding rank)))
+      → told_of after ≤ told_of before + class_size coding rank → limit_of after ≡ limit_of before → MinesClass told_of limit_of is_over coding rank before after result
+  mining_fails {before} {after} {result} {fault} is many most limit = subst (MinesClass told_of limit_of is_over coding rank before after) (sym is) (record {
+    listed = tt;
+    little = tt;
+    told = tt;
+    going_on = tt;
+    too_many = λ n e. many n (let same : fault ≡ TooMany n = cc in same);
+    at_most = most;
+    limit = limit;
+  })
+
+  -- the rank is not frequent, and nothing is listed
+  pub mining_none : {before : T} {list : List Counted} → RareRanksHaveNoClass → is_frequent coding.baskets coding.minimum (rank ∷ []) ≡ false → list ≡ [] → is_over before ≡ false
+      → MinesClass told_of limit_of is_over coding rank before before (Ok (list, 0))
+  mining_none {before} {list} law rare none going = record {
+    listed = record { sets = []; listed = law coding.baskets coding.minimum rank rare; decoded = none };
+    little = omega arith;
+    told = omega (arith, ap length none);
+    going_on = going;
+    too_many = λ limit e. absurd (let other = e in cc);
+    at_most = omega arith;
+    limit = refl;
+  }
