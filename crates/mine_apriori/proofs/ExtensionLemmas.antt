@@ -12,7 +12,7 @@ use Rattle.std.proofs.lemmas.List.Elements.{filter-append}
 use Rattle.std.proofs.lemmas.List.Folds.{list_any-append}
 use Rattle.basket_sets.specs.Itemset.{IsRising, has}
 use Rattle.basket_sets.proofs.theory.Items.{filter-map}
-use Rattle.basket_sets.proofs.theory.Members.{Member, Member-append_left, Member-filter, Member-map, Member-from_map, All-from_Member, first_is_less, rest_is_sorted, not_both_less}
+use Rattle.basket_sets.proofs.theory.Members.{Member, Member-filter, Member-map, Member-from_map, All-from_Member, first_is_less, rest_is_sorted, not_both_less}
 use Rattle.basket_sets.proofs.theory.Rising.{Member-from_has, cons_rises, first_below, has-from_Member, nil_rises, rest_rises, same_test}
 use Rattle.mine_apriori.specs.Candidates.{is_one_of}
 use Rattle.mine_apriori.specs.Extensions.{Group, groups_of, prefixes_of, lists_of, extend, sets_of, has_items, is_some}
@@ -200,11 +200,6 @@ none_more sets i set before below is none same =
 pub item_more : (found : List (List ℕ)) (prefix items : List ℕ) (item : ℕ) → found ++ extend prefix (items ++ item ∷ []) ≡ (found ++ extend prefix items) ++ (prefix ++ item ∷ []) ∷ []
 item_more found prefix items item =
     ap (λ l. found ++ l) (map-append (λ x. prefix ++ x ∷ []) items (item ∷ [])) ∙ sym (append_assoc found (extend prefix items) ((prefix ++ item ∷ []) ∷ []))
-
--- the front of a rising set rises
-pub front_rises : (first : List ℕ) (last : ℕ) → IsRising (first ++ last ∷ []) → IsRising first
-front_rises [] last up = nil_rises
-front_rises (x ∷ first) last up = cons_rises x first (λ y m. first_below x (first ++ last ∷ []) up y (Member-append_left y first (last ∷ []) m)) (front_rises first last (rest_rises x (first ++ last ∷ []) up))
 
 -- an item above the last of rising ones
 pub rises_above : (items : List ℕ) (item : ℕ) → IsRising items → ((last : ℕ) → slice_get items (length items - 1) ≡ Some last → last < item) → IsRising (items ++ item ∷ [])

@@ -1,12 +1,12 @@
 -- Pairs of ranks as sets of two.
-use Rattle.std.proofs.Common.{◌≡◌, ℕ, ◌+◌, ◌<◌, Bool, true, false, ◌&&◌, List, [], ◌∷◌, ◌++◌, length, get_or, map, leb, refl, sym, ap, ◌∙◌, subst, inl, inr, arith, zero, suc, add-one}
+use Rattle.std.proofs.Common.{◌≡◌, ℕ, ◌+◌, ◌<◌, Bool, true, ◌&&◌, List, [], ◌∷◌, ◌++◌, length, get_or, map, refl, sym, ap, ◌∙◌, subst, inl, inr, arith, zero, suc, add-one}
 use Rattle.std.specs.Cmp.Lexicographic.{slice_cmp, bytes_decides, nat_list_cmp_total, texts_ties}
 use Rattle.std.specs.Ordering.{nat_cmp, ordering_then, eq_by_cmp}
 use Rattle.std.specs.List.{All, AllByRecursion, IsDistinct, filter, range_with_len}
 use Rattle.std.specs.List.Sorted.{IsPermutation, IsSorted, IsStrictlySortedBy}
 use Rattle.std.specs.declared.vec.Vec.{Vec}
 use Rattle.std.specs.declared.alloc.Global.{Global}
-use Rattle.std.proofs.lemmas.Bool.{cases_Bool, cases_eq, le-leb, leb-true, lt-ltb}
+use Rattle.std.proofs.lemmas.Bool.{cases_Bool, cases_eq, lt-ltb}
 use Rattle.std.proofs.lemmas.List.{get_or-map, length-map, map-append}
 use Rattle.std.proofs.lemmas.List.Elements.{All-map, recursion_from_All}
 use Rattle.std.proofs.lemmas.List.FromFn.{get_or-map-range_with_len, length-map-range_with_len}
@@ -23,13 +23,15 @@ use Rattle.basket_sets.specs.Itemset.{IsRising}
 use Rattle.basket_sets.specs.Minimum.{IsLeastSupport}
 use Rattle.basket_sets.specs.Subsets.{subsets_of_size}
 use Rattle.basket_sets.specs.Support.{items_of, support_of, total_of}
-use Rattle.basket_sets.proofs.theory.Members.{Member, All-from_Member, Member-append, Member-append_left, Member-append_right, Member-filter, Member-from_filter, Member-from_map, Member-map, at_Member, sorted_map}
+use Rattle.basket_sets.proofs.theory.Members.{Member, Member-append, Member-append_left, Member-append_right, Member-filter, Member-from_filter, Member-from_map, Member-map, sorted_map}
 use Rattle.basket_sets.proofs.theory.Ranges.{Member-into_range, Member-range, filter_members, filtered_range_rises}
 use Rattle.basket_sets.proofs.theory.Rising.{first_below, has-from_Member}
 use Rattle.basket_sets.proofs.theory.Sorting.{sorted_is}
 use Rattle.basket_sets.proofs.theory.Subsets.{of_size_sorted}
 use Rattle.basket_sets.proofs.theory.Support.{support_falls}
 use Rattle.mine_classes.specs.Conditional.{is_kept}
+use Rattle.mine_classes.proofs.theory.Kept.{met_alone}
+use Rattle.mine_classes.proofs.theory.Lists.{distinct-append}
 use Rattle.mine_classes.specs.Pairs.{ArePairs, lists_of, pairs_of}
 use Rattle.mine_apriori.specs.declared.pairs.Pair.{Pair}
 use Rattle.mine_apriori.specs.Levels.{level_of}
@@ -42,14 +44,7 @@ use Rattle.mine_apriori.proofs.LevelsLemmas.{from_level, into_level, items_rise}
 least_tests : (coding : Coding) (least : ℕ) → IsLeastSupport coding.minimum (total_of coding.baskets) least → (set : List ℕ)
     → is_frequent coding.baskets (Count least) set ≡ is_frequent coding.baskets coding.minimum set
 least_tests coding least settles set =
-    one_test (leb 1 (support_of coding.baskets set)) (leb least (support_of coding.baskets set))
-    (λ h. let low = settles.some in let high = leb-true least (support_of coding.baskets set) h in le-leb 1 (support_of coding.baskets set) (omega arith))
-    ∙ sym (settles.met (support_of coding.baskets set) (support_falls coding.baskets set [] refl))
-  where
-    one_test : (a b : Bool) → (b ≡ true → a ≡ true) → (a && b) ≡ b
-    one_test true b h = refl
-    one_test false true h = h refl
-    one_test false false h = refl
+    met_alone least (support_of coding.baskets set) settles.some ∙ sym (settles.met (support_of coding.baskets set) (support_falls coding.baskets set [] refl))
 
 -- ---- pairs as they are given
 
@@ -125,21 +120,11 @@ module _ (coding : Coding) where
     | inr differ ↦ Member-append_left (lesser ∷ greater ∷ []) (sets_below count) (sets_with count) (into_below count lesser greater less (omega arith) h)
   ]
 
-  distinct_append : (xs ys : List (List ℕ)) → IsDistinct (eq_by_cmp (slice_cmp nat_cmp)) xs → IsDistinct (eq_by_cmp (slice_cmp nat_cmp)) ys
-      → ((x y : List ℕ) → Member x xs → Member y ys → eq_by_cmp (slice_cmp nat_cmp) x y ≡ false) → IsDistinct (eq_by_cmp (slice_cmp nat_cmp)) (xs ++ ys)
-  unfolding IsDistinct
-  distinct_append [] ys a b across = b
-  distinct_append (x ∷ xs) ys a b across = (
-    All-from_Member (λ z. eq_by_cmp (slice_cmp nat_cmp) x z ≡ false) (xs ++ ys)
-        (λ z m. elim (Member-append z xs ys m) [ inl n ↦ at_Member (λ w. eq_by_cmp (slice_cmp nat_cmp) x w ≡ false) z xs a.0 n | inr n ↦ across x z (inl refl) n ]),
-    distinct_append xs ys a.1 b (λ u v m n. across u v (inr m) n),
-  )
-
   distinct_below : (count : ℕ) → IsDistinct (eq_by_cmp (slice_cmp nat_cmp)) (sets_below count)
   unfolding IsDistinct
   distinct_below zero = tt
   distinct_below (suc count) =
-      distinct_append (sets_below count) (sets_with count) (distinct_below count)
+      distinct-append (eq_by_cmp (slice_cmp nat_cmp)) (sets_below count) (sets_with count) (distinct_below count)
       (IsDistinct-from_sorted (slice_cmp nat_cmp) (sets_with count)
       (sorted_map nat_cmp (slice_cmp nat_cmp) (λ lesser. lesser ∷ count ∷ []) (lesser_of count) (λ x y less. ap (λ o. ordering_then o (slice_cmp nat_cmp (count ∷ []) (count ∷ []))) less)
       (filtered_range_rises (λ lesser. passes (lesser ∷ count ∷ [])) 0 count)))

@@ -7,7 +7,8 @@ use Rattle.std.proofs.lemmas.Result.{IfOk-weaker}
 use Rattle.basket_sets.specs.Itemset.{IsRising}
 use Rattle.basket_sets.proofs.theory.Rising.{cons_rises, nil_rises}
 use Rattle.mine_apriori.specs.Extensions.{extend, is_some, sets_of}
-use Rattle.mine_apriori.proofs.ExtensionLemmas.{front_rises, item_more, none_more, sets_push, some_more}
+use Rattle.mine_classes.proofs.theory.Lists.{front_rises}
+use Rattle.mine_apriori.proofs.ExtensionLemmas.{item_more, none_more, sets_push, some_more}
 use Rattle.mine_apriori.proofs.extensions.Extensions.of_sets.Goals as goal
 use Rattle.mine_apriori.proofs.extensions.Extensions.of_sets.Goals.{in-Some+in_ok-push, then-ne+in_ok-found, then-ne-via-then-ne, then-ne-via-else-ne+then-not-rises, else-ne+else-not-rises, in_default}
 
