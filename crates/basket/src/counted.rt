@@ -84,7 +84,6 @@ pub fn report_listing(
         Ask::Closed => Ok(Made::of_closed(alloc, frequent, style, workers)?),
         Ask::Maximal => Ok(Made::of_maximal(alloc, frequent, style, workers)?),
         Ask::Rules(confidence) => {
-            let frequent = frequent.unpacked(alloc)?;
             Ok(Made::Text(rules_report(alloc, &frequent, confidence, style)?))
         }
     }
