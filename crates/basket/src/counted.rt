@@ -83,7 +83,6 @@ pub fn report_listing(
         Ask::Closed => Ok(PreparedReport::of_closed(alloc, frequent, style, workers)?),
         Ask::Maximal => Ok(PreparedReport::of_maximal(alloc, frequent, style, workers)?),
         Ask::Rules(confidence) => {
-            let frequent = frequent.unpacked(alloc)?;
             Ok(PreparedReport::Text(rules_report(alloc, &frequent, confidence, style)?))
         }
     }

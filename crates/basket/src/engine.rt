@@ -151,7 +151,6 @@ fn report_baskets<R: Threads + Sync>(
         }
         Ask::Rules(confidence) => {
             let (frequent, _) = mine_in_place(rt, alloc, database, plan, &Open)?;
-            let frequent = frequent.unpacked(alloc)?;
             Ok(PreparedReport::Text(rules_report(alloc, &frequent, confidence, style)?))
         }
     }

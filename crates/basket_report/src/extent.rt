@@ -1,7 +1,7 @@
 //! What is known of sets before their lines are written.
 use crate::count_texts::CountTexts;
 use crate::texts::Texts;
-use basket_core::{Counted, CountedSets};
+use basket_core::CountedSets;
 use std::alloc::{AllocError, Global};
 
 /// No more texts are made than this.
@@ -31,23 +31,6 @@ impl Extent {
             lines: sets.len(),
             items: sets.item_count(),
             greatest: sets.greatest_item(),
-        }
-    }
-
-    /// The extent of sets that are values of their own.
-    pub fn of_unpacked(sets: &[Counted]) -> Self {
-        let mut items: usize = 0;
-        let mut greatest = 0;
-        for counted in sets {
-            items = items.saturating_add(counted.set.len());
-            if let Some(last) = counted.set.items().last() {
-                greatest = greatest.max(*last);
-            }
-        }
-        Extent {
-            lines: sets.len(),
-            items,
-            greatest,
         }
     }
 

@@ -8,7 +8,7 @@ use crate::count_text::CountText;
 use crate::extent::Extent;
 use crate::ratios::Ratios;
 use crate::texts::{Texts, put_front};
-use basket_core::Counted;
+use basket_core::CountedSets;
 use basket_rules::{Figures, Sides};
 use std::alloc::{AllocError, Global};
 use std::marker::Model;
@@ -45,11 +45,11 @@ impl Lines {
     }
 
     /// No lines, for rules between the sets.
-    pub fn for_rules(alloc: Global, sets: &[Counted]) -> Result<Self, AllocError>
+    pub fn for_rules(alloc: Global, sets: &CountedSets) -> Result<Self, AllocError>
         ensures { IfOk result (λ lines. lines ≡ []) }
     {
         Ok(Lines {
-            texts: Extent::of_unpacked(sets).texts(alloc)?,
+            texts: Extent::of(sets).texts(alloc)?,
             count: CountText::new(0),
             ratios: Ratios::new(alloc)?,
             text: Vec::new(alloc),

@@ -6,6 +6,7 @@ ghost use Rattle.basket_rules.specs.Met.{confidence_of, lift_of};
 
 use crate::texts::{put_fraction, put_front};
 use basket_core::Fraction;
+use basket_order::word_hash;
 use basket_rules::Figures;
 use itoa::write_digits;
 use std::alloc::{AllocError, Global};
@@ -18,9 +19,6 @@ const ROOM: usize = 41;
 
 /// Where a text is made: at the end of a room, and a room more after its start.
 const SCRATCH: usize = 2 * ROOM;
-
-/// An odd number whose bits look random.
-const MULTIPLIER: u64 = 0x9E37_79B9_7F4A_7C15;
 
 /// A numerator and a denominator, and the text of their fraction in lowest terms, at the beginning
 /// of a room.
@@ -145,6 +143,5 @@ impl Ratios {
 }
 
 fn slot_of(numerator: u64, denominator: u64) -> usize {
-    let mixed = numerator.wrapping_mul(MULTIPLIER) ^ denominator;
-    (mixed.wrapping_mul(MULTIPLIER) >> 32) as usize % SLOTS
+    word_hash(numerator, denominator) as usize % SLOTS
 }

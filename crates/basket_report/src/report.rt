@@ -7,7 +7,7 @@ ghost use Rattle.basket_report.specs.Style.{Wording, wording_of};
 use crate::lines::Lines;
 use crate::style::Style;
 use crate::table::Table;
-use basket_core::{Counted, Unpacked};
+use basket_core::{CountedSets, Frequent};
 use basket_rules::{Figures, Lookups, MetRule, Sides};
 use std::alloc::{AllocError, Global};
 
@@ -30,7 +30,11 @@ impl<'a> Report<'a> {
     }
 
     /// An empty report, for rules between the sets.
-    pub fn for_rules(alloc: Global, style: Style<'a>, sets: &[Counted]) -> Result<Self, AllocError>
+    pub fn for_rules(
+        alloc: Global,
+        style: Style<'a>,
+        sets: &CountedSets,
+    ) -> Result<Self, AllocError>
         ensures { IfOk result (λ report. HasSoFar report (wording_of style.entry) []) }
     {
         match style {
@@ -66,7 +70,7 @@ impl<'a> Report<'a> {
     /// Adds the rules with the set at the place as their union.
     pub fn put_rules(
         &mut self,
-        frequent: &Unpacked,
+        frequent: &Frequent,
         number: usize,
         met: &[MetRule],
         lookups: &mut Lookups,

@@ -8,7 +8,7 @@ ghost use Rattle.basket_report.specs.Style.{wording_of};
 
 use crate::report::Report;
 use crate::style::Style;
-use basket_core::{Share, Unpacked};
+use basket_core::{Frequent, Share};
 use basket_rules::{Lookups, met_rules};
 use std::alloc::{AllocError, Global};
 
@@ -16,16 +16,17 @@ use std::alloc::{AllocError, Global};
 /// those of the next.
 pub fn rules_report(
     alloc: Global,
-    frequent: &Unpacked,
+    frequent: &Frequent,
     confidence: Share,
     style: Style<'_>,
 ) -> Result<Vec<u8>, AllocError>
     ensures baskets { IfOk result (λ report. ReportsRules (wording_of style.entry) frequent.now confidence report.items) }
     ensures lists { IfOk result (λ report. IsConsistent frequent.now.sets → report.items ≡ rules_report_of (wording_of style.entry) (rules_among frequent.now confidence)) }
 {
-    let mut lookups = Lookups::of(alloc, frequent.sets())?;
-    let mut report = Report::for_rules(alloc, style, frequent.sets())?;
-    for number in 0..frequent.sets().len() {
+    let sets = frequent.sets();
+    let mut lookups = Lookups::of(alloc, sets)?;
+    let mut report = Report::for_rules(alloc, style, sets)?;
+    for number in 0..sets.len() {
         let met = met_rules(alloc, frequent, number, confidence, &mut lookups)?;
         report.put_rules(frequent, number, &met, &mut lookups)?;
     }

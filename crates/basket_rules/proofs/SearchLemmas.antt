@@ -1,21 +1,20 @@
 -- What one comparison in a list in report order says of the sets beside it, and when a search is over.
-use Rattle.std.proofs.Common.{◌≡◌, ℕ, ◌<◌, ◌≤◌, ◌+◌, ◌-◌, List, [], ◌∷◌, length, get_or, Result, Ok, Err, refl, sym, ap, ◌∙◌, inl, inr, arith}
+use Rattle.std.proofs.Common.{◌≡◌, ℕ, ◌<◌, ◌≤◌, ◌+◌, List, [], ◌∷◌, length, get_or, refl, sym, ap, ◌∙◌, inl, inr, arith}
 use Rattle.std.specs.declared.cmp.Ordering.{Ordering}
 use Rattle.std.specs.declared.cmp.Ordering.TheVariants.{Less, Equal, Greater}
 use Rattle.std.specs.Ordering.{ordering_index, is_eq}
 use Rattle.std.specs.Cmp.Lexicographic.{bytes_decides}
 use Rattle.std.specs.List.{AllWithin, HoldsAt}
-use Rattle.std.specs.List.Sorted.{IsBinarySearchResult, IsNonDecreasingBy, IsSearchInRange}
+use Rattle.std.specs.List.Sorted.{IsNonDecreasingBy}
 use Rattle.std.proofs.lemmas.Bool.{cases_lt}
 use Rattle.std.proofs.lemmas.Cmp.{tied_itself}
 use Rattle.std.proofs.lemmas.Map.Keys.{Less-from_sorted}
-use Rattle.std.specs.Result.{IfErr, IfOk}
 use Rattle.std.proofs.lemmas.List.{get_or_default, get_or-map, length-map}
 use Rattle.basket_sets.specs.declared.counted.Counted.{Counted}
 use Rattle.basket_sets.specs.Order.{report_order, report_order_total, report_order_ties}
 use Rattle.basket_sets.proofs.theory.Members.{Member, Member-from_Contains}
 use Rattle.basket_rules.specs.Listed.{IsSorted, sets_in, set_at, count_at}
-use Rattle.basket_rules.specs.Search.{IsBetween, IsMissing}
+use Rattle.basket_rules.specs.Search.{IsBetween}
 use Rattle.basket_sets.proofs.theory.Sorting.{at_most_greater, only_greater, only_less}
 
 -- ---- the sets of a list
@@ -114,14 +113,3 @@ is_missing (c ∷ list) set i b k below e =
       | inl less ↦ (let other = b.smaller k c (omega arith) less in cc)
       | inr more ↦ (let other = b.greater k c more below in cc)
     ]
-
--- ---- a binary search
-
-module _ (list : List Counted) (set : List ℕ) where
-  pub found_by_search : (result : Result ℕ ℕ) → IsSearchInRange result (length list) → IsBinarySearchResult (λ c. report_order c.set set) list result → IfOk result (λ at. set_at list at ≡ set)
-  found_by_search (Ok place) below same = stands list set place below same
-  found_by_search (Err place) below point = tt
-
-  pub missing_by_search : (result : Result ℕ ℕ) → IsBinarySearchResult (λ c. report_order c.set set) list result → IfErr result (λ _. IsMissing list set)
-  missing_by_search (Ok place) same = tt
-  missing_by_search (Err place) point = λ up. (let at = point (answers_rise list set up) in is_missing list set place (record { smaller = at.0; greater = at.1 }))

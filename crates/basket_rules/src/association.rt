@@ -1,5 +1,5 @@
 //! Association rules (Agrawal and Srikant 1994).
-ghost use Rattle.std.specs.Prelude.{◌≡◌, ◌≤◌, ◌<◌, ◌-◌, ◌*◌, ◌++◌, IfOk, OnOk, length, nat_le};
+ghost use Rattle.std.specs.Prelude.{◌≡◌, ◌<◌, ◌-◌, ◌*◌, ◌++◌, IfOk, OnOk, length, nat_le};
 ghost use Rattle.basket_sets.specs.Itemset.{IsRising};
 ghost use Rattle.basket_rules.specs.Consistency.{IsConsistent};
 ghost use Rattle.basket_rules.specs.Listed.{set_at};
@@ -8,12 +8,12 @@ ghost use Rattle.basket_rules.specs.Rights.{side_of};
 ghost use Rattle.basket_rules.specs.Rules.{KeepsConfident, AreRules, AreRulesWith, IsRuleFor, rules_among, rules_among_with};
 
 use crate::figures::Figures;
-use crate::hashes::SetHash;
+use crate::listed::items_at;
 use crate::lookups::Lookups;
 use crate::met::MetRule;
 use crate::rights::{MOST_PLACES, Right, Sides, longer_rights};
-use crate::supports::count_of;
-use basket_core::{Fraction, Frequent, Itemset, Share, Unpacked};
+use crate::wanted::Wanted;
+use basket_core::{Fraction, Frequent, Itemset, MOST_ITEMS, Share};
 use std::alloc::{AllocError, Global};
 
 /// The rules of a union of up to this many items have room before they are made.
@@ -39,12 +39,12 @@ pub fn rules(alloc: Global, frequent: &Frequent, confidence: Share) -> Result<Ve
     ensures baskets { IfOk result (λ rules. AreRules frequent.now confidence rules.items) }
     ensures lists { IfOk result (λ rules. IsConsistent frequent.now.sets → rules.items ≡ rules_among frequent.now confidence) }
 {
-    let list = Unpacked::of(alloc, frequent)?;
-    let mut lookups = Lookups::of(alloc, list.sets())?;
+    let sets = frequent.sets();
+    let mut lookups = Lookups::of(alloc, sets)?;
     let mut rules = Vec::new(alloc);
-    for number in 0..list.sets().len() {
-        let met = met_rules(alloc, &list, number, confidence, &mut lookups)?;
-        add_rules(alloc, &list, number, &met, &mut lookups, &mut rules)?;
+    for number in 0..sets.len() {
+        let met = met_rules(alloc, frequent, number, confidence, &mut lookups)?;
+        add_rules(alloc, frequent, number, &met, &mut lookups, &mut rules)?;
     }
     Ok(rules)
 }
@@ -52,7 +52,7 @@ pub fn rules(alloc: Global, frequent: &Frequent, confidence: Share) -> Result<Ve
 /// The rules that meet the confidence whose union is the set at the place.
 pub fn rules_with(
     alloc: Global,
-    frequent: &Unpacked,
+    frequent: &Frequent,
     number: usize,
     confidence: Share,
 ) -> Result<Vec<Rule>, AllocError>
@@ -70,7 +70,7 @@ pub fn rules_with(
 /// Adds the rules with the set at the place as their union.
 fn add_rules(
     alloc: Global,
-    frequent: &Unpacked,
+    frequent: &Frequent,
     number: usize,
     met: &[MetRule],
     lookups: &mut Lookups,
@@ -106,7 +106,7 @@ fn rule_of_sides(alloc: Global, sides: &Sides, figures: &Figures) -> Result<Rule
 /// with an item before its first.
 pub fn met_rules(
     alloc: Global,
-    frequent: &Unpacked,
+    frequent: &Frequent,
     number: usize,
     confidence: Share,
     lookups: &mut Lookups,
@@ -115,16 +115,21 @@ pub fn met_rules(
     ensures baskets { IfOk result (λ rules. AreRulesWith frequent.now confidence number (rules_in frequent.now number rules.items)) }
     ensures lists { IfOk result (λ rules. IsConsistent frequent.now.sets → rules_in frequent.now number rules.items ≡ rules_among_with frequent.now confidence (set_at frequent.now.sets number)) }
 {
-    let count = frequent.sets()[number].set.len();
-    let mut rules = Vec::with_capacity(alloc, 1 << count.min(MOST_ROOM))?;
+    let sets = frequent.sets();
+    let mut room = [0; MOST_ITEMS];
+    let items = items_at(sets, number, &mut room);
+    let count = items.len();
+    let mut rules = Vec::with_capacity(alloc, sets.len().min(1 << count.min(MOST_ROOM)))?;
     // No list has the subsets of a larger set.
     if count > MOST_PLACES {
         return Ok(rules);
     }
-    lookups.hashes.set(frequent.sets()[number].set.items())?;
+    lookups.hashes.set(items)?;
     let wanted = Wanted {
         frequent,
         number,
+        items,
+        count: sets.count(number),
         confidence,
     };
     let mut rights = longer_rights(alloc, &[Right::none()], count)?;
@@ -133,14 +138,6 @@ pub fn met_rules(
         rights = longer_rights(alloc, &met, count)?;
     }
     Ok(rules)
-}
-
-/// The rules with the set at a place of a list as their union, and the confidence that they are to meet.
-#[derive(Drop)]
-struct Wanted<'a> {
-    frequent: &'a Unpacked,
-    number: usize,
-    confidence: Share,
 }
 
 /// How many items a consequent has at most, since an antecedent has one too.
@@ -158,12 +155,10 @@ fn keep_confident(
     lookups: &mut Lookups,
     rules: &mut Vec<MetRule>,
 ) -> Result<Vec<Right>, AllocError>
-    requires listed { wanted.now.number < length wanted.now.frequent.now.sets }
-    requires few { length (set_at wanted.now.frequent.now.sets wanted.now.number) ≤ MOST_PLACES }
     ensures { IfOk result (λ met. KeepsConfident wanted.now.frequent.now wanted.now.confidence wanted.now.number tried.now met.items
         (rules_in wanted.now.frequent.now wanted.now.number rules.old.items) (rules_in wanted.now.frequent.now wanted.now.number rules.new.items)) }
 {
-    let whole = lookups.hashes.whole();
+    let whole = lookups.hashes.side(u64::MAX);
     let mut met = Vec::with_capacity(alloc, tried.len())?;
     for right in tried {
         if let Some(rule) = rule_for(wanted, *right, whole, lookups)? {
@@ -174,27 +169,21 @@ fn keep_confident(
     Ok(met)
 }
 
-/// The rule whose sides make the set at the place, with this consequent, if it meets the
-/// confidence. `whole` is the hash of that set.
+/// The rule with this consequent, if it meets the confidence. `whole` is the hash of the union.
 fn rule_for(
     wanted: &Wanted<'_>,
     right: Right,
-    whole: SetHash,
+    whole: u64,
     lookups: &mut Lookups,
 ) -> Result<Option<MetRule>, AllocError>
-    requires listed { wanted.now.number < length wanted.now.frequent.now.sets }
-    requires few { length (set_at wanted.now.frequent.now.sets wanted.now.number) ≤ MOST_PLACES }
     ensures { IfOk result (λ found. IsRuleFor wanted.now.frequent.now wanted.now.confidence wanted.now.number (side_of (set_at wanted.now.frequent.now.sets wanted.now.number) right) (found_rule wanted.now.frequent.now wanted.now.number found)) }
 {
-    let sets = wanted.frequent.sets();
-    let union = &sets[wanted.number];
-    let items = union.set.items();
     let part = lookups.hashes.side(right.places);
-    let left_count = count_of(sets, items, !right.places, whole.without(part), lookups)?;
-    if !meets(wanted.confidence, union.count, left_count) {
+    let left_count = wanted.count_of(!right.places, whole.wrapping_sub(part), lookups)?;
+    if !meets(wanted.confidence, wanted.count, left_count) {
         return Ok(None);
     }
-    let right_count = count_of(sets, items, right.places, part, lookups)?;
+    let right_count = wanted.count_of(right.places, part, lookups)?;
     Ok(MetRule::new(right, left_count, right_count))
 }
 

@@ -13,6 +13,7 @@ mod met;
 mod rights;
 mod search;
 mod supports;
+mod wanted;
 pub mod worked;
 
 pub use association::{Rule, met_rules, rules, rules_with};

@@ -1,6 +1,7 @@
 //! The sets of a list as it is kept.
 ghost use Rattle.std.specs.Prelude.{◌≡◌, ◌<◌, length};
 ghost use Rattle.basket_rules.specs.Listed.{set_at};
+ghost use Rattle.basket_sets.specs.Itemset.{IsRising};
 
 use basket_core::CountedSets;
 use basket_lists::MOST_ITEMS;
@@ -12,7 +13,8 @@ pub fn items_at<'a>(
     room: &'a mut [u32; MOST_ITEMS],
 ) -> &'a [u32]
     requires { place < length sets.now }
-    ensures { result.now ≡ set_at sets.now place }
+    ensures is { result.now ≡ set_at sets.now place }
+    ensures rising { IsRising result.now }
 {
     sets.items(place, room)
 }

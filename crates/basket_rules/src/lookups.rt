@@ -4,11 +4,12 @@ ghost use Rattle.basket_sets.specs.Itemset.{IsRising};
 ghost use Rattle.basket_rules.specs.Met.{rule_from, rule_in};
 
 use crate::figures::Figures;
-use crate::hashes::{ItemHashes, SetHash};
+use crate::hashes::ItemHashes;
+use crate::listed::items_at;
 use crate::met::MetRule;
 use crate::rights::Sides;
-use basket_core::{Counted, Unpacked};
-use basket_order::Places;
+use basket_core::{CountedSets, Frequent, MOST_ITEMS};
+use basket_order::{Places, items_hash};
 use std::alloc::{AllocError, Global};
 
 /// What is kept from union to union while the rules of a list are made: places of its sets by
@@ -16,6 +17,8 @@ use std::alloc::{AllocError, Global};
 #[derive(Debug, Drop)]
 pub struct Lookups {
     pub(crate) places: Places,
+    /// The items of the set that was looked at last, if it is kept as a word.
+    pub(crate) room: [u32; MOST_ITEMS],
     /// The hashes of the items of the last union.
     pub(crate) hashes: ItemHashes,
     /// The items of the sides of the last rule.
@@ -27,25 +30,28 @@ impl Lookups {
     pub fn none(alloc: Global) -> Self {
         Lookups {
             places: Places::none(alloc),
+            room: [0; MOST_ITEMS],
             hashes: ItemHashes::none(alloc),
             sides: Sides::new(alloc),
         }
     }
 
     /// The look-ups for the sets of a list, each of which is kept.
-    pub fn of(alloc: Global, sets: &[Counted]) -> Result<Self, AllocError> {
-        Ok(Lookups {
-            places: places_of(alloc, sets)?,
-            hashes: ItemHashes::none(alloc),
-            sides: Sides::new(alloc),
-        })
+    pub fn of(alloc: Global, sets: &CountedSets) -> Result<Self, AllocError> {
+        let mut lookups = Lookups::none(alloc);
+        lookups.places = Places::with_room(alloc, sets.len())?;
+        for place in 0..sets.len() {
+            let items = items_at(sets, place, &mut lookups.room);
+            lookups.places.keep(items_hash(items), place);
+        }
+        Ok(lookups)
     }
 
     /// Puts the items of both sides of a rule of the set at the place into `sides`, and returns its
     /// figures.
     pub fn rule(
         &mut self,
-        frequent: &Unpacked,
+        frequent: &Frequent,
         number: usize,
         met: &MetRule,
     ) -> Result<Figures, AllocError>
@@ -54,22 +60,14 @@ impl Lookups {
         ensures left { IfOk result (λ _. IsRising self.new.sides.left.items) }
         ensures right { IfOk result (λ _. IsRising self.new.sides.right.items) }
     {
-        let union = &frequent.sets()[number];
-        self.sides.fill(union.set.items(), met.right.places)?;
+        let sets = frequent.sets();
+        let items = items_at(sets, number, &mut self.room);
+        self.sides.fill(items, met.right.places)?;
         Ok(Figures {
-            count: union.count,
+            count: sets.count(number),
             total: frequent.total(),
             left_count: met.left_count,
             right_count: met.right_count,
         })
     }
-}
-
-/// The places of the sets by their hashes.
-fn places_of(alloc: Global, sets: &[Counted]) -> Result<Places, AllocError> {
-    let mut places = Places::with_room(alloc, sets.len())?;
-    for place in 0..sets.len() {
-        places.keep(SetHash::of(sets[place].set.items()).word(), place);
-    }
-    Ok(places)
 }

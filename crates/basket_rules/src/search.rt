@@ -12,7 +12,7 @@ ghost use Rattle.basket_rules.specs.Listed.{set_at};
 ghost use Rattle.basket_rules.specs.Search.{IsMissing};
 
 use crate::listed::items_at;
-use basket_core::{Counted, CountedSets, compare_parts};
+use basket_core::{CountedSets, compare_parts};
 use basket_lists::MOST_ITEMS;
 use std::cmp::Ordering;
 
@@ -54,15 +54,6 @@ fn probe(start: usize, end: usize, guess: usize) -> usize
     } else {
         start + (end - start) / 2
     }
-}
-
-/// The place of the set with these items, or where it is missing.
-pub fn find(sets: &[Counted], items: &[u32]) -> Result<usize, usize>
-    ensures bound { IsSearchInRange result (length sets.now) }
-    ensures found { IfOk result (λ at. set_at sets.now at ≡ items.now) }
-    ensures missing { IfErr result (λ _. IsMissing sets.now items.now) }
-{
-    sets.binary_search_by(|set| compare(set.set.items(), items, &[]))
 }
 
 /// Compares a set with the one that has the items of `front` and then those of `rest`.

@@ -30,9 +30,8 @@ fn rules_stand_union_after_union_and_by_their_right_sides(rt: HostRuntime) -> Re
         "2 => 1 (3) 3/4 15/16|1 => 2 (3) 3/4 15/16|3 => 1 (3) 1/1 5/4|1 => 3 (3) 3/4 5/4|2 3 => 1 (2) 1/1 5/4|"
     );
     // The last of the seven sets has all three items.
-    let list = frequent.unpacked(alloc)?;
-    assert_eq!(rt; list.sets().len(), 7);
-    let found = rules_with(alloc, &list, 6, Share::new(2, 3).unwrap())?;
+    assert_eq!(rt; frequent.sets().len(), 7);
+    let found = rules_with(alloc, &frequent, 6, Share::new(2, 3).unwrap())?;
     assert_eq!(rt;
         text(alloc, &found)?.as_str(),
         "2 3 => 1 (2) 1/1 5/4|1 3 => 2 (2) 2/3 5/6|1 2 => 3 (2) 2/3 10/9|3 => 1 2 (2) 2/3 10/9|"

@@ -17,6 +17,7 @@ use Rattle.basket_sets.proofs.theory.Rising.{has-from_Member, has_each, contains
 use Rattle.basket_sets.proofs.theory.Support.{support_falls, subsets_are_frequent, at_least_one}
 use Rattle.basket_rules.specs.Consistency.{count_in, HasSubsets, IsConsistent, FrequentIsConsistent}
 use Rattle.basket_rules.specs.Listed.{IsSorted, sets_in, set_at, count_at}
+use Rattle.basket_rules.specs.Rules.{IsCountIn}
 use Rattle.basket_rules.specs.Search.{IsMissing}
 use Rattle.basket_rules.proofs.SubsetLemmas.{contains_without, item_more, without-rises, length-without, Member-into_without}
 use Rattle.basket_rules.proofs.SearchLemmas.{none, set_is, count_is, stands_once}
@@ -55,6 +56,10 @@ count_at_place (c ∷ list) (suc place) up below =
 -- so is that of a set that stands there
 pub count_of_standing : (list : List Counted) (set : List ℕ) (least : ℕ) → IsSorted list → (s : Stands list set least) → count_in list set ≡ count_at list s.place
 count_of_standing list set least up s = ap (count_in list) (sym s.is) ∙ count_at_place list s.place up s.listed
+
+-- a count that is read where the set stands
+pub counted_there : (list : List Counted) (set : List ℕ) (place count : ℕ) → place < length list → set_at list place ≡ set → count ≡ (get_or list place none).count → IsCountIn list set count
+counted_there list set place count there is says up = says ∙ sym (count_is list place none there) ∙ sym (count_at_place list place up there) ∙ ap (count_in list) is
 
 -- that of a set which is missing is 0
 pub count_of_missing : (list : List Counted) (set : List ℕ) → IsSorted list → IsMissing list set → 0 ≡ count_in list set

@@ -33,10 +33,9 @@ fn assert_plain<R: Threads + Sync + Abort>(
                 .with_workers(workers)
                 .with_pieces(pieces);
             let (mined, work) = mine(rt, alloc, &database, &plan, &Open)?;
-            let mined = mined.unpacked(alloc)?;
-            let sets = mined.sets();
+            let sets = mined.sets().unpacked(alloc)?;
             assert!(rt;
-                sets == plain.as_slice(),
+                sets == plain,
                 "{name} by {workers} workers found {sets:?} at {minimum}, not {plain:?}"
             );
             assert_eq!(rt;

@@ -1,4 +1,4 @@
-use Rattle.std.proofs.Common.{◌≡◌, ◌<◌, ◌≤◌, ◌++◌, length, subst, sym}
+use Rattle.std.proofs.Common.{◌≡◌, ◌<◌, ◌≤◌, ◌++◌, arith, length, ap, subst, sym}
 use Rattle.std.proofs.lemmas.Result.{IfOk-weaker}
 use Rattle.basket_rules.specs.Consistency.{IsConsistent}
 use Rattle.basket_rules.specs.Met.{rules_in}
@@ -17,7 +17,7 @@ loop-number-preserved c =
     let met = c.in_ok-met.met.items in
     let rules = rules_in listing number met in
     let (text, so, reports) = c.loop-number.invariant in
-    let below : number < length listing.sets = subst (λ l. number < length l) c.sets-number-end.ensures c.loop-number-test.true in
+    let below : number < length listing.sets = omega (arith, ap length c.sets-sets.ensures, c.loop-number-test.true) in
     let added = subst (λ r. HasSoFar c.put_rules.new.self wording (text ++ rules_report_of wording (rules_in listing number r))) c.deref.ensures.value (c.in_ok-put_rules.ensures wording text so) in
     (text ++ rules_report_of wording rules, added, more_rules wording listing c.args.confidence number text rules below reports c.in_ok-met.ensures.lists)
 
@@ -27,7 +27,7 @@ returns-clause-lists c =
     let listing = c.args.frequent.now in
     let number = c.loop-number.number in
     let (text, so, reports) = c.loop-number.invariant in
-    let whole : length listing.sets ≤ number = subst (λ l. length l ≤ number) c.sets-number-end.ensures c.loop-number-test.false in
+    let whole : length listing.sets ≤ number = omega (arith, ap length c.sets-sets.ensures, c.loop-number-test.false) in
     IfOk-weaker c.into_text.result _ _
     (λ written same. subst (λ report. IsConsistent listing.sets → report ≡ rules_report_of wording (rules_among listing c.args.confidence)) (sym same) (all_rules wording listing c.args.confidence number text whole reports))
     (c.into_text.ensures wording text so)

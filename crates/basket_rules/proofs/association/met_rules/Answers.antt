@@ -1,11 +1,10 @@
-use Rattle.std.proofs.Common.{arith, ◌≡◌, ◌≤◌, ◌<◌, ◌+◌, ◌-◌, ◌^◌, [], ◌∷◌, length, get_or, sym, ap, ◌∙◌, subst}
+use Rattle.std.proofs.Common.{arith, ◌≡◌, ◌≤◌, ◌<◌, ◌+◌, ◌-◌, ◌^◌, [], ◌∷◌, length, sym, ap, ◌∙◌, subst}
 use Rattle.basket_rules.specs.declared.rights.TheConstants.{MOST_PLACES}
 use Rattle.basket_rules.specs.Consistency.{IsConsistent}
 use Rattle.basket_rules.specs.Listed.{set_at}
 use Rattle.basket_rules.specs.Rights.{longer, no_places}
 use Rattle.basket_rules.specs.Met.{rules_in}
 use Rattle.basket_rules.specs.Rules.{KeepsConfident, rules_among_with}
-use Rattle.basket_rules.proofs.SearchLemmas.{set_is}
 use Rattle.basket_rules.proofs.LevelLemmas.{IsLevelAt, first_level, next_level, all_levels}
 use Rattle.basket_rules.proofs.SizeLemmas.{none_so_large}
 use Rattle.basket_rules.proofs.theory.Rules.{rules_with_of_baskets}
@@ -15,24 +14,20 @@ pub returns-then-count-gt-MOST_PLACES : goal.returns-then-count-gt-MOST_PLACES
 returns-then-count-gt-MOST_PLACES c =
     let listing = c.args.frequent.now in
     let number = c.args.number in
-    let same = c.sets.ensures in
-    let entry = c.index-sets-number.result in
-    let set : set_at listing.sets number ≡ (get_or c.sets.result.now number entry).set = ap (λ l. set_at l number) (sym same) ∙ set_is c.sets.result.now number entry (subst (λ l. number < length l) (sym same) c.requires) in
-    let deep : MOST_PLACES < length (set_at listing.sets number) = subst (λ n. MOST_PLACES < n) (c.len-count.ensures ∙ ap length (sym set)) c.if-count-gt-MOST_PLACES.true in
+    let same = c.sets-sets.ensures in
+    let sized = ap length (c.items_at-items.ensures.is ∙ ap (λ l. set_at l number) same) in
+    let deep : MOST_PLACES < length (set_at listing.sets number) = subst (λ n. MOST_PLACES < n) sized c.if-count-gt-MOST_PLACES.true in
+    let fits : length listing.sets < 2 ^ 64 = subst (λ l. length l < 2 ^ 64) same (omega (arith, c.len.ensures)) in
     let rules = rules_in listing number c.in_ok-rules.rules.items in
     let lists : IsConsistent listing.sets → rules ≡ rules_among_with listing c.args.confidence (set_at listing.sets number) = λ consistent.
-    absurd (none_so_large listing.sets consistent number c.requires (subst (λ l. length l < 2 ^ 64) same c.sets.type_inv.0) deep) in
+    absurd (none_so_large listing.sets consistent number c.requires fits deep) in
     record { baskets = rules_with_of_baskets listing c.args.confidence number rules c.requires lists; lists = lists }
 
 pub loop-size-init : goal.loop-size-init
 loop-size-init c =
     let listing = c.args.frequent.now in
     let number = c.args.number in
-    let list = c.sets.result.now in
-    let below : number < length list = subst (λ l. number < length l) (sym c.sets.ensures) c.requires in
-    let entry = c.index-sets-number.result in
-    let set : set_at listing.sets number ≡ (get_or list number entry).set = ap (λ l. set_at l number) (sym c.sets.ensures) ∙ set_is list number entry below in
-    let sized : c.len-count.result ≡ length (set_at listing.sets number) = c.len-count.ensures ∙ ap length (sym set) in
+    let sized = ap length (c.items_at-items.ensures.is ∙ ap (λ l. set_at l number) c.sets-sets.ensures) in
     let made : c.in_ok-rights.rights.items ≡ longer (length (set_at listing.sets number)) (no_places ∷ []) =
     c.in_ok-rights.ensures ∙ (λ i. longer (sized i) (c.none.ensures i ∷ [])) in
     subst (λ l. IsLevelAt listing c.args.confidence number 1 c.in_ok-rights.rights.items (rules_in listing number l)) (sym c.in_ok-rules.ensures.items)
@@ -42,11 +37,7 @@ pub loop-size-preserved : goal.loop-size-preserved
 loop-size-preserved c =
     let listing = c.args.frequent.now in
     let number = c.args.number in
-    let list = c.sets.result.now in
-    let below : number < length list = subst (λ l. number < length l) (sym c.sets.ensures) c.requires in
-    let entry = c.index-sets-number.result in
-    let set : set_at listing.sets number ≡ (get_or list number entry).set = ap (λ l. set_at l number) (sym c.sets.ensures) ∙ set_is list number entry below in
-    let sized : c.len-count.result ≡ length (set_at listing.sets number) = c.len-count.ensures ∙ ap length (sym set) in
+    let sized = ap length (c.items_at-items.ensures.is ∙ ap (λ l. set_at l number) c.sets-sets.ensures) in
     let size = c.loop-size.size + 1 in
     let met = c.in_ok-met.met.items in
     let made : c.in_ok-rights-2.rights.items ≡ longer (length (set_at listing.sets number)) met = c.in_ok-rights-2.ensures ∙ (λ i. longer (sized i) (c.deref-in-loop-size.ensures.value i)) in
@@ -62,11 +53,7 @@ pub returns : goal.returns
 returns c =
     let listing = c.args.frequent.now in
     let number = c.args.number in
-    let list = c.sets.result.now in
-    let below : number < length list = subst (λ l. number < length l) (sym c.sets.ensures) c.requires in
-    let entry = c.index-sets-number.result in
-    let set : set_at listing.sets number ≡ (get_or list number entry).set = ap (λ l. set_at l number) (sym c.sets.ensures) ∙ set_is list number entry below in
-    let sized : c.len-count.result ≡ length (set_at listing.sets number) = c.len-count.ensures ∙ ap length (sym set) in
+    let sized = ap length (c.items_at-items.ensures.is ∙ ap (λ l. set_at l number) c.sets-sets.ensures) in
     let size = c.loop-size.size in
     let most : c.most_right_items-size-end.result ≡ length (set_at listing.sets number) - 1 = c.most_right_items-size-end.ensures ∙ ap (λ n. n - 1) sized in
     let rules = rules_in listing number c.loop-size.rules.items in

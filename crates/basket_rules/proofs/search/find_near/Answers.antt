@@ -19,7 +19,7 @@ loop-start-preserved-in-Less c =
     let key = c.args.front.now ++ c.args.rest.now in
     let next = c.probe-next.result in
     let below : next < length list = omega (arith, c.loop-start.invariant.within, c.probe-next.ensures.before) in
-    let less = compared_at list key next c.items_at.result.now c.compare.result Less below c.items_at.ensures c.compare.ensures c.in-Less.is in
+    let less = compared_at list key next c.items_at.result.now c.compare.result Less below c.items_at.ensures.is c.compare.ensures c.in-Less.is in
     record {
       ordered = omega (arith, c.probe-next.ensures.before);
       within = c.loop-start.invariant.within;
@@ -32,7 +32,7 @@ loop-start-preserved c =
     let key = c.args.front.now ++ c.args.rest.now in
     let next = c.probe-next.result in
     let below : next < length list = omega (arith, c.loop-start.invariant.within, c.probe-next.ensures.before) in
-    let more = compared_at list key next c.items_at.result.now c.compare.result Greater below c.items_at.ensures c.compare.ensures c.in-Greater.is in
+    let more = compared_at list key next c.items_at.result.now c.compare.result Greater below c.items_at.ensures.is c.compare.ensures c.in-Greater.is in
     record {
       ordered = c.probe-next.ensures.behind;
       within = omega (arith, below);
@@ -45,7 +45,7 @@ returns-in-Equal-clause-found c =
     let key = c.args.front.now ++ c.args.rest.now in
     let next = c.probe-next.result in
     let below : next < length list = omega (arith, c.loop-start.invariant.within, c.probe-next.ensures.before) in
-    stands list key next below (compared_at list key next c.items_at.result.now c.compare.result Equal below c.items_at.ensures c.compare.ensures c.in-Equal.is)
+    stands list key next below (compared_at list key next c.items_at.result.now c.compare.result Equal below c.items_at.ensures.is c.compare.ensures c.in-Equal.is)
 
 pub returns-clause-missing : goal.returns-clause-missing
 returns-clause-missing c = λ up.

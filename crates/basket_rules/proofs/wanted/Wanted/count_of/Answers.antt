@@ -1,0 +1,20 @@
+use Rattle.std.proofs.Common.{ap, subst, ◌∙◌}
+use Rattle.basket_rules.specs.Listed.{set_at}
+use Rattle.basket_rules.specs.Rights.{chosen, has_place}
+use Rattle.basket_rules.specs.Rules.{IsCountIn}
+use Rattle.basket_rules.proofs.theory.Consistency.{counted_there}
+use Rattle.basket_rules.proofs.wanted.Wanted.count_of.Goals as goal
+
+pub returns-in-Some : goal.returns-in-Some
+returns-in-Some c =
+    let wanted = c.args.self.now in
+    subst (λ list. IsCountIn list (chosen (has_place c.args.places) (set_at wanted.frequent.now.sets wanted.number)) c.count.result) c.sets-sets.ensures
+    (counted_there c.sets-sets.result.now _ c.in-Some.place c.count.result c.in-Some.ensures.bound
+    (c.in-Some.ensures.found ∙ ap (chosen (has_place c.args.places)) wanted.is) c.count.ensures)
+
+pub returns : goal.returns
+returns c =
+    let wanted = c.args.self.now in
+    let items = c.in_ok-fill.ensures.right ∙ ap (chosen (has_place c.args.places)) wanted.is in
+    subst (λ list. IsCountIn list (chosen (has_place c.args.places) (set_at wanted.frequent.now.sets wanted.number)) c.searched_count.result) c.sets-sets.ensures
+    (subst (λ set. IsCountIn c.sets-sets.result.now set c.searched_count.result) (c.deref.ensures.value ∙ items) c.searched_count.ensures)
