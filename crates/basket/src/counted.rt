@@ -79,7 +79,12 @@ pub fn report_listing(
         return Err(MineFault::TooMany { limit });
     }
     match plan.ask() {
-        Ask::Items | Ask::Sets => Ok(PreparedReport::of_sets(alloc, frequent.into_sets(), style, workers)?),
+        Ask::Items | Ask::Sets => Ok(PreparedReport::of_sets(
+            alloc,
+            frequent.into_sets(),
+            style,
+            workers,
+        )?),
         Ask::Closed => Ok(PreparedReport::of_closed(alloc, frequent, style, workers)?),
         Ask::Maximal => Ok(PreparedReport::of_maximal(alloc, frequent, style, workers)?),
         Ask::Rules(confidence) => {

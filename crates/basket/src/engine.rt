@@ -10,8 +10,8 @@ use crate::contents::{Contents, style_of};
 use crate::counted::{listing, report_listing};
 use crate::fault::RunFault;
 use crate::items::report_items;
-use crate::prepared::PreparedReport;
 use crate::mining::{cutting, mine_in_place};
+use crate::prepared::PreparedReport;
 use basket_core::{Database, MineFault, Sink, Source};
 use basket_csv::Names;
 use basket_plan::{Ask, Form, Plan};
@@ -135,7 +135,13 @@ fn report_baskets<R: Threads + Sync>(
         Ask::Items => {
             let counts = count_shared(rt, alloc, database.baskets(), cutting(plan), &Open)?;
             let minimum = plan.minimum();
-            Ok(PreparedReport::Text(items_report(alloc, &counts, minimum, database.total(), style)?))
+            Ok(PreparedReport::Text(items_report(
+                alloc,
+                &counts,
+                minimum,
+                database.total(),
+                style,
+            )?))
         }
         Ask::Sets => {
             let (frequent, _) = mine_in_place(rt, alloc, database, plan, &Open)?;

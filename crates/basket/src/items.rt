@@ -8,8 +8,8 @@ ghost use Rattle.basket_sets.specs.Frequent.{frequent_items_of};
 ghost use Rattle.basket.specs.Engine.{MakesReport};
 
 use crate::fault::RunFault;
-use crate::prepared::PreparedReport;
 use crate::mining::cutting;
+use crate::prepared::PreparedReport;
 use basket_core::{MineFault, Source, add_counts};
 use basket_plan::{Ask, Form, Plan};
 use basket_read::{ItemCounts, count_fimi_shared};

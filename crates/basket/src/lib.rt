@@ -9,10 +9,10 @@ mod counted;
 mod engine;
 mod fault;
 mod items;
-mod prepared;
 mod memory;
 mod merging;
 mod mining;
+mod prepared;
 pub mod worked;
 
 pub use asked::read_asked;

@@ -82,7 +82,8 @@ fn middle_of(level: &Extensions, start: usize, end: usize, few: u32, threads: u3
     requires { start ≤ end }
     ensures { (start ≤ result) × (result ≤ end) }
 {
-    let wanted = set_count(level, start, end) as u128 * u128::from(few) / u128::from(threads.max(1));
+    let wanted = set_count(level, start, end) as u128 * u128::from(few)
+        / u128::from(threads.max(1));
     let mut count = 0u128;
     let lists = level.lists();
     for place in start..end {

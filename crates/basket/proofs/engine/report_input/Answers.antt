@@ -24,6 +24,6 @@ returns-in-Ok g c =
     let question = c.args.plan.now.question in
     let working = not_failed _ contents c.in-Ok.ensures.failed_is_err in
     let read = subst (λ (layout : Layout). IfSome left (λ bytes. Answers (Ok contents) (contents_of layout [] bytes))) c.layout.ensures
-        (subst (λ (known : List (List ℕ)). IfSome left (λ bytes. Answers (Ok contents) (contents_of c.layout.result known bytes))) c.none-names.ensures (c.in-Ok.ensures.exact working)) in
+    (subst (λ (known : List (List ℕ)). IfSome left (λ bytes. Answers (Ok contents) (contents_of c.layout.result known bytes))) c.none-names.ensures (c.in-Ok.ensures.exact working)) in
     subst (λ failed. MakesReport question left (g.S.Source.left c.read.new.reader) failed c.report_contents.result) (sym working)
     (contents_make left (g.S.Source.left c.read.new.reader) question contents c.report_contents.result read c.report_contents.ensures.ok c.report_contents.ensures.err)

@@ -24,8 +24,15 @@ invariant_of-self-2 c =
     let more = groups_of c.other.inside.prefixes.items c.other.inside.lists.items in
     let sets = ap (λ groups. length (sets_of groups)) (groups_are here) ∙ ap length (flat_map-append (λ (group : Group). extend group.prefix group.items) old more)
     ∙ length-append (sets_of old) (sets_of more) in (
-      omega (arith, ap length (prefixes_are here), ap length (lists_are here), length-append c.self.inside.prefixes.items c.other.inside.prefixes.items,
-      length-append c.self.inside.lists.items c.other.inside.lists.items, c.self.invariant.0, c.other.invariant.0),
+      omega (
+        arith,
+        ap length (prefixes_are here),
+        ap length (lists_are here),
+        length-append c.self.inside.prefixes.items c.other.inside.prefixes.items,
+        length-append c.self.inside.lists.items c.other.inside.lists.items,
+        c.self.invariant.0,
+        c.other.invariant.0,
+      ),
       omega (arith, c.in-Some.ensures, c.self.invariant.1, c.other.invariant.1, sets),
     )
 
