@@ -77,7 +77,7 @@ fn set_count(level: &Extensions, start: usize, end: usize) -> usize {
     count
 }
 
-/// A place between `start` and `end` before which about `few` of `threads` equal parts of the sets are.
+/// A place between `start` and `end` before which about this share of the sets are.
 fn middle_of(level: &Extensions, start: usize, end: usize, few: u32, threads: u32) -> usize
     requires { start ≤ end }
     ensures { (start ≤ result) × (result ≤ end) }
