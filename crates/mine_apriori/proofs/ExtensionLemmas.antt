@@ -42,13 +42,6 @@ groups_push [] (l ∷ lists) prefix items e = absurd (omega (arith, e))
 groups_push (p ∷ prefixes) [] prefix items e = absurd (omega (arith, e))
 groups_push (p ∷ prefixes) (l ∷ lists) prefix items e = ap (λ r. record { prefix = p; items = l } ∷ r) (groups_push prefixes lists prefix items (omega (arith, e)))
 
-pub groups_append : (prefixes lists others later : List (List ℕ)) → length lists ≡ length prefixes
-    → groups_of (prefixes ++ others) (lists ++ later) ≡ groups_of prefixes lists ++ groups_of others later
-groups_append [] [] others later e = refl
-groups_append [] (l ∷ lists) others later e = absurd (omega (arith, e))
-groups_append (p ∷ prefixes) [] others later e = absurd (omega (arith, e))
-groups_append (p ∷ prefixes) (l ∷ lists) others later e = ap (λ r. record { prefix = p; items = l } ∷ r) (groups_append prefixes lists others later (omega (arith, e)))
-
 pub sets_push : (groups : List Group) (prefix items : List ℕ) → sets_of (groups ++ record { prefix = prefix; items = items } ∷ []) ≡ sets_of groups ++ extend prefix items
 sets_push groups prefix items =
     flat_map-append (λ (group : Group). extend group.prefix group.items) groups (record { prefix = prefix; items = items } ∷ [])

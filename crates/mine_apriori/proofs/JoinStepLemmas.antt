@@ -1,12 +1,12 @@
 -- The candidates of a level, one set after another.
-use Rattle.std.proofs.Common.{◌≡◌, ℕ, zero, suc, ◌+◌, ◌<◌, ◌≤◌, Bool, true, false, eqb, List, [], ◌∷◌, ◌++◌, length, take, drop, filter, get_or, cond, append_assoc, append-nil, refl, sym, ap, ◌∙◌, subst, inr, arith}
+use Rattle.std.proofs.Common.{◌≡◌, ℕ, zero, suc, ◌+◌, ◌<◌, Bool, true, false, eqb, List, [], ◌∷◌, ◌++◌, length, take, drop, filter, get_or, cond, append_assoc, append-nil, refl, sym, ap, ◌∙◌, subst, inr, arith}
 use Rattle.std.specs.Cmp.Lexicographic.{slice_cmp}
 use Rattle.std.specs.List.{All}
 use Rattle.std.specs.List.Sorted.{IsStrictlySortedBy}
 use Rattle.std.specs.Ordering.{nat_cmp}
 use Rattle.std.proofs.lemmas.Bool.{eqb-true, true≢false}
 use Rattle.std.proofs.lemmas.Grind.{flat_map-append}
-use Rattle.std.proofs.lemmas.List.{drop_more, get_or-map, length-map, take_all, take_more}
+use Rattle.std.proofs.lemmas.List.{drop_more, get_or-map, length-map, take_more}
 use Rattle.std.proofs.lemmas.List.Elements.{All-from_recursion, filter-append}
 use Rattle.basket_sets.specs.Itemset.{IsRising, has, without}
 use Rattle.basket_sets.specs.Order.{IsInReportOrder}
@@ -15,10 +15,10 @@ use Rattle.basket_sets.proofs.theory.Ranges.{filter_members}
 use Rattle.basket_sets.proofs.theory.Rising.{Member-from_has, has-from_Member, has_place}
 use Rattle.mine_apriori.specs.Candidates.{is_one_of, has_subsets, candidates_of}
 use Rattle.mine_apriori.specs.Extensions.{AreGrouped, Group, extend, lists_of, sets_of, prefixes_of, has_items, is_some}
-use Rattle.mine_apriori.specs.Join.{AreJoinedAmong, AreParts, has_parts, joined_group, joined_groups}
+use Rattle.mine_apriori.specs.Join.{AreParts, has_parts, joined_group, joined_groups}
 use Rattle.mine_apriori.specs.Sizes.{AreOfSize}
 use Rattle.mine_apriori.proofs.ExtensionLemmas.{looked_up, missing}
-use Rattle.mine_apriori.proofs.JoinedLemmas.{all_joined, candidates_grouped, filter_both, level_joined, parts_decide}
+use Rattle.mine_apriori.proofs.JoinedLemmas.{all_joined, filter_both, level_joined, parts_decide}
 use Rattle.mine_apriori.proofs.LawLemmas.{size_at}
 use Rattle.mine_apriori.proofs.PruneLemmas.{is_one_of-from_Member}
 
@@ -120,13 +120,6 @@ pub level_candidates : (groups : List Group) → AreGrouped groups → IsInRepor
 level_candidates groups grouped order rising =
     level_joined grouped.size groups (size_at grouped.size (prefixes_of groups) grouped.sized) grouped.sorted order
     (λ set m. let c = Contains-from_Member set (sets_of groups) m in subst IsRising c.2 (rising c.0 set c.1))
-
--- what is joined among all groups
-pub whole_level : (groups found : List Group) (end : ℕ) → length groups ≤ end → AreGrouped groups → IsInReportOrder (sets_of groups) → All IsRising (sets_of groups)
-    → AreJoinedAmong groups 0 end found → (sets_of found ≡ candidates_of (sets_of groups)) × AreGrouped found
-whole_level groups found end all grouped order rising joined =
-    let is : found ≡ joined_groups (sets_of groups) groups = joined ∙ ap (joined_groups (sets_of groups)) (take_all end groups all) in
-    (ap sets_of is ∙ level_candidates groups grouped order rising, subst AreGrouped (sym is) (candidates_grouped groups grouped order))
 
 -- ---- one place more
 

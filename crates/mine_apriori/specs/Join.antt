@@ -57,10 +57,6 @@ joined_group size sets prefix (item ∷ later) =
 abbrev pub joined_groups : List (List ℕ) → List Group → List Group
 joined_groups sets groups = filter has_items (flat_map (λ group. joined_group (suc (length group.prefix)) sets group.prefix group.items) groups)
 
--- candidates that continue those of the groups before a place, up to another
-abbrev pub AreJoinedAmong : List Group → ℕ → ℕ → List Group → Type 0
-AreJoinedAmong level start end found = joined_groups (sets_of level) (take start level) ++ found ≡ joined_groups (sets_of level) (take end level)
-
 -- a prefix and items of a level: all sets of them are in it, and the items rise
 pub record AreParts (level : List Group) (prefix items : List ℕ) : Type 0 where
   pub sized : AreOfSize (length prefix) (prefixes_of level)

@@ -43,15 +43,6 @@ decoded_sets coding sets = map (λ set. decoded_set coding.items (counted coding
 abbrev pub AreFound : Coding → ℕ → List Counted → Type 0
 AreFound coding size found = found ≡ decoded_sets coding (levels_up_to coding size)
 
--- what a search has found, the frequent sets of the size among them, and how many sets it has asked
-pub record KnowsLevel (search : Search) (found : List Counted) (sets : List Group) (counted : ℕ) : Type 0 where
-  pub some : 1 ≤ search.size
-  pub found_all : AreFound search.coding search.size found
-  pub few : (length found ≤ search.limit) × (search.limit ≤ 4294967295)
-  pub level : sets_of sets ≡ level_of search.coding search.size
-  pub grouped : AreGrouped sets
-  pub number : counted ≡ length (candidates_up_to search.coding.baskets search.coding.minimum search.size)
-
 -- what a search has found, what it asks, and how many sets it has asked
 pub record Knows (search : Search) (found : List Counted) (candidates : List Group) (counted : ℕ) : Type 0 where
   pub some : 1 ≤ search.size

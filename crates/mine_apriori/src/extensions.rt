@@ -92,21 +92,6 @@ impl Extensions {
         })
     }
 
-    /// Adds the sets of others.
-    pub fn append(&mut self, mut other: Extensions) -> Result<(), AllocError>
-        ensures { OnOk result (self.new ≡ self.old ++ other) }
-    {
-        let Some(len) = self.len.checked_add(other.len) else {
-            return Err(AllocError);
-        };
-        self.prefixes.reserve(other.prefixes.len())?;
-        self.lists.reserve(other.lists.len())?;
-        self.prefixes.append(&mut other.prefixes)?;
-        self.lists.append(&mut other.lists)?;
-        self.len = len;
-        Ok(())
-    }
-
     /// The number of sets.
     pub fn len(&self) -> usize
         ensures { result ≡ length (sets_of self.now) }

@@ -8,8 +8,7 @@ ghost use Rattle.mine_classes.specs.Pairs.{ArePairs, lists_of};
 
 use crate::extensions::Extensions;
 use crate::frequent::add_frequent;
-use crate::level::Level;
-use crate::levels::Levels;
+use crate::levels::{Known, Levels};
 use crate::pairs::{pair_sets, sorted_pairs};
 use basket_core::{Coded, CountedSets, MineFault, count_items};
 use mine_classes::pair_count;
@@ -92,7 +91,13 @@ impl<'a> FirstLevel<'a> {
         let counted = pair_count(found.len() as u32) as u64;
         let pairs = sorted_pairs(alloc, coded, pairs)?;
         let (sets, counts) = pair_sets(alloc, &pairs)?;
-        let sets = add_frequent(alloc, coded, &sets, &counts, &mut found)?;
-        Level::of(coded, limit, 2, found, sets, counted)?.search(alloc)
+        let level = add_frequent(alloc, coded, &sets, &counts, &mut found)?;
+        let known = Known {
+            coded,
+            size: 2,
+            found,
+            counted,
+        };
+        known.ask(alloc, limit, &level)
     }
 }

@@ -7,7 +7,7 @@ ghost use Rattle.basket_sets.specs.Itemset.{IsRising, has, without};
 ghost use Rattle.basket_sets.specs.Order.{IsInReportOrder};
 ghost use Rattle.mine_apriori.specs.Candidates.{is_one_of, candidates_of};
 ghost use Rattle.mine_apriori.specs.Extensions.{AreGrouped, has_items, prefixes_of, sets_of};
-ghost use Rattle.mine_apriori.specs.Join.{AreJoinedAmong, AreParts, has_parts, joined_group};
+ghost use Rattle.mine_apriori.specs.Join.{AreParts, has_parts, joined_group};
 ghost use Rattle.mine_apriori.specs.Sizes.{AreOfSize};
 
 use crate::extensions::{Extensions, put_extended};
@@ -25,28 +25,13 @@ pub fn candidates(alloc: Global, level: &Extensions) -> Result<Extensions, Alloc
     ensures candidates { IfOk result (λ found. sets_of found ≡ candidates_of (sets_of level.now)) }
     ensures grouped { IfOk result AreGrouped }
 {
-    candidates_among(alloc, level, 0, level.prefixes().len())
-}
-
-/// The candidates whose first two subsets are sets of one of the prefixes from `start` up to `end`.
-pub fn candidates_among(
-    alloc: Global,
-    level: &Extensions,
-    start: usize,
-    end: usize,
-) -> Result<Extensions, AllocError>
-    requires within { (start ≤ end) × (end ≤ length level.now) }
-    requires grouped { AreGrouped level.now }
-    requires rising { All IsRising (sets_of level.now) }
-    ensures { IfOk result (AreJoinedAmong level.now start end) }
-{
     let mut found = Extensions::new(alloc);
     let size = match level.prefixes().first() {
         Some(prefix) => prefix.len(),
         None => 0,
     };
     let mut hints = vec![in alloc; 0; size]?;
-    for place in start..end {
+    for place in 0..level.prefixes().len() {
         let prefix = level.prefixes()[place].items();
         let items = level.lists()[place].items();
         found = join(alloc, level, prefix, items, &mut hints, found)?;

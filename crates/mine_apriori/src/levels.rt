@@ -1,18 +1,18 @@
 //! Apriori, level by level.
 ghost use Rattle.std.specs.Prelude.{◌≡◌, ◌≢◌, ◌<◌, ◌≤◌, ◌+◌, [], ℕ, Err, IfOk, IfErr, length};
 ghost use Rattle.basket_core.specs.declared.fault.MineFault.TheVariants.{Memory, TooMany};
-ghost use Rattle.basket_ranks.specs.Codes.{baskets_of};
+ghost use Rattle.basket_ranks.specs.Codes.{IsCoding, baskets_of};
 ghost use Rattle.basket_core.specs.Listing.{listing_of};
 ghost use Rattle.basket_sets.specs.Support.{items_of};
-ghost use Rattle.mine_apriori.specs.Extensions.{sets_of};
-ghost use Rattle.mine_apriori.specs.Levels.{AreTooMany, asked_of, wanted};
+ghost use Rattle.mine_apriori.specs.Extensions.{AreGrouped, sets_of};
+ghost use Rattle.mine_apriori.specs.Levels.{AreFound, AreTooMany, asked_of, level_of, wanted};
 ghost use Rattle.mine_apriori.specs.Shard.{IsRegular};
 ghost use Rattle.mine_apriori.specs.Work.{candidate_count, candidates_of_size, candidates_up_to};
 
 use crate::extensions::Extensions;
 use crate::first_level::{FirstLevel, frequent_ranks};
 use crate::frequent::add_frequent;
-use crate::level::Level;
+use crate::join::candidates;
 use crate::shard::count_extensions;
 use basket_core::{Coded, CountedSets, Frequent, MineFault};
 use mine_classes::frequent_pairs;
@@ -24,12 +24,12 @@ use std::marker::Model;
 /// candidates of one more item.
 #[derive(Debug, Drop)]
 pub struct Levels<'a> {
-    pub(crate) coded: &'a Coded,
-    pub(crate) limit: u32,
-    pub(crate) size: usize,
-    pub(crate) found: CountedSets,
-    pub(crate) asked: Extensions,
-    pub(crate) counted: u64,
+    coded: &'a Coded,
+    limit: u32,
+    size: usize,
+    found: CountedSets,
+    asked: Extensions,
+    counted: u64,
 }
 
 impl<'a> Model for Levels<'a> {
@@ -51,8 +51,14 @@ impl<'a> Levels<'a> {
         ensures ok { IfOk result (λ levels. levels ≡ record { coding = coded.now; limit = limit; size = 1 }) }
         ensures too_many { (most : ℕ) → result ≡ Err (TooMany most) → (most ≡ limit) × AreTooMany coded.now limit }
     {
-        let (found, sets) = frequent_ranks(alloc, coded)?;
-        Level::of(coded, limit, 1, found, sets, 0)?.search(alloc)
+        let (found, level) = frequent_ranks(alloc, coded)?;
+        let known = Known {
+            coded,
+            size: 1,
+            found,
+            counted: 0,
+        };
+        known.ask(alloc, limit, &level)
     }
 
     /// The search at its end, which asks for nothing more.
@@ -99,16 +105,6 @@ impl<'a> Levels<'a> {
         if self.asked.is_empty() {
             return Ok(self);
         }
-        self.level(alloc, counts)?.search(alloc)
-    }
-
-    /// The frequent sets among what is asked for, by their supports in order.
-    pub fn level(self, alloc: Global, counts: &[u64]) -> Result<Level<'a>, MineFault>
-        requires counts { counts.now ≡ wanted self }
-        requires asks { asked_of self.coding self.size ≢ [] }
-        ensures next { IfOk result (λ level. level ≡ record { coding = self.entry.coding; limit = self.entry.limit; size = self.entry.size + 1 }) }
-        ensures too_many { (most : ℕ) → result ≡ Err (TooMany most) → (most ≡ self.entry.limit) × AreTooMany self.entry.coding self.entry.limit }
-    {
         let Levels {
             coded,
             limit,
@@ -117,8 +113,14 @@ impl<'a> Levels<'a> {
             asked,
             counted,
         } = self;
-        let sets = add_frequent(alloc, coded, &asked, counts, &mut found)?;
-        Level::of(coded, limit, size + 1, found, sets, counted)
+        let level = add_frequent(alloc, coded, &asked, counts, &mut found)?;
+        let known = Known {
+            coded,
+            size: size + 1,
+            found,
+            counted,
+        };
+        known.ask(alloc, limit, &level)
     }
 
     /// The list of all frequent sets. There are at most as many as the limit.
@@ -132,6 +134,54 @@ impl<'a> Levels<'a> {
         let mut classes = Vec::with_capacity(alloc, 1)?;
         classes.push(found)?;
         Ok(Frequent::of_classes(alloc, coded, classes)?)
+    }
+}
+
+/// What a search knows once all frequent sets up to a size are found.
+#[derive(Drop)]
+pub(crate) struct Known<'a> {
+    pub coded: &'a Coded,
+    pub size: usize,
+    pub found: CountedSets,
+    /// How many sets of at most the size were asked for.
+    pub counted: u64,
+}
+
+impl<'a> Known<'a> {
+    /// The search that goes on from there, from the frequent sets of the size.
+    pub(crate) fn ask(
+        self,
+        alloc: Global,
+        limit: u32,
+        level: &Extensions,
+    ) -> Result<Levels<'a>, MineFault>
+        requires coding { IsCoding self.coded.now }
+        requires some { 1 ≤ self.size }
+        requires found { AreFound self.coded.now self.size self.found }
+        requires level { sets_of level.now ≡ level_of self.coded.now self.size }
+        requires grouped { AreGrouped level.now }
+        requires counted { self.counted ≡ length (candidates_up_to self.coded.now.baskets self.coded.now.minimum self.size) }
+        ensures ok { IfOk result (λ levels. levels ≡ record { coding = self.entry.coded.now; limit = limit; size = self.entry.size }) }
+        ensures too_many { (most : ℕ) → result ≡ Err (TooMany most) → (most ≡ limit) × AreTooMany self.entry.coded.now limit }
+    {
+        let Known {
+            coded,
+            size,
+            found,
+            counted,
+        } = self;
+        if found.len() > limit as usize {
+            return Err(MineFault::TooMany { limit });
+        }
+        let asked = candidates(alloc, level)?;
+        Ok(Levels {
+            coded,
+            limit,
+            size,
+            found,
+            counted: counted + asked.len() as u64,
+            asked,
+        })
     }
 }
 

@@ -1,9 +1,8 @@
 //! The miner Apriori (Agrawal and Srikant 1994): from the frequent sets of one size it makes the
 //! candidates of the next, counts them, and keeps those that are frequent.
 //!
-//! `levels` goes from size to size, from the `first_level` on, from one `level` to the next. Sets are kept as `extensions`: prefixes, and the items that
-//! extend them. `join` makes candidates by the `intersection` of lists of items, which `search` looks up; several threads may
-//! share that (`halves`). `shard` counts
+//! `levels` goes from size to size, from the `first_level` on. Sets are kept as `extensions`: prefixes, and the items that
+//! extend them. `join` makes candidates by the `intersection` of lists of items, which `search` looks up. `shard` counts
 //! sets by a `counter`: in each `block` of baskets the `used_items` have `rows` of bits, and the `places` of the baskets
 //! that contain a set are found from those of its `prefixes` (`block_counts`). `frequent` keeps the frequent sets. The
 //! second level is made of the frequent `pairs`.
@@ -15,11 +14,9 @@ mod counter;
 mod extensions;
 mod first_level;
 mod frequent;
-mod halves;
 mod intersection;
 mod join;
 pub mod laws;
-mod level;
 mod levels;
 mod pairs;
 mod places;
@@ -33,8 +30,6 @@ pub mod worked;
 pub use counter::RowCounter;
 pub use extensions::Extensions;
 pub use first_level::FirstLevel;
-pub use halves::candidates_shared;
 pub use join::candidates;
-pub use level::Level;
 pub use levels::{Levels, apriori};
 pub use shard::{count_extensions, count_shard};

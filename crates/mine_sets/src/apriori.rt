@@ -9,7 +9,7 @@ ghost use Rattle.mine_apriori.specs.Work.{candidate_count};
 
 use crate::level::count_candidates;
 use basket_core::{Coded, Frequent, MineFault};
-use mine_apriori::{FirstLevel, candidates_shared};
+use mine_apriori::FirstLevel;
 use mine_classes::{is_small_triangle, runs_with_least};
 use mine_phases::{Cutting, Gate, count_pairs, triangle_pairs};
 use std::alloc::{AllocError, Global};
@@ -34,8 +34,8 @@ fn pairs<R: Threads + Sync, G: Gate + Sync>(
 }
 
 /// The list of the frequent sets, if it is no longer than the limit, and the number of candidates
-/// (Agrawal and Srikant 1994), found by this many workers: the pairs over parts of the ranks, the
-/// candidates of each level over parts of the level, and their supports over parts of the baskets.
+/// (Agrawal and Srikant 1994), found by this many workers: the pairs over parts of the ranks, and
+/// the supports of the candidates of each level over parts of the baskets.
 pub fn apriori_shared<R: Threads + Sync, G: Gate + Sync>(
     rt: &R,
     alloc: Global,
@@ -54,9 +54,7 @@ pub fn apriori_shared<R: Threads + Sync, G: Gate + Sync>(
     let mut levels = first.with_pairs(alloc, &pairs)?;
     while !levels.asked().is_empty() {
         let counts = count_candidates(rt, alloc, coded.baskets(), levels.asked(), cutting, gate)?;
-        let level = levels.level(alloc, &counts)?;
-        let asked = candidates_shared(rt, alloc, level.sets(), cutting.workers)?;
-        levels = level.ask(asked);
+        levels = levels.answer(alloc, &counts)?;
     }
     let candidates = levels.counted();
     Ok((levels.finish(alloc)?, candidates))

@@ -40,26 +40,26 @@ add_frequent-requires-clause-counts c =
     c.deref-2.ensures.value ∙ c.in_ok-sets.ensures.counts ∙ ap (map (λ (pair : Pair). pair.count)) c.deref.ensures.value ∙ c.in_ok-pairs.ensures.counts
     ∙ ap (map (support_of c.self.inside.coded.now.baskets)) (sym (level_is (goal.at.add_frequent-requires-clause-counts c).In_ok-sets))
 
-pub of-requires-clause-found : goal.of-requires-clause-found
-of-requires-clause-found c =
+pub ask-requires-clause-found : goal.ask-requires-clause-found
+ask-requires-clause-found c =
     let coding = c.self.inside.coded.now in
     let passes = is_frequent coding.baskets coding.minimum in
     found_next coding 1 c.self.inside.found c.add_frequent.new.found (filter passes (sets_of c.in_ok-sets.sets)) c.self.invariant.1
-    (ap (filter passes) (level_is (goal.at.of-requires-clause-found c).In_ok-sets) ∙ level_again coding 2) c.in_ok-sets-2.ensures.found
+    (ap (filter passes) (level_is (goal.at.ask-requires-clause-found c).In_ok-sets) ∙ level_again coding 2) c.in_ok-level.ensures.found
 
-pub of-requires-clause-sets : goal.of-requires-clause-sets
-of-requires-clause-sets c =
+pub ask-requires-clause-level : goal.ask-requires-clause-level
+ask-requires-clause-level c =
     let coding = c.self.inside.coded.now in
     let passes = is_frequent coding.baskets coding.minimum in
-    ap sets_of c.in_ok-sets-2.ensures.level ∙ kept_sets passes c.in_ok-sets.sets ∙ ap (filter passes) (level_is (goal.at.of-requires-clause-sets c).In_ok-sets) ∙ level_again coding 2
+    ap sets_of c.in_ok-level.ensures.level ∙ kept_sets passes c.in_ok-sets.sets ∙ ap (filter passes) (level_is (goal.at.ask-requires-clause-level c).In_ok-sets) ∙ level_again coding 2
 
-pub of-requires-clause-grouped : goal.of-requires-clause-grouped
-of-requires-clause-grouped c =
+pub ask-requires-clause-grouped : goal.ask-requires-clause-grouped
+ask-requires-clause-grouped c =
     let coding = c.self.inside.coded.now in
-    subst AreGrouped (sym c.in_ok-sets-2.ensures.level) (kept_grouped (is_frequent coding.baskets coding.minimum) c.in_ok-sets.sets c.in_ok-sets.ensures.grouped)
+    subst AreGrouped (sym c.in_ok-level.ensures.level) (kept_grouped (is_frequent coding.baskets coding.minimum) c.in_ok-sets.sets c.in_ok-sets.ensures.grouped)
 
-pub of-requires-clause-counted : goal.of-requires-clause-counted
-of-requires-clause-counted c =
+pub ask-requires-clause-counted : goal.ask-requires-clause-counted
+ask-requires-clause-counted c =
     let coding = c.self.inside.coded.now in
     let more : length c.self.inside.found ≡ length (level_of coding 1) = ap length c.self.invariant.1 ∙ length-map (levels_up_to coding 1) (λ set. decoded_set coding.items (counted coding.baskets set)) in
     let last : c.len.result ≡ length (level_of coding 1) = omega (arith, c.len.ensures, more) in
