@@ -1,4 +1,5 @@
 pub mod theory
+mod EntryLemmas
 mod MergedLemmas
 mod BitRankLemmas
 mod WordLemmas
