@@ -1,8 +1,8 @@
 -- How a cut list goes on.
-use Rattle.std.proofs.Common.{◌≡◌, ℕ, Bool, true, false, List, [], ◌∷◌, ◌++◌, cond, sym, ap, ◌∙◌, append_assoc}
+use Rattle.std.proofs.Common.{◌≡◌, ℕ, Bool, true, false, List, [], ◌∷◌, ◌++◌, cond, sym, ap, ◌∙◌, append_assoc, ◌+◌, ◌≤◌, length, fold, suc, arith}
 use Rattle.std.specs.List.{list_all}
 use Rattle.std.proofs.lemmas.Bool.{and_parts}
-use Rattle.std.proofs.lemmas.List.{append-nil}
+use Rattle.std.proofs.lemmas.List.{append-nil, length-append}
 use Rattle.std.proofs.lemmas.List.Sums.{fold_push}
 use Rattle.basket_read.specs.Cut.{Cut, cut_more, cut_at}
 use Rattle.basket_read.specs.Grammar.{FrontsAreGood}
@@ -46,3 +46,17 @@ cut_on_by p q xs (y ∷ ys) other h =
     ap (cut_at p) (sym (append_assoc xs (y ∷ []) ys)) ∙ cut_on_by p q (xs ++ y ∷ []) ys other parts.1
     ∙ ap (λ (k : Cut). cut k.ended (k.last ++ ys)) (cut_joined p xs y (other y parts.0))
     ∙ ap (cut (cut_at p xs).ended) (append_assoc (cut_at p xs).last (y ∷ []) ys)
+
+abbrev pub size : Cut → ℕ
+size k = length k.ended + length k.last
+
+-- the parts that have ended and the elements of the last are at most as many as all elements
+pub size_after : (p : ℕ → Bool) (c : Cut) (xs : List ℕ) → size (fold (cut_more p) c xs) ≤ size c + length xs
+size_after p c [] = omega arith
+size_after p c (x ∷ xs) = at (p x) (size_after p (cut (c.ended ++ c.last ∷ []) []) xs) (size_after p (cut c.ended (c.last ++ x ∷ [])) xs)
+  where
+    at : (b : Bool) → size (fold (cut_more p) (cut (c.ended ++ c.last ∷ []) []) xs) ≤ size (cut (c.ended ++ c.last ∷ []) []) + length xs
+        → size (fold (cut_more p) (cut c.ended (c.last ++ x ∷ [])) xs) ≤ size (cut c.ended (c.last ++ x ∷ [])) + length xs
+        → size (fold (cut_more p) (cond b (cut (c.ended ++ c.last ∷ []) []) (cut c.ended (c.last ++ x ∷ []))) xs) ≤ size c + suc (length xs)
+    at true ended joined = let one = length-append c.ended (c.last ∷ []) in omega arith
+    at false ended joined = let one = length-append c.last (x ∷ []) in omega arith
