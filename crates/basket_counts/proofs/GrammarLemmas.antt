@@ -1,37 +1,18 @@
 -- Fronts of good texts are good, and the first fault is that of the byte that ends one badly.
-use Rattle.std.proofs.Common.{◌≡◌, ℕ, true, ◌&&◌, not, leb, List, [], ◌∷◌, ◌++◌, refl, sym, ap, ◌∙◌, inl, inr, arith}
+use Rattle.std.proofs.Common.{◌≡◌, ℕ, true, ◌&&◌, not, List, [], ◌∷◌, ◌++◌, refl, sym, ap, ◌∙◌, inl, inr}
 use Rattle.std.specs.List.{list_all}
-use Rattle.std.proofs.lemmas.Bool.{cases_Bool, and_parts, and_from, leb-true, le-leb}
-use Rattle.basket_sets.specs.Number.{is_digit, value_of}
+use Rattle.std.proofs.lemmas.Bool.{cases_Bool, and_parts, and_from}
 use Rattle.basket_sets.specs.Database.{MOST_WEIGHT}
+use Rattle.basket_sets.proofs.theory.Numerals.{all_push}
 use Rattle.basket_read.specs.Cut.{Cut, cut_at}
-use Rattle.basket_read.specs.Fimi.{is_blank, is_nil, is_number, are_numbers, MOST_NUMBER}
+use Rattle.basket_read.specs.Fimi.{is_blank, is_nil, are_numbers}
 use Rattle.basket_counts.specs.Counts.{is_open, is_close, is_count, is_tail_of, is_tail, is_line_of, is_line, is_good, fault_at}
 use Rattle.basket_read.proofs.theory.Cuts.{cut_ended, cut_joined}
-use Rattle.basket_counts.proofs.NumberLemmas.{all_push, value_push, within, all_numbers}
+use Rattle.basket_read.proofs.theory.Numbers.{within_front, numbers_front}
 use Rattle.basket_read.specs.Grammar.{FrontsAreGood, GoodIsFaultless, FirstFaultIsExact}
 use Rattle.basket_read.proofs.theory.Grammar as grammar
 
 -- ---- a line
-
-within_front : (bound : ℕ) (word : List ℕ) (byte : ℕ) → within bound (word ++ byte ∷ []) ≡ true → within bound word ≡ true
-within_front bound word byte h =
-    let p = and_parts (list_all is_digit (word ++ byte ∷ [])) (leb (value_of (word ++ byte ∷ [])) bound) h in
-    let digits = and_parts (list_all is_digit word) (is_digit byte) (sym (all_push is_digit word byte) ∙ p.0) in
-    let below = leb-true (value_of (word ++ byte ∷ [])) bound p.1 in
-    let more = value_push word byte in
-    and_from (list_all is_digit word) (leb (value_of word) bound) digits.0 (le-leb (value_of word) bound (omega arith))
-
-numbers_front : (text : List ℕ) (byte : ℕ) → are_numbers (text ++ byte ∷ []) ≡ true → are_numbers text ≡ true
-numbers_front text byte h =
-    let c = cut_at is_blank text in
-    elim (cases_Bool (is_blank byte)) [
-      | inl e ↦ (and_parts (all_numbers c) (is_number []) (sym (all_push is_number (c.ended ++ c.last ∷ []) [])
-          ∙ sym (ap (λ (k : Cut). all_numbers k) (cut_ended is_blank text byte e)) ∙ h)).0
-      | inr e ↦ let p = and_parts (list_all is_number c.ended) (is_number (c.last ++ byte ∷ [])) (sym (all_push is_number c.ended (c.last ++ byte ∷ []))
-          ∙ sym (ap (λ (k : Cut). all_numbers k) (cut_joined is_blank text byte e)) ∙ h) in
-          all_push is_number c.ended c.last ∙ and_from (list_all is_number c.ended) (is_number c.last) p.0 (within_front MOST_NUMBER c.last byte p.1)
-    ]
 
 -- a tail before a `)`
 before_close : (ended : List (List ℕ)) (last : List ℕ) → is_tail_of (ended ++ last ∷ []) [] ≡ true → is_tail_of ended last ≡ true
@@ -68,7 +49,7 @@ before_other (text ∷ []) last byte h =
     and_from (are_numbers text) (is_tail last) p.0 (tail_front last byte p.1)
 before_other (text ∷ other ∷ others) last byte h = absurd cc
 
-line_front : (line : List ℕ) (byte : ℕ) → is_line (line ++ byte ∷ []) ≡ true → is_line line ≡ true
+pub line_front : (line : List ℕ) (byte : ℕ) → is_line (line ++ byte ∷ []) ≡ true → is_line line ≡ true
 line_front line byte h =
     let k = cut_at is_open line in
     elim (cases_Bool (is_open byte)) [

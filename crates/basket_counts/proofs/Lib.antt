@@ -1,6 +1,4 @@
-mod NumberLemmas
 mod LineLemmas
-mod RunLemmas
 mod TextLemmas
 mod InputLemmas
 mod ReadLemmas

@@ -1,9 +1,10 @@
 -- How a text goes on with one more byte.
 use Rattle.std.proofs.Common.{◌≡◌, ◌≢◌, ℕ, ◌+◌, ◌-◌, ◌<◌, ◌≤◌, Bool, true, false, List, [], ◌∷◌, ◌++◌, length, fold, leb, take, take-add, drop, get_or, suc, cond, Option, Some, None, refl, sym, ap, ◌∙◌, subst, append_assoc, arith}
 use Rattle.std.specs.List.{list_all}
-use Rattle.std.proofs.lemmas.Bool.{and_parts, leb-true, ne_eqb}
+use Rattle.std.proofs.lemmas.Bool.{and_from}
 use Rattle.std.proofs.lemmas.List.{append-nil, length-append, take_more, take-append-drop}
 use Rattle.basket_sets.specs.Number.{is_digit}
+use Rattle.basket_sets.proofs.theory.Numerals.{all_push}
 use Rattle.basket_read.specs.declared.fault.ReadFault.{ReadFault}
 use Rattle.basket_read.specs.declared.fault.ReadFault.TheVariants.{Byte}
 use Rattle.basket_read.specs.Cut.{Cut, cut_more, cut_at}
@@ -11,14 +12,13 @@ use Rattle.basket_read.specs.Fimi.{line_after, is_line_feed}
 use Rattle.basket_read.specs.Text.{Tells}
 use Rattle.basket_counts.specs.declared.entry.Entry.{Entry}
 use Rattle.basket_counts.specs.declared.line.Line.{Line}
-use Rattle.basket_counts.specs.declared.place.Place.{Place}
 use Rattle.basket_counts.specs.declared.text.Text.{Text}
 use Rattle.basket_counts.specs.Counts.{is_line, fault_at, first_fault, entry_of, entries_from}
-use Rattle.basket_counts.specs.Line.{line_state, line_at, line_with, at_place, digit_added, digit_after, digits_added, digit_fault_at, said_at, IsLineSoFar}
+use Rattle.basket_counts.specs.Line.{LineState, line_state, line_at, said_at, digit_fault_in, IsLineSoFar}
 use Rattle.basket_counts.specs.Text.{IsTextSoFar}
-use Rattle.basket_read.proofs.theory.Cuts.{cut, cut_ended, cut_joined}
-use Rattle.basket_counts.proofs.RunLemmas.{never_added}
-use Rattle.basket_counts.proofs.LineLemmas.{line_digit, line_says, digit_told}
+use Rattle.basket_read.proofs.theory.Cuts.{cut, cut_ended, cut_on, size_after}
+use Rattle.basket_counts.proofs.LineLemmas.{no_line_feed, line_says, digit_says}
+use Rattle.basket_counts.proofs.GrammarLemmas.{line_fronts_are_good, good_is_faultless}
 use Rattle.basket_read.proofs.theory.Grammar as grammar
 
 -- what one line more says
@@ -41,25 +41,27 @@ module _ (text : Text) (bytes : List ℕ) (t : IsTextSoFar text bytes) where
   pub line_so_far : IsLineSoFar text.line last
   line_so_far = record { good = (grammar.lines_good is_line fault_at refl bytes t.faultless).1; state = t.line }
 
-  -- a byte that the line took
-  pub takes : (line : Line) (byte : ℕ) → is_line_feed byte ≡ false → Some (line_state line) ≡ line_with last byte → IsTextSoFar (record text { line = line }) (bytes ++ byte ∷ [])
-  takes line byte e is =
-      let k = grammar.chosen (line_state line) (line_at (last ++ byte ∷ [])) (is_line (last ++ byte ∷ [])) is in
-      let joined = cut_joined is_line_feed bytes byte e in
+  -- the text goes on as its line does
+  pub goes_on : (line : Line) (run : List ℕ) → IsLineSoFar line (last ++ run) → IsTextSoFar (record text { line = line }) (bytes ++ run)
+  goes_on line run s =
+      let k = cut_at is_line_feed bytes in
+      let joined = cut_on is_line_feed is_line line_fronts_are_good no_line_feed bytes run s.good in
       record {
-        faultless = grammar.fault_here is_line fault_at refl bytes t.faultless byte true e k.0;
+        faultless = (good_is_faultless (bytes ++ run)).0
+            (ap (λ (j : Cut). list_all is_line (j.ended ++ j.last ∷ [])) joined
+            ∙ all_push is_line k.ended (last ++ run) ∙ and_from (list_all is_line k.ended) (is_line (last ++ run)) (grammar.lines_good is_line fault_at refl bytes t.faultless).0 s.good);
         ended = t.ended ∙ ap (λ (k : Cut). length k.ended) (sym joined);
         entries = t.entries ∙ ap (λ (k : Cut). entries_from 1 k.ended) (sym joined);
-        line = k.1 ∙ ap (λ (k : Cut). line_at k.last) (sym joined);
+        line = s.state ∙ ap (λ (k : Cut). line_at k.last) (sym joined);
       }
 
-  -- a byte that it refused
-  pub refuses : (byte : ℕ) → is_line_feed byte ≡ false → None ≡ line_with last byte
-      → first_fault (bytes ++ byte ∷ []) ≡ Some (cond (is_digit byte) (digit_fault_at (line_state text.line).place (text.ended + 1) byte) (Byte (text.ended + 1) byte))
-  refuses byte e is =
-      grammar.fault_here is_line fault_at refl bytes t.faultless byte false e (grammar.refused (line_at (last ++ byte ∷ [])) (is_line (last ++ byte ∷ [])) is)
-      ∙ ap (λ fault. Some (cond (is_digit byte) fault (Byte (line_after bytes) byte))) (sym (digit_told last (line_after bytes) byte))
-      ∙ (λ i. Some (cond (is_digit byte) (digit_fault_at (sym t.line i).place (sym t.ended i + 1) byte) (Byte (sym t.ended i + 1) byte)))
+  -- a byte that the line refused
+  pub refuses : (byte : ℕ) → is_line_feed byte ≡ false → is_line (last ++ byte ∷ []) ≡ false
+      → first_fault (bytes ++ byte ∷ []) ≡ Some (cond (is_digit byte) (digit_fault_in (line_state text.line).tail (text.ended + 1) byte) (Byte (text.ended + 1) byte))
+  refuses byte e bad =
+      grammar.fault_here is_line fault_at refl bytes t.faultless byte false e bad
+      ∙ ap (λ fault. Some (cond (is_digit byte) fault (Byte (line_after bytes) byte))) (sym (digit_says last (line_after bytes) byte))
+      ∙ (λ i. Some (cond (is_digit byte) (digit_fault_in (sym t.line i).tail (sym t.ended i + 1) byte) (Byte (sym t.ended i + 1) byte)))
 
   -- what the text says once its last line has ended
   pub says_all : (entries : List Entry) → entries ≡ text.entries.items ++ said_at (line_state text.line) (text.ended + 1) → entries ≡ entries_from 1 ((cut_at is_line_feed bytes).ended ++ last ∷ [])
@@ -79,56 +81,11 @@ module _ (text : Text) (bytes : List ℕ) (t : IsTextSoFar text bytes) where
         line = is ∙ ap (λ (k : Cut). line_at k.last) (sym ended);
       }
 
--- ---- digits
-
-no_feed : (byte : ℕ) → is_digit byte ≡ true → is_line_feed byte ≡ false
-no_feed byte d = let low = leb-true 48 byte (and_parts (leb 48 byte) (leb byte 57) d).0 in ne_eqb byte 10 (λ e. absurd (omega arith))
-
--- a text whose line took digits
-takes_digits : (digits : List ℕ) (text : Text) (bytes : List ℕ) (line : Line) → IsTextSoFar text bytes → list_all is_digit digits ≡ true
-    → digits_added text.line.place digits ≡ Some line.place → line.numbers ≡ text.line.numbers → IsTextSoFar (record text { line = line }) (bytes ++ digits)
-takes_digits [] text bytes line t d place numbers = subst (IsTextSoFar (record text { line = line })) (sym (append-nil bytes)) (record {
-  faultless = t.faultless;
-  ended = t.ended;
-  entries = t.entries;
-  line = (λ i. at_place (same i) (numbers i).items) ∙ t.line;
-})
-  where
-    same : line.place ≡ text.line.place
-    same = let e = place in cc
-takes_digits (byte ∷ digits) text bytes line t d place numbers =
-    let p = and_parts (is_digit byte) (list_all is_digit digits) d in
-    at (digit_added text.line.place (byte - 48)) refl place p.0 (λ text bytes t place numbers. takes_digits digits text bytes line t p.1 place numbers)
-  where
-    at : (next : Option Place) → digit_added text.line.place (byte - 48) ≡ next → fold digit_after next digits ≡ Some line.place → is_digit byte ≡ true
-        → ((text : Text) (bytes : List ℕ) → IsTextSoFar text bytes → digits_added text.line.place digits ≡ Some line.place → line.numbers ≡ text.line.numbers
-        → IsTextSoFar (record text { line = line }) (bytes ++ digits))
-        → IsTextSoFar (record text { line = line }) (bytes ++ byte ∷ digits)
-    at None e rest is later = absurd (let none = never_added digits in cc)
-    at (Some next) e rest is later =
-        let behind : Line = record text.line { place = next } in
-        let one = takes text bytes t behind byte (no_feed byte is) (line_digit (cut_at is_line_feed bytes).last byte text.line behind (line_so_far text bytes t) is (no_feed byte is) e refl) in
-        subst (IsTextSoFar (record text { line = line })) (append_assoc bytes (byte ∷ []) digits)
-        (later (record text { line = behind }) (bytes ++ byte ∷ []) one rest numbers)
-
 -- ---- a text of few bytes has few lines
-
-abbrev size : Cut → ℕ
-size k = length k.ended + length k.last
-
-ended_after : (c : Cut) (xs : List ℕ) → size (fold (cut_more is_line_feed) c xs) ≤ size c + length xs
-ended_after c [] = omega arith
-ended_after c (x ∷ xs) = at (is_line_feed x) (ended_after (cut (c.ended ++ c.last ∷ []) []) xs) (ended_after (cut c.ended (c.last ++ x ∷ [])) xs)
-  where
-    at : (b : Bool) → size (fold (cut_more is_line_feed) (cut (c.ended ++ c.last ∷ []) []) xs) ≤ size (cut (c.ended ++ c.last ∷ []) []) + length xs
-        → size (fold (cut_more is_line_feed) (cut c.ended (c.last ++ x ∷ [])) xs) ≤ size (cut c.ended (c.last ++ x ∷ [])) + length xs
-        → size (fold (cut_more is_line_feed) (cond b (cut (c.ended ++ c.last ∷ []) []) (cut c.ended (c.last ++ x ∷ []))) xs) ≤ size c + suc (length xs)
-    at true ended joined = let one = length-append c.ended (c.last ∷ []) in omega arith
-    at false ended joined = let one = length-append c.last (x ∷ []) in omega arith
 
 -- a line feed for each line that has ended
 pub few_lines : (text : Text) (bytes : List ℕ) → IsTextSoFar text bytes → text.ended ≤ length bytes
-few_lines text bytes t = let few = ended_after (cut [] []) bytes in let lines = t.ended in omega arith
+few_lines text bytes t = let few = size_after is_line_feed (cut [] []) bytes in let lines = t.ended in omega arith
 
 -- and more bytes where a line has begun
 pub fewer_lines : (text : Text) (bytes : List ℕ) → IsTextSoFar text bytes → line_state text.line ≢ line_at [] → text.ended < length bytes
@@ -136,16 +93,16 @@ fewer_lines text bytes t some = at (cut_at is_line_feed bytes).last refl
   where
     at : (last : List ℕ) → (cut_at is_line_feed bytes).last ≡ last → text.ended < length bytes
     at [] e = absurd (some (t.line ∙ ap line_at e))
-    at (byte ∷ last) e = let few = ended_after (cut [] []) bytes in let lines = t.ended in let long = ap length e in omega arith
+    at (byte ∷ last) e = let few = size_after is_line_feed (cut [] []) bytes in let lines = t.ended in let long = ap length e in omega arith
 
 -- ---- bytes up to a place
 
--- digits behind a place
-pub digits_taken : (text : Text) (line : Line) (bytes piece : List ℕ) (i count : ℕ) → IsTextSoFar text (take i bytes) → piece ≡ drop i bytes → list_all is_digit (take count piece) ≡ true
-    → digits_added text.line.place (take count piece) ≡ Some line.place → line.numbers ≡ text.line.numbers → IsTextSoFar (record text { line = line }) (take (i + count) bytes)
-digits_taken text line bytes piece i count t e d place numbers =
+-- bytes that the line took behind a place
+pub run_taken : (text : Text) (line : Line) (bytes piece : List ℕ) (i count : ℕ) → IsTextSoFar text (take i bytes) → piece ≡ drop i bytes
+    → ((front : List ℕ) → IsLineSoFar text.line front → IsLineSoFar line (front ++ take count piece)) → IsTextSoFar (record text { line = line }) (take (i + count) bytes)
+run_taken text line bytes piece i count t e took =
     subst (IsTextSoFar (record text { line = line })) (ap (λ l. take i bytes ++ take count l) e ∙ sym (take-add i count bytes))
-    (takes_digits (take count piece) text (take i bytes) line t d place numbers)
+    (goes_on text (take i bytes) t line (take count piece) (took (cut_at is_line_feed (take i bytes)).last (line_so_far text (take i bytes) t)))
 
 -- all bytes up to a place and the byte there
 pub up_to : (bytes : List ℕ) (i : ℕ) → i < length bytes → take i bytes ++ get_or bytes i 0 ∷ [] ≡ take (i + 1) bytes

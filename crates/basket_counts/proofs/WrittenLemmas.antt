@@ -8,7 +8,7 @@ use Rattle.std.proofs.lemmas.List.{append-nil, take_all}
 use Rattle.basket_sets.specs.declared.counted.Counted.{Counted}
 use Rattle.basket_sets.specs.Database.{MOST_WEIGHT}
 use Rattle.basket_sets.specs.Number.{is_digit, value_of}
-use Rattle.basket_sets.proofs.theory.Numerals.{IsNumeral, numeral}
+use Rattle.basket_sets.proofs.theory.Numerals.{all_push, IsNumeral, numeral}
 use Rattle.basket_sets.proofs.theory.Rising.{rising-rising}
 use Rattle.basket_read.specs.declared.fault.ReadFault.TheVariants.{TooLong}
 use Rattle.basket_read.specs.Cut.{Cut, cut_at}
@@ -16,8 +16,7 @@ use Rattle.basket_read.specs.Fimi.{is_blank, is_line_feed, is_nil, is_number, ar
 use Rattle.basket_counts.specs.Counts.{is_open, is_close, is_count, is_tail_of, is_tail, is_line_of, is_line, is_good, first_fault, fault_in, entry, count_before, entry_of_parts, entry_of, entries_from, entries_of, counted_before, counts_among, counts_said}
 use Rattle.basket_counts.specs.Laws.{items_text, set_line, IsWritten, lines_from, ListsAreReadBack}
 use Rattle.basket_read.proofs.theory.Cuts.{cut, cut_ended, cut_joined}
-use Rattle.basket_counts.proofs.NumberLemmas.{all_push, within}
-use Rattle.basket_counts.proofs.LineLemmas.{digit_is_no_other}
+use Rattle.basket_read.proofs.theory.Numbers.{within, digit_is_no_blank}
 use Rattle.basket_counts.proofs.GrammarLemmas.{good_is_faultless}
 
 -- ---- the digits of a number
@@ -126,7 +125,7 @@ words_are (item ∷ items) h =
     ap (λ b. map value_of (cond (not b) (decimal item ∷ rest) rest)) (not_nil (decimal item) n.some) ∙ (λ i. n.value i ∷ words_are items (all_tail IsItem item items h) i)
 
 blank_spares : Spares is_blank
-blank_spares = record { digit = λ byte d. (digit_is_no_other byte d).0 }
+blank_spares = record { digit = digit_is_no_blank }
 
 items_say : (items : List ℕ) → All IsItem items → Says items (items_text items)
 items_say items h =

@@ -1,5 +1,4 @@
 pub mod Counts
-pub mod Digits
 pub mod Line
 pub mod Text
 pub mod Input

@@ -4,7 +4,7 @@ ghost use Rattle.basket_sets.specs.Number.{is_digit};
 ghost use Rattle.basket_read.specs.Fimi.{MOST_BYTES};
 ghost use Rattle.basket_read.specs.Text.{Tells};
 ghost use Rattle.basket_counts.specs.Counts.{first_fault, entries_of};
-ghost use Rattle.basket_counts.specs.Line.{line_state, line_at, said_at, digit_fault_at};
+ghost use Rattle.basket_counts.specs.Line.{line_state, line_at, said_at, digit_fault_in};
 ghost use Rattle.basket_counts.specs.Text.{IsTextSoFar};
 
 use crate::entry::Entry;
@@ -55,11 +55,11 @@ impl Text {
     /// The fault of a byte that can't stand here.
     fn fault_at(&self, byte: u8) -> ReadFault
         requires { self.now.ended < MOST_BYTES }
-        ensures { result ≡ (if is_digit byte then digit_fault_at (line_state self.now.line).place (self.now.ended + 1) byte else ReadFault.Byte (self.now.ended + 1) byte) }
+        ensures { result ≡ (if is_digit byte then digit_fault_in (line_state self.now.line).tail (self.now.ended + 1) byte else ReadFault.Byte (self.now.ended + 1) byte) }
     {
         let line = self.ended + 1;
         if byte.is_ascii_digit() {
-            self.line.digit_fault(line, byte)
+            self.line.tail().digit_fault(line, byte)
         } else {
             ReadFault::Byte { line, byte }
         }
@@ -72,13 +72,14 @@ impl Text {
         ensures ended { self.new.ended ≡ self.old.ended }
         ensures entries { OnOk result (self.new.entries.items ≡ self.old.entries.items ++ said_at (line_state self.old.line) (self.old.ended + 1)) }
     {
-        self.line.end_number()?;
+        self.line.end()?;
         let numbers = self.line.numbers();
-        if self.line.is_behind_open() || !numbers.is_empty() {
+        let tail = self.line.tail();
+        if tail.is_there() || !numbers.is_empty() {
             let set = Itemset::from_items(self.alloc, numbers)?;
             self.entries.push(Entry {
                 set,
-                count: self.line.count(),
+                count: tail.count(),
                 line: self.ended + 1,
             })?;
         }
@@ -95,7 +96,7 @@ pub fn entries_of(alloc: Global, bytes: &[u8]) -> Result<Vec<Entry>, ReadFault>
     let mut text = Text::new(alloc);
     let mut taken = 0;
     loop {
-        taken += text.line.take_digits(&bytes[taken..]);
+        taken += text.line.take_run(&bytes[taken..])?;
         match bytes.get(taken) {
             Some(byte) => text.take(*byte)?,
             None => {

@@ -20,8 +20,8 @@ use Rattle.basket_read.specs.Fimi.{is_line_feed, is_line, is_good, basket_of, ba
 use Rattle.basket_read.specs.Line.{line_state, line_at}
 use Rattle.basket_read.specs.Text.{HasBaskets, HasJoined, IsTextSoFar, HasRoomFor}
 use Rattle.basket_read.specs.Laws.{counted_on, LinesSayTheirs}
-use Rattle.basket_read.proofs.theory.Cuts.{cut}
-use Rattle.basket_read.proofs.RoomLemmas.{merely_at_most, ended_after, baskets_after}
+use Rattle.basket_read.proofs.theory.Cuts.{cut, size_after}
+use Rattle.basket_read.proofs.RoomLemmas.{merely_at_most, baskets_after}
 use Rattle.basket_read.proofs.theory.Grammar as grammar
 
 -- parts that have ended before
@@ -167,7 +167,7 @@ light_joined past kept behind baskets before more all table h k light counted is
 pub few_joined : (text other : Text) → HasRoomFor text other → text.lines + other.lines ≤ MOST_BYTES
 few_joined text other room =
     merely_at_most (text.lines + other.lines) MOST_BYTES room
-    (λ w. let t = w.4.lines in let o = w.5.lines in let a = ended_after is_line_feed (cut [] []) w.2 in let b = ended_after is_line_feed (cut [] []) w.3 in let small = w.6 in omega arith)
+    (λ w. let t = w.4.lines in let o = w.5.lines in let a = size_after is_line_feed (cut [] []) w.2 in let b = size_after is_line_feed (cut [] []) w.3 in let small = w.6 in omega arith)
 
 pub few_baskets_joined : (text other : Text) → HasRoomFor text other → text.heavy ≡ false → other.heavy ≡ false → length text.baskets + length other.baskets ≤ MOST_BASKETS
 few_baskets_joined text other room light light_other =

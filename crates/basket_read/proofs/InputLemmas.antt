@@ -1,9 +1,9 @@
 -- What stands at the front of an input, and the faults of an input that goes on.
 use Rattle.std.proofs.Common.{◌≡◌, ◌≢◌, ℕ, ◌+◌, ◌-◌, ◌<◌, ◌≤◌, Bool, true, false, ◌&&◌, ◌||◌, not, eqb, ltb, List, [], ◌∷◌, ◌++◌, length, take, drop, cond, Option, Some, None, refl, sym, ap, ◌∙◌, subst, inl, inr, append_assoc, arith, suc, nat_eq, ◌⊎◌, get_or}
-use Rattle.std.specs.Cmp.Lexicographic.{pointwise}
+use Rattle.std.specs.Cmp.Lexicographic.{pointwise, bytes_decides}
 use Rattle.std.specs.List.{starts_with}
-use Rattle.std.proofs.lemmas.Bool.{cases_lt, ne_eqb, eqb-false, lt-ltb, le-ltb}
-use Rattle.std.proofs.lemmas.List.{length-append, length-drop, take_all, take-append-le}
+use Rattle.std.proofs.lemmas.Bool.{or_cases, cases_lt, ne_eqb, eqb-false, lt-ltb, le-ltb}
+use Rattle.std.proofs.lemmas.List.{append-nil, length-append, length-drop, take_all, take-append-le}
 use Rattle.std.proofs.Math.Logic.{∥∥₁_map}
 use Rattle.basket_sets.specs.declared.weighted.Weighted.{Weighted}
 use Rattle.basket_read.specs.declared.fault.ReadFault.{ReadFault}
@@ -13,6 +13,7 @@ use Rattle.basket_read.specs.declared.input.Front.TheVariants.{Empty, OneByte, T
 use Rattle.basket_read.specs.declared.input.Input.{Input}
 use Rattle.basket_read.specs.declared.text.Text.{Text}
 use Rattle.basket_read.specs.Fimi.{fault_at, is_line, MARK, text_of, MOST_BYTES, first_fault, or_else, fault_in, may_be_mark, settled_fault}
+use Rattle.basket_read.specs.Laws.{SettledFaultsStay, UnsettledMayBeGood}
 use Rattle.basket_read.specs.Text.{GoesOn, IsTextSoFar, HasRoom, Tells}
 use Rattle.basket_read.specs.Input.{is_decided, IsFront, text_behind, IsInputSoFar, IsSomeInput}
 use Rattle.basket_read.proofs.TextLemmas.{take_rest, take_next}
@@ -252,3 +253,21 @@ settled_in_piece bytes piece i fault below told no_memory =
 pub settled_in_front : (bytes front rest piece : List ℕ) (fault : ReadFault) → front ++ rest ≡ piece → Tells fault (settled_fault (bytes ++ front)) → Tells fault (settled_fault (bytes ++ piece))
 settled_in_front bytes front rest piece fault whole told no_memory =
     ap settled_fault (ap (λ l. bytes ++ l) (sym whole) ∙ sym (append_assoc bytes front rest)) ∙ settled_stays (bytes ++ front) rest fault (told no_memory)
+
+-- ---- whatever follows
+
+pub settled_faults_stay : SettledFaultsStay
+settled_faults_stay bytes more fault e = fault-settled (bytes ++ more) fault (settled_stays bytes more fault e)
+
+pub unsettled_may_be_good : UnsettledMayBeGood
+unsettled_may_be_good bytes e = at (may_be_mark bytes) refl e
+  where
+    same : (mark : List ℕ) → pointwise nat_eq bytes mark ≡ true → bytes ≡ mark
+    same mark h = (bytes_decides bytes mark).0 h
+
+    at : (b : Bool) → may_be_mark bytes ≡ b → cond b None (fault_in bytes) ≡ None → (more : List ℕ) × (fault_in (bytes ++ more) ≡ None)
+    at true m n = elim (or_cases (pointwise nat_eq bytes (239 ∷ [])) (pointwise nat_eq bytes (239 ∷ 187 ∷ [])) m) [
+      | inl h ↦ (187 ∷ 191 ∷ [], ap (λ l. fault_in (l ++ 187 ∷ 191 ∷ [])) (same (239 ∷ []) h))
+      | inr h ↦ (191 ∷ [], ap (λ l. fault_in (l ++ 191 ∷ [])) (same (239 ∷ 187 ∷ []) h))
+    ]
+    at false m n = ([], ap fault_in (append-nil bytes) ∙ n)

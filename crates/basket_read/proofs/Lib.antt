@@ -1,4 +1,5 @@
 pub mod theory
+mod NumbersLemmas
 mod LineLemmas
 mod TextLemmas
 mod RoomLemmas

@@ -11,7 +11,7 @@ use Rattle.basket_read.specs.declared.fault.ReadFault.{ReadFault}
 use Rattle.basket_read.specs.declared.fault.ReadFault.TheVariants.{Memory, Read, TooLong, Byte, Number, Heavy}
 use Rattle.basket_read.specs.Fimi.{is_good, line_after, fault_after, first_fault, or_else, fault_in, text_of, settled_fault, baskets_of, answer_of, fimi_of, MOST_BYTES}
 use Rattle.basket_read.specs.ItemCounts.{AreLightCounts, Counts}
-use Rattle.basket_read.specs.Read.{FailsAfter, Reads, Stops}
+use Rattle.basket_read.specs.Read.{CountsAs, FailsAfter, Reads, ReadsAs, Stops}
 use Rattle.basket_read.specs.Text.{Answers, CountsBehind, GoesOn, Tells}
 use Rattle.basket_read.specs.declared.item_counts.ItemCounts.{ItemCounts}
 use Rattle.basket_read.proofs.InputLemmas.{settled_stays, fault-settled}
@@ -155,42 +155,59 @@ module _ (counting : Bool) (old new : Option (List ℕ)) (failed : Bool) where
 
   -- ---- what reading says of its answer
 
-  pub exact : (answer : Result ItemCounts ReadFault) → Reads counting old new failed answer → failed ≡ false → IfSome old (λ bytes. Counts answer (fimi_of bytes))
+  exact : (answer : Result ItemCounts ReadFault) → Reads counting old new failed answer → failed ≡ false → IfSome old (λ bytes. Counts answer (fimi_of bytes))
   exact (Ok counts) ends working = if_some old (λ all. all ≡ ends.bytes) _ ends.all (λ all same. (ends.past ++ counts.rest, ap fimi_of same ∙ ends.answer, (ends.past, ends.counted, refl)))
   exact (Err fault) stops working = stops.exact working
 
-  pub light : (answer : Result ItemCounts ReadFault) → Reads counting old new failed answer → IfOk answer AreLightCounts
+  light : (answer : Result ItemCounts ReadFault) → Reads counting old new failed answer → IfOk answer AreLightCounts
   light (Ok counts) ends =
       let all = ends.past ++ counts.rest in (all, (ends.past, ends.counted, refl), light_answer (fault_in ends.bytes) (baskets_of (text_of ends.bytes)) all ends.answer)
   light (Err fault) stops = tt
 
-  pub failed_after : (answer : Result ItemCounts ReadFault) → Reads counting old new failed answer → failed ≡ true → IfErr answer (λ fault. IfSome old (λ bytes. FailsAfter bytes new (Err fault)))
+  failed_after : (answer : Result ItemCounts ReadFault) → Reads counting old new failed answer → failed ≡ true → IfErr answer (λ fault. IfSome old (λ bytes. FailsAfter bytes new (Err fault)))
   failed_after (Ok counts) ends broken = tt
   failed_after (Err fault) stops broken = stops.fails broken
 
-  pub failed_is_err : (answer : Result ItemCounts ReadFault) → Reads counting old new failed answer → failed ≡ true → IsErr answer
+  failed_is_err : (answer : Result ItemCounts ReadFault) → Reads counting old new failed answer → failed ≡ true → IsErr answer
   failed_is_err (Ok counts) ends broken = unlike failed ends.working broken
   failed_is_err (Err fault) stops broken = refl
 
-  pub read_is_failed : (answer : Result ItemCounts ReadFault) → Reads counting old new failed answer → answer ≡ Err Read → failed ≡ true
+  read_is_failed : (answer : Result ItemCounts ReadFault) → Reads counting old new failed answer → answer ≡ Err Read → failed ≡ true
   read_is_failed (Ok counts) ends e = absurd cc
   read_is_failed (Err fault) stops e = stops.read_is_failed cc
 
+  pub counts_as : (answer : Result ItemCounts ReadFault) → Reads counting old new failed answer → CountsAs fimi_of old new failed answer
+  counts_as answer reads = record {
+    exact = exact answer reads;
+    light = light answer reads;
+    failed = failed_after answer reads;
+    failed_is_err = failed_is_err answer reads;
+    read_is_failed = read_is_failed answer reads;
+  }
+
 -- the same where the baskets are kept and answered alone
 module _ (old new : Option (List ℕ)) (failed : Bool) where
-  pub exact_kept : (read : Result ItemCounts ReadFault) (answer : Result (List Weighted) ReadFault) → AreKept read answer → Reads false old new failed read
+  exact_kept : (read : Result ItemCounts ReadFault) (answer : Result (List Weighted) ReadFault) → AreKept read answer → Reads false old new failed read
       → failed ≡ false → IfSome old (λ bytes. Answers answer (fimi_of bytes))
   exact_kept (Ok counts) (Ok baskets) kept ends working =
       if_some old (λ all. all ≡ ends.bytes) _ ends.all (λ all same. ap fimi_of same ∙ ends.answer ∙ ap Ok (ap (λ l. l ++ counts.rest) (ends.uncounted refl) ∙ sym kept))
   exact_kept (Ok counts) (Err fault) kept ends working = absurd kept
   exact_kept (Err fault) answer kept stops working = subst (λ a. IfSome old (λ bytes. Answers a (fimi_of bytes))) (sym kept) (stops.exact working)
 
-  pub failed_kept : (read : Result ItemCounts ReadFault) (answer : Result (List Weighted) ReadFault) → AreKept read answer → Reads false old new failed read
+  failed_kept : (read : Result ItemCounts ReadFault) (answer : Result (List Weighted) ReadFault) → AreKept read answer → Reads false old new failed read
       → failed ≡ true → IsErr answer × IfSome old (λ bytes. FailsAfter bytes new answer)
   failed_kept (Ok counts) answer kept ends broken = unlike failed ends.working broken
   failed_kept (Err fault) answer kept stops broken = (subst IsErr (sym kept) refl, subst (λ a. IfSome old (λ bytes. FailsAfter bytes new a)) (sym kept) (stops.fails broken))
 
-  pub read_kept : (read : Result ItemCounts ReadFault) (answer : Result (List Weighted) ReadFault) → AreKept read answer → Reads false old new failed read → answer ≡ Err Read → failed ≡ true
+  read_kept : (read : Result ItemCounts ReadFault) (answer : Result (List Weighted) ReadFault) → AreKept read answer → Reads false old new failed read → answer ≡ Err Read → failed ≡ true
   read_kept (Ok counts) (Ok baskets) kept ends e = absurd cc
   read_kept (Ok counts) (Err fault) kept ends e = absurd kept
   read_kept (Err fault) answer kept stops e = stops.read_is_failed (let same : Err fault ≡ Err Read = sym kept ∙ e in cc)
+
+  pub reads_as : (read : Result ItemCounts ReadFault) (answer : Result (List Weighted) ReadFault) → AreKept read answer → Reads false old new failed read → ReadsAs fimi_of old new failed answer
+  reads_as read answer kept reads = record {
+    exact = exact_kept read answer kept reads;
+    failed = λ broken. (failed_kept read answer kept reads broken).1;
+    failed_is_err = λ broken. (failed_kept read answer kept reads broken).0;
+    read_is_failed = read_kept read answer kept reads;
+  }

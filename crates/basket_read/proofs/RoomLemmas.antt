@@ -14,7 +14,7 @@ use Rattle.basket_read.specs.declared.text.Text.{Text}
 use Rattle.basket_read.specs.Cut.{Cut, cut_more, cut_at}
 use Rattle.basket_read.specs.Fimi.{is_line_feed, is_times, basket_of, basket_of_numbers, numbers_of, weight_before}
 use Rattle.basket_read.specs.Text.{HasBaskets, IsTextSoFar, HasRoom}
-use Rattle.basket_read.proofs.theory.Cuts.{cut}
+use Rattle.basket_read.proofs.theory.Cuts.{cut, size_after}
 
 -- a bound that follows from what is there
 merely_below : {A : Type 0} (a b : ℕ) → ∥ A ∥₁ → (A → a < b) → a < b
@@ -43,20 +43,10 @@ light_table text more room light =
     merely_at_most (text.table.total + total_of text.baskets) MOST_WEIGHT room
     (λ w. let together = light_together text w.0 w.1 w.2 light in omega (arith, w.2.counted.total))
 
--- a separator for each part that has ended
-pub ended_after : (p : ℕ → Bool) (c : Cut) (xs : List ℕ) → length (fold (cut_more p) c xs).ended ≤ length c.ended + length xs
-ended_after p c [] = omega arith
-ended_after p c (x ∷ xs) = at (p x) (ended_after p (cut (c.ended ++ c.last ∷ []) []) xs) (ended_after p (cut c.ended (c.last ++ x ∷ [])) xs)
-  where
-    at : (b : Bool) → length (fold (cut_more p) (cut (c.ended ++ c.last ∷ []) []) xs).ended ≤ length (c.ended ++ c.last ∷ []) + length xs
-        → length (fold (cut_more p) (cut c.ended (c.last ++ x ∷ [])) xs).ended ≤ length c.ended + length xs
-        → length (fold (cut_more p) (cond b (cut (c.ended ++ c.last ∷ []) []) (cut c.ended (c.last ++ x ∷ []))) xs).ended ≤ length c.ended + suc (length xs)
-    at true ended joined = let one = length-append c.ended (c.last ∷ []) in omega arith
-    at false ended joined = omega arith
-
+-- a line feed for each line that has ended
 pub few_lines : (text : Text) (more : ℕ) → HasRoom text (more + 1) → text.lines + 1 < 2 ^ 32
 few_lines text more room =
-    merely_below (text.lines + 1) (2 ^ 32) room (λ w. let t = w.2.lines in let e = ended_after is_line_feed (cut [] []) w.1 in let small = w.3 in omega arith)
+    merely_below (text.lines + 1) (2 ^ 32) room (λ w. let t = w.2.lines in let e = size_after is_line_feed (cut [] []) w.1 in let small = w.3 in omega arith)
 
 -- a basket has a number, and so its line a byte
 basket_size : (line : List ℕ) → 2 * length (basket_of line) ≤ length line + 1

@@ -1,12 +1,13 @@
 -- How a text goes on with one more byte, and what its first fault is.
-use Rattle.std.proofs.Common.{◌≡◌, ℕ, ◌+◌, ◌<◌, Bool, true, false, List, [], ◌∷◌, ◌++◌, length, cond, Some, None, Result, Ok, Err, refl, sym, ap, ◌∙◌, subst, append_assoc, take, drop, get_or}
-use Rattle.std.specs.List.{flat_map}
-use Rattle.std.specs.Prelude.{IfOk, MatchResult}
-use Rattle.std.proofs.lemmas.Bool.{le-leb}
+use Rattle.std.proofs.Common.{◌≡◌, ℕ, ◌+◌, ◌<◌, Bool, true, false, List, [], ◌∷◌, ◌++◌, length, cond, Some, Result, Ok, Err, refl, sym, ap, ◌∙◌, subst, append_assoc, take, drop, get_or}
+use Rattle.std.specs.List.{flat_map, list_all}
+use Rattle.std.specs.Prelude.{IfOk, MatchResult, unwrap_or}
+use Rattle.std.proofs.lemmas.Bool.{and_from, le-leb}
 use Rattle.std.proofs.lemmas.List.{append-nil, length-append, take_more, take-append-drop}
 use Rattle.std.proofs.lemmas.Grind.{flat_map-append}
 use Rattle.basket_sets.specs.declared.weighted.Weighted.{Weighted}
 use Rattle.basket_sets.specs.Number.{is_digit}
+use Rattle.basket_sets.proofs.theory.Numerals.{all_push}
 use Rattle.basket_sets.specs.Database.{MOST_WEIGHT}
 use Rattle.basket_sets.specs.ItemTable.{HasCounted}
 use Rattle.basket_sets.specs.Support.{total_of}
@@ -15,12 +16,17 @@ use Rattle.basket_read.specs.declared.fault.ReadFault.TheVariants.{Byte, Number,
 use Rattle.basket_read.specs.declared.line.Line.{Line}
 use Rattle.basket_read.specs.declared.text.Text.{Text}
 use Rattle.basket_read.specs.Cut.{Cut, cut_at}
-use Rattle.basket_read.specs.Fimi.{is_blank, is_times, is_line_feed, is_line, basket_of, basket_of_numbers, baskets_of, line_after, fault_at, first_fault, if_light}
-use Rattle.basket_read.specs.Line.{line_state, line_at, digit_added, blank_added, times_added}
+use Rattle.basket_read.specs.Fimi.{is_line_feed, is_line, basket_of, basket_of_numbers, baskets_of, fault_at, first_fault, if_light}
+use Rattle.basket_read.specs.Line.{LineState, line_state, line_at, line_ended, IsLineSoFar}
 use Rattle.basket_read.specs.Text.{GoesOn, HasBaskets, IsTextSoFar, Tells}
-use Rattle.basket_read.proofs.theory.Cuts.{cut_ended, cut_joined}
-use Rattle.basket_read.proofs.LineLemmas.{digit_is_no_other, blank_is_no_other, times_is_no_other, line_digit, line_blank, line_times, line_other, line_numbers, line_weight}
+use Rattle.basket_read.proofs.theory.Cuts.{cut_ended, cut_on}
+use Rattle.basket_read.proofs.LineLemmas.{line_numbers, line_weight}
+use Rattle.basket_read.proofs.GrammarLemmas.{line_front, no_line_feed, good_is_faultless}
 use Rattle.basket_read.proofs.theory.Grammar as grammar
+
+-- what a line says where it ends
+abbrev basket_said : LineState → List Weighted
+basket_said line = basket_of_numbers (line_ended line).numbers.ended (unwrap_or line.weight 1)
 
 module _ (text : Text) (past : List Weighted) (bytes : List ℕ) (t : IsTextSoFar text past bytes) where
   -- the text with another last line
@@ -30,61 +36,34 @@ module _ (text : Text) (past : List Weighted) (bytes : List ℕ) (t : IsTextSoFa
   abbrev last : List ℕ
   last = (cut_at is_line_feed bytes).last
 
-  goes_on : (line : Line) (byte : ℕ) → is_line_feed byte ≡ false → is_line (last ++ byte ∷ []) ≡ true → line_state line ≡ line_at (last ++ byte ∷ [])
-      → IsTextSoFar (with_line line) past (bytes ++ byte ∷ [])
-  goes_on line byte e good is =
-      let joined = cut_joined is_line_feed bytes byte e in
+  pub line_so_far : IsLineSoFar text.line last
+  line_so_far = record { good = (grammar.lines_good is_line fault_at refl bytes t.faultless).1; state = t.line }
+
+  -- the text goes on as its line does
+  pub goes_on : (line : Line) (run : List ℕ) → IsLineSoFar line (last ++ run) → IsTextSoFar (with_line line) past (bytes ++ run)
+  goes_on line run s =
+      let k = cut_at is_line_feed bytes in
+      let joined = cut_on is_line_feed is_line (grammar.line_fronts_are_good is_line fault_at refl line_front) no_line_feed bytes run s.good in
       record {
-        faultless = grammar.fault_here is_line fault_at refl bytes t.faultless byte true e good;
-        lines = t.lines ∙ ap (λ (k : Cut). length k.ended) (sym joined);
-        baskets = subst (λ (k : Cut). HasBaskets text.heavy (past ++ text.baskets) (flat_map basket_of k.ended)) (sym joined) t.baskets;
+        faultless = (good_is_faultless (bytes ++ run)).0
+            (ap (λ (j : Cut). list_all is_line (j.ended ++ j.last ∷ [])) joined
+            ∙ all_push is_line k.ended (last ++ run) ∙ and_from (list_all is_line k.ended) (is_line (last ++ run)) (grammar.lines_good is_line fault_at refl bytes t.faultless).0 s.good);
+        lines = t.lines ∙ ap (λ (j : Cut). length j.ended) (sym joined);
+        baskets = subst (λ (j : Cut). HasBaskets text.heavy (past ++ text.baskets) (flat_map basket_of j.ended)) (sym joined) t.baskets;
         counted = t.counted;
-        line = is ∙ ap (λ (k : Cut). line_at k.last) (sym joined);
+        line = s.state ∙ ap (λ (j : Cut). line_at j.last) (sym joined);
       }
 
-  pub takes_digit : (line : Line) (byte digit : ℕ) → is_digit byte ≡ true → byte ≡ 48 + digit → Some (line_state line) ≡ digit_added (line_state text.line) digit
-      → IsTextSoFar (with_line line) past (bytes ++ byte ∷ [])
-  takes_digit line byte digit d e is =
-      let k = grammar.chosen (line_state line) (line_at (last ++ byte ∷ [])) (is_line (last ++ byte ∷ []))
-      (is ∙ ap (λ s. digit_added s digit) t.line ∙ line_digit last byte digit (grammar.lines_good is_line fault_at refl bytes t.faultless).1 d e) in
-      goes_on line byte (digit_is_no_other byte d).2 k.0 k.1
-
-  pub refuses_digit : (byte digit : ℕ) → is_digit byte ≡ true → byte ≡ 48 + digit → None ≡ digit_added (line_state text.line) digit
-      → first_fault (bytes ++ byte ∷ []) ≡ Some (Number (text.lines + 1))
-  refuses_digit byte digit d e is =
-      grammar.fault_here is_line fault_at refl bytes t.faultless byte false (digit_is_no_other byte d).2
-      (grammar.refused (line_at (last ++ byte ∷ [])) (is_line (last ++ byte ∷ [])) (is ∙ ap (λ s. digit_added s digit) t.line ∙ line_digit last byte digit (grammar.lines_good is_line fault_at refl bytes t.faultless).1 d e))
-      ∙ ap (λ b. Some (cond b (Number (line_after bytes)) (Byte (line_after bytes) byte))) d ∙ ap (λ n. Some (Number (n + 1))) (sym t.lines)
-
-  pub takes_blank : (line : Line) (byte : ℕ) → is_blank byte ≡ true → line_state line ≡ blank_added (line_state text.line) → IsTextSoFar (with_line line) past (bytes ++ byte ∷ [])
-  takes_blank line byte d is =
-      let k = line_blank last byte (grammar.lines_good is_line fault_at refl bytes t.faultless).1 d in
-      goes_on line byte (blank_is_no_other byte d).2 k.0 (is ∙ ap blank_added t.line ∙ k.1)
-
-  pub takes_times : (line : Line) (byte : ℕ) → is_times byte ≡ true → Some (line_state line) ≡ times_added (line_state text.line) → IsTextSoFar (with_line line) past (bytes ++ byte ∷ [])
-  takes_times line byte d is =
-      let k = grammar.chosen (line_state line) (line_at (last ++ byte ∷ [])) (is_line (last ++ byte ∷ []))
-      (is ∙ ap times_added t.line ∙ line_times last byte (grammar.lines_good is_line fault_at refl bytes t.faultless).1 d) in
-      goes_on line byte (times_is_no_other byte d).1 k.0 k.1
-
-  bad_byte : (byte : ℕ) → is_digit byte ≡ false → is_line_feed byte ≡ false → is_line (last ++ byte ∷ []) ≡ false → first_fault (bytes ++ byte ∷ []) ≡ Some (Byte (text.lines + 1) byte)
-  bad_byte byte d e bad =
-      grammar.fault_here is_line fault_at refl bytes t.faultless byte false e bad
-      ∙ ap (λ b. Some (cond b (Number (line_after bytes)) (Byte (line_after bytes) byte))) d ∙ ap (λ n. Some (Byte (n + 1) byte)) (sym t.lines)
-
-  pub refuses_times : (byte : ℕ) → is_times byte ≡ true → None ≡ times_added (line_state text.line) → first_fault (bytes ++ byte ∷ []) ≡ Some (Byte (text.lines + 1) byte)
-  refuses_times byte d is =
-      bad_byte byte (times_is_no_other byte d).0 (times_is_no_other byte d).1
-      (grammar.refused (line_at (last ++ byte ∷ [])) (is_line (last ++ byte ∷ [])) (is ∙ ap times_added t.line ∙ line_times last byte (grammar.lines_good is_line fault_at refl bytes t.faultless).1 d))
-
-  pub refuses_other : (byte : ℕ) → is_digit byte ≡ false → is_blank byte ≡ false → is_times byte ≡ false → is_line_feed byte ≡ false
-      → first_fault (bytes ++ byte ∷ []) ≡ Some (Byte (text.lines + 1) byte)
-  refuses_other byte d b x e = bad_byte byte d e (line_other last byte (grammar.lines_good is_line fault_at refl bytes t.faultless).1 d b x)
+  -- a byte that the line refused
+  pub refuses : (byte : ℕ) → is_line_feed byte ≡ false → is_line (last ++ byte ∷ []) ≡ false
+      → first_fault (bytes ++ byte ∷ []) ≡ Some (cond (is_digit byte) (Number (text.lines + 1)) (Byte (text.lines + 1) byte))
+  refuses byte e bad =
+      grammar.fault_here is_line fault_at refl bytes t.faultless byte false e bad ∙ ap (λ n. Some (cond (is_digit byte) (Number (n + 1)) (Byte (n + 1) byte))) (sym t.lines)
 
   -- what the last line adds
-  pub its_basket : basket_of_numbers (blank_added (line_state text.line)).numbers (blank_added (line_state text.line)).weight ≡ basket_of last
+  pub its_basket : basket_said (line_state text.line) ≡ basket_of last
   its_basket =
-      ap (λ s. basket_of_numbers (blank_added s).numbers (blank_added s).weight) t.line
+      ap basket_said t.line
       ∙ (λ i. basket_of_numbers (line_numbers last i) (line_weight last i))
 
   -- the baskets of the lines that have ended, and that of the last line
@@ -94,7 +73,7 @@ module _ (text : Text) (past : List Weighted) (bytes : List ℕ) (t : IsTextSoFa
 
   pub takes_line_feed : (new : Text) (byte : ℕ) → is_line_feed byte ≡ true → line_state new.line ≡ line_at [] → new.lines ≡ text.lines + 1
       → ((baskets : List Weighted) → HasBaskets text.heavy (past ++ text.baskets) baskets
-      → HasBaskets new.heavy (past ++ new.baskets) (baskets ++ basket_of_numbers (blank_added (line_state text.line)).numbers (blank_added (line_state text.line)).weight))
+      → HasBaskets new.heavy (past ++ new.baskets) (baskets ++ basket_said (line_state text.line)))
       → new.table ≡ text.table → IsTextSoFar new past (bytes ++ byte ∷ [])
   takes_line_feed new byte e is lines more same =
       let ended = cut_ended is_line_feed bytes byte e in
@@ -111,7 +90,7 @@ module _ (text : Text) (past : List Weighted) (bytes : List ℕ) (t : IsTextSoFa
   -- once the last line has ended, the baskets are those of the whole text
   pub has_all : (new : Text)
       → ((baskets : List Weighted) → HasBaskets text.heavy (past ++ text.baskets) baskets
-      → HasBaskets new.heavy (past ++ new.baskets) (baskets ++ basket_of_numbers (blank_added (line_state text.line)).numbers (blank_added (line_state text.line)).weight))
+      → HasBaskets new.heavy (past ++ new.baskets) (baskets ++ basket_said (line_state text.line)))
       → HasBaskets new.heavy (past ++ new.baskets) (baskets_of bytes)
   has_all new more =
       subst (HasBaskets new.heavy (past ++ new.baskets)) (ap (λ l. flat_map basket_of (cut_at is_line_feed bytes).ended ++ l) its_basket ∙ all_baskets)

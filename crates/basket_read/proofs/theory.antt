@@ -1,3 +1,4 @@
 -- The theory of texts of lines, which the proofs of every crate may cite.
 pub mod Cuts
 pub mod Grammar
+pub mod Numbers

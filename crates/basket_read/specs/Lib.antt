@@ -3,6 +3,7 @@ pub mod Cut
 pub mod Grammar
 pub mod Fimi
 pub mod Number
+pub mod Numbers
 pub mod Line
 pub mod Text
 pub mod ItemCounts

@@ -1,5 +1,5 @@
 -- What reading returns, by the bytes that the reader had and has left, and by whether it failed.
-use Rattle.std.specs.Prelude.{◌≡◌, ◌≢◌, ℕ, Bool, true, false, List, [], ◌++◌, Option, Some, Result, Ok, Err, IfSome, MatchResult, unwrap_or}
+use Rattle.std.specs.Prelude.{◌≡◌, ◌≢◌, ℕ, Bool, true, false, List, [], ◌++◌, Option, Some, Result, Ok, Err, IfErr, IfOk, IfSome, IsErr, MatchResult, unwrap_or}
 use Rattle.std.specs.Io.KnownBytes.{Consumes}
 use Rattle.basket_sets.specs.declared.weighted.Weighted.{Weighted}
 use Rattle.basket_sets.specs.ItemTable.{HasCounted}
@@ -7,6 +7,7 @@ use Rattle.basket_read.specs.declared.fault.ReadFault.{ReadFault}
 use Rattle.basket_read.specs.declared.fault.ReadFault.TheVariants.{Memory, Read}
 use Rattle.basket_read.specs.declared.item_counts.ItemCounts.{ItemCounts}
 use Rattle.basket_read.specs.Fimi.{fault_in, fimi_of}
+use Rattle.basket_read.specs.ItemCounts.{AreLightCounts, Counts}
 use Rattle.basket_read.specs.Text.{Answers}
 
 -- a result after a failure: except if memory is out, the fault that was found, else `Read`
@@ -17,6 +18,21 @@ TellsFailure (Err fault) found = fault ≢ Memory → fault ≡ unwrap_or found 
 -- a reader with these bytes gave some of them, has those left, and failed: the answer is the fault in what it gave, else `Read`
 abbrev pub FailsAfter : List ℕ → Option (List ℕ) → Result (List Weighted) ReadFault → Type 0
 FailsAfter bytes left answer = (given : List ℕ) × Consumes (Some bytes) left given × TellsFailure answer (fault_in given)
+
+-- what is read of a reader that had these bytes, has those left, and failed or not: the result that is defined of all bytes, or, after a failure, the fault in those that it gave, else `Read`
+pub record ReadsAs (defined : List ℕ → Result (List Weighted) ReadFault) (old new : Option (List ℕ)) (broken : Bool) (result : Result (List Weighted) ReadFault) : Type 0 where
+  pub exact : broken ≡ false → IfSome old (λ bytes. Answers result (defined bytes))
+  pub failed : broken ≡ true → IfSome old (λ bytes. FailsAfter bytes new result)
+  pub failed_is_err : broken ≡ true → IsErr result
+  pub read_is_failed : result ≡ Err Read → broken ≡ true
+
+-- the same where baskets are counted; even if the reader doesn't report its bytes, the counts are those of some baskets
+pub record CountsAs (defined : List ℕ → Result (List Weighted) ReadFault) (old new : Option (List ℕ)) (broken : Bool) (result : Result ItemCounts ReadFault) : Type 0 where
+  pub exact : broken ≡ false → IfSome old (λ bytes. Counts result (defined bytes))
+  pub light : IfOk result AreLightCounts
+  pub failed : broken ≡ true → IfErr result (λ fault. IfSome old (λ bytes. FailsAfter bytes new (Err fault)))
+  pub failed_is_err : broken ≡ true → IsErr result
+  pub read_is_failed : result ≡ Err Read → broken ≡ true
 
 -- all bytes were read: the answer to them is the baskets that were counted, none unless they are to be, and those that are kept
 pub record Ends (counting : Bool) (old : Option (List ℕ)) (failed : Bool) (counts : ItemCounts) : Type 0 where

@@ -1,18 +1,15 @@
-//! What a byte can be in a FIMI text, and runs of blanks.
+//! What a byte can be among numbers, and runs of blanks.
 ghost use Rattle.std.specs.Prelude.{◌≡◌, ◌≤◌, length, take, true};
 ghost use Rattle.std.specs.List.{list_all};
 ghost use Rattle.basket_read.specs.Fimi.{is_blank};
-ghost use Rattle.basket_read.specs.Line.{IsClass};
+ghost use Rattle.basket_read.specs.Numbers.{IsClass};
 
-/// What a byte can be in a FIMI text.
+/// What a byte can be among numbers.
 #[derive(Clone, Copy)]
 pub enum Class {
     /// A digit, by its value.
     Digit(u8),
     Blank,
-    /// The `x` after a weight.
-    Times,
-    LineFeed,
     Other,
 }
 
@@ -34,8 +31,6 @@ pub fn class_of(byte: u8) -> Class
     }
     match byte {
         b' ' | b'\t' | b'\r' => Class::Blank,
-        b'x' => Class::Times,
-        b'\n' => Class::LineFeed,
         _ => Class::Other,
     }
 }
@@ -43,7 +38,7 @@ pub fn class_of(byte: u8) -> Class
 /// How many blanks to take from the beginning of the bytes. After a number that is at most one,
 /// since mostly another number follows.
 #[inline(always)]
-pub fn blanks_behind(number: bool, bytes: &[u8]) -> usize
+pub(crate) fn blanks_behind(number: bool, bytes: &[u8]) -> usize
     ensures within { result ≤ length bytes.now }
     ensures blanks { list_all is_blank (take result bytes.now) ≡ true }
 {

@@ -10,15 +10,18 @@ pub mod laws;
 mod line;
 mod lines;
 mod number;
+mod numbers;
 mod parts;
 mod read;
 mod shared;
 mod text;
 pub mod worked;
 
+pub use class::{Class, class_of};
 pub use counted_line::CountedLine;
 pub use fault::ReadFault;
 pub use item_counts::ItemCounts;
+pub use numbers::Numbers;
 pub use parts::FimiParts;
 pub use read::{MAX_BLOCK, count_fimi, read_fimi, read_fimi_by};
 pub use shared::{count_fimi_shared, read_fimi_shared};

@@ -1,10 +1,7 @@
 //! Reading a FIMI input block by block.
-ghost use Rattle.std.specs.Prelude.{◌≡◌, ◌≤◌, true, false, IfErr, IfOk, IfSome, IsErr, Err};
-ghost use Rattle.basket_read.specs.declared.fault.ReadFault.TheVariants.{Read};
+ghost use Rattle.std.specs.Prelude.{◌≡◌, ◌≤◌, false};
 ghost use Rattle.basket_read.specs.Fimi.{fimi_of};
-ghost use Rattle.basket_read.specs.Text.{Answers};
-ghost use Rattle.basket_read.specs.ItemCounts.{AreLightCounts, Counts};
-ghost use Rattle.basket_read.specs.Read.{FailsAfter, Reads};
+ghost use Rattle.basket_read.specs.Read.{CountsAs, Reads, ReadsAs};
 
 use crate::fault::ReadFault;
 use crate::input::Input;
@@ -22,13 +19,7 @@ pub(crate) const BLOCK: usize = 65_536;
 /// Reads a FIMI input to its end, in blocks of 65,536 bytes.
 pub fn read_fimi<S: Source>(alloc: Global, reader: &mut S) -> Result<Database, ReadFault>
     requires { S.has_failed reader.old ≡ false }
-    // If the reader doesn't fail, the result is that of all its bytes.
-    ensures exact { S.has_failed reader.new ≡ false → IfSome (S.left reader.old) (λ bytes. Answers result (fimi_of bytes)) }
-    // If it fails, the result is the fault in the bytes that it gave, else `Read`.
-    ensures failed { S.has_failed reader.new ≡ true → IfSome (S.left reader.old) (λ bytes. FailsAfter bytes (S.left reader.new) result) }
-    // Even if the reader doesn't report its bytes.
-    ensures failed_is_err { S.has_failed reader.new ≡ true → IsErr result }
-    ensures read_is_failed { result ≡ Err Read → S.has_failed reader.new ≡ true }
+    ensures { ReadsAs fimi_of (S.left reader.old) (S.left reader.new) (S.has_failed reader.new) result }
 {
     read_fimi_by(alloc, reader, BLOCK)
 }
@@ -42,13 +33,7 @@ pub fn read_fimi_by<S: Source>(
     requires fresh { S.has_failed reader.old ≡ false }
     requires some { 1 ≤ block }
     requires few { block ≤ MAX_BLOCK }
-    // If the reader doesn't fail, the result is that of all its bytes.
-    ensures exact { S.has_failed reader.new ≡ false → IfSome (S.left reader.old) (λ bytes. Answers result (fimi_of bytes)) }
-    // If it fails, the result is the fault in the bytes that it gave, else `Read`.
-    ensures failed { S.has_failed reader.new ≡ true → IfSome (S.left reader.old) (λ bytes. FailsAfter bytes (S.left reader.new) result) }
-    // Even if the reader doesn't report its bytes.
-    ensures failed_is_err { S.has_failed reader.new ≡ true → IsErr result }
-    ensures read_is_failed { result ≡ Err Read → S.has_failed reader.new ≡ true }
+    ensures { ReadsAs fimi_of (S.left reader.old) (S.left reader.new) (S.has_failed reader.new) result }
 {
     read_blocks(alloc, reader, block, false).map(ItemCounts::into_rest)
 }
@@ -58,15 +43,7 @@ pub fn read_fimi_by<S: Source>(
 /// a table.
 pub fn count_fimi<S: Source>(alloc: Global, reader: &mut S) -> Result<ItemCounts, ReadFault>
     requires { S.has_failed reader.old ≡ false }
-    // If the reader doesn't fail, the result is that of all its bytes.
-    ensures exact { S.has_failed reader.new ≡ false → IfSome (S.left reader.old) (λ bytes. Counts result (fimi_of bytes)) }
-    // Even if the reader doesn't report its bytes, the counts are those of some baskets.
-    ensures light { IfOk result AreLightCounts }
-    // If it fails, the result is the fault in the bytes that it gave, else `Read`.
-    ensures failed { S.has_failed reader.new ≡ true → IfErr result (λ fault. IfSome (S.left reader.old) (λ bytes. FailsAfter bytes (S.left reader.new) (Err fault))) }
-    // Even if the reader doesn't report its bytes.
-    ensures failed_is_err { S.has_failed reader.new ≡ true → IsErr result }
-    ensures read_is_failed { result ≡ Err Read → S.has_failed reader.new ≡ true }
+    ensures { CountsAs fimi_of (S.left reader.old) (S.left reader.new) (S.has_failed reader.new) result }
 {
     read_blocks(alloc, reader, BLOCK, true)
 }

@@ -1,11 +1,8 @@
 //! Reading a FIMI input by several workers.
-ghost use Rattle.std.specs.Prelude.{◌≡◌, ◌<◌, ◌≤◌, ◌^◌, true, false, length, take, IfErr, IfOk, IfSome, IsErr, OnErr, Err};
+ghost use Rattle.std.specs.Prelude.{◌≡◌, ◌<◌, ◌≤◌, ◌^◌, false, length, take, IfOk, OnErr};
 ghost use Rattle.std.specs.Io.KnownBytes.{Consumes, IsAtEnd};
-ghost use Rattle.basket_read.specs.declared.fault.ReadFault.TheVariants.{Read};
 ghost use Rattle.basket_read.specs.Fimi.{fimi_of};
-ghost use Rattle.basket_read.specs.Text.{Answers};
-ghost use Rattle.basket_read.specs.ItemCounts.{AreLightCounts, Counts};
-ghost use Rattle.basket_read.specs.Read.{FailsAfter, Reads};
+ghost use Rattle.basket_read.specs.Read.{CountsAs, Reads, ReadsAs};
 
 use crate::fault::ReadFault;
 use crate::input::Input;
@@ -31,13 +28,7 @@ pub fn read_fimi_shared<R: Threads + Sync, S: Source>(
     workers: u32,
 ) -> Result<Database, ReadFault>
     requires { S.has_failed reader.old ≡ false }
-    // If the reader doesn't fail, the result is that of all its bytes.
-    ensures exact { S.has_failed reader.new ≡ false → IfSome (S.left reader.old) (λ bytes. Answers result (fimi_of bytes)) }
-    // If it fails, the result is the fault in the bytes that it gave, else `Read`.
-    ensures failed { S.has_failed reader.new ≡ true → IfSome (S.left reader.old) (λ bytes. FailsAfter bytes (S.left reader.new) result) }
-    // Even if the reader doesn't report its bytes.
-    ensures failed_is_err { S.has_failed reader.new ≡ true → IsErr result }
-    ensures read_is_failed { result ≡ Err Read → S.has_failed reader.new ≡ true }
+    ensures { ReadsAs fimi_of (S.left reader.old) (S.left reader.new) (S.has_failed reader.new) result }
 {
     if workers < 2 {
         return read_fimi(alloc, reader);
@@ -53,15 +44,7 @@ pub fn count_fimi_shared<R: Threads + Sync, S: Source>(
     workers: u32,
 ) -> Result<ItemCounts, ReadFault>
     requires { S.has_failed reader.old ≡ false }
-    // If the reader doesn't fail, the result is that of all its bytes.
-    ensures exact { S.has_failed reader.new ≡ false → IfSome (S.left reader.old) (λ bytes. Counts result (fimi_of bytes)) }
-    // Even if the reader doesn't report its bytes, the counts are those of some baskets.
-    ensures light { IfOk result AreLightCounts }
-    // If it fails, the result is the fault in the bytes that it gave, else `Read`.
-    ensures failed { S.has_failed reader.new ≡ true → IfErr result (λ fault. IfSome (S.left reader.old) (λ bytes. FailsAfter bytes (S.left reader.new) (Err fault))) }
-    // Even if the reader doesn't report its bytes.
-    ensures failed_is_err { S.has_failed reader.new ≡ true → IsErr result }
-    ensures read_is_failed { result ≡ Err Read → S.has_failed reader.new ≡ true }
+    ensures { CountsAs fimi_of (S.left reader.old) (S.left reader.new) (S.has_failed reader.new) result }
 {
     if workers < 2 {
         return count_fimi(alloc, reader);

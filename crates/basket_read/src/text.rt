@@ -1,15 +1,15 @@
 //! A text of which not all has been read.
-ghost use Rattle.std.specs.Prelude.{◌≡◌, ◌≢◌, ◌<◌, ◌≤◌, ◌+◌, ◌⊎◌, ℕ, List, [], ◌∷◌, ◌++◌, length, take, false, OnOk, IfOk, IfErr, IsTrue, MatchResult};
+ghost use Rattle.std.specs.Prelude.{◌≡◌, ◌≢◌, ◌<◌, ◌≤◌, ◌+◌, ◌⊎◌, ℕ, List, [], ◌∷◌, ◌++◌, length, take, false, if◌then◌else◌, unwrap_or, OnOk, IfOk, IfErr, IsTrue, MatchResult};
 ghost use Rattle.basket_sets.specs.declared.weighted.Weighted.{Weighted};
 ghost use Rattle.basket_sets.specs.Database.{MOST_BASKETS};
 ghost use Rattle.basket_sets.specs.ItemTable.{HasCounted};
 ghost use Rattle.basket_sets.specs.Support.{total_of};
 ghost use Rattle.basket_read.specs.Cut.{cut_at};
-ghost use Rattle.basket_read.specs.Fimi.{is_line_feed, first_fault, basket_of_numbers, baskets_of, if_light};
-ghost use Rattle.basket_read.specs.Line.{line_state, line_at, blank_added};
+ghost use Rattle.basket_read.specs.Fimi.{is_line_feed, first_fault, basket_of_numbers, baskets_of, if_light, MOST_BYTES};
+ghost use Rattle.basket_sets.specs.Number.{is_digit};
+ghost use Rattle.basket_read.specs.Line.{line_state, line_at, line_ended};
 ghost use Rattle.basket_read.specs.Text.{CountsBehind, GoesOn, HasBaskets, HasJoined, HasRoom, HasRoomFor, IsTextSoFar, Tells};
 
-use crate::class::{Class, class_of};
 use crate::fault::ReadFault;
 use crate::item_counts::ItemCounts;
 use crate::line::Line;
@@ -55,7 +55,7 @@ impl Text {
     {
         let mut taken = 0;
         loop {
-            taken += self.take_numbers(&piece[taken..])?;
+            taken += self.take_run(&piece[taken..])?;
             match piece.get(taken) {
                 Some(byte) => self.take(*byte)?,
                 None => return Ok(()),
@@ -66,7 +66,7 @@ impl Text {
 
     /// Takes leading digits and blanks of the piece, as many as the line takes.
     #[inline(always)]
-    fn take_numbers(&mut self, piece: &[u8]) -> Result<usize, ReadFault>
+    fn take_run(&mut self, piece: &[u8]) -> Result<usize, ReadFault>
         ensures within { IfOk result (λ taken. taken ≤ length piece.now) }
         ensures text { (past : List Weighted) (bytes : List ℕ) → IsTextSoFar self.old past bytes →
             IfOk result (λ taken. IsTextSoFar self.new past (bytes ++ take taken piece.now)) }
@@ -76,7 +76,7 @@ impl Text {
         if let Some(b'\n') = piece.first() {
             return Ok(0);
         }
-        Ok(self.line.take_numbers(piece)?)
+        Ok(self.line.take_run(piece)?)
     }
 
     /// Takes a byte.
@@ -86,35 +86,28 @@ impl Text {
         ensures { (past : List Weighted) (bytes : List ℕ) → IsTextSoFar self.old past bytes →
             MatchResult result (λ _. IsTextSoFar self.new past (bytes ++ byte ∷ [])) (λ fault. Tells fault (first_fault (bytes ++ byte ∷ []))) }
     {
-        match class_of(byte) {
-            Class::Digit(digit) => {
-                if !self.line.add_digit(digit) {
-                    return Err(ReadFault::Number {
-                        line: self.lines + 1,
-                    });
-                }
-            }
-            Class::Blank => self.line.add_blank()?,
-            Class::Times => {
-                if !self.line.add_times() {
-                    return Err(ReadFault::Byte {
-                        line: self.lines + 1,
-                        byte,
-                    });
-                }
-            }
-            Class::LineFeed => {
-                self.end_line()?;
-                self.lines += 1;
-            }
-            Class::Other => {
-                return Err(ReadFault::Byte {
-                    line: self.lines + 1,
-                    byte,
-                });
-            }
+        if byte == b'\n' {
+            self.end_line()?;
+            self.lines += 1;
+            return Ok(());
+        }
+        if !self.line.take(byte)? {
+            return Err(self.fault_at(byte));
         }
         Ok(())
+    }
+
+    /// The fault of a byte that can't stand here.
+    fn fault_at(&self, byte: u8) -> ReadFault
+        requires { self.now.lines < MOST_BYTES }
+        ensures { result ≡ (if is_digit byte then ReadFault.Number (self.now.lines + 1) else ReadFault.Byte (self.now.lines + 1) byte) }
+    {
+        let line = self.lines + 1;
+        if byte.is_ascii_digit() {
+            ReadFault::Number { line }
+        } else {
+            ReadFault::Byte { line, byte }
+        }
     }
 
     /// Adds the line's basket, if it has a number, and begins a new line.
@@ -125,11 +118,11 @@ impl Text {
         ensures lines { self.new.lines ≡ self.old.lines }
         ensures table { self.new.table ≡ self.old.table }
         ensures baskets { (past baskets : List Weighted) → self.old.table.total ≡ total_of past → HasBaskets self.old.heavy (past ++ self.old.baskets) baskets →
-            let line = blank_added (line_state self.old.line) in
-            OnOk result (HasBaskets self.new.heavy (past ++ self.new.baskets) (baskets ++ basket_of_numbers line.numbers line.weight)) }
+            let line = line_ended (line_state self.old.line) in
+            OnOk result (HasBaskets self.new.heavy (past ++ self.new.baskets) (baskets ++ basket_of_numbers line.numbers.ended (unwrap_or line.weight 1))) }
         ensures err { IfErr result (λ fault. fault ≡ ReadFault.Memory) }
     {
-        self.line.add_blank()?;
+        self.line.end()?;
         let numbers = self.line.numbers();
         if !numbers.is_empty() {
             let weight = u64::from(self.line.weight());

@@ -1,7 +1,11 @@
--- How a cut list goes on with one more element.
-use Rattle.std.proofs.Common.{◌≡◌, ℕ, Bool, true, false, List, [], ◌∷◌, ◌++◌, cond, ap, ◌∙◌}
+-- How a cut list goes on.
+use Rattle.std.proofs.Common.{◌≡◌, ℕ, Bool, true, false, List, [], ◌∷◌, ◌++◌, cond, sym, ap, ◌∙◌, append_assoc, ◌+◌, ◌≤◌, length, fold, suc, arith}
+use Rattle.std.specs.List.{list_all}
+use Rattle.std.proofs.lemmas.Bool.{and_parts}
+use Rattle.std.proofs.lemmas.List.{append-nil, length-append}
 use Rattle.std.proofs.lemmas.List.Sums.{fold_push}
 use Rattle.basket_read.specs.Cut.{Cut, cut_more, cut_at}
+use Rattle.basket_read.specs.Grammar.{FrontsAreGood}
 
 abbrev pub cut : List (List ℕ) → List ℕ → Cut
 cut ended last = record { ended = ended; last = last }
@@ -20,3 +24,39 @@ pub cut_joined : (p : ℕ → Bool) (xs : List ℕ) (x : ℕ) → p x ≡ false 
 cut_joined p xs x h =
     cut_push p xs x
     ∙ ap (λ b. cond b (cut ((cut_at p xs).ended ++ (cut_at p xs).last ∷ []) []) (cut (cut_at p xs).ended ((cut_at p xs).last ++ x ∷ []))) h
+
+-- and so do several with which the last part is good, if no separator stands in a good part
+pub cut_on : (p : ℕ → Bool) (good : List ℕ → Bool) → FrontsAreGood good → ((part : List ℕ) (x : ℕ) → good (part ++ x ∷ []) ≡ true → p x ≡ false)
+    → (xs run : List ℕ) → good ((cut_at p xs).last ++ run) ≡ true → cut_at p (xs ++ run) ≡ cut (cut_at p xs).ended ((cut_at p xs).last ++ run)
+cut_on p good fronts none xs [] h = ap (cut_at p) (append-nil xs) ∙ ap (cut (cut_at p xs).ended) (sym (append-nil (cut_at p xs).last))
+cut_on p good fronts none xs (x ∷ run) h =
+    let k = cut_at p xs in
+    let whole : good ((k.last ++ x ∷ []) ++ run) ≡ true = ap good (append_assoc k.last (x ∷ []) run) ∙ h in
+    let joined = cut_joined p xs x (none k.last x (fronts (k.last ++ x ∷ []) run whole)) in
+    ap (cut_at p) (sym (append_assoc xs (x ∷ []) run))
+    ∙ cut_on p good fronts none (xs ++ x ∷ []) run (ap (λ (j : Cut). good (j.last ++ run)) joined ∙ whole)
+    ∙ ap (λ (j : Cut). cut j.ended (j.last ++ run)) joined
+    ∙ ap (cut k.ended) (append_assoc k.last (x ∷ []) run)
+
+-- and so do several that are no separators
+pub cut_on_by : (p q : ℕ → Bool) (xs ys : List ℕ) → ((y : ℕ) → q y ≡ true → p y ≡ false) → list_all q ys ≡ true → cut_at p (xs ++ ys) ≡ cut (cut_at p xs).ended ((cut_at p xs).last ++ ys)
+cut_on_by p q xs [] other h = ap (cut_at p) (append-nil xs) ∙ ap (cut (cut_at p xs).ended) (sym (append-nil (cut_at p xs).last))
+cut_on_by p q xs (y ∷ ys) other h =
+    let parts = and_parts (q y) (list_all q ys) h in
+    ap (cut_at p) (sym (append_assoc xs (y ∷ []) ys)) ∙ cut_on_by p q (xs ++ y ∷ []) ys other parts.1
+    ∙ ap (λ (k : Cut). cut k.ended (k.last ++ ys)) (cut_joined p xs y (other y parts.0))
+    ∙ ap (cut (cut_at p xs).ended) (append_assoc (cut_at p xs).last (y ∷ []) ys)
+
+abbrev pub size : Cut → ℕ
+size k = length k.ended + length k.last
+
+-- the parts that have ended and the elements of the last are at most as many as all elements
+pub size_after : (p : ℕ → Bool) (c : Cut) (xs : List ℕ) → size (fold (cut_more p) c xs) ≤ size c + length xs
+size_after p c [] = omega arith
+size_after p c (x ∷ xs) = at (p x) (size_after p (cut (c.ended ++ c.last ∷ []) []) xs) (size_after p (cut c.ended (c.last ++ x ∷ [])) xs)
+  where
+    at : (b : Bool) → size (fold (cut_more p) (cut (c.ended ++ c.last ∷ []) []) xs) ≤ size (cut (c.ended ++ c.last ∷ []) []) + length xs
+        → size (fold (cut_more p) (cut c.ended (c.last ++ x ∷ [])) xs) ≤ size (cut c.ended (c.last ++ x ∷ [])) + length xs
+        → size (fold (cut_more p) (cond b (cut (c.ended ++ c.last ∷ []) []) (cut c.ended (c.last ++ x ∷ []))) xs) ≤ size c + suc (length xs)
+    at true ended joined = let one = length-append c.ended (c.last ∷ []) in omega arith
+    at false ended joined = let one = length-append c.last (x ∷ []) in omega arith

@@ -12,11 +12,11 @@ pub take-requires : goal.take-requires
 take-requires c =
     let i = c.loop-taken.taken + c.in_ok-taken.field-0 in
     let here = c.in-Some.ensures.lookup.3 in
-    room_after c.args.self.now c.take_numbers.new.self (take i c.args.piece.now) 1 (length c.args.piece.now)
+    room_after c.args.self.now c.take_run.new.self (take i c.args.piece.now) 1 (length c.args.piece.now)
     (omega (arith, length-take i c.args.piece.now, here.0)) c.requires
     (λ past bytes t. (
       past,
-      subst (IsTextSoFar c.take_numbers.new.self past) (behind_both bytes c.args.piece.now c.loop-taken.taken c.in_ok-taken.field-0)
+      subst (IsTextSoFar c.take_run.new.self past) (behind_both bytes c.args.piece.now c.loop-taken.taken c.in_ok-taken.field-0)
           (c.in_ok-taken.ensures.text past (bytes ++ take c.loop-taken.taken c.args.piece.now) (c.loop-taken.invariant.text past bytes t)),
     ))
 
@@ -24,7 +24,7 @@ pub returns-in_err-take-in-Some : goal.returns-in_err-take-in-Some
 returns-in_err-take-in-Some c = λ past bytes t.
     let i = c.loop-taken.taken + c.in_ok-taken.field-0 in
     let here = c.in-Some.ensures.lookup.3 in
-    let so_far = subst (IsTextSoFar c.take_numbers.new.self past) (behind_both bytes c.args.piece.now c.loop-taken.taken c.in_ok-taken.field-0)
+    let so_far = subst (IsTextSoFar c.take_run.new.self past) (behind_both bytes c.args.piece.now c.loop-taken.taken c.in_ok-taken.field-0)
     (c.in_ok-taken.ensures.text past (bytes ++ take c.loop-taken.taken c.args.piece.now) (c.loop-taken.invariant.text past bytes t)) in
     let p = err_from_is_err_and c.from_residual-in_err-take-in-Some.result c.from_residual-in_err-take-in-Some.ensures.1 in
     rw (p.1, p.2) (fault_in_piece bytes c.args.piece.now i c.in_err-take-in-Some.field-0.0 here.0
@@ -37,7 +37,7 @@ loop-taken-preserved c =
     record {
       within = omega (arith, here.0);
       text = λ past bytes t.
-          let so_far = subst (IsTextSoFar c.take_numbers.new.self past) (behind_both bytes c.args.piece.now c.loop-taken.taken c.in_ok-taken.field-0)
+          let so_far = subst (IsTextSoFar c.take_run.new.self past) (behind_both bytes c.args.piece.now c.loop-taken.taken c.in_ok-taken.field-0)
           (c.in_ok-taken.ensures.text past (bytes ++ take c.loop-taken.taken c.args.piece.now) (c.loop-taken.invariant.text past bytes t)) in
           subst (IsTextSoFar c.take.new.self past) (take_next bytes c.args.piece.now i here.0)
           (subst (λ byte. IsTextSoFar c.take.new.self past ((bytes ++ take i c.args.piece.now) ++ byte ∷ [])) (here.1 0) (c.in_ok-take-in-Some.ensures past (bytes ++ take i c.args.piece.now) so_far));

@@ -1,52 +1,33 @@
-use Rattle.std.proofs.Common.{◌+◌, arith, ap, ◌∙◌, cond, Some, None, sym}
-use Rattle.basket_read.specs.Line.{line_state}
+use Rattle.std.proofs.Common.{◌+◌, ◌++◌, ◌∷◌, [], ap, subst, sym, ◌∙◌, Some, arith}
+use Rattle.std.proofs.lemmas.Bool.{ne_eqb}
+use Rattle.basket_read.specs.Cut.{cut_at}
+use Rattle.basket_read.specs.Fimi.{is_line_feed}
+use Rattle.basket_read.specs.Line.{IsTaken}
 use Rattle.basket_read.proofs.RoomLemmas.{few_lines, few_baskets}
-use Rattle.basket_read.proofs.TextLemmas.{takes_digit, refuses_digit, takes_blank, takes_times, refuses_times, refuses_other, takes_line_feed}
+use Rattle.basket_read.proofs.TextLemmas.{line_so_far, goes_on, refuses, takes_line_feed}
 use Rattle.basket_read.proofs.text.Text.take.Goals as goal
-
-pub overflow_add-result : goal.overflow_add-result
-overflow_add-result c = omega (arith, few_lines c.args.self.now 0 c.requires)
-
-pub returns-then-not-add_digit : goal.returns-then-not-add_digit
-returns-then-not-add_digit c = λ past bytes t _.
-    refuses_digit c.args.self.now past bytes t c.args.byte c.in-Digit.digit c.in-Digit.ensures.0 c.in-Digit.ensures.1
-    (ap (λ b. cond b (Some (line_state c.add_digit.new.self)) None) (sym c.if-not-add_digit.true) ∙ c.add_digit.ensures)
-
-pub overflow_add-result-then-not-add_times : goal.overflow_add-result-then-not-add_times
-overflow_add-result-then-not-add_times c = omega (arith, few_lines c.args.self.now 0 c.requires)
-
-pub returns-then-not-add_times : goal.returns-then-not-add_times
-returns-then-not-add_times c = λ past bytes t _.
-    refuses_times c.args.self.now past bytes t c.args.byte c.in-Times.ensures
-    (ap (λ b. cond b (Some (line_state c.add_times.new.self)) None) (sym c.if-not-add_times.true) ∙ c.add_times.ensures)
 
 pub end_line-requires : goal.end_line-requires
 end_line-requires c = few_baskets c.args.self.now 1 c.requires
 
 pub overflow_add-self : goal.overflow_add-self
-overflow_add-self c = omega (arith, few_lines c.args.self.now 0 c.requires, c.in_ok-end_line-in-LineFeed.ensures.lines)
+overflow_add-self c = omega (arith, few_lines c.args.self.now 0 c.requires, c.in_ok-end_line.ensures.lines)
 
-pub overflow_add-result-in-Other : goal.overflow_add-result-in-Other
-overflow_add-result-in-Other c = omega (arith, few_lines c.args.self.now 0 c.requires)
+pub fault_at-requires : goal.fault_at-requires
+fault_at-requires c = omega (arith, few_lines c.args.self.now 0 c.requires)
 
-pub returns-in-Other : goal.returns-in-Other
-returns-in-Other c = λ past bytes t _.
-    refuses_other c.args.self.now past bytes t c.args.byte c.in-Other.ensures.0 c.in-Other.ensures.1 c.in-Other.ensures.2 c.in-Other.ensures.3
+pub returns-then-byte-eq10 : goal.returns-then-byte-eq10
+returns-then-byte-eq10 c = λ past bytes t.
+    takes_line_feed c.args.self.now past bytes t _ c.args.byte (ap is_line_feed c.if-byte-eq10.true) c.in_ok-end_line.ensures.line
+    (ap (λ n. n + 1) c.in_ok-end_line.ensures.lines) (λ baskets. c.in_ok-end_line.ensures.baskets past baskets t.counted.total) c.in_ok-end_line.ensures.table
 
-pub returns-else-not-add_digit : goal.returns-else-not-add_digit
-returns-else-not-add_digit c = λ past bytes t.
-    takes_digit c.args.self.now past bytes t c.add_digit.new.self c.args.byte c.in-Digit.digit c.in-Digit.ensures.0 c.in-Digit.ensures.1
-    (ap (λ b. cond b (Some (line_state c.add_digit.new.self)) None) (sym c.if-not-add_digit.false) ∙ c.add_digit.ensures)
+pub returns-then-not-branch : goal.returns-then-not-branch
+returns-then-not-branch c = λ past bytes t _.
+    refuses c.args.self.now past bytes t c.args.byte (ne_eqb c.args.byte 10 c.if-byte-eq10.false)
+    (subst (λ taken. IsTaken taken c.take.new.self ((cut_at is_line_feed bytes).last ++ c.args.byte ∷ [])) c.if-not-branch.true (c.in_ok-take.ensures (cut_at is_line_feed bytes).last (line_so_far c.args.self.now past bytes t)))
+    ∙ ap Some (sym c.fault_at.ensures)
 
-pub returns-in_ok-add_blank-in-Blank : goal.returns-in_ok-add_blank-in-Blank
-returns-in_ok-add_blank-in-Blank c = λ past bytes t. takes_blank c.args.self.now past bytes t c.add_blank.new.self c.args.byte c.in-Blank.ensures c.in_ok-add_blank-in-Blank.ensures
-
-pub returns-else-not-add_times : goal.returns-else-not-add_times
-returns-else-not-add_times c = λ past bytes t.
-    takes_times c.args.self.now past bytes t c.add_times.new.self c.args.byte c.in-Times.ensures
-    (ap (λ b. cond b (Some (line_state c.add_times.new.self)) None) (sym c.if-not-add_times.false) ∙ c.add_times.ensures)
-
-pub returns-in_ok-end_line-in-LineFeed : goal.returns-in_ok-end_line-in-LineFeed
-returns-in_ok-end_line-in-LineFeed c = λ past bytes t.
-    takes_line_feed c.args.self.now past bytes t _ c.args.byte c.in-LineFeed.ensures c.in_ok-end_line-in-LineFeed.ensures.line
-    (ap (λ n. n + 1) c.in_ok-end_line-in-LineFeed.ensures.lines) (λ baskets. c.in_ok-end_line-in-LineFeed.ensures.baskets past baskets t.counted.total) c.in_ok-end_line-in-LineFeed.ensures.table
+pub returns : goal.returns
+returns c = λ past bytes t.
+    goes_on c.args.self.now past bytes t c.take.new.self (c.args.byte ∷ [])
+    (subst (λ taken. IsTaken taken c.take.new.self ((cut_at is_line_feed bytes).last ++ c.args.byte ∷ [])) c.if-not-branch.false (c.in_ok-take.ensures (cut_at is_line_feed bytes).last (line_so_far c.args.self.now past bytes t)))

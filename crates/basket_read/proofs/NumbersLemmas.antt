@@ -1,0 +1,121 @@
+-- How numbers that are being read go on.
+use Rattle.std.proofs.Common.{◌≡◌, ◌≢◌, ℕ, ◌+◌, ◌*◌, ◌-◌, ◌≤◌, Bool, true, false, leb, ltb, List, [], ◌∷◌, ◌++◌, length, cond, Option, Some, None, refl, sym, ap, ◌∙◌, subst, arith}
+use Rattle.std.specs.Prelude.{unwrap_or}
+use Rattle.std.specs.List.{list_all}
+use Rattle.std.proofs.lemmas.Bool.{and_from, leb-true, lt-ltb}
+use Rattle.basket_sets.specs.Number.{is_digit, value_of}
+use Rattle.basket_sets.proofs.theory.Numerals.{value_push}
+use Rattle.basket_read.specs.declared.numbers.Numbers.{Numbers}
+use Rattle.basket_read.specs.Cut.{cut_at}
+use Rattle.basket_read.specs.Fimi.{is_blank, are_numbers, MOST_NUMBER}
+use Rattle.basket_read.specs.Number.{number_with}
+use Rattle.basket_read.specs.Numbers.{NumbersState, numbers_state, begun_of, values_of, number_ended, IsNumbersSoFar}
+use Rattle.basket_read.proofs.theory.Numbers.{ended_at, refuses_digit, takes_digits, takes_blanks}
+use Rattle.basket_read.proofs.theory.Grammar as grammar
+
+abbrev held : Option ℕ → List ℕ → NumbersState
+held begun ended = record { begun = begun; ended = ended }
+
+-- whether a number is added changes none that has begun
+pub begun_kept : (added : Bool) (begun : Option ℕ) (more ended : List ℕ) → (cond added (held begun more) (held begun ended)).begun ≡ begun
+begun_kept true begun more ended = refl
+begun_kept false begun more ended = refl
+
+begun_value : (word : List ℕ) → unwrap_or (begun_of word) 0 ≡ value_of word
+begun_value [] = refl
+begun_value (d ∷ word) = refl
+
+begun_some : (word more : List ℕ) → more ≢ [] → begun_of (word ++ more) ≡ Some (value_of (word ++ more))
+begun_some [] [] some = absurd (some refl)
+begun_some [] (d ∷ more) some = refl
+begun_some (d ∷ word) more some = refl
+
+module _ (old : Numbers) (text : List ℕ) (so_far : IsNumbersSoFar old text) where
+  abbrev last : List ℕ
+  last = (cut_at is_blank text).last
+
+  begun : old.begun ≡ begun_of last
+  begun = ap (λ (s : NumbersState). s.begun) so_far.state
+
+  ended : old.ended.items ≡ values_of (cut_at is_blank text).ended
+  ended = ap (λ (s : NumbersState). s.ended) so_far.state
+
+  -- ---- one digit
+
+  -- the digit of a byte, and the number so far
+  with_one : (byte digit : ℕ) → is_digit byte ≡ true → byte ≡ 48 + digit → unwrap_or old.begun 0 * 10 + digit ≡ value_of last * 10 + (byte - 48)
+  with_one byte digit d e =
+      let same : digit ≡ byte - 48 = omega arith in
+      λ i. (ap (λ b. unwrap_or b 0) begun ∙ begun_value last) i * 10 + same i
+
+  pub takes_digit : (new : Numbers) (byte digit value : ℕ) → is_digit byte ≡ true → byte ≡ 48 + digit → number_with (unwrap_or old.begun 0) digit ≡ Some value
+      → numbers_state new ≡ record { begun = Some value; ended = old.ended.items } → IsNumbersSoFar new (text ++ byte ∷ [])
+  takes_digit new byte digit value d e is new_is =
+      let k = grammar.chosen value (unwrap_or old.begun 0 * 10 + digit) _ (sym is) in
+      let value_is : value_of (last ++ byte ∷ []) ≡ value = value_push last byte ∙ sym (with_one byte digit d e) ∙ sym k.1 in
+      let below = leb-true (unwrap_or old.begun 0 * 10 + digit) MOST_NUMBER k.0 in
+      takes_digits new text (byte ∷ []) so_far.good (and_from (is_digit byte) true d refl)
+      (subst (λ v. v ≤ MOST_NUMBER) (sym (value_is ∙ k.1)) below)
+      (new_is ∙ (λ i. record { begun = (ap Some (sym value_is) ∙ sym (begun_some last (byte ∷ []) (λ e. cc))) i; ended = ended i }))
+
+  pub takes_no_digit : (byte digit : ℕ) → is_digit byte ≡ true → byte ≡ 48 + digit → number_with (unwrap_or old.begun 0) digit ≡ None → are_numbers (text ++ byte ∷ []) ≡ false
+  takes_no_digit byte digit d e is =
+      refuses_digit text byte so_far.good d
+      (ap (λ v. leb v MOST_NUMBER) (sym (with_one byte digit d e)) ∙ grammar.refused (unwrap_or old.begun 0 * 10 + digit) _ (sym is))
+
+  -- ---- a blank
+
+  pub takes_ended : (new : Numbers) (blanks : List ℕ) → list_all is_blank blanks ≡ true → blanks ≢ [] → numbers_state new ≡ number_ended (numbers_state old) → IsNumbersSoFar new (text ++ blanks)
+  takes_ended new blanks b some is = takes_blanks new text blanks so_far.good b some (is ∙ ap number_ended so_far.state ∙ ended_at text)
+
+  -- ---- more digits of a number
+
+  pub goes_on : (new : Numbers) (value longer : ℕ) (word : List ℕ) → old.begun ≡ Some value → list_all is_digit word ≡ true → longer ≤ MOST_NUMBER
+      → ((front : List ℕ) → value_of front ≡ value → value_of (front ++ word) ≡ longer)
+      → numbers_state new ≡ record { begun = Some longer; ended = old.ended.items } → IsNumbersSoFar new (text ++ word)
+  goes_on new value longer word some digits below value_is new_is =
+      let k = at last word (sym begun ∙ some) in
+      let longer_is = value_is last k.0 in
+      takes_digits new text word so_far.good digits (subst (λ v. v ≤ MOST_NUMBER) (sym longer_is) below)
+      (new_is ∙ (λ i. record { begun = (ap Some (sym longer_is) ∙ sym k.1) i; ended = ended i }))
+    where
+      at : (before more : List ℕ) → begun_of before ≡ Some value → (value_of before ≡ value) × (begun_of (before ++ more) ≡ Some (value_of (before ++ more)))
+      at [] more e = absurd cc
+      at (d ∷ before) more e = (cc, refl)
+
+  -- ---- a number where none has begun
+
+  module _ (none : old.begun ≡ None) (word : List ℕ) (count value : ℕ) (long : length word ≡ count) (digits : list_all is_digit word ≡ true) (is : value_of word ≡ value)
+    (below : value ≤ MOST_NUMBER) where
+    nothing : last ≡ []
+    nothing = at last (sym begun ∙ none)
+      where
+        at : (word : List ℕ) → begun_of word ≡ None → word ≡ []
+        at [] e = refl
+        at (d ∷ word) e = absurd cc
+
+    takes_number : (new : Numbers) → numbers_state new ≡ record { begun = begun_of word; ended = old.ended.items } → IsNumbersSoFar new (text ++ word)
+    takes_number new new_is =
+        takes_digits new text word so_far.good digits (subst (λ v. v ≤ MOST_NUMBER) (sym (ap (λ l. value_of (l ++ word)) nothing ∙ is)) below)
+        (new_is ∙ (λ i. record { begun = begun_of (sym nothing i ++ word); ended = ended i }))
+
+    pub begins : (new : Numbers) → numbers_state new ≡ cond (ltb 0 count) (held (Some value) old.ended.items) (numbers_state old) → IsNumbersSoFar new (text ++ word)
+    begins new new_is =
+        takes_number new (new_is ∙ (λ i. cond (ltb 0 (sym long i)) (held (Some (sym is i)) old.ended.items) (held (none i) old.ended.items)) ∙ at word)
+      where
+        at : (word : List ℕ) → cond (ltb 0 (length word)) (held (Some (value_of word)) old.ended.items) (held None old.ended.items) ≡ held (begun_of word) old.ended.items
+        at [] = refl
+        at (d ∷ word) = ap (λ b. cond b (held (Some (value_of (d ∷ word))) old.ended.items) (held None old.ended.items)) (lt-ltb 0 (length (d ∷ word)) (omega arith))
+
+    pub adds : (new : Numbers) (blanks : List ℕ) → list_all is_blank blanks ≡ true → blanks ≢ []
+        → numbers_state new ≡ cond (ltb 0 count) (held old.begun (old.ended.items ++ value ∷ [])) (numbers_state old)
+        → IsNumbersSoFar new ((text ++ word) ++ blanks)
+    adds new blanks b some new_is =
+        let between : Numbers = record old { begun = begun_of word } in
+        let with_word = takes_number between refl in
+        let all = new_is ∙ (λ i. cond (ltb 0 (sym long i)) (held (none i) (old.ended.items ++ sym is i ∷ [])) (held (none i) old.ended.items)) ∙ at word in
+        takes_blanks new (text ++ word) blanks with_word.good b some (all ∙ ap number_ended with_word.state ∙ ended_at (text ++ word))
+      where
+        at : (word : List ℕ) → cond (ltb 0 (length word)) (held None (old.ended.items ++ value_of word ∷ [])) (held None old.ended.items) ≡ number_ended (held (begun_of word) old.ended.items)
+        at [] = refl
+        at (d ∷ word) = ap (λ b. cond b (held None (old.ended.items ++ value_of (d ∷ word) ∷ [])) (held None old.ended.items)) (lt-ltb 0 (length (d ∷ word)) (omega arith))
