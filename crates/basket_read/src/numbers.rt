@@ -118,6 +118,7 @@ impl Numbers {
     }
 
     /// The numbers that have ended.
+    #[inline(always)]
     pub fn ended(&self) -> &[u32]
         ensures { result.now ≡ (numbers_state self.now).ended }
     {
@@ -132,6 +133,7 @@ impl Numbers {
     }
 
     /// Begins anew.
+    #[inline(always)]
     pub fn clear(&mut self)
         ensures { IsNumbersSoFar self.new [] }
     {
